@@ -1,17 +1,12 @@
 //! Where the buffers of a window lie, by what pointers they are found, and what they leave free.
 
 ghost use Rattle.std.specs.Prelude.{◌≡◌, ◌+◌, ◌<◌, ◌≤◌, ◌^◌, ℕ, None, MatchOption, vec_len, vec_capacity, if◌then◌else◌};
-ghost use Rattle.bd_words.specs.Keys.{same_word};
-ghost use Rattle.bd_words.specs.Look.{look, word_room};
-ghost use Rattle.bd_words.specs.declared.key.WordKey.{WordKey};
+ghost use Rattle.bd_words.specs.{Keys.{same_word}, Look.{look, word_room}, declared.key.WordKey.{WordKey}};
 ghost use Rattle.bd_space.specs.Freeing.{pointer};
 ghost use Rattle.bd_buffers.specs.Buffer as spec;
 ghost use Rattle.bd_buffers.specs.Holes as free;
-ghost use Rattle.bd_buffers.specs.Rows.{live, in_row, IsWithout};
-ghost use Rattle.bd_buffers.specs.Spots.{spot_key};
-ghost use Rattle.bd_buffers.specs.Sums.{sum_at, AreNoted};
-ghost use Rattle.bd_buffers.specs.Bounds.{AreBounded, AreWithin, reaches};
-ghost use Rattle.bd_buffers.specs.Window.{Keeps, room_left};
+ghost use Rattle.bd_buffers.specs.{Rows.{live, in_row, IsWithout}, Spots.{spot_key}, Sums.{sum_at, AreNoted}};
+ghost use Rattle.bd_buffers.specs.{Bounds.{AreBounded, AreWithin, reaches}, Window.{Keeps, room_left}};
 
 use crate::bounds::Bounds;
 use crate::buffer::{one_way_share, pointer_of};

@@ -1,8 +1,7 @@
 //! Where live buffers were made.
 
 ghost use Rattle.std.specs.Prelude.{◌≡◌, ◌++◌, map, OnOk};
-ghost use Rattle.bd_buffers.specs.Rows.{live};
-ghost use Rattle.bd_buffers.specs.WindowsStand.{made_of_buffer};
+ghost use Rattle.bd_buffers.specs.{Rows.{live}, WindowsStand.{made_of_buffer}};
 
 use crate::rows::Rows;
 use std::alloc::AllocError;

@@ -1,13 +1,9 @@
 //! Windows by whose they are.
 
-ghost use Rattle.std.specs.Prelude.{◌≡◌, ◌<◌, ◌↔◌, not, All, IsTrue, map, filter, find};
-ghost use Rattle.std.specs.List.{position};
+ghost use Rattle.std.specs.{Prelude.{◌≡◌, ◌<◌, ◌↔◌, not, All, IsTrue, map, filter, find}, List.{position}};
 ghost use Rattle.std.specs.Option.{option_copied};
-ghost use Rattle.bd_space.specs.Words.{changed};
-ghost use Rattle.bd_space.specs.Freeing.{is_made_at};
-ghost use Rattle.bd_space.specs.ReadItems.{hand_out};
-ghost use Rattle.bd_buffers.specs.Homes.{Forgets};
-ghost use Rattle.bd_buffers.specs.Owners.{AreInOrder};
+ghost use Rattle.bd_space.specs.{Words.{changed}, Freeing.{is_made_at}, ReadItems.{hand_out}};
+ghost use Rattle.bd_buffers.specs.{Homes.{Forgets}, Owners.{AreInOrder}};
 ghost use Rattle.bd_buffers.specs.WindowsStand.{buffers_held, is_of, is_owned_by, seen, with_buffers};
 
 use crate::window::Window;

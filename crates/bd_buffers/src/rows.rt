@@ -2,10 +2,7 @@
 
 ghost use Rattle.std.specs.Prelude.{◌≡◌, ◌↔◌, ◌+◌, ◌<◌, ◌≤◌, ◌==◌, ◌++◌, ◌∷◌, [], false, IsTrue, All, AllPairs, MatchOption, OnOk, OnErr, length, slice_index_or, option_map, option_copied, vec_len, vec_capacity};
 ghost use Rattle.std.specs.Option.{option_and_then};
-ghost use Rattle.bd_space.specs.Words.{changed};
-ghost use Rattle.bd_space.specs.Freeing.{is_made_at};
-ghost use Rattle.bd_space.specs.ReadItems.{hand_out};
-ghost use Rattle.bd_space.specs.Returns.{buffer_in};
+ghost use Rattle.bd_space.specs.{Words.{changed}, Freeing.{is_made_at}, ReadItems.{hand_out}, Returns.{buffer_in}};
 ghost use Rattle.bd_buffers.specs.Rows.{live, in_row, ends_empty, refilled, emptied, AreRows, IsTrimmed, IsWithout};
 
 use bd_space::Buffer;

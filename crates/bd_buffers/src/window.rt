@@ -1,13 +1,9 @@
 //! A window.
 
 ghost use Rattle.std.specs.Prelude.{◌≡◌, ◌↔◌, ◌+◌, ◌*◌, ◌%◌, ◌<◌, ◌≤◌, [], ◌∷◌, ◌++◌, not, ℕ, Bool, List, All, length, filter, find, map, IsTrue, IsOk, IfOk, IfErr, IfSome, OnOk, OnErr, option_copied};
-ghost use Rattle.bd_space.specs.declared.space.Buffer.{Buffer};
-ghost use Rattle.bd_space.specs.Words.{changed};
-ghost use Rattle.bd_space.specs.Windows.{needed, start_in, over_budget_in, start_for};
-ghost use Rattle.bd_space.specs.Freeing.{is_made_at};
-ghost use Rattle.bd_space.specs.ReadItems.{hand_out};
-ghost use Rattle.bd_space.specs.Returns.{buffer_in};
-ghost use Rattle.bd_space.specs.Spam.{floods};
+ghost use Rattle.bd_space.specs.{declared.space.Buffer.{Buffer}, Words.{changed}};
+ghost use Rattle.bd_space.specs.{Windows.{needed, start_in, over_budget_in, start_for}, Freeing.{is_made_at}};
+ghost use Rattle.bd_space.specs.{ReadItems.{hand_out}, Returns.{buffer_in}, Spam.{floods}};
 
 use crate::bounds::Bounds;
 use crate::buffer::{needed, one_way_share, pointer_of};
@@ -34,9 +30,7 @@ pub struct Window {
 
 impl Model for Window {
     ghost use Rattle.std.specs.Prelude.{filter};
-    ghost use Rattle.bd_buffers.specs.Rows.{live};
-    ghost use Rattle.bd_buffers.specs.Holes.{is_filled};
-    ghost use Rattle.bd_buffers.specs.Window.{WindowView, Keeps, room_left};
+    ghost use Rattle.bd_buffers.specs.{Rows.{live}, Holes.{is_filled}, Window.{WindowView, Keeps, room_left}};
 
     ghost Value = { WindowView };
 
@@ -53,11 +47,9 @@ impl Model for Window {
 
 impl Window {
     ghost use Rattle.bd_buffers.specs.Buffer.{IsPlaced, at_pointer};
-    ghost use Rattle.bd_buffers.specs.Window.{IsLeastFree, IsInBudget, Refuses, IsWindow};
-    ghost use Rattle.bd_buffers.specs.Holes.{IsHoles};
+    ghost use Rattle.bd_buffers.specs.{Window.{IsLeastFree, IsInBudget, Refuses, IsWindow}, Holes.{IsHoles}};
     ghost use Rattle.bd_buffers.specs.Stands.{Stands, CanHold, WindowTells, WindowMakes, Uses, UsesNothing};
-    ghost use Rattle.bd_buffers.specs.Homes.{Forgets};
-    ghost use Rattle.bd_buffers.specs.WindowsStand.{made_of_buffer};
+    ghost use Rattle.bd_buffers.specs.{Homes.{Forgets}, WindowsStand.{made_of_buffer}};
 
     /// An empty window of a size in bytes, a multiple of 8 of at most 4194304. Takes no memory.
     pub fn new(alloc: Global, size: u32) -> Result<Window, AllocError>

@@ -3,19 +3,11 @@
 ghost use Rattle.std.specs.Prelude.{◌≡◌, ◌≤◌, ◌++◌, ℕ, Bool, false, find, IfOk, IfSome, MatchOption, OnOk, OnErr, Some, None, Err, length, List, [], map, option_map};
 ghost use Rattle.std.specs.Option.{option_copied};
 ghost use Rattle.bd_uapi.specs.declared.fault.Cause.TheVariants.{NoRoom};
-ghost use Rattle.bd_space.specs.declared.space.Process.{Process};
-ghost use Rattle.bd_space.specs.declared.space.Work.{Work};
-ghost use Rattle.bd_space.specs.Space.{Space, opening};
-ghost use Rattle.bd_space.specs.Seats.{process_in};
-ghost use Rattle.bd_space.specs.Windows.{needed, start_for, buffers_of};
-ghost use Rattle.bd_space.specs.Delivery.{add_buffer};
-ghost use Rattle.bd_space.specs.Freeing.{without_buffer, buffer_at_pointer};
-ghost use Rattle.bd_space.specs.Returns.{buffer_in};
-ghost use Rattle.bd_space.specs.Spam.{floods};
-ghost use Rattle.bd_space.specs.ReadItems.{buffer_taken, read_by};
-ghost use Rattle.bd_space.specs.Steps.{with_process};
-ghost use Rattle.bd_space.specs.ProcessExits.{without_process};
-ghost use Rattle.bd_space.specs.Tables.{Tells, Makes};
+ghost use Rattle.bd_space.specs.{declared.space.Process.{Process}, declared.space.Work.{Work}, Space.{Space, opening}};
+ghost use Rattle.bd_space.specs.{Seats.{process_in}, Windows.{needed, start_for, buffers_of}, Delivery.{add_buffer}};
+ghost use Rattle.bd_space.specs.{Freeing.{without_buffer, buffer_at_pointer}, Returns.{buffer_in}, Spam.{floods}};
+ghost use Rattle.bd_space.specs.{ReadItems.{buffer_taken, read_by}, Steps.{with_process}};
+ghost use Rattle.bd_space.specs.{ProcessExits.{without_process}, Tables.{Tells, Makes}};
 ghost use Rattle.bd_buffers.specs.WindowsStand.{StandsFor, StandsIn, Stands, window_room, buffer_room, made_of_buffer, is_owned_by, CanAdd, IsInWindow};
 
 use crate::home::home_key;
@@ -39,10 +31,9 @@ pub struct Windows {
 }
 
 impl Model for Windows {
-    ghost use Rattle.std.specs.Prelude.{◌-◌, vec_len, vec_capacity};
+    ghost use Rattle.std.specs.{Prelude.{◌-◌, vec_len, vec_capacity}, Coded.{codes}};
     ghost use Rattle.bd_buffers.specs.Owners.{AreInOrder, WindowsView};
     ghost use Rattle.bd_words.specs.contracts.map.WordMap as words;
-    ghost use Rattle.std.specs.Coded.{codes};
     ghost use denote.Builtin as builtin;
 
     ghost Value = { WindowsView };

@@ -1,8 +1,6 @@
 //! The frames on the way from a frame by parents.
 
-ghost use Rattle.std.specs.Prelude.{◌≡◌, List, reverse};
-ghost use Rattle.std.specs.Slice.Iter.{iter_rest};
-ghost use Rattle.std.specs.Iterator.{YieldsFirst, item_count};
+ghost use Rattle.std.specs.{Prelude.{◌≡◌, List, reverse}, Slice.Iter.{iter_rest}, Iterator.{YieldsFirst, item_count}};
 ghost use Rattle.bd_space.specs.declared.space.Frame as declared;
 ghost use Rattle.bd_space.specs.Frames as spec;
 

@@ -1,7 +1,6 @@
 //! Where a buffer goes in its receiver's window.
 
-ghost use Rattle.std.specs.Prelude.{◌≡◌, ◌==◌, ◌<◌, ◌^◌, if◌then◌else◌};
-ghost use Rattle.std.specs.List.{list_all};
+ghost use Rattle.std.specs.{Prelude.{◌≡◌, ◌==◌, ◌<◌, ◌^◌, if◌then◌else◌}, List.{list_all}};
 ghost use Rattle.bd_space.specs.Windows as spec;
 ghost use Rattle.bd_space.specs.Spam as spam;
 ghost use Rattle.bd_buffers.specs.Buffer as buffer;

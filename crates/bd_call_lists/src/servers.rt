@@ -1,7 +1,6 @@
 //! Who called, and who serves.
 
-ghost use Rattle.std.specs.Prelude.{◌≡◌};
-ghost use Rattle.std.specs.List.{list_any};
+ghost use Rattle.std.specs.{Prelude.{◌≡◌}, List.{list_any}};
 ghost use Rattle.bd_space.specs.Frames as spec;
 ghost use Rattle.bd_space.specs.Settle.{is_abandoned};
 ghost use Rattle.bd_space.specs.ThreadExits as exits;

@@ -1,8 +1,7 @@
 //! Threads.
 
 ghost use Rattle.std.specs.Prelude.{◌≡◌, ◌==◌, not, filter};
-ghost use Rattle.bd_space.specs.Words.{changed};
-ghost use Rattle.bd_space.specs.Seats.{thread_in};
+ghost use Rattle.bd_space.specs.{Words.{changed}, Seats.{thread_in}};
 
 use bd_space::Thread;
 

@@ -1,15 +1,11 @@
 //! Windows, and the buffers in them.
 
-ghost use Rattle.std.specs.Prelude.{◌≡◌, ◌==◌, false, not, filter, find, Some, None, Err};
-ghost use Rattle.std.specs.Option.{option_copied};
+ghost use Rattle.std.specs.{Prelude.{◌≡◌, ◌==◌, false, not, filter, find, Some, None, Err}, Option.{option_copied}};
 ghost use Rattle.bd_uapi.specs.declared.fault.Cause.TheVariants.{NoRoom};
 ghost use Rattle.bd_space.specs.declared.space.Process as declared;
-ghost use Rattle.bd_space.specs.Words.{changed};
-ghost use Rattle.bd_space.specs.Seats.{process_in};
-ghost use Rattle.bd_space.specs.Windows.{needed, start_for, buffers_of};
+ghost use Rattle.bd_space.specs.{Words.{changed}, Seats.{process_in}, Windows.{needed, start_for, buffers_of}};
 ghost use Rattle.bd_space.specs.Freeing as freeing;
-ghost use Rattle.bd_space.specs.Returns.{buffer_in};
-ghost use Rattle.bd_space.specs.ReadItems.{hand_out};
+ghost use Rattle.bd_space.specs.{Returns.{buffer_in}, ReadItems.{hand_out}};
 ghost use Rattle.bd_space.specs.Spam as spam;
 
 use crate::room::{is_flooded, place_for};

@@ -16,8 +16,7 @@ ghost use Rattle.bd_frames.specs.Stands as frame_table;
 ghost use Rattle.bd_frames.specs.Room as frame_rooms;
 ghost use Rattle.bd_frames.specs.Words.{newest_in, is_place_among, abandoned_in, lost_frame};
 ghost use Rattle.bd_threads.specs.Listed.{listed};
-ghost use Rattle.bd_calls.specs.Closing.{chosen_after};
-ghost use Rattle.bd_calls.specs.Losing.{lost_frames};
+ghost use Rattle.bd_calls.specs.{Closing.{chosen_after}, Losing.{lost_frames}};
 
 use crate::table::CallTable;
 use bd_frames::{FrameTable, serves};
@@ -161,11 +160,9 @@ pub(crate) fn leave_frames(frames: &mut FrameTable, todo: &WorkTable, seat: u32)
 }
 
 impl CallTable {
-    ghost use Rattle.bd_space.specs.Space.{Space};
-    ghost use Rattle.bd_space.specs.Transactions.{call_out};
+    ghost use Rattle.bd_space.specs.{Space.{Space}, Transactions.{call_out}};
     ghost use Rattle.bd_space.specs.Tables.{IsAt, Tells, Makes, MakesAt, MakesWhere};
-    ghost use Rattle.bd_calls.specs.Stands.{Stands, StandsFor};
-    ghost use Rattle.bd_calls.specs.Stacked.{TellsOfStacked, MakesOfStackedAt};
+    ghost use Rattle.bd_calls.specs.{Stands.{Stands, StandsFor}, Stacked.{TellsOfStacked, MakesOfStackedAt}};
     ghost use Rattle.bd_calls.specs.Room.{Uses, UsesNothing, nothing, frame_room, work_room, frame_count};
     ghost use Rattle.bd_calls.specs.Closing.{IsAmongAt};
     ghost use Rattle.bd_frames.specs.InOrder.{IsInOrder};

@@ -2,20 +2,16 @@
 #![tactic(auto, unfolding(bd_space::specs::Steps::with_thread, bd_space::specs::Commands::with_looping, crate::specs::Room::rooms))]
 
 ghost use Rattle.std.specs.Prelude.{◌≡◌, ◌==◌, ◌≤◌, map, filter, length, IfOk, OnErr};
-ghost use Rattle.bd_space.specs.Seats.{thread_in};
-ghost use Rattle.bd_space.specs.ProcessExits.{seat_of};
+ghost use Rattle.bd_space.specs.{Seats.{thread_in}, ProcessExits.{seat_of}};
 
 use crate::table::CallTable;
 use bd_space::Thread;
 use std::alloc::{AllocError, Global};
 
 impl CallTable {
-    ghost use Rattle.bd_space.specs.Space.{Space};
-    ghost use Rattle.bd_space.specs.Steps.{with_thread};
-    ghost use Rattle.bd_space.specs.Commands.{with_looping};
+    ghost use Rattle.bd_space.specs.{Space.{Space}, Steps.{with_thread}, Commands.{with_looping}};
     ghost use Rattle.bd_space.specs.Tables.{Tells, Makes, MakesAt};
-    ghost use Rattle.bd_calls.specs.Stands.{StandsFor};
-    ghost use Rattle.bd_calls.specs.Room.{Uses, UsesNothing, nothing, thread_room};
+    ghost use Rattle.bd_calls.specs.{Stands.{StandsFor}, Room.{Uses, UsesNothing, nothing, thread_room}};
 
     /// The live thread of a seat.
     pub fn thread(&self, seat: u32) -> Option<Thread>

@@ -2,11 +2,8 @@
 #![tactic(auto, unfolding(bd_space::specs::Todo::owe, bd_space::specs::Todo::has_unread, bd_space::specs::Todo::list_to_read, crate::specs::Room::rooms))]
 
 ghost use Rattle.std.specs.Prelude.{ℕ, Bool, List, ◌≡◌, ◌==◌, ◌||◌, ◌&&◌, ◌+◌, ◌<◌, ◌≤◌, ◌^◌, ◌++◌, ◌∷◌, [], false, not, nat_le, map, filter, find, reverse, length, count_by, Option, Some, None, option_map, IfOk, OnOk, OnErr, vec_len, vec_capacity};
-ghost use Rattle.std.specs.List.{list_any, slice_get};
-ghost use Rattle.bd_space.specs.declared.space.WorkKind.{WorkKind};
-ghost use Rattle.std.specs.Option.{is_none};
-ghost use Rattle.bd_space.specs.Frames.{innermost_in};
-ghost use Rattle.bd_space.specs.Words.{is_some_and};
+ghost use Rattle.std.specs.{List.{list_any, slice_get}, Option.{is_none}};
+ghost use Rattle.bd_space.specs.{declared.space.WorkKind.{WorkKind}, Frames.{innermost_in}, Words.{is_some_and}};
 ghost use Rattle.bd_space.specs.Todo as spec;
 ghost use Rattle.bd_space.specs.Notices as notices;
 ghost use Rattle.bd_space.specs.declared.space.Frame as declared;
@@ -45,12 +42,9 @@ fn reads_in(frames: &FrameTable, todo: &WorkTable, thread: &Thread) -> Option<To
 }
 
 impl CallTable {
-    ghost use Rattle.bd_space.specs.declared.space.Object.{Object};
-    ghost use Rattle.bd_space.specs.Space.{Space};
-    ghost use Rattle.bd_space.specs.Histories.{is_ready};
+    ghost use Rattle.bd_space.specs.{declared.space.Object.{Object}, Space.{Space}, Histories.{is_ready}};
     ghost use Rattle.bd_space.specs.Tables.{Tells, Makes, MakesAt};
-    ghost use Rattle.bd_calls.specs.Ready.{IsSeen};
-    ghost use Rattle.bd_calls.specs.Stands.{Stands, StandsFor};
+    ghost use Rattle.bd_calls.specs.{Ready.{IsSeen}, Stands.{Stands, StandsFor}};
     ghost use Rattle.bd_calls.specs.Room.{Uses, UsesNothing, nothing, work_room};
 
     /// Whether an unread call, reply or verdict on a thread's own list keeps it from calling.

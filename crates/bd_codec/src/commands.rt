@@ -1,10 +1,8 @@
 //! Reading and writing commands.
 
 ghost use Rattle.std.specs.Prelude.{◌≡◌, ◌≤◌, ◌<◌, ◌+◌, ◌++◌, ℕ, List, length, Ok, Some, None, IfOk, MatchResult, OnOk, OnErr, IfErr, vec_len, vec_capacity};
-ghost use Rattle.bd_uapi.specs.declared.command.Command.{Command};
-ghost use Rattle.bd_uapi.specs.declared.fault.Fault.TheVariants.{NoMemory};
-ghost use Rattle.bd_codec.specs.Spelling.{command_bytes, IsCommand, Found};
-ghost use Rattle.bd_codec.specs.Faults.{command_fault};
+ghost use Rattle.bd_uapi.specs.{declared.command.Command.{Command}, declared.fault.Fault.TheVariants.{NoMemory}};
+ghost use Rattle.bd_codec.specs.{Spelling.{command_bytes, IsCommand, Found}, Faults.{command_fault}};
 ghost use Rattle.bd_codec.specs.Reading.{command_at, command_of};
 
 use crate::payloads::{code, handle, handle_and_cookie, pointer, pointer_and_cookie, record};

@@ -1,10 +1,8 @@
 //! Reading and writing returns.
 
 ghost use Rattle.std.specs.Prelude.{◌≡◌, ◌≤◌, ◌<◌, ◌+◌, ◌++◌, ℕ, List, length, Ok, Some, None, IfOk, MatchResult, OnOk, OnErr, IfErr, vec_len, vec_capacity};
-ghost use Rattle.bd_uapi.specs.declared.command.Return.{Return};
-ghost use Rattle.bd_uapi.specs.declared.fault.Fault.TheVariants.{NoMemory};
-ghost use Rattle.bd_codec.specs.Spelling.{return_bytes, IsReturn, Found};
-ghost use Rattle.bd_codec.specs.Faults.{return_fault};
+ghost use Rattle.bd_uapi.specs.{declared.command.Return.{Return}, declared.fault.Fault.TheVariants.{NoMemory}};
+ghost use Rattle.bd_codec.specs.{Spelling.{return_bytes, IsReturn, Found}, Faults.{return_fault}};
 ghost use Rattle.bd_codec.specs.Reading.{return_at, return_of};
 
 use crate::payloads::{code, pointer, pointer_and_cookie, record};

@@ -1,8 +1,7 @@
 //! What a command or a return is spelled by: a code, and then its payload.
 
 ghost use Rattle.std.specs.Prelude.{◌≡◌, ◌≤◌, ◌+◌, ◌++◌, ℕ, List, length, take, vec_len, vec_capacity};
-ghost use Rattle.bd_uapi.specs.Bytes.{word, long};
-ghost use Rattle.bd_uapi.specs.Records.{record_bytes, IsRecord};
+ghost use Rattle.bd_uapi.specs.{Bytes.{word, long}, Records.{record_bytes, IsRecord}};
 
 use bd_uapi::TransactionData;
 use bd_uapi::numbers::{put_u32, put_u64};

@@ -1,9 +1,7 @@
 //! What the bytes of a stream tell: one list of commands, or one of returns.
 
-ghost use Rattle.std.specs.Prelude.{◌≡◌, List, map};
-ghost use Rattle.std.specs.List.{All, concat};
-ghost use Rattle.bd_uapi.specs.declared.command.Command.{Command};
-ghost use Rattle.bd_uapi.specs.declared.command.Return.{Return};
+ghost use Rattle.std.specs.{Prelude.{◌≡◌, List, map}, List.{All, concat}};
+ghost use Rattle.bd_uapi.specs.{declared.command.Command.{Command}, declared.command.Return.{Return}};
 ghost use Rattle.bd_codec.specs.Spelling.{command_bytes, return_bytes, IsCommand, IsReturn};
 
 /// Two streams of commands with the same bytes have the same commands, in the same order.

@@ -7,8 +7,8 @@ ghost use Rattle.bd_space.specs.Todo.{death_of};
 ghost use Rattle.bd_space.specs.ReadItems as reading;
 ghost use Rattle.bd_space.specs.declared.space.Phase.TheVariants.{Told};
 ghost use Rattle.bd_space.specs.declared.space.DeathNotification as declared;
-ghost use Rattle.bd_deaths.specs.Slots as spec;
 ghost use Rattle.bd_space.specs.Ranges.{IsWithin};
+ghost use Rattle.bd_deaths.specs.Slots as spec;
 
 use crate::list::DeathList;
 use crate::look::made_in;
@@ -55,8 +55,7 @@ fn death_of(kind: WorkKind) -> Option<u32>
 }
 
 impl DeathList {
-    ghost use Rattle.bd_deaths.specs.Stands.{AreIn};
-    ghost use Rattle.bd_deaths.specs.Room.{ListUses, list_count};
+    ghost use Rattle.bd_deaths.specs.{Stands.{AreIn}, Room.{ListUses, list_count}};
 
     /// Marks the notification as cleared.
     #[tactic(auto, unfolding(crate::specs::Room::list_room, crate::specs::Room::list_count))]

@@ -1,12 +1,9 @@
 //! The notifications by which the end of a process is told.
 
 ghost use Rattle.std.specs.Prelude.{ℕ, ◌≡◌, ◌==◌, ◌&&◌, ◌||◌, ◌++◌, not, true, List, IfOk, OnOk, OnErr};
-ghost use Rattle.std.specs.List.{list_any};
-ghost use Rattle.std.specs.List.Sorted.{IsStrictlyIncreasing};
+ghost use Rattle.std.specs.{List.{list_any}, List.Sorted.{IsStrictlyIncreasing}};
 ghost use Rattle.bd_groups.specs.Members.{members};
-ghost use Rattle.bd_space.specs.ProcessExits.{is_armed};
-ghost use Rattle.bd_space.specs.Words.{changed};
-ghost use Rattle.bd_space.specs.declared.space.Phase.TheVariants.{Queued};
+ghost use Rattle.bd_space.specs.{ProcessExits.{is_armed}, Words.{changed}, declared.space.Phase.TheVariants.{Queued}};
 ghost use Rattle.bd_space.specs.declared.space.Object.{Object};
 ghost use Rattle.bd_space.specs.declared.space.DeathNotification as declared;
 ghost use Rattle.bd_nodes.specs.Stands.{NodesAre};
@@ -105,8 +102,7 @@ fn put_due(
 }
 
 impl DeathList {
-    ghost use Rattle.bd_deaths.specs.Stands.{AreIn};
-    ghost use Rattle.bd_deaths.specs.Room.{ListUses};
+    ghost use Rattle.bd_deaths.specs.{Stands.{AreIn}, Room.{ListUses}};
 
     // The notifications of this place are queued, if one of them is due.
     fn queue_at(&mut self, nodes: &NodeTable, p: u32, made: u32)
@@ -172,8 +168,7 @@ impl DeathList {
 }
 
 impl DeathTable {
-    ghost use Rattle.bd_deaths.specs.Stands.{AreIn, DeathsAre};
-    ghost use Rattle.bd_deaths.specs.Room.{ListUses, Uses};
+    ghost use Rattle.bd_deaths.specs.{Stands.{AreIn, DeathsAre}, Room.{ListUses, Uses}};
 
     /// Queues the notifications by which the end of the process is to be told, which owns these nodes.
     #[tactic(auto, unfolding(crate::specs::Room::death_room, crate::specs::Room::death_count))]

@@ -9,8 +9,7 @@ use crate::table::DeathTable;
 use bd_groups::{Group, Members};
 
 impl DeathList {
-    ghost use Rattle.bd_deaths.specs.Stands.{AreIn};
-    ghost use Rattle.bd_deaths.specs.Room.{ListUses};
+    ghost use Rattle.bd_deaths.specs.{Stands.{AreIn}, Room.{ListUses}};
 
     // The process's notifications of this place go.
     fn drop_at(&mut self, p: u32, made: u32)
@@ -35,8 +34,7 @@ impl DeathList {
 }
 
 impl DeathTable {
-    ghost use Rattle.bd_deaths.specs.Stands.{DeathsAre};
-    ghost use Rattle.bd_deaths.specs.Room.{Uses};
+    ghost use Rattle.bd_deaths.specs.{Stands.{DeathsAre}, Room.{Uses}};
 
     /// The notifications of the process go.
     #[tactic(auto, unfolding(crate::specs::Room::death_room, crate::specs::Room::death_count))]

@@ -1,7 +1,6 @@
 //! What notifications are looked for by, and what is kept of those with a key.
 
-ghost use Rattle.std.specs.Prelude.{◌≡◌};
-ghost use Rattle.std.specs.Cmp.Rules.{hashing};
+ghost use Rattle.std.specs.{Prelude.{◌≡◌}, Cmp.Rules.{hashing}};
 ghost use Rattle.std.specs.Hash as fed;
 ghost use Rattle.std.proofs.Common.{rules};
 ghost use Rattle.bd_words.specs.Numbers.{pair, wide};

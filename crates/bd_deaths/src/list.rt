@@ -2,9 +2,9 @@
 
 ghost use Rattle.std.specs.Prelude.{◌≡◌, ◌≤◌, ◌<◌, ◌++◌, ◌∷◌, [], Bool, true, not, filter, set, List, OnOk, OnErr, vec_len, slice_index_or};
 ghost use Rattle.bd_space.specs.declared.space.DeathNotification as declared;
+ghost use Rattle.bd_space.specs.Ranges.{IsWithin};
 ghost use Rattle.bd_deaths.specs.declared.slot.Slot.{Slot};
 ghost use Rattle.bd_deaths.specs.Slots as spec;
-ghost use Rattle.bd_space.specs.Ranges.{IsWithin};
 
 use crate::sharing::Sharing;
 use crate::slot::{Slot, told_from};
@@ -40,8 +40,7 @@ impl Drop for DeathList {
 }
 
 impl DeathList {
-    ghost use Rattle.bd_deaths.specs.Stands.{AreIn};
-    ghost use Rattle.bd_deaths.specs.Room.{ListUses, list_room, list_count};
+    ghost use Rattle.bd_deaths.specs.{Stands.{AreIn}, Room.{ListUses, list_room, list_count}};
 
     /// No notifications.
     pub(crate) fn new(alloc: Global) -> DeathList

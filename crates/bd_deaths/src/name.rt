@@ -1,7 +1,6 @@
 //! What is on a process's name of an object, and goes with the name.
 
-ghost use Rattle.std.specs.Prelude.{◌≡◌, ◌==◌, ◌&&◌, ◌||◌, not, filter, List};
-ghost use Rattle.std.specs.List.{list_any};
+ghost use Rattle.std.specs.{Prelude.{◌≡◌, ◌==◌, ◌&&◌, ◌||◌, not, filter, List}, List.{list_any}};
 ghost use Rattle.bd_space.specs.Deaths as deaths_of;
 ghost use Rattle.bd_space.specs.Local as local;
 ghost use Rattle.bd_space.specs.declared.space.DeathNotification as declared;
@@ -42,8 +41,7 @@ fn death_stays(slots: &[Slot], named: bool, p: u32, o: ObjectId, made: u32) -> b
 }
 
 impl DeathList {
-    ghost use Rattle.bd_deaths.specs.Stands.{AreIn};
-    ghost use Rattle.bd_deaths.specs.Room.{ListUses};
+    ghost use Rattle.bd_deaths.specs.{Stands.{AreIn}, Room.{ListUses}};
 
     // The uncleared notifications on the name go.
     fn remove_uncleared(&mut self, p: u32, o: ObjectId)
@@ -58,8 +56,7 @@ impl DeathList {
 }
 
 impl DeathTable {
-    ghost use Rattle.bd_deaths.specs.Stands.{DeathsAre};
-    ghost use Rattle.bd_deaths.specs.Room.{Uses};
+    ghost use Rattle.bd_deaths.specs.{Stands.{DeathsAre}, Room.{Uses}};
 
     /// Whether an uncleared notification is on the name.
     pub fn has_uncleared(&self, p: u32, o: ObjectId) -> bool

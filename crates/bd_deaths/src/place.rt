@@ -1,15 +1,13 @@
 //! Where the notifications lie that are looked for.
 
-ghost use Rattle.std.specs.Prelude.{◌≡◌, ◌==◌, ◌≤◌, ◌+◌, ℕ, not, length, vec_len, List, IfSome};
-ghost use Rattle.std.specs.List.{between};
+ghost use Rattle.std.specs.{Prelude.{◌≡◌, ◌==◌, ◌≤◌, ◌+◌, ℕ, not, length, vec_len, List, IfSome}, List.{between}};
 ghost use Rattle.bd_space.specs.Clearing as clearing;
 ghost use Rattle.bd_space.specs.Deaths as deaths_of;
 ghost use Rattle.bd_space.specs.declared.space.DeathNotification as declared;
+ghost use Rattle.bd_space.specs.{Words.{is_some_and}, Ranges.{IsWithin, IsPartOf}};
 ghost use Rattle.bd_deaths.specs.Keys as keys;
-ghost use Rattle.bd_space.specs.Words.{is_some_and};
 ghost use Rattle.bd_deaths.specs.SharedAt.{group_at};
 ghost use Rattle.bd_deaths.specs.Slots as spec;
-ghost use Rattle.bd_space.specs.Ranges.{IsWithin, IsPartOf};
 ghost use Rattle.bd_deaths.specs.Stands.{IsRising, AreIn};
 
 use crate::key::{Key, cookie_key};

@@ -1,12 +1,9 @@
 //! What is kept of the notifications with each name, and with each cookie.
 
 ghost use Rattle.std.specs.Prelude.{ℕ, ◌≡◌, ◌≤◌, ◌<◌, ◌+◌, ◌^◌, ◌++◌, ◌∷◌, [], if◌then◌else◌};
-ghost use Rattle.std.specs.Prelude.{List, length, slice_index_or, Some, None, OnOk, OnErr};
-ghost use Rattle.std.specs.List.{remove};
+ghost use Rattle.std.specs.{Prelude.{List, length, slice_index_or, Some, None, OnOk, OnErr}, List.{remove}};
 ghost use Rattle.std.specs.HashMap.{get, spare};
-ghost use Rattle.bd_words.specs.declared.key.WordKey.{WordKey};
-ghost use Rattle.bd_words.specs.Keys.{same_word};
-ghost use Rattle.bd_words.specs.Look.{look, word_room};
+ghost use Rattle.bd_words.specs.{declared.key.WordKey.{WordKey}, Keys.{same_word}, Look.{look, word_room}};
 ghost use Rattle.bd_space.specs.declared.space.DeathNotification.{DeathNotification};
 ghost use Rattle.bd_deaths.specs.declared.key.NameKey.{NameKey};
 ghost use Rattle.bd_deaths.specs.Keys as keys;

@@ -1,7 +1,6 @@
 //! Notifications in their slots, in the order in which they were made.
 
-ghost use Rattle.std.specs.Prelude.{◌≡◌, ◌≤◌, true, false, length, take};
-ghost use Rattle.std.specs.List.{list_any};
+ghost use Rattle.std.specs.{Prelude.{◌≡◌, ◌≤◌, true, false, length, take}, List.{list_any}};
 ghost use Rattle.bd_space.specs.Clearing as clearing;
 ghost use Rattle.bd_deaths.specs.Slots as spec;
 

@@ -27,8 +27,7 @@ impl Drop for DeathTable {
 }
 
 impl DeathTable {
-    ghost use Rattle.bd_deaths.specs.Stands.{DeathsAre};
-    ghost use Rattle.bd_deaths.specs.Room.{Uses, death_room, death_count};
+    ghost use Rattle.bd_deaths.specs.{Stands.{DeathsAre}, Room.{Uses, death_room, death_count}};
 
     /// No notifications.
     pub fn new(alloc: Global) -> DeathTable

@@ -1,17 +1,12 @@
 //! Random histories, which together have every command, cause and note.
 
-ghost use Rattle.bd_examples.specs.Histories.{Stands};
-ghost use Rattle.bd_examples.specs.WeakObjectsAndVerdicts.{weak_objects_and_verdicts};
-ghost use Rattle.bd_examples.specs.DeadObjects.{dead_objects};
-ghost use Rattle.bd_examples.specs.FullWindows.{full_windows};
+ghost use Rattle.bd_examples.specs.{Histories.{Stands}, WeakObjectsAndVerdicts.{weak_objects_and_verdicts}};
+ghost use Rattle.bd_examples.specs.{DeadObjects.{dead_objects}, FullWindows.{full_windows}};
 ghost use Rattle.bd_examples.specs.FaultyParcelsOfTwo.{faulty_parcels_of_two};
-ghost use Rattle.bd_examples.specs.FinishedNotifications.{finished_notifications};
-ghost use Rattle.bd_examples.specs.HostileWrites.{hostile_writes};
+ghost use Rattle.bd_examples.specs.{FinishedNotifications.{finished_notifications}, HostileWrites.{hostile_writes}};
 ghost use Rattle.bd_examples.specs.NotificationsOfOneCookie.{notifications_of_one_cookie};
-ghost use Rattle.bd_examples.specs.WeakHandlesOfTheDead.{weak_handles_of_the_dead};
-ghost use Rattle.bd_examples.specs.DeepCalls.{deep_calls};
-ghost use Rattle.bd_examples.specs.CallsWithoutAManager.{calls_without_a_manager};
-ghost use Rattle.bd_examples.specs.Exits.{exits};
+ghost use Rattle.bd_examples.specs.{WeakHandlesOfTheDead.{weak_handles_of_the_dead}, DeepCalls.{deep_calls}};
+ghost use Rattle.bd_examples.specs.{CallsWithoutAManager.{calls_without_a_manager}, Exits.{exits}};
 ghost use Rattle.bd_examples.specs.SeatsWithoutAProcess.{seats_without_a_process};
 
 /// A history: weak and strong objects on their way, names that go, and verdicts.

@@ -1,8 +1,7 @@
 //! How many children the calls have, counted by where these were made.
 
 ghost use Rattle.std.specs.Prelude.{ℕ, ◌≡◌, ◌==◌, ◌≤◌, ◌<◌, ◌+◌, ◌-◌, ◌^◌, ◌++◌, ◌∷◌, [], List, length, slice_index_or, Some, None, if◌then◌else◌};
-ghost use Rattle.std.specs.List.{remove};
-ghost use Rattle.std.specs.HashMap.{spare};
+ghost use Rattle.std.specs.{List.{remove}, HashMap.{spare}};
 ghost use Rattle.bd_space.specs.declared.space.Frame as declared;
 ghost use Rattle.bd_frames.specs.Children as spec;
 ghost use Rattle.bd_frames.specs.Children.{kept_at, AreChildren};

@@ -3,9 +3,7 @@
 ghost use Rattle.std.specs.Prelude.{ℕ, Bool, true, ◌≡◌, ◌==◌, ◌&&◌, ◌≤◌, ◌++◌, ◌∷◌, [], map, filter, find, vec_len, OnOk};
 ghost use Rattle.std.specs.List.{list_any};
 ghost use Rattle.bd_space.specs.Frames as spec;
-ghost use Rattle.bd_frames.specs.Places.{IsAfter};
-ghost use Rattle.bd_frames.specs.InOrder.{IsBefore};
-ghost use Rattle.bd_frames.specs.Children.{is_left_alone};
+ghost use Rattle.bd_frames.specs.{Places.{IsAfter}, InOrder.{IsBefore}, Children.{is_left_alone}};
 ghost use Rattle.bd_frames.specs.Words.{newest_in, is_place_among};
 
 use crate::children::child_count;

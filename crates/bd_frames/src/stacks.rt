@@ -2,16 +2,13 @@
 #![tactic(auto, unfolding(crate::specs::Room::stack_room))]
 
 ghost use Rattle.std.specs.Prelude.{ℕ, Bool, true, false, List, Option, ◌≡◌, ◌==◌, ◌≤◌, ◌<◌, ◌+◌, ◌++◌, ◌∷◌, [], Some, None, length, slice_index_or, vec_len, vec_capacity, if◌then◌else◌, map, set, IfSome, OnOk, OnErr};
-ghost use Rattle.std.specs.List.{remove as list_remove};
+ghost use Rattle.std.specs.{List.{remove as list_remove}, HashMap.{spare}};
 ghost use Rattle.bd_space.specs.declared.space.Frame as declared;
 ghost use Rattle.bd_space.specs.Frames as frame_spec;
 ghost use Rattle.bd_space.specs.ReadItems as reading;
 ghost use Rattle.bd_space.specs.Words.{changed, is_some_and};
-ghost use Rattle.std.specs.HashMap.{spare};
 ghost use Rattle.bd_frames.specs.declared.stacks.Below as declared_below;
-ghost use Rattle.bd_frames.specs.Places.{IsRising, IsNewestAt};
-ghost use Rattle.bd_frames.specs.Children.{kept_at};
-ghost use Rattle.bd_frames.specs.Linked.{below_of};
+ghost use Rattle.bd_frames.specs.{Places.{IsRising, IsNewestAt}, Children.{kept_at}, Linked.{below_of}};
 ghost use Rattle.bd_frames.specs.Words.{is_pending, left_frame};
 
 use crate::server::{is_pending, server_of};
@@ -92,8 +89,7 @@ fn set_server(below: &mut Vec<Below>, i: usize, made: Option<u32>)
 }
 
 impl Stacks {
-    ghost use Rattle.bd_frames.specs.Linked.{AreStacks, StacksAre};
-    ghost use Rattle.bd_frames.specs.Room.{stack_room};
+    ghost use Rattle.bd_frames.specs.{Linked.{AreStacks, StacksAre}, Room.{stack_room}};
 
     pub(crate) fn new(alloc: Global) -> Stacks
         ensures { AreStacks result [] }

@@ -6,10 +6,8 @@ ghost use Rattle.std.specs.List.{list_any, remove as list_remove};
 ghost use Rattle.bd_space.specs.declared.space.Frame as declared;
 ghost use Rattle.bd_space.specs.Frames as spec;
 ghost use Rattle.bd_space.specs.ReadItems as reading;
-ghost use Rattle.bd_space.specs.Words.{changed};
-ghost use Rattle.bd_space.specs.Ranges.{IsPartOf};
-ghost use Rattle.bd_frames.specs.Places.{RiseIf, RiseIf-prop};
-ghost use Rattle.bd_frames.specs.InOrder.{IsInOrder};
+ghost use Rattle.bd_space.specs.{Words.{changed}, Ranges.{IsPartOf}};
+ghost use Rattle.bd_frames.specs.{Places.{RiseIf, RiseIf-prop}, InOrder.{IsInOrder}};
 ghost use Rattle.bd_frames.specs.Words.{newest_in, abandoned_in, oldest_in, lost_frame, left_frame};
 
 use crate::ancestry::{Ancestry, ancestry_among};
@@ -44,8 +42,7 @@ pub struct FrameTable {
 }
 
 impl FrameTable {
-    ghost use Rattle.bd_frames.specs.Stands.{FramesAre, Tells, Makes};
-    ghost use Rattle.bd_frames.specs.Room.{Uses, frame_room, frame_count};
+    ghost use Rattle.bd_frames.specs.{Stands.{FramesAre, Tells, Makes}, Room.{Uses, frame_room, frame_count}};
 
     /// An empty table. Takes no memory.
     pub fn new(alloc: Global) -> FrameTable

@@ -1,13 +1,11 @@
 //! The way down a thread's stack, from its innermost frame to the next older one, and so on.
 
 ghost use Rattle.std.specs.Prelude.{ℕ, Bool, List, Option, ◌≡◌, ◌≤◌, ◌<◌, ◌++◌, IfSome, OnOk, length, take, drop, map, filter, reverse, vec_len, vec_capacity};
-ghost use Rattle.std.specs.Option.{option_and_then};
-ghost use Rattle.std.specs.List.{slice_get};
+ghost use Rattle.std.specs.{Option.{option_and_then}, List.{slice_get}};
 ghost use Rattle.bd_space.specs.Frames as spec;
 ghost use Rattle.bd_frames.specs.Places.{IsRising};
 ghost use Rattle.bd_frames.specs.Linked as linked;
-ghost use Rattle.bd_frames.specs.Linked.{IsWay, IsStep, StacksAre};
-ghost use Rattle.bd_frames.specs.Words.{left_frame};
+ghost use Rattle.bd_frames.specs.{Linked.{IsWay, IsStep, StacksAre}, Words.{left_frame}};
 
 use crate::change::{frame_without, leave_all};
 use crate::frame::{calls, push_if_served};

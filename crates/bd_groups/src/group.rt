@@ -1,7 +1,6 @@
 //! Whose the members are.
 
-ghost use Rattle.std.specs.Prelude.{◌≡◌};
-ghost use Rattle.std.specs.Cmp.Rules.{hashing};
+ghost use Rattle.std.specs.{Prelude.{◌≡◌}, Cmp.Rules.{hashing}};
 ghost use Rattle.std.specs.Hash as fed;
 ghost use Rattle.std.proofs.Common.{rules};
 ghost use Rattle.bd_groups.specs.Group.{spread};

@@ -60,8 +60,7 @@ pub struct Groups<T> {
 }
 
 impl<T: Copy> Groups<T> {
-    ghost use Rattle.bd_groups.specs.Group.{same_group};
-    ghost use Rattle.bd_groups.specs.Members.{members, member_count, group_room, HasMember};
+    ghost use Rattle.bd_groups.specs.{Group.{same_group}, Members.{members, member_count, group_room, HasMember}};
 
     /// Groups without members. Takes no memory.
     pub fn new(alloc: Global) -> Groups<T>

@@ -1,7 +1,6 @@
 //! The members of one group, one after the other.
 
-ghost use Rattle.std.specs.Prelude.{◌≡◌, List, reverse, slice_get};
-ghost use Rattle.std.specs.Iterator.{YieldsFirst, item_count};
+ghost use Rattle.std.specs.{Prelude.{◌≡◌, List, reverse, slice_get}, Iterator.{YieldsFirst, item_count}};
 ghost use Rattle.bd_groups.specs.Trail.{trail};
 
 use crate::link::Link;

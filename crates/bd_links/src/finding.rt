@@ -1,7 +1,6 @@
 //! What is found among the work items on a list, by its ring.
 
-ghost use Rattle.std.specs.Prelude.{◌≡◌, true, List, Some};
-ghost use Rattle.std.specs.List.{list_any, slice_get};
+ghost use Rattle.std.specs.{Prelude.{◌≡◌, true, List, Some}, List.{list_any, slice_get}};
 ghost use Rattle.bd_space.specs.declared.space.Work.{Work};
 ghost use Rattle.bd_space.specs.Todo as spec;
 ghost use Rattle.bd_space.specs.ThreadExits as exits;

@@ -1,10 +1,8 @@
 //! Where the ring of each list begins.
 
-ghost use Rattle.std.specs.Prelude.{ℕ, ◌≡◌, ◌≤◌, ◌<◌, ◌+◌, Some, None, if◌then◌else◌};
-ghost use Rattle.std.specs.Cmp.Rules.{hashing};
+ghost use Rattle.std.specs.{Prelude.{ℕ, ◌≡◌, ◌≤◌, ◌<◌, ◌+◌, Some, None, if◌then◌else◌}, Cmp.Rules.{hashing}};
 ghost use Rattle.std.specs.Hash as fed;
-ghost use Rattle.std.specs.HashMap.{spare};
-ghost use Rattle.std.proofs.Common.{rules};
+ghost use Rattle.std.{specs.HashMap.{spare}, proofs.Common.{rules}};
 ghost use Rattle.bd_space.specs.declared.space.TodoList as declared;
 ghost use Rattle.bd_space.specs.Todo.{same_list};
 ghost use Rattle.bd_links.specs.Heads as heads;

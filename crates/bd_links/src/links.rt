@@ -2,8 +2,7 @@
 
 ghost use Rattle.std.specs.Prelude.{◌≡◌, ℕ, List, set, get_or, length, vec_len};
 ghost use Rattle.bd_space.specs.declared.space.Work.{Work};
-ghost use Rattle.bd_links.specs.Nodes.{nexts, prevs, rows, works};
-ghost use Rattle.bd_links.specs.Moved.{moved_next, moved_prev};
+ghost use Rattle.bd_links.specs.{Nodes.{nexts, prevs, rows, works}, Moved.{moved_next, moved_prev}};
 
 use bd_space::Work;
 

@@ -1,11 +1,9 @@
 //! Queues.
 
 ghost use Rattle.std.specs.Prelude.{ℕ, ◌≡◌, ◌+◌, ◌^◌, ◌<◌, ◌≤◌, ◌++◌, ◌∷◌, [], List, Some, false, map, set, is_some, IfSome, vec_len, OnOk, OnErr, ◌/◌, ◌-◌};
-ghost use Rattle.std.specs.List.{list_any};
+ghost use Rattle.std.specs.{List.{list_any}, HashMap.{spare}};
 ghost use Rattle.bd_space.specs.declared.space.Work.{Work};
-ghost use Rattle.bd_links.specs.Heads.{head_at};
-ghost use Rattle.bd_links.specs.Queues.{no_work};
-ghost use Rattle.std.specs.HashMap.{spare};
+ghost use Rattle.bd_links.specs.{Heads.{head_at}, Queues.{no_work}};
 
 use crate::heads::{ListKey, head_of, put_head, take_head};
 use crate::links::{Node, attach, detach, move_last, next_of, set_next, set_prev, set_work};
@@ -49,9 +47,7 @@ fn free_node() -> Node
 
 impl Queues {
     ghost use Rattle.bd_space.specs.Todo.{is_on};
-    ghost use Rattle.bd_links.specs.Rings.{In, without};
-    ghost use Rattle.bd_links.specs.Moved.{moved_order};
-    ghost use Rattle.bd_links.specs.Nodes.{rows, works};
+    ghost use Rattle.bd_links.specs.{Rings.{In, without}, Moved.{moved_order}, Nodes.{rows, works}};
     ghost use Rattle.bd_links.specs.Queues.{used, work_in};
     ghost use Rattle.bd_links.specs.QueuesStand.{Shows, Stands, FrontIn, IsFirstAt, queue_room};
 

@@ -2,8 +2,7 @@
 
 ghost use Rattle.std.specs.Prelude.{ℕ, Bool, ◌≡◌, ◌==◌, ◌+◌, ◌-◌, ◌<◌, ◌≤◌, ◌&&◌, ◌||◌, ◌∷◌, ◌++◌, [], List, length, count_by, nat_lt, if◌then◌else◌, OnOk, OnErr};
 ghost use Rattle.bd_space.specs.declared.space.Work.{Work};
-ghost use Rattle.bd_links.specs.Rising.{rank};
-ghost use Rattle.bd_links.specs.Registered.{Registered, register_room};
+ghost use Rattle.bd_links.specs.{Rising.{rank}, Registered.{Registered, register_room}};
 
 use crate::spots::{Spots, sought_of, unread_of};
 use bd_space::{Identity, Work};

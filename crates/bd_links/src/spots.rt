@@ -3,8 +3,7 @@
 ghost use Rattle.std.specs.Prelude.{ℕ, ◌≡◌, ◌≤◌, ◌<◌, ◌+◌, ◌-◌, ◌∷◌, ◌++◌, [], List, length, Option, Some, None, if◌then◌else◌, min, nat_lt, OnOk, OnErr};
 ghost use Rattle.std.specs.Cmp.Rules.{hashing};
 ghost use Rattle.std.specs.Hash as fed;
-ghost use Rattle.std.specs.HashMap.{spare, get_by};
-ghost use Rattle.std.proofs.Common.{rules};
+ghost use Rattle.std.{specs.HashMap.{spare, get_by}, proofs.Common.{rules}};
 ghost use Rattle.bd_space.specs.declared.space.Work.{Work};
 ghost use Rattle.bd_links.specs.declared.spots.Sought as declared;
 ghost use Rattle.bd_links.specs.declared.spots.Sought.TheVariants as sought;

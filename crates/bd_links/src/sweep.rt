@@ -6,8 +6,7 @@ ghost use Rattle.std.specs.List.{list_any};
 ghost use Rattle.bd_space.specs.declared.space.Work.{Work};
 ghost use Rattle.bd_links.specs.Nodes.{rows, works};
 ghost use Rattle.bd_links.specs.Queues as queues;
-ghost use Rattle.bd_links.specs.QueuesStand.{Shows, Stands};
-ghost use Rattle.bd_links.specs.TodoList.{AnswersBy};
+ghost use Rattle.bd_links.specs.{QueuesStand.{Shows, Stands}, TodoList.{AnswersBy}};
 
 use crate::links::Node;
 use crate::queues::{Queues, no_work};
@@ -57,9 +56,7 @@ impl Queues {
 }
 
 impl WorkTable {
-    ghost use Rattle.bd_links.specs.Rings.{In, without};
-    ghost use Rattle.bd_links.specs.Moved.{moved_order};
-    ghost use Rattle.bd_links.specs.Registered.{Registered};
+    ghost use Rattle.bd_links.specs.{Rings.{In, without}, Moved.{moved_order}, Registered.{Registered}};
     ghost use Rattle.bd_links.specs.Stands.{Makes, work_room};
 
     /// The work item of a node goes, wherever it stands.

@@ -3,14 +3,12 @@
 
 ghost use Rattle.std.specs.Prelude.{ℕ, Bool, true, List, ◌≡◌, ◌-◌, if◌then◌else◌, ◌&&◌, ◌+◌, ◌≤◌, ◌==◌, [], count_by, not, filter, Some, is_some, OnOk, OnErr, IfSome};
 ghost use Rattle.std.specs.List.{list_any, slice_get};
-ghost use Rattle.bd_space.specs.declared.space.Work.{Work};
-ghost use Rattle.bd_space.specs.declared.space.WorkKind.{WorkKind};
+ghost use Rattle.bd_space.specs.{declared.space.Work.{Work}, declared.space.WorkKind.{WorkKind}};
 ghost use Rattle.bd_space.specs.Words as words;
 ghost use Rattle.bd_space.specs.Todo as spec;
 ghost use Rattle.bd_space.specs.ThreadExits as exits;
 ghost use Rattle.bd_space.specs.Notices as notices;
-ghost use Rattle.bd_links.specs.Front.{is_front};
-ghost use Rattle.bd_links.specs.Nodes.{rows, works};
+ghost use Rattle.bd_links.specs.{Front.{is_front}, Nodes.{rows, works}};
 ghost use Rattle.bd_links.specs.Queues as queues;
 ghost use Rattle.bd_links.specs.Spots as spots;
 ghost use Rattle.bd_links.specs.TodoList as replies;
@@ -40,8 +38,7 @@ fn is_called(work: &Work, id: Identity) -> bool
 }
 
 impl WorkTable {
-    ghost use Rattle.bd_links.specs.QueuesStand.{FrontIn, IsFirstAt};
-    ghost use Rattle.bd_links.specs.Stands.{WorksAre, Tells, Makes, work_room};
+    ghost use Rattle.bd_links.specs.{QueuesStand.{FrontIn, IsFirstAt}, Stands.{WorksAre, Tells, Makes, work_room}};
 
     /// An empty table. Takes no memory.
     pub fn new(alloc: Global) -> WorkTable

@@ -1,7 +1,6 @@
 //! The work items that are still to be read on a list.
 
-ghost use Rattle.std.specs.Prelude.{ℕ, ◌≡◌, List, Some};
-ghost use Rattle.std.specs.Iterator.{YieldsFirst, item_count};
+ghost use Rattle.std.specs.{Prelude.{ℕ, ◌≡◌, List, Some}, Iterator.{YieldsFirst, item_count}};
 ghost use Rattle.bd_space.specs.declared.space.Work.{Work};
 ghost use Rattle.bd_links.specs.Walk.{works_from};
 

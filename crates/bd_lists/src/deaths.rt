@@ -1,7 +1,6 @@
 //! Death notifications.
 
-ghost use Rattle.std.specs.Prelude.{◌≡◌, ◌==◌, ◌&&◌, ◌||◌};
-ghost use Rattle.std.specs.Prelude.{true, not, filter, find, count_by, length, IfOk};
+ghost use Rattle.std.specs.{Prelude.{◌≡◌, ◌==◌, ◌&&◌, ◌||◌}, Prelude.{true, not, filter, find, count_by, length, IfOk}};
 ghost use Rattle.std.specs.List.{list_any};
 ghost use Rattle.bd_space.specs.Words.{changed, same, is_some_and};
 ghost use Rattle.bd_space.specs.Deaths as deaths_of;

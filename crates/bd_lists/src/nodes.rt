@@ -1,7 +1,6 @@
 //! Objects (nodes) of all processes.
 
-ghost use Rattle.std.specs.Prelude.{◌≡◌, ◌==◌, ◌&&◌, ◌++◌};
-ghost use Rattle.std.specs.Prelude.{not, map, filter, find, OnOk};
+ghost use Rattle.std.specs.{Prelude.{◌≡◌, ◌==◌, ◌&&◌, ◌++◌}, Prelude.{not, map, filter, find, OnOk}};
 ghost use Rattle.bd_space.specs.Words as words;
 ghost use Rattle.bd_space.specs.References as refer;
 ghost use Rattle.bd_space.specs.Asking as asking;

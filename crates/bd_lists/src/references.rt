@@ -1,7 +1,6 @@
 //! References to objects: who refers to which, weakly or strongly, and what each buffer holds.
 
-ghost use Rattle.std.specs.Prelude.{◌≡◌, ◌==◌, ◌&&◌, ◌||◌};
-ghost use Rattle.std.specs.Prelude.{◌++◌, not, map, filter, position, OnOk};
+ghost use Rattle.std.specs.{Prelude.{◌≡◌, ◌==◌, ◌&&◌, ◌||◌}, Prelude.{◌++◌, not, map, filter, position, OnOk}};
 ghost use Rattle.std.specs.List.{list_any};
 ghost use Rattle.bd_space.specs.Words as words;
 ghost use Rattle.bd_space.specs.Words.{without_first};

@@ -1,10 +1,7 @@
 //! The work items that are still to be read on a list.
 
-ghost use Rattle.std.specs.Prelude.{◌≡◌, List, Some};
-ghost use Rattle.std.specs.Slice.Iter.{iter_rest};
-ghost use Rattle.std.specs.Iterator.{YieldsFirst, item_count};
-ghost use Rattle.bd_space.specs.declared.space.Work.{Work};
-ghost use Rattle.bd_space.specs.Todo.{work_on};
+ghost use Rattle.std.specs.{Prelude.{◌≡◌, List, Some}, Slice.Iter.{iter_rest}, Iterator.{YieldsFirst, item_count}};
+ghost use Rattle.bd_space.specs.{declared.space.Work.{Work}, Todo.{work_on}};
 
 use crate::works::{WorkList, is_on};
 use bd_space::{TodoList, Work};

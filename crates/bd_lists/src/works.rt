@@ -1,8 +1,7 @@
 //! Work items: what is still to be read, by whom.
 
 ghost use Rattle.std.specs.Prelude.{Bool, ◌≡◌, ◌==◌, ◌&&◌, ◌<◌};
-ghost use Rattle.std.specs.Prelude.{not, filter, count_by, vec_len, vec_capacity, Some};
-ghost use Rattle.std.specs.List.{list_any, slice_get};
+ghost use Rattle.std.specs.{Prelude.{not, filter, count_by, vec_len, vec_capacity, Some}, List.{list_any, slice_get}};
 ghost use Rattle.bd_space.specs.declared.space.WorkKind as declared;
 ghost use Rattle.bd_space.specs.Words as words;
 ghost use Rattle.bd_space.specs.Todo as spec;

@@ -3,8 +3,7 @@
 ghost use Rattle.std.specs.Prelude.{ℕ, ◌≡◌, ◌==◌, ◌≤◌, ◌<◌, ◌+◌, ◌&&◌, Some, None, if◌then◌else◌};
 ghost use Rattle.std.specs.Cmp.Rules.{hashing};
 ghost use Rattle.std.specs.Hash as fed;
-ghost use Rattle.std.specs.HashMap.{spare};
-ghost use Rattle.std.proofs.Common.{rules};
+ghost use Rattle.std.{specs.HashMap.{spare}, proofs.Common.{rules}};
 ghost use Rattle.bd_words.specs.Numbers.{pair, wide};
 ghost use Rattle.bd_space.specs.declared.step.ObjectId as declared;
 ghost use Rattle.bd_space.specs.Words.{same};

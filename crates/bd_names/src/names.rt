@@ -4,8 +4,7 @@ ghost use Rattle.std.specs.Prelude.{◌≡◌, ◌==◌, ◌≤◌, ◌<◌, ◌
 ghost use Rattle.bd_space.specs.declared.space.Name as declared;
 ghost use Rattle.bd_space.specs.Names as names_of;
 ghost use Rattle.bd_names.specs.Numbers as numbers;
-ghost use Rattle.bd_names.specs.Sound.{has_number, has_object};
-ghost use Rattle.bd_names.specs.Named.{Named, HasNumbers, index_room};
+ghost use Rattle.bd_names.specs.{Sound.{has_number, has_object}, Named.{Named, HasNumbers, index_room}};
 
 use crate::keys::{
     NumberKey, ObjectKey, number_of, object_of, put_number, put_object, take_number, take_object,

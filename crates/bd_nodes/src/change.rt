@@ -9,9 +9,7 @@ use bd_space::{Object, ObjectId};
 
 impl NodeTable {
     ghost use Rattle.bd_space.specs.declared.space.Object.{Object};
-    ghost use Rattle.bd_nodes.specs.Stands.{NodesAre};
-    ghost use Rattle.bd_nodes.specs.New.{IsNewIn, AreNewIn};
-    ghost use Rattle.bd_nodes.specs.Room.{Uses, node_room};
+    ghost use Rattle.bd_nodes.specs.{Stands.{NodesAre}, New.{IsNewIn, AreNewIn}, Room.{Uses, node_room}};
 
     /// Puts a new object to them.
     #[tactic(auto, unfolding(crate::specs::Room::node_room, crate::specs::Room::node_count))]

@@ -1,7 +1,6 @@
 //! The objects of a process.
 
-ghost use Rattle.std.specs.Prelude.{◌≡◌, ◌==◌, ◌++◌, true, map, filter, List, OnOk, OnErr};
-ghost use Rattle.std.specs.List.{list_any};
+ghost use Rattle.std.specs.{Prelude.{◌≡◌, ◌==◌, ◌++◌, true, map, filter, List, OnOk, OnErr}, List.{list_any}};
 
 use crate::key::owner_group;
 use crate::table::NodeTable;
@@ -11,8 +10,7 @@ use std::alloc::AllocError;
 
 impl NodeTable {
     ghost use Rattle.bd_space.specs.declared.space.Object.{Object};
-    ghost use Rattle.bd_nodes.specs.Stands.{NodesAre};
-    ghost use Rattle.bd_nodes.specs.New.{HasAll};
+    ghost use Rattle.bd_nodes.specs.{Stands.{NodesAre}, New.{HasAll}};
 
     /// Identities: those of all objects that the process owns, and maybe of objects that went.
     pub fn listed(&self, p: u32) -> Members<'_, ObjectId>

@@ -33,8 +33,7 @@ impl Drop for NodeTable {
 
 impl NodeTable {
     ghost use Rattle.bd_space.specs.declared.space.Object.{Object};
-    ghost use Rattle.bd_nodes.specs.Stands.{NodesAre, IsKept, Lists};
-    ghost use Rattle.bd_nodes.specs.Room.{Uses, node_room, node_count};
+    ghost use Rattle.bd_nodes.specs.{Stands.{NodesAre, IsKept, Lists}, Room.{Uses, node_room, node_count}};
     ghost use Rattle.bd_groups.specs.Members.{group_room};
 
     /// An empty table.

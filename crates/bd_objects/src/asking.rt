@@ -3,8 +3,7 @@
 ghost use Rattle.std.specs.Prelude.{◌≡◌, ◌==◌, ◌≤◌, ◌∷◌, [], if◌then◌else◌, List, Option, Result, OnOk, OnErr};
 ghost use Rattle.bd_space.specs.Words.{first_of};
 ghost use Rattle.bd_space.specs.Asking as asking;
-ghost use Rattle.bd_space.specs.Names.{named_in as named_in_list};
-ghost use Rattle.bd_space.specs.declared.space.Name.{Name};
+ghost use Rattle.bd_space.specs.{Names.{named_in as named_in_list}, declared.space.Name.{Name}};
 ghost use Rattle.bd_names.specs.Stands.{NamesAre};
 
 use crate::naming::give_name;
@@ -27,8 +26,7 @@ fn asked_in(manager: Option<ObjectId>, names: &NameTable, p: u32, n: u32) -> Opt
 
 impl ObjectTable {
     ghost use Rattle.bd_space.specs.Tables.{Tells, Makes, TellsWhere, MakesWhere};
-    ghost use Rattle.bd_objects.specs.Stands.{StandsFor, IsKept, HasManager, IsAtWith};
-    ghost use Rattle.bd_objects.specs.Numbers.{SpaceIsPastLimit};
+    ghost use Rattle.bd_objects.specs.{Stands.{StandsFor, IsKept, HasManager, IsAtWith}, Numbers.{SpaceIsPastLimit}};
     ghost use Rattle.bd_objects.specs.Room.{Uses, UsesNothing, nothing, reference_room, name_room};
 
     /// The object that the process asks for by this number, weakly or strongly. Errors, the first that holds: no such

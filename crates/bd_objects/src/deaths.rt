@@ -1,7 +1,6 @@
 //! Death notifications.
 
-ghost use Rattle.std.specs.Prelude.{◌≡◌, ◌≤◌, true, find, IfOk, OnErr};
-ghost use Rattle.std.specs.List.{list_any};
+ghost use Rattle.std.specs.{Prelude.{◌≡◌, ◌≤◌, true, find, IfOk, OnErr}, List.{list_any}};
 ghost use Rattle.bd_space.specs.Space.{Space};
 ghost use Rattle.bd_space.specs.Deaths as deaths_of;
 ghost use Rattle.bd_space.specs.Clearing as clearing;
@@ -15,8 +14,7 @@ use std::alloc::{AllocError, Global};
 
 impl ObjectTable {
     ghost use Rattle.bd_space.specs.Tables.{Tells, Makes, MakesWhere};
-    ghost use Rattle.bd_objects.specs.New.{IsNewDeath};
-    ghost use Rattle.bd_objects.specs.Stands.{StandsFor};
+    ghost use Rattle.bd_objects.specs.{New.{IsNewDeath}, Stands.{StandsFor}};
     ghost use Rattle.bd_objects.specs.Room.{Uses, UsesNothing, nothing, death_room};
 
     /// The object that the process asks to be told of, by its number. Errors: no such number, or an uncleared

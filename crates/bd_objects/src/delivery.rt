@@ -5,8 +5,7 @@ ghost use Rattle.std.specs.Prelude.{◌≡◌, ◌≤◌, ◌+◌, ◌++◌, ◌
 ghost use Rattle.bd_space.specs.Delivery as delivery;
 ghost use Rattle.bd_space.specs.Translation as translations;
 ghost use Rattle.bd_space.specs.declared.space.Reference.{Reference};
-ghost use Rattle.bd_references.specs.Stands.{ReferencesAre};
-ghost use Rattle.bd_references.specs.Room.{reference_room as room_in};
+ghost use Rattle.bd_references.specs.{Stands.{ReferencesAre}, Room.{reference_room as room_in}};
 
 use crate::naming::give_names;
 use crate::table::ObjectTable;
@@ -118,9 +117,7 @@ fn add_references(
 
 impl ObjectTable {
     ghost use Rattle.bd_space.specs.Tables.{Tells, MakesWhere};
-    ghost use Rattle.bd_objects.specs.Stands.{StandsFor, IsKept, IsAtWith};
-    ghost use Rattle.bd_objects.specs.Delivery.{delivered};
-    ghost use Rattle.bd_objects.specs.New.{MakesNew};
+    ghost use Rattle.bd_objects.specs.{Stands.{StandsFor, IsKept, IsAtWith}, Delivery.{delivered}, New.{MakesNew}};
     ghost use Rattle.bd_objects.specs.Numbers.{SpaceIsPastLimit};
     ghost use Rattle.bd_objects.specs.Room.{Uses, delivery_room, object_room, reference_room, name_room};
 

@@ -2,14 +2,11 @@
 
 ghost use Rattle.std.specs.Prelude.{◌≡◌, ◌==◌, ◌≤◌, ◌&&◌, ◌||◌, ◌++◌, true, not, map, filter, List, OnOk, OnErr};
 ghost use Rattle.std.specs.List.{list_any};
-ghost use Rattle.bd_space.specs.declared.space.Object.{Object};
-ghost use Rattle.bd_space.specs.declared.space.Reference.{Reference};
-ghost use Rattle.bd_space.specs.Words.{same};
+ghost use Rattle.bd_space.specs.{declared.space.Object.{Object}, declared.space.Reference.{Reference}, Words.{same}};
 ghost use Rattle.bd_space.specs.References.{owned_in, is_of_owner};
 ghost use Rattle.bd_space.specs.ProcessExits as process_exits;
 ghost use Rattle.bd_nodes.specs.Stands.{NodesAre};
-ghost use Rattle.bd_references.specs.Stands.{ReferencesAre};
-ghost use Rattle.bd_references.specs.Room.{reference_room};
+ghost use Rattle.bd_references.specs.{Stands.{ReferencesAre}, Room.{reference_room}};
 
 use crate::table::ObjectTable;
 use bd_nodes::NodeTable;
@@ -42,11 +39,9 @@ fn drop_of_owned(references: &mut ReferenceTable, nodes: &NodeTable, p: u32)
 }
 
 impl ObjectTable {
-    ghost use Rattle.bd_space.specs.Space.{Space};
+    ghost use Rattle.bd_space.specs.{Space.{Space}, Tables.{Makes}};
     ghost use Rattle.bd_nodes.specs.New.{HasAll};
-    ghost use Rattle.bd_space.specs.Tables.{Makes};
-    ghost use Rattle.bd_objects.specs.Stands.{StandsFor};
-    ghost use Rattle.bd_objects.specs.Room.{UsesNothing};
+    ghost use Rattle.bd_objects.specs.{Stands.{StandsFor}, Room.{UsesNothing}};
 
     /// The references, names and death notifications go that go with the process.
     #[tactic(auto, unfolding(bd_space::specs::ProcessExits::without_process, crate::specs::Room::rooms))]

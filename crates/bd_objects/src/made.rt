@@ -1,10 +1,8 @@
 //! The objects that a parcel makes.
 
-ghost use Rattle.std.specs.Prelude.{◌≡◌, ◌≤◌, ◌+◌, ◌-◌, ◌++◌, ◌∷◌, [], take, OnOk, OnErr};
-ghost use Rattle.std.specs.Option.{option_or};
+ghost use Rattle.std.specs.{Prelude.{◌≡◌, ◌≤◌, ◌+◌, ◌-◌, ◌++◌, ◌∷◌, [], take, OnOk, OnErr}, Option.{option_or}};
 ghost use Rattle.bd_space.specs.References as refer;
-ghost use Rattle.bd_words.specs.Look.{look, word_room};
-ghost use Rattle.bd_words.specs.declared.key.WordKey.{WordKey};
+ghost use Rattle.bd_words.specs.{Look.{look, word_room}, declared.key.WordKey.{WordKey}};
 ghost use Rattle.bd_objects.specs.Later as after;
 
 use bd_space::Object;

@@ -5,16 +5,11 @@ ghost use Rattle.std.specs.Prelude.{◌≡◌, ◌==◌, ◌≤◌, ◌++◌, le
 ghost use Rattle.std.specs.List.{list_any};
 ghost use Rattle.bd_space.specs.References as refer;
 ghost use Rattle.bd_space.specs.Names as names_of;
-ghost use Rattle.bd_space.specs.Parcels.{object_of_item};
-ghost use Rattle.bd_space.specs.declared.space.Name.{Name};
-ghost use Rattle.bd_space.specs.declared.space.Object.{Object};
-ghost use Rattle.bd_space.specs.declared.space.Reference.{Reference};
-ghost use Rattle.bd_space.specs.declared.step.ObjectId.{ObjectId};
+ghost use Rattle.bd_space.specs.{Parcels.{object_of_item}, declared.space.Name.{Name}, declared.space.Object.{Object}};
+ghost use Rattle.bd_space.specs.{declared.space.Reference.{Reference}, declared.step.ObjectId.{ObjectId}};
 ghost use Rattle.bd_nodes.specs.Stands.{NodesAre};
-ghost use Rattle.bd_names.specs.Stands.{NamesSince, NamesAre, name_room, Uses};
-ghost use Rattle.bd_names.specs.Numbers.{IsFull};
-ghost use Rattle.bd_objects.specs.Naming.{with_name_unless, with_other_name, AreReferred};
-ghost use Rattle.bd_objects.specs.Numbers.{IsPastLimit};
+ghost use Rattle.bd_names.specs.{Stands.{NamesSince, NamesAre, name_room, Uses}, Numbers.{IsFull}};
+ghost use Rattle.bd_objects.specs.{Naming.{with_name_unless, with_other_name, AreReferred}, Numbers.{IsPastLimit}};
 
 use bd_names::{NameTable, NumbersFull};
 use bd_nodes::NodeTable;

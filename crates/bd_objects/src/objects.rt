@@ -18,8 +18,7 @@ impl ObjectTable {
     ghost use Rattle.bd_space.specs.Deaths as deaths_of;
     ghost use Rattle.bd_space.specs.Steps as steps;
     ghost use Rattle.bd_space.specs.Tables.{Tells, TellsWhere, MakesWhere};
-    ghost use Rattle.bd_objects.specs.Stands.{StandsFor, HasProcesses};
-    ghost use Rattle.bd_objects.specs.New.{IsNewManager};
+    ghost use Rattle.bd_objects.specs.{Stands.{StandsFor, HasProcesses}, New.{IsNewManager}};
     ghost use Rattle.bd_objects.specs.Room.{Uses, nothing, object_room, reference_room};
 
     /// The object with this identity.

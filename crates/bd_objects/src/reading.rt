@@ -2,20 +2,15 @@
 
 ghost use Rattle.std.specs.Prelude.{◌≡◌, ◌==◌, ◌≤◌, ◌+◌, ◌*◌, ◌++◌, ℕ, List, length, vec_len, vec_capacity};
 ghost use Rattle.std.specs.List.{flat_map};
-ghost use Rattle.bd_space.specs.Words.{changed, when, is_some_and, same as same_object};
-ghost use Rattle.bd_space.specs.Todo.{notice_of};
+ghost use Rattle.bd_space.specs.{Words.{changed, when, is_some_and, same as same_object}, Todo.{notice_of}};
 ghost use Rattle.bd_space.specs.References as refer;
 ghost use Rattle.bd_space.specs.ReadItems as reading;
 ghost use Rattle.bd_space.specs.Returns as returns;
-ghost use Rattle.bd_space.specs.Space.{Space};
-ghost use Rattle.bd_space.specs.Tables.{IsAt};
-ghost use Rattle.bd_space.specs.declared.space.Object.{Object};
-ghost use Rattle.bd_space.specs.declared.space.Reference.{Reference};
-ghost use Rattle.bd_space.specs.declared.space.Holder.TheVariants.{Handshake};
+ghost use Rattle.bd_space.specs.{Space.{Space}, Tables.{IsAt}, declared.space.Object.{Object}};
+ghost use Rattle.bd_space.specs.{declared.space.Reference.{Reference}, declared.space.Holder.TheVariants.{Handshake}};
 ghost use Rattle.bd_nodes.specs.Stands.{NodesAre};
 ghost use Rattle.bd_nodes.specs.Room as node_rooms;
-ghost use Rattle.bd_references.specs.Stands.{ReferencesAre};
-ghost use Rattle.bd_references.specs.Room.{reference_room as room_in};
+ghost use Rattle.bd_references.specs.{Stands.{ReferencesAre}, Room.{reference_room as room_in}};
 ghost use Rattle.bd_objects.specs.Reading.{owed, HoldsAlike};
 
 use crate::table::ObjectTable;
@@ -187,8 +182,7 @@ fn add_handshakes(references: &mut ReferenceTable, nodes: &NodeTable, place: u32
 
 impl ObjectTable {
     ghost use Rattle.bd_space.specs.Tables.{Tells, MakesWhere};
-    ghost use Rattle.bd_objects.specs.Stands.{StandsFor};
-    ghost use Rattle.bd_objects.specs.Room.{Uses, nothing, reference_room};
+    ghost use Rattle.bd_objects.specs.{Stands.{StandsFor}, Room.{Uses, nothing, reference_room}};
 
     /// What the owner of the object is told: `BR_INCREFS`, `BR_ACQUIRE`, `BR_RELEASE` and `BR_DECREFS`, each if it is
     /// to be told that.

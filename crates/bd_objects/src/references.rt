@@ -12,8 +12,7 @@ impl ObjectTable {
     ghost use Rattle.bd_space.specs.Freeing as freeing;
     ghost use Rattle.bd_space.specs.Tables.{Tells, Makes};
     ghost use Rattle.bd_references.specs.Carried.{carried_in};
-    ghost use Rattle.bd_objects.specs.Stands.{StandsFor};
-    ghost use Rattle.bd_objects.specs.Room.{UsesNothing};
+    ghost use Rattle.bd_objects.specs.{Stands.{StandsFor}, Room.{UsesNothing}};
 
     /// The objects that the buffer made there carries, one for each object of its parcel, in their order.
     pub fn carried(&self, made: u32) -> CarriedObjects<'_>

@@ -20,8 +20,7 @@ pub struct ObjectTable {
 
 impl ObjectTable {
     ghost use Rattle.bd_space.specs.Space.{opening};
-    ghost use Rattle.bd_objects.specs.Stands.{StandsFor, IsKept};
-    ghost use Rattle.bd_objects.specs.Room.{UsesNothing, HasRoom};
+    ghost use Rattle.bd_objects.specs.{Stands.{StandsFor, IsKept}, Room.{UsesNothing, HasRoom}};
 
     /// An empty table.
     pub fn new(alloc: Global) -> ObjectTable

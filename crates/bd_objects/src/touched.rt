@@ -1,15 +1,12 @@
 //! What follows from a change at one name and one object: nothing else is looked at.
 
-ghost use Rattle.std.specs.Prelude.{◌≡◌, ◌==◌, ◌||◌, not, false, IfSome};
-ghost use Rattle.std.specs.List.{list_any};
-ghost use Rattle.bd_space.specs.Words.{is_some_and};
-ghost use Rattle.bd_space.specs.References.{object_in};
+ghost use Rattle.std.specs.{Prelude.{◌≡◌, ◌==◌, ◌||◌, not, false, IfSome}, List.{list_any}};
+ghost use Rattle.bd_space.specs.{Words.{is_some_and}, References.{object_in}};
 ghost use Rattle.bd_space.specs.declared.space.WorkKind as declared;
 ghost use Rattle.bd_space.specs.Todo as todo;
 ghost use Rattle.bd_space.specs.Notices as notices;
 ghost use Rattle.bd_space.specs.Local as local;
-ghost use Rattle.bd_objects.specs.Deaths.{is_lost, only_lost};
-ghost use Rattle.bd_objects.specs.Telling.{owner_due};
+ghost use Rattle.bd_objects.specs.{Deaths.{is_lost, only_lost}, Telling.{owner_due}};
 
 use crate::notices::{owner_to_tell, stays};
 use crate::table::ObjectTable;
@@ -18,8 +15,7 @@ use bd_space::{ObjectId, WorkKind};
 
 impl ObjectTable {
     ghost use Rattle.bd_space.specs.Tables.{Tells, Makes, TellsWhere, MakesWhere};
-    ghost use Rattle.bd_objects.specs.Stands.{StandsFor, HasProcesses};
-    ghost use Rattle.bd_objects.specs.Room.{UsesNothing};
+    ghost use Rattle.bd_objects.specs.{Stands.{StandsFor, HasProcesses}, Room.{UsesNothing}};
 
     /// The process's name of the object goes, if no reference carries it any more.
     #[tactic(auto, unfolding(bd_space::specs::Local::names_go_of, crate::specs::Room::rooms))]

@@ -1,18 +1,14 @@
 //! Processes that open and end, and what they ask to be told.
 
 ghost use Rattle.std.specs.Prelude.{◌≡◌, ◌==◌, ◌≤◌, ◌+◌, ◌++◌, ◌∷◌, [], true, not, filter, List};
-ghost use Rattle.bd_space.specs.Steps.{is_pid};
-ghost use Rattle.bd_space.specs.Words.{changed};
-ghost use Rattle.bd_space.specs.Spam.{detecting};
+ghost use Rattle.bd_space.specs.{Steps.{is_pid}, Words.{changed}, Spam.{detecting}};
 
 use crate::table::{ProcessTable, pid_key};
 use bd_space::Process;
 
 impl ProcessTable {
     ghost use Rattle.bd_space.specs.declared.space.Process.{Process};
-    ghost use Rattle.bd_processes.specs.New.{IsNewIn};
-    ghost use Rattle.bd_processes.specs.Stands.{ProcessesAre};
-    ghost use Rattle.bd_processes.specs.Room.{process_room};
+    ghost use Rattle.bd_processes.specs.{New.{IsNewIn}, Stands.{ProcessesAre}, Room.{process_room}};
 
     /// One more, opened after the others. Takes no memory.
     #[tactic(auto, unfolding(crate::specs::Room::process_room))]

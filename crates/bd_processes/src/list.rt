@@ -3,8 +3,7 @@
 ghost use Rattle.std.specs.Prelude.{◌≡◌, ◌<◌, ◌==◌, true, false, All, IfSome, MatchOption, length, slice_index_or};
 ghost use Rattle.std.specs.List.{list_all};
 ghost use Rattle.bd_space.specs.Seats as seats;
-ghost use Rattle.bd_space.specs.Steps.{is_pid};
-ghost use Rattle.bd_space.specs.declared.space.Process.{Process};
+ghost use Rattle.bd_space.specs.{Steps.{is_pid}, declared.space.Process.{Process}};
 ghost use Rattle.bd_processes.specs.Order.{IsRising};
 
 use bd_space::Process;

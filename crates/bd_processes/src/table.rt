@@ -1,7 +1,6 @@
 //! The table, and its memory.
 
-ghost use Rattle.std.specs.Prelude.{◌≡◌, ◌≤◌, [], true, OnOk, OnErr};
-ghost use Rattle.std.specs.List.{list_all};
+ghost use Rattle.std.specs.{Prelude.{◌≡◌, ◌≤◌, [], true, OnOk, OnErr}, List.{list_all}};
 ghost use Rattle.bd_space.specs.Steps.{is_pid};
 ghost use Rattle.bd_processes.specs.Keys as keys;
 
@@ -31,8 +30,7 @@ pub(crate) fn pid_key(pid: u32) -> WordKey
 }
 
 impl ProcessTable {
-    ghost use Rattle.bd_processes.specs.Stands.{ProcessesAre, IsKept};
-    ghost use Rattle.bd_processes.specs.Room.{process_room};
+    ghost use Rattle.bd_processes.specs.{Stands.{ProcessesAre, IsKept}, Room.{process_room}};
 
     /// No process. Takes no memory.
     pub fn new(alloc: Global) -> ProcessTable

@@ -1,9 +1,7 @@
 //! What a process asked for itself, and what an owner has yet to acknowledge.
 
-ghost use Rattle.std.specs.Prelude.{◌≡◌, ◌≤◌, List};
-ghost use Rattle.std.specs.List.{list_any};
-ghost use Rattle.bd_space.specs.declared.space.Reference.{Reference};
-ghost use Rattle.bd_space.specs.Words.{without_first};
+ghost use Rattle.std.specs.{Prelude.{◌≡◌, ◌≤◌, List}, List.{list_any}};
+ghost use Rattle.bd_space.specs.{declared.space.Reference.{Reference}, Words.{without_first}};
 ghost use Rattle.bd_space.specs.References as refer;
 
 use crate::keys::{Kind, count_key};
@@ -11,8 +9,7 @@ use crate::table::ReferenceTable;
 use bd_space::ObjectId;
 
 impl ReferenceTable {
-    ghost use Rattle.bd_references.specs.Stands.{ReferencesAre};
-    ghost use Rattle.bd_references.specs.Room.{reference_room};
+    ghost use Rattle.bd_references.specs.{Stands.{ReferencesAre}, Room.{reference_room}};
 
     /// Whether the process asked for the object in this strength.
     pub fn is_asked(&self, p: u32, o: ObjectId, strong: bool) -> bool

@@ -22,8 +22,7 @@ fn push_objects(
 }
 
 impl ReferenceTable {
-    ghost use Rattle.bd_references.specs.Stands.{ReferencesAre};
-    ghost use Rattle.bd_references.specs.Room.{reference_room};
+    ghost use Rattle.bd_references.specs.{Stands.{ReferencesAre}, Room.{reference_room}};
 
     /// The references go that the buffer held.
     #[tactic(auto, unfolding(crate::specs::Room::reference_room))]

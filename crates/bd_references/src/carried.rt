@@ -1,9 +1,7 @@
 //! The objects that a buffer carries.
 
-ghost use Rattle.std.specs.Prelude.{◌≡◌, List};
-ghost use Rattle.std.specs.Iterator.{YieldsFirst, item_count};
-ghost use Rattle.bd_space.specs.declared.step.ObjectId.{ObjectId};
-ghost use Rattle.bd_space.specs.declared.space.Reference.{Reference};
+ghost use Rattle.std.specs.{Prelude.{◌≡◌, List}, Iterator.{YieldsFirst, item_count}};
+ghost use Rattle.bd_space.specs.{declared.step.ObjectId.{ObjectId}, declared.space.Reference.{Reference}};
 ghost use Rattle.bd_references.specs.Carried.{is_carried_by, carried_in};
 
 use crate::held::HeldReferences;

@@ -1,9 +1,7 @@
 //! How many references there are, by what they are to, what for, and how strong.
 
-ghost use Rattle.std.specs.Prelude.{◌≡◌, ◌≤◌, ◌<◌, ◌+◌, ◌-◌, ◌^◌, false, if◌then◌else◌, OnOk, OnErr};
-ghost use Rattle.std.specs.HashMap.{spare};
-ghost use Rattle.bd_references.specs.Keys.{same_key};
-ghost use Rattle.bd_references.specs.Counted.{count_at};
+ghost use Rattle.std.specs.{Prelude.{◌≡◌, ◌≤◌, ◌<◌, ◌+◌, ◌-◌, ◌^◌, false, if◌then◌else◌, OnOk, OnErr}, HashMap.{spare}};
+ghost use Rattle.bd_references.specs.{Keys.{same_key}, Counted.{count_at}};
 
 use crate::keys::CountKey;
 use std::alloc::{AllocError, Global};

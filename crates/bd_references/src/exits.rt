@@ -14,8 +14,7 @@ use std::alloc::AllocError;
 
 impl ReferenceTable {
     ghost use Rattle.bd_nodes.specs.New.{HasAll};
-    ghost use Rattle.bd_references.specs.Stands.{ReferencesAre};
-    ghost use Rattle.bd_references.specs.Room.{reference_room};
+    ghost use Rattle.bd_references.specs.{Stands.{ReferencesAre}, Room.{reference_room}};
 
     /// The references go that go with the process: it asked for them, or they lie in its window.
     #[tactic(auto, unfolding(crate::specs::Room::reference_room))]

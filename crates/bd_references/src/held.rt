@@ -1,7 +1,6 @@
 //! The references of one buffer, one after the other.
 
-ghost use Rattle.std.specs.Prelude.{◌≡◌, ◌-◌, List};
-ghost use Rattle.std.specs.Iterator.{YieldsFirst, item_count};
+ghost use Rattle.std.specs.{Prelude.{◌≡◌, ◌-◌, List}, Iterator.{YieldsFirst, item_count}};
 ghost use Rattle.bd_space.specs.declared.space.Reference.{Reference};
 ghost use Rattle.bd_references.specs.Gathered as gather;
 

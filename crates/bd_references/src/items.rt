@@ -3,8 +3,7 @@
 ghost use Rattle.std.specs.Prelude.{ℕ, ◌≡◌, ◌≤◌, ◌<◌, ◌+◌, ◌-◌, ◌^◌, ◌==◌, ◌++◌, ◌∷◌, [], Some, None, false, not, filter, ◌&&◌, if◌then◌else◌, OnOk, OnErr};
 ghost use Rattle.std.specs.HashMap.{spare};
 ghost use Rattle.bd_space.specs.References as refer;
-ghost use Rattle.bd_references.specs.Gathered.{item_in, end_in};
-ghost use Rattle.bd_references.specs.Listed.{AreWindows};
+ghost use Rattle.bd_references.specs.{Gathered.{item_in, end_in}, Listed.{AreWindows}};
 
 use crate::held::{HeldReferences, end_of};
 use crate::holders::buffer_of_holder;

@@ -1,7 +1,6 @@
 //! All that is counted with some keys goes.
 
-ghost use Rattle.std.specs.Prelude.{◌≡◌, ◌≤◌, not, filter, List, if◌then◌else◌};
-ghost use Rattle.std.specs.HashMap.{spare};
+ghost use Rattle.std.specs.{Prelude.{◌≡◌, ◌≤◌, not, filter, List, if◌then◌else◌}, HashMap.{spare}};
 ghost use Rattle.bd_space.specs.declared.space.Reference.{Reference};
 ghost use Rattle.bd_references.specs.declared.keys.CountKey as key;
 ghost use Rattle.bd_references.specs.Keys as keys;

@@ -28,8 +28,7 @@ impl Drop for ReferenceTable {
 }
 
 impl ReferenceTable {
-    ghost use Rattle.bd_references.specs.Stands.{ReferencesAre};
-    ghost use Rattle.bd_references.specs.Room.{reference_room};
+    ghost use Rattle.bd_references.specs.{Stands.{ReferencesAre}, Room.{reference_room}};
 
     /// No references.
     pub fn new(alloc: Global) -> ReferenceTable

@@ -1,10 +1,10 @@
 //! How many references there are, by what they are for, and in all.
 
 ghost use Rattle.std.specs.Prelude.{◌≡◌, ◌≤◌, ◌<◌, ◌+◌, ◌-◌, ◌^◌, ◌++◌, ◌∷◌, [], Bool, List, length, filter, not, ◌||◌, ◌&&◌, OnOk, OnErr};
+ghost use Rattle.std.specs.List.{list_any};
 ghost use Rattle.bd_space.specs.declared.space.Reference as declared;
 ghost use Rattle.bd_space.specs.Words.{same, without_first};
 ghost use Rattle.bd_space.specs.References as refer;
-ghost use Rattle.std.specs.List.{list_any};
 ghost use Rattle.bd_references.specs.declared.keys.Kind.TheVariants as kinds;
 ghost use Rattle.bd_references.specs.Keys as keys;
 ghost use Rattle.bd_references.specs.Listed.{AreUsers};

@@ -2,13 +2,11 @@
 
 ghost use Rattle.std.specs.Prelude.{ℕ, ◌≡◌, ◌≤◌, ◌<◌, ◌+◌, ◌++◌, ◌∷◌, true, false, map, filter, if◌then◌else◌, IfOk, OnOk, OnErr};
 ghost use Rattle.std.specs.List.{list_any};
-ghost use Rattle.bd_groups.specs.declared.group.Group.TheVariants.{Process};
-ghost use Rattle.bd_groups.specs.Members.{members, group_room};
+ghost use Rattle.bd_groups.specs.{declared.group.Group.TheVariants.{Process}, Members.{members, group_room}};
 ghost use Rattle.bd_references.specs.declared.keys.CountKey as key;
 ghost use Rattle.bd_references.specs.declared.counts.Counts as counters;
 ghost use Rattle.bd_references.specs.Keys as keys;
-ghost use Rattle.bd_references.specs.Counted.{count_at, is_counted};
-ghost use Rattle.bd_references.specs.Listed.{AreUsers};
+ghost use Rattle.bd_references.specs.{Counted.{count_at, is_counted}, Listed.{AreUsers}};
 
 use crate::counts::Counts;
 use crate::keys::{CountKey, process_of};

@@ -1,8 +1,7 @@
 //! The buffers, listed for the processes in whose windows they hold something.
 
 ghost use Rattle.std.specs.Prelude.{ℕ, ◌≡◌, ◌==◌, ◌≤◌, ◌<◌, ◌+◌, ◌&&◌, true, false, not, filter, if◌then◌else◌, IfOk, OnOk, OnErr};
-ghost use Rattle.std.specs.List.{list_any};
-ghost use Rattle.std.specs.HashMap.{spare};
+ghost use Rattle.std.specs.{List.{list_any}, HashMap.{spare}};
 ghost use Rattle.bd_groups.specs.Members.{group_room};
 ghost use Rattle.bd_nodes.specs.Keys.{kept};
 ghost use Rattle.bd_space.specs.References as refer;

@@ -1,7 +1,6 @@
 //! Requests and steps, their answers, and records of histories.
 
-ghost use Rattle.std.specs.Prelude.{◌≡◌, IfOk};
-ghost use Rattle.std.specs.Cmp.Rules.{hashing};
+ghost use Rattle.std.specs.{Prelude.{◌≡◌, IfOk}, Cmp.Rules.{hashing}};
 ghost use Rattle.std.specs.Hash as fed;
 ghost use Rattle.std.proofs.Common.{rules};
 ghost use Rattle.bd_words.specs.Numbers.{pair};

@@ -10,8 +10,7 @@ use crate::table::ThreadTable;
 use bd_space::Thread;
 
 impl ThreadTable {
-    ghost use Rattle.bd_threads.specs.Listed.{listed};
-    ghost use Rattle.bd_threads.specs.Room.{thread_room};
+    ghost use Rattle.bd_threads.specs.{Listed.{listed}, Room.{thread_room}};
 
     /// A thread comes in. Takes no memory.
     pub fn push(&mut self, thread: Thread)

@@ -2,9 +2,7 @@
 
 ghost use Rattle.std.specs.Prelude.{◌≡◌, ◌<◌, ◌≤◌, ◌==◌, true, false, not, filter, map, All, IfSome, IfOk, OnErr, MatchOption, length, slice_index_or, vec_len, vec_capacity};
 ghost use Rattle.bd_space.specs.declared.space.Thread as declared;
-ghost use Rattle.bd_space.specs.ProcessExits.{seat_of};
-ghost use Rattle.bd_space.specs.Seats.{thread_in};
-ghost use Rattle.bd_space.specs.Words.{changed};
+ghost use Rattle.bd_space.specs.{ProcessExits.{seat_of}, Seats.{thread_in}, Words.{changed}};
 ghost use Rattle.bd_threads.specs.Apart.{IsRising};
 
 use bd_space::Thread;

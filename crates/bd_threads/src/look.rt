@@ -1,8 +1,7 @@
 //! Looking for threads.
 
 ghost use Rattle.std.specs.Prelude.{◌≡◌, ◌<◌, ◌≤◌, ◌==◌, true, false, not, map, filter, All, IfSome, IfOk, OnErr, MatchOption, length, slice_index_or};
-ghost use Rattle.bd_space.specs.ProcessExits.{seat_of};
-ghost use Rattle.bd_space.specs.Seats.{thread_in};
+ghost use Rattle.bd_space.specs.{ProcessExits.{seat_of}, Seats.{thread_in}};
 
 use crate::list::{index_of, is_newest, seats_in, thread_among};
 use crate::places::place_of;
@@ -15,8 +14,7 @@ const FEW: usize = 8;
 
 impl ThreadTable {
     ghost use Rattle.bd_space.specs.declared.space.Thread as declared;
-    ghost use Rattle.bd_threads.specs.New.{IsNewIn};
-    ghost use Rattle.bd_threads.specs.Listed.{listed};
+    ghost use Rattle.bd_threads.specs.{New.{IsNewIn}, Listed.{listed}};
 
     /// The index of a seat's thread, where threads are found by places.
     pub(crate) fn index_at(&self, seat: u32) -> Option<usize>

@@ -1,7 +1,6 @@
 //! Where each seat's thread was made.
 
-ghost use Rattle.std.specs.Prelude.{ℕ, ◌≡◌, ◌==◌, ◌≤◌, ◌<◌, ◌+◌, true, Some, None, if◌then◌else◌};
-ghost use Rattle.std.specs.HashMap.{spare};
+ghost use Rattle.std.specs.{Prelude.{ℕ, ◌≡◌, ◌==◌, ◌≤◌, ◌<◌, ◌+◌, true, Some, None, if◌then◌else◌}, HashMap.{spare}};
 ghost use Rattle.bd_threads.specs.Apart.{place_at};
 
 use bd_space::Thread;

@@ -20,8 +20,7 @@ pub struct ThreadTable {
 }
 
 impl ThreadTable {
-    ghost use Rattle.bd_threads.specs.Listed.{listed};
-    ghost use Rattle.bd_threads.specs.Room.{thread_room};
+    ghost use Rattle.bd_threads.specs.{Listed.{listed}, Room.{thread_room}};
 
     /// No thread. Takes no memory.
     pub fn new(alloc: Global) -> ThreadTable

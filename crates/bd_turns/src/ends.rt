@@ -1,8 +1,7 @@
 //! The two ends of each object's chain of slots.
 
 ghost use Rattle.std.specs.Prelude.{true, false, ◌≡◌, ◌≤◌, Some, option_map, if◌then◌else◌};
-ghost use Rattle.std.specs.Option.{option_or, option_and_then};
-ghost use Rattle.std.specs.HashMap.{spare};
+ghost use Rattle.std.specs.{Option.{option_or, option_and_then}, HashMap.{spare}};
 ghost use Rattle.bd_space.specs.declared.step.ObjectId as declared;
 ghost use Rattle.bd_space.specs.Words.{same};
 ghost use Rattle.bd_turns.specs.declared.ends.Ends as declared_ends;

@@ -2,16 +2,12 @@
 #![tactic(auto, unfolding(crate::specs::Room::queue_room, crate::specs::Room::queue_count))]
 
 ghost use Rattle.std.specs.Prelude.{ℕ, Bool, true, List, ◌≡◌, ◌==◌, ◌<◌, ◌≤◌, ◌++◌, ◌∷◌, [], not, filter, find, map, if◌then◌else◌, Some, IfOk};
-ghost use Rattle.std.specs.Option.{option_map, option_and_then};
-ghost use Rattle.std.specs.List.{slice_get};
+ghost use Rattle.std.specs.{Option.{option_map, option_and_then}, List.{slice_get}, HashMap.{spare}};
 ghost use Rattle.bd_space.specs.declared.space.Turn as declared;
 ghost use Rattle.bd_space.specs.Words.{changed, same};
-ghost use Rattle.std.specs.HashMap.{spare};
 ghost use Rattle.bd_space.specs.declared.step.ObjectId as declared_step;
 ghost use Rattle.bd_turns.specs.declared.ends.Ends as declared_ends;
-ghost use Rattle.bd_turns.specs.Ends.{ends_at};
-ghost use Rattle.bd_turns.specs.Turn.{hand_turn};
-ghost use Rattle.bd_turns.specs.Room.{QueueUses, queue_room, queue_count};
+ghost use Rattle.bd_turns.specs.{Ends.{ends_at}, Turn.{hand_turn}, Room.{QueueUses, queue_room, queue_count}};
 ghost use Rattle.bd_turns.specs.Slots as spec;
 ghost use Rattle.bd_turns.specs.Sweep.{handed_if, kept, changed_each, Within, is_elsewhere};
 
@@ -77,8 +73,7 @@ fn leave_front(objects: &mut HashMap<ObjectId, Ends>, slots: &[Slot], object: Ob
 }
 
 impl Queue {
-    ghost use Rattle.bd_turns.specs.Listed.{StayListed};
-    ghost use Rattle.bd_turns.specs.Stands.{QueueIs};
+    ghost use Rattle.bd_turns.specs.{Listed.{StayListed}, Stands.{QueueIs}};
 
     pub(crate) fn new(alloc: Global) -> Queue
         ensures { QueueIs result [] }

@@ -3,9 +3,7 @@
 
 ghost use Rattle.std.specs.Prelude.{ℕ, List, ◌≡◌, ◌≤◌, ◌+◌, ◌++◌, [], IfOk, length, count_by};
 ghost use Rattle.bd_space.specs.declared.space.Turn as declared;
-ghost use Rattle.bd_turns.specs.Room.{Uses, turn_room, turn_count};
-ghost use Rattle.bd_turns.specs.Slots.{entries, turns_in};
-ghost use Rattle.bd_turns.specs.Stands.{TurnsAre};
+ghost use Rattle.bd_turns.specs.{Room.{Uses, turn_room, turn_count}, Slots.{entries, turns_in}, Stands.{TurnsAre}};
 
 use crate::queue::Queue;
 use crate::slots::{Slot, count_live};

@@ -4,8 +4,7 @@
 ghost use Rattle.std.specs.Prelude.{ℕ, Bool, List, ◌≡◌, ◌==◌, ◌≤◌, ◌++◌, ◌∷◌, [], not, filter, find, OnOk, OnErr};
 ghost use Rattle.bd_space.specs.declared.space.Turn as declared;
 ghost use Rattle.bd_space.specs.Words.{changed, same};
-ghost use Rattle.bd_turns.specs.Turn.{hand_turn};
-ghost use Rattle.bd_turns.specs.Room.{Uses, turn_room};
+ghost use Rattle.bd_turns.specs.{Turn.{hand_turn}, Room.{Uses, turn_room}};
 
 use crate::queue::Queue;
 use bd_groups::{Group, Groups};

@@ -1,7 +1,6 @@
 //! The flags of a transaction.
 
-ghost use Rattle.std.specs.Prelude.{⊤, ◌≡◌, [], ◌∷◌, codes, nat_eq, ◌↔◌, ◌%◌, IsTrue};
-ghost use Rattle.std.specs.Int.RustNames.{bit_and};
+ghost use Rattle.std.specs.{Prelude.{⊤, ◌≡◌, [], ◌∷◌, codes, nat_eq, ◌↔◌, ◌%◌, IsTrue}, Int.RustNames.{bit_and}};
 
 use bitflags::{Flag, Flags};
 

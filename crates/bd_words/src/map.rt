@@ -20,8 +20,7 @@ pub struct WordMap<V> {
 }
 
 impl<V: Copy> WordMap<V> {
-    ghost use Rattle.bd_words.specs.declared.key.WordKey.{WordKey};
-    ghost use Rattle.bd_words.specs.Keys.{same_word};
+    ghost use Rattle.bd_words.specs.{declared.key.WordKey.{WordKey}, Keys.{same_word}};
     ghost use Rattle.bd_words.specs.Look.{place_of, look, word_room};
 
     /// An empty map. Takes no memory.

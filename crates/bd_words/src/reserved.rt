@@ -1,7 +1,6 @@
 //! Hash maps with room.
 
-ghost use Rattle.std.specs.Prelude.{◌≡◌, ◌+◌, ◌≤◌, ◌<◌, Some, if◌then◌else◌};
-ghost use Rattle.std.specs.HashMap.{get, spare};
+ghost use Rattle.std.specs.{Prelude.{◌≡◌, ◌+◌, ◌≤◌, ◌<◌, Some, if◌then◌else◌}, HashMap.{get, spare}};
 
 use std::collections::HashMap;
 use std::hash::Hash;

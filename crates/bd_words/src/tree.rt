@@ -1,9 +1,7 @@
 //! The tree: the place of each key.
 
 ghost use Rattle.std.specs.Prelude.{◌≡◌, ◌≤◌, ◌<◌, ◌+◌, ◌^◌, ◌++◌, ◌∷◌, [], length, get_or, vec_len, vec_capacity, Some, None, OnOk, OnErr};
-ghost use Rattle.bd_words.specs.Keys.{place_in};
-ghost use Rattle.bd_words.specs.Walk.{blank, leaf, keys, next, end_of};
-ghost use Rattle.bd_words.specs.Tree.{IsTree};
+ghost use Rattle.bd_words.specs.{Keys.{place_in}, Walk.{blank, leaf, keys, next, end_of}, Tree.{IsTree}};
 
 use crate::key::WordKey;
 use crate::node::Node;
