@@ -212,6 +212,21 @@ fn checked(status: u32) -> Result<(), Error> {
     })
 }
 
+// All that a call copies, of whatever size.
+fn all(
+    handle: &mut c::Handle,
+    copy: impl Fn(*mut c::Handle, *mut u8, usize, *mut usize) -> u32,
+) -> Result<Vec<u8>, Error> {
+    let (mut bytes, mut size) = (Vec::new(), 0);
+    loop {
+        checked(copy(handle, bytes.as_mut_ptr(), bytes.len(), &mut size))?;
+        if size <= bytes.len() {
+            return Ok(bytes);
+        }
+        bytes.resize(size, 0);
+    }
+}
+
 /// Why a write stopped before the end of its stream.
 #[derive(Clone, Copy, Debug, PartialEq, Eq)]
 pub enum Stop {
@@ -381,14 +396,7 @@ pub struct History(Driver);
 impl History {
     /// Its journal.
     pub fn journal(&mut self) -> Result<Vec<u8>, Error> {
-        let (mut bytes, mut size) = (Vec::new(), 0);
-        loop {
-            checked(unsafe { c::hullpippin_journal(&mut self.0.handle, bytes.as_mut_ptr(), bytes.len(), &mut size) })?;
-            if size <= bytes.len() {
-                return Ok(bytes);
-            }
-            bytes.resize(size, 0);
-        }
+        all(&mut self.0.handle, |driver, out, room, size| unsafe { c::hullpippin_journal(driver, out, room, size) })
     }
 }
 
@@ -686,12 +694,14 @@ impl Live {
 
     /// The bytes of the latest step's entry, for a journal; none before the first step.
     pub fn entry(&mut self) -> Result<Vec<u8>, Error> {
-        self.all(|live, out, room, size| unsafe { c::hullpippin_live_entry(live, out, room, size) })
+        all(&mut self.handle, |live, out, room, size| unsafe { c::hullpippin_live_entry(live, out, room, size) })
     }
 
     /// What a journal of so many entries begins with.
     pub fn heading(&mut self, count: u32) -> Result<Vec<u8>, Error> {
-        self.all(|live, out, room, size| unsafe { c::hullpippin_live_heading(live, count, out, room, size) })
+        all(&mut self.handle, |live, out, room, size| unsafe {
+            c::hullpippin_live_heading(live, count, out, room, size)
+        })
     }
 
     // A part of the bytes that the latest step got.
@@ -711,18 +721,6 @@ impl Live {
                 return numbers;
             }
             numbers.resize(count, 0);
-        }
-    }
-
-    // All that a call copies, of whatever size.
-    fn all(&mut self, copy: impl Fn(*mut c::Handle, *mut u8, usize, *mut usize) -> u32) -> Result<Vec<u8>, Error> {
-        let (mut bytes, mut size) = (Vec::new(), 0);
-        loop {
-            checked(copy(&mut self.handle, bytes.as_mut_ptr(), bytes.len(), &mut size))?;
-            if size <= bytes.len() {
-                return Ok(bytes);
-            }
-            bytes.resize(size, 0);
         }
     }
 }
