@@ -92,19 +92,19 @@ one_switch_of args = do
 abbrev pub one_long_of : List (List ℕ) → Option ℕ
 one_long_of args = one_of args >>= long_of
 
-abbrev pub pointer_and_cookie_of : List (List ℕ) → Option (ℕ × ℕ)
-pointer_and_cookie_of args = do
+-- two numbers, each read in its way
+abbrev pub two_numbers_of : (List ℕ → Option ℕ) → (List ℕ → Option ℕ) → List (List ℕ) → Option (ℕ × ℕ)
+two_numbers_of first second args = do
   words ← two_of args
-  pointer ← long_of words.0
-  cookie ← long_of words.1
-  Some (pointer, cookie)
+  m ← first words.0
+  n ← second words.1
+  Some (m, n)
+
+abbrev pub pointer_and_cookie_of : List (List ℕ) → Option (ℕ × ℕ)
+pointer_and_cookie_of args = two_numbers_of long_of long_of args
 
 abbrev pub handle_and_cookie_of : List (List ℕ) → Option (ℕ × ℕ)
-handle_and_cookie_of args = do
-  words ← two_of args
-  handle ← word_of words.0
-  cookie ← long_of words.1
-  Some (handle, cookie)
+handle_and_cookie_of args = two_numbers_of word_of long_of args
 
 abbrev pub one_number : {A : Type 0} → (ℕ → A) → List (List ℕ) → Option A
 one_number f args = option_map f (one_number_of args)
