@@ -33,7 +33,7 @@ use Rattle.bd_driver.specs.Steps.{took_at, put_at}
 use Rattle.bd_driver.specs.Driver.{Takes}
 use Rattle.bd_driver.specs.Served.{Serves}
 use Rattle.bd_driver.specs.declared.outcome.Served.TheVariants.{Ran}
-use Rattle.bd_driver.specs.Serve.{Serving, IsPicked, PicksOne, FollowsFor, AnswersPick, RunsAs, AnswersOne, letter_ticks, OnlyServes, RanPicked, ServedOne, AnswersAll, ServedAll, ticks, ones}
+use Rattle.bd_driver.specs.Serve.{Serving, IsPicked, PicksOne, FollowsFor, AnswersPick, RunsAs, AnswersOne, letter_ticks, served_as, OnlyServes, RanPicked, ServedOne, AnswersAll, ServedAll, ticks, ones}
 use Rattle.bd_driver.proofs.Views.{starts_all}
 use Rattle.bd_driver.proofs.MailboxSteps.{picks, serves, answers}
 
@@ -57,9 +57,6 @@ pub answers_at : (seats slots id : ℕ) (me : Hands) (v : View) (xs : List (ℕ 
 answers_at seats slots id me v xs i word o is at on a =
     subst (λ (z : Hands × ℕ). Allows (Kept seats) slots id z.0 z.1 (λ _. 3) (answered_as (step slots z.1 3 0 none) z.0)) (λ j. (sym (is ∙ ap (λ (w : ℕ). (v ∷ [], (w, Answered o) ∷ xs)) at) j, sym at j))
     (answers seats slots id (v ∷ [], (suc i, Answered o) ∷ xs) refl on i a.request a.since a.start a.count o a.pick a.is_told a.same_places refl)
-
-same_only : (v : View) → OnlyServes v v
-same_only v = record { seats = refl; who = refl; own = refl; handover = refl; takes = refl; puts = refl; looks = refl; posts = refl; withdraws = refl; collects = refl; opens = refl; shuts = refl }
 
 -- what a run says of what was picked
 module _ (m : Hands) (i : ℕ) (r : Request) (e0 : History) (p : IsPicked m i r e0) where
@@ -181,7 +178,7 @@ module _ (m : Hands) (i : ℕ) (r : Request) (e0 : History) (p : IsPicked m i r 
         answer_step = refl;
         publishes = refl;
         picks = refl;
-        only = record { seats = refl; who = refl; own = refl; handover = refl; takes = refl; puts = refl; looks = refl; posts = refl; withdraws = refl; collects = refl; opens = refl; shuts = refl };
+        only = refl;
         slots = refl;
       })
 
@@ -201,20 +198,7 @@ one_of true x n hit is = is ∙ sym (ap (λ c. cond c 1 0) (eq-eqb x 1 hit))
 one_of false x n hit is = is ∙ sym (ap (λ c. cond c 1 0) (ne_eqb x 1 hit))
 
 then_only : (u v w : View) → OnlyServes u v → OnlyServes v w → OnlyServes u w
-then_only u v w a b = record {
-  seats = b.seats ∙ a.seats;
-  who = b.who ∙ a.who;
-  own = b.own ∙ a.own;
-  handover = b.handover ∙ a.handover;
-  takes = b.takes ∙ a.takes;
-  puts = b.puts ∙ a.puts;
-  looks = b.looks ∙ a.looks;
-  posts = b.posts ∙ a.posts;
-  withdraws = b.withdraws ∙ a.withdraws;
-  collects = b.collects ∙ a.collects;
-  opens = b.opens ∙ a.opens;
-  shuts = b.shuts ∙ a.shuts;
-}
+then_only u v w a b = b ∙ ap (λ (x : View). served_as x w) a
 
 answers_more : (seats k : ℕ) (xs : List ℕ) (x p : ℕ) (ls l : List Letter) (a b c : List Entry) → AnswersAll seats k xs p ls a b → AnswersOne seats (k + length xs) (x == 1) (p + length ls) l b c → AnswersAll seats k (xs ++ x ∷ []) p (ls ++ l) a c
 answers_more seats k [] x p ls l a b c h one =
@@ -257,7 +241,6 @@ serves_one m m' m'' i r p h =
     let picked : Hands = (picked_at v i p.word r p.view.1.0 ∷ [], (i + 1, Empty) ∷ m.1) in
     let ran : RanPicked picked i r m'' = subst (λ x. RanPicked x i r m'') p.view.1.2 h in
     let now = (view_of m''.0).seen in
-    let o = ran.only in
     record {
       word = p.word;
       hit = p.view.0;
@@ -267,20 +250,7 @@ serves_one m m' m'' i r p h =
       answered = (r, ran.outcome, refl, ran.runs);
       answer_steps = ran.answer_step;
       publishes = ran.publishes;
-      only = record {
-        seats = o.seats;
-        who = o.who;
-        own = o.own;
-        handover = o.handover;
-        takes = o.takes;
-        puts = o.puts;
-        looks = o.looks;
-        posts = o.posts;
-        withdraws = o.withdraws;
-        collects = o.collects;
-        opens = o.opens;
-        shuts = o.shuts;
-      };
+      only = ran.only;
       slots = ran.slots;
     }
 
@@ -297,20 +267,7 @@ serves_nothing m m' i p =
       answered = (refl, refl);
       answer_steps = refl;
       publishes = omega arith;
-      only = record {
-        seats = refl;
-        who = refl;
-        own = refl;
-        handover = refl;
-        takes = refl;
-        puts = refl;
-        looks = refl;
-        posts = refl;
-        withdraws = refl;
-        collects = refl;
-        opens = refl;
-        shuts = refl;
-      };
+      only = refl;
       slots = refl;
     })
 
@@ -325,7 +282,7 @@ served_none m = record {
   answered = (refl, refl);
   answer_steps = refl;
   publishes = omega arith;
-  only = same_only (view_of m.0);
+  only = refl;
   slots = refl;
 }
 
@@ -333,7 +290,7 @@ pub served_more : (v : View) (xs : List (ℕ × Slot)) (k : ℕ) (m m' : Hands) 
 served_more v xs k m m' d n b a s is =
     let at : 0 + length a.found ≡ k = omega (arith, a.all) in
     let one : AnswersOne v.seats (0 + length a.found) (s.word == 1) (v.publishes.count + length a.letters) s.letters (view_of m.0).seen (view_of m'.0).seen =
-    subst (λ (z : (ℕ × ℕ) × (Bool × ℕ)). AnswersOne z.0.0 z.0.1 z.1.0 z.1.1 s.letters (view_of m.0).seen (view_of m'.0).seen) (λ i. ((a.only.seats i, sym at i), (hit_is b s.word s.hit i, a.publishes i))) s.answered in
+    subst (λ (z : (ℕ × ℕ) × (Bool × ℕ)). AnswersOne z.0.0 z.0.1 z.1.0 z.1.1 s.letters (view_of m.0).seen (view_of m'.0).seen) (λ i. (((a.only i).seats, sym at i), (hit_is b s.word s.hit i, a.publishes i))) s.answered in
     record {
       found = a.found ++ s.word ∷ [];
       all = let e = length-append a.found (s.word ∷ []) in let f = a.all in omega arith;
@@ -378,19 +335,19 @@ all_serves seats v xs m m' m'' e d word t a p =
     let now : view_of m''.0 ≡ put_at (view_of m'.0) word = ap (λ (x : Hands). view_of x.0) p in
     let began : BeginsWith (view_of m.0).seen v.seen = subst (λ l. BeginsWith l v.seen) (sym (ap (λ (x : View). x.seen) is)) t.begins in
     let grown = all_grow (view_of m.0).seats 0 a.found (view_of m.0).publishes.count a.letters (view_of m.0).seen (view_of m'.0).seen a.answered in
-    let o = a.only in
+    let only : view_of m'.0 ≡ served_as (took_at v t.word t.entries) (view_of m'.0) = a.only ∙ ap (λ (x : View). served_as x (view_of m'.0)) is in
     let seats_is : (view_of m.0).seats ≡ v.seats = ap (λ (x : View). x.seats) is in
     subst (λ w. Serves seats v w (Ran d)) (sym now) (record {
-      who = (o.seats ∙ seats_is, o.who ∙ ap (λ (x : View). x.who) is);
-      one_take = ap (λ (x : Tally). x.count) o.takes ∙ ap (λ (x : View). x.takes.count) is;
-      no_look = o.looks ∙ ap (λ (x : View). x.looks) is;
-      no_mail = (o.posts ∙ ap (λ (x : View). x.posts) is, o.withdraws ∙ ap (λ (x : View). x.withdraws) is, o.collects ∙ ap (λ (x : View). x.collects) is);
-      no_opening = (o.opens ∙ ap (λ (x : View). x.opens) is, o.shuts ∙ ap (λ (x : View). x.shuts) is);
+      who = (ap (λ (x : View). x.seats) only, ap (λ (x : View). x.who) only);
+      one_take = ap (λ (x : View). x.takes.count) only;
+      no_look = ap (λ (x : View). x.looks) only;
+      no_mail = (ap (λ (x : View). x.posts) only, ap (λ (x : View). x.withdraws) only, ap (λ (x : View). x.collects) only);
+      no_opening = (ap (λ (x : View). x.opens) only, ap (λ (x : View). x.shuts) only);
       begins = starts_later v.seen (view_of m.0).seen (view_of m'.0).seen began grown;
-      own = o.own ∙ ap (λ (x : View). x.own) is;
-      handover = o.handover ∙ ap (λ (x : View). x.handover) is;
+      own = ap (λ (x : View). x.own) only;
+      handover = ap (λ (x : View). x.handover) only;
       outcome = record {
-        was_free = ap (λ (x : Tally). x.found % 2) o.takes ∙ (ap (λ (x : View). x.takes.found % 2) is ∙ t.engine.0);
+        was_free = ap (λ (x : View). x.takes.found % 2) only ∙ t.engine.0;
         found = a.found;
         all = a.all;
         picks = a.picks ∙ ap (λ (x : View). ticks x.picks 0 a.found) is;
@@ -402,6 +359,6 @@ all_serves seats v xs m m' m'' e d word t a p =
         answered = subst (λ (z : ℕ × ℕ). AnswersAll z.0 0 a.found z.1 a.letters (view_of m.0).seen (view_of m'.0).seen) (λ i. (seats_is i, (is i).publishes.count)) a.answered;
         answer_steps = a.answer_steps ∙ ap (λ (x : View). letter_ticks x.answered a.letters) is;
         publishes = a.publishes ∙ ap (λ (x : View). x.publishes.count + length a.letters) is;
-        puts = ap (λ (x : Tally). x.count + 1) o.puts ∙ ap (λ (x : View). x.puts.count + 1) is;
+        puts = ap (λ (x : View). x.puts.count + 1) only;
       };
     })

@@ -45,20 +45,13 @@ abbrev pub letter_ticks : Tally → List Letter → Tally
 letter_ticks t [] = t
 letter_ticks t (l ∷ ls) = letter_ticks (tick t 2) ls
 
--- what serving leaves alone
-pub record OnlyServes (v w : View) : Type 0 where
-  pub seats : w.seats ≡ v.seats
-  pub who : w.who ≡ v.who
-  pub own : w.own ≡ v.own
-  pub handover : w.handover ≡ v.handover
-  pub takes : w.takes ≡ v.takes
-  pub puts : w.puts ≡ v.puts
-  pub looks : w.looks ≡ v.looks
-  pub posts : w.posts ≡ v.posts
-  pub withdraws : w.withdraws ≡ v.withdraws
-  pub collects : w.collects ≡ v.collects
-  pub opens : w.opens ≡ v.opens
-  pub shuts : w.shuts ≡ v.shuts
+-- the view v, but with what serving changes as it is in w
+abbrev pub served_as : View → View → View
+served_as v w = record v { seen = w.seen; taker = w.taker; pick = w.pick; publishes = w.publishes; picks = w.picks; answered = w.answered; answers = w.answers }
+
+-- serving leaves all else alone
+abbrev pub OnlyServes : View → View → Type 0
+OnlyServes v w = w ≡ served_as v w
 
 -- the seat is the taker, and has picked this request from mailbox i, of which nothing is published yet
 pub record IsPicked (me : Hands) (i : ℕ) (request : Request) (engine : History) : Type 0 where
