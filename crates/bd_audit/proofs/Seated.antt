@@ -8,7 +8,7 @@ use Rattle.bd_laws.proofs.Machine.Deaths.{tell_deaths-aside, on-mapped, on_death
 use Rattle.bd_laws.proofs.Lists.{by-last}
 use Rattle.bd_audit.specs.Replies.{made_in, thread_made}
 use Rattle.bd_audit.proofs.Beginnings.{after-append}
-use Rattle.bd_audit.proofs.NamesHaveGiftChains.Chains.{always-steps}
+use Rattle.bd_laws.proofs.Machine.Steps.{always-steps}
 use Rattle.bd_audit.proofs.RepliesReachTheirCallers.Quiet.{made-kept, made-changed}
 use Rattle.bd_audit.proofs.RepliesReachTheirCallers.ReplyLaw.{placed}
 use Rattle.bd_laws.proofs.Machine.Fields.{owe-threads, sent-threads, closed-threads}

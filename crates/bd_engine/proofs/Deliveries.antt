@@ -27,6 +27,7 @@ use Rattle.bd_objects.specs.declared.table.ObjectTable.{ObjectTable}
 use Rattle.bd_objects.specs.Stands as objects
 use Rattle.bd_engine.specs.declared.tables.Tables.{Tables}
 use Rattle.bd_engine.specs.Stands.{StandsAt, Before}
+use Rattle.bd_engine.proofs.Changing.{with-objects}
 
 -- ---- notices
 
@@ -73,12 +74,7 @@ pub known-stands : (t : Tables) (os : ObjectTable) (s : Space) (v : Delivery) (q
 unfolding assign_numbers refer make_objects
 known-stands t os s v q made items target a b c e h k =
     let P : Space → Type 0 = λ z. Before (record t { objects = os }) z in
-    subst P (known-is s v q made items target a b c e) (record {
-      own = h.own;
-      objects_stand = k;
-      calls_stand = h.calls_stand;
-      windows_stand = h.windows_stand;
-    })
+    subst P (known-is s v q made items target a b c e) (with-objects s.steps t s os _ _ _ s.deaths h k)
 
 pub known-full : (s : Space) (v : Delivery) (q : ℕ) (made : List Object) (items : List Item) (target : Option ObjectId)
     → q ≡ v.receiver.made → made ≡ v.sending.made → items ≡ v.sending.items → target ≡ v.target
@@ -96,46 +92,15 @@ pub todo-all : (n : ℕ) (t : Tables) (s : Space) (f : List Work → Item → Li
 todo-all n t s f items k le h = subst (λ (todo : List Work). StandsAt n t (record s { todo = todo })) (fold-all f s.todo items k le) h
 
 pub only-works : (a b c : Tables) (m n k : ℕ) → OnlyWorks a b m → OnlyWorks b c n → m + n ≡ k → OnlyWorks a c k
-only-works a b c m n k h i e = record {
-  calls = record {
-    threads_fit = omega (arith, h.calls.threads_fit, i.calls.threads_fit);
-    frames_fit = omega (arith, h.calls.frames_fit, i.calls.frames_fit);
-    turns_fit = omega (arith, h.calls.turns_fit, i.calls.turns_fit);
-    works_fit = omega (arith, h.calls.works_fit, i.calls.works_fit);
-    frames_count = omega (arith, h.calls.frames_count, i.calls.frames_count);
-    turns_count = omega (arith, h.calls.turns_count, i.calls.turns_count);
-  };
-  objects_are = i.objects_are ∙ h.objects_are;
-  windows_are = i.windows_are ∙ h.windows_are;
-}
+only-works a b c m n k h i e = search arith
 
 -- ---- the buffer
 
-abbrev buffer : TransactionData → Actor → Delivery → ℕ → ℕ → List ℕ → List ℕ → Buffer
-buffer d a w made size bytes offsets = record {
-  made = made;
-  receiver = w.receiver.made;
-  sender = a.process.made;
-  start = w.start;
-  size = size;
-  one_way = w.one_way;
-  handed = false;
-  target = w.target;
-  code = d.code;
-  flags = d.flags;
-  euid = a.process.euid;
-  bytes = bytes;
-  offsets = offsets;
-}
-
 pub buffer-is : (s : Space) (a : Actor) (d : TransactionData) (v w : Delivery) (made size : ℕ) (bytes offsets : List ℕ) → w ≡ v
     → s.steps ≡ made → size ≡ needed d.data_size d.offsets_size → bytes ≡ translation s w.receiver.made w.sending.bytes w.sending.items → offsets ≡ w.sending.offsets
-    → buffer d a w made size bytes offsets ≡ buffer_of s a d v
+    → (let b : Buffer = record (buffer_of s a d w) { made = made; size = size; bytes = bytes; offsets = offsets } in b) ≡ buffer_of s a d v
 buffer-is s a d v w made size bytes offsets is m z b o =
-    ap (λ (x : ℕ). buffer d a w x size bytes offsets) (sym m) ∙ ap (λ (x : ℕ). buffer d a w s.steps x bytes offsets) z
-    ∙ ap (λ (x : List ℕ). buffer d a w s.steps (needed d.data_size d.offsets_size) x offsets) b
-    ∙ ap (buffer d a w s.steps (needed d.data_size d.offsets_size) (translation s w.receiver.made w.sending.bytes w.sending.items)) o
-    ∙ ap (buffer_of s a d) is
+    (λ i. record (buffer_of s a d w) { made = sym m i; size = z i; bytes = b i; offsets = o i }) ∙ ap (buffer_of s a d) is
 
 -- the notices and the buffer in either order
 pub filled-is : (s : Space) (a : Actor) (d : TransactionData) (v : Delivery) (seat : ℕ) (items : List Item) (b : Buffer) → items ≡ v.sending.items → b ≡ buffer_of (own_notices s seat items) a d v

@@ -25,7 +25,7 @@ use Rattle.bd_space.specs.Returns.{buffer_in}
 use Rattle.bd_space.specs.Todo.{is_on, hands_out}
 use Rattle.bd_space.specs.Notices.{follow}
 use Rattle.bd_space.specs.Settle.{settle}
-use Rattle.bd_space.specs.Outcomes.{accepted, noted}
+use Rattle.bd_space.specs.Outcomes.{Outcome, accepted, noted}
 use Rattle.bd_space.specs.Freeing.{free_step, free_outcome, buffer_at_pointer, without_buffer, is_made_at, is_buffer_at}
 use Rattle.bd_space.specs.ThreadExits.{thread_goes, is_lost_with, exit_thread_step}
 use Rattle.bd_space.specs.ProcessExits.{threads_go, without_process, tell_deaths, exit_process_step, seat_of}
@@ -35,14 +35,13 @@ use Rattle.bd_buffers.specs.WindowsStand.{made_of_buffer}
 use Rattle.bd_laws.specs.Lists.{In, Pairs}
 use Rattle.bd_laws.specs.Items.{AtHome}
 use Rattle.bd_laws.proofs.Lists.{in-filter, filter-in, in-map, any-found, find-in, find-some, fold-keeps}
-use Rattle.bd_laws.proofs.Tests.{both, not-false}
-use Rattle.bd_laws.proofs.Checks.{actor-lives}
+use Rattle.bd_laws.proofs.Tests.{both, not-false, some-eq, to-false}
+use Rattle.bd_laws.proofs.Checks.{actor-acts}
 use Rattle.bd_laws.proofs.AtHome.HomesSent.{one-thread}
 use Rattle.bd_laws.proofs.FollowingIsLocal.Left.{on-thread}
 use Rattle.bd_laws.proofs.Machine.Untouched.{tell_deaths-untouched}
 use Rattle.bd_engine.specs.Ending.{is_gone, ended_between, HasEndings}
 use Rattle.bd_engine.proofs.Keeping.{after-more}
-use Rattle.bd_engine.proofs.Receivers.{HandsOwn}
 use Rattle.bd_engine.proofs.Living.{AllLive, can_end, same-live, change-leaves-all, settled-buffers, followed-buffers, completed-buffers}
 
 -- ---- what is gone
@@ -135,34 +134,26 @@ unfound-ended s p ptr found = none-ended s (free_outcome s (buffer_at_pointer s 
 -- ---- exits
 
 -- what goes with the list of a thread of p is p's
-lost-own : (s : Space) (seat p : ℕ) (td : List Work) → AtHome s → HandsOwn s → ((w : Work) → In w td → In w s.todo) → ((u : Thread) → In u s.threads → u.seat ≡ seat → u.process ≡ p)
+lost-own : (s : Space) (seat p : ℕ) (td : List Work) → AtHome s → ((w : Work) → In w td → In w s.todo) → ((u : Thread) → In u s.threads → u.seat ≡ seat → u.process ≡ p)
     → (c : Buffer) → In c s.buffers → is_lost_with td (OfThread seat) c.made ≡ true → c.receiver ≡ p
-lost-own s seat p td home own due threads c l e =
+lost-own s seat p td home due threads c l e =
     let w = any-found (λ (w : Work). is_on (OfThread seat) w && is_some_and (hands_out w.kind) (λ m. m == c.made)) td e in
     let t = both (is_on (OfThread seat) w.0) (is_some_and (hands_out w.0.kind) (λ m. m == c.made)) w.2 in
-    let u = own w.0 seat c (due w.0 w.1) (on-thread seat w.0.list t.0) (hands (hands_out w.0.kind) t.1) l in
-    sym u.3 ∙ threads u.0 u.1 u.2
-  where
-    hands : (o : Option ℕ) → is_some_and o (λ m. m == c.made) ≡ true → o ≡ Some c.made
-    hands None f = absurd (cc)
-    hands (Some m) f = ap (λ n. Some n) (eqb-true m c.made f)
+    let u = home.home w.0 seat c.made (due w.0 w.1) (on-thread seat w.0.list t.0) (some-eq c.made (hands_out w.0.kind) t.1) in
+    sym (u.4 c l refl) ∙ threads u.0 u.1 u.2
 
 -- others' buffers stay, and no work item comes
 record Left (s : Space) (p : ℕ) (z : Space) : Type 0 where
   due : (w : Work) → In w z.todo → In w s.todo
   stay : (c : Buffer) → In c s.buffers → (c.receiver ≡ p → ⊥) → In c z.buffers
 
-never : (t : Bool) → (t ≡ true → ⊥) → t ≡ false
-never true k = absurd (k refl)
-never false k = refl
-
-left-more : (s : Space) (seat p : ℕ) (z : Space) → AtHome s → HandsOwn s → ((u : Thread) → In u s.threads → u.seat ≡ seat → u.process ≡ p) → Left s p z → Left s p (thread_goes z seat)
+left-more : (s : Space) (seat p : ℕ) (z : Space) → AtHome s → ((u : Thread) → In u s.threads → u.seat ≡ seat → u.process ≡ p) → Left s p z → Left s p (thread_goes z seat)
 unfolding thread_goes
-left-more s seat p z home own threads h = record {
+left-more s seat p z home threads h = record {
   due = λ w l. h.due w (in-filter (λ (w : Work). not (is_on (OfThread seat) w)) w z.todo l).0;
   stay = λ c l other.
       filter-in (λ (b : Buffer). not (is_lost_with z.todo (OfThread seat) b.made)) c z.buffers (h.stay c l other)
-      (not-false _ (never _ (λ e. other (lost-own s seat p z.todo home own h.due threads c l e))));
+      (not-false _ (to-false _ (λ e. other (lost-own s seat p z.todo home h.due threads c l e))));
 }
 
 -- a seat has one thread
@@ -172,86 +163,79 @@ of-one s home t l u m e = ap (λ (v : Thread). v.process) (one-thread s home u t
 none-left : (s : Space) (p : ℕ) → Left s p s
 none-left s p = record { due = λ w l. l; stay = λ c l other. l }
 
-thread-left : (s : Space) (a : Actor) (seat : ℕ) → AtHome s → HandsOwn s → actor s seat ≡ Some a → Left s a.thread.process (thread_goes s a.thread.seat)
-thread-left s a seat home own acts =
-    let here = find-in (λ (t : Thread). t.seat == seat) a.thread s.threads (actor-lives s seat a acts).0 in
-    left-more s a.thread.seat a.thread.process s home own (of-one s home a.thread here.0) (none-left s a.thread.process)
+thread-left : (s : Space) (a : Actor) (seat : ℕ) → AtHome s → actor s seat ≡ Some a → Left s a.thread.process (thread_goes s a.thread.seat)
+thread-left s a seat home acts =
+    left-more s a.thread.seat a.thread.process s home (of-one s home a.thread (actor-acts s seat a acts).thread) (none-left s a.thread.process)
 
-threads-left : (s : Space) (p : ℕ) → AtHome s → HandsOwn s → Left s p (threads_go s p)
+threads-left : (s : Space) (p : ℕ) → AtHome s → Left s p (threads_go s p)
 unfolding threads_go
-threads-left s p home own =
+threads-left s p home =
     fold-keeps (Left s p) thread_goes (map seat_of (filter (λ t. t.process == p) s.threads)) (λ z seat i h.
     (let t = in-map seat_of seat (filter (λ t. t.process == p) s.threads) i in
     let at = in-filter (λ (t : Thread). t.process == p) t.0 s.threads t.1 in
-    left-more s seat p z home own (λ u m e. of-one s home t.0 at.0 u m (e ∙ sym t.2) ∙ eqb-true t.0.process p at.1) h)) s (none-left s p)
+    left-more s seat p z home (λ u m e. of-one s home t.0 at.0 u m (e ∙ sym t.2) ∙ eqb-true t.0.process p at.1) h)) s (none-left s p)
 
-process-left : (s : Space) (p : ℕ) (c : Buffer) → AtHome s → HandsOwn s → In c s.buffers → (c.receiver == p) ≡ false → In c (without_process (threads_go s p) p).buffers
+process-left : (s : Space) (p : ℕ) (c : Buffer) → AtHome s → In c s.buffers → (c.receiver == p) ≡ false → In c (without_process (threads_go s p) p).buffers
 unfolding without_process
-process-left s p c home own l other =
+process-left s p c home l other =
     filter-in (λ (b : Buffer). not (b.receiver == p)) c (threads_go s p).buffers
-    ((threads-left s p home own).stay c l (λ e. (let here = eq-eqb c.receiver p e in absurd (cc)))) (not-false _ other)
+    ((threads-left s p home).stay c l (λ e. (let here = eq-eqb c.receiver p e in absurd (cc)))) (not-false _ other)
 
-exit-thread-ended : (s : Space) (a : Actor) (seat : ℕ) → AtHome s → HandsOwn s → actor s seat ≡ Some a → HasEndings (map made_of_buffer (buffers_of s.buffers a.thread.process)) s (exit_thread_step s a).space
+exit-thread-ended : (s : Space) (a : Actor) (seat : ℕ) → AtHome s → actor s seat ≡ Some a → HasEndings (map made_of_buffer (buffers_of s.buffers a.thread.process)) s (exit_thread_step s a).space
 unfolding exit_thread_step
-exit-thread-ended s a seat home own acts =
+exit-thread-ended s a seat home acts =
     let y = thread_goes s a.thread.seat in
     let same = settled-buffers (follow y) ∙ followed-buffers y in
     by-test (λ b. b.receiver == a.thread.process) s (settle (follow y))
-    (λ c l e. (c, subst (In c) (sym same) ((thread-left s a seat home own acts).stay c l (λ f. (let here = eq-eqb c.receiver a.thread.process f in absurd (cc)))), refl))
+    (λ c l e. (c, subst (In c) (sym same) ((thread-left s a seat home acts).stay c l (λ f. (let here = eq-eqb c.receiver a.thread.process f in absurd (cc)))), refl))
 
-exit-process-ended : (s : Space) (a : Actor) → AtHome s → HandsOwn s → HasEndings (map made_of_buffer (buffers_of s.buffers a.process.made)) s (exit_process_step s a).space
+exit-process-ended : (s : Space) (a : Actor) → AtHome s → HasEndings (map made_of_buffer (buffers_of s.buffers a.process.made)) s (exit_process_step s a).space
 unfolding exit_process_step
-exit-process-ended s a home own =
+exit-process-ended s a home =
     let p = a.process.made in
     let x = without_process (threads_go s p) p in
     let y = tell_deaths x p in
     let same = settled-buffers (follow y) ∙ followed-buffers y ∙ (tell_deaths-untouched x p).buffers in
-    by-test (λ b. b.receiver == p) s (settle (follow y)) (λ c l e. (c, subst (In c) (sym same) (process-left s p c home own l e), refl))
+    by-test (λ b. b.receiver == p) s (settle (follow y)) (λ c l e. (c, subst (In c) (sym same) (process-left s p c home l e), refl))
 
 -- ---- the steps of a seat
 
--- a seat's process lives
-pub own-process : (s : Space) (seat : ℕ) (a : Actor) → actor s seat ≡ Some a → process_in s.processes a.process.made ≡ Some a.process
-own-process s seat a acts =
-    let lives = (actor-lives s seat a acts).1 in
-    let same = eqb-true a.process.made a.thread.process (find-in (λ (q : Process). q.made == a.thread.process) a.process s.processes lives).1 in
-    subst (λ (p : ℕ). process_in s.processes p ≡ Some a.process) (sym same) lives
+-- a seat without a thread changes nothing
+nobody-does : (s : Space) (seat : ℕ) (f : Actor → Outcome) → actor s seat ≡ None → HasEndings [] s (by_actor s (actor s seat) f).space
+nobody-does s seat f none = none-ended s (by_actor s (actor s seat) f).space (same-live s.buffers _ (ap (λ (o : Option Actor). (by_actor s o f).space.buffers) none))
 
--- a seat without a thread changes nothing by a command, and by an exit
+somebody-does : (s : Space) (seat : ℕ) (f : Actor → Outcome) (a : Actor) (places : List ℕ) → actor s seat ≡ Some a → HasEndings places s (f a).space
+    → HasEndings places s (by_actor s (actor s seat) f).space
+somebody-does s seat f a places acts h = subst (λ (o : Option Actor). HasEndings places s (by_actor s o f).space) (sym acts) h
+
 pub nobody-frees : (s : Space) (seat ptr : ℕ) (parcel : Option Parcel) → actor s seat ≡ None → HasEndings [] s (change s seat (step_of.Command (bc.FreeBuffer ptr) parcel)).space
 unfolding change
-nobody-frees s seat ptr parcel none = none-ended s (by_actor s (actor s seat) (λ a. command_step s a (bc.FreeBuffer ptr) parcel)).space
-    (same-live s.buffers _ (ap (λ (o : Option Actor). (by_actor s o (λ a. command_step s a (bc.FreeBuffer ptr) parcel)).space.buffers) none))
+nobody-frees s seat ptr parcel none = nobody-does s seat (λ a. command_step s a (bc.FreeBuffer ptr) parcel) none
 
 pub nobody-exits-thread : (s : Space) (seat : ℕ) → actor s seat ≡ None → HasEndings [] s (change s seat step_of.ExitThread).space
 unfolding change
-nobody-exits-thread s seat none = none-ended s (by_actor s (actor s seat) (exit_thread_step s)).space
-    (same-live s.buffers _ (ap (λ (o : Option Actor). (by_actor s o (exit_thread_step s)).space.buffers) none))
+nobody-exits-thread s seat none = nobody-does s seat (exit_thread_step s) none
 
 pub nobody-exits-process : (s : Space) (seat : ℕ) → actor s seat ≡ None → HasEndings [] s (change s seat step_of.ExitProcess).space
 unfolding change
-nobody-exits-process s seat none = none-ended s (by_actor s (actor s seat) (exit_process_step s)).space
-    (same-live s.buffers _ (ap (λ (o : Option Actor). (by_actor s o (exit_process_step s)).space.buffers) none))
+nobody-exits-process s seat none = nobody-does s seat (exit_process_step s) none
 
 pub somebody-frees : (s : Space) (seat ptr : ℕ) (parcel : Option Parcel) (a : Actor) (places : List ℕ) → actor s seat ≡ Some a → HasEndings places s (free_step s a.process.made ptr).space
     → HasEndings places s (change s seat (step_of.Command (bc.FreeBuffer ptr) parcel)).space
 unfolding change command_step
-somebody-frees s seat ptr parcel a places acts h =
-    subst (λ (o : Option Actor). HasEndings places s (by_actor s o (λ a. command_step s a (bc.FreeBuffer ptr) parcel)).space) (sym acts) h
+somebody-frees s seat ptr parcel a places acts h = somebody-does s seat (λ a. command_step s a (bc.FreeBuffer ptr) parcel) a places acts h
 
-pub somebody-exits-thread : (s : Space) (seat : ℕ) (a : Actor) → AtHome s → HandsOwn s → actor s seat ≡ Some a
+pub somebody-exits-thread : (s : Space) (seat : ℕ) (a : Actor) → AtHome s → actor s seat ≡ Some a
     → HasEndings (map made_of_buffer (buffers_of s.buffers a.process.made)) s (change s seat step_of.ExitThread).space
 unfolding change
-somebody-exits-thread s seat a home own acts =
-    let same = eqb-true a.process.made a.thread.process (find-in (λ (q : Process). q.made == a.thread.process) a.process s.processes (actor-lives s seat a acts).1).1 in
-    subst (λ (o : Option Actor). HasEndings (map made_of_buffer (buffers_of s.buffers a.process.made)) s (by_actor s o (exit_thread_step s)).space) (sym acts)
-    (subst (λ (p : ℕ). HasEndings (map made_of_buffer (buffers_of s.buffers p)) s (exit_thread_step s a).space) (sym same) (exit-thread-ended s a seat home own acts))
+somebody-exits-thread s seat a home acts =
+    somebody-does s seat (exit_thread_step s) a _ acts
+    (subst (λ (p : ℕ). HasEndings (map made_of_buffer (buffers_of s.buffers p)) s (exit_thread_step s a).space) (sym (actor-acts s seat a acts).own) (exit-thread-ended s a seat home acts))
 
-pub somebody-exits-process : (s : Space) (seat : ℕ) (a : Actor) → AtHome s → HandsOwn s → actor s seat ≡ Some a
+pub somebody-exits-process : (s : Space) (seat : ℕ) (a : Actor) → AtHome s → actor s seat ≡ Some a
     → HasEndings (map made_of_buffer (buffers_of s.buffers a.process.made)) s (change s seat step_of.ExitProcess).space
 unfolding change
-somebody-exits-process s seat a home own acts =
-    subst (λ (o : Option Actor). HasEndings (map made_of_buffer (buffers_of s.buffers a.process.made)) s (by_actor s o (exit_process_step s)).space) (sym acts) (exit-process-ended s a home own)
+somebody-exits-process s seat a home acts = somebody-does s seat (exit_process_step s) a _ acts (exit-process-ended s a home)
 
 -- any other command
 pub others-free-none : (s : Space) (seat : ℕ) (c : Command) (parcel : Option Parcel) → ((ptr : ℕ) → c ≡ bc.FreeBuffer ptr → ⊥) → HasEndings [] s (change s seat (step_of.Command c parcel)).space

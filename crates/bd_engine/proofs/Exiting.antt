@@ -16,9 +16,9 @@ use Rattle.bd_space.specs.LocalExits.{seats_in}
 use Rattle.bd_laws.specs.Lists.{Pairs}
 use Rattle.bd_laws.specs.Objects.{Earlier}
 use Rattle.bd_laws.specs.Tidy.{IsTidy}
-use Rattle.bd_laws.proofs.Lists.{find-in, any-found, any-in}
+use Rattle.bd_laws.proofs.Lists.{any-found, any-in}
 use Rattle.bd_laws.proofs.Tests.{and-both}
-use Rattle.bd_laws.proofs.Checks.{actor-lives}
+use Rattle.bd_laws.proofs.Checks.{actor-acts}
 use Rattle.bd_laws.proofs.Leaving.{leaving-local, left-names, left-parts, follow-frames}
 use Rattle.bd_laws.proofs.Ending.{ending-local, ended-parts}
 use Rattle.bd_calls.specs.Closing.{is_place_among}
@@ -46,9 +46,9 @@ pub thread-exits : (s : Space) (a : Actor) (x : Exit) → IsBy a s → HasThread
     → settle (follow (thread_goes s a.thread.seat)) ≡ looked_at (names_among a.thread.process x.objects.items) x (thread_goes s a.thread.seat)
 thread-exits s a x by has =
     let seat = a.thread.seat in
-    let here = find-in (λ (t : Thread). t.seat == seat) a.thread s.threads (actor-lives s seat a by.acts).0 in
+    let here = actor-acts s seat a by.acts in
     leaving-local s seat by.tidy (names_among a.thread.process x.objects.items) (is_among x.objects.items) (is_place_among x.frames.items)
-    (λ p o e. let n = left-names s seat by.tidy a.thread here.0 (eqb-true a.thread.seat seat here.1) p o e in names-among a.thread.process p x.objects.items o n.0 (thread-objects x s seat has o n.1))
+    (λ p o e. let n = left-names s seat by.tidy a.thread here.thread here.seat p o e in names-among a.thread.process p x.objects.items o n.0 (thread-objects x s seat has o n.1))
     (thread-objects x s seat has) (thread-frames x s seat has)
     ∙ same-count (names_among a.thread.process x.objects.items) x (thread_goes s seat)
 

@@ -1,6 +1,7 @@
 -- What follows at some names, and that the objects may come after them.
 use Rattle.std.proofs.Common.{◌≡◌, ℕ, ◌+◌, ◌==◌, ◌<◌, Bool, true, false, cond, not, ◌&&◌, ◌||◌, List, [], ◌∷◌, length, get_or, take, inl, inr, refl, ap, sym, ◌∙◌, filter}
 use Rattle.std.specs.List.{list_any, fold}
+use Rattle.std.proofs.Math.Bool.{or-true, or-false, and-true}
 use Rattle.std.proofs.Math.Path.{fun_ext}
 use Rattle.std.proofs.lemmas.Bool.{eqb-true}
 use Rattle.std.proofs.lemmas.List.{take_more}
@@ -21,7 +22,7 @@ use Rattle.bd_space.specs.Local.{NameTest, ObjectTest, names_go_of, objects_go_o
 use Rattle.bd_objects.specs.Deaths.{is_lost}
 use Rattle.bd_laws.specs.Lists.{In}
 use Rattle.bd_laws.proofs.Lists.{in-filter, filter-in, any-found, any-in}
-use Rattle.bd_laws.proofs.Tests.{both, and-both, same-eq}
+use Rattle.bd_laws.proofs.Tests.{both, and-both, neither, or-left, or-right, same-eq}
 use Rattle.bd_laws.proofs.Freeing.{any-append}
 use Rattle.bd_engine.specs.Following.{deaths_followed, names_followed, notice_stays}
 
@@ -35,10 +36,6 @@ module _ {A : Type 0} where
   pub keeps-none : (p : A → Bool) (xs : List A) → ((x : A) → In x xs → p x ≡ false) → filter p xs ≡ []
   keeps-none p [] h = refl
   keeps-none p (x ∷ xs) h = rw (h x (inl refl)) (keeps-none p xs (λ y l. h y (inr l)))
-
-  pub same-tests : (p q : A → Bool) (xs : List A) → ((x : A) → p x ≡ q x) → filter p xs ≡ filter q xs
-  same-tests p q [] h = refl
-  same-tests p q (x ∷ xs) h = rw (h x) (ap (λ ys. cond (q x) (x ∷ ys) ys) (same-tests p q xs h))
 
   -- one test after the other
   pub twice : (p q r : A → Bool) (xs : List A) → ((x : A) → p x ≡ (q x && r x)) → filter p xs ≡ filter r (filter q xs)
@@ -72,14 +69,6 @@ unlooked-stays s _ = refl
 
 -- ---- two tests
 
-pub or-true : (b : Bool) → (b || true) ≡ true
-or-true true = refl
-or-true false = refl
-
-pub or-false : (b : Bool) → (b || false) ≡ b
-or-false true = refl
-or-false false = refl
-
 -- what stays for either stays for both
 pub either-or : (p q n : Bool) → (not (p || q) || n) ≡ ((not p || n) && (not q || n))
 either-or true true true = refl
@@ -89,10 +78,6 @@ either-or true false false = refl
 either-or false q n = refl
 
 -- ---- first at the names
-
-and-true : (b : Bool) → b ≡ (b && true)
-and-true true = refl
-and-true false = refl
 
 module _ (a : NameTest) (b : ObjectTest) (s : Space) where
   abbrev names_left : List Name
@@ -117,7 +102,7 @@ module _ (a : NameTest) (b : ObjectTest) (s : Space) where
       → (not (is_touched a b s.deaths k) || still_due s.processes objects_left s.references deaths_left k)
       ≡ ((not (is_touched a (λ i. false) s.deaths k) || still_due s.processes s.objects s.references deaths_left k)
       && (not (is_touched no_name b deaths_left k) || still_due s.processes objects_left s.references (filter (λ x. true) deaths_left) k))
-  kinds (work.Death n) = rw (no-deaths n deaths_left) (and-true _)
+  kinds (work.Death n) = rw (no-deaths n deaths_left) (sym (and-true _))
   kinds _ = refl
 
   pub names-first : follow_of a b s ≡ follow_of no_name b (names_followed a s)
@@ -134,10 +119,6 @@ stays-or-lost false c n h = refl
 stays-or-lost true true n h = refl
 stays-or-lost true false true h = refl
 stays-or-lost true false false h = absurd (cc)
-
-neither : (a b : Bool) → (a || b) ≡ false → (a ≡ false) × (b ≡ false)
-neither false b h = (refl, h)
-neither true b h = absurd (cc)
 
 module _ {A : Type 0} (p q : A → Bool) where
   keeps-others : ((x : A) → q x ≡ false → p x ≡ true) → (xs : List A) → list_any q xs ≡ false → filter p xs ≡ xs
@@ -253,13 +234,6 @@ module _ (a b : NameTest) (s : Space) where
   split-or : (p q : Bool) → (p || q) ≡ true → p ≡ false → q ≡ true
   split-or true q h e = absurd (cc)
   split-or false q h e = h
-
-  or-left : (p q : Bool) → p ≡ true → (p || q) ≡ true
-  or-left p q h = rw h refl
-
-  or-right : (p q : Bool) → q ≡ true → (p || q) ≡ true
-  or-right true q h = refl
-  or-right false q h = h
 
   kinds-then : (k : WorkKind) → (not (is_touched either (λ i. false) s.deaths k) || still_due s.processes s.objects s.references deaths_gone k)
       ≡ ((not (is_touched a (λ i. false) s.deaths k) || still_due s.processes s.objects s.references first_deaths k)

@@ -2,7 +2,9 @@
 use Rattle.std.proofs.Common.{◌≡◌, ℕ, ◌+◌, ◌<◌, Bool, true, false, cond, not, ◌&&◌, ◌||◌, List, [], ◌∷◌, Option, Some, None, option_and_then, arith, length, get_or, take, refl, ap, sym, subst, ◌∙◌, filter, map}
 use Rattle.std.specs.List.{fold, filter_map, cons_option}
 use Rattle.std.specs.Option.{is_some}
+use Rattle.std.proofs.Math.Bool.{or-true, or-false}
 use Rattle.std.proofs.Math.Path.{fun_ext}
+use Rattle.std.proofs.lemmas.List.Elements.{filter_agree}
 use Rattle.std.proofs.lemmas.List.{take_more}
 use Rattle.std.proofs.lemmas.List.Sums.{fold_more}
 use Rattle.bd_space.specs.declared.step.ObjectId.{ObjectId}
@@ -30,7 +32,7 @@ use Rattle.bd_laws.proofs.Earlier.{never-earlier}
 use Rattle.bd_laws.proofs.Follow.{filter-same, find-kept}
 use Rattle.bd_laws.proofs.Freeing.{any-append}
 use Rattle.bd_engine.specs.Following.{notice_stays, shed_of, told_at, told_of, followed_at}
-use Rattle.bd_engine.proofs.Following.{keeps-all, keeps-none, same-tests, twice, or-true, or-false, either-or, due-as-notice, unlooked-stays}
+use Rattle.bd_engine.proofs.Following.{keeps-all, keeps-none, twice, either-or, due-as-notice, unlooked-stays}
 
 -- ---- one object more
 
@@ -153,7 +155,7 @@ module _ (o : ObjectId) (s : Space) where
       → shed_of (at_object o) s ≡ record here { todo = filter (λ w. not (is_notice o w.kind)) here.todo }
   unfolding shed_of objects_go_of
   shed-unwanted e = ap (λ (ws : List Work). let z : Space = record here { todo = ws } in z)
-      (same-tests (λ (w : Work). notice_stays (at_object o) here w.kind) (λ w. not (is_notice o w.kind)) s.todo (λ w. kinds-stay false e w.kind))
+      (filter_agree (λ (w : Work). notice_stays (at_object o) here w.kind) (λ w. not (is_notice o w.kind)) (λ w. kinds-stay false e w.kind) s.todo)
 
 -- ---- the Notices that are missing
 
@@ -255,7 +257,7 @@ unfolding follow_of notify_of work_goes_of deaths_go_of objects_go_of names_go_o
 follow-shed b s =
     ap (λ ns. followed ns (filter (λ (d : DeathNotification). true) s.deaths) (still (filter (λ (d : DeathNotification). true) s.deaths))) (keeps-all (λ (m : Name). true) s.names (λ m. refl))
     ∙ ap (λ ds. followed s.names ds (still ds)) (keeps-all (λ (d : DeathNotification). true) s.deaths (λ d. refl))
-    ∙ ap (followed s.names s.deaths) (same-tests _ _ s.todo (λ w. due-as-notice b s.deaths (record s { objects = objects }) w.kind))
+    ∙ ap (followed s.names s.deaths) (filter_agree _ _ (λ w. due-as-notice b s.deaths (record s { objects = objects }) w.kind) s.todo)
   where
     objects : List Object
     objects = filter (λ x. not (b x.id) || stays_in s.processes s.references x) s.objects

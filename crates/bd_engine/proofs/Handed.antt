@@ -41,14 +41,7 @@ pub going-ends : (P : Space → Type 0) (rest : List Work) (whole : Space) → r
 going-ends P rest whole e h = subst P (ap (without_all_handed h.left) (sym e) ∙ h.goes_on) h.stands
 
 pub uses-then : (a b c : ObjectTable) → UsesNothing a b → UsesNothing b c → UsesNothing a c
-uses-then a b c h k = record {
-  objects_fit = omega arith;
-  references_fit = omega arith;
-  names_fit = omega arith;
-  deaths_fit = omega arith;
-  objects_count = omega arith;
-  deaths_count = omega arith;
-}
+uses-then a b c h k = search arith
 
 -- ---- all that go are those that any of the items would have handed out
 
@@ -56,8 +49,7 @@ swap : (m n : ℕ) → (m == n) ≡ (n == m)
 swap m n = search (rules, tests)
 
 neither : (b c : Bool) → not (b || c) ≡ (not b && not c)
-neither true c = refl
-neither false c = refl
+neither b c = search arith
 
 apart : (m n : ℕ) (b : Bool) → not ((m == n) || b) ≡ (not (n == m) && not b)
 apart m n b = ap (λ c. not (c || b)) (swap m n) ∙ neither (n == m) b
@@ -68,8 +60,7 @@ apart-held made None lost = refl
 apart-held made (Some b) lost = apart made b (lost b)
 
 none-held : (o : Option ℕ) → not (is_some_and o (λ b. false)) ≡ true
-none-held None = refl
-none-held (Some b) = refl
+none-held o = search arith
 
 abbrev is_handed_by : List Work → ℕ → Bool
 is_handed_by works b = list_any (λ w. is_some_and (hands_out w.kind) (λ m. m == b)) works

@@ -1,6 +1,7 @@
 -- What a live engine follows, from step to step.
 use Rattle.std.proofs.Common.{◌≡◌, ℕ, suc, ◌+◌, ◌<◌, ◌≤◌, Bool, true, false, List, [], ◌∷◌, ◌++◌, length, refl, ap, sym, subst, ◌∙◌, arith, length-append}
 use Rattle.std.specs.Prelude.{nat_lt, nat_le, ◌&&◌, ◌||◌, Some}
+use Rattle.std.proofs.Math.Bool.{or-true}
 use Rattle.std.proofs.lemmas.List.Folds.{list_all-append}
 use Rattle.std.proofs.lemmas.Bool.{lt-ltb, leb-false}
 use Rattle.bd_uapi.specs.Limits.{most_seats}
@@ -12,8 +13,6 @@ use Rattle.bd_space.specs.Names.{has_number_past_limit}
 use Rattle.bd_space.specs.Steps.{change, step, counted}
 use Rattle.bd_space.specs.Histories.{History, Follows as EntriesFollow, EntryFollows, next, after, space_after, extended, is_at_limit, history_of}
 use Rattle.bd_buffers.specs.WindowsStand.{WindowsOf}
-use Rattle.bd_calls.specs.declared.table.CallTable.{CallTable}
-use Rattle.bd_calls.specs.Stands.{StandsFor}
 use Rattle.bd_engine.specs.declared.tables.Tables.{Tables}
 use Rattle.bd_engine.specs.Stands.{Before, Within}
 use Rattle.bd_engine.specs.declared.live.Live.{Live}
@@ -23,7 +22,7 @@ use Rattle.bd_engine.specs.declared.why.Why.{Why}
 use Rattle.bd_engine.specs.declared.why.Why.TheVariants.{NoMemory, HistoryFull}
 use Rattle.bd_engine.specs.Refusals.{FullOnly, MemoryOnly}
 use Rattle.bd_objects.proofs.Fitting.{numbers-fit}
-use Rattle.bd_engine.proofs.Places.{change-steps}
+use Rattle.bd_laws.proofs.Machine.Steps.{always-steps}
 
 pub follows-new : (l : Live) (seats : ℕ) → l.seats ≡ seats → 1 ≤ seats → seats ≤ 65536 → Before l.tables.value opening → Follows l (history_of seats [])
 unfolding space_after
@@ -47,17 +46,9 @@ follows-more s (x ∷ xs) e f k = (f.0, follows-more (next s x) xs e f.1 k)
 
 -- ---- the place of the next step
 
-after-steps : (s : Space) (es : List Entry) → (after s es).steps ≡ s.steps + length es
-unfolding counted
-after-steps s [] = omega arith
-after-steps s (e ∷ es) =
-    let one = change-steps s e.seat e.step in
-    let all = after-steps (next s e) es in
-    omega (arith, one, all)
-
 pub place : (h : History) → (space_after h).steps ≡ length h.entries
 unfolding space_after
-place h = let zero_more : 0 + length h.entries ≡ length h.entries = omega arith in after-steps opening h.entries ∙ zero_more
+place h = always-steps h.entries
 
 -- ---- after a step
 
@@ -104,11 +95,6 @@ follows-step h old new t seat x answer k seated short answered stands same is =
 pub follows-kept : (h : History) (old new : Live) → Follows old h → new.seats ≡ old.seats → Before new.tables.value (space_after h) → Follows new h
 follows-kept h old new k same stands = record { seats_are = same ∙ k.seats_are; some = k.some; few = k.few; lawful = k.lawful; stands = stands }
 
--- ---- what is kept of the seats is looked at anew
-
-pub ready-kept : (t : Tables) (calls : CallTable) (s : Space) → Before t s → StandsFor calls s → Before (record t { calls = calls }) s
-ready-kept t calls s h stands = record { own = h.own; objects_stand = h.objects_stand; calls_stand = stands; windows_stand = h.windows_stand }
-
 -- ---- why a step is refused
 
 pub memory-if : (why : Why) (A : Type 0) → A → MemoryOnly why A
@@ -125,10 +111,6 @@ short-of-full h k b is fewer same = leb-false _ _ (ap (λ (z : History). nat_le 
 pub full-by-number : (h : History) (seat : ℕ) (x : Step) → has_number_past_limit (change (space_after h) seat x).space.names ≡ true → is_at_limit h seat (Some x) ≡ true
 unfolding is_at_limit counted
 full-by-number h seat x e = ap (λ b. nat_le 4294967295 (length h.entries) || b) e ∙ or-true (nat_le 4294967295 (length h.entries))
-  where
-    or-true : (b : Bool) → (b || true) ≡ true
-    or-true true = refl
-    or-true false = refl
 
 pub full-as : (why : Why) (A B : Type 0) → (A → B) → FullOnly why A → FullOnly why B
 full-as NoMemory A B f x = x

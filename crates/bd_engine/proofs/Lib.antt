@@ -1,11 +1,9 @@
 pub mod Standing
 pub mod Meeting
 pub mod Seating
-pub mod Places
 pub mod Gathering
 pub mod Exiting
 pub mod Noting
-pub mod Receivers
 pub mod Living
 pub mod Ending
 pub mod Asked

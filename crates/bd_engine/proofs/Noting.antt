@@ -1,7 +1,8 @@
 -- Noting the readiness of seats, one after the other.
-use Rattle.std.proofs.Common.{ℕ, ◌≡◌, ◌<◌, Bool, true, false, cond, List, [], ◌∷◌, ◌++◌, length, get_or, refl, ap, sym, subst, ◌∙◌}
+use Rattle.std.proofs.Common.{ℕ, ◌≡◌, ◌<◌, Bool, true, false, cond, List, [], ◌∷◌, ◌++◌, length, get_or, refl, ap, sym, subst, ◌∙◌, arith}
 use Rattle.std.specs.Prelude.{◌==◌, ◌||◌, not}
 use mathlib.Core.Bool.{beq}
+use Rattle.std.proofs.Math.Bool.{or-true, or-false}
 use Rattle.std.proofs.Math.ListN.{set}
 use Rattle.std.proofs.lemmas.List.{get_or-set_same, get_or-set_other}
 use Rattle.std.proofs.lemmas.List.Folds.{list_any-append}
@@ -15,35 +16,17 @@ pub record IsSeen (s : Space) (before noted : List Bool) (changed done : List �
   pub is : get_or noted y false ≡ cond (has_seat done y) (is_ready s y) (get_or before y false)
   pub listed : has_seat changed y ≡ flipped (get_or before y false) (get_or noted y false)
 
-true-false : true ≡ false → ⊥
-true-false e = cc
-
-eqb-refl-at : (x y : ℕ) → x ≡ y → (x == y) ≡ true
-eqb-refl-at x y e = eq-eqb x y e
-
 among-same : (xs : List ℕ) (x y : ℕ) → x ≡ y → has_seat (xs ++ x ∷ []) y ≡ true
-among-same xs x y e = list_any-append (λ v. v == y) xs (x ∷ []) ∙ ap (λ b. has_seat xs y || (b || false)) (eqb-refl-at x y e) ∙ or-true (has_seat xs y)
-  where
-    or-true : (b : Bool) → (b || true) ≡ true
-    or-true true = refl
-    or-true false = refl
+among-same xs x y e = list_any-append (λ v. v == y) xs (x ∷ []) ∙ ap (λ b. has_seat xs y || (b || false)) (eq-eqb x y e) ∙ or-true (has_seat xs y)
 
 among-other : (xs : List ℕ) (x y : ℕ) → (x == y) ≡ false → has_seat (xs ++ x ∷ []) y ≡ has_seat xs y
 among-other xs x y e = list_any-append (λ v. v == y) xs (x ∷ []) ∙ ap (λ b. has_seat xs y || (b || false)) e ∙ or-false (has_seat xs y)
-  where
-    or-false : (b : Bool) → (b || false) ≡ b
-    or-false true = refl
-    or-false false = refl
 
 flip-true : (b r : Bool) → (b ≡ r → ⊥) → flipped b r ≡ true
-flip-true true true k = absurd (k refl)
-flip-true true false k = refl
-flip-true false true k = refl
-flip-true false false k = absurd (k refl)
+flip-true b r k = search arith
 
 flip-none : (b : Bool) → flipped b b ≡ false
-flip-none true = refl
-flip-none false = refl
+flip-none b = search arith
 
 module _ (s : Space) (before noted : List Bool) (changed done : List ℕ) (x y : ℕ) (seen : IsSeen s before noted changed done y) where
   as_seen : {a b : Bool} → a ≡ b → cond a (is_ready s y) (get_or before y false) ≡ cond b (is_ready s y) (get_or before y false)
@@ -82,7 +65,7 @@ module _ (s : Space) (before noted : List Bool) (changed done : List ℕ) (x y :
                 ∙ flip-true (get_or noted y false) ready (λ f. differs (ap (λ v. get_or noted v false) same ∙ f)));
           }
       go false e =
-          let apart : y ≡ x → ⊥ = λ f. true-false (sym (eqb-refl-at x y (sym f)) ∙ e) in
+          let apart : y ≡ x → ⊥ = λ f. absurd (let same = eq-eqb x y (sym f) in cc) in
           let kept = get_or-set_other noted x y ready false apart in
           record {
             is = kept ∙ seen.is ∙ as_seen (sym (among-other done x y e));
@@ -95,16 +78,10 @@ seen-as s before noted noted2 changed changed2 done done2 y e f g k =
     subst (λ v. IsSeen s before v changed2 done2 y) (sym e) (subst (λ v. IsSeen s before noted v done2 y) (sym f) (subst (λ v. IsSeen s before noted changed v y) (sym g) k))
 
 pub differ : (a b : Bool) → not (beq a b) ≡ true → a ≡ b → ⊥
-differ true true e f = true-false (sym e)
-differ true false e f = true-false f
-differ false true e f = true-false (sym f)
-differ false false e f = true-false (sym e)
+differ a b e f = search arith
 
 pub agree : (a b : Bool) → not (beq a b) ≡ false → a ≡ b
-agree true true e = refl
-agree true false e = absurd (true-false e)
-agree false true e = absurd (true-false e)
-agree false false e = refl
+agree a b e = search arith
 
 -- before the first
 pub seen-none : (s : Space) (before : List Bool) (y : ℕ) → IsSeen s before before [] [] y

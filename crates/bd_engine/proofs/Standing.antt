@@ -77,10 +77,6 @@ among_rest (suc n) c s = at (find (λ (f : Frame). c f.made && is_abandoned s.fr
     at None more = refl
     at (Some f) more = more (λ m. c m || is_some_and f.parent (λ p. p == m)) (tell_caller (closed s f.made) f (Verdict DeadReply)) ∙ told_rest s f.made f.caller (Verdict DeadReply)
 
-pub settle-steps : (s : Space) → (settle s).steps ≡ s.steps
-unfolding rest
-settle-steps s = ap (λ (z : Space). z.steps) (settle_rest s)
-
 -- tables whose calls alone were changed
 calls_changed : (t : Tables) (cs : CallTable) (s z : Space) → rest z ≡ rest s → Within t s → calls.StandsFor cs z → Within (record t { calls = cs }) z
 unfolding rest

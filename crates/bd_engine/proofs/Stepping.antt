@@ -35,6 +35,7 @@ use Rattle.bd_calls.specs.Stacked.{IsStacked}
 use Rattle.bd_engine.specs.declared.tables.Tables.{Tables}
 use Rattle.bd_engine.specs.Stands.{StandsAt, Within}
 use Rattle.bd_engine.specs.Deliveries.{placed_for}
+use Rattle.bd_laws.proofs.Checks.{actor-acts}
 use Rattle.bd_engine.proofs.Finding.{found-lives}
 
 -- ---- processes that are found live
@@ -160,18 +161,9 @@ transaction-sends s a d parcel v e = ap (transaction_outcome s a d) (sym e)
 
 -- ---- whom a reply goes to
 
-with_process : (ps : List Process) (t : Thread) (o : Option Process) (c : Actor) → process_in ps t.process ≡ o → Some c ≡ option_map (λ q. record { thread = t; process = q }) o → process_in ps c.process.made ≡ Some c.process
-with_process ps t None c e k = absurd (none-some c (sym k))
-with_process ps t (Some q) c e k = let is : q ≡ c.process = cc in subst (λ (x : Process). process_in ps x.made ≡ Some x) is (found-lives ps t.process q e)
-
-with_thread : (s : Space) (o : Option Thread) (c : Actor) → Some c ≡ option_and_then (actor_of s) o → process_in s.processes c.process.made ≡ Some c.process
-with_thread s None c e = absurd (none-some c (sym e))
-with_thread s (Some t) c e = with_process s.processes t (process_in s.processes t.process) c refl e
-
 pub actor-lives : (s : Space) (seat : ℕ) (r : Option Actor) → r ≡ actor s seat → IfSome r (λ c. process_in s.processes c.process.made ≡ Some c.process)
-unfolding actor
 actor-lives s seat None e = tt
-actor-lives s seat (Some c) e = with_thread s (thread_in s.threads seat) c e
+actor-lives s seat (Some c) e = (actor-acts s seat c (sym e)).found
 
 pub caller-is : (s : Space) (f : Frame) (o : Option ℕ) → f.caller ≡ o → option_and_then (actor s) o ≡ caller_of s f
 unfolding caller_of

@@ -9,17 +9,18 @@ use Rattle.bd_laws.proofs.AtHome.Homes.{next-home, opening-home}
 use Rattle.bd_laws.proofs.AtHome.InWindows.{next-in_windows, opening-in_windows}
 use Rattle.bd_laws.proofs.AtHome.OtherCalls.{next-of_others, opening-of_others}
 use Rattle.bd_laws.proofs.OnPaths.EveryPath.{next-on_paths, opening-on_paths}
-use Rattle.bd_laws.proofs.ItemsAreToldApart.Numbering.{next-told, next-steps, opening-told}
+use Rattle.bd_laws.proofs.ItemsAreToldApart.Numbering.{next-told, opening-told}
 use Rattle.bd_laws.proofs.IsQueued.Queueing.{next-queued, opening-queued}
 use Rattle.bd_laws.proofs.Framing.{next-framed, opening-framed}
+use Rattle.bd_laws.proofs.NothingIsPending.Noticing.{next-once}
 use Rattle.bd_laws.proofs.NothingIsPending.Quiet.{opening-quiet}
 use Rattle.bd_laws.proofs.Next.{next-quiet}
 
 pub step-tidy : (s : Space) (e : Entry) → IsTidy s → IsTidy (next s e)
-step-tidy s e h = search (arith, step-before, next-told, next-home, next-steps, next-in_windows, next-on_paths, next-of_others, next-quiet, next-queued, next-framed)
+step-tidy s e h = search (arith, step-before, next-told, next-home, next-in_windows, next-on_paths, next-of_others, next-once, next-quiet, next-queued, next-framed)
 
 pub opening-tidy : IsTidy opening
-opening-tidy = record { before = opening-before; told = opening-told; home = opening-home; in_windows = opening-in_windows; on_paths = opening-on_paths; of_others = opening-of_others; quiet = opening-quiet; queued = opening-queued; framed = opening-framed }
+opening-tidy = record { before = opening-before; told = opening-told; home = opening-home; in_windows = opening-in_windows; on_paths = opening-on_paths; of_others = opening-of_others; once = tt; quiet = opening-quiet; queued = opening-queued; framed = opening-framed }
 
 pub tidy-after : (es : List Entry) → IsTidy (after opening es)
 tidy-after es = every_list IsTidy step-tidy es opening opening-tidy

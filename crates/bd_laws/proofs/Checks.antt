@@ -1,6 +1,6 @@
 -- For every law: what an accepted transaction, reply or asking has tested.
-use Rattle.bd_laws.proofs.words.Logic.{arith, ◌≡◌, ℕ, Bool, false, Option, Some, None, Ok, ◌⊎◌, refl, option_map, option_and_then_some, eqb-true}
-use Rattle.bd_laws.proofs.words.Types.{TransactionData, DeadOwner, ObjectId, Parcel, Process, Actor, Callee, Frame, Object}
+use Rattle.bd_laws.proofs.words.Logic.{arith, ◌≡◌, ◌==◌, ℕ, Bool, false, Option, Some, None, Ok, ◌⊎◌, refl, sym, subst, option_map, option_and_then_some, eqb-true}
+use Rattle.bd_laws.proofs.words.Types.{TransactionData, DeadOwner, ObjectId, Parcel, Process, Thread, Actor, Callee, Frame, Object}
 use Rattle.bd_laws.proofs.words.Space.{same, found_or, Space, actor, process_in, thread_in, object_in, Delivery, sending_of, transaction_check, callee_of, target_of, with_owner, owner_of, handle_of, is_one_way, caller_cause, reply_check, caller_of, ask_check}
 use Rattle.bd_laws.specs.Lists.{In}
 use Rattle.bd_laws.proofs.Lists.{find-in}
@@ -73,3 +73,19 @@ asked-checked s p n strong o h = search (arith, found-ok, eqb-true, named-has)
 pub actor-lives : (s : Space) (seat : ℕ) (a : Actor) → actor s seat ≡ Some a → (thread_in s.threads seat ≡ Some a.thread) × (process_in s.processes a.thread.process ≡ Some a.process)
 unfolding actor
 actor-lives s seat a h = search arith
+
+-- so it is on its seat and in its process
+pub record Acts (s : Space) (n : ℕ) (a : Actor) : Type 0 where
+  pub thread : In a.thread s.threads
+  pub seat : a.thread.seat ≡ n
+  pub process : In a.process s.processes
+  pub own : a.process.made ≡ a.thread.process
+  pub found : process_in s.processes a.process.made ≡ Some a.process
+
+pub actor-acts : (s : Space) (seat : ℕ) (a : Actor) → actor s seat ≡ Some a → Acts s seat a
+actor-acts s seat a h =
+    let k = actor-lives s seat a h in
+    let t = find-in (λ (x : Thread). x.seat == seat) a.thread s.threads k.0 in
+    let p = find-in (λ (x : Process). x.made == a.thread.process) a.process s.processes k.1 in
+    let own = eqb-true a.process.made a.thread.process p.1 in
+    record { thread = t.0; seat = eqb-true a.thread.seat seat t.1; process = p.0; own = own; found = subst (λ n. process_in s.processes n ≡ Some a.process) (sym own) k.1 }

@@ -7,6 +7,7 @@ use Rattle.bd_laws.proofs.words.Laws.{Pairs, OtherFrame, Framed, IsFramed}
 use Rattle.bd_laws.proofs.Lists.{in-push, in-filter, in-map, in-changed, pairs-push, pairs-filter, pairs-either, pairs-changed}
 use Rattle.bd_laws.proofs.Machine.Adding.{told-keeps}
 use Rattle.bd_laws.proofs.Machine.EveryStep.{Keeps, every_step}
+use Rattle.bd_laws.proofs.Machine.Steps.{next-steps}
 use Rattle.bd_laws.proofs.Abandoned.{OneEach}
 use Rattle.bd_laws.proofs.Machine.Fields.{sent-steps, sent-frames}
 use Rattle.bd_laws.proofs.Machine.Table.{Table, Exits, Closing, Any, ripen-by, keeps-by}
@@ -86,10 +87,10 @@ step-g s seat x before =
       ripens = λ z. ripen-by Keeping Any framed_table (λ made. tt) z n;
     })
 
-pub next-framed : (s : Space) (e : Entry) → (next s e).steps ≡ suc s.steps → IsFramed s → IsFramed (next s e)
+pub next-framed : (s : Space) (e : Entry) → IsFramed s → IsFramed (next s e)
 unfolding counted IsFramed
-next-framed s e steps h =
-    subst (λ n. Framed n (change s e.seat e.step).space.frames) (sym steps) (every_step s e.seat e.step (G (suc s.steps)) (G (suc s.steps)) (step-g s e.seat e.step h))
+next-framed s e h =
+    subst (λ n. Framed n (change s e.seat e.step).space.frames) (sym (next-steps s e)) (every_step s e.seat e.step (G (suc s.steps)) (G (suc s.steps)) (step-g s e.seat e.step h))
 
 pub opening-framed : IsFramed opening
 unfolding IsFramed

@@ -8,5 +8,6 @@ pub mod Fields
 pub mod Following
 pub mod Marks
 pub mod Settled
+pub mod Steps
 pub mod Table
 pub mod Untouched

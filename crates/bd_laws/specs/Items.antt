@@ -1,5 +1,6 @@
 -- Work items between two steps: what tells them apart, and where they stand.
 use Rattle.std.specs.Prelude.{◌≡◌, true, List, ℕ, ◌<◌, Some}
+use Rattle.bd_space.specs.declared.step.ObjectId.{ObjectId}
 use Rattle.bd_space.specs.declared.space.Work.{Work}
 use Rattle.bd_space.specs.declared.space.Thread.{Thread}
 use Rattle.bd_space.specs.declared.space.Reference.{Reference}
@@ -9,7 +10,7 @@ use Rattle.bd_space.specs.declared.space.TodoList.TheVariants.{OfThread, OfProce
 use Rattle.bd_space.specs.declared.space.WorkKind.TheVariants as work
 use Rattle.bd_space.specs.declared.space.DeathNotification.{DeathNotification}
 use Rattle.bd_space.specs.declared.space.Phase.TheVariants.{Queued}
-use Rattle.bd_space.specs.Todo.{is_item, hands_out}
+use Rattle.bd_space.specs.Todo.{is_item, hands_out, notice_of}
 use Rattle.bd_space.specs.Space.{Space}
 use Rattle.bd_laws.specs.Lists.{In, Pairs}
 
@@ -30,18 +31,19 @@ pub record Told (s : Space) : Type 0 where
 abbrev pub OtherSeat : Thread → Thread → Type 0
 OtherSeat t u = t.seat ≡ u.seat → ⊥
 
--- seat t has a live thread, in whose process's window all references lie that the buffer made at b carries
-abbrev pub Home : List Thread → List Reference → ℕ → ℕ → Type 0
-Home ts rs t b = (u : Thread) × In u ts × (u.seat ≡ t) × ((r : Reference) (q : ℕ) → In r rs → r.holder ≡ Carried b q → u.process ≡ q)
+-- seat t has a live thread, in whose process's window all references lie that the buffer made at b carries, and which receives it
+abbrev pub Home : List Thread → List Reference → List Buffer → ℕ → ℕ → Type 0
+Home ts rs bs t b = (u : Thread) × In u ts × (u.seat ≡ t) × ((r : Reference) (q : ℕ) → In r rs → r.holder ≡ Carried b q → u.process ≡ q)
+    × ((c : Buffer) → In c bs → c.made ≡ b → u.process ≡ c.receiver)
 
 -- what stands on a thread's list hands over only what its own process receives
-pub record Homed (n : ℕ) (ts : List Thread) (rs : List Reference) (td : List Work) : Type 0 where
+pub record Homed (n : ℕ) (ts : List Thread) (rs : List Reference) (bs : List Buffer) (td : List Work) : Type 0 where
   pub seats : Pairs OtherSeat ts
-  pub home : (w : Work) (t b : ℕ) → In w td → w.list ≡ OfThread t → hands_out w.kind ≡ Some b → Home ts rs t b
+  pub home : (w : Work) (t b : ℕ) → In w td → w.list ≡ OfThread t → hands_out w.kind ≡ Some b → Home ts rs bs t b
   pub carried : (r : Reference) (b q : ℕ) → In r rs → r.holder ≡ Carried b q → b < n
 
 abbrev pub AtHome : Space → Type 0
-AtHome s = Homed s.steps s.threads s.references s.todo
+AtHome s = Homed s.steps s.threads s.references s.buffers s.todo
 
 -- what a buffer carries lies in its receiver's window
 abbrev pub AllInWindows : List Reference → List Buffer → Type 0
@@ -49,6 +51,14 @@ AllInWindows rs bs = (r : Reference) (c : Buffer) (q : ℕ) → In r rs → In c
 
 abbrev pub IsInWindows : Space → Type 0
 IsInWindows s = AllInWindows s.references s.buffers
+
+-- if both are Notices, they are two objects'
+abbrev pub Apart : Work → Work → Type 0
+Apart v w = (o : ObjectId) → notice_of v.kind ≡ Some o → notice_of w.kind ≡ Some o → ⊥
+
+-- of each object there is one Notice at most
+abbrev pub Once : List Work → Type 0
+Once todo = Pairs Apart todo
 
 -- if both tell of a death, they are two notifications'
 abbrev pub OtherDeath : Work → Work → Type 0

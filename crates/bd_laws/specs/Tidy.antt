@@ -2,7 +2,7 @@
 use Rattle.bd_space.specs.Space.{Space}
 use Rattle.bd_laws.specs.OneWayCalls.{IsInTurn, Received}
 use Rattle.bd_laws.specs.Objects.{KeptBefore}
-use Rattle.bd_laws.specs.Items.{AtHome, IsInWindows, Told, IsQueued}
+use Rattle.bd_laws.specs.Items.{AtHome, IsInWindows, Told, Once, IsQueued}
 use Rattle.bd_laws.specs.Frames.{IsFramed, OnPaths, OfOthers}
 use Rattle.bd_laws.specs.Quiet.{IsQuiet}
 
@@ -20,6 +20,7 @@ pub record IsTidy (s : Space) : Type 0 where
   pub in_windows : IsInWindows s
   pub on_paths : OnPaths s.steps s
   pub of_others : OfOthers s
+  pub once : Once s.todo
   pub quiet : IsQuiet s
   pub queued : IsQueued s
   pub framed : IsFramed s

@@ -10,7 +10,7 @@ use Rattle.bd_laws.proofs.Always.{always-on_paths}
 use Rattle.bd_audit.specs.Replies.{thread_made, At}
 use Rattle.bd_audit.specs.Latest.{IsLatest}
 use Rattle.bd_audit.specs.Ending.{EndsCall}
-use Rattle.bd_audit.proofs.NamesHaveGiftChains.Chains.{always-steps}
+use Rattle.bd_laws.proofs.Machine.Steps.{always-steps}
 use Rattle.bd_audit.proofs.Seated.{always-seated}
 use Rattle.bd_audit.proofs.RepliesAnswerTheLatestOpenCall.Callers.{seat-below}
 use Rattle.bd_space.specs.declared.space.WorkKind.TheVariants as work

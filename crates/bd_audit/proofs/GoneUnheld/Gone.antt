@@ -11,8 +11,8 @@ use Rattle.bd_laws.proofs.Always.{always-tidy, tidy-after}
 use Rattle.bd_audit.specs.Replays.{beginning}
 use Rattle.bd_audit.specs.Laws.{space_at, is_here}
 use Rattle.bd_audit.proofs.Beginnings.{after-append}
-use Rattle.bd_audit.proofs.RepliesReachTheirCallers.ReplyLaw.{next-steps}
-use Rattle.bd_audit.proofs.NamesHaveGiftChains.Chains.{always-steps}
+use Rattle.bd_laws.proofs.Machine.Steps.{next-steps}
+use Rattle.bd_laws.proofs.Machine.Steps.{always-steps}
 use Rattle.bd_audit.proofs.NamesHaveGiftChains.NameBegins.{some-found}
 
 -- ---- one step, and more

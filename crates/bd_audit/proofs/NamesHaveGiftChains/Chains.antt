@@ -1,15 +1,13 @@
--- For NamesHaveGiftChains: each name has a gift chain. Many laws use `always-steps`: a space has as many steps as there were
--- entries.
+-- For NamesHaveGiftChains: each name has a gift chain.
 use Rattle.bd_laws.proofs.words.Logic.{◌≡◌, ℕ, suc, ◌+◌, ◌<◌, ◌≤◌, ◌==◌, Bool, true, cond, ◌&&◌, List, [], ◌∷◌, ◌++◌, Option, Some, Ok, ◌⊎◌, inl, inr, refl, ap, sym, subst, ◌∙◌, length, arith, length-append, append_assoc, append-nil, eq-eqb}
 use Rattle.bd_laws.proofs.words.Types.{ObjectId, Entry, Parcel, Command, Accepted, Actor, Object, Name, Holder, Carried}
 use Rattle.bd_laws.proofs.words.Space.{same, is_some_and, Space, opening, actor, owned_in, named, ask_check, ask_step, command_step, change, counted, History, after, next, space_after}
 use Rattle.bd_uapi.specs.declared.command.Command.TheVariants as bc
-use Rattle.bd_laws.proofs.words.Laws.{In, Before}
+use Rattle.bd_laws.proofs.words.Laws.{In}
 use Rattle.bd_laws.proofs.Lists.{any-in}
 use Rattle.bd_laws.proofs.Tests.{and-both, eq-same, either-true}
 use Rattle.bd_laws.proofs.Sendings.{Owns, HasName, named-has}
-use Rattle.bd_laws.proofs.IsInTurn.Passing.{step-passes}
-use Rattle.bd_laws.proofs.IsInTurn.Received.{step-before, opening-before}
+use Rattle.bd_laws.proofs.Machine.Steps.{always-steps}
 use Rattle.bd_audit.specs.Gifts as gifts
 use Rattle.bd_audit.specs.Gifts.{is_carried_to, is_asking_0, AsksManager, Stands, Gives, OwnerGives, ManagerGives, IsChainFrom, IsGiftChain}
 use Rattle.bd_audit.proofs.Beginnings.{after-append}
@@ -88,14 +86,13 @@ asks s e m z g = search (arith, by-actor, asking-0, change, accepts)
 
 -- ---- every history
 
-pub record Chained (es : List Entry) (s : Space) : Type 0 where
-  pub steps : s.steps ≡ length es
-  pub chains : (m : Name) → In m s.names → (is : List ℕ) × IsGiftChain es m.object is m.process
+abbrev Chained : List Entry → Space → Type 0
+Chained es s = (m : Name) → In m s.names → (is : List ℕ) × IsGiftChain es m.object is m.process
 
 -- the chain of a name that a process has
 has-chain : (es : List Entry) (s : Space) → Chained es s → (p : ℕ) (o : ObjectId) → HasName s.names p o → (is : List ℕ) × IsGiftChain es o is p
 has-chain es s log p o has =
-    let c = log.chains has.0 has.1 in
+    let c = log has.0 has.1 in
     (c.0, subst (λ x. IsGiftChain es x c.0 p) has.3 (subst (λ x. IsGiftChain es has.0.object c.0 x) has.2 c.1))
 
 module _ (es : List Entry) (s : Space) (e : Entry) (at : s ≡ after opening es) (log : Chained es s) where
@@ -103,7 +100,7 @@ module _ (es : List Entry) (s : Space) (e : Entry) (at : s ≡ after opening es)
   unfolding counted
   hand-chain m g =
       let p = g.by.process.made in
-      let sent = sends s (length es) e m log.steps g in
+      let sent = sends s (length es) e m (ap (λ (y : Space). y.steps) at ∙ always-steps es) g in
       elim g.has [
         | inl own ↦ (
             let owned = owns-test (change s e.seat e.step).space.objects p m.object own in
@@ -117,32 +114,25 @@ module _ (es : List Entry) (s : Space) (e : Entry) (at : s ≡ after opening es)
   asked-chain : (m : Name) → ByAsking s e.seat e.step m (change s e.seat e.step).space → (is : List ℕ) × IsGiftChain (es ++ e ∷ []) m.object is m.process
   asked-chain m g = (length es ∷ [], (m.process, inr (es, e, here es e, subst (λ (y : Space). AsksManager y e m.object m.process) at (asks s e m (change s e.seat e.step).space g)), refl))
 
-  chained-step : Before s → Chained (es ++ e ∷ []) (next s e)
+  chained-step : Chained (es ++ e ∷ []) (next s e)
   unfolding counted
-  chained-step h = record {
-    steps = ap suc ((step-passes s e h.turns h.received.lists).passed.steps ∙ log.steps) ∙ (let l = length-append es (e ∷ []) in omega (arith, l));
-    chains = λ m i. elim (step-naming s e.seat e.step m i) [
-      | inl k ↦ (let c = log.chains m k in (c.0, chain-more es (e ∷ []) m.object c.0 m.process c.1))
-      | inr k ↦ elim k [ inl g ↦ hand-chain m g | inr g ↦ asked-chain m g ]
-    ];
-  }
+  chained-step m i = elim (step-naming s e.seat e.step m i) [
+    | inl k ↦ (let c = log m k in (c.0, chain-more es (e ∷ []) m.object c.0 m.process c.1))
+    | inr k ↦ elim k [ inl g ↦ hand-chain m g | inr g ↦ asked-chain m g ]
+  ]
 
-chained-all : (fs es : List Entry) (s : Space) → s ≡ after opening es → Before s → Chained es s → Chained (es ++ fs) (after s fs)
-chained-all [] es s at h log = subst (λ xs. Chained xs s) (sym (append-nil es)) log
-chained-all (e ∷ fs) es s at h log =
+chained-all : (fs es : List Entry) (s : Space) → s ≡ after opening es → Chained es s → Chained (es ++ fs) (after s fs)
+chained-all [] es s at log = subst (λ xs. Chained xs s) (sym (append-nil es)) log
+chained-all (e ∷ fs) es s at log =
     subst (λ xs. Chained xs (after (next s e) fs)) (append_assoc es (e ∷ []) fs)
-    (chained-all fs (es ++ e ∷ []) (next s e) (ap (λ (y : Space). next y e) at ∙ sym (after-append opening es (e ∷ []))) (step-before s e h) (chained-step es s e at log h))
+    (chained-all fs (es ++ e ∷ []) (next s e) (ap (λ (y : Space). next y e) at ∙ sym (after-append opening es (e ∷ []))) (chained-step es s e at log))
 
 none-chained : Chained [] opening
-none-chained = record { steps = refl; chains = λ m i. absurd i }
+none-chained = λ m i. absurd i
 
 pub name-chain : (h : History) (p number : ℕ) (o : ObjectId) → named (space_after h) p number ≡ Some o → (is : List ℕ) × IsGiftChain h.entries o is p
 unfolding space_after
 name-chain h p number o e =
     let s = after opening h.entries in
-    let log = chained-all h.entries [] opening refl opening-before none-chained in
+    let log = chained-all h.entries [] opening refl none-chained in
     has-chain h.entries s log p o (named-has s p number o e)
-
--- how many steps there were
-pub always-steps : (es : List Entry) → (after opening es).steps ≡ length es
-always-steps es = (chained-all es [] opening refl opening-before none-chained).steps

@@ -122,9 +122,15 @@ LeadsOn gs left places q None = IsWay gs (reverse places) q
 LeadsOn gs left places q (Some p) =
     HasGift left p × ((es : List Entry) (o : ObjectId) → AllGifts es o gs → (h : Gift) → In h left → IsChainFrom es o p (h.place + 1) (reverse places) q)
 
+-- the gifts that are left to look at, and the way so far
+pub record WayBack (gs left : List Gift) (places : List ℕ) (q : ℕ) (next : Option ℕ) : Type 0 where
+  pub among : (g : Gift) → In g left → In g gs
+  pub linked : FollowAfter [] left
+  pub leads : LeadsOn gs left places q next
+
 module _ (gs left : List Gift) (g : Gift) (places : List ℕ) (q : ℕ) where
   -- a gift to another
-  pub way-goes-on : (next : Option ℕ) → (next ≡ Some g.receiver → ⊥) → LeadsOn gs (left ++ g ∷ []) places q next → LeadsOn gs left places q next
+  way-goes-on : (next : Option ℕ) → (next ≡ Some g.receiver → ⊥) → LeadsOn gs (left ++ g ∷ []) places q next → LeadsOn gs left places q next
   way-goes-on next other h = search (arith, in-push, in-left)
 
   to-giver : (giver : Option ℕ) → g.giver ≡ giver → ((x : Gift) → In x (left ++ g ∷ []) → In x gs) → FollowAfter [] (left ++ g ∷ [])
@@ -143,9 +149,24 @@ module _ (gs left : List Gift) (g : Gift) (places : List ℕ) (q : ℕ) where
             (g.receiver, omega (arith, below), (given.0, given.1, given.2, given.3), h.1 es o all g (in-last g left)),
       )
 
-  pub way-to-giver : ((x : Gift) → In x (left ++ g ∷ []) → In x gs) → FollowAfter [] (left ++ g ∷ []) → LeadsOn gs (left ++ g ∷ []) places q (Some g.receiver)
+  way-to-giver : ((x : Gift) → In x (left ++ g ∷ []) → In x gs) → FollowAfter [] (left ++ g ∷ []) → LeadsOn gs (left ++ g ∷ []) places q (Some g.receiver)
       → LeadsOn gs left (places ++ g.place ∷ []) q g.giver
   way-to-giver = to-giver g.giver refl
+
+  less-back : (next more : Option ℕ) (to : List ℕ) → (((x : Gift) → In x (left ++ g ∷ []) → In x gs) → FollowAfter [] (left ++ g ∷ []) → LeadsOn gs (left ++ g ∷ []) places q next → LeadsOn gs left to q more)
+      → (all : List Gift) → all ≡ left ++ g ∷ [] → WayBack gs all places q next → WayBack gs left to q more
+  less-back next more to leads all popped h =
+      let k = subst (λ xs. WayBack gs xs places q next) popped h in
+      record { among = λ x i. k.among x (in-left x left (g ∷ []) i); linked = (follow-front [] left g k.linked).0; leads = leads k.among k.linked k.leads }
+
+  -- the latest gift is taken off: it was another's, or the way goes on from its giver
+  pub back-past : (next : Option ℕ) → (next ≡ Some g.receiver → ⊥) → (all : List Gift) → all ≡ left ++ g ∷ [] → WayBack gs all places q next → WayBack gs left places q next
+  back-past next other = less-back next next places (λ among linked leads. way-goes-on next other leads)
+
+  pub back-to-giver : (next : Option ℕ) (to : List ℕ) → next ≡ Some g.receiver → to ≡ places ++ g.place ∷ [] → (all : List Gift) → all ≡ left ++ g ∷ []
+      → WayBack gs all places q next → WayBack gs left to q g.giver
+  back-to-giver next to is pushed = less-back next g.giver to (λ among linked leads.
+      subst (λ ps. LeadsOn gs left ps q g.giver) (sym pushed) (way-to-giver among linked (subst (LeadsOn gs (left ++ g ∷ []) places q) is leads)))
 
 -- ---- what the number names
 

@@ -8,7 +8,7 @@ use Rattle.bd_laws.proofs.Lists.{find-in, find-some}
 use Rattle.bd_laws.proofs.Tests.{both, same-eq, not-eq, is_some-ok}
 use Rattle.bd_laws.proofs.Sending.{find-none}
 use Rattle.bd_laws.proofs.Sendings.{HasName, named-has}
-use Rattle.bd_laws.proofs.Checks.{actor-lives}
+use Rattle.bd_laws.proofs.Checks.{actor-lives, actor-acts}
 use Rattle.bd_laws.proofs.Always.{tidy-after}
 use Rattle.bd_audit.specs.declared.gifts.Gift.{Gift}
 use Rattle.bd_audit.specs.Replays.{with_entry}
@@ -16,7 +16,8 @@ use Rattle.bd_audit.specs.GiftSearch.{knows_after, giver_in, gift_made, receiver
 use Rattle.bd_audit.proofs.Beginnings.{after-append}
 use Rattle.bd_audit.proofs.NamesHaveGiftChains.Naming.{step-naming, has-number, is_some-map}
 use Rattle.bd_audit.proofs.NamesHaveGiftChains.NewNames.{ByHand, ByAsking}
-use Rattle.bd_audit.proofs.NamesHaveGiftChains.Chains.{stands-more, begins-more, here, sends, asks, owns-test, always-steps}
+use Rattle.bd_audit.proofs.NamesHaveGiftChains.Chains.{stands-more, begins-more, here, sends, asks, owns-test}
+use Rattle.bd_laws.proofs.Machine.Steps.{always-steps}
 
 -- ---- names and actors
 
@@ -35,10 +36,7 @@ pub named-knows : (s : Space) (p n : ℕ) (o : ObjectId) → named s p n ≡ Som
 named-knows s p n o h = has-number s.names p o (named-has s p n o h)
 
 actor-process : (s : Space) (seat : ℕ) (a : Actor) → actor s seat ≡ Some a → process_of s seat ≡ Some a.process.made
-actor-process s seat a h =
-    let l = actor-lives s seat a h in
-    let q = find-in (λ (q : Process). q.made == a.thread.process) a.process s.processes l.1 in
-    ap (option_map (λ (t : Thread). t.process)) l.0 ∙ ap (λ n. Some n) (sym (eqb-true a.process.made a.thread.process q.1))
+actor-process s seat a h = ap (option_map (λ (t : Thread). t.process)) (actor-lives s seat a h).0 ∙ ap (λ n. Some n) (sym (actor-acts s seat a h).own)
 
 actor-giver : (s : Space) (seat : ℕ) (a : Actor) (o : ObjectId) → actor s seat ≡ Some a → giver_in s seat o ≡ when (knows s a.process.made o) a.process.made
 actor-giver s seat a o h = ap (option_and_then (λ p. when (knows s p o) p)) (actor-process s seat a h)

@@ -2,16 +2,14 @@
 -- between two steps; and each is made where it was missing.
 use Rattle.bd_laws.proofs.words.Logic.{◌≡◌, ◌≤◌, Bool, true, List, refl, subst, filter, length, arith, list_all}
 use Rattle.bd_laws.proofs.words.Types.{ObjectId, Object, Work}
-use Rattle.bd_laws.proofs.words.Space.{Space, opening, is_some_and, is_notice, wants_notice, has_notice_in, History, space_after}
+use Rattle.bd_laws.proofs.words.Space.{Space, is_some_and, is_notice, wants_notice, has_notice_in, History, space_after}
 use mathlib.Core.Bool.{beq}
-use Rattle.bd_laws.proofs.words.Laws.{In, IsQuiet}
+use Rattle.bd_laws.proofs.words.Laws.{In, IsQuiet, Once}
 use Rattle.bd_laws.proofs.Lists.{in-filter, any-found, all-in, pairs-map, pairs-filter}
 use Rattle.bd_laws.proofs.Tests.{equal-tests, notice-kind}
 use Rattle.bd_laws.proofs.Always.{always-tidy}
 use Rattle.bd_laws.proofs.FollowingIsLocal.Finding.{find-only}
 use Rattle.bd_laws.proofs.IsInTurn.InTurn.{at_most_one}
-use Rattle.bd_laws.proofs.Machine.EveryStep.{every_list}
-use Rattle.bd_laws.proofs.NothingIsPending.Noticing.{Once, Noticing, step-noticing, opening-noticing}
 use Rattle.bd_audit.proofs.OwnersHearInOrder.Returns.{notice-of}
 
 -- of each object there is a Notice where its owner is to be told, and else none
@@ -35,5 +33,5 @@ pub notices-due : (h : History) → (list_all (λ x. beq (has_notice_in (space_a
 unfolding space_after
 notices-due h = (
   all-in _ (space_after h).objects (λ x l. beq-same _ _ (quiet-exact (space_after h) (always-tidy h).quiet x l)),
-  λ o. one-notice o (space_after h).todo (every_list Noticing step-noticing h.entries opening opening-noticing).once,
+  λ o. one-notice o (space_after h).todo (always-tidy h).once,
 )

@@ -5,15 +5,16 @@ use Rattle.bd_laws.proofs.words.Space.{same, is_some_and, Space, opening, actor,
 use Rattle.bd_laws.specs.Lists.{In}
 use Rattle.bd_laws.proofs.Lists.{in-filter, find-in}
 use Rattle.bd_laws.proofs.Tests.{both, same-eq}
-use Rattle.bd_laws.proofs.Machine.EveryStep.{every_list}
+use Rattle.bd_laws.proofs.Always.{tidy-after}
+use Rattle.bd_laws.proofs.NothingIsPending.Noticing.{Live, quiet-live}
 use Rattle.bd_laws.proofs.IsInTurn.Ripening.{taken-in, read-in}
 use Rattle.bd_audit.specs.Hearing.{Event, heard_in, names_own, heard_by, heard_at, is_by_owner}
 use Rattle.bd_audit.proofs.OwnersHearInOrder.Returns.{told-or-silent, silent-heard}
 use Rattle.bd_audit.proofs.NamesHaveGiftChains.Chains.{owns-test}
-use Rattle.bd_audit.proofs.OnlyOwnersHear.Sitting.{Placed, step-placed, opening-placed}
-use Rattle.bd_audit.proofs.OnlyOwnersHear.SittingSent.{Reaches, actor-process, actor-seat}
+use Rattle.bd_audit.proofs.OnlyOwnersHear.Sitting.{always-sits}
+use Rattle.bd_audit.proofs.OnlyOwnersHear.SittingSent.{Reaches, SitsIn, actor-process, actor-seat}
 
-module _ (s : Space) (placed : Placed s) (seat : ℕ) (a : Actor) (e : actor s seat ≡ Some a) where
+module _ (s : Space) (live : Live s) (sits : SitsIn s) (seat : ℕ) (a : Actor) (e : actor s seat ≡ Some a) where
   -- what stands on the list that the thread reads is its process's
   reads-own : (w : Work) (q : ℕ) → In w (list_to_read s a.thread) → Reaches s.threads w.list q → q ≡ a.process.made
   unfolding list_to_read
@@ -30,8 +31,8 @@ module _ (s : Space) (placed : Placed s) (seat : ℕ) (a : Actor) (e : actor s s
       | inl w ↦ inr (
           let l = taken-in s (list_to_read s a.thread) left w.0 w.1 in
           let due = read-in s a.thread left w.0 w.1 in
-          let x = placed.noticing.live w.0 o due w.2 in
-          owns-test s.objects a.process.made o (x.0, x.1, x.2, reads-own w.0 x.0.owner l (placed.sits w.0 o x.0 due w.2 x.1 x.2)))
+          let x = live w.0 o due w.2 in
+          owns-test s.objects a.process.made o (x.0, x.1, x.2, reads-own w.0 x.0.owner l (sits w.0 o x.0 due w.2 x.1 x.2)))
     ]
 
     names-owned : (ptr cookie : ℕ) → names_own s o a.process.made ptr cookie ≡ true → IsOwned
@@ -50,12 +51,12 @@ module _ (s : Space) (placed : Placed s) (seat : ℕ) (a : Actor) (e : actor s s
     by-owner : (x : Step) (answer : StepAnswer) → (heard_by s o a x answer ≡ []) ⊎ IsOwned
     by-owner x answer = search (arith, reads-owned, done-owned)
 
-hears-own : (s : Space) → Placed s → (o : ObjectId) (e : Entry) → (heard_at s o e ≡ []) ⊎ (is_by_owner s o e ≡ true)
-hears-own s placed o e = at (actor s e.seat) refl
+hears-own : (s : Space) → Live s → SitsIn s → (o : ObjectId) (e : Entry) → (heard_at s o e ≡ []) ⊎ (is_by_owner s o e ≡ true)
+hears-own s live sits o e = at (actor s e.seat) refl
   where
     at : (f : Option Actor) → actor s e.seat ≡ f
         → (elim f as (λ (g : Option Actor). List Event) [ None ↦ [] | Some a ↦ heard_by s o a e.step e.answer ] ≡ []) ⊎ (is_some_and f (λ a. owned_in s.objects a.process.made o) ≡ true)
     at f g = search (arith, by-owner)
 
 pub only-owners : (es : List Entry) (o : ObjectId) (e : Entry) → (heard_at (after opening es) o e ≡ []) ⊎ (is_by_owner (after opening es) o e ≡ true)
-only-owners es o e = hears-own (after opening es) (every_list Placed step-placed es opening opening-placed) o e
+only-owners es o e = hears-own (after opening es) (quiet-live (after opening es) (tidy-after es).quiet) (always-sits es) o e

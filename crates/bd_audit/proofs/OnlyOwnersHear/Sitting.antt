@@ -1,15 +1,16 @@
 -- For OnlyOwnersHear: a Notice stands where threads of the process that owns its object read it.
 use Rattle.bd_laws.proofs.words.Logic.{◌++◌, ◌≡◌, ℕ, ◌==◌, Bool, true, false, cond, not, List, Some, inl, inr, refl, ap, sym, ◌∙◌, filter, find, arith, option_map, eqb-true, eq-eqb}
 use Rattle.bd_laws.proofs.words.Types.{ObjectId, Step, Entry, Thread, Object, Work, TodoList, OfThread, OfProcess}
-use Rattle.bd_laws.proofs.words.Space.{closed, Space, opening, thread_in, objects_go, stays_in, names_go, assign_numbers, is_on, same_list, ripen, work_goes, deaths_go, notify, follow, without_buffer, ask, drop_asked, acknowledge, with_looping, read_by, thread_goes, threads_go, without_process, counted, with_thread, with_process, with_manager, next, with_spam_detection}
+use Rattle.bd_laws.proofs.words.Space.{closed, Space, opening, thread_in, objects_go, stays_in, names_go, assign_numbers, is_on, same_list, ripen, work_goes, deaths_go, notify, follow, without_buffer, ask, drop_asked, acknowledge, with_looping, read_by, thread_goes, threads_go, without_process, counted, with_thread, with_process, with_manager, after, next, with_spam_detection}
 use Rattle.bd_space.specs.declared.space.WorkKind.TheVariants as work
-use Rattle.bd_laws.proofs.words.Laws.{Pairs, Differ, KeptBefore}
+use Rattle.bd_laws.proofs.words.Laws.{Pairs, Differ, KeptBefore, IsTidy}
 use Rattle.bd_laws.proofs.Earlier.{in_order-differ}
 use Rattle.bd_laws.proofs.Lists.{in-push, in-filter, in-changed, pairs-filter, find-changed}
-use Rattle.bd_laws.proofs.Machine.EveryStep.{Keeps, every_step}
-use Rattle.bd_laws.proofs.Objects.{kept-step, step-kept, opening-kept, told-id}
+use Rattle.bd_laws.proofs.Machine.EveryStep.{Keeps, every_step, every_list}
+use Rattle.bd_laws.proofs.Always.{step-tidy, opening-tidy}
+use Rattle.bd_laws.proofs.Objects.{kept-step, told-id}
 use Rattle.bd_laws.proofs.KeptBefore.ObjectsKept.{IsKept, IsKeptWhole}
-use Rattle.bd_laws.proofs.NothingIsPending.Noticing.{Noticing, step-noticing, opening-noticing}
+use Rattle.bd_laws.proofs.NothingIsPending.Noticing.{Live, quiet-live}
 use Rattle.bd_laws.proofs.Machine.Deaths.{on-kept, on-told, on-commands, commands-both}
 use Rattle.bd_laws.proofs.Machine.Adding.{notify-keeps, ripen-keeps}
 use Rattle.bd_laws.proofs.Follow.{find-kept}
@@ -85,12 +86,12 @@ follow-sits z differ h =
 
 -- ---- every step
 
-managed-sits : (s : Space) (p : ℕ) → KeptBefore s → Noticing s → SitsIn s → SitsIn (with_manager s p)
+managed-sits : (s : Space) (p : ℕ) → KeptBefore s → Live s → SitsIn s → SitsIn (with_manager s p)
 unfolding with_manager
-managed-sits s p kept noticing h = λ w o x l e i is. elim (in-push x _ s.objects i) [
+managed-sits s p kept live h = λ w o x l e i is. elim (in-push x _ s.objects i) [
   | inl k ↦ h w o x l e k is
   | inr new ↦ (
-      let old = noticing.live w o l e in
+      let old = live w o l e in
       let lt = kept.kept.below old.0 old.1 in
       let place : s.steps ≡ old.0.id.place = ap (λ (y : Object). y.id.place) new ∙ ap (λ (j : ObjectId). j.place) (is ∙ sym old.2) in absurd (omega arith))
 ]
@@ -101,21 +102,21 @@ Within z = IsKept z × SitsIn z
 abbrev After : Space → Type 0
 After z = IsKeptWhole z × SitsIn z
 
-sitting-step : (s : Space) (seat : ℕ) (x : Step) → KeptBefore s → Noticing s → SitsIn s → Keeps s seat x Within After
+sitting-step : (s : Space) (seat : ℕ) (x : Step) → KeptBefore s → Live s → SitsIn s → Keeps s seat x Within After
 unfolding without_buffer ask assign_numbers drop_asked acknowledge with_spam_detection with_process without_process closed
-sitting-step s seat x kept noticing h =
+sitting-step s seat x kept live h =
     let k = kept-step s seat x kept in
     record {
       set_up = record {
         same = (k.set_up.same, h);
         opened = λ pid euid window free. (k.set_up.opened pid euid window free, with_thread-sits (with_process s pid euid window) seat s.steps h);
         attached = λ p free. (k.set_up.attached p free, with_thread-sits s seat p h);
-        managed = λ a e b. (k.set_up.managed a e b, managed-sits s a.process.made kept noticing h);
+        managed = λ a e b. (k.set_up.managed a e b, managed-sits s a.process.made kept live h);
         marked = λ p on. (k.set_up.marked p on, h);
       };
       changes = record {
-        transacts = λ a d parcel v e i t. (k.changes.transacts a d parcel v e i t, transacted-sits s seat a d parcel v kept noticing i t h);
-        replies = λ a d parcel f v e i g t. (k.changes.replies a d parcel f v e i g t, replied-sits s seat a d parcel f v kept noticing i t h);
+        transacts = λ a d parcel v e i t. (k.changes.transacts a d parcel v e i t, transacted-sits s seat a d parcel v kept live i t h);
+        replies = λ a d parcel f v e i g t. (k.changes.replies a d parcel f v e i g t, replied-sits s seat a d parcel f v kept live i t h);
         frees = λ p ptr b e t. (k.changes.frees p ptr b e t, h);
         asks = λ a n strong o e i t. (k.changes.asks a n strong o e i t, h);
         drops = λ p o strong. (k.changes.drops p o strong, h);
@@ -137,19 +138,9 @@ sitting-step s seat x kept noticing h =
       tells = λ z t r l. (k.tells z t r l.0, owe-sits z (OfThread t) (work.Verdict r) refl l.1);
     }
 
--- what holds before each step
-pub record Placed (s : Space) : Type 0 where
-  pub kept : KeptBefore s
-  pub noticing : Noticing s
-  pub sits : SitsIn s
-
-pub step-placed : (s : Space) (e : Entry) → Placed s → Placed (next s e)
+step-sits : (s : Space) (e : Entry) → IsTidy s → SitsIn s → SitsIn (next s e)
 unfolding counted
-step-placed s e h = record {
-  kept = step-kept s e h.kept;
-  noticing = step-noticing s e h.noticing;
-  sits = (every_step s e.seat e.step Within After (sitting-step s e.seat e.step h.kept h.noticing h.sits)).1;
-}
+step-sits s e tidy h = (every_step s e.seat e.step Within After (sitting-step s e.seat e.step tidy.before.objects (quiet-live s tidy.quiet) h)).1
 
-pub opening-placed : Placed opening
-opening-placed = record { kept = opening-kept; noticing = opening-noticing; sits = λ w o x l e i is. absurd l }
+pub always-sits : (es : List Entry) → SitsIn (after opening es)
+always-sits es = (every_list (λ s. IsTidy s × SitsIn s) (λ s e k. (step-tidy s e k.0, step-sits s e k.0 k.1)) es opening (opening-tidy, λ w o x l e i is. absurd l)).1

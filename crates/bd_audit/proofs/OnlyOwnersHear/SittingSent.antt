@@ -7,10 +7,10 @@ use Rattle.bd_laws.proofs.words.Laws.{In, Pairs, Here, Differ, KeptBefore}
 use Rattle.bd_laws.proofs.Earlier.{in_order-differ}
 use Rattle.bd_laws.proofs.Lists.{in-append, in-push, in-filter, find-in, pairs-either, fold-keeps}
 use Rattle.bd_laws.proofs.Tests.{same-eq}
-use Rattle.bd_laws.proofs.Checks.{transaction-checked, reply-checked, actor-lives}
+use Rattle.bd_laws.proofs.Checks.{transaction-checked, reply-checked, actor-lives, actor-acts}
 use Rattle.bd_laws.proofs.Sendings.{Sends, sending-sends}
 use Rattle.bd_laws.proofs.KeptBefore.ObjectsKept.{closed-before, closed-sends, delivered-kept}
-use Rattle.bd_laws.proofs.NothingIsPending.Noticing.{Noticing, closed-noticing}
+use Rattle.bd_laws.proofs.NothingIsPending.Noticing.{Live}
 use Rattle.bd_laws.proofs.Machine.Deaths.{KeptOnDeaths}
 use Rattle.bd_laws.proofs.Machine.Adding.{notice-keeps}
 
@@ -60,15 +60,10 @@ one-owner objects differ x y i j is = elim (pairs-either Differ objects differ x
 -- ---- transactions and replies
 
 pub actor-process : (s : Space) (seat : ℕ) (a : Actor) → actor s seat ≡ Some a → a.thread.process ≡ a.process.made
-actor-process s seat a e =
-    let l = find-in (λ (q : Process). q.made == a.thread.process) a.process s.processes (actor-lives s seat a e).1 in
-    sym (eqb-true a.process.made a.thread.process l.1)
+actor-process s seat a e = sym (actor-acts s seat a e).own
 
 pub actor-seat : (s : Space) (seat : ℕ) (a : Actor) → actor s seat ≡ Some a → thread_in s.threads a.thread.seat ≡ Some a.thread
-actor-seat s seat a e =
-    let found = (actor-lives s seat a e).0 in
-    let l = find-in (λ (t : Thread). t.seat == seat) a.thread s.threads found in
-    subst (λ n. thread_in s.threads n ≡ Some a.thread) (sym (eqb-true a.thread.seat seat l.1)) found
+actor-seat s seat a e = subst (λ n. thread_in s.threads n ≡ Some a.thread) (sym (actor-acts s seat a e).seat) (actor-lives s seat a e).0
 
 withdrawn-sits : (threads : List Thread) (objects : List Object) (b : Bool) (p : Work → Bool) (todo : List Work) → Sits threads objects todo → Sits threads objects (cond b (filter p todo) todo)
 withdrawn-sits threads objects b p todo h = search (arith, sits-filter)
@@ -90,16 +85,16 @@ own_notices-sits z seat p items reach owned h =
         notice-keeps (Sits z.threads z.objects) z.steps z.processes z.references (OfThread seat) todo y
         (λ missing. sits-made z.steps z.threads z.objects (OfThread seat) todo y (λ x m is. (reach.0, reach.1, reach.2 ∙ sym (owned i l e x m (is ∙ id))))) k
 
-delivered-sits : (s : Space) (a : Actor) (d : TransactionData) (v : Delivery) → KeptBefore s → Noticing s → Sends s a.process.made v.sending.made v.sending.items
+delivered-sits : (s : Space) (a : Actor) (d : TransactionData) (v : Delivery) → KeptBefore s → Live s → Sends s a.process.made v.sending.made v.sending.items
     → Pairs Differ (delivered s a d v).objects → Reaches s.threads (OfThread a.thread.seat) a.process.made → SitsIn s → SitsIn (delivered s a d v)
 unfolding delivered add_buffer known_by assign_numbers refer make_objects own_notices
-delivered-sits s a d v kept noticing sends differ reach h =
+delivered-sits s a d v kept live sends differ reach h =
     own_notices-sits (add_buffer (known_by s v) (buffer_of (known_by s v) a d v)) a.thread.seat a.process.made v.sending.items reach
     (λ i l own x m is. let w = sends.owned i l own in one-owner (s.objects ++ v.sending.made) differ x w.0 m w.1 (is ∙ sym w.2) ∙ w.3)
     (λ w o x l e i is. elim (in-append x s.objects v.sending.made i) [
       | inl k ↦ h w o x l e k is
       | inr k ↦ (
-          let old = noticing.live w o l e in
+          let old = live w o l e in
           let lt = kept.kept.below old.0 old.1 in
           let at = sends.makes.place x k in
           let place : x.id.place ≡ old.0.id.place = ap (λ (j : ObjectId). j.place) (is ∙ sym old.2) in absurd (omega arith))
@@ -115,24 +110,24 @@ delivered-differ : (s : Space) (a : Actor) (d : TransactionData) (v : Delivery) 
     → Pairs Differ (delivered s a d v).objects
 delivered-differ s a d v kept sends target = in_order-differ (delivered s a d v).objects (delivered-kept s a d v kept sends target).in_order
 
-pub transacted-sits : (s : Space) (seat : ℕ) (a : Actor) (d : TransactionData) (parcel : Option Parcel) (v : Delivery) → KeptBefore s → Noticing s → actor s seat ≡ Some a → transaction_check s a d parcel ≡ Ok v
+pub transacted-sits : (s : Space) (seat : ℕ) (a : Actor) (d : TransactionData) (parcel : Option Parcel) (v : Delivery) → KeptBefore s → Live s → actor s seat ≡ Some a → transaction_check s a d parcel ≡ Ok v
     → SitsIn s → SitsIn (transacted s a d v)
 unfolding transacted
-transacted-sits s seat a d parcel v kept noticing e check h =
+transacted-sits s seat a d parcel v kept live e check h =
     let t = transaction-checked s a d parcel v check in
     let z = delivered s a d v in
     let sends = sending-sends s a.process.made d parcel v.sending t.sends in
     let differ = delivered-differ s a d v kept sends (λ o f. let is : t.object ≡ o = (let k = t.target in cc) in (t.owned.object, t.owned.here, t.owned.id ∙ is)) in
     called-sits (owe z (OfThread a.thread.seat) (work.Complete (is_spam z a v))) a.thread.seat v.receiver.made v.one_way
-    (owe-sits z (OfThread a.thread.seat) (work.Complete (is_spam z a v)) refl (delivered-sits s a d v kept noticing sends differ (a.thread, actor-seat s seat a e, actor-process s seat a e) h))
+    (owe-sits z (OfThread a.thread.seat) (work.Complete (is_spam z a v)) refl (delivered-sits s a d v kept live sends differ (a.thread, actor-seat s seat a e, actor-process s seat a e) h))
 
 answered-sits : (z : Space) (caller : Option ℕ) (n : ℕ) → SitsIn z → SitsIn (elim caller as (λ (o : Option ℕ). Space) [ None ↦ z | Some t ↦ owe z (OfThread t) (work.Reply n) ])
 answered-sits z caller n h = search (arith, owe-sits)
 
-pub replied-sits : (s : Space) (seat : ℕ) (a : Actor) (d : TransactionData) (parcel : Option Parcel) (f : Frame) (v : Delivery) → KeptBefore s → Noticing s → actor s seat ≡ Some a → reply_check s a d parcel f ≡ Ok v
+pub replied-sits : (s : Space) (seat : ℕ) (a : Actor) (d : TransactionData) (parcel : Option Parcel) (f : Frame) (v : Delivery) → KeptBefore s → Live s → actor s seat ≡ Some a → reply_check s a d parcel f ≡ Ok v
     → SitsIn s → SitsIn (replied s a d f v)
 unfolding replied closed
-replied-sits s seat a d parcel f v kept noticing e check h =
+replied-sits s seat a d parcel f v kept live e check h =
     let t = reply-checked s a d parcel f v check in
     let x = closed s f.made in
     let before = closed-before s f.made kept in
@@ -140,7 +135,7 @@ replied-sits s seat a d parcel f v kept noticing e check h =
     let differ = delivered-differ x a d v before sends (λ o g. let none = t.target in absurd (cc)) in
     answered-sits (owe (delivered x a d v) (OfThread a.thread.seat) (work.Complete false)) f.caller s.steps
     (owe-sits (delivered x a d v) (OfThread a.thread.seat) (work.Complete false) refl
-    (delivered-sits x a d v before (closed-noticing s f.made noticing) sends differ (a.thread, actor-seat s seat a e, actor-process s seat a e) h))
+    (delivered-sits x a d v before live sends differ (a.thread, actor-seat s seat a e, actor-process s seat a e) h))
 
 -- ---- deaths
 

@@ -8,7 +8,7 @@ use Rattle.bd_laws.proofs.Lists.{without-in, any-in, find-in}
 use Rattle.bd_laws.proofs.Tests.{and_then-ok, found-ok, unless-ok, when-none}
 use Rattle.bd_laws.proofs.Machine.Adding.{told-keeps}
 use Rattle.bd_laws.proofs.Machine.Settled.{settle-keeps}
-use Rattle.bd_laws.proofs.Checks.{actor-lives}
+use Rattle.bd_laws.proofs.Checks.{actor-acts}
 use Rattle.bd_laws.proofs.KeptBefore.ObjectsKept.{and-false}
 use Rattle.bd_audit.specs.Hearing.{Event, increfs_done, acquire_done}
 use Rattle.bd_audit.proofs.OwnersHearInOrder.Orders.{Hearing, unheard, weakly, strongly, ended, hears_all}
@@ -63,9 +63,7 @@ unfolding done_check
 done-checked s p ptr cookie strong y h = search (arith, and_then-ok, unless-ok, when-none, found-ok)
 
 pub actor-alive : (s : Space) (seat : ℕ) (a : Actor) → actor s seat ≡ Some a → lives_in s.processes a.process.made ≡ true
-actor-alive s seat a e =
-    let l = find-in (λ (q : Process). q.made == a.thread.process) a.process s.processes (actor-lives s seat a e).1 in
-    any-in (λ (q : Process). q.made == a.process.made) a.process s.processes l.0 (eq-eqb a.process.made a.process.made refl)
+actor-alive s seat a e = any-in (λ (q : Process). q.made == a.process.made) a.process s.processes (actor-acts s seat a e).process (eq-eqb a.process.made a.process.made refl)
 
 -- what is heard after these events, and the space z that they lead to
 pub record HeardAfter (o : ObjectId) (st : Hearing) (n : ℕ) (events : List Event) (z : Space) : Type 0 where

@@ -4,15 +4,15 @@ use Rattle.bd_laws.proofs.words.Types.{Fault, Note, ObjectId, Parcel, Entry, Ste
 use Rattle.bd_laws.proofs.words.Space.{same, is_some_and, Space, opening, actor, lives_in, is_shaking, list_to_read, follow, Outcome, refused, by_check, is_own_with, done_check, acknowledge, done_step, command_step, read_by, taken, buffer_taken, got, read_taking, read_fault, read_step, stream_of, change, counted, by_actor, History, IsHistory, Follows, EntryFollows, next}
 use Rattle.bd_uapi.specs.declared.command.Command as command
 use Rattle.bd_uapi.specs.declared.command.Command.TheVariants as bc
-use Rattle.bd_laws.proofs.words.Laws.{In, Before}
+use Rattle.bd_laws.proofs.words.Laws.{In, IsTidy}
 use Rattle.bd_laws.proofs.Lists.{find-in}
 use Rattle.bd_laws.proofs.Tests.{both, same-eq, eq-same}
 use Rattle.bd_laws.proofs.Machine.EveryEnding.{IsReading, IsAcknowledging}
 use Rattle.bd_laws.proofs.Machine.EveryStep.{every_step}
 use Rattle.bd_laws.proofs.IsInTurn.Ripening.{read-in}
-use Rattle.bd_laws.proofs.IsInTurn.Received.{step-before, opening-before}
-use Rattle.bd_laws.proofs.IsInTurn.Passing.{step-passes}
-use Rattle.bd_laws.proofs.NothingIsPending.Noticing.{Noticing, step-noticing, opening-noticing}
+use Rattle.bd_laws.proofs.Always.{step-tidy, opening-tidy}
+use Rattle.bd_laws.proofs.Machine.Steps.{change-steps}
+use Rattle.bd_laws.proofs.NothingIsPending.Noticing.{quiet-live}
 use Rattle.bd_audit.specs.Hearing.{Event, heard_in, names_own, is_got, is_accepted, heard_by, heard_at, heard_from, heard_of, InOrder}
 use Rattle.bd_audit.proofs.OwnersHearInOrder.Orders.{hears-append, in-order, Hearing, unheard, hears_all}
 use Rattle.bd_audit.proofs.OwnersHearInOrder.Telling.{follow-told, quiet-step}
@@ -45,7 +45,7 @@ nothing b = search arith
 quiet-heard : (s : Space) (o : ObjectId) (a : Actor) (x : Step) (answer : StepAnswer) → is_quiet x ≡ true → heard_by s o a x answer ≡ []
 quiet-heard s o a x answer q = search (arith, nothing)
 
-module _ (o : ObjectId) (st : Hearing) (s : Space) (before : Before s) (noticing : Noticing s) (h : HeardBefore o st s) (seat : ℕ) (answer : StepAnswer) where
+module _ (o : ObjectId) (st : Hearing) (s : Space) (tidy : IsTidy s) (h : HeardBefore o st s) (seat : ℕ) (answer : StepAnswer) where
   -- what this seat hears by the step x
   abbrev events : Step → Option Actor → List Event
   events x f = elim f as (λ (g : Option Actor). List Event) [ None ↦ [] | Some a ↦ heard_by s o a x answer ]
@@ -60,7 +60,7 @@ module _ (o : ObjectId) (st : Hearing) (s : Space) (before : Before s) (noticing
   goes-quietly x q =
       same-events (events x (actor s seat)) [] (change s seat x).space (of (actor s seat))
       (silent-after o st s (change s seat x).space h
-      (every_step s seat x (Tracks ⊥ o st) (Tracks ⊥ o st) (quiet-step o st s seat x before h (unread x q) (λ b. unanswered x b q))))
+      (every_step s seat x (Tracks ⊥ o st) (Tracks ⊥ o st) (quiet-step o st s seat x tidy.before h (unread x q) (λ b. unanswered x b q))))
     where
       of : (f : Option Actor) → events x f ≡ []
       of f = search (arith, quiet-heard)
@@ -82,15 +82,15 @@ module _ (o : ObjectId) (st : Hearing) (s : Space) (before : Before s) (noticing
       let names : names_own s o a.process.made ptr cookie ≡ same y.id o = ap (λ f. is_some_and f (λ (x : Object). same x.id o)) d.0 in
       same-events _ (cond (same y.id o) (done_event strong ∷ []) []) _
       (ap (λ z. cond (is_accepted z) (cond (names_own s o a.process.made ptr cookie) (done_event strong ∷ []) []) []) (sym is) ∙ ap (λ b. cond b (done_event strong ∷ []) []) names)
-      (completed-after o st s before h _ _ (at (same y.id o) refl own.0 live d.1))
+      (completed-after o st s tidy.before h _ _ (at (same y.id o) refl own.0 live d.1))
     where
       at : (b : Bool) → same y.id o ≡ b → In y s.objects → lives_in s.processes y.owner ≡ true → list_any (is_shaking y.id strong) s.references ≡ true
           → HeardAfter o st s.steps (cond b (done_event strong ∷ []) []) (acknowledge s y.id strong)
       at true f l live any =
           let id = same-eq y.id o f in
           subst (λ i. HeardAfter o st s.steps (done_event strong ∷ []) (acknowledge s i strong)) (sym id)
-          (own-done o st s before h y strong l id live (subst (λ i. list_any (is_shaking i strong) s.references ≡ true) id any))
-      at false f l live any = silent-after o st s _ h (other-done o st s before h y.id strong (λ e. let yes = eq-same y.id o e in absurd (cc)))
+          (own-done o st s tidy.before h y strong l id live (subst (λ i. list_any (is_shaking i strong) s.references ≡ true) id any))
+      at false f l live any = silent-after o st s _ h (other-done o st s tidy.before h y.id strong (λ e. let yes = eq-same y.id o e in absurd (cc)))
 
   goes-done : (strong : Bool) (ptr cookie : ℕ) (parcel : Option Parcel) (f : Option Actor) → actor s seat ≡ f
       → (by_actor s f (λ a. command_step s a (cond strong (bc.AcquireDone ptr cookie) (bc.IncrefsDone ptr cookie)) parcel)).answer ≡ answer
@@ -112,7 +112,7 @@ module _ (o : ObjectId) (st : Hearing) (s : Space) (before : Before s) (noticing
   read-after a limit (Some y) is = same-events _ [] s (ap (λ z. cond (is_got z) (heard_in s o (taken s (limit - 4) (list_to_read s a.thread))) []) (sym is)) same-space
   read-after a limit None is =
       let ws = taken s (limit - 4) (list_to_read s a.thread) in
-      let r = reads-all o st s before noticing h a.thread.seat ws (read-list-once s a.thread (limit - 4) noticing.once) (λ w l. read-in s a.thread (limit - 4) w l) in
+      let r = reads-all o st s tidy.before (quiet-live s tidy.quiet) h a.thread.seat ws (read-list-once s a.thread (limit - 4) tidy.once) (λ w l. read-in s a.thread (limit - 4) w l) in
       same-events _ (heard_in s o ws) (follow (read_by s a.thread.seat ws))
       (ap (λ z. cond (is_got z) (heard_in s o ws) []) (sym is) ∙ gets (stream_of s ws) (buffer_taken s ws) (heard_in s o ws))
       (record { now = r.0; heard = r.1; tracks = follow-told o r.0 (read_by s a.thread.seat ws) r.2; fresh = r.3 })
@@ -131,22 +131,22 @@ module _ (o : ObjectId) (st : Hearing) (s : Space) (before : Before s) (noticing
 
 -- ---- every history
 
-heard-step : (o : ObjectId) (st : Hearing) (s : Space) (e : Entry) → Before s → Noticing s → HeardBefore o st s → EntryFollows s e
+heard-step : (o : ObjectId) (st : Hearing) (s : Space) (e : Entry) → IsTidy s → HeardBefore o st s → EntryFollows s e
     → (now : Hearing) × (hears_all st (heard_at s o e) ≡ Some now) × HeardBefore o now (next s e)
 unfolding counted
-heard-step o st s e before noticing h follows =
-    let k = goes o st s before noticing h e.seat e.answer e.step follows.answer in
-    let steps = (step-passes s e before.turns before.received.lists).passed.steps in
+heard-step o st s e tidy h follows =
+    let k = goes o st s tidy h e.seat e.answer e.step follows.answer in
+    let steps = change-steps s e.seat e.step in
     (k.now, k.heard, record { tracks = k.tracks; fresh = λ le. k.fresh (omega arith) })
 
-all-heard : (o : ObjectId) (es : List Entry) (s : Space) (st : Hearing) → Before s → Noticing s → HeardBefore o st s → Follows s es → is_some (hears_all st (heard_from s o es)) ≡ true
-all-heard o [] s st before noticing h follows = refl
-all-heard o (e ∷ es) s st before noticing h follows =
-    let k = heard-step o st s e before noticing h follows.0 in
-    ap is_some (hears-append (heard_at s o e) (heard_from (next s e) o es) st k.0 k.1) ∙ all-heard o es (next s e) k.0 (step-before s e before) (step-noticing s e noticing) k.2 follows.1
+all-heard : (o : ObjectId) (es : List Entry) (s : Space) (st : Hearing) → IsTidy s → HeardBefore o st s → Follows s es → is_some (hears_all st (heard_from s o es)) ≡ true
+all-heard o [] s st tidy h follows = refl
+all-heard o (e ∷ es) s st tidy h follows =
+    let k = heard-step o st s e tidy h follows.0 in
+    ap is_some (hears-append (heard_at s o e) (heard_from (next s e) o es) st k.0 k.1) ∙ all-heard o es (next s e) k.0 (step-tidy s e tidy) k.2 follows.1
 
 pub hears-in-order : (h : History) → IsHistory h → (o : ObjectId) → InOrder (heard_of o h)
 unfolding heard_of
 hears-in-order h lawful o =
     in-order (heard_from opening o h.entries)
-    (all-heard o h.entries opening unheard opening-before opening-noticing (record { tracks = λ x l. absurd l; fresh = λ le. refl }) lawful.follows)
+    (all-heard o h.entries opening unheard opening-tidy (record { tracks = λ x l. absurd l; fresh = λ le. refl }) lawful.follows)

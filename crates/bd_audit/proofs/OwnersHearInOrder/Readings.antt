@@ -3,13 +3,13 @@ use Rattle.bd_laws.proofs.words.Logic.{◌≡◌, ℕ, suc, ◌+◌, ◌-◌, �
 use Rattle.bd_laws.proofs.words.Types.{Return, ObjectId, Object, Reference, Handshake, Work, Thread}
 use Rattle.bd_laws.proofs.words.Space.{same, Space, lives_in, held_in, strong_in, object_in, is_shaking, is_handshake, same_strength, notice_of, list_to_read, returns_of, returns_of_object, bytes_read, shakes, handshakes, told_objects, told_of, is_told_by, read_by, taken, ends_read}
 use Rattle.bd_space.specs.declared.space.WorkKind.TheVariants as work
-use Rattle.bd_laws.proofs.words.Laws.{In, Before}
+use Rattle.bd_laws.proofs.words.Laws.{In, Before, Once}
 use Rattle.bd_laws.proofs.Lists.{in-left, in-append, in-changed, any-found, any-in, pairs-filter}
 use Rattle.bd_laws.proofs.Tests.{and-both, same-eq, eq-same, to-false}
 use Rattle.bd_laws.proofs.IsInTurn.Ripening.{taken-in}
 use Rattle.bd_laws.proofs.Objects.{told-id}
 use Rattle.bd_laws.proofs.IsInTurn.Received.{one-object}
-use Rattle.bd_laws.proofs.NothingIsPending.Noticing.{Once, Noticing}
+use Rattle.bd_laws.proofs.NothingIsPending.Noticing.{Live}
 use Rattle.bd_laws.proofs.FollowingIsLocal.Finding.{find-only}
 use Rattle.bd_laws.proofs.Earlier.{in_order-differ}
 use Rattle.bd_audit.specs.Hearing.{event_of, heard_in}
@@ -49,7 +49,7 @@ returns-found : (s : Space) (o : ObjectId) (y : Object) → object_in s.objects 
 unfolding returns_of
 returns-found s o y e = ap (returns_of_object s.references) e
 
-module _ (o : ObjectId) (st : Hearing) (s : Space) (before : Before s) (noticing : Noticing s) (h : HeardBefore o st s) (seat : ℕ) (ws : List Work) where
+module _ (o : ObjectId) (st : Hearing) (s : Space) (before : Before s) (live : Live s) (h : HeardBefore o st s) (seat : ℕ) (ws : List Work) where
   -- the references after the reading
   abbrev pub references_now : List Reference
   references_now = s.references ++ handshakes s 0 ws
@@ -141,7 +141,7 @@ module _ (o : ObjectId) (st : Hearing) (s : Space) (before : Before s) (noticing
 
   reads-one : (w : Work) → In w ws → In w s.todo → notice_of w.kind ≡ Some o → Once ws → Reads
   reads-one w l due e once =
-      let x = noticing.live w o due e in
+      let x = live w o due e in
       reads-tells once w l e x.0 x.1 x.2 (find-only s.objects x.0 o (in_order-differ s.objects before.objects.kept.in_order) x.1 x.2) (h.tracks x.0 x.1 x.2 x.3)
 
   pub reads-all : Once ws → ((w : Work) → In w ws → In w s.todo) → Reads

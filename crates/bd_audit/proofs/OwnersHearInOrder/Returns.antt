@@ -5,10 +5,11 @@ use Rattle.bd_laws.proofs.words.Space.{same, is_some_and, Space, reference_of, i
 use Rattle.bd_uapi.specs.declared.command.Return.TheVariants as br
 use Rattle.bd_space.specs.declared.space.WorkKind.TheVariants as work
 use Rattle.bd_laws.specs.Lists.{In}
+use Rattle.bd_laws.specs.Items.{Once}
 use Rattle.bd_laws.proofs.Lists.{any-found, any-in}
 use Rattle.bd_laws.proofs.Tests.{same-eq, eq-same, notice-kind, notice-named, to-false}
 use Rattle.bd_laws.proofs.FollowingIsLocal.Handshakes.{for-object, shaken-by, shaken-object}
-use Rattle.bd_laws.proofs.NothingIsPending.Noticing.{Once, notice-is}
+use Rattle.bd_laws.proofs.NothingIsPending.Noticing.{notice-is}
 use Rattle.bd_audit.specs.Hearing.{event_of, heard_in}
 use Rattle.bd_audit.proofs.OwnersHearInOrder.Orders.{Hearing, unheard, weakly, strongly, ended, hears_all}
 use Rattle.bd_audit.proofs.OwnersHearInOrder.Tallies.{tally, tally-append, tally-none}

@@ -11,7 +11,7 @@ use Rattle.bd_laws.proofs.Machine.EveryStep.{KeepsWhole, whole, every_whole_step
 use Rattle.bd_laws.proofs.Machine.Table.{Any, set_up-by, changes-by}
 use Rattle.bd_audit.specs.Replies.{made_in, thread_made, Calls}
 use Rattle.bd_audit.proofs.Beginnings.{after-append}
-use Rattle.bd_audit.proofs.NamesHaveGiftChains.Chains.{always-steps}
+use Rattle.bd_laws.proofs.Machine.Steps.{always-steps}
 use Rattle.bd_audit.proofs.RepliesReachTheirCallers.Answering.{always-traced}
 use Rattle.bd_audit.proofs.RepliesReachTheirCallers.Traces.{Called, at-below, actor-made}
 use Rattle.bd_audit.proofs.RepliesReachTheirCallers.Places.{between}

@@ -14,7 +14,7 @@ use Rattle.bd_laws.proofs.OnPaths.PathWords.{served-is}
 use Rattle.bd_audit.specs.Replies.{made_in, thread_made, items_taken, Calls, At}
 use Rattle.bd_audit.specs.Latest.{Closes, ReadsAnswer, is_answer, is_answer_of}
 use Rattle.bd_audit.proofs.Beginnings.{after-append}
-use Rattle.bd_audit.proofs.NamesHaveGiftChains.Chains.{always-steps}
+use Rattle.bd_laws.proofs.Machine.Steps.{always-steps}
 use Rattle.bd_audit.proofs.RepliesReachTheirCallers.Answering.{absent, closed-absent, always-traced, takes-items}
 use Rattle.bd_audit.proofs.RepliesReachTheirCallers.Traces.{Called, at-more, at-here, at-below, actor-made}
 use Rattle.bd_audit.proofs.RepliesReachTheirCallers.ReplyLaw.{NoFrame}

@@ -12,7 +12,7 @@ use Rattle.bd_laws.proofs.IsInTurn.Ripening.{taken-in, read-in}
 use Rattle.bd_laws.proofs.Always.{tidy-after}
 use Rattle.bd_audit.specs.Replies.{thread_made, items_taken, reply_taken, reply_taken_at, Answered, At}
 use Rattle.bd_audit.specs.Latest.{Closes, ReadsAnswer, Ended, AnswersLatest, is_answer, is_answer_of, before_reply}
-use Rattle.bd_audit.proofs.NamesHaveGiftChains.Chains.{always-steps}
+use Rattle.bd_laws.proofs.Machine.Steps.{always-steps}
 use Rattle.bd_audit.proofs.RepliesReachTheirCallers.Traces.{Called, at-more, at-below, actor-made}
 use Rattle.bd_audit.proofs.RepliesReachTheirCallers.ReplyTaken.{first-in}
 use Rattle.bd_audit.proofs.RepliesReachTheirCallers.ReplyLaw.{NoFrame, at-place, owed-after, took, taken-once, step-no_frame, no_frame-later, closed-no_frame}

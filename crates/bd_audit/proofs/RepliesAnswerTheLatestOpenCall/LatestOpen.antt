@@ -15,7 +15,7 @@ use Rattle.bd_laws.proofs.OnPaths.Innermost.{innermost-is, innermost-childless, 
 use Rattle.bd_laws.proofs.Always.{always-on_paths}
 use Rattle.bd_audit.specs.Replies.{thread_made, frame_of, reply_taken_at, Calls, AnswersCall, At, Answered}
 use Rattle.bd_audit.specs.Latest.{IsLatest}
-use Rattle.bd_audit.proofs.NamesHaveGiftChains.Chains.{always-steps}
+use Rattle.bd_laws.proofs.Machine.Steps.{always-steps}
 use Rattle.bd_audit.proofs.RepliesReachTheirCallers.Answering.{always-traced, absent}
 use Rattle.bd_audit.proofs.RepliesReachTheirCallers.Traces.{Called, Answers, answers-more, at-more, actor-made}
 use Rattle.bd_audit.proofs.RepliesReachTheirCallers.ReplyLaw.{reaches, stood, took, at-place, owed-after, no_reply-later, step-no_reply}

@@ -16,7 +16,7 @@ use Rattle.bd_laws.proofs.ItemsAreToldApart.Identities.{count_at}
 use Rattle.bd_audit.specs.Replies.{made_in}
 use Rattle.bd_audit.specs.Latest.{is_answer}
 use Rattle.bd_audit.proofs.Beginnings.{after-append}
-use Rattle.bd_audit.proofs.NamesHaveGiftChains.Chains.{always-steps}
+use Rattle.bd_laws.proofs.Machine.Steps.{always-steps}
 use Rattle.bd_audit.proofs.RepliesReachTheirCallers.Answering as answering
 use Rattle.bd_audit.proofs.RepliesReachTheirCallers.Answering.{closed-absent, always-traced}
 use Rattle.bd_audit.proofs.RepliesReachTheirCallers.Traces.{Traced}

@@ -7,8 +7,8 @@ use Rattle.bd_space.specs.declared.space.WorkKind.TheVariants as work
 use Rattle.bd_links.specs.TodoList.{reply_of}
 use Rattle.bd_laws.proofs.words.Laws.{In, IsInTurn}
 use Rattle.bd_laws.proofs.Lists.{in-left, in-last, in-push, in-filter_map, find-in}
-use Rattle.bd_laws.proofs.Checks.{actor-lives, reply-checked}
-use Rattle.bd_laws.proofs.IsInTurn.OneWay.{Less, owe-less, own_notices-less}
+use Rattle.bd_laws.proofs.Checks.{actor-acts, reply-checked}
+use Rattle.bd_laws.proofs.IsInTurn.OneWay.{Less, owe-less, sent-due}
 use Rattle.bd_laws.proofs.Machine.Fields.{closed-same, closed-steps, closed-threads, owe-buffers, sent-steps, sent-threads, owe-threads}
 use Rattle.bd_laws.proofs.AtHome.HomesSent.{caller-acts}
 
@@ -120,12 +120,6 @@ owed z list kind none h = calm (owe z list kind) z (owe-less z list kind none) (
 abbrev pub sent : Space → Actor → TransactionData → Delivery → Bool → Space
 sent s a d v spam = owe (delivered s a d v) (OfThread a.thread.seat) (work.Complete spam)
 
-pub sent-due : (s : Space) (a : Actor) (d : TransactionData) (v : Delivery) (spam : Bool) (w : Work) (m : ℕ) → In w (sent s a d v spam).todo → hands_out w.kind ≡ Some m → In w s.todo
-unfolding delivered own_notices add_buffer known_by assign_numbers refer make_objects
-sent-due s a d v spam w m l e =
-    own_notices-less (add_buffer (known_by s v) (buffer_of (known_by s v) a d v)) a.thread.seat v.sending.items w m
-    ((owe-less (delivered s a d v) (OfThread a.thread.seat) (work.Complete spam) refl).due w m l e) e
-
 sent-buffers : (s : Space) (a : Actor) (d : TransactionData) (v : Delivery) (spam : Bool) → (sent s a d v spam).buffers ≡ s.buffers ++ buffer_of (known_by s v) a d v ∷ []
 unfolding owe delivered own_notices add_buffer known_by assign_numbers refer make_objects
 sent-buffers s a d v spam = refl
@@ -166,9 +160,7 @@ fits : (s x : Space) (t : ℕ) (a c : Actor) (d : TransactionData) (v : Delivery
     → v.receiver ≡ c.process → v.one_way ≡ false → HasBuffer (sent x a d v false).threads (sent x a d v false).buffers (OfThread t) s.steps
 unfolding known_by assign_numbers refer make_objects
 fits s x t a c d v steps threads acts to two_way =
-    let k = actor-lives s t c acts in
-    let u = find-in (λ (y : Thread). y.seat == t) c.thread s.threads k.0 in
-    let q = find-in (λ (y : Process). y.made == c.thread.process) c.process s.processes k.1 in
+    let k = actor-acts s t c acts in
     record {
       buffer = buffer_of (known_by x v) a d v;
       here = subst (In (buffer_of (known_by x v) a d v)) (sym (sent-buffers x a d v false)) (in-last (buffer_of (known_by x v) a d v) x.buffers);
@@ -176,9 +168,9 @@ fits s x t a c d v steps threads acts to two_way =
       handed = refl;
       two_way = two_way;
       thread = c.thread;
-      lives = subst (In c.thread) (sym (sent-threads x a d v false ∙ threads)) u.0;
-      on = ap (λ n. OfThread n) (sym (eqb-true c.thread.seat t u.1));
-      receiver = sym (ap (λ (y : Process). y.made) to ∙ eqb-true c.process.made c.thread.process q.1);
+      lives = subst (In c.thread) (sym (sent-threads x a d v false ∙ threads)) k.thread;
+      on = ap (λ n. OfThread n) (sym k.seat);
+      receiver = sym (ap (λ (y : Process). y.made) to ∙ k.own);
     }
 
 pub replies : (s : Space) (a : Actor) (d : TransactionData) (parcel : Option Parcel) (f : Frame) (v : Delivery) → IsInTurn s → reply_check s a d parcel f ≡ Ok v → RepliesHeld s

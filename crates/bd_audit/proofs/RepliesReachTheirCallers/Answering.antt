@@ -13,7 +13,7 @@ use Rattle.bd_laws.proofs.Checks.{transaction-checked}
 use Rattle.bd_laws.proofs.OnPaths.PathWords.{served-is}
 use Rattle.bd_audit.specs.Replies.{made_in, thread_made, items_taken, frame_of, Calls, TakesCall, AnswersCall}
 use Rattle.bd_audit.proofs.Beginnings.{after-append}
-use Rattle.bd_audit.proofs.NamesHaveGiftChains.Chains.{always-steps}
+use Rattle.bd_laws.proofs.Machine.Steps.{always-steps}
 use Rattle.bd_laws.proofs.Machine.Table.{keeps-by}
 use Rattle.bd_audit.proofs.RepliesAreHandedOut.BuffersSent.{told-when}
 use Rattle.bd_audit.proofs.RepliesReachTheirCallers.Quiet.{sent-quiet, answered-quiet, ripen-quiet, completed-quiet, NotReply, quiet_table, quiet_exits, quiet_closes, Quiet}

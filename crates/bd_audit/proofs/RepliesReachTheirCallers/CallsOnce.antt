@@ -12,13 +12,14 @@ use Rattle.bd_laws.proofs.IsInTurn.OneWay.{HandsNothing, less_table, less_exits,
 use Rattle.bd_laws.proofs.IsInTurn.Ripening.{turn-parts, read-in}
 use Rattle.bd_laws.proofs.IsInTurn.InTurn.{is_call-hands}
 use Rattle.bd_laws.proofs.IsInTurn.Passed.{After, untouched-after, follow-after}
-use Rattle.bd_audit.proofs.RepliesAreHandedOut.BuffersSent.{sent-due, ripen-keeps-in}
+use Rattle.bd_audit.proofs.RepliesAreHandedOut.BuffersSent.{ripen-keeps-in}
+use Rattle.bd_laws.proofs.IsInTurn.OneWay.{sent-due}
 use Rattle.bd_laws.proofs.Tests.{not-true, call-kind}
 use Rattle.bd_laws.proofs.IsInTurn.Passing.{step-passes}
 use Rattle.bd_laws.proofs.IsInTurn.Received.{on-before}
 use Rattle.bd_laws.proofs.OnPaths.PathWords.{same-item}
 use Rattle.bd_audit.specs.Replies.{items_taken, HandsOutCall, Calls, At}
-use Rattle.bd_audit.proofs.NamesHaveGiftChains.Chains.{always-steps}
+use Rattle.bd_laws.proofs.Machine.Steps.{always-steps}
 use Rattle.bd_audit.proofs.TurnsAreTaken.CallItems.{step-treats}
 use Rattle.bd_audit.proofs.TurnsAreTaken.CallItemsKept.{fresh-once}
 use Rattle.bd_audit.proofs.TurnsTellOfCalls.CallsOut.{items-due}

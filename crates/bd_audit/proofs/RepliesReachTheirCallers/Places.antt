@@ -3,12 +3,12 @@
 use Rattle.bd_laws.proofs.words.Space.{Space, opening, after, next}
 use Rattle.bd_laws.proofs.words.Laws.{IsTidy}
 use Rattle.bd_laws.proofs.Always.{step-tidy, tidy-after}
-use Rattle.bd_laws.proofs.ItemsAreToldApart.Numbering.{next-steps}
+use Rattle.bd_laws.proofs.Machine.Steps.{next-steps}
 use Rattle.std.proofs.Common.{◌≡◌, ℕ, suc, ◌<◌, List, [], ◌∷◌, ◌++◌, length, length-append, ap, sym, subst, ◌∙◌, arith}
 use Rattle.bd_space.specs.declared.step.Entry.{Entry}
 use Rattle.bd_audit.specs.Gifts.{Stands}
 use Rattle.bd_audit.proofs.Beginnings.{after-append}
-use Rattle.bd_audit.proofs.NamesHaveGiftChains.Chains.{always-steps}
+use Rattle.bd_laws.proofs.Machine.Steps.{always-steps}
 
 pub between : (before later : List Entry) (e f : Entry) (rest more : List Entry) → before ++ e ∷ rest ≡ later ++ f ∷ more → length before < length later
     → (mid : List Entry) × (later ≡ before ++ e ∷ mid)
@@ -41,7 +41,7 @@ module _ (P : Space → Type 0) (c : ℕ) (k : (s : Space) (e : Entry) → IsTid
   later : (es : List Entry) (s : Space) → IsTidy s → c < s.steps → P s → P (after s es)
   later [] s tidy lt h = h
   later (e ∷ es) s tidy lt h =
-      let n = next-steps s e tidy.told tidy.quiet tidy.home in later es (next s e) (step-tidy s e tidy) (omega arith) (k s e tidy lt h)
+      let n = next-steps s e in later es (next s e) (step-tidy s e tidy) (omega arith) (k s e tidy lt h)
 
   pub later-place : (es : List Entry) (i j : ℕ) (before then : List Entry) (e f : Entry) (at : Stands es i before e) (next-at : Stands es j then f) (lt : i < j) → c < suc i
       → P (next (after opening before) e) → P (after opening then)

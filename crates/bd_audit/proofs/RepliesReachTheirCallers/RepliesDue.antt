@@ -90,10 +90,6 @@ from-kept s seat x = search (arith, keeps-by, quiet_table, from-quietly, quiet_e
 pub step-from : (s : Space) (e : Entry) → From s (change s e.seat e.step).space
 step-from s e = every_step s e.seat e.step (From s) (From s) (from-kept s e.seat e.step)
 
-pub next-steps : (s : Space) (e : Entry) → (next s e).steps ≡ suc s.steps
-unfolding counted
-next-steps s e = ap suc (step-from s e).steps
-
 -- ---- every history
 
 abbrev MadeHere : Space → Type 0

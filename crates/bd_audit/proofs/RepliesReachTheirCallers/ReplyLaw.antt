@@ -12,7 +12,6 @@ use Rattle.bd_audit.proofs.TurnsTellOfCalls.TurnsTelling.{handed-later}
 use Rattle.bd_audit.proofs.RepliesReachTheirCallers.Places.{later-place}
 use Rattle.bd_audit.proofs.RepliesReachTheirCallers.CallsOnce.{handed-once}
 use Rattle.bd_audit.proofs.RepliesReachTheirCallers.RepliesDue.{IsOwed, always-owed, step-from}
-pub use Rattle.bd_audit.proofs.RepliesReachTheirCallers.RepliesDue.{next-steps}
 use Rattle.bd_audit.proofs.RepliesReachTheirCallers.ReplyTaken.{taken-or-not, first-stands, NoReply}
 use Rattle.bd_audit.proofs.RepliesReachTheirCallers.Answering.{always-traced}
 use Rattle.bd_audit.proofs.RepliesReachTheirCallers.Traces.{Answers, answers-more, at-below}

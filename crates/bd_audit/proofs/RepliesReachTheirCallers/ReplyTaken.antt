@@ -10,7 +10,7 @@ use Rattle.bd_laws.specs.Lists.{In}
 use Rattle.bd_laws.proofs.Lists.{in-filter, any-found, any-in, find-in}
 use Rattle.bd_laws.proofs.Machine.Adding.{notify-keeps}
 use Rattle.bd_laws.proofs.Tests.{not-true}
-use Rattle.bd_laws.proofs.Checks.{actor-lives}
+use Rattle.bd_laws.proofs.Checks.{actor-acts}
 use Rattle.bd_laws.proofs.IsInTurn.Ripening.{read-in}
 use Rattle.bd_laws.proofs.OnPaths.PathWords.{same-item}
 use Rattle.bd_audit.specs.Replies.{items_taken, reply_taken}
@@ -104,7 +104,7 @@ finds : (s : Space) → IsOwed s → (seat left : ℕ) (a : Actor) → actor s s
 finds s h seat left a e None f = inl (f, none-taken s h seat a.thread.seat (taken s left (list_to_read s a.thread)) (read-in s a.thread left) f)
 finds s h seat left a e (Some r) f =
     let own = own-first s h a.thread r (taken-first s (list_to_read s a.thread) left r f) in
-    let same_seat : a.thread.seat ≡ seat = eqb-true a.thread.seat seat (find-in (λ (t : Thread). t.seat == seat) a.thread s.threads (actor-lives s seat a e).0).1 in
+    let same_seat = (actor-acts s seat a e).seat in
     inr (r, f, subst (λ n. first_reply s n ≡ Some r) same_seat own, some-taken s h seat a.thread.seat (taken s left (list_to_read s a.thread)) (read-in s a.thread left) r f)
 
 reads : (s : Space) → IsOwed s → (seat limit : ℕ) → Reads s seat (items_taken s seat (Read limit)) (change s seat (Read limit)).space

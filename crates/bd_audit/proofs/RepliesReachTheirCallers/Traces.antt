@@ -8,7 +8,7 @@ use Rattle.bd_space.specs.declared.space.WorkKind.TheVariants as work
 use Rattle.bd_links.specs.TodoList.{reply_of}
 use Rattle.bd_laws.specs.Lists.{In}
 use Rattle.bd_laws.proofs.Lists.{in-push, find-in}
-use Rattle.bd_laws.proofs.Checks.{actor-lives}
+use Rattle.bd_laws.proofs.Checks.{actor-lives, actor-acts}
 use Rattle.bd_audit.specs.Replies.{thread_made, Calls, TakesCall, AnswersCall, At}
 use Rattle.bd_audit.proofs.RepliesReachTheirCallers.Quiet.{Quiet, with_work-quiet}
 
@@ -99,9 +99,7 @@ module _ (s : Space) (seat : ℕ) (a : Actor) (d : TransactionData) (parcel : Op
     reply-space = search arith
 
 pub actor-made : (s : Space) (seat : ℕ) (a : Actor) → actor s seat ≡ Some a → (a.thread.seat ≡ seat) × (thread_made s seat ≡ Some a.thread.made)
-actor-made s seat a h =
-    let k = (actor-lives s seat a h).0 in
-    (eqb-true a.thread.seat seat (find-in (λ (t : Thread). t.seat == seat) a.thread s.threads k).1, ap (λ o. option_map (λ (t : Thread). t.made) o) k)
+actor-made s seat a h = ((actor-acts s seat a h).seat, ap (λ o. option_map (λ (t : Thread). t.made) o) (actor-lives s seat a h).0)
 
 -- ---- one frame more, and one reply more
 

@@ -4,8 +4,8 @@ use Rattle.bd_laws.proofs.words.Logic.{◌≡◌, ℕ, ◌+◌, zero, suc, ◌<�
 use Rattle.bd_laws.proofs.words.Types.{ObjectId, Entry}
 use Rattle.bd_laws.proofs.words.Space.{Space, History, space_after}
 use Rattle.bd_laws.specs.Lists.{In, Pairs}
-use Rattle.bd_laws.proofs.Lists.{in-left, map-in}
-use Rattle.bd_laws.proofs.Tests.{both, and-both}
+use Rattle.bd_laws.proofs.Lists.{in-left, map-in, in-all}
+use Rattle.bd_laws.proofs.Tests.{and-both, is_some-ok}
 use Rattle.bd_audit.specs.declared.turns.Turn.{Turn}
 use Rattle.bd_audit.specs.Replays.{with_entry}
 use Rattle.bd_audit.specs.TurnSearch.{is_handed, is_live, noted_at, marked, turn_made, next_turns, turns_on, has_ended, Wait, AreInTurn}
@@ -23,15 +23,7 @@ map-same f (t ∷ ts) h = ap (λ x. x ∷ map f ts) (h t (inl refl)) ∙ ap (λ 
 in-take : (n : ℕ) (ts : List Turn) (t : Turn) → In t (take n ts) → In t ts
 in-take n ts t i = subst (In t) (take-append-drop n ts) (in-left t (take n ts) (drop n ts) i)
 
-all-in : (p : Turn → Bool) (ts : List Turn) → list_all p ts ≡ true → (t : Turn) → In t ts → p t ≡ true
-all-in p [] h t i = absurd i
-all-in p (u ∷ ts) h t (inl e) = ap p (sym e) ∙ (both (p u) (list_all p ts) h).0
-all-in p (u ∷ ts) h t (inr i) = all-in p ts (both (p u) (list_all p ts) h).1 t i
-
 -- ---- one turn
-
-some-is : (o : Option ℕ) → is_some o ≡ true → (p : ℕ) × (o ≡ Some p)
-some-is o h = search arith
 
 none-is : (o : Option ℕ) → is_some o ≡ false → o ≡ None
 none-is o h = search arith
@@ -52,7 +44,7 @@ module _ (o : ObjectId) (n : ℕ) (z : Space) (ts new : List Turn) (log : Logged
   -- what has ended has no buffer any more that could be handed out
   stays : (t : Turn) → In t ts → has_ended t ≡ true → mark t ≡ t
   stays t i h =
-      let e = some-is t.ended h in
+      let e = is_some-ok t.ended h in
       let ended = noted-kept t.ended n (not (is_live z.buffers t.made)) e.0 e.1 in
       let unhanded = to-false (is_handed z.buffers t.made) (λ y. let c = handed-found z.buffers t.made y in log.gone (mark t) (there t i) e.0 ended c.0 c.1 c.2) in
       let handed = not-noted t.handed n (is_handed z.buffers t.made) unhanded in
@@ -77,7 +69,7 @@ module _ (o : ObjectId) (n : ℕ) (z : Space) (ts new : List Turn) (log : Logged
   )
 
   pub logged-in-turn : (m : ℕ) → list_all has_ended (take m ts) ≡ true → AreInTurn mark m ts
-  logged-in-turn m h = search (arith, map-same, stays, in-take, all-in, all-wait)
+  logged-in-turn m h = search (arith, map-same, stays, in-take, in-all, all-wait)
 
 -- ---- one step more of a history
 

@@ -18,7 +18,7 @@ use Rattle.bd_audit.proofs.Beginnings.{after-append}
 use Rattle.bd_audit.proofs.TurnsAreTaken.TurnsKept as turn_log_parts
 use Rattle.bd_audit.proofs.TurnsAreTaken.TurnsKept.{log-after, NewTurn}
 use Rattle.bd_audit.proofs.TurnsAreTaken.Logged.{Logged, live-in, live-found, handed-found, noted-some, noted-kept, some-case}
-use Rattle.bd_audit.proofs.NamesHaveGiftChains.Chains.{always-steps}
+use Rattle.bd_laws.proofs.Machine.Steps.{always-steps}
 use Rattle.bd_audit.proofs.RepliesReachTheirCallers.Places.{between}
 use Rattle.bd_audit.proofs.RepliesReachTheirCallers.Traces.{at-more, at-here, at-below}
 use Rattle.bd_audit.proofs.TurnsAreTaken.CallItems.{step-treats}

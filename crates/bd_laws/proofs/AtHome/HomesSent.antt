@@ -1,20 +1,20 @@
 -- For SpacesAreTidy and the engine: what is sent stands with its receiver: the buffer that an item on a thread's list hands
 -- over is its process's.
 use Rattle.bd_laws.proofs.words.Logic.{◌≡◌, ℕ, suc, ◌+◌, ◌≤◌, ◌==◌, Bool, true, false, List, [], ◌∷◌, Option, Some, None, Ok, ◌⊎◌, inl, inr, refl, ap, sym, subst, ◌∙◌, arith, option_and_then, eqb-true}
-use Rattle.bd_laws.proofs.words.Types.{TransactionData, ObjectId, Parcel, Process, Thread, Reference, Carried, Item, Frame, Actor, Work, TodoList, OfThread, WorkKind}
+use Rattle.bd_laws.proofs.words.Types.{TransactionData, ObjectId, Parcel, Process, Thread, Reference, Buffer, Carried, Item, Frame, Actor, Work, TodoList, OfThread, WorkKind}
 use Rattle.bd_laws.proofs.words.Space.{is_some_and, Space, actor, thread_in, assign_numbers, closed, goes_to, with_work, owe, hands_out, ripen, Delivery, delivered, own_notices, add_buffer, known_by, refer, make_objects, buffer_references, transacted, called, call_out, caller_of, reply_check, replied, is_spam}
 use Rattle.bd_space.specs.declared.space.WorkKind.TheVariants as work
 use Rattle.bd_laws.proofs.words.Laws.{In, Pairs, IsInTurn, OtherSeat, Homed, AtHome}
-use Rattle.bd_laws.proofs.Lists.{in-append, find-in, pairs-either, all-push}
+use Rattle.bd_laws.proofs.Lists.{in-append, in-push, find-in, pairs-either, all-push}
 use Rattle.bd_laws.specs.Items.{Home}
 use Rattle.bd_laws.proofs.OnPaths.PathWords.{goes-to-waiting}
-use Rattle.bd_laws.proofs.Checks.{actor-lives, reply-checked}
+use Rattle.bd_laws.proofs.Checks.{actor-acts, reply-checked}
 use Rattle.bd_laws.proofs.IsInTurn.OneWay as one_way
 use Rattle.bd_laws.proofs.Machine.Adding.{ripen-keeps}
 use Rattle.bd_laws.proofs.Machine.Fields.{closed-same}
 
 abbrev pub H : ℕ → Space → Type 0
-H n z = Homed n z.threads z.references z.todo
+H n z = Homed n z.threads z.references z.buffers z.todo
 
 pub one-thread : (s : Space) → AtHome s → (t u : Thread) → In t s.threads → In u s.threads → t.seat ≡ u.seat → t ≡ u
 one-thread s h t u l m e = search (arith, pairs-either)
@@ -27,9 +27,9 @@ more-h n m z le h = record { seats = h.seats; home = h.home; carried = λ r b q 
 -- what ripens stands on a process's list
 pub ripen-h : (n : ℕ) (z : Space) → H n z → H n (ripen z)
 unfolding ripen
-ripen-h n z = ripen-keeps (Homed n z.threads z.references) z (λ td u h. record {
+ripen-h n z = ripen-keeps (Homed n z.threads z.references z.buffers) z (λ td u h. record {
   seats = h.seats;
-  home = λ w t b. all-push td _ (λ w. w.list ≡ OfThread t → hands_out w.kind ≡ Some b → Home z.threads z.references t b) (λ w i. h.home w t b i)
+  home = λ w t b. all-push td _ (λ w. w.list ≡ OfThread t → hands_out w.kind ≡ Some b → Home z.threads z.references z.buffers t b) (λ w i. h.home w t b i)
       (λ on. absurd (cc)) w;
   carried = h.carried;
 })
@@ -51,7 +51,7 @@ goes-home s seat p c e =
     at (Some u) f k = let l = find-in (λ (t : Thread). t.seat == c) u s.threads f in (u, l.0, eqb-true u.seat c l.1, eqb-true u.process p k)
 
 module _ (s x : Space) (a : Actor) (d : TransactionData) (v : Delivery) (steps : x.steps ≡ s.steps) (threads : x.threads ≡ s.threads) (references : x.references ≡ s.references) (todo : x.todo ≡ s.todo)
-    (h : AtHome s) (turns : IsInTurn s) (spam : Bool) where
+    (buffers : x.buffers ≡ s.buffers) (h : AtHome s) (turns : IsInTurn s) (spam : Bool) where
   abbrev pub sent : Space
   sent = owe (delivered x a d v) (OfThread a.thread.seat) (work.Complete spam)
 
@@ -69,6 +69,14 @@ module _ (s x : Space) (a : Actor) (d : TransactionData) (v : Delivery) (steps :
   sent-references : (r : Reference) → In r sent.references → In r s.references ⊎ In r (buffer_references s.steps v.receiver.made 0 v.sending.items v.target)
   unfolding delivered own_notices add_buffer known_by assign_numbers refer make_objects owe
   sent-references r l = search (arith, in-append)
+
+  -- the step's own buffer, or an older one
+  sent-buffers : (c : Buffer) → In c sent.buffers → In c s.buffers ⊎ ((c.made ≡ s.steps) × (c.receiver ≡ v.receiver.made))
+  unfolding delivered own_notices add_buffer known_by assign_numbers refer make_objects owe
+  sent-buffers c l = elim (in-push c _ x.buffers l) [
+    | inl i ↦ inl (subst (In c) buffers i)
+    | inr is ↦ inr (sym (ap (λ (b : Buffer). b.made) is) ∙ steps, sym (ap (λ (b : Buffer). b.receiver) is))
+  ]
 
   -- what this step's buffer carries lies in the receiver's window
   new-carried : (r : Reference) (q : ℕ) → In r sent.references → r.holder ≡ Carried s.steps q → v.receiver.made ≡ q
@@ -92,6 +100,10 @@ module _ (s x : Space) (a : Actor) (d : TransactionData) (v : Delivery) (steps :
                 let same = (carries s.steps v.receiver.made 0 v.sending.items v.target r b q j c).0 in
                 let lt = turns.fresh b (w, i, e) in absurd (omega arith))
           ],
+          λ c m is. elim (sent-buffers c m) [
+            | inl j ↦ k.4 c j is
+            | inr new ↦ (let at = new.0 in let lt = turns.fresh b (w, i, e) in absurd (omega arith))
+          ],
         );
     carried = λ r b q l c. elim (sent-references r l) [
       | inl i ↦ (let lt = h.carried r b q i c in omega arith)
@@ -101,15 +113,23 @@ module _ (s x : Space) (a : Actor) (d : TransactionData) (v : Delivery) (steps :
 
   -- one item more, which hands this step's buffer over
   handing-h : (place : ℕ) (list : TodoList) (kind : WorkKind) → hands_out kind ≡ Some s.steps
-      → ((t : ℕ) → list ≡ OfThread t → (u : Thread) × In u sent.threads × (u.seat ≡ t) × (u.process ≡ v.receiver.made)) → Homed (suc s.steps) sent.threads sent.references (with_work place sent.todo list kind)
+      → ((t : ℕ) → list ≡ OfThread t → (u : Thread) × In u sent.threads × (u.seat ≡ t) × (u.process ≡ v.receiver.made)) → Homed (suc s.steps) sent.threads sent.references sent.buffers (with_work place sent.todo list kind)
   handing-h place list kind hands to = record {
     seats = sent-h.seats;
-    home = λ w t b. all-push sent.todo _ (λ w. w.list ≡ OfThread t → hands_out w.kind ≡ Some b → Home sent.threads sent.references t b) (λ w i. sent-h.home w t b i)
-        (λ on e. let u = to t on in let same : s.steps ≡ b = (let k = sym hands ∙ e in cc) in (u.0, u.1, u.2, λ r q m c. u.3 ∙ new-carried r q m (c ∙ ap (λ n. Carried n q) (sym same)))) w;
+    home = λ w t b. all-push sent.todo _ (λ w. w.list ≡ OfThread t → hands_out w.kind ≡ Some b → Home sent.threads sent.references sent.buffers t b) (λ w i. sent-h.home w t b i)
+        (λ on e.
+        let u = to t on in
+        let same : s.steps ≡ b = (let k = sym hands ∙ e in cc) in (
+          u.0,
+          u.1,
+          u.2,
+          λ r q m c. u.3 ∙ new-carried r q m (c ∙ ap (λ n. Carried n q) (sym same)),
+          λ c m is. elim (sent-buffers c m) [ inl i ↦ (let lt = turns.below c i in absurd (omega arith)) | inr new ↦ u.3 ∙ sym new.1 ],
+        )) w;
     carried = sent-h.carried;
   }
 
-call-out-h : (y : Space) (n m seat p : ℕ) → y.steps ≡ m → Homed n y.threads y.references (with_work y.steps y.todo (goes_to y seat p) (work.Call m)) → H n (call_out y seat p)
+call-out-h : (y : Space) (n m seat p : ℕ) → y.steps ≡ m → Homed n y.threads y.references y.buffers (with_work y.steps y.todo (goes_to y seat p) (work.Call m)) → H n (call_out y seat p)
 unfolding call_out owe
 call-out-h y n m seat p e h = search arith
 
@@ -121,10 +141,10 @@ transacted-h s a d v h turns = at v.one_way
     spam = is_spam (delivered s a d v) a v
 
     at : (b : Bool) → H (suc s.steps) (called (owe (delivered s a d v) (OfThread a.thread.seat) (work.Complete spam)) a.thread.seat v.receiver.made b)
-    at true = sent-h s s a d v refl refl refl refl h turns spam
+    at true = sent-h s s a d v refl refl refl refl refl h turns spam
     at false =
-        call-out-h (owe (delivered s a d v) (OfThread a.thread.seat) (work.Complete spam)) (suc s.steps) s.steps a.thread.seat v.receiver.made (sent-steps s s a d v refl refl refl refl h turns spam)
-        (handing-h s s a d v refl refl refl refl h turns spam _ _ (work.Call s.steps) refl (λ t e. goes-home _ a.thread.seat v.receiver.made t e))
+        call-out-h (owe (delivered s a d v) (OfThread a.thread.seat) (work.Complete spam)) (suc s.steps) s.steps a.thread.seat v.receiver.made (sent-steps s s a d v refl refl refl refl refl h turns spam)
+        (handing-h s s a d v refl refl refl refl refl h turns spam _ _ (work.Call s.steps) refl (λ t e. goes-home _ a.thread.seat v.receiver.made t e))
 
 pub caller-acts : (s : Space) (f : Frame) (t : ℕ) (c : Actor) → caller_of s f ≡ Some c → f.caller ≡ Some t → actor s t ≡ Some c
 unfolding caller_of
@@ -137,15 +157,13 @@ replied-h s a d parcel f v h turns check = at f.caller refl
     to : (t : ℕ) → f.caller ≡ Some t → (m : ℕ) → OfThread t ≡ OfThread m → (u : Thread) × In u s.threads × (u.seat ≡ m) × (u.process ≡ v.receiver.made)
     to t e m is =
         let r = reply-checked s a d parcel f v check in
-        let k = actor-lives s t r.caller (caller-acts s f t r.caller r.found e) in
-        let u = find-in (λ (y : Thread). y.seat == t) r.caller.thread s.threads k.0 in
-        let q = find-in (λ (y : Process). y.made == r.caller.thread.process) r.caller.process s.processes k.1 in
+        let k = actor-acts s t r.caller (caller-acts s f t r.caller r.found e) in
         let same_seat : t ≡ m = cc in
-        (r.caller.thread, u.0, eqb-true r.caller.thread.seat t u.1 ∙ same_seat, sym (ap (λ (y : Process). y.made) r.receiver ∙ eqb-true r.caller.process.made r.caller.thread.process q.1))
+        (r.caller.thread, k.thread, k.seat ∙ same_seat, sym (ap (λ (y : Process). y.made) r.receiver ∙ k.own))
 
     at : (o : Option ℕ) → f.caller ≡ o
         → H (suc s.steps) (elim o as (λ (o : Option ℕ). Space) [ None ↦ owe (delivered (closed s f.made) a d v) (OfThread a.thread.seat) (work.Complete false) | Some t ↦ owe (owe (delivered (closed s f.made) a d v) (OfThread a.thread.seat) (work.Complete false)) (OfThread t) (work.Reply s.steps) ])
-    at None e = sent-h s (closed s f.made) a d v (closed-same s f.made).0 (closed-same s f.made).1 (closed-same s f.made).2 (closed-same s f.made).3 h turns false
+    at None e = sent-h s (closed s f.made) a d v (closed-same s f.made).0 (closed-same s f.made).1 (closed-same s f.made).2 (closed-same s f.made).3 (closed-same s f.made).4 h turns false
     at (Some t) e =
-        handing-h s (closed s f.made) a d v (closed-same s f.made).0 (closed-same s f.made).1 (closed-same s f.made).2 (closed-same s f.made).3 h turns false _ (OfThread t) (work.Reply s.steps) refl
-        (λ m is. let u = to t e m is in (u.0, subst (In u.0) (sym (sent-threads s (closed s f.made) a d v (closed-same s f.made).0 (closed-same s f.made).1 (closed-same s f.made).2 (closed-same s f.made).3 h turns false)) u.1, u.2, u.3))
+        handing-h s (closed s f.made) a d v (closed-same s f.made).0 (closed-same s f.made).1 (closed-same s f.made).2 (closed-same s f.made).3 (closed-same s f.made).4 h turns false _ (OfThread t) (work.Reply s.steps) refl
+        (λ m is. let u = to t e m is in (u.0, subst (In u.0) (sym (sent-threads s (closed s f.made) a d v (closed-same s f.made).0 (closed-same s f.made).1 (closed-same s f.made).2 (closed-same s f.made).3 (closed-same s f.made).4 h turns false)) u.1, u.2, u.3))

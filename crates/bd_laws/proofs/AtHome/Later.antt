@@ -48,12 +48,18 @@ same-frames fs f l = (f, l, refl, λ t c. c)
 
 -- ---- what rests on it
 
-pub later-home : (n : ℕ) (z y : Space) → Later z y → Homed n y.threads y.references y.todo → Homed n z.threads z.references z.todo
+pub later-home : (n : ℕ) (z y : Space) → Later z y → Homed n y.threads y.references y.buffers y.todo → Homed n z.threads z.references z.buffers z.todo
 later-home n z y l h = record {
   seats = l.seats h.seats;
   home = λ w t b i on e.
       let k = h.home w t b (l.due w b i e) on e in
-      let u = l.readers w b k.0 i e (on ∙ ap OfThread (sym k.2)) k.1 in (u.0, u.1, u.2 ∙ k.2, λ r q m c. u.3 ∙ k.3 r q (l.carried r b q m c) c);
+      let u = l.readers w b k.0 i e (on ∙ ap OfThread (sym k.2)) k.1 in (
+        u.0,
+        u.1,
+        u.2 ∙ k.2,
+        λ r q m c. u.3 ∙ k.3 r q (l.carried r b q m c) c,
+        λ c m is. let d = l.buffers c m in u.3 ∙ k.4 d.0 d.1 (d.2 ∙ is) ∙ d.3,
+      );
   carried = λ r b q m c. h.carried r b q (l.carried r b q m c) c;
 }
 

@@ -6,7 +6,7 @@ use Rattle.bd_space.specs.declared.space.WorkKind.TheVariants as work
 use Rattle.bd_laws.proofs.words.Laws.{In, IsInTurn, AtHome, OfOthers}
 use Rattle.bd_laws.proofs.Lists.{in-push, find-in, any-in}
 use Rattle.bd_laws.proofs.Tests.{and-both, eq-same}
-use Rattle.bd_laws.proofs.Checks.{actor-lives, transaction-checked}
+use Rattle.bd_laws.proofs.Checks.{actor-acts, transaction-checked}
 use Rattle.bd_laws.proofs.Machine.EveryStep.{every_step}
 use Rattle.bd_laws.proofs.Machine.Adding.{told-keeps, ripen-keeps}
 use Rattle.bd_laws.proofs.AtHome.Later.{later-others, closed-later, read-later, later-keeps}
@@ -58,14 +58,12 @@ module _ (s : Space) (seat : ℕ) (a : Actor) (d : TransactionData) (parcel : Op
   elsewhere : (t : ℕ) → goes_to y a.thread.seat v.receiver.made ≡ OfThread t → a.thread.seat ≡ t → ⊥
   elsewhere t e is =
       let u = goes-home y a.thread.seat v.receiver.made t e in
-      let k = actor-lives s seat a acts in
-      let l = find-in (λ (x : Thread). x.seat == seat) a.thread s.threads k.0 in
-      let q = find-in (λ (x : Process). x.made == a.thread.process) a.process s.processes k.1 in
-      let same_thread = one-thread s home u.0 a.thread (subst (In u.0) (sent-threads s s a d v refl refl refl refl home turns spam) u.1) l.0 (u.2 ∙ sym is) in
-      apart (sym u.3 ∙ ap (λ (x : Thread). x.process) same_thread ∙ sym (eqb-true a.process.made a.thread.process q.1))
+      let k = actor-acts s seat a acts in
+      let same_thread = one-thread s home u.0 a.thread (subst (In u.0) (sent-threads s s a d v refl refl refl refl refl home turns spam) u.1) k.thread (u.2 ∙ sym is) in
+      apart (sym u.3 ∙ ap (λ (x : Thread). x.process) same_thread ∙ sym k.own)
 
   y-others : OfOthers y
-  y-others = fewer y s y-frames (λ w b t l e on. sent-due s s a d v refl refl refl refl home turns spam w b l (ap hands_out e)) h
+  y-others = fewer y s y-frames (λ w b t l e on. sent-due s s a d v refl refl refl refl refl home turns spam w b l (ap hands_out e)) h
 
   calls-out : (steps : y.steps ≡ s.steps) → OfOthers (call_out y a.thread.seat v.receiver.made)
   unfolding call_out owe
@@ -74,7 +72,7 @@ module _ (s : Space) (seat : ℕ) (a : Actor) (d : TransactionData) (parcel : Op
       | inl m ↦ y-others w f t j e on m c
       | inr is ↦ (
           let made : s.steps ≡ f.made = sym steps ∙ ap (λ (g : Frame). g.made) is in
-          let lt = turns.fresh f.made (w, sent-due s s a d v refl refl refl refl home turns spam w f.made j (ap hands_out e), ap hands_out e) in absurd (omega arith))
+          let lt = turns.fresh f.made (w, sent-due s s a d v refl refl refl refl refl home turns spam w f.made j (ap hands_out e), ap hands_out e) in absurd (omega arith))
     ]
     | inr was ↦ elim (in-push f _ y.frames i) [
       | inl m ↦ (
@@ -94,7 +92,7 @@ module _ (s : Space) (seat : ℕ) (a : Actor) (d : TransactionData) (parcel : Op
     where
       at : (b : Bool) → OfOthers (called (owe (delivered s a d v) (OfThread a.thread.seat) (work.Complete spam)) a.thread.seat v.receiver.made b)
       at true = y-others
-      at false = calls-out (sent-steps s s a d v refl refl refl refl home turns spam)
+      at false = calls-out (sent-steps s s a d v refl refl refl refl refl home turns spam)
 
 -- ---- every step
 
@@ -109,7 +107,7 @@ replied-o s a d f v home turns h =
     let k = closed-same s f.made in
     let z = owe (delivered x a d v) (OfThread a.thread.seat) (work.Complete false) in
     told-keeps OfOthers (work.Reply s.steps) (answered s.steps) z f.caller
-    (fewer z x (sent-frames x a d v false) (λ w b t l e on. subst (In w) (sym k.3) (sent-due s x a d v k.0 k.1 k.2 k.3 home turns false w b l (ap hands_out e)))
+    (fewer z x (sent-frames x a d v false) (λ w b t l e on. subst (In w) (sym k.3) (sent-due s x a d v k.0 k.1 k.2 k.3 k.4 home turns false w b l (ap hands_out e)))
     (later-others x s (closed-later s f.made) h))
 
 -- ---- every history

@@ -9,7 +9,7 @@ use Rattle.bd_laws.proofs.IsInTurn.OneWay.{less_table, HandsNothing, Less}
 use Rattle.bd_laws.proofs.Machine.Table.{notify-by}
 use Rattle.bd_laws.proofs.Machine.Untouched
 use Rattle.bd_laws.proofs.Machine.Untouched.{Untouched}
-use Rattle.bd_laws.proofs.Checks.{actor-lives}
+use Rattle.bd_laws.proofs.Checks.{actor-acts}
 use Rattle.bd_laws.proofs.Machine.Following.{follow-by}
 use Rattle.bd_laws.proofs.Machine.Marks.{marked-in}
 
@@ -126,7 +126,7 @@ unfolding with_thread
 attached-passed s seat p l = search arith
 
 pub actor-alive : (s : Space) (seat : ℕ) (a : Actor) → actor s seat ≡ Some a → Lives s.processes a.process.made
-actor-alive s seat a h = let l = find-in (λ (q : Process). q.made == a.thread.process) a.process s.processes (actor-lives s seat a h).1 in (a.process, l.0, refl)
+actor-alive s seat a h = (a.process, (actor-acts s seat a h).process, refl)
 
 pub managed-passed : (s : Space) (seat : ℕ) (a : Actor) → actor s seat ≡ Some a → OnLists s → Passed s (with_manager s a.process.made)
 unfolding with_manager

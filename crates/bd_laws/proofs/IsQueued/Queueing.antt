@@ -8,6 +8,7 @@ use Rattle.bd_laws.proofs.Lists.{in-push, in-filter, any-found, any-in, pairs-ei
 use Rattle.bd_laws.proofs.Tests.{both}
 use Rattle.bd_laws.proofs.IsInTurn.Ripening.{read-in}
 use Rattle.bd_laws.proofs.Machine.EveryStep.{Keeps, every_step}
+use Rattle.bd_laws.proofs.Machine.Steps.{next-steps}
 use Rattle.bd_laws.proofs.NothingIsPending.PlainItems.{keeps-says}
 use Rattle.bd_laws.proofs.OnPaths.PathWords.{same-item}
 use Rattle.bd_laws.proofs.IsQueued.QueuedDeaths.{loose-queues, Silent, death-item, was-before, deaths-change, Q, silent, Before, now, commands-q}
@@ -78,9 +79,9 @@ step-q s seat x h =
     let n = suc s.steps in
     keeps-says (Queues n) (loose-queues n) s seat x (now s h) (commands-q s h) (λ a left. read-q n s a.thread a.thread.seat left (now s h)) (ends-q n)
 
-pub next-queued : (s : Space) (e : Entry) → (next s e).steps ≡ suc s.steps → IsQueued s → IsQuiet s → IsQueued (next s e)
+pub next-queued : (s : Space) (e : Entry) → IsQueued s → IsQuiet s → IsQueued (next s e)
 unfolding counted IsQueued
-next-queued s e steps h quiet =
+next-queued s e h quiet =
     let before : Before s = record {
       queues = h;
       silent = λ w l k. (
@@ -88,7 +89,7 @@ next-queued s e steps h quiet =
           let is = eqb-true x.0.made s.steps x.2 in
           let lt = h.fresh x.0 x.1 in omega arith);
     } in
-    subst (λ n. Queues n (change s e.seat e.step).space.todo (change s e.seat e.step).space.deaths) (sym steps)
+    subst (λ n. Queues n (change s e.seat e.step).space.todo (change s e.seat e.step).space.deaths) (sym (next-steps s e))
     (every_step s e.seat e.step (Q (suc s.steps)) (Q (suc s.steps)) (step-q s e.seat e.step before))
 
 pub opening-queued : IsQueued opening

@@ -1,5 +1,5 @@
 -- For ItemsAreToldApart, which SpacesAreTidy has as a part: each step keeps the identities of work items apart.
-use Rattle.bd_laws.proofs.words.Logic.{◌≡◌, ℕ, suc, ◌==◌, Bool, true, false, cond, not, ◌&&◌, ◌||◌, List, [], ◌∷◌, refl, ap, sym, subst, ◌∙◌, filter, arith, eqb-true, eq-eqb, list_any}
+use Rattle.bd_laws.proofs.words.Logic.{◌≡◌, ℕ, ◌==◌, Bool, true, false, cond, not, ◌&&◌, ◌||◌, List, [], ◌∷◌, refl, ap, sym, subst, ◌∙◌, filter, arith, eqb-true, eq-eqb, list_any}
 use Rattle.bd_laws.proofs.words.Types.{WorkKind, Phase, Entry, Reference, Holder, Carried, Thread, Name, Work, DeathNotification, OfThread, OfProcess, Queued}
 use Rattle.bd_laws.proofs.words.Space.{changed, seats_in, lists_in, lost_with_process, is_some_and, Space, opening, owned_in, objects_go, names_for, buffer_of_holder, named, is_named_in, names_go, owe, is_on, hands_out, is_name_of, deaths_go, with_phase, is_notification, is_lost_with, is_lost_reference, threads_go, without_process, tell_death, tell_deaths, seat_of, is_armed, change, counted, next}
 use Rattle.bd_space.specs.declared.space.WorkKind.TheVariants as work
@@ -103,7 +103,3 @@ next-told s e h quiet home =
 
 pub opening-told : Told opening
 opening-told = record { fresh = λ w l. absurd l; distinct = λ v w l m same. absurd l }
-
-pub next-steps : (s : Space) (e : Entry) → Told s → IsQuiet s → AtHome s → (next s e).steps ≡ suc s.steps
-unfolding counted
-next-steps s e h quiet home = ap suc (changed-owing s e h quiet home).steps

@@ -36,8 +36,9 @@ unfolding closed
 closed-frames z made = refl
 
 pub closed-same : (s : Space) (made : ℕ) → ((closed s made).steps ≡ s.steps) × ((closed s made).threads ≡ s.threads) × ((closed s made).references ≡ s.references) × ((closed s made).todo ≡ s.todo)
+    × ((closed s made).buffers ≡ s.buffers)
 unfolding closed
-closed-same s made = (refl, refl, refl, refl)
+closed-same s made = (refl, refl, refl, refl, refl)
 
 pub serve-made : (seat : ℕ) (c : Bool) (f : Frame) → (cond c (serve seat f) f).made ≡ f.made
 serve-made seat c f = search arith

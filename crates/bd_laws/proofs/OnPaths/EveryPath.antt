@@ -5,6 +5,7 @@ use Rattle.std.proofs.Common.{arith, ◌≡◌, ℕ, ◌-◌, suc, refl, sym, su
 use Rattle.bd_space.specs.declared.space.WorkKind.TheVariants as work
 use Rattle.bd_laws.specs.Frames.{OnPaths}
 use Rattle.bd_laws.proofs.Machine.EveryStep.{KeepsWhole, every_whole_step}
+use Rattle.bd_laws.proofs.Machine.Steps.{next-steps}
 use Rattle.bd_laws.proofs.IsInTurn.OneWay as one_way
 use Rattle.bd_laws.proofs.IsInTurn.OneWay.{less_table, Less, HandsNothing, owe-less}
 use Rattle.bd_laws.proofs.Machine.Table.{Table, SameFrames, Any, frames_table, table-both, set_up-by, changes-but}
@@ -49,10 +50,10 @@ module _ (s : Space) (h : OnPaths s.steps s) where
     abandons = λ z f e k. abandons (suc s.steps) z f e k;
   }
 
-pub next-on_paths : (s : Space) (e : Entry) → (next s e).steps ≡ suc s.steps → OnPaths s.steps s → OnPaths (next s e).steps (next s e)
+pub next-on_paths : (s : Space) (e : Entry) → OnPaths s.steps s → OnPaths (next s e).steps (next s e)
 unfolding counted
-next-on_paths s e steps h =
-    subst (λ n. OnPaths n (change s e.seat e.step).space) (sym steps)
+next-on_paths s e h =
+    subst (λ n. OnPaths n (change s e.seat e.step).space) (sym (next-steps s e))
     (every_whole_step s e.seat e.step (OnPaths (suc s.steps)) (OnPaths (suc s.steps)) (kept s h e.seat e.step))
 
 pub opening-on_paths : OnPaths 0 opening

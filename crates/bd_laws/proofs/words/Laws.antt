@@ -2,7 +2,7 @@
 unfoldable pub use Rattle.bd_laws.specs.Frames.{IsFramed}
 pub use Rattle.bd_laws.specs.Frames.{Forest, Framed, Nested, NoChild, OfOthers, Older, OnPaths, OtherFrame, Parent, Part, Waiting}
 unfoldable pub use Rattle.bd_laws.specs.Items.{IsQueued}
-pub use Rattle.bd_laws.specs.Items.{AllInWindows, AllSit, AtHome, Distinct, Fresh, Homed, IsInWindows, OtherDeath, OtherNotification, OtherSeat, Queues, Told}
+pub use Rattle.bd_laws.specs.Items.{AllInWindows, AllSit, Apart, AtHome, Distinct, Fresh, Homed, IsInWindows, Once, OtherDeath, OtherNotification, OtherSeat, Queues, Told}
 pub use Rattle.bd_laws.specs.Laws.{is_out, out_on}
 pub use Rattle.bd_laws.specs.Lists.{In, Pairs}
 pub use Rattle.bd_laws.specs.Objects.{Differ, Earlier, Here, Kept, KeptBefore, Named, NotLater, is_earlier}

@@ -2,11 +2,12 @@ use Rattle.std.proofs.Common.{refl, sym, subst}
 use Rattle.bd_space.specs.Histories.{space_after}
 use Rattle.bd_engine.specs.declared.tables.Tables.{Tables}
 use Rattle.bd_engine.specs.Stands.{Before}
-use Rattle.bd_engine.proofs.Keeping.{follows-kept, ready-kept}
+use Rattle.bd_engine.proofs.Keeping.{follows-kept}
+use Rattle.bd_engine.proofs.Changing.{with-calls}
 use Rattle.bd_engine.proofs.live.Live.keep_ready.Goals as goal
 
 pub returns-clause-follows : goal.returns-clause-follows
 returns-clause-follows c = λ h follows.
     let s = space_after h in
     let before = subst (λ (t : Tables). Before t s) (sym c.deref_mut-tables.ensures.value) follows.stands in
-    follows-kept h c.args.self.now _ follows refl (ready-kept _ c.keep_ready.new.self s before (c.keep_ready.ensures.stands s before.calls_stand))
+    follows-kept h c.args.self.now _ follows refl (with-calls s.steps _ s c.keep_ready.new.self s.threads s.frames s.todo before (c.keep_ready.ensures.stands s before.calls_stand))

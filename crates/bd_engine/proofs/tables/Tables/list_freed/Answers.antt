@@ -4,9 +4,10 @@ use Rattle.bd_space.specs.declared.step.Step.TheVariants as step_of
 use Rattle.bd_space.specs.Histories.{space_after}
 use Rattle.bd_space.specs.Steps.{change}
 use Rattle.bd_buffers.proofs.WindowLaws.{stands_in}
+use Rattle.bd_laws.proofs.Checks.{actor-acts}
 use Rattle.bd_laws.proofs.Lists.{at-pairs}
 use Rattle.bd_engine.specs.Ending.{HasEndings}
-use Rattle.bd_engine.proofs.Ending.{Earlier, own-process, nobody-frees, somebody-frees, free-ended, unfound-ended}
+use Rattle.bd_engine.proofs.Ending.{Earlier, nobody-frees, somebody-frees, free-ended, unfound-ended}
 use Rattle.bd_engine.proofs.tables.Tables.list_freed.Goals as goal
 
 pub returns-in_default : goal.returns-in_default
@@ -20,7 +21,7 @@ returns-in_default-at_pointer c = λ h parcel before.
     let s = space_after h in
     let a = c.in-Some.a in
     let acts = sym (c.in-Some.ensures.found s.steps s before) in
-    let found = sym (c.in_default-at_pointer.ensures.found s a.process (stands_in c.args.self.now.windows s before.windows_stand) (own-process s c.args.seat a acts)) in
+    let found = sym (c.in_default-at_pointer.ensures.found s a.process (stands_in c.args.self.now.windows s before.windows_stand) (actor-acts s c.args.seat a acts).found) in
     subst (λ (ps : List ℕ). HasEndings ps s (change s c.args.seat (step_of.Command (bc.FreeBuffer c.args.pointer) parcel)).space) (sym c.requires.none)
     (somebody-frees s c.args.seat c.args.pointer parcel a [] acts (unfound-ended s a.process.made c.args.pointer found))
 
@@ -30,7 +31,7 @@ returns-in_ok-push c = λ h parcel before.
     let a = c.in-Some.a in
     let b = c.in-Some-at_pointer.b.now in
     let acts = sym (c.in-Some.ensures.found s.steps s before) in
-    let found = sym (c.in-Some-at_pointer.ensures.found s a.process (stands_in c.args.self.now.windows s before.windows_stand) (own-process s c.args.seat a acts)) in
+    let found = sym (c.in-Some-at_pointer.ensures.found s a.process (stands_in c.args.self.now.windows s before.windows_stand) (actor-acts s c.args.seat a acts).found) in
     let is = c.in_ok-push.ensures.items ∙ ap (λ ps. ps ++ b.made ∷ []) c.requires.none in
     subst (λ (ps : List ℕ). HasEndings ps s (change s c.args.seat (step_of.Command (bc.FreeBuffer c.args.pointer) parcel)).space) (sym is)
     (somebody-frees s c.args.seat c.args.pointer parcel a (b.made ∷ []) acts

@@ -1,4 +1,4 @@
-use Rattle.std.proofs.Common.{List, ap, sym, subst, ◌∙◌}
+use Rattle.std.proofs.Common.{List, ap, sym, subst, ◌∙◌, ◌+◌}
 use Rattle.bd_space.specs.declared.space.Object.{Object}
 use Rattle.bd_space.specs.declared.space.Work.{Work}
 use Rattle.bd_space.specs.Words.{same}
@@ -9,6 +9,7 @@ use Rattle.bd_laws.proofs.Lists.{find-in}
 use Rattle.bd_laws.proofs.Tests.{same-eq}
 use Rattle.bd_engine.specs.Stands.{Within}
 use Rattle.bd_engine.specs.Following.{told_of}
+use Rattle.bd_engine.proofs.Changing.{with-calls}
 use Rattle.bd_engine.proofs.FollowingObjects.{owner-told, told-owner, told-nobody}
 use Rattle.bd_engine.proofs.tables.Tables.tell_owner.Goals as goal
 
@@ -19,12 +20,9 @@ returns-in-Some-clause-stands c = λ s is h.
     let t = owner-told (object_in s.objects o) (wants_notice s.processes s.references) c.in-Some.p (sym is ∙ c.in-Some.is) in
     let found = find-in (λ (x : Object). same x.id o) t.0 s.objects t.1 in
     let told = ap (λ (ws : List Work). let y : Space = record s { todo = ws } in y) (told-owner s s.todo o t.0 c.in-Some.p t.1 t.3) in
-    subst (Within _) told (record {
-      own = h.own;
-      objects_stand = h.objects_stand;
-      calls_stand = c.add_notice.ensures.stands s t.0 h.calls_stand h.own.steps_are (same-eq t.0.id o found.1) (sym t.2);
-      windows_stand = h.windows_stand;
-    })
+    subst (Within _) told
+    (with-calls (s.steps + 1) _ s c.add_notice.new.self s.threads s.frames _ h
+    (c.add_notice.ensures.stands s t.0 h.calls_stand h.own.steps_are (same-eq t.0.id o found.1) (sym t.2)))
 
 pub returns-in_default-clause-stands : goal.returns-in_default-clause-stands
 unfolding told_of
