@@ -5,8 +5,7 @@ ghost use Rattle.bd_uapi.specs.Limits.{IsSeats};
 ghost use Rattle.bd_uapi.specs.declared.fault.Fault.TheVariants as faults;
 ghost use Rattle.bd_space.specs.Histories.{IsHistory, space_after, history_in};
 ghost use Rattle.bd_engine.specs.Looks as looks;
-ghost use Rattle.bd_audit.specs.Replays.{with_entry};
-ghost use Rattle.bd_audit.specs.Gifts.{IsChainOf};
+ghost use Rattle.bd_audit.specs.{Replays.{with_entry}, Gifts.{IsChainOf}};
 ghost use Rattle.bd_audit.specs.GiftSearch as spec;
 
 use crate::playing::advance;

@@ -1,14 +1,10 @@
 //! The laws of every history: each is the contract of a function that does nothing.
 
 ghost use Rattle.bd_audit.specs.Laws.{OneAtATime, ObjectsAreKept, GoneUnheld, OneWayCallsAreDueInTurn};
-ghost use Rattle.bd_audit.specs.Gifts.{NamesHaveGiftChains};
-ghost use Rattle.bd_audit.specs.Replies.{RepliesReachTheirCallers};
-ghost use Rattle.bd_audit.specs.Paths.{FramesLieOnOnePath};
-ghost use Rattle.bd_audit.specs.Latest.{RepliesAnswerTheLatestOpenCall};
-ghost use Rattle.bd_audit.specs.Ending.{CallsEndLatestFirst};
-ghost use Rattle.bd_audit.specs.Streams.{StreamsSpellTheirItems};
-ghost use Rattle.bd_audit.specs.HandedReplies.{RepliesAreHandedOut};
-ghost use Rattle.bd_audit.specs.TurnCalls.{TurnsAreTaken, TurnsTellOfCalls};
+ghost use Rattle.bd_audit.specs.{Gifts.{NamesHaveGiftChains}, Replies.{RepliesReachTheirCallers}};
+ghost use Rattle.bd_audit.specs.{Paths.{FramesLieOnOnePath}, Latest.{RepliesAnswerTheLatestOpenCall}};
+ghost use Rattle.bd_audit.specs.{Ending.{CallsEndLatestFirst}, Streams.{StreamsSpellTheirItems}};
+ghost use Rattle.bd_audit.specs.{HandedReplies.{RepliesAreHandedOut}, TurnCalls.{TurnsAreTaken, TurnsTellOfCalls}};
 ghost use Rattle.bd_audit.specs.Hearing.{NoticesAreDue, OnlyOwnersHear, OwnersHearInOrder};
 
 /// Of the one-way calls of one object whose buffers live, one at most is due or handed out.

@@ -1,8 +1,7 @@
 //! The one-way calls on an object, turn by turn.
 
 ghost use Rattle.std.specs.Prelude.{◌≡◌, ◌≤◌, true, map, take, length, IfOk, IfErr, MatchResult};
-ghost use Rattle.std.specs.List.{filter_map, list_all};
-ghost use Rattle.std.specs.Option.{option_to_list};
+ghost use Rattle.std.specs.{List.{filter_map, list_all}, Option.{option_to_list}};
 ghost use Rattle.bd_uapi.specs.Limits.{IsSeats};
 ghost use Rattle.bd_uapi.specs.declared.fault.Fault.TheVariants as faults;
 ghost use Rattle.bd_space.specs.Histories.{IsHistory, space_after, history_in};

@@ -1,7 +1,6 @@
 //! The calls of a seat, whose answers it keeps.
 ghost use Rattle.std.specs.Prelude.{◌≡◌, Some};
-ghost use Rattle.bd_c.specs.Told.{told_of};
-ghost use Rattle.bd_c.specs.Seats.{Stays, Asks, Looks, Posts, Serves, Collects, Withdraws};
+ghost use Rattle.bd_c.specs.{Told.{told_of}, Seats.{Stays, Asks, Looks, Posts, Serves, Collects, Withdraws}};
 
 use crate::answers::Told;
 use crate::seat::OwnedSeat;

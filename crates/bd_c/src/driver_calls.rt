@@ -1,10 +1,7 @@
 //! What C calls of a driver.
 ghost use Rattle.std.specs.Prelude.{◌≡◌, Some, None};
-ghost use Rattle.bd_c.specs.declared.held.Held.{Held};
-ghost use Rattle.bd_c.specs.Status.{Reports};
-ghost use Rattle.bd_c.specs.Behind.{Of, IsDriver, IsEnded, history_of};
-ghost use Rattle.bd_c.specs.Drivers.{IsOwn, OpensAt, HandsAt, ReturnsAt, Finishes};
-ghost use Rattle.bd_c.specs.Journals.{Journals, Judges};
+ghost use Rattle.bd_c.specs.{declared.held.Held.{Held}, Status.{Reports}, Behind.{Of, IsDriver, IsEnded, history_of}};
+ghost use Rattle.bd_c.specs.{Drivers.{IsOwn, OpensAt, HandsAt, ReturnsAt, Finishes}, Journals.{Journals, Judges}};
 
 use crate::handles::Handle;
 use crate::held::Held;

@@ -1,11 +1,8 @@
 //! What C calls of a seat to hand requests over, and to serve those of others.
 ghost use Rattle.std.specs.Prelude.{◌≡◌};
 ghost use Rattle.bd_driver.specs.declared.outcome.Served.{Served};
-ghost use Rattle.bd_c.specs.Status.{Reports};
-ghost use Rattle.bd_c.specs.Behind.{IsSeat};
-ghost use Rattle.bd_c.specs.Seats.{OverSeat, Serves, Collects, Withdraws};
-ghost use Rattle.bd_c.specs.Requests.{PostsGiven};
-ghost use Rattle.bd_c.specs.Serving.{TellsServed};
+ghost use Rattle.bd_c.specs.{Status.{Reports}, Behind.{IsSeat}, Seats.{OverSeat, Serves, Collects, Withdraws}};
+ghost use Rattle.bd_c.specs.{Requests.{PostsGiven}, Serving.{TellsServed}};
 
 use crate::answers::Told;
 use crate::handles::Handle;

@@ -1,7 +1,6 @@
 //! What C has of a driver or of a seat: a pointer, or null where there is none.
 ghost use Rattle.std.specs.Prelude.{Option};
-ghost use Rattle.bd_c.specs.declared.held.Held.{Held};
-ghost use Rattle.bd_c.specs.Owned.{coded_held};
+ghost use Rattle.bd_c.specs.{declared.held.Held.{Held}, Owned.{coded_held}};
 
 use std::marker::Model;
 

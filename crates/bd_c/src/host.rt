@@ -1,6 +1,5 @@
 //! A driver, with the seats that nobody has taken.
-ghost use Rattle.std.specs.Prelude.{◌≡◌, All};
-ghost use Rattle.std.specs.Arc.{arc_value};
+ghost use Rattle.std.specs.{Prelude.{◌≡◌, All}, Arc.{arc_value}};
 
 use bd_driver::{Driver, Seat};
 use std::sync::Arc;

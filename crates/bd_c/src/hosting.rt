@@ -1,6 +1,5 @@
 //! What a driver's handle is for: seats are taken, and come back, and then there is its history.
-ghost use Rattle.std.specs.Prelude.{◌≡◌, true, IfOk, IfErr};
-ghost use Rattle.std.specs.Arc.{arc_value};
+ghost use Rattle.std.specs.{Prelude.{◌≡◌, true, IfOk, IfErr}, Arc.{arc_value}};
 ghost use Rattle.bd_c.specs.Hosts.{Opens, IsRefusal, Hands, Keeps, has_room, TakesBack, Ends};
 
 use crate::host::Host;

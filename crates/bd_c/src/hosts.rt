@@ -1,8 +1,6 @@
 //! A new driver, and the history of one that has ended, as they come behind a handle.
 ghost use Rattle.std.specs.Prelude.{Some, IfOk, IfErr};
-ghost use Rattle.bd_c.specs.Behind.{Of, IsDriver, driver_of};
-ghost use Rattle.bd_c.specs.Hosts.{Opens, IsRefusal};
-ghost use Rattle.bd_c.specs.Drivers.{Finishes};
+ghost use Rattle.bd_c.specs.{Behind.{Of, IsDriver, driver_of}, Hosts.{Opens, IsRefusal}, Drivers.{Finishes}};
 ghost use Rattle.bd_c.specs.declared.held.Held.TheVariants.{Driver};
 
 use crate::held::Held;

@@ -1,15 +1,11 @@
 //! What is behind a handle, lent to a call.
-ghost use Rattle.std.specs.Prelude.{◌≡◌, Some};
-ghost use Rattle.std.specs.Borrow.{sem};
+ghost use Rattle.std.specs.{Prelude.{◌≡◌, Some}, Borrow.{sem}};
 ghost use Rattle.bd_space.specs.contracts.record.Record.{the_row as record_row};
-ghost use Rattle.bd_c.specs.declared.held.Held.{Held};
-ghost use Rattle.bd_c.specs.declared.held.Held.TheVariants.{Driver, History, Live, Seat};
-ghost use Rattle.bd_c.specs.contracts.held.Held.{the_row as held_row};
-ghost use Rattle.bd_c.specs.contracts.host.Host.{the_row as host_row};
+ghost use Rattle.bd_c.specs.{declared.held.Held.{Held}, declared.held.Held.TheVariants.{Driver, History, Live, Seat}};
+ghost use Rattle.bd_c.specs.{contracts.held.Held.{the_row as held_row}, contracts.host.Host.{the_row as host_row}};
 ghost use Rattle.bd_c.specs.contracts.live.OwnedLive.{the_row as live_row};
 ghost use Rattle.bd_c.specs.contracts.seat.OwnedSeat.{the_row as seat_row};
-ghost use Rattle.bd_c.specs.Behind.{IsDriver, IsEnded, IsLive, IsSeat};
-ghost use Rattle.bd_c.specs.Lending.{LendsAs};
+ghost use Rattle.bd_c.specs.{Behind.{IsDriver, IsEnded, IsLive, IsSeat}, Lending.{LendsAs}};
 
 use crate::handles::Handle;
 use crate::held::Held;

@@ -1,10 +1,7 @@
 //! What C calls of a live engine: one handle, with which all seats' steps are made.
 ghost use Rattle.std.specs.Prelude.{◌≡◌, None};
 ghost use Rattle.bd_space.specs.declared.step.Step.TheVariants.{Open, Attach, SetManager, Read, ExitThread, ExitProcess};
-ghost use Rattle.bd_c.specs.Status.{Reports};
-ghost use Rattle.bd_c.specs.Behind.{IsLive};
-ghost use Rattle.bd_c.specs.Flags.{StepsSpam};
-ghost use Rattle.bd_c.specs.Lives.{LiveOpensAt, StepsAt};
+ghost use Rattle.bd_c.specs.{Status.{Reports}, Behind.{IsLive}, Flags.{StepsSpam}, Lives.{LiveOpensAt, StepsAt}};
 ghost use Rattle.bd_c.specs.LiveCommands.{Commands};
 
 use crate::answers::Told;

@@ -1,9 +1,7 @@
 //! The latest entry of a live engine: what a read got, and its bytes for a journal.
 ghost use Rattle.std.specs.Prelude.{◌≡◌};
-ghost use Rattle.bd_journal.specs.Spelling.{heading_bytes};
-ghost use Rattle.bd_journal.specs.Writing.{IsHeading};
-ghost use Rattle.bd_c.specs.LiveEntries.{got_of, IsSpelled, spelled};
-ghost use Rattle.bd_c.specs.Parts.{Tells};
+ghost use Rattle.bd_journal.specs.{Spelling.{heading_bytes}, Writing.{IsHeading}};
+ghost use Rattle.bd_c.specs.{LiveEntries.{got_of, IsSpelled, spelled}, Parts.{Tells}};
 
 use crate::live::OwnedLive;
 use crate::parts::tell_written;

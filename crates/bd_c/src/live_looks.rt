@@ -2,13 +2,9 @@
 ghost use Rattle.std.specs.Prelude.{◌≡◌, Some, None, length};
 ghost use Rattle.bd_space.specs.Histories.{History, space_after, is_ready};
 ghost use Rattle.bd_engine.specs.Follows.{Follows};
-ghost use Rattle.bd_journal.specs.Spelling.{heading_bytes};
-ghost use Rattle.bd_journal.specs.Writing.{IsHeading};
-ghost use Rattle.bd_c.specs.declared.held.Held.{Held};
-ghost use Rattle.bd_c.specs.Behind.{Of, IsLive, live_of};
-ghost use Rattle.bd_c.specs.Status.{Reports};
-ghost use Rattle.bd_c.specs.Parts.{Fetches, Tells};
-ghost use Rattle.bd_c.specs.LiveEntries.{got_of, IsSpelled, spelled};
+ghost use Rattle.bd_journal.specs.{Spelling.{heading_bytes}, Writing.{IsHeading}};
+ghost use Rattle.bd_c.specs.{declared.held.Held.{Held}, Behind.{Of, IsLive, live_of}, Status.{Reports}};
+ghost use Rattle.bd_c.specs.{Parts.{Fetches, Tells}, LiveEntries.{got_of, IsSpelled, spelled}};
 
 use crate::handles::Handle;
 use crate::live_entries::got_of;

@@ -1,9 +1,6 @@
 //! What C is told beside the answer of a step: which buffers ended by it, and which seats have come to be ready or unready.
 ghost use Rattle.std.specs.Prelude.{◌≡◌};
-ghost use Rattle.bd_c.specs.Behind.{Of, Over, IsLive, live_of};
-ghost use Rattle.bd_c.specs.Status.{Reports};
-ghost use Rattle.bd_c.specs.Parts.{Fetches};
-ghost use Rattle.bd_c.specs.LivePolls.{Polls};
+ghost use Rattle.bd_c.specs.{Behind.{Of, Over, IsLive, live_of}, Status.{Reports}, Parts.{Fetches}, LivePolls.{Polls}};
 
 use crate::handles::Handle;
 use crate::live::OwnedLive;

@@ -1,7 +1,6 @@
 //! A new live engine, as it comes behind a handle.
 ghost use Rattle.std.specs.Prelude.{Some, IfOk, IfErr};
-ghost use Rattle.bd_c.specs.Behind.{Of, live_of};
-ghost use Rattle.bd_c.specs.Lives.{Begins, IsLiveRefusal};
+ghost use Rattle.bd_c.specs.{Behind.{Of, live_of}, Lives.{Begins, IsLiveRefusal}};
 
 use crate::held::Held;
 use crate::live::OwnedLive;

@@ -1,7 +1,6 @@
 //! What is behind a handle, taken out and put back.
 ghost use Rattle.std.specs.Prelude.{◌≡◌, Some, None, IfOk, IfErr};
-ghost use Rattle.bd_c.specs.declared.held.Held.{Held};
-ghost use Rattle.bd_c.specs.declared.status.Status.TheVariants.{NoMemory};
+ghost use Rattle.bd_c.specs.{declared.held.Held.{Held}, declared.status.Status.TheVariants.{NoMemory}};
 
 use crate::handles::Handle;
 use crate::held::Held;

@@ -1,8 +1,7 @@
 //! What C hands over, as a request.
 ghost use Rattle.std.specs.Prelude.{◌≡◌, Some, IfOk, IfErr};
 ghost use Rattle.bd_space.specs.declared.step.Request.TheVariants.{Write};
-ghost use Rattle.bd_c.specs.Requests.{request_of, IsNoRequest};
-ghost use Rattle.bd_c.specs.Flags.{flag_of, IsNoFlag};
+ghost use Rattle.bd_c.specs.{Requests.{request_of, IsNoRequest}, Flags.{flag_of, IsNoFlag}};
 
 use crate::status::Status;
 use bd_space::{Bytes, Request};

@@ -1,6 +1,5 @@
 //! A seat that was taken off a driver.
-ghost use Rattle.std.specs.Prelude.{◌≡◌};
-ghost use Rattle.std.specs.Arc.{arc_value};
+ghost use Rattle.std.specs.{Prelude.{◌≡◌}, Arc.{arc_value}};
 
 use bd_driver::{Driver, Outcome, Seat};
 use std::sync::Arc;

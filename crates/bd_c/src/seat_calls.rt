@@ -1,13 +1,10 @@
 //! What C calls of a seat.
 ghost use Rattle.std.specs.Prelude.{◌≡◌};
 ghost use Rattle.bd_space.specs.declared.step.Request.TheVariants.{Open, Attach, SetManager, Write, Read, ExitThread, ExitProcess};
-ghost use Rattle.bd_c.specs.Status.{Reports};
-ghost use Rattle.bd_c.specs.Behind.{Of, IsSeat, seat_of};
-ghost use Rattle.bd_c.specs.Flags.{AsksSpam};
-ghost use Rattle.bd_c.specs.Seats.{OverSeat, AsksAt, Looks};
-ghost use Rattle.bd_c.specs.Parts.{bytes_of, notes_of, Fetches, TellsNote};
-ghost use Rattle.bd_driver.specs.declared.page.Page.{Page};
+ghost use Rattle.bd_c.specs.{Status.{Reports}, Behind.{Of, IsSeat, seat_of}, Flags.{AsksSpam}};
+ghost use Rattle.bd_c.specs.{Seats.{OverSeat, AsksAt, Looks}, Parts.{bytes_of, notes_of, Fetches, TellsNote}};
 ghost use Rattle.bd_c.specs.Pages.{page_told};
+ghost use Rattle.bd_driver.specs.declared.page.Page.{Page};
 
 use crate::answers::Told;
 use crate::handles::Handle;

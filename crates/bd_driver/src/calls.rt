@@ -1,11 +1,8 @@
 //! Calls: a seat takes the engine, runs its request, publishes, and puts the engine home.
 ghost use Rattle.std.specs.Prelude.{◌≡◌, ◌<◌, [], ◌∷◌, true, false};
 ghost use Rattle.atomic_table.specs.Table.{rest};
-ghost use Rattle.bd_driver.specs.Views.{view_of};
-ghost use Rattle.bd_driver.specs.Rest.{is_waiting};
-ghost use Rattle.bd_driver.specs.declared.view.Handover.TheVariants.{Open};
-ghost use Rattle.bd_driver.specs.declared.view.Pick.TheVariants.{Nothing};
-ghost use Rattle.bd_driver.specs.declared.slot.Slot.TheVariants.{Empty};
+ghost use Rattle.bd_driver.specs.{Views.{view_of}, Rest.{is_waiting}, declared.view.Handover.TheVariants.{Open}};
+ghost use Rattle.bd_driver.specs.{declared.view.Pick.TheVariants.{Nothing}, declared.slot.Slot.TheVariants.{Empty}};
 
 use crate::driver::Driver;
 use crate::outcome::{Outcome, Why};

@@ -1,8 +1,7 @@
 //! The end of a driver: its seats are gathered, and its slots emptied.
 ghost use Rattle.std.specs.Prelude.{◌≡◌, ◌<◌, [], ◌∷◌, false, ℕ, All, IsTrue, slice_index_or};
 ghost use Rattle.std.specs.Slots.{slots_len, slots_filled};
-ghost use Rattle.bd_driver.specs.Views.{Each, Idle};
-ghost use Rattle.bd_driver.specs.Together.{views_of, closed_view};
+ghost use Rattle.bd_driver.specs.{Views.{Each, Idle}, Together.{views_of, closed_view}};
 
 use crate::driver::DriverTable;
 use crate::plays::{Gather, Shut};

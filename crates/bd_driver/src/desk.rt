@@ -9,10 +9,8 @@ use bd_space::Request;
 pub trait Desk {
     ghost use Rattle.std.specs.Prelude.{◌≡◌, ℕ, true, false};
     ghost use Rattle.atomic_table.specs.Seated.{TableId};
-    ghost use Rattle.bd_driver.specs.Rest.{is_waiting};
-    ghost use Rattle.bd_driver.specs.Driver.{LooksOnce, Calls};
-    ghost use Rattle.bd_driver.specs.Handing.{Posts, Withdraws, Collects};
-    ghost use Rattle.bd_driver.specs.Served.{Serves};
+    ghost use Rattle.bd_driver.specs.{Rest.{is_waiting}, Driver.{LooksOnce, Calls}};
+    ghost use Rattle.bd_driver.specs.{Handing.{Posts, Withdraws, Collects}, Served.{Serves}};
 
     ghost table: { Self → TableId };
 

@@ -17,8 +17,7 @@ use std::marker::Model;
 pub(crate) struct OneHistory;
 
 impl TableRule<Slot, LinkedList<View>, u32> for OneHistory {
-    ghost use Rattle.bd_driver.specs.Rule.{Kept};
-    ghost use Rattle.bd_driver.specs.Views.{newcomers};
+    ghost use Rattle.bd_driver.specs.{Rule.{Kept}, Views.{newcomers}};
 
     ghost holds = { λ seats s. Kept seats s };
 

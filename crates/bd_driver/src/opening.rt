@@ -1,8 +1,7 @@
 //! A new driver, and its seats.
 ghost use Rattle.std.specs.Prelude.{◌≡◌, ◌+◌, ◌<◌, ◌≤◌, [], ◌∷◌, suc, All, IfOk, IfErr, vec_len, vec_capacity, replicate};
 ghost use Rattle.bd_uapi.specs.Limits.{IsSeats};
-ghost use Rattle.bd_driver.specs.Views.{fresh, seated, newcomers};
-ghost use Rattle.bd_driver.specs.Together.{seat_state, new_seats};
+ghost use Rattle.bd_driver.specs.{Views.{fresh, seated, newcomers}, Together.{seat_state, new_seats}};
 ghost use Rattle.bd_driver.specs.declared.slot.Slot.TheVariants.{Home, Empty};
 
 use crate::driver::{Driver, DriverTable};

@@ -1,7 +1,6 @@
 //! The page: one word that tells how long the history is, which seats are ready, and whether the engine is taken.
 ghost use Rattle.std.specs.Prelude.{◌≡◌, ◌==◌, ◌<◌, ◌/◌, ◌%◌, length};
-ghost use Rattle.bd_driver.specs.Views.{ready_of};
-ghost use Rattle.bd_driver.specs.Words.{page_word};
+ghost use Rattle.bd_driver.specs.{Views.{ready_of}, Words.{page_word}};
 
 use bd_engine::Engine;
 

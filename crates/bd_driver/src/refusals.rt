@@ -1,7 +1,6 @@
 //! What the engine's answer means to the one who asked.
 ghost use Rattle.std.specs.Prelude.{◌≡◌, MatchResult};
-ghost use Rattle.bd_driver.specs.Reasons.{reason_of};
-ghost use Rattle.bd_driver.specs.declared.outcome.Outcome.TheVariants.{Done, Back};
+ghost use Rattle.bd_driver.specs.{Reasons.{reason_of}, declared.outcome.Outcome.TheVariants.{Done, Back}};
 
 use crate::outcome::{Outcome, Why};
 use bd_engine::{Ran, Why as Refused};

@@ -19,9 +19,7 @@ pub struct Seat {
 }
 
 impl Model for Seat {
-    ghost use Rattle.bd_driver.specs.States.{SeatState};
-    ghost use Rattle.bd_driver.specs.Views.{view_of};
-    ghost use Rattle.bd_driver.specs.Rest.{IsAtRest};
+    ghost use Rattle.bd_driver.specs.{States.{SeatState}, Views.{view_of}, Rest.{IsAtRest}};
 
     ghost Value = { SeatState };
 

@@ -1,5 +1,4 @@
-ghost use Rattle.std.specs.Prelude.{◌≡◌, IfOk, IfSome, All};
-ghost use Rattle.std.specs.Thread.{IsSync};
+ghost use Rattle.std.specs.{Prelude.{◌≡◌, IfOk, IfSome, All}, Thread.{IsSync}};
 
 use crate::{Driver, Outcome, Page, Seat, Served, Why};
 use bd_space::{Answer, Record, Request};

@@ -1,27 +1,20 @@
 //! Buffers: a delivery's bytes as the receiver sees them, and the step of `BC_FREE_BUFFER`.
 
-ghost use Rattle.std.specs.Prelude.{◌≡◌, ◌+◌, ◌≤◌, All, IfOk, length, Some};
-ghost use Rattle.std.specs.Option.{option_copied};
-ghost use Rattle.bd_space.specs.Space.{Space};
-ghost use Rattle.bd_space.specs.Seats.{process_in};
+ghost use Rattle.std.specs.{Prelude.{◌≡◌, ◌+◌, ◌≤◌, All, IfOk, length, Some}, Option.{option_copied}};
+ghost use Rattle.bd_space.specs.{Space.{Space}, Seats.{process_in}};
 ghost use Rattle.bd_space.specs.Windows as room;
 ghost use Rattle.bd_space.specs.Turns as turns;
 ghost use Rattle.bd_space.specs.Delivery as delivery;
 ghost use Rattle.bd_space.specs.Translation as translations;
 ghost use Rattle.bd_space.specs.declared.space.Process.{Process};
 ghost use Rattle.bd_space.specs.Freeing as freeing;
-ghost use Rattle.bd_space.specs.Outcomes.{completed};
-ghost use Rattle.bd_space.specs.Local.{is_among};
-ghost use Rattle.bd_laws.specs.Lists.{Pairs};
-ghost use Rattle.bd_laws.specs.Objects.{NotLater};
+ghost use Rattle.bd_space.specs.{Outcomes.{completed}, Local.{is_among}};
+ghost use Rattle.bd_laws.specs.{Lists.{Pairs}, Objects.{NotLater}};
 ghost use Rattle.bd_calls.specs.Room as call_rooms;
-ghost use Rattle.bd_buffers.specs.WindowsStand.{CanAdd, buffer_room};
-ghost use Rattle.bd_buffers.specs.Buffer.{freed_buffer};
+ghost use Rattle.bd_buffers.specs.{WindowsStand.{CanAdd, buffer_room}, Buffer.{freed_buffer}};
 ghost use Rattle.bd_engine.specs.Freed as freed;
 ghost use Rattle.bd_engine.specs.Stands.{Before, Within, Tells, TellsWithin, CanFollow, MakesWithin, UsesNothing};
-ghost use Rattle.bd_engine.specs.Following.{AreTouched};
-ghost use Rattle.bd_engine.specs.Meets.{IsBy, IsKept, IsStep};
-ghost use Rattle.bd_engine.specs.Deliveries.{IsInside, Spends};
+ghost use Rattle.bd_engine.specs.{Following.{AreTouched}, Meets.{IsBy, IsKept, IsStep}, Deliveries.{IsInside, Spends}};
 
 use crate::answer::Plain;
 use crate::tables::{NOTHING, Tables};

@@ -2,10 +2,8 @@
 
 ghost use Rattle.std.specs.Prelude.{◌≤◌, length};
 ghost use Rattle.bd_space.specs.Local.{close_up, close_among};
-ghost use Rattle.bd_calls.specs.Closing.{is_place_among};
-ghost use Rattle.bd_calls.specs.Room.{work_room, frame_count};
-ghost use Rattle.bd_engine.specs.Stands.{Uses, MakesWithin};
-ghost use Rattle.bd_engine.specs.Freed.{ripen_next};
+ghost use Rattle.bd_calls.specs.{Closing.{is_place_among}, Room.{work_room, frame_count}};
+ghost use Rattle.bd_engine.specs.{Stands.{Uses, MakesWithin}, Freed.{ripen_next}};
 
 use crate::tables::Tables;
 use bd_space::ObjectId;

@@ -12,11 +12,9 @@ ghost use Rattle.bd_space.specs.Space.{Space};
 ghost use Rattle.bd_space.specs.ProcessExits as exits;
 ghost use Rattle.bd_space.specs.Tables.{MakesWhere};
 ghost use Rattle.bd_deaths.specs.Due.{is_due};
-ghost use Rattle.bd_objects.specs.Room.{death_room};
-ghost use Rattle.bd_objects.specs.New.{IsNewDeath};
+ghost use Rattle.bd_objects.specs.{Room.{death_room}, New.{IsNewDeath}};
 ghost use Rattle.bd_calls.specs.Room.{work_room};
-ghost use Rattle.bd_engine.specs.Stands.{Uses, Within, MakesWithin, UsesNothing};
-ghost use Rattle.bd_engine.specs.Meets.{IsBy, IsStep};
+ghost use Rattle.bd_engine.specs.{Stands.{Uses, Within, MakesWithin, UsesNothing}, Meets.{IsBy, IsStep}};
 ghost use Rattle.bd_engine.specs.Telling.{owed};
 
 use crate::answer::Plain;

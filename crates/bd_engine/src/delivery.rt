@@ -3,22 +3,18 @@
 
 ghost use Rattle.std.specs.Prelude.{◌≡◌, ◌+◌, ◌≤◌, IfOk, OnOk, OnErr, length, Some, None, map, fold, not, ◌&&◌, if◌then◌else◌};
 ghost use Rattle.bd_uapi.specs.Kinds as kinds;
-ghost use Rattle.bd_space.specs.References.{object_in};
-ghost use Rattle.bd_space.specs.Space.{Space};
-ghost use Rattle.bd_space.specs.Seats.{process_in};
+ghost use Rattle.bd_space.specs.{References.{object_in}, Space.{Space}, Seats.{process_in}};
 ghost use Rattle.bd_space.specs.Windows as room;
 ghost use Rattle.bd_space.specs.Words as words;
 ghost use Rattle.bd_space.specs.Parcels as parcels;
 ghost use Rattle.bd_space.specs.Names.{names_go};
 ghost use Rattle.bd_space.specs.Delivery as spec;
 ghost use Rattle.bd_space.specs.Translation as translations;
-ghost use Rattle.bd_space.specs.Local.{objects_of_items};
+ghost use Rattle.bd_space.specs.{Local.{objects_of_items}, Tables.{MakesWhere}};
 ghost use Rattle.bd_objects.specs.Room as object_rooms;
 ghost use Rattle.bd_calls.specs.Room as call_rooms;
 ghost use Rattle.bd_buffers.specs.WindowsStand.{CanAdd, buffer_room};
-ghost use Rattle.bd_space.specs.Tables.{MakesWhere};
-ghost use Rattle.bd_engine.specs.Stands.{Before, Tells, Makes, Begins, PassesLimit};
-ghost use Rattle.bd_engine.specs.Meets.{IsKept};
+ghost use Rattle.bd_engine.specs.{Stands.{Before, Tells, Makes, Begins, PassesLimit}, Meets.{IsKept}};
 ghost use Rattle.bd_engine.specs.Following.{AreTouched};
 ghost use Rattle.bd_engine.specs.Deliveries.{IsSound, IsDeliverable, IsReady, SendsNew, Delivers, Spends, OnlyWorks, OnlyObjects, placed_for, sending};
 

@@ -6,9 +6,7 @@ ghost use Rattle.bd_space.specs.declared.step.Step.TheVariants as step_of;
 ghost use Rattle.bd_space.specs.declared.step.Parcel.{Parcel};
 ghost use Rattle.bd_space.specs.Histories.{History, HasPlace, space_after, extended, is_at_limit};
 ghost use Rattle.bd_space.specs.Steps as steps;
-ghost use Rattle.bd_engine.specs.Stands.{Before};
-ghost use Rattle.bd_engine.specs.Follows.{Follows};
-ghost use Rattle.bd_engine.specs.Refusals.{FullOnly, MemoryOnly};
+ghost use Rattle.bd_engine.specs.{Stands.{Before}, Follows.{Follows}, Refusals.{FullOnly, MemoryOnly}};
 ghost use Rattle.bd_engine.specs.Ending.{is_gone, ended_between, HasEndings};
 
 use crate::live::Live;

@@ -5,8 +5,7 @@ ghost use Rattle.bd_uapi.specs.Limits.{most_seats, IsSeats};
 ghost use Rattle.bd_space.specs.Histories as histories;
 ghost use Rattle.bd_space.specs.Histories.{most_steps};
 ghost use Rattle.bd_space.specs.Steps as steps;
-ghost use Rattle.bd_engine.specs.Stands.{Before};
-ghost use Rattle.bd_engine.specs.Refusals.{FullOnly, MemoryOnly, IsSeatFault};
+ghost use Rattle.bd_engine.specs.{Stands.{Before}, Refusals.{FullOnly, MemoryOnly, IsSeatFault}};
 ghost use Rattle.bd_engine.specs.declared.why.Why.TheVariants.{NoMemory};
 
 use crate::live::Live;

@@ -2,12 +2,10 @@
 
 ghost use Rattle.std.specs.Prelude.{◌≡◌, ◌+◌, ◌≤◌, length, OnOk, IfOk};
 ghost use Rattle.bd_space.specs.Space.{Space};
-ghost use Rattle.bd_laws.specs.Lists.{Pairs};
-ghost use Rattle.bd_laws.specs.Objects.{NotLater};
+ghost use Rattle.bd_laws.specs.{Lists.{Pairs}, Objects.{NotLater}};
 ghost use Rattle.bd_deaths.specs.Due.{due_in};
 ghost use Rattle.bd_calls.specs.Room.{frame_count, work_room};
-ghost use Rattle.bd_engine.specs.Stands.{Before, TellsBefore};
-ghost use Rattle.bd_engine.specs.Meets.{IsKept};
+ghost use Rattle.bd_engine.specs.{Stands.{Before, TellsBefore}, Meets.{IsKept}};
 ghost use Rattle.bd_engine.specs.Exits.{Grows, HasWork, HasList, HasThread, HasThreads, HasProcess};
 
 use crate::tables::Tables;

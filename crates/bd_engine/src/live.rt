@@ -4,8 +4,7 @@ ghost use Rattle.std.specs.Prelude.{◌≡◌, ◌<◌, true, [], length, IfOk, 
 ghost use Rattle.bd_space.specs.Histories as histories;
 ghost use Rattle.bd_space.specs.Histories.{History, HasPlace, history_of};
 ghost use Rattle.bd_space.specs.Steps as steps;
-ghost use Rattle.bd_engine.specs.Stands.{Before};
-ghost use Rattle.bd_engine.specs.Follows.{Follows};
+ghost use Rattle.bd_engine.specs.{Stands.{Before}, Follows.{Follows}};
 ghost use Rattle.bd_engine.specs.Refusals.{FullOnly, MemoryOnly, IsLiveSeats, IsLiveSeatFault};
 
 use crate::tables::Tables;

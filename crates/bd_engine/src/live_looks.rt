@@ -1,15 +1,10 @@
 //! What the space holds, after each history that a live engine follows.
 
-ghost use Rattle.std.specs.Prelude.{◌≡◌, Some, find};
-ghost use Rattle.std.specs.Option.{option_copied};
+ghost use Rattle.std.specs.{Prelude.{◌≡◌, Some, find}, Option.{option_copied}};
 ghost use Rattle.bd_space.specs.Histories as histories;
-ghost use Rattle.bd_space.specs.Histories.{History, space_after};
-ghost use Rattle.bd_space.specs.Seats.{thread_in};
-ghost use Rattle.bd_space.specs.References.{object_in};
+ghost use Rattle.bd_space.specs.{Histories.{History, space_after}, Seats.{thread_in}, References.{object_in}};
 ghost use Rattle.bd_space.specs.Names as names;
-ghost use Rattle.bd_space.specs.Todo.{work_on};
-ghost use Rattle.bd_space.specs.Deaths.{is_notification};
-ghost use Rattle.bd_space.specs.Returns.{buffer_in};
+ghost use Rattle.bd_space.specs.{Todo.{work_on}, Deaths.{is_notification}, Returns.{buffer_in}};
 ghost use Rattle.bd_engine.specs.Follows.{Follows};
 ghost use Rattle.bd_engine.specs.Looks as looks;
 

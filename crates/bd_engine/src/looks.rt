@@ -1,9 +1,7 @@
 //! What the space of the history holds.
 
-ghost use Rattle.std.specs.Prelude.{◌≡◌};
-ghost use Rattle.std.specs.Option.{option_copied};
-ghost use Rattle.bd_space.specs.Histories.{space_after};
-ghost use Rattle.bd_space.specs.Returns.{buffer_in};
+ghost use Rattle.std.specs.{Prelude.{◌≡◌}, Option.{option_copied}};
+ghost use Rattle.bd_space.specs.{Histories.{space_after}, Returns.{buffer_in}};
 ghost use Rattle.bd_engine.specs.Looks as looks;
 ghost use Rattle.bd_engine.specs.Stands.{Tells, TellsOfStacked};
 

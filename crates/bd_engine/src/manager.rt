@@ -3,10 +3,8 @@
 ghost use Rattle.std.specs.Prelude.{◌≤◌};
 ghost use Rattle.bd_space.specs.Steps as steps;
 ghost use Rattle.bd_space.specs.Tables.{MakesWhere};
-ghost use Rattle.bd_objects.specs.Room.{object_room, reference_room};
-ghost use Rattle.bd_objects.specs.New.{IsNewManager};
-ghost use Rattle.bd_engine.specs.Stands.{TellsBefore, Within};
-ghost use Rattle.bd_engine.specs.Meets.{IsBy, IsStep};
+ghost use Rattle.bd_objects.specs.{Room.{object_room, reference_room}, New.{IsNewManager}};
+ghost use Rattle.bd_engine.specs.{Stands.{TellsBefore, Within}, Meets.{IsBy, IsStep}};
 
 use crate::answer::Plain;
 use crate::tables::{NOTHING, Tables};

@@ -1,12 +1,9 @@
 //! The members of the history's space, each as it stands there.
 
 ghost use Rattle.std.specs.Prelude.{◌≡◌, Some, find};
-ghost use Rattle.bd_space.specs.Histories.{space_after};
-ghost use Rattle.bd_space.specs.Seats.{process_in, thread_in};
-ghost use Rattle.bd_space.specs.References.{object_in};
+ghost use Rattle.bd_space.specs.{Histories.{space_after}, Seats.{process_in, thread_in}, References.{object_in}};
 ghost use Rattle.bd_space.specs.Names as names;
-ghost use Rattle.bd_space.specs.Todo.{work_on};
-ghost use Rattle.bd_space.specs.Deaths.{is_notification};
+ghost use Rattle.bd_space.specs.{Todo.{work_on}, Deaths.{is_notification}};
 ghost use Rattle.bd_engine.specs.Looks as looks;
 
 use crate::engine::Engine;

@@ -7,15 +7,13 @@ ghost use Rattle.bd_space.specs.Steps as steps;
 ghost use Rattle.bd_space.specs.ProcessExits as exits;
 ghost use Rattle.bd_space.specs.ThreadExits as thread_exits;
 ghost use Rattle.bd_space.specs.LocalExits.{seats_in};
-ghost use Rattle.bd_laws.specs.Lists.{Pairs};
-ghost use Rattle.bd_laws.specs.Objects.{NotLater};
+ghost use Rattle.bd_laws.specs.{Lists.{Pairs}, Objects.{NotLater}};
 ghost use Rattle.bd_processes.specs.Room.{process_room};
 ghost use Rattle.bd_deaths.specs.Due.{due_in};
 ghost use Rattle.bd_calls.specs.Room.{thread_room, work_room, frame_count};
 ghost use Rattle.bd_buffers.specs.WindowsStand.{Stands, window_room};
 ghost use Rattle.bd_engine.specs.Stands.{Tells, Before, Within, TellsBefore, Uses, MakesWithin, UsesNothing};
-ghost use Rattle.bd_engine.specs.Exits.{HasProcess};
-ghost use Rattle.bd_engine.specs.Meets.{IsAny, IsBy, IsKept, IsStep};
+ghost use Rattle.bd_engine.specs.{Exits.{HasProcess}, Meets.{IsAny, IsBy, IsKept, IsStep}};
 
 use crate::answer::Plain;
 use crate::exit::Exit;

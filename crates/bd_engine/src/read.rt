@@ -1,12 +1,10 @@
 //! The step that reads.
 
 ghost use Rattle.std.specs.Prelude.{◌≡◌, ◌+◌, ◌-◌, ◌*◌, ◌≤◌, ◌++◌, ◌∷◌, [], map, false, None, Some, length, option_map, IfOk, IfSome, IsTrue, OnOk, OnErr, nat_lt};
-ghost use Rattle.std.specs.Option.{option_copied};
-ghost use Rattle.std.specs.List.{filter_map};
+ghost use Rattle.std.specs.{Option.{option_copied}, List.{filter_map}};
 ghost use Rattle.bd_uapi.specs.declared.command.Return.TheVariants.{Noop};
 ghost use Rattle.bd_codec.specs.Spelling.{return_bytes};
-ghost use Rattle.bd_space.specs.Space.{Space};
-ghost use Rattle.bd_space.specs.Words.{first_of};
+ghost use Rattle.bd_space.specs.{Space.{Space}, Words.{first_of}};
 ghost use Rattle.bd_space.specs.Todo as todo;
 ghost use Rattle.bd_space.specs.Reading as spec;
 ghost use Rattle.bd_space.specs.ReadItems as read_items;
@@ -15,8 +13,7 @@ ghost use Rattle.bd_buffers.specs.WindowsStand.{made_of_buffer};
 ghost use Rattle.bd_objects.specs.Room.{reference_room};
 ghost use Rattle.bd_calls.specs.Room.{work_room};
 ghost use Rattle.bd_engine.specs.Stands.{Before, Within, TellsBefore, TellsWithin, UsesNothing};
-ghost use Rattle.bd_engine.specs.Meets.{Meets, IsBy, IsKept, IsStepTwice};
-ghost use Rattle.bd_engine.specs.Taking.{AreTaken, IsReading};
+ghost use Rattle.bd_engine.specs.{Meets.{Meets, IsBy, IsKept, IsStepTwice}, Taking.{AreTaken, IsReading}};
 
 use crate::answer::{Plain, Twice};
 use crate::tables::{NOTHING, Tables};

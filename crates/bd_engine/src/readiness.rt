@@ -2,8 +2,7 @@
 
 ghost use Rattle.std.specs.Prelude.{ℕ, ◌≡◌, ◌+◌, ◌≤◌, ◌<◌, false, if◌then◌else◌, [], length, get_or, vec_len, vec_capacity};
 ghost use Rattle.bd_space.specs.Histories.{History, space_after, is_ready};
-ghost use Rattle.bd_engine.specs.Follows.{Follows};
-ghost use Rattle.bd_engine.specs.Readiness.{has_seat, flipped, Noted};
+ghost use Rattle.bd_engine.specs.{Follows.{Follows}, Readiness.{has_seat, flipped, Noted}};
 
 use crate::live::Live;
 

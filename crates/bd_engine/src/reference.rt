@@ -7,8 +7,7 @@ ghost use Rattle.bd_space.specs.Asking as asking;
 ghost use Rattle.bd_space.specs.Outcomes.{completed};
 ghost use Rattle.bd_objects.specs.Room.{reference_room, name_room};
 ghost use Rattle.bd_calls.specs.Room.{work_room};
-ghost use Rattle.bd_engine.specs.Stands.{MakesOfTidy, PassesLimit};
-ghost use Rattle.bd_engine.specs.Meets.{IsBy, IsKept, IsStep};
+ghost use Rattle.bd_engine.specs.{Stands.{MakesOfTidy, PassesLimit}, Meets.{IsBy, IsKept, IsStep}};
 
 use crate::answer::Plain;
 use crate::tables::{NOTHING, Tables};

@@ -1,14 +1,11 @@
 //! The run of a request: one step, or for a write one for each of its commands.
 
 ghost use Rattle.std.specs.Prelude.{◌≡◌, ◌≤◌, ◌<◌, true, Some, length, IfOk, IfErr, OnErr};
-ghost use Rattle.bd_space.specs.declared.step.Request.{Request};
-ghost use Rattle.bd_space.specs.declared.step.Request.TheVariants.{Write};
-ghost use Rattle.bd_space.specs.Space.{Space};
-ghost use Rattle.bd_space.specs.Histories.{HasPlace, is_at_limit};
+ghost use Rattle.bd_space.specs.{declared.step.Request.{Request}, declared.step.Request.TheVariants.{Write}};
+ghost use Rattle.bd_space.specs.{Space.{Space}, Histories.{HasPlace, is_at_limit}};
 ghost use Rattle.bd_space.specs.Runs as runs;
 ghost use Rattle.bd_space.specs.Runs.{HasRun, HasEntry, IsAtLimit, answered};
-ghost use Rattle.bd_engine.specs.Refusals.{FullOnly, MemoryOnly};
-ghost use Rattle.bd_engine.specs.Writing.{IsTurnedAway};
+ghost use Rattle.bd_engine.specs.{Refusals.{FullOnly, MemoryOnly}, Writing.{IsTurnedAway}};
 
 use crate::engine::Engine;
 use crate::why::Why;

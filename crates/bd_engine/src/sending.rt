@@ -1,13 +1,10 @@
 //! What a parcel sends: its objects, each known to the sender or made by the sending.
 
-ghost use Rattle.std.specs.Prelude.{◌≡◌, ◌+◌, ◌%◌, ◌++◌, ◌∷◌, [], All, IfOk, OnOk, length};
-ghost use Rattle.std.specs.Option.{option_to_list};
-ghost use Rattle.bd_parcel.specs.Parcels.{offsets_in, fault_in};
-ghost use Rattle.bd_parcel.specs.Reading.{objects_at};
+ghost use Rattle.std.specs.{Prelude.{◌≡◌, ◌+◌, ◌%◌, ◌++◌, ◌∷◌, [], All, IfOk, OnOk, length}, Option.{option_to_list}};
+ghost use Rattle.bd_parcel.specs.{Parcels.{offsets_in, fault_in}, Reading.{objects_at}};
 ghost use Rattle.bd_space.specs.Parcels as parcels;
 ghost use Rattle.bd_objects.specs.Made.{made_items};
-ghost use Rattle.bd_engine.specs.Stands.{Tells};
-ghost use Rattle.bd_engine.specs.Deliveries.{IsInside, IsSound, sending};
+ghost use Rattle.bd_engine.specs.{Stands.{Tells}, Deliveries.{IsInside, IsSound, sending}};
 
 use crate::tables::Tables;
 use bd_objects::Made;

@@ -1,13 +1,10 @@
 //! Reports of one-way flooding: who asked for them, and of which calls they are made.
 
 ghost use Rattle.std.specs.Prelude.{◌≡◌, ◌&&◌, Some, Ok};
-ghost use Rattle.bd_space.specs.Space.{Space};
-ghost use Rattle.bd_space.specs.Seats.{process_in};
-ghost use Rattle.bd_space.specs.Windows.{buffers_of};
+ghost use Rattle.bd_space.specs.{Space.{Space}, Seats.{process_in}, Windows.{buffers_of}};
 ghost use Rattle.bd_space.specs.Spam as spec;
 ghost use Rattle.bd_space.specs.declared.space.Process.{Process};
-ghost use Rattle.bd_engine.specs.Stands.{Within};
-ghost use Rattle.bd_engine.specs.Meets.{IsBy, IsStep};
+ghost use Rattle.bd_engine.specs.{Stands.{Within}, Meets.{IsBy, IsStep}};
 
 use crate::answer::Plain;
 use crate::tables::Tables;

@@ -1,9 +1,7 @@
 //! Every step of the tables.
 
 ghost use Rattle.std.specs.Prelude.{◌≡◌};
-ghost use Rattle.bd_space.specs.Seats.{actor};
-ghost use Rattle.bd_space.specs.Steps.{change};
-ghost use Rattle.bd_space.specs.Commands.{command_step};
+ghost use Rattle.bd_space.specs.{Seats.{actor}, Steps.{change}, Commands.{command_step}};
 ghost use Rattle.bd_engine.specs.Plain as plain;
 ghost use Rattle.bd_engine.specs.Meets.{IsAny, IsBy, IsNobody, IsStep, IsStepTwice};
 

@@ -33,8 +33,7 @@ pub(crate) struct Tables {
 impl Tables {
     ghost use Rattle.bd_space.specs.Space.{Space, opening};
     ghost use Rattle.bd_objects.specs.Room as object_rooms;
-    ghost use Rattle.bd_engine.specs.Stands.{Before, HasRoom};
-    ghost use Rattle.bd_engine.specs.Meets.{IsKept};
+    ghost use Rattle.bd_engine.specs.{Stands.{Before, HasRoom}, Meets.{IsKept}};
 
     /// The tables of a new engine. Takes no memory.
     pub(crate) fn new(alloc: Global) -> Tables

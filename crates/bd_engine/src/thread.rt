@@ -3,8 +3,7 @@
 ghost use Rattle.std.specs.Prelude.{true, ◌≡◌, Ok, IfSome, ◌≤◌, ◌<◌, ◌^◌, if◌then◌else◌};
 ghost use Rattle.bd_uapi.specs.Limits.{most_seats};
 ghost use Rattle.bd_space.specs.Seats as seats;
-ghost use Rattle.bd_space.specs.Steps.{is_pid};
-ghost use Rattle.bd_space.specs.Histories.{is_ready, ready_below};
+ghost use Rattle.bd_space.specs.{Steps.{is_pid}, Histories.{is_ready, ready_below}};
 ghost use Rattle.bd_space.specs.Steps as steps;
 ghost use Rattle.bd_space.specs.Commands as commands;
 ghost use Rattle.bd_space.specs.Outcomes.{accepted};
@@ -14,8 +13,7 @@ ghost use Rattle.bd_objects.specs.Room as object_rooms;
 ghost use Rattle.bd_objects.specs.Stands.{StandsFor};
 ghost use Rattle.bd_buffers.specs.WindowsStand.{StandsIn};
 ghost use Rattle.bd_calls.specs.Room.{thread_room};
-ghost use Rattle.bd_engine.specs.Stands.{Tells, Makes, MakesWithin, UsesNothing};
-ghost use Rattle.bd_engine.specs.Meets.{IsAny, IsBy, IsStep};
+ghost use Rattle.bd_engine.specs.{Stands.{Tells, Makes, MakesWithin, UsesNothing}, Meets.{IsAny, IsBy, IsStep}};
 ghost use Rattle.bd_engine.specs.Handed.{without_handed, without_all_handed};
 
 use crate::answer::Plain;

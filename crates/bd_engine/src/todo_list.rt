@@ -6,9 +6,7 @@ ghost use Rattle.bd_space.specs.declared.space.WorkKind.TheVariants as kinds;
 ghost use Rattle.bd_space.specs.Todo as todo;
 ghost use Rattle.bd_space.specs.Outcomes as outcomes;
 ghost use Rattle.bd_calls.specs.Room.{work_room};
-ghost use Rattle.bd_engine.specs.Stands.{Makes, MakesWithin};
-ghost use Rattle.bd_engine.specs.Meets.{IsAny, IsStep};
-ghost use Rattle.bd_engine.specs.Deliveries.{Spends};
+ghost use Rattle.bd_engine.specs.{Stands.{Makes, MakesWithin}, Meets.{IsAny, IsStep}, Deliveries.{Spends}};
 
 use crate::answer::Plain;
 use crate::tables::{NOTHING, Tables};

@@ -1,9 +1,7 @@
 //! The step of BC_TRANSACTION.
 
 ghost use Rattle.std.specs.Prelude.{ℕ, ◌≡◌, ◌+◌, ◌≤◌, ◌&&◌, length, Some, None, is_some, is_none, option_and_then, if◌then◌else◌, IfOk, IfErr, IfSome, OnOk, OnErr};
-ghost use Rattle.bd_space.specs.Space.{Space};
-ghost use Rattle.bd_space.specs.Seats.{process_in};
-ghost use Rattle.bd_space.specs.declared.space.TodoList.TheVariants.{OfThread};
+ghost use Rattle.bd_space.specs.{Space.{Space}, Seats.{process_in}, declared.space.TodoList.TheVariants.{OfThread}};
 ghost use Rattle.bd_space.specs.declared.space.WorkKind.TheVariants as kinds;
 ghost use Rattle.bd_space.specs.Todo as todo;
 ghost use Rattle.bd_space.specs.Names.{names_go, has_number_past_limit};

@@ -3,12 +3,10 @@
 ghost use Rattle.std.specs.Prelude.{◌≡◌, ◌≤◌, ◌<◌, ◌+◌, ◌-◌, ◌^◌, ◌++◌, ◌∷◌, [], List, ℕ, Err, true, Some, drop, length, vec_len, vec_capacity, IfOk, IfErr, OnOk, OnErr, MatchResult};
 ghost use Rattle.bd_uapi.specs.declared.command.Command.{Command};
 ghost use Rattle.bd_codec.specs.Reading.{command_at};
-ghost use Rattle.bd_space.specs.declared.step.Request.TheVariants.{Write};
-ghost use Rattle.bd_space.specs.declared.step.Answer.TheVariants.{Wrote};
+ghost use Rattle.bd_space.specs.{declared.step.Request.TheVariants.{Write}, declared.step.Answer.TheVariants.{Wrote}};
 ghost use Rattle.bd_space.specs.Histories.{History, space_after, extended, HasPlace, is_at_limit};
 ghost use Rattle.bd_space.specs.Steps as steps;
-ghost use Rattle.bd_space.specs.Runs.{HasRun};
-ghost use Rattle.bd_space.specs.Streams.{step_of_command};
+ghost use Rattle.bd_space.specs.{Runs.{HasRun}, Streams.{step_of_command}};
 ghost use Rattle.bd_engine.specs.Refusals.{FullOnly, MemoryOnly};
 ghost use Rattle.bd_engine.specs.Writing.{HasCome, IsSame, IsAfter, IsCourse, IsCutAt, IsTurnedAway, IsNext, refused};
 

@@ -1,9 +1,7 @@
 //! Bytes in hex: lower-case pairs of digits, or `-` for none.
 
-ghost use Rattle.std.specs.Prelude.{◌≡◌, ◌≤◌, [], ◌∷◌, ℕ, List, Some, length, IfOk, IfSome};
-ghost use Rattle.std.specs.List.{flat_map};
-ghost use Rattle.std.specs.Option.{option_map};
-ghost use Rattle.std.specs.Str.{bytes_eq};
+ghost use Rattle.std.specs.{Prelude.{◌≡◌, ◌≤◌, [], ◌∷◌, ℕ, List, Some, length, IfOk, IfSome}, List.{flat_map}};
+ghost use Rattle.std.specs.{Option.{option_map}, Str.{bytes_eq}};
 ghost use Rattle.bd_uapi.specs.Bytes.{IsBytes};
 ghost use Rattle.bd_script.specs.Hex.{digit_of, hex_pair, hex_word, pairs_of, hex_of};
 

@@ -1,11 +1,8 @@
 //! The words of a line, and the numbers among them.
 
-ghost use Rattle.std.specs.Prelude.{◌≡◌, Some, None, map, IfOk, MatchResult};
-ghost use Rattle.std.specs.Str.{bytes_eq};
-ghost use Rattle.bd_script.specs.declared.script.Trouble.TheVariants.{Bad};
-ghost use Rattle.bd_script.specs.Hex.{hex_word, hex_of};
-ghost use Rattle.bd_script.specs.Numbers.{number_of};
-ghost use Rattle.bd_script.specs.Text.{words, offsets_of};
+ghost use Rattle.std.specs.{Prelude.{◌≡◌, Some, None, map, IfOk, MatchResult}, Str.{bytes_eq}};
+ghost use Rattle.bd_script.specs.{declared.script.Trouble.TheVariants.{Bad}, Hex.{hex_word, hex_of}};
+ghost use Rattle.bd_script.specs.{Numbers.{number_of}, Text.{words, offsets_of}};
 ghost use Rattle.bd_script.specs.Words.{ReadsAs, ReadsOrMemory, word_of, long_of};
 
 use crate::hex::{bytes_in, is_nothing};
