@@ -16,9 +16,9 @@ pub(crate) struct Lane {
 #[derive(Clone, Copy)]
 pub(crate) enum Kind {
     /// A two-way call.
-    Call { handle: u64, code: u32 },
+    Call { handle: u32, code: u32 },
     /// A one-way call; its turn among those on its object, from 1.
-    OneWay { handle: u64, code: u32, turn: u32 },
+    OneWay { handle: u32, code: u32, turn: u32 },
     /// The reply to the call that was made there.
     Reply { call: u32 },
 }

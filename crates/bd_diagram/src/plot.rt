@@ -9,9 +9,8 @@ use crate::model::{Arrow, Diagram, End, Event, Kind};
 use crate::sheet::Sheet;
 use crate::stepping::{Taken, make_step};
 use crate::tracks::Tracks;
-use bd_codec::read_return;
 use bd_engine::Engine;
-use bd_show::{Reason, Untold, handle_of};
+use bd_show::{Reason, Returns, Untold, handle_of};
 use bd_space::{Buffer, Entry, ObjectId, Record, Step, StepAnswer};
 use bd_uapi::{Command, Fault, Return, TransactionData};
 use bd_words::{WordKey, WordMap};
@@ -251,14 +250,8 @@ impl Plot {
         stream: &[u8],
         taken: Taken,
     ) -> Result<(), AllocError> {
-        let mut rest = stream;
-        // Each return is 4 bytes long or more.
-        for _ in 0..stream.len() {
-            let Ok((told, len)) = read_return(rest) else {
-                break;
-            };
+        for told in Returns::of(stream) {
             self.tell(engine, place, seat, told, taken)?;
-            rest = &rest[len..];
         }
         Ok(())
     }

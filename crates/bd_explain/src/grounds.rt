@@ -1,8 +1,8 @@
 //! The grounds of an answer: the reasons that were looked at, and where the rules stand.
 
-ghost use Rattle.std.specs.Prelude.{◌≡◌};
+ghost use Rattle.std.specs.Prelude.{◌≡◌, true, Some};
 
-use crate::looked::looked_at;
+use crate::looked::Looked;
 use bd_show::Reason;
 use bd_space::{Step, StepAnswer};
 use bd_uapi::Command;
@@ -46,7 +46,8 @@ pub(crate) struct Tried {
 
 impl Tried {
     fn new(reason: Reason, held: Option<Reason>) -> Tried
-        ensures { result.reason ≡ reason }
+        ensures reason { result.reason ≡ reason }
+        ensures holds { result.holds ≡ true → held ≡ Some reason }
     {
         Tried {
             reason,
@@ -73,7 +74,7 @@ pub(crate) struct Grounds {
 // The reasons that were looked at for a step, up to the one that held.
 fn tried_of(alloc: Global, step: &Step, held: Option<Reason>) -> Result<Vec<Tried>, AllocError> {
     let mut tried = Vec::new(alloc);
-    for reason in looked_at(step).iter().copied().flatten() {
+    for reason in Looked::of(step).parts().iter().copied().flatten() {
         tried.push(Tried::new(*reason, held))?;
         if held == Some(*reason) {
             break;

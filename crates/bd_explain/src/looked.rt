@@ -4,8 +4,20 @@ use bd_show::{Reason, handle_of};
 use bd_space::Step;
 use bd_uapi::{Cause, Command, Fault, Note, TransactionData};
 
-/// Which reasons are looked at for a step: those of one list after the other, up to the first that holds.
-pub(crate) type Looked = [&'static [Reason]; 5];
+/// Which reasons are looked at for a step: those of one part after the other, up to the first that holds.
+#[derive(Clone, Copy)]
+pub(crate) struct Looked {
+    // Whether the seat has a thread for it, and what else a request asks of the seat.
+    seat: &'static [Reason],
+    // Whether there is what the step goes to or names.
+    target: &'static [Reason],
+    // Whether that, or the thread, stands so that the step can be made.
+    state: &'static [Reason],
+    // What is sent, and whether there is room for it.
+    parcel: &'static [Reason],
+    // How much room one-way calls take.
+    budget: &'static [Reason],
+}
 
 static NONE: [Reason; 0] = [];
 
@@ -70,6 +82,11 @@ static STRONG: [Reason; 1] = [Reason::Note(Note::NotStrong)];
 
 static BY_0: [Reason; 1] = [Reason::Note(Note::OwnManager)];
 
+static STRONG_BY_0: [Reason; 2] = [
+    Reason::Note(Note::NotStrong),
+    Reason::Note(Note::OwnManager),
+];
+
 static LET_GO: [Reason; 1] = [Reason::Note(Note::NothingAsked)];
 
 static DONE: [Reason; 2] = [
@@ -88,54 +105,93 @@ static CLEAR_DEATH: [Reason; 1] = [Reason::Note(Note::NoneAsked)];
 
 static DEATH_DONE: [Reason; 1] = [Reason::Note(Note::NoneTold)];
 
-// For a step of a live thread that sends nothing.
-fn live(first: &'static [Reason], second: &'static [Reason]) -> Looked {
-    [&LIVE, first, second, &NONE, &NONE]
-}
-
-// Where a reference is asked for, of this number.
-fn at_asking(strong: &'static [Reason], number: u32) -> Looked {
-    let by_0: &'static [Reason] = if number == 0 { &BY_0 } else { &NONE };
-    [&LIVE, &NAMED, strong, by_0, &NONE]
-}
-
-fn at_transaction(sent: &TransactionData) -> Looked {
-    let to: &'static [Reason] = if handle_of(sent) == 0 {
-        &TO_MANAGER
-    } else {
-        &TO_HANDLE
-    };
-    if sent.flags.is_one_way() {
-        [&LIVE, to, &NONE, &PARCEL, &ONE_WAY]
-    } else {
-        [&LIVE, to, &TWO_WAY, &PARCEL, &NONE]
+impl Looked {
+    // For opening and attaching, which need no live thread.
+    fn of_seat(seat: &'static [Reason]) -> Looked {
+        Looked {
+            seat,
+            target: &NONE,
+            state: &NONE,
+            parcel: &NONE,
+            budget: &NONE,
+        }
     }
-}
 
-fn at_command(command: &Command) -> Looked {
-    match command {
-        Command::Transaction(sent) => at_transaction(sent),
-        Command::Reply(_) => [&LIVE, &REPLY, &NONE, &PARCEL, &NONE],
-        Command::FreeBuffer(_) => live(&FREE, &NONE),
-        Command::Increfs(number) => at_asking(&NONE, *number),
-        Command::Acquire(number) => at_asking(&STRONG, *number),
-        Command::Release(_) | Command::Decrefs(_) => live(&NAMED, &LET_GO),
-        Command::IncrefsDone(..) | Command::AcquireDone(..) => live(&DONE, &NONE),
-        Command::EnterLooper | Command::ExitLooper => live(&NONE, &NONE),
-        Command::RequestDeathNotification(..) => live(&NAMED, &REQUEST_DEATH),
-        Command::ClearDeathNotification(..) => live(&NAMED, &CLEAR_DEATH),
-        Command::DeadBinderDone(_) => live(&DEATH_DONE, &NONE),
+    // For a step of a live thread.
+    fn live(target: &'static [Reason]) -> Looked {
+        Looked {
+            target,
+            ..Looked::of_seat(&LIVE)
+        }
     }
-}
 
-/// Which reasons are looked at for a step.
-pub(crate) fn looked_at(step: &Step) -> Looked {
-    match step {
-        Step::Open { .. } => [&OPEN, &NONE, &NONE, &NONE, &NONE],
-        Step::Attach { .. } => [&ATTACH, &NONE, &NONE, &NONE, &NONE],
-        Step::SetManager => live(&MANAGER, &NONE),
-        Step::Command { command, .. } => at_command(command),
-        Step::Read { .. } => live(&READ, &NONE),
-        Step::SetSpam { .. } | Step::ExitThread | Step::ExitProcess => live(&NONE, &NONE),
+    // For a command that gives a handle.
+    fn named(state: &'static [Reason]) -> Looked {
+        Looked {
+            state,
+            ..Looked::live(&NAMED)
+        }
+    }
+
+    // For a transaction or reply.
+    fn sending(target: &'static [Reason]) -> Looked {
+        Looked {
+            parcel: &PARCEL,
+            ..Looked::live(target)
+        }
+    }
+
+    fn of_transaction(sent: &TransactionData) -> Looked {
+        let looked = if handle_of(sent) == 0 {
+            Looked::sending(&TO_MANAGER)
+        } else {
+            Looked::sending(&TO_HANDLE)
+        };
+        if sent.flags.is_one_way() {
+            Looked {
+                budget: &ONE_WAY,
+                ..looked
+            }
+        } else {
+            Looked {
+                state: &TWO_WAY,
+                ..looked
+            }
+        }
+    }
+
+    fn of_command(command: &Command) -> Looked {
+        match command {
+            Command::Transaction(sent) => Looked::of_transaction(sent),
+            Command::Reply(_) => Looked::sending(&REPLY),
+            Command::FreeBuffer(_) => Looked::live(&FREE),
+            Command::Increfs(0) => Looked::named(&BY_0),
+            Command::Increfs(_) => Looked::live(&NAMED),
+            Command::Acquire(0) => Looked::named(&STRONG_BY_0),
+            Command::Acquire(_) => Looked::named(&STRONG),
+            Command::Release(_) | Command::Decrefs(_) => Looked::named(&LET_GO),
+            Command::IncrefsDone(..) | Command::AcquireDone(..) => Looked::live(&DONE),
+            Command::EnterLooper | Command::ExitLooper => Looked::live(&NONE),
+            Command::RequestDeathNotification(..) => Looked::named(&REQUEST_DEATH),
+            Command::ClearDeathNotification(..) => Looked::named(&CLEAR_DEATH),
+            Command::DeadBinderDone(_) => Looked::live(&DEATH_DONE),
+        }
+    }
+
+    /// For a step.
+    pub(crate) fn of(step: &Step) -> Looked {
+        match step {
+            Step::Open { .. } => Looked::of_seat(&OPEN),
+            Step::Attach { .. } => Looked::of_seat(&ATTACH),
+            Step::SetManager => Looked::live(&MANAGER),
+            Step::Command { command, .. } => Looked::of_command(command),
+            Step::Read { .. } => Looked::live(&READ),
+            Step::SetSpam { .. } | Step::ExitThread | Step::ExitProcess => Looked::live(&NONE),
+        }
+    }
+
+    /// The parts, in the order in which they are looked at.
+    pub(crate) fn parts(&self) -> [&'static [Reason]; 5] {
+        [self.seat, self.target, self.state, self.parcel, self.budget]
     }
 }

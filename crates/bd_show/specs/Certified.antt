@@ -11,7 +11,8 @@ use Rattle.bd_show.specs.declared.certificates.TurnTold.{TurnTold}
 use Rattle.bd_show.specs.declared.form.Gift.{Gift}
 use Rattle.bd_state.specs.Owners.{owner_pid}
 use Rattle.bd_state.specs.States.{object_text}
-use Rattle.bd_show.specs.Pids.{pid_of}
+use Rattle.bd_audit.specs.Replays.{with_entry}
+use Rattle.bd_show.specs.Pids.{pid_of, receiver_of}
 
 -- what a number names for the process with this pid, and the pid of its owner
 abbrev pub named_by : Space → List Entry → ℕ → ℕ → Option Named
@@ -24,3 +25,4 @@ turn_told t = record { made = t.made; handed = t.handed; ended = t.ended }
 pub record IsMadeBy (h : History) (es : List Entry) (e : Entry) (g : Gift) : Type 0 where
   pub place : g.place ≡ length h.entries
   pub pid : g.pid ≡ pid_of (space_after h) es e.seat
+  pub to : g.to ≡ receiver_of (space_after (with_entry h e)) es (length h.entries)

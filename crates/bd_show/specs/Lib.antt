@@ -4,4 +4,5 @@ pub mod Answered
 pub mod Refusals
 pub mod Reasons
 pub mod Certified
+pub mod Streams
 pub mod Payloads

@@ -1,5 +1,5 @@
 -- What a step or a return has.
-use Rattle.std.specs.Prelude.{ℕ, zero, suc, List, [], ◌∷◌, length, drop, Result, Ok, Err, Some, None, bit_and}
+use Rattle.std.specs.Prelude.{ℕ, zero, suc, List, [], ◌∷◌, length, drop, Result, Ok, Err, Some, None}
 use Rattle.bd_uapi.specs.declared.command.TransactionData.{TransactionData}
 use Rattle.bd_uapi.specs.declared.command.Command.{Command}
 use Rattle.bd_uapi.specs.declared.command.Command.TheVariants as command
@@ -9,6 +9,7 @@ use Rattle.bd_uapi.specs.declared.fault.Fault.{Fault}
 use Rattle.bd_codec.specs.Reading.{return_at}
 use Rattle.bd_space.specs.declared.step.Step.{Step}
 use Rattle.bd_space.specs.declared.step.Step.TheVariants as step
+use Rattle.bd_space.specs.Transactions.{handle_of}
 use Rattle.bd_state.specs.States.{wide}
 use Rattle.bd_show.specs.declared.words.Payload.{Payload}
 
@@ -42,14 +43,14 @@ of_pointer p c = record nothing { ptr = Some (wide p); cookie = Some (wide c) }
 
 -- what is sent
 abbrev pub of_record : TransactionData → Payload
-of_record d = record nothing { code = Some d.code; flags = Some d.flags.0; data_size = Some d.data_size; offsets_size = Some d.offsets_size }
+of_record d = record nothing { code = Some d.code; flags = Some d.flags; data_size = Some d.data_size; offsets_size = Some d.offsets_size }
 
 -- and who sent it, and where it lies
 abbrev pub of_received : TransactionData → Payload
 of_received d = record (of_record d) { sender_pid = Some d.sender_pid; sender_euid = Some d.sender_euid; buffer = Some (wide d.buffer) }
 
 abbrev pub of_command : Command → Payload
-of_command (command.Transaction d) = record (of_record d) { handle = Some (bit_and d.target 4294967295); cookie = Some (wide d.cookie) }
+of_command (command.Transaction d) = record (of_record d) { handle = Some (handle_of d); cookie = Some (wide d.cookie) }
 of_command (command.Reply d) = of_record d
 of_command (command.FreeBuffer b) = record nothing { buffer = Some (wide b) }
 of_command (command.Increfs n) = of_handle n

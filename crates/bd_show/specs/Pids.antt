@@ -3,6 +3,7 @@ use Rattle.std.specs.Prelude.{ℕ, List, Option, option_and_then}
 use Rattle.std.specs.Option.{option_or}
 use Rattle.std.specs.List.{slice_get}
 use Rattle.bd_space.specs.declared.step.Entry.{Entry}
+use Rattle.bd_space.specs.Returns.{buffer_in}
 use Rattle.bd_space.specs.Space.{Space}
 use Rattle.bd_space.specs.Histories.{History, space_after}
 use Rattle.bd_engine.specs.Looks.{process_of}
@@ -12,6 +13,10 @@ use Rattle.bd_state.specs.Owners.{pid_at}
 -- the pid of the process of a seat's thread
 abbrev pub pid_of : Space → List Entry → ℕ → Option ℕ
 pid_of s es seat = option_and_then (pid_at es) (process_of s seat)
+
+-- the pid of the process in whose window the buffer lies that was made at this place
+abbrev pub receiver_of : Space → List Entry → ℕ → Option ℕ
+receiver_of s es made = option_and_then (λ b. pid_at es b.receiver) (buffer_in s.buffers made)
 
 -- the pid of the process that makes the step at this place
 abbrev pub maker_of : History → ℕ → Option ℕ

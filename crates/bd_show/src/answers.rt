@@ -1,8 +1,8 @@
 //! Answers, with the names of refusals.
 
 use crate::reasons::Reason;
+use crate::returns::Returns;
 use crate::words::Word;
-use bd_codec::read_return;
 use bd_space::StepAnswer;
 use std::fmt;
 
@@ -12,15 +12,9 @@ struct StreamText<'a>(&'a [u8]);
 
 impl fmt::Display for StreamText<'_> {
     fn fmt<W: fmt::Write>(&self, f: &mut fmt::Formatter<W>) -> fmt::Result {
-        let mut rest = self.0;
-        // Each return is 4 bytes long or more.
-        for _ in 0..self.0.len() {
-            let Ok((told, len)) = read_return(rest) else {
-                break;
-            };
+        for told in Returns::of(self.0) {
             let text = Word::of_return(&told);
             write!(f, "\n    {text}")?;
-            rest = &rest[len..];
         }
         Ok(())
     }

@@ -21,7 +21,9 @@ pub fn pid_of(engine: &Engine, entries: &[Entry], seat: u32) -> Option<u32>
 }
 
 /// The pid of the process in whose window the buffer made at a place lies.
-pub(crate) fn receiver_of(engine: &Engine, entries: &[Entry], place: u32) -> Option<u32> {
+pub(crate) fn receiver_of(engine: &Engine, entries: &[Entry], place: u32) -> Option<u32>
+    ensures { result ≡ spec.receiver_of (space_after engine.now) entries.now place }
+{
     pid_at(entries, engine.buffer(place)?.receiver)
 }
 

@@ -1,21 +1,15 @@
 //! Steps and returns by name, with what they have.
 
-ghost use Rattle.std.specs.Prelude.{◌≡◌, bit_and};
+ghost use Rattle.std.specs.Prelude.{◌≡◌};
 ghost use Rattle.bd_show.specs.Payloads as spec;
 
+use crate::handles::handle_of;
 use bd_space::Step;
 use bd_state::{Wide, return_name, step_name};
 use bd_uapi::{Command, Return, TransactionData, TransactionFlags};
 use bitflags::Flags;
 use serde::{Described, Serialize, Serializer};
 use std::fmt;
-
-/// The handle to which a transaction goes. What stands above the low 32 bits of the target counts for nothing.
-pub fn handle_of(sent: &TransactionData) -> u64
-    ensures { result ≡ bit_and sent.now.target 4294967295 }
-{
-    sent.target & 0xffff_ffff
-}
 
 /// What a step or a return has. What one of its kind doesn't have is left out.
 #[derive(Clone, Copy)]
@@ -25,11 +19,11 @@ pub struct Payload {
     window: Option<u32>,
     limit: Option<u32>,
     on: Option<bool>,
-    handle: Option<u64>,
+    handle: Option<u32>,
     ptr: Option<Wide>,
     cookie: Option<Wide>,
     code: Option<u32>,
-    flags: Option<u32>,
+    flags: Option<TransactionFlags>,
     data_size: Option<u64>,
     offsets_size: Option<u64>,
     sender_pid: Option<i32>,
@@ -60,7 +54,7 @@ impl Payload {
         ensures { result ≡ spec.of_handle handle }
     {
         Payload {
-            handle: Some(u64::from(handle)),
+            handle: Some(handle),
             ..NOTHING
         }
     }
@@ -90,7 +84,7 @@ impl Payload {
     {
         Payload {
             code: Some(record.code),
-            flags: Some(record.flags.bits()),
+            flags: Some(record.flags),
             data_size: Some(record.data_size),
             offsets_size: Some(record.offsets_size),
             ..NOTHING
@@ -133,7 +127,7 @@ impl Payload {
             Command::EnterLooper | Command::ExitLooper => NOTHING,
             Command::RequestDeathNotification(handle, cookie)
             | Command::ClearDeathNotification(handle, cookie) => Payload {
-                handle: Some(u64::from(*handle)),
+                handle: Some(*handle),
                 ..Payload::of_cookie(*cookie)
             },
             Command::DeadBinderDone(cookie) => Payload::of_cookie(*cookie),
@@ -224,15 +218,14 @@ impl Word {
 
 // Flags in hex, and then those that have a name.
 #[derive(Clone, Copy)]
-struct FlagsText(u32);
+struct FlagsText(TransactionFlags);
 
 impl fmt::Display for FlagsText {
     fn fmt<W: fmt::Write>(&self, f: &mut fmt::Formatter<W>) -> fmt::Result {
-        let bits = self.0;
-        let flags = TransactionFlags::from_bits_retain(bits);
+        let bits = self.0.bits();
         write!(f, "{bits:#x}")?;
         for flag in TransactionFlags::flags() {
-            if flags.contains(flag.value) {
+            if self.0.contains(flag.value) {
                 let name = flag.name;
                 write!(f, " TF_{name}")?;
             }
@@ -307,7 +300,7 @@ impl Serialize for Word {
         write_member("ptr", has.ptr, out)?;
         write_member("cookie", has.cookie, out)?;
         write_member("code", has.code, out)?;
-        write_member("flags", has.flags, out)?;
+        write_member("flags", has.flags.map(|flags| flags.bits()), out)?;
         write_member("data_size", has.data_size, out)?;
         write_member("offsets_size", has.offsets_size, out)?;
         write_member("sender_pid", has.sender_pid, out)?;
