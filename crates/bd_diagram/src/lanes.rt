@@ -1,8 +1,6 @@
 //! The lanes of a diagram: whose they are, and how they stand.
 
-ghost use Rattle.std.specs.Prelude.{◌≡◌, OnOk, IsPermutation};
-ghost use Rattle.std.specs.List.{position};
-ghost use Rattle.std.specs.List.Sorted.{IsNonDecreasingBy};
+ghost use Rattle.std.specs.{Prelude.{◌≡◌, OnOk, IsPermutation}, List.{position}, List.Sorted.{IsNonDecreasingBy}};
 ghost use Rattle.bd_space.specs.Histories.{space_after};
 ghost use Rattle.bd_show.specs.Pids.{pid_of};
 ghost use Rattle.bd_diagram.specs.Laned.{is_lane_of, leader_of};

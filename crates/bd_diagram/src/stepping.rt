@@ -3,8 +3,7 @@
 ghost use Rattle.std.specs.Prelude.{◌≡◌, IfOk};
 ghost use Rattle.bd_space.specs.Histories.{IsHistory, space_after};
 ghost use Rattle.bd_engine.specs.Looks as looks;
-ghost use Rattle.bd_audit.specs.Replays.{with_entry};
-ghost use Rattle.bd_audit.specs.Replies.{reply_taken};
+ghost use Rattle.bd_audit.specs.{Replays.{with_entry}, Replies.{reply_taken}};
 ghost use Rattle.bd_diagram.specs.Taken.{call_taken, unless_served};
 
 use bd_audit::advance;

@@ -1,8 +1,7 @@
 //! Writing and judging journals.
 
 ghost use Rattle.std.specs.Prelude.{◌≡◌, ◌≤◌, IfOk, IfSome};
-ghost use Rattle.bd_player.specs.Journals.{Wrote};
-ghost use Rattle.bd_player.specs.Verdicts.{IsAsSaid, IsLawfulAt0, JudgesKnown};
+ghost use Rattle.bd_player.specs.{Journals.{Wrote}, Verdicts.{IsAsSaid, IsLawfulAt0, JudgesKnown}};
 
 use crate::faults::{DONE, FAULT, Fault, after_writing, tell};
 use crate::playing::read_on;

@@ -4,8 +4,7 @@ ghost use Rattle.std.specs.Prelude.{◌≡◌, ◌≤◌, ◌++◌, false, All, 
 ghost use Rattle.bd_uapi.specs.Limits.{IsSeats};
 ghost use Rattle.bd_space.specs.Histories.{IsHistory, history_in};
 ghost use Rattle.bd_driver.specs.Together.{new_seats};
-ghost use Rattle.bd_player.specs.Playing.{Plays, RunsOn};
-ghost use Rattle.bd_player.specs.Workers.{fault_status};
+ghost use Rattle.bd_player.specs.{Playing.{Plays, RunsOn}, Workers.{fault_status}};
 
 use crate::faults::{DONE, Fault, tell};
 use crate::printing::Printer;

@@ -2,12 +2,10 @@
 
 ghost use Rattle.std.specs.Prelude.{◌≡◌, ◌≤◌, length, IfOk, IfErr};
 ghost use Rattle.bd_uapi.specs.Limits.{IsSeats};
-ghost use Rattle.bd_space.specs.Histories.{IsHistory, history_in};
-ghost use Rattle.bd_space.specs.declared.record.Record.{Record};
+ghost use Rattle.bd_space.specs.{Histories.{IsHistory, history_in}, declared.record.Record.{Record}};
 ghost use Rattle.bd_audit.specs.Replays.{StopsAt};
 ghost use Rattle.bd_journal.specs.Spelling.{Tells};
-ghost use Rattle.bd_player.specs.Verdicts.{IsVerdict, IsJudged, Judges};
-ghost use Rattle.bd_player.specs.declared.faults.Fault.TheVariants.{Journal};
+ghost use Rattle.bd_player.specs.{Verdicts.{IsVerdict, IsJudged, Judges}, declared.faults.Fault.TheVariants.{Journal}};
 
 use crate::faults::Fault;
 use bd_audit::{AuditFault, Unwatched, Watch, replay_watched};

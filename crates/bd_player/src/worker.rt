@@ -2,8 +2,7 @@
 
 ghost use Rattle.std.specs.Prelude.{◌≡◌, true, false};
 ghost use Rattle.bd_driver.specs.Rest.{is_waiting};
-ghost use Rattle.bd_player.specs.Workers.{Acts, SaysAwait, SaysCall, idles};
-ghost use Rattle.bd_player.specs.declared.said.Said.TheVariants.{Idle};
+ghost use Rattle.bd_player.specs.{Workers.{Acts, SaysAwait, SaysCall, idles}, declared.said.Said.TheVariants.{Idle}};
 
 use crate::said::Said;
 use bd_driver::{Desk, Outcome, Seat, Why};

@@ -4,12 +4,9 @@ ghost use Rattle.std.specs.Prelude.{◌≡◌, ◌≤◌, All, IfOk, IfSome, is_
 ghost use Rattle.bd_uapi.specs.Limits.{IsSeats};
 ghost use Rattle.bd_space.specs.Histories.{IsHistory, space_after, history_in};
 ghost use Rattle.bd_engine.specs.Looks as looks;
-ghost use Rattle.bd_audit.specs.Gifts.{IsChainOf};
-ghost use Rattle.bd_audit.specs.Replays.{with_entry};
-ghost use Rattle.bd_audit.specs.Replies.{call_answered};
+ghost use Rattle.bd_audit.specs.{Gifts.{IsChainOf}, Replays.{with_entry}, Replies.{call_answered}};
 ghost use Rattle.bd_audit.specs.TurnCalls.{AreTurns};
-ghost use Rattle.bd_show.specs.Certified.{IsMadeBy, named_by, turn_told};
-ghost use Rattle.bd_show.specs.Pids.{maker_of};
+ghost use Rattle.bd_show.specs.{Certified.{IsMadeBy, named_by, turn_told}, Pids.{maker_of}};
 
 use crate::entries::show_at;
 use crate::fault::Untold;

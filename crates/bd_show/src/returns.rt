@@ -1,7 +1,6 @@
 //! The returns of a stream.
 
-ghost use Rattle.std.specs.Prelude.{◌≡◌, [], ◌∷◌, MatchOption};
-ghost use Rattle.std.specs.Iterator.{YieldsFirst, item_count};
+ghost use Rattle.std.specs.{Prelude.{◌≡◌, [], ◌∷◌, MatchOption}, Iterator.{YieldsFirst, item_count}};
 ghost use Rattle.bd_show.specs.Streams.{returns_in};
 
 use bd_codec::read_return;
