@@ -3,3 +3,4 @@ mod Values
 pub mod Behind
 pub mod Commanding
 pub mod Noting
+pub mod Making

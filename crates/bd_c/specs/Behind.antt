@@ -1,11 +1,13 @@
 -- What is behind a handle: a driver, the history of one that has ended, a seat, or a live engine.
-use Rattle.std.specs.Prelude.{Option, Some, None, ⊤, IsSomeAnd}
+use Rattle.std.specs.Prelude.{◌≡◌, ◌⊎◌, Option, Some, None, ⊤, IsSomeAnd}
 use Rattle.bd_space.specs.declared.record.Record.{Record}
 use Rattle.bd_c.specs.declared.held.Held.{Held}
 use Rattle.bd_c.specs.declared.held.Held.TheVariants as held
 use Rattle.bd_c.specs.declared.host.Host.{Host}
 use Rattle.bd_c.specs.declared.live.OwnedLive.{OwnedLive}
 use Rattle.bd_c.specs.declared.seat.OwnedSeat.{OwnedSeat}
+use Rattle.bd_c.specs.declared.status.Status.{Status}
+use Rattle.bd_c.specs.declared.status.Status.TheVariants.{Done}
 
 -- something of the kind is behind the handle, of which this is so
 abbrev pub Of : {T : Type 0} → (Held → Option T) → Option Held → (T → Type 0) → Type 0
@@ -14,6 +16,10 @@ Of kind h P = IsSomeAnd h (λ v. IsSomeAnd (kind v) P)
 -- the same of what is behind it before and after
 abbrev pub Over : {T : Type 0} → (Held → Option T) → Option Held → Option Held → (T → T → Type 0) → Type 0
 Over kind h k P = Of kind h (λ x. Of kind k (P x))
+
+-- what was asked for is behind the handle, or nothing, and why
+abbrev pub IsMade : (Option Held → Type 0) → (Status → Type 0) → Option Held → Status → Type 0
+IsMade IsThis IsRefused h s = ((s ≡ Done) × IsThis h) ⊎ ((h ≡ None) × IsRefused s)
 
 abbrev pub driver_of : Held → Option Host
 driver_of (held.Driver x) = Some x

@@ -1,30 +1,29 @@
 -- What a call with a driver's handle does.
-use Rattle.std.specs.Prelude.{◌≡◌, ◌⊎◌, ℕ, Option, None}
+use Rattle.std.specs.Prelude.{◌≡◌, ℕ, false, Option, None}
 use Rattle.std.specs.Arc.{arc_value}
 use Rattle.bd_c.specs.declared.held.Held.{Held}
 use Rattle.bd_c.specs.declared.status.Status.{Status}
 use Rattle.bd_c.specs.declared.status.Status.TheVariants.{Done, NoMemory, SeatsAway}
-use Rattle.bd_c.specs.Behind.{Of, Over, driver_of, history_of, seat_of}
-use Rattle.bd_c.specs.Hosts.{Opens, IsRefusal, Hands, Keeps, TakesBack, Ends}
+use Rattle.bd_c.specs.Behind.{Of, Over, IsMade, driver_of, history_of, seat_of}
+use Rattle.bd_c.specs.Hosts.{Opens, IsRefusal, Hands, Keeps, has_room, TakesBack, Ends}
 
 -- a new driver is behind the handle, or nothing, and why
 abbrev pub OpensAt : ℕ → Option Held → Status → Type 0
-OpensAt count h s = ((s ≡ Done) × Of driver_of h (Opens count)) ⊎ ((h ≡ None) × IsRefusal count s)
+OpensAt count h s = IsMade (λ k. Of driver_of k (Opens count)) (IsRefusal count) h s
 
 -- a seat is behind the other handle, or nothing, and why
 abbrev pub HandsAt : Option Held → Option Held → Option Held → Status → Type 0
 HandsAt h k at s =
-    ((s ≡ Done) × Over driver_of h k (λ x y. Of seat_of at (Hands x y)))
-    ⊎ ((at ≡ None) × Over driver_of h k (λ x y. Keeps x y s))
+    IsMade (λ m. Over driver_of h k (λ x y. Of seat_of m (Hands x y))) (λ t. Over driver_of h k (λ x y. Keeps x y t)) at s
 
 -- the seat is one of the driver
 abbrev pub IsOwn : Option Held → Option Held → Type 0
 IsOwn h s = Of driver_of h (λ x. Of seat_of s (λ y. y.seat.table ≡ (arc_value x.driver).table))
 
--- the seat is there again, or nothing is done
+-- the seat is there again, or there was no room for it, and nothing is done
 abbrev pub ReturnsAt : Option Held → Option Held → Option Held → Option Held → Status → Type 0
 ReturnsAt h k s t Done = Over driver_of h k (λ x y. Of seat_of s (TakesBack x y)) × (t ≡ None)
-ReturnsAt h k s t NoMemory = (k ≡ h) × (t ≡ s)
+ReturnsAt h k s t NoMemory = Of driver_of h (λ x. has_room x ≡ false) × (k ≡ h) × (t ≡ s)
 ReturnsAt h k s t _ = ⊥
 
 -- the history is there, or nothing is done

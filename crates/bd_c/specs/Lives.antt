@@ -8,7 +8,7 @@ use Rattle.bd_space.specs.Histories.{History, history_of, space_after, extended,
 use Rattle.bd_engine.specs.Follows.{Follows}
 use Rattle.bd_engine.specs.Ending.{ended_between}
 use Rattle.bd_engine.specs.Refusals.{IsLiveSeats}
-use Rattle.bd_c.specs.Behind.{Of, Over, live_of}
+use Rattle.bd_c.specs.Behind.{Of, Over, IsMade, live_of}
 use Rattle.bd_c.specs.Told.{told_of_step}
 use Rattle.bd_c.specs.declared.answers.Told.{Told}
 use Rattle.bd_c.specs.declared.live.OwnedLive.{OwnedLive}
@@ -77,7 +77,7 @@ Steps x y seat z _ a b = ⊥
 
 -- a new live engine is behind the handle, or nothing, and why
 abbrev pub LiveOpensAt : ℕ → Option Held → Status → Type 0
-LiveOpensAt seats h s = ((s ≡ Done) × Of live_of h (Begins seats)) ⊎ ((h ≡ None) × IsLiveRefusal seats s)
+LiveOpensAt seats h s = IsMade (λ k. Of live_of k (Begins seats)) (IsLiveRefusal seats) h s
 
 -- the step was made with the live engine behind the handle, or none was
 abbrev pub StepsAt : Option Held → Option Held → ℕ → Step → Told → Told → Status → Type 0

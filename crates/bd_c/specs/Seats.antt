@@ -10,6 +10,7 @@ use Rattle.bd_driver.specs.Served as served
 use Rattle.bd_driver.specs.declared.outcome.Outcome.{Outcome}
 use Rattle.bd_driver.specs.declared.outcome.Served.{Served}
 use Rattle.bd_driver.specs.declared.page.Page.{Page}
+use Rattle.bd_driver.specs.declared.view.View.{View}
 use Rattle.bd_c.specs.Behind.{Over, seat_of}
 use Rattle.bd_c.specs.Told.{told_of}
 use Rattle.bd_c.specs.declared.answers.Told.{Told}
@@ -58,15 +59,17 @@ Posts x y request _ = ⊥
 abbrev pub Serves : OwnedSeat → OwnedSeat → Served → Type 0
 Serves x y told = (y.latest ≡ x.latest) × served.Serves (arc_value x.driver).seats x.seat.view y.seat.view told
 
+-- the driver did this to what was handed over, whose outcome is kept and told; or nothing was handed over, and nothing done
+abbrev pub Fetched : (View → View → Outcome → Type 0) → OwnedSeat → OwnedSeat → Status → Told → Told → Type 0
+Fetched Does x y Done a b = (o : Outcome) × Keeps y o b × Does x.seat.view y.seat.view o
+Fetched Does x y NotWaiting a b = IsWaiting x false × Nothing x y a b
+Fetched Does x y _ a b = ⊥
+
 abbrev pub Collects : OwnedSeat → OwnedSeat → Status → Told → Told → Type 0
-Collects x y Done a b = (o : Outcome) × Keeps y o b × handing.Collects x.seat.view y.seat.view o
-Collects x y NotWaiting a b = IsWaiting x false × Nothing x y a b
-Collects x y _ a b = ⊥
+Collects x y s a b = Fetched handing.Collects x y s a b
 
 abbrev pub Withdraws : OwnedSeat → OwnedSeat → Status → Told → Told → Type 0
-Withdraws x y Done a b = (o : Outcome) × Keeps y o b × handing.Withdraws x.seat.view y.seat.view o
-Withdraws x y NotWaiting a b = IsWaiting x false × Nothing x y a b
-Withdraws x y _ a b = ⊥
+Withdraws x y s a b = Fetched handing.Withdraws x y s a b
 
 -- of the seat behind the handle before and after, which is one of the same driver, this is so
 abbrev pub OverSeat : Option Held → Option Held → (OwnedSeat → OwnedSeat → Type 0) → Type 0

@@ -7,7 +7,7 @@ use crate::handles::Handle;
 use crate::held::Held;
 use crate::hosts::open_host;
 use crate::judging::{Verdict, judge_bytes, write_to};
-use crate::opening::{put, take};
+use crate::opening::{put, put_made, take};
 use crate::status::Status;
 use std::alloc::Global;
 
@@ -17,13 +17,7 @@ pub extern "C" fn hullpippin_new(alloc: Global, seats: u32, driver: &mut Handle)
     requires nothing { driver.old.held ≡ None }
     ensures { Reports result (OpensAt seats driver.new.held) }
 {
-    match open_host(alloc, seats) {
-        Ok(host) => {
-            put(driver, host);
-            Status::Done.number()
-        }
-        Err(status) => status.number(),
-    }
+    put_made(driver, open_host(alloc, seats))
 }
 
 /// Takes the first seat off a driver that is there. The seat's handle must have nothing.

@@ -1,16 +1,15 @@
 //! What C calls of a live engine: one handle, with which all seats' steps are made.
 ghost use Rattle.std.specs.Prelude.{◌≡◌, None};
-ghost use Rattle.bd_space.specs.declared.step.Step.TheVariants.{Open, Attach, SetManager, Read, ExitThread, ExitProcess};
-ghost use Rattle.bd_c.specs.{Status.{Reports}, Behind.{IsLive}, Flags.{StepsSpam}, Lives.{LiveOpensAt, StepsAt}};
+ghost use Rattle.bd_space.specs.declared.step.Step.TheVariants.{Open, Attach, SetManager, SetSpam, Read, ExitThread, ExitProcess};
+ghost use Rattle.bd_c.specs.{Status.{Reports}, Behind.{IsLive}, Flags.{ByFlag}, Lives.{LiveOpensAt, StepsAt}};
 ghost use Rattle.bd_c.specs.LiveCommands.{Commands};
 
 use crate::answers::Told;
 use crate::handles::Handle;
 use crate::live_commands::step_of;
 use crate::lives::open_live;
-use crate::opening::put;
+use crate::opening::put_made;
 use crate::requests::flag_of;
-use crate::status::Status;
 use bd_space::Step;
 use std::alloc::Global;
 
@@ -20,13 +19,7 @@ pub extern "C" fn hullpippin_live_new(alloc: Global, seats: u32, live: &mut Hand
     requires nothing { live.old.held ≡ None }
     ensures { Reports result (LiveOpensAt seats live.new.held) }
 {
-    match open_live(alloc, seats) {
-        Ok(held) => {
-            put(live, held);
-            Status::Done.number()
-        }
-        Err(status) => status.number(),
-    }
+    put_made(live, open_live(alloc, seats))
 }
 
 // Makes a step.
@@ -85,7 +78,8 @@ pub extern "C" fn hullpippin_live_set_spam(
     told: &mut Told,
 ) -> u32
     requires { IsLive live.old.held }
-    ensures { Reports result (λ s. StepsSpam live.old.held live.new.held seat on s told.old told.new) }
+    ensures { Reports result (ByFlag on (λ on. StepsAt live.old.held live.new.held seat (SetSpam on))
+        live.old.held live.new.held told.old told.new) }
 {
     match flag_of(on) {
         Ok(on) => make(live, seat, Step::SetSpam { on }, told),

@@ -4,32 +4,25 @@ ghost use Rattle.bd_journal.specs.{Spelling.{heading_bytes}, Writing.{IsHeading}
 ghost use Rattle.bd_c.specs.{LiveEntries.{got_of, IsSpelled, spelled}, Parts.{Tells}};
 
 use crate::live::OwnedLive;
-use crate::parts::tell_written;
+use crate::parts::{part_of, tell_written};
 use crate::status::Status;
 use bd_journal::{write_entry, write_heading};
 use bd_space::{Entry, StepAnswer};
 use std::alloc::Global;
 
-/// The bytes that a read got: 0 the returns, 1 the data, 2 the offsets.
+/// A part of what the latest step got, if it was a read.
 pub(crate) fn got_of(latest: &Option<Entry>, part: u32) -> &[u8]
     ensures { result.now ≡ got_of part latest.now }
 {
-    match latest {
-        Some(
-            Entry {
-                answer: StepAnswer::Got {
-                    stream,
-                    bytes,
-                    offsets,
-                },
-                ..
-            },
-        ) => match part {
-            0 => stream.as_slice(),
-            1 => bytes.as_slice(),
-            2 => offsets.as_slice(),
-            _ => &[],
-        },
+    let Some(latest) = latest else {
+        return &[];
+    };
+    match &latest.answer {
+        StepAnswer::Got {
+            stream,
+            bytes,
+            offsets,
+        } => part_of(part, stream, bytes, offsets),
         _ => &[],
     }
 }

@@ -1,6 +1,7 @@
 //! What is behind a handle, taken out and put back.
-ghost use Rattle.std.specs.Prelude.{◌≡◌, Some, None, IfOk, IfErr};
-ghost use Rattle.bd_c.specs.{declared.held.Held.{Held}, declared.status.Status.TheVariants.{NoMemory}};
+ghost use Rattle.std.specs.Prelude.{◌≡◌, Some, None, IfOk, IfErr, MatchResult};
+ghost use Rattle.bd_c.specs.{declared.held.Held.{Held}, declared.status.Status.TheVariants.{Done, NoMemory}};
+ghost use Rattle.bd_c.specs.Status.{number_of};
 
 use crate::handles::Handle;
 use crate::held::Held;
@@ -60,4 +61,20 @@ pub(crate) fn put(handle: &mut Handle, held: Box<Held>)
     ensures { handle.new.held ≡ Some held.value }
 {
     *handle = close(Loose::of(held));
+}
+
+/// Puts what was made behind the handle, which must have nothing, or tells why there is nothing to be put.
+pub(crate) fn put_made(handle: &mut Handle, made: Result<Box<Held>, Status>) -> u32
+    requires { handle.old.held ≡ None }
+    ensures { MatchResult made
+        (λ b. (result ≡ number_of Done) × (handle.new.held ≡ Some b.value))
+        (λ s. (result ≡ number_of s) × (handle.new.held ≡ None)) }
+{
+    match made {
+        Ok(held) => {
+            put(handle, held);
+            Status::Done.number()
+        }
+        Err(status) => status.number(),
+    }
 }

@@ -1,11 +1,11 @@
 //! The bytes and notes of what a seat's latest call came to.
 ghost use Rattle.std.specs.Prelude.{◌≡◌};
-ghost use Rattle.bd_c.specs.Parts.{bytes_of, notes_of, TellsNote, Fetches, TellsWritten};
+ghost use Rattle.bd_c.specs.Parts.{part_of, bytes_of, notes_of, TellsNote, Fetches, TellsWritten};
 
 use crate::status::Status;
 use bd_driver::Outcome;
 use bd_journal::{WriteError, note_number};
-use bd_space::Answer;
+use bd_space::{Answer, Bytes};
 use bd_uapi::Note;
 
 /// A note of a write: which of its commands changed nothing, from 0, and the number of the reason.
@@ -18,7 +18,24 @@ pub struct NoteTold {
     pub number: u32,
 }
 
-/// The bytes that a read got: 0 the returns, 1 the data, 2 the offsets.
+/// A part of what a read got: 0 the returns, 1 the data, 2 the offsets.
+pub(crate) fn part_of<'a>(
+    part: u32,
+    stream: &'a Bytes,
+    bytes: &'a Bytes,
+    offsets: &'a Bytes,
+) -> &'a [u8]
+    ensures { result.now ≡ part_of part stream.now bytes.now offsets.now }
+{
+    match part {
+        0 => stream.as_slice(),
+        1 => bytes.as_slice(),
+        2 => offsets.as_slice(),
+        _ => &[],
+    }
+}
+
+/// A part of what a seat's latest call got, if it was a read.
 pub(crate) fn bytes_of(latest: &Option<Outcome>, part: u32) -> &[u8]
     ensures { result.now ≡ bytes_of part latest.now }
 {
@@ -32,12 +49,7 @@ pub(crate) fn bytes_of(latest: &Option<Outcome>, part: u32) -> &[u8]
                 },
                 ..
             },
-        ) => match part {
-            0 => stream.as_slice(),
-            1 => bytes.as_slice(),
-            2 => offsets.as_slice(),
-            _ => &[],
-        },
+        ) => part_of(part, stream, bytes, offsets),
         _ => &[],
     }
 }

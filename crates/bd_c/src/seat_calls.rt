@@ -1,7 +1,7 @@
 //! What C calls of a seat.
 ghost use Rattle.std.specs.Prelude.{◌≡◌};
-ghost use Rattle.bd_space.specs.declared.step.Request.TheVariants.{Open, Attach, SetManager, Write, Read, ExitThread, ExitProcess};
-ghost use Rattle.bd_c.specs.{Status.{Reports}, Behind.{Of, IsSeat, seat_of}, Flags.{AsksSpam}};
+ghost use Rattle.bd_space.specs.declared.step.Request.TheVariants.{Open, Attach, SetManager, SetSpam, Write, Read, ExitThread, ExitProcess};
+ghost use Rattle.bd_c.specs.{Status.{Reports}, Behind.{Of, IsSeat, seat_of}, Flags.{ByFlag}};
 ghost use Rattle.bd_c.specs.{Seats.{OverSeat, AsksAt, Looks}, Parts.{bytes_of, notes_of, Fetches, TellsNote}};
 ghost use Rattle.bd_c.specs.Pages.{page_told};
 ghost use Rattle.bd_driver.specs.declared.page.Page.{Page};
@@ -60,7 +60,8 @@ pub extern "C" fn hullpippin_manager(seat: &mut Handle, told: &mut Told) -> u32
 #[unsafe(no_mangle)]
 pub extern "C" fn hullpippin_set_spam(seat: &mut Handle, on: u32, told: &mut Told) -> u32
     requires { IsSeat seat.old.held }
-    ensures { Reports result (λ s. AsksSpam seat.old.held seat.new.held on s told.old told.new) }
+    ensures { Reports result (ByFlag on (λ on. AsksAt seat.old.held seat.new.held (SetSpam on))
+        seat.old.held seat.new.held told.old told.new) }
 {
     match flag_of(on) {
         Ok(on) => ask(seat, Request::SetSpam { on }, told),

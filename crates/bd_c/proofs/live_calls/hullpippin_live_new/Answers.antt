@@ -1,10 +1,9 @@
-use Rattle.std.proofs.Common.{refl, sym, subst, inl}
-use Rattle.std.specs.Prelude.{Option}
-use Rattle.bd_c.specs.declared.held.Held.{Held}
-use Rattle.bd_c.specs.declared.status.Status.TheVariants.{Done}
 use Rattle.bd_c.specs.Behind.{Of, live_of}
-use Rattle.bd_c.specs.Lives.{Begins}
+use Rattle.bd_c.specs.Lives.{Begins, IsLiveRefusal}
+use Rattle.bd_c.proofs.Making.{made}
 use Rattle.bd_c.proofs.live_calls.hullpippin_live_new.Goals as goal
 
-pub returns-in-Ok : goal.returns-in-Ok
-returns-in-Ok c = (Done, c.number.ensures, inl (refl, subst (λ (h : Option Held). Of live_of h (Begins c.args.seats)) (sym c.put.ensures) c.in-Ok.ensures.ok))
+pub returns : goal.returns
+returns c =
+    made c.open_live.result (λ b. b.value) c.put_made.result c.put_made.new.handle.held (λ k. Of live_of k (Begins c.args.seats)) (IsLiveRefusal c.args.seats)
+    c.open_live.ensures.ok c.open_live.ensures.refused c.put_made.ensures
