@@ -26,7 +26,8 @@ use Rattle.bd_uapi.specs.declared.fault.Cause.{Cause}
 use Rattle.bd_journal.specs.declared.versions.Version.{Version}
 use Rattle.bd_journal.specs.declared.versions.Version.TheVariants.{One, Two}
 use Rattle.bd_journal.specs.declared.fault.ReadError.{ReadError}
-use Rattle.bd_journal.specs.Codes.{numbered, bit, bits, note_number, notes, cause_number, causes, fault_number, faults}
+use Rattle.bd_journal.specs.declared.codes.TheConstants.{NOTES, CAUSES, FAULTS}
+use Rattle.bd_journal.specs.Codes.{numbered, bit, bits, note_number, cause_number, fault_number}
 use Rattle.bd_journal.specs.Spelling.{block, magic, most_seats_in, has_spam, carries, parcel_bytes, step_bytes, answer_bytes, entry_bytes, heading_in, spelling_in, IsBlock, IsParcel, IsStepIn, IsAnswer, IsEntryIn, IsJournalIn, Tells}
 use Rattle.bd_journal.specs.Reading.{◌>>=◌, Gives, byte_from, word_from, block_from, whole, whole_block_from, spelled_by, command_in, blocks_from, parcel_by, parcel_from, command_step_from, open_from, number_step_from, tagged, later_step_rows, step_rows, step_from, got_from, answer_rows, answer_from, entry_from, entries_from, version_from, seats_from, record_from, journal_in}
 use Rattle.bd_journal.proofs.FieldLaws.{bind_some, demand_some, some_is, Takes, Takes-then, Takes-behind, IsBytes-rest, byte_takes, words, blocks, block_bytes}
@@ -192,13 +193,13 @@ step_again v step.ExitProcess rest fits short = refl
 
 -- ---- answers
 
-note_again : (n : Note) → numbered note_number notes (note_number n) ≡ Some n
+note_again : (n : Note) → numbered note_number NOTES (note_number n) ≡ Some n
 note_again n = grind arith
 
-cause_again : (x : Cause) → numbered cause_number causes (cause_number x) ≡ Some x
+cause_again : (x : Cause) → numbered cause_number CAUSES (cause_number x) ≡ Some x
 cause_again x = grind arith
 
-fault_again : (f : Fault) → numbered fault_number faults (fault_number f) ≡ Some f
+fault_again : (f : Fault) → numbered fault_number FAULTS (fault_number f) ≡ Some f
 fault_again f = grind arith
 
 got_row : Row answer_bytes IsAnswer 6 got_from
@@ -215,12 +216,12 @@ answer_rows_right = (
       (
         bare_row answer_bytes IsAnswer 3 answer.Accepted refl tt,
         (
-          numbered_row answer_bytes IsAnswer note_number notes 4 answer.Noted (λ n. refl) (λ n. tt),
+          numbered_row answer_bytes IsAnswer note_number NOTES 4 answer.Noted (λ n. refl) (λ n. tt),
           (
-            numbered_row answer_bytes IsAnswer cause_number causes 5 answer.Stopped (λ x. refl) (λ x. tt),
+            numbered_row answer_bytes IsAnswer cause_number CAUSES 5 answer.Stopped (λ x. refl) (λ x. tt),
             (
               got_row,
-              (numbered_row answer_bytes IsAnswer fault_number faults 7 answer.Refused (λ f. refl) (λ f. tt), tt),
+              (numbered_row answer_bytes IsAnswer fault_number FAULTS 7 answer.Refused (λ f. refl) (λ f. tt), tt),
             ),
           ),
         ),
