@@ -1,5 +1,5 @@
 -- Reading a command or a return, on lists of bytes.
-use Rattle.std.specs.Prelude.{◌+◌, ℕ, List, [], ◌∷◌, length, Result, Ok, Err, nat_lt, ◌==◌, if◌then◌else◌, Option, Some, None}
+use Rattle.std.specs.Prelude.{◌≡◌, true, false, ◌+◌, ℕ, List, [], ◌∷◌, length, Result, Ok, Err, nat_lt, ◌==◌, if◌then◌else◌, Option, Some, None}
 use Rattle.std.specs.Int.{w32, cast_signed}
 use Rattle.bd_uapi.specs.Bytes.{word_at, long_at}
 use Rattle.bd_uapi.specs.declared.command.TransactionData.{TransactionData}
@@ -30,6 +30,11 @@ record_at i bytes = record {
 -- the value, if the bytes are enough for it
 abbrev pub sized : {A : Type 0} → ℕ → List ℕ → A → Result A Fault
 sized n bytes x = if nat_lt (length bytes) n then Err ShortCommand else Ok x
+
+-- a value that is so, and the length of its spelling, if the bytes are enough for it
+abbrev pub MakesSized : {A : Type 0} → ℕ → List ℕ → (A → Type 0) → Result (A × ℕ) Fault → Type 0
+MakesSized n bytes P (Ok x) = (nat_lt (length bytes) n ≡ false) × P x.0 × (x.1 ≡ n)
+MakesSized n bytes P (Err f) = (nat_lt (length bytes) n ≡ true) × (f ≡ ShortCommand)
 
 -- a row of a table: a code, how long its spellings are, and what they read as
 pub record Row (A : Type 0) : Type 0 where

@@ -5,7 +5,7 @@ ghost use Rattle.bd_uapi.specs.{declared.command.Command.{Command}, declared.fau
 ghost use Rattle.bd_codec.specs.{Spelling.{command_bytes, IsCommand, Found}, Faults.{command_fault}};
 ghost use Rattle.bd_codec.specs.Reading.{command_at, command_of};
 
-use crate::payloads::{code, handle, handle_and_cookie, pointer, pointer_and_cookie, record};
+use crate::payloads::{bare, code, handle, handle_and_cookie, pointer, pointer_and_cookie, record};
 use crate::spelling::Spelling;
 use bd_uapi::codes::*;
 use bd_uapi::{Command, Fault};
@@ -16,32 +16,23 @@ fn command_with(code: u32, bytes: &[u8]) -> Result<(Command, usize), Fault>
     ensures { result ≡ command_of code bytes.now }
 {
     match code {
-        BC_TRANSACTION => Ok((Command::Transaction(record(bytes)?), 68)),
-        BC_REPLY => Ok((Command::Reply(record(bytes)?), 68)),
-        BC_FREE_BUFFER => Ok((Command::FreeBuffer(pointer(bytes)?), 12)),
-        BC_INCREFS => Ok((Command::Increfs(handle(bytes)?), 8)),
-        BC_ACQUIRE => Ok((Command::Acquire(handle(bytes)?), 8)),
-        BC_RELEASE => Ok((Command::Release(handle(bytes)?), 8)),
-        BC_DECREFS => Ok((Command::Decrefs(handle(bytes)?), 8)),
-        BC_INCREFS_DONE => {
-            let (pointer, cookie) = pointer_and_cookie(bytes)?;
-            Ok((Command::IncrefsDone(pointer, cookie), 20))
-        }
-        BC_ACQUIRE_DONE => {
-            let (pointer, cookie) = pointer_and_cookie(bytes)?;
-            Ok((Command::AcquireDone(pointer, cookie), 20))
-        }
-        BC_ENTER_LOOPER => Ok((Command::EnterLooper, 4)),
-        BC_EXIT_LOOPER => Ok((Command::ExitLooper, 4)),
-        BC_REQUEST_DEATH_NOTIFICATION => {
-            let (handle, cookie) = handle_and_cookie(bytes)?;
-            Ok((Command::RequestDeathNotification(handle, cookie), 16))
-        }
-        BC_CLEAR_DEATH_NOTIFICATION => {
-            let (handle, cookie) = handle_and_cookie(bytes)?;
-            Ok((Command::ClearDeathNotification(handle, cookie), 16))
-        }
-        BC_DEAD_BINDER_DONE => Ok((Command::DeadBinderDone(pointer(bytes)?), 12)),
+        BC_TRANSACTION => record(bytes, Command::Transaction),
+        BC_REPLY => record(bytes, Command::Reply),
+        BC_FREE_BUFFER => pointer(bytes, Command::FreeBuffer),
+        BC_INCREFS => handle(bytes, Command::Increfs),
+        BC_ACQUIRE => handle(bytes, Command::Acquire),
+        BC_RELEASE => handle(bytes, Command::Release),
+        BC_DECREFS => handle(bytes, Command::Decrefs),
+        BC_INCREFS_DONE => pointer_and_cookie(bytes, Command::IncrefsDone),
+        BC_ACQUIRE_DONE => pointer_and_cookie(bytes, Command::AcquireDone),
+        BC_ENTER_LOOPER => bare(Command::EnterLooper),
+        BC_EXIT_LOOPER => bare(Command::ExitLooper),
+        BC_REQUEST_DEATH_NOTIFICATION => handle_and_cookie(
+            bytes,
+            Command::RequestDeathNotification,
+        ),
+        BC_CLEAR_DEATH_NOTIFICATION => handle_and_cookie(bytes, Command::ClearDeathNotification),
+        BC_DEAD_BINDER_DONE => pointer(bytes, Command::DeadBinderDone),
         BC_ACQUIRE_RESULT
         | BC_ATTEMPT_ACQUIRE
         | BC_REGISTER_LOOPER

@@ -1,8 +1,8 @@
 //! The payloads of commands and returns, read behind a code.
 
-ghost use Rattle.std.specs.Prelude.{◌≡◌, ◌≤◌, ◌+◌, length};
+ghost use Rattle.std.specs.Prelude.{◌≡◌, ◌≤◌, ◌+◌, length, Ok};
 ghost use Rattle.bd_uapi.specs.Bytes.{word_at, long_at};
-ghost use Rattle.bd_codec.specs.Reading.{record_at, sized};
+ghost use Rattle.bd_codec.specs.Reading.{record_at, sized, MakesSized};
 
 use bd_uapi::numbers::{u32_at, u64_at};
 use bd_uapi::{Fault, TransactionData, TransactionFlags};
@@ -37,47 +37,69 @@ fn record_of(bytes: &[u8], at: usize) -> TransactionData
     }
 }
 
-pub fn record(bytes: &[u8]) -> Result<TransactionData, Fault>
-    ensures { result ≡ sized 68 bytes.now (record_at 4 bytes.now) }
+// Each of the following makes a value of a payload, and tells how many bytes the whole spelling takes.
+
+pub fn bare<T>(value: T) -> Result<(T, usize), Fault>
+    ensures { result ≡ Ok (value, 4) }
+{
+    Ok((value, 4))
+}
+
+pub fn record<T, F: FnOnce(TransactionData) -> T>(
+    bytes: &[u8],
+    make: F,
+) -> Result<(T, usize), Fault>
+    requires { F.IsAlwaysCallable make }
+    ensures { MakesSized 68 bytes.now (F.post make (record_at 4 bytes.now)) result }
 {
     if bytes.len() < 68 {
         return Err(Fault::ShortCommand);
     }
-    Ok(record_of(bytes, 4))
+    Ok((make(record_of(bytes, 4)), 68))
 }
 
-pub fn handle(bytes: &[u8]) -> Result<u32, Fault>
-    ensures { result ≡ sized 8 bytes.now (word_at 4 bytes.now) }
+pub fn handle<T, F: FnOnce(u32) -> T>(bytes: &[u8], make: F) -> Result<(T, usize), Fault>
+    requires { F.IsAlwaysCallable make }
+    ensures { MakesSized 8 bytes.now (F.post make (word_at 4 bytes.now)) result }
 {
     if bytes.len() < 8 {
         return Err(Fault::ShortCommand);
     }
-    Ok(u32_at(bytes, 4))
+    Ok((make(u32_at(bytes, 4)), 8))
 }
 
-pub fn pointer(bytes: &[u8]) -> Result<u64, Fault>
-    ensures { result ≡ sized 12 bytes.now (long_at 4 bytes.now) }
+pub fn pointer<T, F: FnOnce(u64) -> T>(bytes: &[u8], make: F) -> Result<(T, usize), Fault>
+    requires { F.IsAlwaysCallable make }
+    ensures { MakesSized 12 bytes.now (F.post make (long_at 4 bytes.now)) result }
 {
     if bytes.len() < 12 {
         return Err(Fault::ShortCommand);
     }
-    Ok(u64_at(bytes, 4))
+    Ok((make(u64_at(bytes, 4)), 12))
 }
 
-pub fn pointer_and_cookie(bytes: &[u8]) -> Result<(u64, u64), Fault>
-    ensures { result ≡ sized 20 bytes.now (long_at 4 bytes.now, long_at 12 bytes.now) }
+pub fn pointer_and_cookie<T, F: FnOnce(u64, u64) -> T>(
+    bytes: &[u8],
+    make: F,
+) -> Result<(T, usize), Fault>
+    requires { F.IsAlwaysCallable make }
+    ensures { MakesSized 20 bytes.now (F.post make (long_at 4 bytes.now) (long_at 12 bytes.now)) result }
 {
     if bytes.len() < 20 {
         return Err(Fault::ShortCommand);
     }
-    Ok((u64_at(bytes, 4), u64_at(bytes, 12)))
+    Ok((make(u64_at(bytes, 4), u64_at(bytes, 12)), 20))
 }
 
-pub fn handle_and_cookie(bytes: &[u8]) -> Result<(u32, u64), Fault>
-    ensures { result ≡ sized 16 bytes.now (word_at 4 bytes.now, long_at 8 bytes.now) }
+pub fn handle_and_cookie<T, F: FnOnce(u32, u64) -> T>(
+    bytes: &[u8],
+    make: F,
+) -> Result<(T, usize), Fault>
+    requires { F.IsAlwaysCallable make }
+    ensures { MakesSized 16 bytes.now (F.post make (word_at 4 bytes.now) (long_at 8 bytes.now)) result }
 {
     if bytes.len() < 16 {
         return Err(Fault::ShortCommand);
     }
-    Ok((u32_at(bytes, 4), u64_at(bytes, 8)))
+    Ok((make(u32_at(bytes, 4), u64_at(bytes, 8)), 16))
 }

@@ -5,7 +5,7 @@ ghost use Rattle.bd_uapi.specs.{declared.command.Return.{Return}, declared.fault
 ghost use Rattle.bd_codec.specs.{Spelling.{return_bytes, IsReturn, Found}, Faults.{return_fault}};
 ghost use Rattle.bd_codec.specs.Reading.{return_at, return_of};
 
-use crate::payloads::{code, pointer, pointer_and_cookie, record};
+use crate::payloads::{bare, code, pointer, pointer_and_cookie, record};
 use crate::spelling::Spelling;
 use bd_uapi::codes::*;
 use bd_uapi::{Fault, Return};
@@ -16,34 +16,19 @@ fn return_with(code: u32, bytes: &[u8]) -> Result<(Return, usize), Fault>
     ensures { result ≡ return_of code bytes.now }
 {
     match code {
-        BR_TRANSACTION => Ok((Return::Transaction(record(bytes)?), 68)),
-        BR_REPLY => Ok((Return::Reply(record(bytes)?), 68)),
-        BR_DEAD_REPLY => Ok((Return::DeadReply, 4)),
-        BR_TRANSACTION_COMPLETE => Ok((Return::TransactionComplete, 4)),
-        BR_INCREFS => {
-            let (pointer, cookie) = pointer_and_cookie(bytes)?;
-            Ok((Return::Increfs(pointer, cookie), 20))
-        }
-        BR_ACQUIRE => {
-            let (pointer, cookie) = pointer_and_cookie(bytes)?;
-            Ok((Return::Acquire(pointer, cookie), 20))
-        }
-        BR_RELEASE => {
-            let (pointer, cookie) = pointer_and_cookie(bytes)?;
-            Ok((Return::Release(pointer, cookie), 20))
-        }
-        BR_DECREFS => {
-            let (pointer, cookie) = pointer_and_cookie(bytes)?;
-            Ok((Return::Decrefs(pointer, cookie), 20))
-        }
-        BR_NOOP => Ok((Return::Noop, 4)),
-        BR_DEAD_BINDER => Ok((Return::DeadBinder(pointer(bytes)?), 12)),
-        BR_CLEAR_DEATH_NOTIFICATION_DONE => Ok((
-            Return::ClearDeathNotificationDone(pointer(bytes)?),
-            12,
-        )),
-        BR_FAILED_REPLY => Ok((Return::FailedReply, 4)),
-        BR_ONEWAY_SPAM_SUSPECT => Ok((Return::OnewaySpamSuspect, 4)),
+        BR_TRANSACTION => record(bytes, Return::Transaction),
+        BR_REPLY => record(bytes, Return::Reply),
+        BR_DEAD_REPLY => bare(Return::DeadReply),
+        BR_TRANSACTION_COMPLETE => bare(Return::TransactionComplete),
+        BR_INCREFS => pointer_and_cookie(bytes, Return::Increfs),
+        BR_ACQUIRE => pointer_and_cookie(bytes, Return::Acquire),
+        BR_RELEASE => pointer_and_cookie(bytes, Return::Release),
+        BR_DECREFS => pointer_and_cookie(bytes, Return::Decrefs),
+        BR_NOOP => bare(Return::Noop),
+        BR_DEAD_BINDER => pointer(bytes, Return::DeadBinder),
+        BR_CLEAR_DEATH_NOTIFICATION_DONE => pointer(bytes, Return::ClearDeathNotificationDone),
+        BR_FAILED_REPLY => bare(Return::FailedReply),
+        BR_ONEWAY_SPAM_SUSPECT => bare(Return::OnewaySpamSuspect),
         _ => Err(Fault::UnknownCommand),
     }
 }
