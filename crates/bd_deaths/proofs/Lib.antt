@@ -7,7 +7,6 @@ pub mod Lives
 pub mod Only
 pub mod Staying
 pub mod Places
-pub mod Room
 pub mod SharedKeys
 pub mod Telling
 pub mod Tests

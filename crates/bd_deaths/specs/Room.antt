@@ -1,5 +1,6 @@
 -- How many notifications a table may still take without memory, how many slots it has, and what a change takes of that.
-use Rattle.std.specs.Prelude.{ℕ, ◌+◌, ◌-◌, ◌/◌, ◌≤◌, min, vec_len, vec_capacity}
+use Rattle.std.specs.Prelude.{ℕ, ◌-◌, ◌/◌, min, vec_len, vec_capacity}
+use Rattle.bd_words.specs.Tables as tables
 use Rattle.bd_groups.specs.Members.{group_room}
 use Rattle.bd_deaths.specs.declared.list.DeathList.{DeathList}
 use Rattle.bd_deaths.specs.declared.table.DeathTable.{DeathTable}
@@ -19,10 +20,8 @@ unfoldable pub death_count : DeathTable → ℕ
 death_count t = list_count t.list
 
 -- a change takes room for at most n notifications, and adds at most n
-pub record ListUses (old new : DeathList) (n : ℕ) : Type 0 where
-  pub room : list_room old ≤ list_room new + n
-  pub count : list_count new ≤ list_count old + n
+abbrev pub ListUses : DeathList → DeathList → ℕ → Type 0
+ListUses = tables.Uses list_room list_count
 
-pub record Uses (old new : DeathTable) (n : ℕ) : Type 0 where
-  pub room : death_room old ≤ death_room new + n
-  pub count : death_count new ≤ death_count old + n
+abbrev pub Uses : DeathTable → DeathTable → ℕ → Type 0
+Uses = tables.Uses death_room death_count

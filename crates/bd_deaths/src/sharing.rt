@@ -11,7 +11,7 @@ ghost use Rattle.bd_deaths.specs.SharedAt.{group_at, AreShared, key_room};
 
 use crate::key::{Group, Key, NameKey, cookie_of, name_of, with_one, without_one};
 use bd_space::DeathNotification;
-use bd_words::WordMap;
+use bd_words::{WordMap, insert_reserved};
 use std::alloc::{AllocError, Global};
 use std::collections::HashMap;
 
@@ -42,10 +42,7 @@ fn add_name(names: &mut HashMap<NameKey, Group>, x: &DeathNotification)
 {
     let key = name_of(x);
     let more = with_one(names.get(&key).copied(), x.made);
-    match names.insert(key, more) {
-        Ok(_) => {}
-        Err(_) => {}
-    }
+    insert_reserved(names, key, more);
 }
 
 /// One more has its cookie.

@@ -4,7 +4,6 @@ pub mod Newest
 pub mod Removing
 pub mod Counting
 pub mod Ways
-pub mod Room
 pub mod Alike
 pub mod Linking
 pub mod Standing

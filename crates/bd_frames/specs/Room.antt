@@ -1,6 +1,7 @@
 -- How many frames a table may still take without memory, how many it has, and what a change takes of that.
-use Rattle.std.specs.Prelude.{ℕ, ◌+◌, ◌-◌, ◌/◌, ◌≤◌, min, vec_len, vec_capacity}
+use Rattle.std.specs.Prelude.{ℕ, ◌-◌, ◌/◌, min, vec_len, vec_capacity}
 use Rattle.std.specs.HashMap.{spare}
+use Rattle.bd_words.specs.Tables as tables
 use Rattle.bd_frames.specs.declared.stacks.Stacks.{Stacks}
 use Rattle.bd_frames.specs.declared.table.FrameTable.{FrameTable}
 
@@ -15,6 +16,5 @@ unfoldable pub frame_count : FrameTable → ℕ
 frame_count t = vec_len t.frames
 
 -- a change takes room for at most n frames, and adds at most n
-pub record Uses (old new : FrameTable) (n : ℕ) : Type 0 where
-  pub room : frame_room old ≤ frame_room new + n
-  pub count : frame_count new ≤ frame_count old + n
+abbrev pub Uses : FrameTable → FrameTable → ℕ → Type 0
+Uses = tables.Uses frame_room frame_count

@@ -1,5 +1,6 @@
 -- What a table of frames stands for: the frames of the space, in its order.
 use Rattle.std.specs.Prelude.{◌≡◌, List}
+use Rattle.bd_words.specs.Tables as tables
 use Rattle.bd_space.specs.declared.space.Frame.{Frame}
 use Rattle.bd_frames.specs.declared.table.FrameTable.{FrameTable}
 use Rattle.bd_frames.specs.Places.{RiseIf}
@@ -16,8 +17,8 @@ pub record FramesAre (t : FrameTable) (l : List Frame) : Type 0 where
 
 -- of every list that the table stands for x is what f says
 abbrev pub Tells : {A : Type 0} → FrameTable → A → (List Frame → A) → Type 0
-Tells t x f = (l : List Frame) → FramesAre t l → x ≡ f l
+Tells = tables.Tells FramesAre
 
 -- every list that the table stood for was changed by f
 abbrev pub Makes : FrameTable → FrameTable → (List Frame → List Frame) → Type 0
-Makes t u f = (l : List Frame) → FramesAre t l → FramesAre u (f l)
+Makes = tables.Makes FramesAre

@@ -7,6 +7,7 @@ ghost use Rattle.bd_frames.specs.Children as spec;
 ghost use Rattle.bd_frames.specs.Children.{kept_at, AreChildren};
 
 use bd_space::Frame;
+use bd_words::insert_reserved;
 use std::collections::HashMap;
 
 /// How many children the call made there has.
@@ -16,18 +17,6 @@ pub(crate) fn child_count(children: &HashMap<u32, u64>, made: u32) -> u64
     match children.get(&made) {
         Some(count) => *count,
         None => 0,
-    }
-}
-
-// The call made there has so many, of which it may be the first.
-fn raise(children: &mut HashMap<u32, u64>, made: u32, count: u64)
-    requires { 0 < spare children.old }
-    ensures counts { (m : ℕ) → kept_at children.new m ≡ (if made == m then Some count else kept_at children.old m) }
-    ensures spare { spare children.old ≤ spare children.new + 1 }
-{
-    match children.insert(made, count) {
-        Ok(_) => {}
-        Err(_) => {}
     }
 }
 
@@ -74,7 +63,7 @@ pub(crate) fn add_child(children: &mut HashMap<u32, u64>, frame: Frame)
 {
     if let Some(made) = frame.parent {
         let count = child_count(children, made).saturating_add(1);
-        raise(children, made, count);
+        insert_reserved(children, made, count);
     }
 }
 

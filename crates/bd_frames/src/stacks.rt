@@ -12,8 +12,9 @@ ghost use Rattle.bd_frames.specs.{Places.{IsRising, IsNewestAt}, Children.{kept_
 ghost use Rattle.bd_frames.specs.Words.{is_pending, left_frame};
 
 use crate::server::{is_pending, server_of};
-use crate::tops::{forget_top, has_room, pop_top, put_top, put_top_of, top_of, top_of_some};
+use crate::tops::{forget_top, has_room, pop_top, put_top_of, top_of, top_of_some};
 use bd_space::{Frame, Server};
+use bd_words::insert_reserved;
 use std::alloc::{AllocError, Global};
 use std::collections::HashMap;
 
@@ -190,7 +191,7 @@ impl Stacks {
         let top = top_of(&self.tops, seat);
         self.whole = self.whole && is_under(top, frame.made);
         set_server(&mut self.below, i, top);
-        put_top(&mut self.tops, seat, frame.made);
+        insert_reserved(&mut self.tops, seat, frame.made);
     }
 
     // The thread has read the call of the frame of this index, and serves it.

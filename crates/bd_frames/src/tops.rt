@@ -5,6 +5,7 @@ ghost use Rattle.std.specs.{Option.{option_and_then}, HashMap.{spare}};
 ghost use Rattle.bd_space.specs.Words.{is_some_and};
 ghost use Rattle.bd_frames.specs.Children.{kept_at};
 
+use bd_words::insert_reserved;
 use std::collections::HashMap;
 
 pub(crate) fn top_of(tops: &HashMap<u32, u32>, seat: u32) -> Option<u32>
@@ -27,19 +28,7 @@ pub(crate) fn has_room(tops: &HashMap<u32, u32>) -> bool
     tops.len() < tops.capacity()
 }
 
-/// The thread's innermost frame was made there.
-pub(crate) fn put_top(tops: &mut HashMap<u32, u32>, seat: u32, made: u32)
-    requires { 0 < spare tops.old }
-    ensures tops { (s : ℕ) → kept_at tops.new s ≡ (if seat == s then Some made else kept_at tops.old s) }
-    ensures spare { spare tops.old ≤ spare tops.new + 1 }
-{
-    match tops.insert(seat, made) {
-        Ok(_) => {}
-        Err(_) => {}
-    }
-}
-
-/// The same, if there is a thread.
+/// The thread's innermost frame was made there, if there is a thread.
 pub(crate) fn put_top_of(tops: &mut HashMap<u32, u32>, seat: Option<u32>, made: u32)
     requires { 0 < spare tops.old }
     ensures tops { (s : ℕ) → kept_at tops.new s
@@ -47,7 +36,7 @@ pub(crate) fn put_top_of(tops: &mut HashMap<u32, u32>, seat: Option<u32>, made: 
     ensures spare { spare tops.old ≤ spare tops.new + 1 }
 {
     if let Some(seat) = seat {
-        put_top(tops, seat, made);
+        insert_reserved(tops, seat, made);
     }
 }
 

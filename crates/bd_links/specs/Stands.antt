@@ -1,5 +1,6 @@
 -- What a table of work items stands for: the work items of the space, in its order.
 use Rattle.std.specs.Prelude.{ℕ, ◌≡◌, List, min}
+use Rattle.bd_words.specs.Tables as tables
 use Rattle.bd_space.specs.declared.space.Work.{Work}
 use Rattle.bd_links.specs.declared.table.WorkTable.{WorkTable}
 use Rattle.bd_links.specs.Registered.{Registered, register_room}
@@ -15,8 +16,8 @@ work_room t = min (min (queues.queue_room t.queues) (register_room t.register)) 
 
 -- of every list that the table stands for x is what f says
 abbrev pub Tells : {A : Type 0} → WorkTable → A → (List Work → A) → Type 0
-Tells t x f = (l : List Work) → WorksAre t l → x ≡ f l
+Tells = tables.Tells WorksAre
 
 -- every list that the table stood for was changed by f
 abbrev pub Makes : WorkTable → WorkTable → (List Work → List Work) → Type 0
-Makes t u f = (l : List Work) → WorksAre t l → WorksAre u (f l)
+Makes = tables.Makes WorksAre

@@ -8,7 +8,7 @@ ghost use Rattle.bd_space.specs.Todo.{same_list};
 ghost use Rattle.bd_links.specs.Heads as heads;
 
 use bd_space::TodoList;
-use bd_words::pair;
+use bd_words::{insert_reserved, pair};
 use std::collections::HashMap;
 use std::hash::{Hash, Hasher};
 
@@ -66,10 +66,7 @@ pub fn put_head(lists: &mut HashMap<ListKey, usize>, list: TodoList, head: usize
         ≡ (if same_list list l then Some head else heads.head_at lists.old l) }
     ensures spare { spare lists.old ≤ spare lists.new + 1 }
 {
-    match lists.insert(list_key(list), head) {
-        Ok(_) => {}
-        Err(_) => {}
-    }
+    insert_reserved(lists, list_key(list), head);
 }
 
 /// The list has no ring from now on.

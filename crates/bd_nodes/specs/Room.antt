@@ -1,7 +1,8 @@
 -- How many objects a table may still take without memory, how many it has, and what a change takes of that.
-use Rattle.std.specs.Prelude.{ℕ, ◌+◌, ◌≤◌, min}
+use Rattle.std.specs.Prelude.{ℕ, min}
 use Rattle.std.specs.HashMap.{hash_map_len, spare}
 use Rattle.bd_words.specs.Look.{word_room}
+use Rattle.bd_words.specs.Tables as tables
 use Rattle.bd_groups.specs.Members.{group_room}
 use Rattle.bd_nodes.specs.declared.table.NodeTable.{NodeTable}
 
@@ -12,6 +13,5 @@ unfoldable pub node_count : NodeTable → ℕ
 node_count t = hash_map_len t.objects
 
 -- a change takes room for at most n objects, and adds at most n
-pub record Uses (old new : NodeTable) (n : ℕ) : Type 0 where
-  pub room : node_room old ≤ node_room new + n
-  pub count : node_count new ≤ node_count old + n
+abbrev pub Uses : NodeTable → NodeTable → ℕ → Type 0
+Uses = tables.Uses node_room node_count

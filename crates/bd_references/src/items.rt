@@ -11,6 +11,7 @@ use crate::keys::ItemKey;
 use crate::windows::{leave_each, list_window, reserve_windows};
 use bd_groups::{Group, Groups};
 use bd_space::Reference;
+use bd_words::insert_reserved;
 use std::alloc::{AllocError, Global};
 use std::collections::HashMap;
 
@@ -43,16 +44,11 @@ fn put(held: &mut HashMap<ItemKey, Reference>, b: u32, i: u64, r: Reference)
     ensures items { (c j : ℕ) → item_in held.new c j ≡ (if (b == c) && (i == j) then Some r else item_in held.old c j) }
     ensures spare { spare held.old ≤ spare held.new + 1 }
 {
-    match held.insert(
-        ItemKey {
-            buffer: b,
-            index: i,
-        },
-        r,
-    ) {
-        Ok(_) => {}
-        Err(_) => {}
-    }
+    let key = ItemKey {
+        buffer: b,
+        index: i,
+    };
+    insert_reserved(held, key, r);
 }
 
 // The buffer's next index is set.
@@ -61,10 +57,7 @@ fn set_end(ends: &mut HashMap<u32, u64>, b: u32, i: u64)
     ensures ends { (c : ℕ) → end_in ends.new c ≡ (if b == c then i else end_in ends.old c) }
     ensures spare { spare ends.old ≤ spare ends.new + 1 }
 {
-    match ends.insert(b, i) {
-        Ok(_) => {}
-        Err(_) => {}
-    }
+    insert_reserved(ends, b, i);
 }
 
 // What the buffer holds at these indexes goes.

@@ -4,24 +4,13 @@ ghost use Rattle.std.specs.{Prelude.{ℕ, ◌≡◌, ◌==◌, ◌≤◌, ◌<�
 ghost use Rattle.bd_threads.specs.Apart.{place_at};
 
 use bd_space::Thread;
+use bd_words::insert_reserved;
 use std::collections::HashMap;
 
 pub(crate) fn place_of(places: &HashMap<u32, u32>, seat: u32) -> Option<u32>
     ensures { result ≡ place_at places.now seat }
 {
     places.get(&seat).copied()
-}
-
-// The seat's thread was made there.
-fn put_place(places: &mut HashMap<u32, u32>, seat: u32, made: u32)
-    requires { 0 < spare places.old }
-    ensures places { (s : ℕ) → place_at places.new s ≡ (if seat == s then Some made else place_at places.old s) }
-    ensures spare { spare places.old ≤ spare places.new + 1 }
-{
-    match places.insert(seat, made) {
-        Ok(_) => {}
-        Err(_) => {}
-    }
 }
 
 /// The thread comes in, where threads are found by places.
@@ -32,7 +21,7 @@ pub(crate) fn add_place(places: &mut HashMap<u32, u32>, apart: bool, thread: Thr
     ensures spare { spare places.old ≤ spare places.new + 1 }
 {
     if apart {
-        put_place(places, thread.seat, thread.made);
+        insert_reserved(places, thread.seat, thread.made);
     }
 }
 

@@ -1,6 +1,7 @@
 -- How many one-way calls a table may still take without memory, how many slots it has, and what a change takes of that.
-use Rattle.std.specs.Prelude.{ℕ, ◌+◌, ◌-◌, ◌≤◌, min, vec_len, vec_capacity}
+use Rattle.std.specs.Prelude.{ℕ, ◌-◌, min, vec_len, vec_capacity}
 use Rattle.std.specs.HashMap.{spare}
+use Rattle.bd_words.specs.Tables as tables
 use Rattle.bd_groups.specs.Members.{group_room}
 use Rattle.bd_turns.specs.declared.queue.Queue.{Queue}
 use Rattle.bd_turns.specs.declared.table.TurnTable.{TurnTable}
@@ -18,10 +19,8 @@ unfoldable pub turn_count : TurnTable → ℕ
 turn_count t = queue_count t.queue
 
 -- a change takes room for at most n calls, and adds at most n
-pub record QueueUses (old new : Queue) (n : ℕ) : Type 0 where
-  pub room : queue_room old ≤ queue_room new + n
-  pub count : queue_count new ≤ queue_count old + n
+abbrev pub QueueUses : Queue → Queue → ℕ → Type 0
+QueueUses = tables.Uses queue_room queue_count
 
-pub record Uses (old new : TurnTable) (n : ℕ) : Type 0 where
-  pub room : turn_room old ≤ turn_room new + n
-  pub count : turn_count new ≤ turn_count old + n
+abbrev pub Uses : TurnTable → TurnTable → ℕ → Type 0
+Uses = tables.Uses turn_room turn_count

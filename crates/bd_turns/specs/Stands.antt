@@ -1,5 +1,6 @@
 -- What a table of one-way calls stands for: the one-way calls of the space, in its order.
 use Rattle.std.specs.Prelude.{◌≡◌, true, List}
+use Rattle.bd_words.specs.Tables as tables
 use Rattle.bd_space.specs.declared.step.ObjectId.{ObjectId}
 use Rattle.bd_space.specs.declared.space.Turn.{Turn}
 use Rattle.bd_turns.specs.declared.queue.Queue.{Queue}
@@ -20,8 +21,8 @@ pub record TurnsAre (t : TurnTable) (l : List Turn) : Type 0 where
 
 -- of every list that the table stands for x is what f says
 abbrev pub Tells : {A : Type 0} → TurnTable → A → (List Turn → A) → Type 0
-Tells t x f = (l : List Turn) → TurnsAre t l → x ≡ f l
+Tells = tables.Tells TurnsAre
 
 -- every list that the table stood for was changed by f
 abbrev pub Makes : TurnTable → TurnTable → (List Turn → List Turn) → Type 0
-Makes t u f = (l : List Turn) → TurnsAre t l → TurnsAre u (f l)
+Makes = tables.Makes TurnsAre

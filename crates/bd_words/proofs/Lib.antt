@@ -3,3 +3,4 @@ pub mod Places
 pub mod Walks
 pub mod Hanging
 pub mod Looks
+pub mod Tables

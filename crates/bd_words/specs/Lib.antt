@@ -4,3 +4,4 @@ pub mod Tree
 pub mod Room
 pub mod Look
 pub mod Numbers
+pub mod Tables

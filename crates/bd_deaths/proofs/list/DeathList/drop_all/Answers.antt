@@ -2,7 +2,7 @@ use Rattle.std.proofs.Common.{filter, refl, sym, subst, ◌∙◌}
 use Rattle.std.proofs.lemmas.List.{map-id}
 use Rattle.std.proofs.lemmas.Iterator.Consumers.{YieldsList-at, YieldsList-from_first, YieldsList-end}
 use Rattle.bd_deaths.specs.Stands.{AreIn}
-use Rattle.bd_deaths.proofs.Room.{uses-none, uses-then}
+use Rattle.bd_words.proofs.Tables.{uses-none, uses-then}
 use Rattle.bd_deaths.proofs.Listed.{is_left, none-left-out, one-more-out}
 use Rattle.bd_deaths.proofs.list.DeathList.drop_all.Goals as goal
 
@@ -17,7 +17,7 @@ loop-made-preserved c = record {
   so_far = λ xs h.
       subst (AreIn c.drop_at.new.self) (one-more-out c.args.p c.loop-made.yielded c.in-Some.made xs)
       (c.drop_at.ensures.stands _ (c.loop-made.invariant.so_far xs h));
-  uses = uses-then _ _ _ c.loop-made.invariant.uses c.drop_at.ensures.uses;
+  uses = uses-then c.loop-made.invariant.uses c.drop_at.ensures.uses;
 }
 
 pub returns-clause-stands : goal.returns-clause-stands

@@ -4,7 +4,7 @@ use Rattle.bd_deaths.specs.Slots.{lives, on, gone}
 use Rattle.bd_deaths.specs.Stands.{AreIn}
 use Rattle.bd_deaths.proofs.Lives.{lives-dropped}
 use Rattle.bd_space.proofs.Ranges.{changed-first, changed-last, changed-written, changed-left}
-use Rattle.bd_deaths.proofs.Room.{uses-none, uses-then}
+use Rattle.bd_words.proofs.Tables.{uses-none, uses-then}
 use Rattle.bd_deaths.proofs.list.DeathList.drop_in.Goals as goal
 use Rattle.bd_deaths.proofs.list.DeathList.drop_in.Goals.{then-slot+then-f, else-slot, else-slot-via-then-slot+else-f, else-slot-via-else-slot}
 
@@ -41,7 +41,7 @@ loop-i-preserved g c =
     elim c.if-slot.branch [
       | then-slot+then-f w ↦ rw w.self-is (record {
         len = w.leave_slot.ensures.len ∙ inv.len;
-        uses = uses-then _ _ _ inv.uses w.leave_slot.ensures.uses;
+        uses = uses-then inv.uses w.leave_slot.ensures.uses;
         stands = λ xs h. w.leave_slot.ensures.stands _ (inv.stands xs h);
         so_far = λ q answers within.
             let yes = both d.live (q d.death) w.if-slot.true (sym (answers d.death w.f.result w.f.ensures) ∙ w.if-f.true) in

@@ -3,7 +3,7 @@ use Rattle.std.proofs.lemmas.List.{map-id}
 use Rattle.std.proofs.lemmas.Iterator.Consumers.{YieldsList-at, YieldsList-from_first, YieldsList-end}
 use Rattle.bd_deaths.specs.Due.{queued_at, has_place}
 use Rattle.bd_deaths.specs.Stands.{AreIn}
-use Rattle.bd_deaths.proofs.Room.{uses-none, uses-then}
+use Rattle.bd_words.proofs.Tables.{uses-none, uses-then}
 use Rattle.bd_deaths.proofs.Telling.{no-places, place-next}
 use Rattle.bd_deaths.proofs.list.DeathList.queue_all.Goals as goal
 
@@ -18,7 +18,7 @@ loop-made-preserved c = record {
   so_far = λ objects xs n h.
       subst (AreIn c.queue_at.new.self) (place-next objects c.args.p c.loop-made.yielded c.in-Some.made xs)
       (c.queue_at.ensures.stands objects _ n (c.loop-made.invariant.so_far objects xs n h));
-  uses = uses-then _ _ _ c.loop-made.invariant.uses c.queue_at.ensures.uses;
+  uses = uses-then c.loop-made.invariant.uses c.queue_at.ensures.uses;
 }
 
 pub returns-clause-stands : goal.returns-clause-stands

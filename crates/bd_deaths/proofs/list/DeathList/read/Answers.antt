@@ -10,7 +10,7 @@ use Rattle.bd_space.specs.declared.space.DeathNotification.{DeathNotification}
 use Rattle.bd_space.specs.declared.space.Phase.TheVariants.{Told}
 use Rattle.bd_deaths.specs.Stands.{AreIn}
 use Rattle.bd_deaths.proofs.Changes.{none, same_tests, twice}
-use Rattle.bd_deaths.proofs.Room.{uses-none, uses-then}
+use Rattle.bd_words.proofs.Tables.{uses-none, uses-then}
 use Rattle.bd_deaths.proofs.list.DeathList.read.Goals as goal
 
 pub loop-w-init : goal.loop-w-init
@@ -33,7 +33,7 @@ pub loop-w-preserved : goal.loop-w-preserved
 loop-w-preserved c = record {
   so_far = λ xs h.
       subst (AreIn c.read_one.new.self) (read-next c.args.taken.now c.loop-w.w-index _ xs c.loop-w-test.true) (c.read_one.ensures.stands _ (c.loop-w.invariant.so_far xs h));
-  uses = uses-then _ _ _ c.loop-w.invariant.uses c.read_one.ensures.uses;
+  uses = uses-then c.loop-w.invariant.uses c.read_one.ensures.uses;
 }
 
 pub returns-clause-stands : goal.returns-clause-stands

@@ -10,7 +10,7 @@ use Rattle.bd_deaths.specs.Due.{is_queued_in}
 use Rattle.bd_deaths.specs.Listed.{IsListed}
 use Rattle.bd_deaths.specs.Stands.{AreIn}
 use Rattle.bd_deaths.proofs.Listed.{listed-changed}
-use Rattle.bd_deaths.proofs.Room.{uses-none, uses-then}
+use Rattle.bd_words.proofs.Tables.{uses-none, uses-then}
 use Rattle.bd_deaths.proofs.Telling.{queued, no-places}
 use Rattle.bd_deaths.proofs.Visiting.{object-next, all-queued}
 use Rattle.bd_deaths.proofs.table.DeathTable.queue_due.Goals as goal
@@ -33,7 +33,7 @@ loop-o-preserved c =
           (listed ∙ ap (λ g. members g (object_group c.in-Some.o)) inv.groups) xs)
           (c.queue_all.ensures.stands objects _ n (inv.so_far objects xs n h));
       groups = inv.groups;
-      uses = uses-then _ _ _ inv.uses c.queue_all.ensures.uses;
+      uses = uses-then inv.uses c.queue_all.ensures.uses;
     }
 
 pub returns-clause-stands : goal.returns-clause-stands
