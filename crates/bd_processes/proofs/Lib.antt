@@ -1,5 +1,2 @@
 pub mod Keys
 pub mod Pids
-pub mod Rising
-pub mod Found
-pub mod Changed

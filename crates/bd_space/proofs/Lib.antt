@@ -1,3 +1,4 @@
 pub mod Changed
 pub mod Identities
 pub mod Ranges
+pub mod Keyed

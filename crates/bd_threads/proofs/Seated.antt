@@ -3,8 +3,8 @@ use Rattle.std.proofs.Common.{◌≡◌, ℕ, ◌<◌, ◌==◌, Bool, true, fal
 use Rattle.std.specs.Prelude.{Option, option_map, MatchOption}
 use Rattle.bd_space.specs.declared.space.Thread.{Thread}
 use Rattle.bd_space.specs.Seats.{thread_in}
-use Rattle.bd_processes.proofs.Rising.{distinct, find_none, find_at}
-use Rattle.bd_processes.proofs.Found.{by_key, none_found}
+use Rattle.bd_words.proofs.Rising.{distinct, find_none, find_at}
+use Rattle.bd_words.proofs.Found.{by_key, none_found}
 use Rattle.bd_threads.specs.Apart.{AreApart}
 
 module _ {A : Type 0} (p : A → Bool) where

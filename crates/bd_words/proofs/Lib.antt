@@ -4,3 +4,5 @@ pub mod Walks
 pub mod Hanging
 pub mod Looks
 pub mod Tables
+pub mod Rising
+pub mod Found

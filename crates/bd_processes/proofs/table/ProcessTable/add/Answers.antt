@@ -6,7 +6,7 @@ use Rattle.bd_words.specs.Keys.{same_word}
 use Rattle.bd_words.specs.Look.{look}
 use Rattle.bd_processes.specs.Keys.{pid_key}
 use Rattle.bd_processes.proofs.Keys.{same_pid}
-use Rattle.bd_processes.proofs.Found.{tags_more, apart_from}
+use Rattle.bd_words.proofs.Found.{tags_more, apart_from}
 use Rattle.bd_processes.proofs.table.ProcessTable.add.Goals as goal
 
 pub returns-clause-stands : goal.returns-clause-stands

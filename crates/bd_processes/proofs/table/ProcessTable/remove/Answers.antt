@@ -11,8 +11,8 @@ use Rattle.bd_processes.specs.Keys.{pid_key}
 use Rattle.bd_processes.specs.Stands.{ProcessesAre}
 use Rattle.bd_processes.proofs.Keys.{same_pid}
 use Rattle.bd_processes.proofs.Pids.{all_left}
-use Rattle.bd_processes.proofs.Rising.{distinct, filter_at, filter_none}
-use Rattle.bd_processes.proofs.Found.{tags_less}
+use Rattle.bd_words.proofs.Rising.{distinct, filter_at, filter_none}
+use Rattle.bd_words.proofs.Found.{tags_less}
 use Rattle.bd_processes.proofs.table.ProcessTable.remove.Goals as goal
 
 pub invariant_of-self : goal.invariant_of-self

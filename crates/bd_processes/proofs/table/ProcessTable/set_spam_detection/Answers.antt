@@ -4,8 +4,8 @@ use Rattle.bd_space.specs.Spam.{detecting}
 use Rattle.bd_space.specs.Steps.{is_pid}
 use Rattle.bd_processes.specs.Stands.{ProcessesAre}
 use Rattle.bd_processes.proofs.Pids.{all_get, all_set}
-use Rattle.bd_processes.proofs.Rising.{distinct}
-use Rattle.bd_processes.proofs.Changed.{changed_at, changed_none, pairs_changed, tags_changed}
+use Rattle.bd_words.proofs.Rising.{distinct}
+use Rattle.bd_space.proofs.Keyed.{changed_at, changed_none, pairs_changed, tags_changed}
 use Rattle.bd_processes.proofs.table.ProcessTable.set_spam_detection.Goals as goal
 
 pub invariant_of-self : goal.invariant_of-self

@@ -1,5 +1,5 @@
 use Rattle.std.proofs.Common.{sym, subst}
-use Rattle.bd_processes.proofs.Changed.{changed_none}
+use Rattle.bd_space.proofs.Keyed.{changed_none}
 use Rattle.bd_threads.specs.Apart.{AreApart, place_at}
 use Rattle.bd_threads.proofs.Apart.{seat_of, turned, turned_at, apart_turned}
 use Rattle.bd_threads.proofs.table.ThreadTable.set_looping.Goals as goal

@@ -6,7 +6,7 @@ use Rattle.std.specs.Option.{option_or}
 use Rattle.std.proofs.lemmas.Bool.{eqb-true, eqb-false}
 use Rattle.std.proofs.lemmas.List.Elements.{All-head, All-tail, All-cons}
 use Rattle.std.proofs.lemmas.List.Folds.{find-append}
-use Rattle.bd_processes.proofs.Rising.{Rising, Distinct, has, without, pairs_head, pairs_tail, filter_at}
+use Rattle.bd_words.proofs.Rising.{Rising, Distinct, has, without, pairs_head, pairs_tail, filter_at}
 
 module _ {A : Type 0} (p : A → Bool) where
   pub any_some : (xs : List A) → list_any p xs ≡ is_some (find p xs)
@@ -97,7 +97,7 @@ module _ {A V : Type 0} (tag : A → ℕ) (shown : A → V) where
 -- ---- where those with a tag go
 
 module _ {A : Type 0} (tag : A → ℕ) (m : ℕ) where
-  gone : (xs : List A) → find (has tag m) (without tag m xs) ≡ None
+  pub gone : (xs : List A) → find (has tag m) (without tag m xs) ≡ None
   gone [] = refl
   gone (x ∷ xs) = by (tag x == m) refl (gone xs)
     where
@@ -109,7 +109,7 @@ module _ {A : Type 0} (tag : A → ℕ) (m : ℕ) where
       by true e rest = rest
       by false e rest = ap (λ t. cond t (Some x) (find (has tag m) left)) e ∙ rest
 
-  others : (n : ℕ) (xs : List A) → (m ≡ n → ⊥) → find (has tag n) (without tag m xs) ≡ find (has tag n) xs
+  pub others : (n : ℕ) (xs : List A) → (m ≡ n → ⊥) → find (has tag n) (without tag m xs) ≡ find (has tag n) xs
   others n [] other = refl
   others n (x ∷ xs) other = by (tag x == m) refl (others n xs other)
     where
