@@ -22,6 +22,9 @@ use Rattle.bd_space.specs.Windows.{buffers_of}
 use Rattle.bd_space.specs.Freeing.{is_made_at}
 use Rattle.bd_space.specs.Returns.{buffer_in}
 use Rattle.bd_space.specs.ReadItems.{hand_out, handed_buffers}
+use Rattle.bd_words.proofs.Rising.{pairs_head, pairs_tail, Rising, distinct}
+use Rattle.bd_words.proofs.Found.{found_has, none_found}
+use Rattle.bd_space.proofs.Keyed.{changed_at, changed_none}
 use Rattle.bd_buffers.specs.declared.window.Window.{Window}
 use Rattle.bd_buffers.specs.declared.owned.OwnedWindow.{OwnedWindow}
 use Rattle.bd_buffers.specs.declared.windows.Windows.{Windows}
@@ -29,9 +32,7 @@ use Rattle.bd_buffers.specs.Homes.{home_key, AreHomes, Forgets}
 use Rattle.bd_buffers.specs.Owners.{AreInOrder}
 use Rattle.bd_buffers.specs.Window as single
 use Rattle.bd_buffers.specs.WindowsStand.{ProcessWindow, seen, window_of, with_buffers, is_owned_by, is_of, WindowsOf, Stands, room_of, buffers_held, CanHoldIn, made_of_buffer}
-use Rattle.bd_buffers.proofs.Changes.{pairs_head, pairs_tail, found_has, none_found}
 use Rattle.bd_buffers.proofs.Homes.{homes_handed, homes_closed, home_finds}
-use Rattle.bd_buffers.proofs.Made.{Rising, distinct, changed_at, changed_none}
 use Rattle.bd_buffers.proofs.InSpace.{added, added_elsewhere, kept_in, handed_in, others_stay}
 use Rattle.bd_buffers.proofs.Order.{lives_below, process_made, buffer_made, made_kept, made_handed, process_gone}
 
@@ -167,7 +168,7 @@ older t bound p ps bs w stands found = by_process (process_in ps p) (sym (ap (op
         subst P (sym (ap (λ (x : ProcessWindow). x.buffers) same)) (All-filter (λ b. b.receiver == q.made) (λ b. b.made < bound) bs stands.made.buffers_before)
 
 is_process : (ps : List Process) (p : ℕ) (q : Process) → process_in ps p ≡ Some q → q.made ≡ p
-is_process ps p q e = eqb-true q.made p (found_has (λ x. Unit) (λ (x : Process). x.made == p) ps q e (λ k d h. tt)).1
+is_process ps p q e = eqb-true q.made p (found_has (λ (x : Process). x.made == p) (λ x. Unit) ps q e (λ k d h. tt)).1
 
 -- the window of a live process is found
 owner_found : (t : Windows) (bound p : ℕ) (ps : List Process) (bs : List Buffer) (q : Process) (w : OwnedWindow) → WindowsOf t bound ps bs
@@ -373,7 +374,7 @@ looked_past t bound made p ps bs stands home missed = by_process (process_in ps 
         by_buffer : (o : Option Buffer) → buffer_in bs made ≡ o → o ≡ None
         by_buffer None f = refl
         by_buffer (Some b) f =
-            let lives = found_has (λ (x : Buffer). lives_in ps x.receiver ≡ true) (is_made_at made) bs b f stands.made.received in
+            let lives = found_has (is_made_at made) (λ (x : Buffer). lives_in ps x.receiver ≡ true) bs b f stands.made.received in
             let there : Some p ≡ Some b.receiver = sym home ∙ stands.homes_are made ∙ ap (option_map (λ (x : Buffer). x.receiver)) f in
             let same : b.receiver ≡ p = cc in
             absurd (false≢true (sym (not_living ps p e) ∙ ap (lives_in ps) (sym same) ∙ lives.0))

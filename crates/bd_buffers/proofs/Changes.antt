@@ -1,10 +1,11 @@
 -- Lists with some elements changed or left out.
-use Rattle.std.proofs.Common.{◌≡◌, ℕ, zero, suc, ◌+◌, ◌<◌, length, inl, inr, Bool, true, false, cond, List, [], ◌∷◌, refl, ap, sym, ◌∙◌, arith, All, subst}
-use Rattle.std.specs.Prelude.{AllPairs, find, remove, Some, None}
+use Rattle.std.proofs.Common.{◌≡◌, ℕ, zero, suc, ◌+◌, ◌<◌, length, inl, inr, Bool, true, false, cond, List, [], ◌∷◌, arith, All}
+use Rattle.std.specs.Prelude.{AllPairs, remove}
 use Rattle.std.proofs.lemmas.List.Elements.{All-cons, All-head, All-tail}
 use Rattle.std.proofs.lemmas.Bool.{cases_lt}
 use Rattle.std.proofs.lemmas.List.Edits.{length-remove, get_or-remove_below, get_or-remove_above}
 use Rattle.bd_space.specs.Words.{changed}
+use Rattle.bd_words.proofs.Rising.{pairs_head, pairs_tail}
 
 -- what each element keeps where those that pass are changed
 pub All-changed : {A : Type 0} (p : A → Bool) (f : A → A) (P : A → Type 0) → ((x : A) → P x → P (f x)) → (xs : List A) → All P xs → All P (changed p f xs)
@@ -33,36 +34,9 @@ All-removed P xs i lt all k d within =
       | inr ge ↦ rw (get_or-remove_above xs i d k ge lt) (all (k + 1) d (omega (arith, length-remove xs i lt)))
     ]
 
--- ---- what is found
-
-first_found : {A : Type 0} (P : A → Type 0) (q : A → Bool) (y : A) (xs : List A) (x : A) (b : Bool) → q y ≡ b
-    → (find q xs ≡ Some x → All P xs → P x × (q x ≡ true)) → All P (y ∷ xs) → cond b (Some y) (find q xs) ≡ Some x → P x × (q x ≡ true)
-first_found P q y xs x true t rest all f = let same : y ≡ x = cc in (subst P same (All-head P y xs all), ap q (sym same) ∙ t)
-first_found P q y xs x false t rest all f = rest f (All-tail P y xs all)
-
-first_missed : {A : Type 0} (q : A → Bool) (x : A) (xs : List A) (b : Bool) → q x ≡ b → (find q xs ≡ None → All (λ y. q y ≡ false) xs)
-    → cond b (Some x) (find q xs) ≡ None → All (λ y. q y ≡ false) (x ∷ xs)
-first_missed q x xs true t rest f = cc
-first_missed q x xs false t rest f = All-cons (λ y. q y ≡ false) x xs t (rest f)
-
--- what is found passes the test, and has what all have
-pub found_has : {A : Type 0} (P : A → Type 0) (q : A → Bool) (xs : List A) (x : A) → find q xs ≡ Some x → All P xs → P x × (q x ≡ true)
-found_has P q [] x e all = cc
-found_has P q (y ∷ xs) x e all = first_found P q y xs x (q y) refl (found_has P q xs x) all e
-
-pub none_found : {A : Type 0} (q : A → Bool) (xs : List A) → find q xs ≡ None → All (λ x. q x ≡ false) xs
-none_found q [] e = λ k d h. absurd (omega arith)
-none_found q (x ∷ xs) e = first_missed q x xs (q x) refl (none_found q xs) e
-
 -- ---- pairs
 
 module _ {A : Type 0} (R : A → A → Type 0) where
-  pub pairs_head : (x : A) (xs : List A) → AllPairs R (x ∷ xs) → All (R x) xs
-  pairs_head x xs pairs = λ k d h. pairs zero (suc k) d (omega arith) (omega arith)
-
-  pub pairs_tail : (x : A) (xs : List A) → AllPairs R (x ∷ xs) → AllPairs R xs
-  pairs_tail x xs pairs = λ i j d lt h. pairs (suc i) (suc j) d (omega arith) (omega arith)
-
   pub pairs_cons : (x : A) (xs : List A) → All (R x) xs → AllPairs R xs → AllPairs R (x ∷ xs)
   pairs_cons x xs all pairs zero zero d lt h = absurd (omega arith)
   pairs_cons x xs all pairs zero (suc j) d lt h = all j d (omega arith)
@@ -72,8 +46,8 @@ module _ {A : Type 0} (R : A → A → Type 0) where
   pub pairs_changed : (p : A → Bool) (f : A → A) → ((x y : A) → R x y → R (f x) y) → ((x y : A) → R x y → R x (f y)) → (xs : List A) → AllPairs R xs → AllPairs R (changed p f xs)
   pairs_changed p f left right [] pairs = pairs
   pairs_changed p f left right (x ∷ xs) pairs =
-      let rest = pairs_changed p f left right xs (pairs_tail x xs pairs) in
-      let all = All-changed p f (R x) (right x) xs (pairs_head x xs pairs) in
+      let rest = pairs_changed p f left right xs (pairs_tail R x xs pairs) in
+      let all = All-changed p f (R x) (right x) xs (pairs_head R x xs pairs) in
       let front : All (R (cond (p x) (f x) x)) (changed p f xs) =
       elim (p x) as (λ b. All (R (cond b (f x) x)) (changed p f xs)) [ true ↦ (λ k d h. left x _ (all k d h)) | false ↦ all ]
       in

@@ -17,13 +17,14 @@ use Rattle.bd_space.specs.Windows.{buffers_of}
 use Rattle.bd_space.specs.Freeing.{is_made_at}
 use Rattle.bd_space.specs.Returns.{buffer_in}
 use Rattle.bd_space.specs.ReadItems.{hand_out}
+use Rattle.bd_words.proofs.Rising.{Rising, distinct}
+use Rattle.bd_words.proofs.Found.{none_found, find_gone, find_stays}
 use Rattle.bd_buffers.specs.declared.rows.Row.{Row}
 use Rattle.bd_buffers.specs.Homes.{home_key, AreHomes, Forgets}
 use Rattle.bd_buffers.specs.Rows.{live, in_row}
-use Rattle.bd_buffers.proofs.Changes.{none_found}
 use Rattle.bd_buffers.proofs.Fits.{cases_bool}
 use Rattle.bd_buffers.proofs.Listed.{key_word, told_handed}
-use Rattle.bd_buffers.proofs.Made.{Rising, distinct, kept, find_kept, find_beside, find_new, find_gone, find_stays, none_of}
+use Rattle.bd_buffers.proofs.Made.{kept, find_kept, find_beside, find_new, none_of}
 
 -- no buffer was made there
 abbrev pub NoneAt : ℕ → List Buffer → Type 0
@@ -97,7 +98,7 @@ homes_forgotten homes left bs m are gone = λ n.
           ap (λ t. cond t None (look homes (home_key n))) here ∙ sym (ap home_of (subst P (eqb-true m n here) (find_gone made_of m bs))))
       | inr other ↦ (
           let apart = eqb-false m n other in
-          ap (λ t. cond t None (look homes (home_key n))) other ∙ are n ∙ sym (ap home_of (find_stays made_of m n bs (λ e. apart (sym e)))))
+          ap (λ t. cond t None (look homes (home_key n))) other ∙ are n ∙ sym (ap home_of (find_stays made_of m n bs apart)))
     ]
 
 -- one process's buffers go

@@ -9,9 +9,10 @@ use Rattle.bd_space.specs.declared.space.Buffer.{Buffer}
 use Rattle.bd_space.specs.Words.{changed}
 use Rattle.bd_space.specs.Windows.{needed, start_for}
 use Rattle.bd_space.specs.ReadItems.{hand_out}
+use Rattle.bd_words.proofs.Found.{found_has}
 use Rattle.bd_buffers.specs.Buffer.{IsApart, IsPlaced, one_way_share}
 use Rattle.bd_buffers.specs.Window.{IsInBudget, IsWindow, one_way_size}
-use Rattle.bd_buffers.proofs.Changes.{All-changed, All-removed, pairs_changed, found_has}
+use Rattle.bd_buffers.proofs.Changes.{All-changed, All-removed, pairs_changed}
 use Rattle.bd_buffers.proofs.Places.{given_says}
 
 -- ---- the one-way sizes
@@ -140,4 +141,4 @@ wide size b small is =
 
 pub found_placed : (size : ℕ) (q : Buffer → Bool) (bs : List Buffer) (r : Option (Bor Buffer)) → IsWindow size bs → option_copied r ≡ find q bs → IfSome r (λ b. IsPlaced 4194304 b.now)
 found_placed size q bs None is e = tt
-found_placed size q bs (Some b) is e = wide size b.now is.small (found_has (IsPlaced size) q bs b.now (sym e) is.placed).0
+found_placed size q bs (Some b) is e = wide size b.now is.small (found_has q (IsPlaced size) bs b.now (sym e) is.placed).0

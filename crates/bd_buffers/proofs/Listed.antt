@@ -12,13 +12,14 @@ use Rattle.bd_words.specs.declared.map.WordMap.{WordMap}
 use Rattle.bd_words.specs.Keys.{same_word}
 use Rattle.bd_words.specs.Look.{look}
 use Rattle.bd_words.proofs.Keys.{word-eq, word-self}
+use Rattle.bd_words.proofs.Rising.{Distinct, find_none, filter_at}
+use Rattle.bd_words.proofs.Found.{none_found, find_gone, find_stays}
 use Rattle.bd_buffers.specs.Buffer.{IsApart, at_pointer}
 use Rattle.bd_buffers.specs.Window.{IsWindow}
 use Rattle.bd_buffers.specs.Spots.{AreSpots, spot_key}
 use Rattle.bd_buffers.specs.Rows.{IsWithout}
-use Rattle.bd_buffers.proofs.Changes.{none_found}
 use Rattle.bd_buffers.proofs.Fits.{cases_bool, filled}
-use Rattle.bd_buffers.proofs.Made.{Distinct, find_none, find_beside, find_new, find_gone, find_stays, filter_at}
+use Rattle.bd_buffers.proofs.Made.{find_beside, find_new}
 
 pub spots_empty : (spots : WordMap ℕ) → ((k : WordKey) → look spots k ≡ None) → AreSpots [] spots
 spots_empty spots none = λ p. none (spot_key p)
@@ -95,7 +96,7 @@ spots_forgotten size b bs new spots left is window gone found = λ p.
           ap (λ t. cond t None (look spots (spot_key p))) here ∙ sym (ap (option_map (λ (x : Buffer). x.made)) (subst P (eqb-true m p here) (find_gone pointer m bs))))
       | inr other ↦ (
           let apart = eqb-false m p other in
-          ap (λ t. cond t None (look spots (spot_key p))) other ∙ is p ∙ sym (ap (option_map (λ (x : Buffer). x.made)) (find_stays pointer m p bs (λ e. apart (sym e)))))
+          ap (λ t. cond t None (look spots (spot_key p))) other ∙ is p ∙ sym (ap (option_map (λ (x : Buffer). x.made)) (find_stays pointer m p bs apart)))
     ]
     ∙ ap (λ xs. option_map (λ (x : Buffer). x.made) (find (at_pointer p) xs)) rest
 

@@ -14,10 +14,12 @@ use Rattle.bd_space.specs.declared.space.Buffer.{Buffer}
 use Rattle.bd_space.specs.Words.{changed}
 use Rattle.bd_space.specs.Freeing.{is_made_at}
 use Rattle.bd_space.specs.ReadItems.{hand_out}
+use Rattle.bd_words.proofs.Rising.{pairs_head, pairs_tail, newest_all, distinct, filter_at, filter_none}
+use Rattle.bd_words.proofs.Found.{found_has, none_found}
+use Rattle.bd_space.proofs.Keyed.{changed_none}
 use Rattle.bd_buffers.specs.declared.rows.Row.{Row}
 use Rattle.bd_buffers.specs.Rows.{live, in_row, IsOwn, ends_empty, refilled, emptied, AreRows, IsTrimmed, IsWithout}
-use Rattle.bd_buffers.proofs.Changes.{pairs_head, pairs_tail, pairs_cons, found_has, none_found}
-use Rattle.bd_buffers.proofs.Made.{newest_all, changed_none, distinct, filter_at, filter_none}
+use Rattle.bd_buffers.proofs.Changes.{pairs_cons}
 
 abbrev IsEmpty : Row → Type 0
 IsEmpty r = r.buffer ≡ None
@@ -414,6 +416,6 @@ pub freed : (made : ℕ) (old new : List Buffer) (o : Option Buffer) → AllPair
     → MatchOption o (new ≡ old) (λ b. IsWithout b old new) → new ≡ filter (λ b. not (is_made_at made b)) old
 freed made old new None rising e same = same ∙ sym (filter_none (λ (b : Buffer). b.made) made old (none_found (is_made_at made) old (sym e)))
 freed made old new (Some b) rising e gone =
-    let own = eqb-true b.made made (found_has (λ (x : Buffer). x.made ≡ x.made) (is_made_at made) old b (sym e) (λ k d lt. refl)).1 in
+    let own = eqb-true b.made made (found_has (is_made_at made) (λ (x : Buffer). x.made ≡ x.made) old b (sym e) (λ k d lt. refl)).1 in
     gone.left
     ∙ sym (filter_at (λ (x : Buffer). x.made) made old gone.index (distinct (λ (x : Buffer). x.made) old rising) gone.within (λ d. ap (λ (x : Buffer). x.made) (sym (gone.at d)) ∙ own))

@@ -69,7 +69,7 @@ abbrev pub Begins : ℕ → ℕ → ℕ → List Hole → Type 0
 Begins tail p n [] = p ≡ tail
 Begins tail p n (h ∷ hs) = ((h.start ≡ p) × (p + n ≤ h.end)) ⊎ ((h.end < p) × Begins tail p n hs)
 
--- a hole without its first n bytes. It stays where that are all
+-- a hole without its first n bytes: an empty one where it has no more
 abbrev pub shortened : ℕ → Hole → Hole
 shortened n h = record { start = h.start + n; end = h.end }
 

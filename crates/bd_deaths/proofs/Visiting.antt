@@ -14,6 +14,7 @@ use Rattle.bd_space.specs.Words.{changed, same}
 use Rattle.bd_space.specs.Local.{is_among}
 use Rattle.bd_space.specs.References.{owned_in}
 use Rattle.bd_space.specs.ProcessExits.{is_armed}
+use Rattle.bd_space.proofs.Identities.{same-eq, same-turned}
 use Rattle.bd_nodes.specs.New.{HasAll}
 use Rattle.bd_deaths.specs.Keys.{object_group}
 use Rattle.bd_deaths.specs.Listed.{IsListed}
@@ -21,7 +22,7 @@ use Rattle.bd_deaths.specs.Due.{is_due, is_due_at, is_queued_in, queued_at, has_
 use Rattle.bd_deaths.proofs.Changes.{same_tests}
 use Rattle.bd_deaths.proofs.Listed.{place-in}
 use Rattle.bd_deaths.proofs.Telling.{told_at, queued, same-places, more-places}
-use Rattle.bd_deaths.proofs.Tests.{or-false, and-false, eqb-turned}
+use Rattle.bd_deaths.proofs.Tests.{or-false, and-false}
 
 -- the place is listed with one of these objects
 abbrev pub visited : Groups ℕ → List ObjectId → ℕ → Bool
@@ -60,16 +61,6 @@ module _ (g : Groups ℕ) (objects : List Object) (p : ℕ) (os : List ObjectId)
       ∙ both-put was (visited g os n) (has_place (members g (object_group o)) n) (told_at objects p l n)
       ∙ ap (λ b. was || (b && told_at objects p l n)) (visited-more g os o n)
 
-same-is : (a b : ObjectId) → same a b ≡ true → a ≡ b
-same-is a b h =
-    let k = and_parts _ _ h in
-    let p = eqb-true a.place b.place k.0 in
-    let i = eqb-true a.index b.index k.1 in
-    (λ t. record { place = p t; index = i t })
-
-same-turned : (a b : ObjectId) → same a b ≡ true → same b a ≡ true
-same-turned a b h = rw (eqb-turned b.place a.place, eqb-turned b.index a.index) h
-
 owned-among : (objects : List Object) (p : ℕ) (o : ObjectId) → owned_in objects p o ≡ true
     → is_among (map (λ x. x.id) (filter (λ x. x.owner == p) objects)) o ≡ true
 owned-among [] p o h = absurd (cc)
@@ -79,7 +70,7 @@ owned-among (x ∷ xs) p o h = by (x.owner == p) h (owned-among xs p o)
         → (owned_in xs p o ≡ true → is_among (map (λ y. y.id) (filter (λ y. y.owner == p) xs)) o ≡ true)
         → is_among (map (λ y. y.id) (cond b (x ∷ filter (λ y. y.owner == p) xs) (filter (λ y. y.owner == p) xs))) o ≡ true
     by true e further = elim (or_cases (same x.id o && true) (owned_in xs p o) e) [
-      | inl s ↦ or_left (same o x.id) _ (same-turned x.id o (and_parts (same x.id o) true s).0)
+      | inl s ↦ or_left (same o x.id) _ (same-turned o x.id ∙ (and_parts (same x.id o) true s).0)
       | inr s ↦ or_right (same o x.id) _ (further s)
     ]
     by false e further = elim (or_cases (same x.id o && false) (owned_in xs p o) e) [
@@ -91,7 +82,7 @@ visited-one : (g : Groups ℕ) (os : List ObjectId) (o : ObjectId) (n : ℕ) →
     → has_place (members g (object_group o)) n ≡ true → visited g os n ≡ true
 visited-one g [] o n h there = absurd (cc)
 visited-one g (k ∷ os) o n h there = elim (or_cases (same o k) (is_among os o) h) [
-  | inl s ↦ or_left _ (visited g os n) (subst (λ i. has_place (members g (object_group i)) n ≡ true) (same-is o k s) there)
+  | inl s ↦ or_left _ (visited g os n) (subst (λ i. has_place (members g (object_group i)) n ≡ true) (same-eq o k s) there)
   | inr s ↦ or_right _ (visited g os n) (visited-one g os o n s there)
 ]
 

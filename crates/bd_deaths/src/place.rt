@@ -31,16 +31,6 @@ fn range_in(slots: &[Slot], made: u32) -> Range<usize>
     }
 }
 
-/// Those between two indices.
-pub(crate) fn part(slots: &[Slot], range: Range<usize>) -> &[Slot]
-    requires from { range.start ≤ range.end }
-    requires to { range.end ≤ length slots.now }
-    ensures is { result.now ≡ between range.start range.end slots.now }
-    ensures len { length result.now + range.start ≡ range.end }
-{
-    &slots[range.start..range.end]
-}
-
 impl DeathList {
     /// Between which slots those of this place lie.
     pub(crate) fn made_range(&self, made: u32) -> Range<usize>
@@ -116,7 +106,8 @@ impl DeathList {
         ensures { (l : List declared.DeathNotification) → AreIn self.now l
             → IsPartOf (deaths_of.is_notification made) (spec.lives result.now) l }
     {
-        part(&self.slots, self.made_range(made))
+        let range = self.made_range(made);
+        &self.slots[range.start..range.end]
     }
 
     /// A part of the slots with all notifications that have this key.
@@ -124,7 +115,8 @@ impl DeathList {
         ensures { (l : List declared.DeathNotification) → AreIn self.now l
             → IsPartOf (keys.has key) (spec.lives result.now) l }
     {
-        part(&self.slots, self.key_range(key))
+        let range = self.key_range(key);
+        &self.slots[range.start..range.end]
     }
 
     /// A part of the slots with all told notifications of the process with this cookie.
@@ -132,6 +124,7 @@ impl DeathList {
         ensures { (l : List declared.DeathNotification) → AreIn self.now l
             → IsPartOf (clearing.is_told_with p cookie) (spec.lives result.now) l }
     {
-        part(&self.slots, self.told_range(p, cookie))
+        let range = self.told_range(p, cookie);
+        &self.slots[range.start..range.end]
     }
 }

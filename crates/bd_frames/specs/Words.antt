@@ -46,7 +46,3 @@ lost_frame f = record f { server = lost f.server }
 -- the thread is gone as caller and as server
 abbrev pub left_frame : ℕ → Frame → Frame
 left_frame seat f = record f { caller = gone_caller seat f.caller; server = gone_server seat f.server }
-
--- whatever is given is what g says
-abbrev pub GivesBy : {A B : Type 0} → (A → B → Type 0) → (A → B) → Type 0
-GivesBy {A} {B} gives g = (x : A) (y : B) → gives x y → y ≡ g x

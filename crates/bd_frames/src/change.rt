@@ -1,11 +1,12 @@
 //! Changes of frames where they stand.
 
 ghost use Rattle.std.specs.Prelude.{ℕ, Bool, ◌≡◌, ◌==◌, ◌≤◌, map, vec_len, vec_capacity};
+ghost use Rattle.bd_words.specs.Tables.{GivesBy};
 ghost use Rattle.bd_space.specs.declared.space.Frame as declared;
 ghost use Rattle.bd_space.specs.Frames as spec;
 ghost use Rattle.bd_space.specs.ReadItems as reading;
 ghost use Rattle.bd_space.specs.{Words.{changed}, Ranges.{IsWithin}};
-ghost use Rattle.bd_frames.specs.Words.{GivesBy, lost_frame, left_frame};
+ghost use Rattle.bd_frames.specs.Words.{lost_frame, left_frame};
 
 use crate::server::{gone_caller, gone_server, lost_server};
 use bd_space::{Frame, Server};

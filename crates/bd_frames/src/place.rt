@@ -35,16 +35,6 @@ pub(crate) fn range_of(frames: &[Frame], rising: bool, made: u32) -> Range<usize
     }
 }
 
-/// Those between two indices.
-pub(crate) fn part(frames: &[Frame], range: Range<usize>) -> &[Frame]
-    requires from { range.start ≤ range.end }
-    requires to { range.end ≤ length frames.now }
-    ensures is { result.now ≡ between range.start range.end frames.now }
-    ensures len { length result.now + range.start ≡ range.end }
-{
-    &frames[range.start..range.end]
-}
-
 fn newest_in(frames: &[Frame], made: u32) -> Option<usize>
     ensures within { IfSome result (λ i. i < length frames.now) }
     ensures newest { IsNewestAt made result frames.now }
@@ -65,7 +55,6 @@ pub(crate) fn newest_at(frames: &[Frame], rising: bool, made: u32) -> Option<usi
     ensures newest { RiseIf rising frames.now → IsNewestAt made result frames.now }
 {
     let range = range_of(frames, rising, made);
-    let start = range.start;
-    let i = newest_in(part(frames, range), made)?;
-    Some(start + i)
+    let i = newest_in(&frames[range.start..range.end], made)?;
+    Some(range.start + i)
 }

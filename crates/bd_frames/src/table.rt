@@ -17,7 +17,7 @@ use crate::frame::{
     abandoned_among, frame_among, is_after_parent, is_newest, newest_among, oldest_among,
     push_served, takes_part_among,
 };
-use crate::place::{newest_at, part, range_of};
+use crate::place::{newest_at, range_of};
 use crate::stacks::Stacks;
 use crate::tops::top_of;
 use crate::walk::{leave, push_served_down, reverse_from};
@@ -120,7 +120,7 @@ impl FrameTable {
         ensures { (l : List declared.Frame) → FramesAre self.now l → IsPartOf (spec.is_frame made) result.now l }
     {
         let range = range_of(&self.frames, self.rising, made);
-        part(&self.frames, range)
+        &self.frames[range.start..range.end]
     }
 
     /// Whether each frame is known to have been made after those before it, and after its parent.
@@ -198,7 +198,7 @@ impl FrameTable {
         let server = self.frame(made).map(|f| f.server);
         self.stacks.forget_unread(server);
         let range = range_of(&self.frames, self.rising, made);
-        change_in(&mut self.frames, range, made, |f| frame_lost(f));
+        change_in(&mut self.frames, range, made, frame_lost);
     }
 
     /// The thread is gone from its frames, as caller and as server.

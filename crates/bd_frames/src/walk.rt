@@ -9,7 +9,7 @@ ghost use Rattle.bd_frames.specs.{Linked.{IsWay, IsStep, StacksAre}, Words.{left
 
 use crate::change::{frame_without, leave_all};
 use crate::frame::{calls, push_if_served};
-use crate::place::{newest_at, part};
+use crate::place::newest_at;
 use crate::stacks::{Below, Stacks};
 use crate::tops::top_of;
 use bd_space::Frame;
@@ -45,7 +45,7 @@ fn step(frames: &[Frame], below: &[Below], seat: u32, way: Way) -> Option<Way>
     ensures lower { IfSome result (λ w. w.end < way.end) }
     ensures steps { IsWay seat frames.now below.now way → IsStep seat (take way.end frames.now) result }
 {
-    let left = part(frames, 0..way.end);
+    let left = &frames[..way.end];
     let i = newest_at(left, true, way.next?)?;
     Some(Way {
         end: i,

@@ -18,14 +18,14 @@ module _ {A : Type 0} (p : A → Bool) where
       by true e = refl
       by false e = e
 
-  -- what is found has what all have
-  found_has : (P : A → Type 0) (xs : List A) (y : A) → find p xs ≡ Some y → All P xs → P y
+  -- what is found has what all have, and passes
+  pub found_has : (P : A → Type 0) (xs : List A) (y : A) → find p xs ≡ Some y → All P xs → P y × (p y ≡ true)
   found_has P [] y e all = cc
-  found_has P (x ∷ xs) y e all = by (p x) e (λ f. found_has P xs y f (All-tail P x xs all))
+  found_has P (x ∷ xs) y e all = by (p x) refl e (λ f. found_has P xs y f (All-tail P x xs all))
     where
-      by : (b : Bool) → cond b (Some x) (find p xs) ≡ Some y → (find p xs ≡ Some y → P y) → P y
-      by true e rest = let same : x ≡ y = cc in subst P same (All-head P x xs all)
-      by false e rest = rest e
+      by : (b : Bool) → p x ≡ b → cond b (Some x) (find p xs) ≡ Some y → (find p xs ≡ Some y → P y × (p y ≡ true)) → P y × (p y ≡ true)
+      by true t e rest = let same : x ≡ y = cc in (subst P same (All-head P x xs all), ap p (sym same) ∙ t)
+      by false t e rest = rest e
 
   pub none_found : (xs : List A) → find p xs ≡ None → All (λ x. p x ≡ false) xs
   none_found [] e = λ k d h. absurd (omega arith)
@@ -53,7 +53,7 @@ module _ {A : Type 0} (key : A → ℕ) (p : A → Bool) where
           ∙ ap (λ z. Some z) same
       by false e rest =
           let all = pairs_head (λ a b. key a < key b) x xs rising in
-          let later = found_has p (λ z. key x < key z) xs y e all in
+          let later = (found_has p (λ z. key x < key z) xs y e all).0 in
           let other = ne_eqb (key x) (key y) (λ same. absurd (omega (arith, same, later))) in
           ap (λ t. cond t (Some x) (find (has key (key y)) xs)) other ∙ rest e
 
@@ -97,9 +97,9 @@ module _ {A V : Type 0} (tag : A → ℕ) (shown : A → V) where
 -- ---- where those with a tag go
 
 module _ {A : Type 0} (tag : A → ℕ) (m : ℕ) where
-  pub gone : (xs : List A) → find (has tag m) (without tag m xs) ≡ None
-  gone [] = refl
-  gone (x ∷ xs) = by (tag x == m) refl (gone xs)
+  pub find_gone : (xs : List A) → find (has tag m) (without tag m xs) ≡ None
+  find_gone [] = refl
+  find_gone (x ∷ xs) = by (tag x == m) refl (find_gone xs)
     where
       left : List A
       left = without tag m xs
@@ -109,9 +109,9 @@ module _ {A : Type 0} (tag : A → ℕ) (m : ℕ) where
       by true e rest = rest
       by false e rest = ap (λ t. cond t (Some x) (find (has tag m) left)) e ∙ rest
 
-  pub others : (n : ℕ) (xs : List A) → (m ≡ n → ⊥) → find (has tag n) (without tag m xs) ≡ find (has tag n) xs
-  others n [] other = refl
-  others n (x ∷ xs) other = by (tag x == m) refl (others n xs other)
+  pub find_stays : (n : ℕ) (xs : List A) → (m ≡ n → ⊥) → find (has tag n) (without tag m xs) ≡ find (has tag n) xs
+  find_stays n [] other = refl
+  find_stays n (x ∷ xs) other = by (tag x == m) refl (find_stays n xs other)
     where
       left : List A
       left = without tag m xs
@@ -137,6 +137,6 @@ module _ {A V : Type 0} (tag : A → ℕ) (shown : A → V) where
       by : (b : Bool) → (t == m) ≡ b
           → cond b None (option_map shown (find (has tag m) xs)) ≡ option_map shown (find (has tag m) left)
       by true e =
-          let none = subst (λ n. find (has tag n) left ≡ None) (eqb-true t m e) (gone tag t xs) in
+          let none = subst (λ n. find (has tag n) left ≡ None) (eqb-true t m e) (find_gone tag t xs) in
           ap (option_map shown) (sym none)
-      by false e = ap (option_map shown) (sym (others tag t m xs (eqb-false t m e)))
+      by false e = ap (option_map shown) (sym (find_stays tag t m xs (eqb-false t m e)))

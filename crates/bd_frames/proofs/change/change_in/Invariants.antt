@@ -1,9 +1,9 @@
 use Rattle.std.proofs.Common.{◌≡◌, ◌++◌, take, drop, vec_len, vec_capacity}
+use Rattle.bd_words.specs.Tables.{GivesBy}
 use Rattle.bd_space.specs.declared.space.Frame.{Frame}
 use Rattle.bd_space.specs.Words.{changed}
 use Rattle.bd_space.specs.Frames.{is_frame}
 use Rattle.bd_space.specs.Ranges.{IsWithin}
-use Rattle.bd_frames.specs.Words.{GivesBy}
 use Rattle.bd_frames.proofs.change.change_in.Given as goal
 
 abbrev pub invariant-loop-i : goal.invariant-loop-i

@@ -4,10 +4,10 @@ use Rattle.bd_space.specs.declared.space.Buffer.{Buffer}
 use Rattle.bd_space.specs.Words.{changed}
 use Rattle.bd_space.specs.Freeing.{is_made_at}
 use Rattle.bd_space.specs.ReadItems.{hand_out}
+use Rattle.bd_space.proofs.Keyed.{changed_none}
 use Rattle.bd_buffers.specs.declared.rows.Row.{Row}
 use Rattle.bd_buffers.specs.declared.rows.Rows.{Rows}
 use Rattle.bd_buffers.specs.Rows.{live, AreRows}
-use Rattle.bd_buffers.proofs.Made.{changed_none}
 use Rattle.bd_buffers.proofs.Live.{handed_rows, handed_live, live_all}
 use Rattle.bd_buffers.proofs.rows.Rows.hand_out.Goals as goal
 

@@ -2,10 +2,10 @@ use Rattle.std.proofs.Common.{◌≡◌, ◌∙◌, ap, find, Some}
 use Rattle.std.specs.Prelude.{option_copied, option_map}
 use Rattle.bd_words.specs.Look.{look}
 use Rattle.bd_space.specs.declared.space.Buffer.{Buffer}
+use Rattle.bd_words.proofs.Found.{by_key}
 use Rattle.bd_buffers.specs.declared.window.Window.{Window}
 use Rattle.bd_buffers.specs.Buffer.{at_pointer}
 use Rattle.bd_buffers.specs.Rows.{live}
-use Rattle.bd_buffers.proofs.Made.{find_by_key}
 use Rattle.bd_buffers.proofs.Kept.{found_placed}
 use Rattle.bd_buffers.proofs.window.Window.buffer_at_pointer.Goals as goal
 
@@ -14,7 +14,7 @@ found c =
     let w = c.self.inside in
     let p = c.args.pointer in
     let made : Some c.in-Some.made ≡ option_map (λ (b : Buffer). b.made) (find (at_pointer p) (live w.buffers.rows)) = c.in-Some.ensures ∙ ap (look w.ground.spots) c.key_at.ensures ∙ c.self.invariant.starts p in
-    c.made_at.ensures ∙ find_by_key (λ (b : Buffer). b.made) (at_pointer p) (live w.buffers.rows) c.in-Some.made c.self.invariant.window.in_order made
+    c.made_at.ensures ∙ by_key (λ (b : Buffer). b.made) (at_pointer p) (live w.buffers.rows) c.in-Some.made c.self.invariant.window.in_order made
 
 pub returns-in-Some-clause-found : goal.returns-in-Some-clause-found
 returns-in-Some-clause-found c = λ size bs is.

@@ -6,10 +6,10 @@ use Rattle.bd_space.specs.declared.space.Buffer.{Buffer}
 use Rattle.bd_space.specs.Words.{changed}
 use Rattle.bd_space.specs.Windows.{buffers_of}
 use Rattle.bd_space.specs.Freeing.{without_buffer, is_made_at}
+use Rattle.bd_words.proofs.Rising.{filter_none}
 use Rattle.bd_buffers.specs.declared.windows.Windows.{Windows}
 use Rattle.bd_buffers.specs.WindowsStand.{seen, with_buffers, is_of}
 use Rattle.bd_buffers.specs.Homes.{home_key}
-use Rattle.bd_buffers.proofs.Made.{filter_none}
 use Rattle.bd_buffers.proofs.Homes.{homes_forgotten, none_home, none_among, others_home}
 use Rattle.bd_buffers.proofs.AllWindows.{kept, all_changed, none_changed}
 use Rattle.bd_buffers.proofs.Owners.{order_one}

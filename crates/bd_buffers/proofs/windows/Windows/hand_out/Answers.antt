@@ -5,10 +5,10 @@ use Rattle.bd_space.specs.Words.{changed}
 use Rattle.bd_space.specs.Windows.{buffers_of}
 use Rattle.bd_space.specs.Freeing.{is_made_at}
 use Rattle.bd_space.specs.ReadItems.{read_by, buffer_taken, hand_out}
+use Rattle.bd_space.proofs.Keyed.{changed_none}
 use Rattle.bd_buffers.specs.declared.windows.Windows.{Windows}
 use Rattle.bd_buffers.specs.WindowsStand.{seen, with_buffers, is_of}
 use Rattle.bd_buffers.specs.Homes.{home_key}
-use Rattle.bd_buffers.proofs.Made.{changed_none}
 use Rattle.bd_buffers.proofs.Homes.{none_home, none_among, others_home}
 use Rattle.bd_buffers.proofs.AllWindows.{handed_by, none_handed_by, all_changed, none_changed}
 use Rattle.bd_buffers.proofs.Owners.{order_one}
