@@ -3,6 +3,7 @@
 
 ghost use Rattle.std.specs.Prelude.{ℕ, Bool, List, ◌≡◌, ◌==◌, ◌||◌, ◌&&◌, ◌+◌, ◌<◌, ◌≤◌, ◌^◌, ◌++◌, ◌∷◌, [], false, not, nat_le, map, filter, find, reverse, length, count_by, Option, Some, None, option_map, IfOk, OnOk, OnErr, vec_len, vec_capacity};
 ghost use Rattle.std.specs.{List.{list_any, slice_get}, Option.{is_none}};
+ghost use Rattle.bd_words.specs.Tables.{AnswersBy};
 ghost use Rattle.bd_space.specs.{declared.space.WorkKind.{WorkKind}, Frames.{innermost_in}, Words.{is_some_and}};
 ghost use Rattle.bd_space.specs.Todo as spec;
 ghost use Rattle.bd_space.specs.Notices as notices;
@@ -10,7 +11,6 @@ ghost use Rattle.bd_space.specs.declared.space.Frame as declared;
 ghost use Rattle.bd_frames.specs.Stands as frame_table;
 ghost use Rattle.bd_links.specs.Stands as links;
 ghost use Rattle.bd_links.specs.TodoList as replies;
-ghost use Rattle.bd_links.specs.TodoList.{AnswersBy};
 
 use crate::frame::is_in_no_call;
 use crate::ready::{Seen, has_seen, look_at};

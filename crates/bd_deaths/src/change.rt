@@ -1,7 +1,7 @@
 //! Changes of one notification, and of those that are read.
 
 ghost use Rattle.std.specs.Prelude.{◌≡◌, ◌==◌, ◌≤◌, not, filter, vec_len, vec_capacity, List, true};
-ghost use Rattle.bd_words.specs.Tables.{GivesBy};
+ghost use Rattle.bd_words.specs.Tables.{AnswersBy};
 ghost use Rattle.bd_space.specs.Words.{changed, is_some_and};
 ghost use Rattle.bd_space.specs.Deaths as deaths_of;
 ghost use Rattle.bd_space.specs.Todo.{death_of};
@@ -28,7 +28,7 @@ fn change_in<F: Fn(DeathNotification) -> DeathNotification>(
     requires from { range.start ≤ range.end }
     requires to { range.end ≤ vec_len slots.old }
     ensures items { (g : declared.DeathNotification → declared.DeathNotification)
-        → GivesBy (λ x y. F.post f x y) g
+        → AnswersBy (λ x y. F.post f x y) g
         → IsWithin (spec.of (deaths_of.is_notification made)) range.start range.end slots.old.items
         → slots.new.items ≡ changed (spec.of (deaths_of.is_notification made)) (spec.with g) slots.old.items }
     ensures len { vec_len slots.new ≡ vec_len slots.old }

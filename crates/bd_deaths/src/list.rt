@@ -1,7 +1,7 @@
 //! The notifications themselves, in the order in which they were made, with what is kept of those with each key.
 
 ghost use Rattle.std.specs.Prelude.{◌≡◌, ◌≤◌, ◌<◌, ◌++◌, ◌∷◌, [], Bool, true, not, filter, set, List, OnOk, OnErr, vec_len, slice_index_or};
-ghost use Rattle.bd_words.specs.Tables.{GivesBy};
+ghost use Rattle.bd_words.specs.Tables.{AnswersBy};
 ghost use Rattle.bd_space.specs.declared.space.DeathNotification as declared;
 ghost use Rattle.bd_space.specs.Ranges.{IsWithin};
 ghost use Rattle.bd_deaths.specs.declared.slot.Slot.{Slot};
@@ -110,7 +110,7 @@ impl DeathList {
         requires calls { F.IsAlwaysCallable f }
         requires from { range.start ≤ range.end }
         requires to { range.end ≤ vec_len self.old.slots }
-        ensures stands { (q : declared.DeathNotification → Bool) → GivesBy (λ x b. F.post f x b) q
+        ensures stands { (q : declared.DeathNotification → Bool) → AnswersBy (λ x b. F.post f x b) q
             → (l : List declared.DeathNotification) → AreIn self.old l
             → IsWithin (spec.on q) range.start range.end self.old.slots.items
             → AreIn self.new (filter (λ x. not (q x)) l) }

@@ -20,10 +20,6 @@ use Rattle.bd_frames.proofs.Linking.{Tops, linked-long, top-here, link-got}
 abbrev pub no_frame : Frame
 no_frame = record { made = 0; caller = None; server = Pending; parent = None }
 
-pub all-dropped : {A : Type 0} (xs : List A) → drop 0 xs ≡ xs
-all-dropped [] = refl
-all-dropped (x ∷ xs) = refl
-
 pub rising-take : (m n : ℕ) (fs : List Frame) → IsRising m fs → IsRising m (take n fs)
 rising-take m zero [] r = r
 rising-take m (suc n) [] r = r

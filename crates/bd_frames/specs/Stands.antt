@@ -17,8 +17,8 @@ pub record FramesAre (t : FrameTable) (l : List Frame) : Type 0 where
 
 -- of every list that the table stands for x is what f says
 abbrev pub Tells : {A : Type 0} → FrameTable → A → (List Frame → A) → Type 0
-Tells = tables.Tells FramesAre
+Tells t = tables.Tells (FramesAre t)
 
 -- every list that the table stood for was changed by f
 abbrev pub Makes : FrameTable → FrameTable → (List Frame → List Frame) → Type 0
-Makes = tables.Makes FramesAre
+Makes t u = tables.Makes (FramesAre t) (FramesAre u)

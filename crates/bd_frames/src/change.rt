@@ -1,7 +1,7 @@
 //! Changes of frames where they stand.
 
 ghost use Rattle.std.specs.Prelude.{ℕ, Bool, ◌≡◌, ◌==◌, ◌≤◌, map, vec_len, vec_capacity};
-ghost use Rattle.bd_words.specs.Tables.{GivesBy};
+ghost use Rattle.bd_words.specs.Tables.{AnswersBy};
 ghost use Rattle.bd_space.specs.declared.space.Frame as declared;
 ghost use Rattle.bd_space.specs.Frames as spec;
 ghost use Rattle.bd_space.specs.ReadItems as reading;
@@ -22,7 +22,7 @@ pub(crate) fn change_in<F: Fn(Frame) -> Frame>(
     requires callable { F.IsAlwaysCallable f }
     requires from { range.start ≤ range.end }
     requires to { range.end ≤ vec_len frames.old }
-    ensures items { (g : declared.Frame → declared.Frame) → GivesBy (λ x y. F.post f x y) g
+    ensures items { (g : declared.Frame → declared.Frame) → AnswersBy (λ x y. F.post f x y) g
         → IsWithin (spec.is_frame made) range.start range.end frames.old.items
         → frames.new.items ≡ changed (spec.is_frame made) g frames.old.items }
     ensures len { vec_len frames.new ≡ vec_len frames.old }

@@ -16,8 +16,8 @@ work_room t = min (min (queues.queue_room t.queues) (register_room t.register)) 
 
 -- of every list that the table stands for x is what f says
 abbrev pub Tells : {A : Type 0} → WorkTable → A → (List Work → A) → Type 0
-Tells = tables.Tells WorksAre
+Tells t = tables.Tells (WorksAre t)
 
 -- every list that the table stood for was changed by f
 abbrev pub Makes : WorkTable → WorkTable → (List Work → List Work) → Type 0
-Makes = tables.Makes WorksAre
+Makes t u = tables.Makes (WorksAre t) (WorksAre u)

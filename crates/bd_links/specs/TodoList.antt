@@ -1,5 +1,5 @@
--- Work items of a list: the replies among them, and those that a test keeps.
-use Rattle.std.specs.Prelude.{ℕ, ◌≡◌, Bool, List, map, Option, Some, None}
+-- The replies among the work items of a list.
+use Rattle.std.specs.Prelude.{ℕ, List, map, Option, Some, None}
 use Rattle.bd_space.specs.declared.space.Work.{Work}
 use Rattle.bd_space.specs.declared.space.WorkKind.{WorkKind}
 use Rattle.bd_space.specs.declared.space.WorkKind.TheVariants.{Reply}
@@ -13,7 +13,3 @@ reply_of _ = None
 -- where the first reply among them was made
 abbrev pub first_reply_in : List Work → Option ℕ
 first_reply_in works = first_of (map (λ w. reply_of w.kind) works)
-
--- whatever is answered is what p says
-abbrev pub AnswersBy : {A : Type 0} → (A → Bool → Type 0) → (A → Bool) → Type 0
-AnswersBy {A} answers p = (x : A) (b : Bool) → answers x b → b ≡ p x

@@ -3,10 +3,11 @@
 
 ghost use Rattle.std.specs.Prelude.{ℕ, Bool, ◌≡◌, ◌==◌, ◌≤◌, ◌&&◌, List, map, set, filter, count_by, vec_len};
 ghost use Rattle.std.specs.List.{list_any};
+ghost use Rattle.bd_words.specs.Tables.{AnswersBy};
 ghost use Rattle.bd_space.specs.declared.space.Work.{Work};
 ghost use Rattle.bd_links.specs.Nodes.{rows, works};
 ghost use Rattle.bd_links.specs.Queues as queues;
-ghost use Rattle.bd_links.specs.{QueuesStand.{Shows, Stands}, TodoList.{AnswersBy}};
+ghost use Rattle.bd_links.specs.QueuesStand.{Shows, Stands};
 
 use crate::links::Node;
 use crate::queues::{Queues, no_work};

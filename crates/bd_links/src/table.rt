@@ -3,6 +3,7 @@
 
 ghost use Rattle.std.specs.Prelude.{ℕ, Bool, true, List, ◌≡◌, ◌-◌, if◌then◌else◌, ◌&&◌, ◌+◌, ◌≤◌, ◌==◌, [], count_by, not, filter, Some, is_some, OnOk, OnErr, IfSome};
 ghost use Rattle.std.specs.List.{list_any, slice_get};
+ghost use Rattle.bd_words.specs.Tables.{AnswersBy};
 ghost use Rattle.bd_space.specs.{declared.space.Work.{Work}, declared.space.WorkKind.{WorkKind}};
 ghost use Rattle.bd_space.specs.Words as words;
 ghost use Rattle.bd_space.specs.Todo as spec;
@@ -12,7 +13,6 @@ ghost use Rattle.bd_links.specs.{Front.{is_front}, Nodes.{rows, works}};
 ghost use Rattle.bd_links.specs.Queues as queues;
 ghost use Rattle.bd_links.specs.Spots as spots;
 ghost use Rattle.bd_links.specs.TodoList as replies;
-ghost use Rattle.bd_links.specs.TodoList.{AnswersBy};
 
 use crate::queues::Queues;
 use crate::register::Register;

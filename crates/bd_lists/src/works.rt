@@ -2,6 +2,7 @@
 
 ghost use Rattle.std.specs.Prelude.{Bool, ◌≡◌, ◌==◌, ◌&&◌, ◌<◌};
 ghost use Rattle.std.specs.{Prelude.{not, filter, count_by, vec_len, vec_capacity, Some}, List.{list_any, slice_get}};
+ghost use Rattle.bd_words.specs.Tables.{AnswersBy};
 ghost use Rattle.bd_space.specs.declared.space.WorkKind as declared;
 ghost use Rattle.bd_space.specs.Words as words;
 ghost use Rattle.bd_space.specs.Todo as spec;
@@ -117,7 +118,7 @@ impl WorkList {
     /// Only the work items of the kinds for which `f` answers `true` stay.
     pub fn keep_kinds<F: Fn(WorkKind) -> bool>(&mut self, f: F)
         requires { F.IsAlwaysCallable f }
-        ensures { (p : declared.WorkKind → Bool) → replies.AnswersBy (λ kind b. F.post f kind b) p
+        ensures { (p : declared.WorkKind → Bool) → AnswersBy (λ kind b. F.post f kind b) p
             → self.new.todo.items ≡ filter (λ w. p w.kind) self.old.todo.items }
     {
         self.todo.retain(|w| f(w.kind));

@@ -21,8 +21,8 @@ pub record TurnsAre (t : TurnTable) (l : List Turn) : Type 0 where
 
 -- of every list that the table stands for x is what f says
 abbrev pub Tells : {A : Type 0} → TurnTable → A → (List Turn → A) → Type 0
-Tells = tables.Tells TurnsAre
+Tells t = tables.Tells (TurnsAre t)
 
 -- every list that the table stood for was changed by f
 abbrev pub Makes : TurnTable → TurnTable → (List Turn → List Turn) → Type 0
-Makes = tables.Makes TurnsAre
+Makes t u = tables.Makes (TurnsAre t) (TurnsAre u)

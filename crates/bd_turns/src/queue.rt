@@ -3,6 +3,7 @@
 
 ghost use Rattle.std.specs.Prelude.{ℕ, Bool, true, List, ◌≡◌, ◌==◌, ◌<◌, ◌≤◌, ◌++◌, ◌∷◌, [], not, filter, find, map, if◌then◌else◌, Some, IfOk};
 ghost use Rattle.std.specs.{Option.{option_map, option_and_then}, List.{slice_get}, HashMap.{spare}};
+ghost use Rattle.bd_words.specs.Tables.{AnswersBy};
 ghost use Rattle.bd_space.specs.declared.space.Turn as declared;
 ghost use Rattle.bd_space.specs.Words.{changed, same};
 ghost use Rattle.bd_space.specs.declared.step.ObjectId as declared_step;
@@ -165,7 +166,7 @@ impl Queue {
     /// Of the calls in these slots only those for which `f` answers `true` stay.
     pub(crate) fn keep_in<F: Fn(Turn) -> bool>(&mut self, range: Range<usize>, f: F)
         requires { F.IsAlwaysCallable f }
-        ensures stands { (p : declared.Turn → Bool) → ((t : declared.Turn) (b : Bool) → F.post f t b → b ≡ p t)
+        ensures stands { (p : declared.Turn → Bool) → AnswersBy (λ t b. F.post f t b) p
             → (l : List declared.Turn) → QueueIs self.old l
             → Within (λ t. not (p t)) range.start range.end (spec.entries self.old.slots.items)
             → QueueIs self.new (filter p l) }

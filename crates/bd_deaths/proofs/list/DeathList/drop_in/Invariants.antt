@@ -1,5 +1,5 @@
 use Rattle.std.proofs.Common.{◌≡◌, ◌++◌, Bool, List, take, drop, vec_len}
-use Rattle.bd_words.specs.Tables.{GivesBy}
+use Rattle.bd_words.specs.Tables.{AnswersBy}
 use Rattle.bd_space.specs.Words.{changed}
 use Rattle.bd_space.specs.declared.space.DeathNotification.{DeathNotification}
 use Rattle.bd_deaths.specs.Room.{ListUses}
@@ -13,7 +13,7 @@ invariant-loop-i g l = record {
   len : vec_len l.self.slots ≡ vec_len l.fn.self.slots;
   uses : ListUses l.fn.self l.self 0;
   stands : (xs : List DeathNotification) → AreIn l.fn.self xs → AreIn l.self (lives l.self.slots.items);
-  so_far : (q : DeathNotification → Bool) → GivesBy (λ x b. g.F.Fn.post l.fn.f (x, tt) b) q
+  so_far : (q : DeathNotification → Bool) → AnswersBy (λ x b. g.F.Fn.post l.fn.f (x, tt) b) q
       → IsWithin (on q) l.fn.range.start l.fn.range.end l.fn.self.slots.items
       → l.self.slots.items ≡ changed (on q) gone (take l.i l.fn.self.slots.items) ++ drop l.i l.fn.self.slots.items;
 }

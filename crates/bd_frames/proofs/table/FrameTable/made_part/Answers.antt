@@ -13,5 +13,5 @@ returns c = λ l h.
       to = at.end;
       order = c.range_of-range.ensures.from;
       within = subst (λ xs. RiseIf c.args.self.now.rising xs → IsWithin (is_frame c.args.made) at.start at.end xs) (c.deref.ensures.value ∙ h.items_are) c.range_of-range.ensures.within h.rises;
-      is = c.part.ensures.is ∙ ap (between at.start at.end) (c.deref-2.ensures.value ∙ h.items_are);
+      is = ap (between at.start at.end) (c.deref-2.ensures.value ∙ h.items_are);
     }

@@ -1,10 +1,10 @@
 use Rattle.std.proofs.Common.{ℕ, Bool, ◌≡◌, ◌≤◌, List, vec_len}
+use Rattle.bd_words.specs.Tables.{AnswersBy}
 use Rattle.bd_space.specs.declared.space.Work.{Work}
 use Rattle.bd_links.specs.QueuesStand.{Empty, Shows}
 use Rattle.bd_links.specs.Registered.{Registered}
 use Rattle.bd_links.specs.Stands.{WorksAre, work_room}
 use Rattle.bd_links.specs.Sweep.{Swept}
-use Rattle.bd_links.specs.TodoList.{AnswersBy}
 use Rattle.bd_links.proofs.table.WorkTable.keep.Given as goal
 
 abbrev pub invariant-loop-at : goal.invariant-loop-at
