@@ -47,16 +47,6 @@ fn list_places(groups: &mut Groups<u32>, slots: &[Slot])
     }
 }
 
-/// How many members so many notifications have, with so many more.
-fn members_for(deaths: usize, more: usize) -> Result<usize, AllocError>
-    ensures { IfOk result (λ n. n ≡ 2 * deaths + more) }
-{
-    deaths
-        .checked_mul(2)
-        .and_then(|twice| twice.checked_add(more))
-        .ok_or(AllocError)
-}
-
 impl DeathTable {
     ghost use Rattle.bd_deaths.specs.Stands.{DeathsAre, AreIn};
 
@@ -66,10 +56,10 @@ impl DeathTable {
         ensures listed { IfOk result (λ g. (l : List declared.DeathNotification) → AreIn self.now.list l → All (IsListed g) l) }
         ensures room { IfOk result (λ g. more ≤ group_room g) }
     {
-        let members = members_for(self.list.slots.len(), more)?;
-        let mut groups = Groups::new(*self.list.slots.allocator());
-        groups.reserve(members)?;
-        list_places(&mut groups, &self.list.slots);
+        let slots = &self.list.slots;
+        let left = slots.len().checked_mul(2).ok_or(AllocError)?;
+        let mut groups = Groups::with_room(*slots.allocator(), left, more)?;
+        list_places(&mut groups, slots);
         Ok(groups)
     }
 

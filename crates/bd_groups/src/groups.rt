@@ -1,6 +1,6 @@
 //! Members by their groups.
 
-ghost use Rattle.std.specs.Prelude.{ℕ, ◌≡◌, ◌+◌, ◌≤◌, ◌<◌, ◌∷◌, [], true, false, Some, None, length, nat_lt, ◌&&◌, ◌/◌, OnOk, OnErr, if◌then◌else◌};
+ghost use Rattle.std.specs.Prelude.{ℕ, ◌≡◌, ◌+◌, ◌≤◌, ◌<◌, ◌∷◌, [], true, false, Some, None, length, nat_lt, ◌&&◌, ◌/◌, IfOk, OnOk, OnErr, if◌then◌else◌};
 ghost use Rattle.std.specs.HashMap.{spare};
 ghost use Rattle.bd_groups.specs.declared.group.Group as group;
 ghost use Rattle.bd_groups.specs.Group as groups;
@@ -71,6 +71,18 @@ impl<T: Copy> Groups<T> {
             links: Vec::new(alloc),
             latest: HashMap::new(alloc),
         }
+    }
+
+    /// Groups without members, with room for those that are left and so many more.
+    pub fn with_room(alloc: Global, left: usize, more: usize) -> Result<Groups<T>, AllocError>
+        ensures empty { IfOk result (λ t. (g : group.Group) → members t g ≡ []) }
+        ensures count { IfOk result (λ t. member_count t ≡ 0) }
+        ensures room { IfOk result (λ t. left + more ≤ group_room t) }
+    {
+        let room = left.checked_add(more).ok_or(AllocError)?;
+        let mut groups = Groups::new(alloc);
+        groups.reserve(room)?;
+        Ok(groups)
     }
 
     /// How many members all groups have together.

@@ -14,9 +14,7 @@ fn renewed(names: &Names, alloc: Global, more: usize) -> Result<Groups<u32>, All
     ensures listed { IfOk result (λ held. (l : List declared.Name) → Named names.now l → Listed held l) }
     ensures room { IfOk result (λ held. more ≤ group_room held) }
 {
-    let room = names.objects.len().checked_add(more).ok_or(AllocError)?;
-    let mut held = Groups::new(alloc);
-    held.reserve(room)?;
+    let mut held = Groups::with_room(alloc, names.objects.len(), more)?;
     for k in names.objects.keys() {
         held.push(Group::Process { made: k.process }, k.number);
     }

@@ -76,9 +76,7 @@ impl NodeTable {
         ensures lists { IfOk result (Lists self.now.objects) }
         ensures room { IfOk result (λ g. more ≤ group_room g) }
     {
-        let room = self.objects.len().checked_add(more).ok_or(AllocError)?;
-        let mut fresh = Groups::new(self.alloc);
-        fresh.reserve(room)?;
+        let mut fresh = Groups::with_room(self.alloc, self.objects.len(), more)?;
         for x in self.objects.values() {
             fresh.push(owner_group(x.owner), x.id);
         }

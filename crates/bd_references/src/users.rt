@@ -45,9 +45,7 @@ fn renewed(uses: &Counts, alloc: Global, more: usize) -> Result<Groups<CountKey>
     ensures are { IfOk result (λ users. AreUsers uses.now users) }
     ensures room { IfOk result (λ users. more ≤ group_room users) }
 {
-    let room = uses.counts.len().checked_add(more).ok_or(AllocError)?;
-    let mut users = Groups::new(alloc);
-    users.reserve(room)?;
+    let mut users = Groups::with_room(alloc, uses.counts.len(), more)?;
     for (k, _) in uses.counts.iter() {
         put_user(&mut users, *k);
     }

@@ -42,9 +42,7 @@ fn renewed(
     ensures are { IfOk result (λ windows. AreWindows held.now ends.now windows) }
     ensures room { IfOk result (λ windows. more ≤ group_room windows) }
 {
-    let room = held.len().checked_add(more).ok_or(AllocError)?;
-    let mut windows = Groups::new(alloc);
-    windows.reserve(room)?;
+    let mut windows = Groups::with_room(alloc, held.len(), more)?;
     for (k, r) in held.iter() {
         list_window(&mut windows, k.buffer, r.holder);
     }

@@ -10,7 +10,7 @@ loop-k-init c =
     let long = ap length same in
     record {
       coming = λ p n some. (let q : NumberKey = record { process = p; number = n } in inl (rw same (sym (c.keys-k-items.ensures.has q) ∙ some)));
-      room = grind (arith, common_steps, long, c.keys-k-items.ensures.len, c.len.ensures.len, c.in_ok-reserve.ensures.room);
+      room = grind (arith, common_steps, long, c.keys-k-items.ensures.len, c.len.ensures.len, c.in_ok-held.ensures.room);
     }
 
 pub returns-clause-listed : goal.returns-clause-listed
