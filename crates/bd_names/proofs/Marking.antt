@@ -1,9 +1,10 @@
 -- The least number without a mark, and a number that comes into use.
-use Rattle.std.proofs.Common.{◌≡◌, ◌≢◌, ℕ, ◌+◌, ◌-◌, ◌*◌, ◌/◌, ◌%◌, ◌^◌, ◌<◌, ◌≤◌, Bool, true, false, cond, ◌||◌, ◌&&◌, eqb, refl, ap, sym, ◌∙◌, subst, arith}
+use Rattle.std.proofs.Common.{◌≡◌, ◌≢◌, ℕ, ◌+◌, ◌-◌, ◌*◌, ◌/◌, ◌%◌, ◌^◌, ◌<◌, ◌≤◌, Bool, true, false, cond, ◌||◌, ◌&&◌, eqb, refl, ap, sym, ◌∙◌, subst, arith, w64}
+use Rattle.std.specs.Int.{trailing_ones}
 use Rattle.std.proofs.lemmas.Bool.{eqb-true, eqb-false, eq-eqb, ne_eqb}
 use Rattle.bd_names.specs.Bits.{bit_of}
 use Rattle.bd_names.specs.Marked.{MarkedIn}
-use Rattle.bd_names.proofs.Bits.{bit-here, ones-before, full-word, gap-word, IsFirstClear}
+use Rattle.bd_names.proofs.Bits.{bit-here, ones-before, full-word, gap-word, IsFirstClear, first-clear-at}
 
 is-true : (b : Bool) → cond {A = ℕ} b 1 0 ≡ 1 → b ≡ true
 is-true true h = refl
@@ -18,7 +19,7 @@ module _ (words full : ℕ → ℕ → ℕ) (used : ℕ → ℕ → Bool) (h : M
   full-max w e = eqb-true (words p w) (2 ^ 64 - 1) (is-true (eqb (words p w) (2 ^ 64 - 1)) (sym (h.full_are p w) ∙ e))
 
   -- a word without the mark of a full one
-  pub not-max : (w : ℕ) → bit_of full p w ≡ 0 → words p w ≢ 2 ^ 64 - 1
+  not-max : (w : ℕ) → bit_of full p w ≡ 0 → words p w ≢ 2 ^ 64 - 1
   not-max w e = eqb-false (words p w) (2 ^ 64 - 1) (is-false (eqb (words p w) (2 ^ 64 - 1)) (sym (h.full_are p w) ∙ e))
 
   full-ones : (n : ℕ) → ((w : ℕ) → w < n → bit_of full p w ≡ 1) → (j : ℕ) → j < n * 64 → bit_of words p j ≡ 1
@@ -32,11 +33,16 @@ module _ (words full : ℕ → ℕ → ℕ) (used : ℕ → ℕ → Bool) (h : M
   all-used n all j lt = used-one j (full-ones n all j lt)
 
   -- in the first word that isn't
-  pub least-before : (w t : ℕ) → ((v : ℕ) → v < w → bit_of full p v ≡ 1) → IsFirstClear (words p w) t → (j : ℕ) → j < w * 64 + t → used p j ≡ true
+  least-before : (w t : ℕ) → ((v : ℕ) → v < w → bit_of full p v ≡ 1) → IsFirstClear (words p w) t → (j : ℕ) → j < w * 64 + t → used p j ≡ true
   least-before w t all f j lt = let le : t < 64 = f.within in used-one j (ones-before words p w t (omega arith) (full-ones w all) f.before j lt)
 
-  pub least-free : (w t : ℕ) → IsFirstClear (words p w) t → used p (w * 64 + t) ≡ false
+  least-free : (w t : ℕ) → IsFirstClear (words p w) t → used p (w * 64 + t) ≡ false
   least-free w t f = is-false (used p (w * 64 + t)) (sym (h.used_are p (w * 64 + t)) ∙ bit-here words p w t f.within ∙ f.clear)
+
+  pub least-at : (w x t : ℕ) → x < 2 ^ 64 → x ≡ words p w → t ≡ trailing_ones w64 x → bit_of full p w ≡ 0 → ((v : ℕ) → v < w → bit_of full p v ≡ 1)
+      → (used p (w * 64 + t) ≡ false) × ((j : ℕ) → j < w * 64 + t → used p j ≡ true)
+  least-at w x t small is ones gap all =
+      let f = first-clear-at x (words p w) t small (λ e. not-max w gap (sym is ∙ e)) ones is in (least-free w t f, least-before w t all f)
 
   -- the word of a number that isn't in use isn't full
   pub not-full : (i : ℕ) → used p i ≡ false → bit_of full p (i / 64) ≡ 0

@@ -14,7 +14,7 @@ use bd_words::{insert_reserved, pair, wide};
 use std::collections::HashMap;
 use std::hash::{Hash, Hasher};
 
-/// A number of a process.
+/// A number of a process: that of a name, or that of a word of its marks.
 #[derive(Clone, Copy, PartialEq, Eq)]
 pub struct NumberKey {
     pub process: u32,
