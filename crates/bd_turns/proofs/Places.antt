@@ -1,5 +1,5 @@
 -- Where places rise along the slots, and where one is found.
-use Rattle.std.proofs.Common.{◌≡◌, ℕ, zero, suc, ◌+◌, ◌==◌, ◌<◌, ◌≤◌, inl, inr, true, List, [], ◌∷◌, length, get_or, Some, refl, ap, ◌∙◌, arith}
+use Rattle.std.proofs.Common.{◌≡◌, ℕ, zero, suc, ◌+◌, ◌==◌, ◌<◌, ◌≤◌, inl, inr, true, List, [], ◌∷◌, length, get_or, Option, Some, refl, ap, sym, ◌∙◌, arith}
 use Rattle.std.specs.List.{slice_get}
 use Rattle.std.specs.List.Sorted.{IsNonDecreasingBy}
 use Rattle.std.proofs.lemmas.Bool.{cases_lt, eqb-true}
@@ -17,6 +17,10 @@ slot-of : (ss : List Slot) (i : ℕ) (e : Entry) → slice_get (entries ss) i �
 slot-of [] i e h = absurd (cc)
 slot-of (s ∷ ss) zero e h = (s, refl, cc)
 slot-of (s ∷ ss) (suc i) e h = slot-of ss i e h
+
+-- what is read of the slots lent is there
+pub read-at : (lent ss : List Slot) (i : ℕ) (o p : Option Entry) → lent ≡ ss → o ≡ slice_get (entries lent) i → o ≡ p → slice_get (entries ss) i ≡ p
+read-at lent ss i o p same is found = ap (λ xs. slice_get (entries xs) i) (sym same) ∙ sym is ∙ found
 
 pub entry-within : (ss : List Slot) (i : ℕ) (e : Entry) → slice_get (entries ss) i ≡ Some e → i < length ss
 entry-within ss i e h = let u = slot-of ss i e h in slice_get_within ss i u.0 u.1

@@ -5,6 +5,7 @@ use Rattle.bd_turns.specs.Slots.{entries, gone, turns_in}
 use Rattle.bd_turns.specs.Sweep.{kept}
 use Rattle.bd_turns.specs.Listed.{AreListed}
 use Rattle.bd_turns.specs.Stands.{QueueIs}
+use Rattle.bd_turns.proofs.Places.{read-at}
 use Rattle.bd_turns.proofs.Going.{changed-nowhere}
 use Rattle.bd_turns.proofs.Sweeping.{walked-none, walked-next, changed-as, changed-same, turns-kept}
 use Rattle.bd_turns.proofs.Listing.{listed-gone}
@@ -25,7 +26,7 @@ loop-at-preserved g c =
     let at = c.loop-at.at in
     let es = entries c.loop-at.self.slots.items in
     let inv = c.loop-at.invariant in
-    let shown = ap (λ (ss : List Slot). slice_get (entries ss) at) (sym c.deref.ensures.value) ∙ sym c.entry_at.ensures in
+    let shown = read-at _ _ at _ _ c.deref.ensures.value c.entry_at.ensures refl in
     elim c.match-entry_at.branch [
       | in-Some+then-not-f w ↦ rw w.self-is (record {
         same = refl;
