@@ -11,7 +11,7 @@ use Rattle.bd_space.specs.Local.{is_among}
 use Rattle.bd_space.specs.References.{owned_in, is_asked_by, is_in_window, is_of_owner}
 use Rattle.bd_space.specs.ProcessExits.{is_dropped_with}
 use Rattle.bd_nodes.specs.New.{HasAll}
-use Rattle.bd_objects.proofs.Same.{same-eq, same-self}
+use Rattle.bd_space.proofs.Identities.{same-eq, same-self}
 
 either : (a b : Bool) → (a || b) ≡ true → (a ≡ true) ⊎ (b ≡ true)
 either true b h = inl refl

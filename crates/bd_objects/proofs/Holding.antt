@@ -15,7 +15,7 @@ use Rattle.bd_space.specs.Space.{Space}
 use Rattle.bd_space.specs.References.{held_in, strong_in, object_in}
 use Rattle.bd_space.specs.Returns.{returns_of, returns_of_object}
 use Rattle.bd_space.specs.ReadItems.{shakes, handshakes_for, handshakes_of, handshakes}
-use Rattle.bd_objects.proofs.Same.{same-eq}
+use Rattle.bd_space.proofs.Identities.{same-eq}
 use Rattle.bd_objects.specs.Reading.{owed, HoldsAlike}
 
 either : (a b : Bool) → (a || b) ≡ true → (a ≡ true) ⊎ (b ≡ true)

@@ -1,4 +1,3 @@
-pub mod Same
 pub mod Results
 pub mod Owners
 pub mod Fitting

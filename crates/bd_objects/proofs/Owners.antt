@@ -9,7 +9,7 @@ use Rattle.bd_space.specs.Words.{changed, is_some_and, same}
 use Rattle.bd_space.specs.Todo.{notice_of}
 use Rattle.bd_space.specs.References.{held_in, strong_in}
 use Rattle.bd_space.specs.ReadItems.{is_told_by, told_of}
-use Rattle.bd_objects.proofs.Same.{same-eq}
+use Rattle.bd_space.proofs.Identities.{same-eq}
 use Rattle.bd_objects.specs.Reading.{HoldsAlike}
 use Rattle.bd_deaths.proofs.Changes.{none, same_tests, twice}
 use Rattle.bd_objects.proofs.Changes.{same_changes}

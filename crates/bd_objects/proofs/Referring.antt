@@ -10,7 +10,7 @@ use Rattle.bd_space.specs.Words.{same}
 use Rattle.bd_space.specs.References.{reference_of, names_for}
 use Rattle.bd_space.specs.Parcels.{object_of_item}
 use Rattle.bd_space.specs.Delivery.{buffer_references}
-use Rattle.bd_objects.proofs.Same.{same-self}
+use Rattle.bd_space.proofs.Identities.{same-self}
 use Rattle.bd_objects.specs.Naming.{is_referred, AreReferred}
 
 abbrev refers : ℕ → ObjectId → Reference → Bool
