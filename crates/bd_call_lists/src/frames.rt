@@ -6,7 +6,8 @@ ghost use Rattle.bd_space.specs.ReadItems as reading;
 ghost use Rattle.bd_space.specs.Words.{changed};
 ghost use Rattle.bd_frames.specs.Words.{newest_in, abandoned_in, oldest_in, is_place_among, lost_frame, left_frame};
 
-use crate::servers::{is_abandoned, is_frame, serves, takes_part, without_reader, without_thread};
+use crate::servers::{is_abandoned, is_frame, serves, takes_part};
+use bd_frames::{frame_lost, frame_without};
 use bd_space::{Frame, Server};
 use std::alloc::AllocError;
 
@@ -95,7 +96,7 @@ impl FrameList {
     {
         for frame in self.frames.iter_mut() {
             if is_frame(made, frame) {
-                *frame = without_reader(*frame);
+                *frame = frame_lost(*frame);
             }
         }
     }
@@ -105,7 +106,7 @@ impl FrameList {
         ensures { self.new.frames.items ≡ map (left_frame seat) self.old.frames.items }
     {
         for frame in self.frames.iter_mut() {
-            *frame = without_thread(seat, *frame);
+            *frame = frame_without(seat, *frame);
         }
     }
 

@@ -47,7 +47,7 @@ pub(crate) fn frame_served(seat: u32, frame: Frame) -> Frame
 }
 
 /// The frame's call has lost who would have served it.
-pub(crate) fn frame_lost(frame: Frame) -> Frame
+pub fn frame_lost(frame: Frame) -> Frame
     ensures { result ≡ lost_frame frame }
 {
     Frame {
@@ -56,7 +56,8 @@ pub(crate) fn frame_lost(frame: Frame) -> Frame
     }
 }
 
-pub(crate) fn frame_without(seat: u32, frame: Frame) -> Frame
+/// The frame, once the thread is gone from it, as caller and as server.
+pub fn frame_without(seat: u32, frame: Frame) -> Frame
     ensures { result ≡ left_frame seat frame }
 {
     Frame {

@@ -13,5 +13,6 @@ mod tops;
 mod walk;
 
 pub use ancestry::Ancestry;
+pub use change::{frame_lost, frame_without};
 pub use server::serves;
 pub use table::FrameTable;

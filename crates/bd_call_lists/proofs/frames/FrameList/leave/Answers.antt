@@ -5,4 +5,4 @@ use Rattle.bd_call_lists.proofs.frames.FrameList.leave.Goals as goal
 
 pub loop-frame-preserved : goal.loop-frame-preserved
 loop-frame-preserved c =
-    mapped-next (left_frame c.args.seat) _ _ _ _ _ c.loop-frame.invariant (omega arith) c.without_thread.ensures
+    mapped-next (left_frame c.args.seat) _ _ _ _ _ c.loop-frame.invariant (omega arith) c.frame_without.ensures

@@ -11,6 +11,6 @@ loop-frame-preserved c =
     let f = lost_frame in
     let before = c.loop-frame.invariant in
     elim c.if-is_frame.branch [
-      | then-is_frame w ↦ w.frame-items-is ∙ rw w.without_reader.ensures (changed-then p f _ _ _ _ before (omega arith) (search (rules, tests)))
+      | then-is_frame w ↦ w.frame-items-is ∙ rw w.frame_lost.ensures (changed-then p f _ _ _ _ before (omega arith) (search (rules, tests)))
       | else-is_frame w ↦ w.frame-items-is ∙ changed-else p f _ _ _ _ before (omega arith) (search (rules, tests))
     ]
