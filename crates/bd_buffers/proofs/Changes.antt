@@ -1,5 +1,5 @@
 -- Lists with some elements changed or left out.
-use Rattle.std.proofs.Common.{◌≡◌, ℕ, zero, suc, ◌+◌, ◌<◌, length, inl, inr, Bool, true, false, cond, List, [], ◌∷◌, arith, All}
+use Rattle.std.proofs.Common.{ℕ, zero, suc, ◌+◌, ◌<◌, length, inl, inr, Bool, true, false, cond, List, [], ◌∷◌, arith, All}
 use Rattle.std.specs.Prelude.{AllPairs, remove}
 use Rattle.std.proofs.lemmas.List.Elements.{All-cons, All-head, All-tail}
 use Rattle.std.proofs.lemmas.Bool.{cases_lt}

@@ -6,3 +6,4 @@ pub mod Due
 pub mod Only
 pub mod Keys
 pub mod SharedAt
+pub mod OneIsDue

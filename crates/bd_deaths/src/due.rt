@@ -7,6 +7,7 @@ ghost use Rattle.bd_space.specs.{ProcessExits.{is_armed}, Words.{changed}, decla
 ghost use Rattle.bd_space.specs.declared.space.Object.{Object};
 ghost use Rattle.bd_space.specs.declared.space.DeathNotification as declared;
 ghost use Rattle.bd_nodes.specs.Stands.{NodesAre};
+ghost use Rattle.bd_deaths.specs.OneIsDue.{OneIsDue};
 ghost use Rattle.bd_deaths.specs.Due as due;
 ghost use Rattle.bd_deaths.specs.Keys as keys;
 ghost use Rattle.bd_deaths.specs.Slots as spec;
@@ -66,10 +67,7 @@ fn has_due(slots: &[Slot], nodes: &NodeTable, p: u32, made: u32) -> bool
 fn is_place(place: Option<u32>, made: u32) -> bool
     ensures { result ≡ due.is_place place made }
 {
-    match place {
-        Some(n) => n == made,
-        None => true,
-    }
+    place.is_none_or(|n| n == made)
 }
 
 // Whether the end of the process is to be told to another by this one, which was made at such a place and hasn't gone.
@@ -135,8 +133,7 @@ impl DeathList {
     ) -> Result<Vec<DeathNotification>, AllocError>
         ensures due { IfOk result (λ v. (objects : List Object) (l : List declared.DeathNotification)
             → NodesAre nodes.now objects → AreIn self.now l → v.items ≡ due.due_in objects p l) }
-        ensures grown { OnErr result ((objects : List Object) (l : List declared.DeathNotification)
-            → NodesAre nodes.now objects → AreIn self.now l → list_any (due.is_due objects p) l ≡ true) }
+        ensures grown { OnErr result (OneIsDue nodes.now self.now p) }
     {
         let mut told = Vec::new(alloc);
         put_due(&self.slots, nodes, p, None, &mut told)?;
@@ -156,8 +153,7 @@ impl DeathList {
         ensures due { IfOk result (λ v. (objects : List Object) (l : List declared.DeathNotification)
             → NodesAre nodes.now objects → AreIn self.now l
             → v.items ≡ due.due_of (due.has_place places.now) objects p l) }
-        ensures grown { OnErr result ((objects : List Object) (l : List declared.DeathNotification)
-            → NodesAre nodes.now objects → AreIn self.now l → list_any (due.is_due objects p) l ≡ true) }
+        ensures grown { OnErr result (OneIsDue nodes.now self.now p) }
     {
         let mut told = Vec::new(alloc);
         for made in places {
@@ -195,8 +191,7 @@ impl DeathTable {
             → NodesAre nodes.now objects → AreIn self.now.list l → (n : ℕ) → due.has_place touched.new.items n
             ≡ (due.has_place touched.old.items n || (due.has_place (members self.now.groups (keys.object_group o)) n
             && list_any (due.is_due_at objects p n) l))) }
-        ensures grown { OnErr result ((objects : List Object) (l : List declared.DeathNotification)
-            → NodesAre nodes.now objects → AreIn self.now.list l → list_any (due.is_due objects p) l ≡ true) }
+        ensures grown { OnErr result (OneIsDue nodes.now self.now.list p) }
     {
         for made in self.groups.of(group_of(o)) {
             if has_due(self.list.made_part(made), nodes, p, made) {
@@ -215,8 +210,7 @@ impl DeathTable {
     ) -> Result<(), AllocError>
         ensures all { OnOk result ((objects : List Object) (l : List declared.DeathNotification)
             → NodesAre nodes.now objects → DeathsAre self.now l → due.HasDue touched.new.items objects p l) }
-        ensures grown { OnErr result ((objects : List Object) (l : List declared.DeathNotification)
-            → NodesAre nodes.now objects → DeathsAre self.now l → list_any (due.is_due objects p) l ≡ true) }
+        ensures grown { OnErr result (OneIsDue nodes.now self.now.list p) }
     {
         for o in nodes.listed(p) {
             self.due_on(nodes, p, o, touched)?;
@@ -229,8 +223,7 @@ impl DeathTable {
         ensures rising { IfOk result (λ v. IsStrictlyIncreasing v.items) }
         ensures all { IfOk result (λ v. (objects : List Object) (l : List declared.DeathNotification)
             → NodesAre nodes.now objects → DeathsAre self.now l → due.HasDue v.items objects p l) }
-        ensures grown { OnErr result ((objects : List Object) (l : List declared.DeathNotification)
-            → NodesAre nodes.now objects → DeathsAre self.now l → list_any (due.is_due objects p) l ≡ true) }
+        ensures grown { OnErr result (OneIsDue nodes.now self.now.list p) }
     {
         let mut places = Vec::new(alloc);
         self.put_due_places(nodes, p, &mut places)?;

@@ -1,5 +1,5 @@
 -- What a table of work items stands for: the work items of the space, in its order.
-use Rattle.std.specs.Prelude.{ℕ, ◌≡◌, List, min}
+use Rattle.std.specs.Prelude.{ℕ, List, min}
 use Rattle.bd_words.specs.Tables as tables
 use Rattle.bd_space.specs.declared.space.Work.{Work}
 use Rattle.bd_links.specs.declared.table.WorkTable.{WorkTable}

@@ -1,6 +1,5 @@
-use Rattle.std.proofs.Common.{rules, ◌≡◌, ◌<◌, List, None, Some, length, take, get_or, is_some, sym, subst, ap, ◌∙◌, arith, eqb-true}
+use Rattle.std.proofs.Common.{rules, ◌≡◌, ◌<◌, None, Some, length, take, is_some, sym, subst, ap, ◌∙◌, arith, eqb-true}
 use Rattle.std.proofs.lemmas.List.{length-take}
-use Rattle.bd_space.specs.declared.space.Frame.{Frame}
 use Rattle.bd_frames.specs.Places.{IsNewestAt}
 use Rattle.bd_frames.specs.Linked.{IsStep}
 use Rattle.bd_frames.proofs.Standing.{tops-any, top-stands}

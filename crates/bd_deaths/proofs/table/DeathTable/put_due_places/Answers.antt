@@ -18,8 +18,7 @@ loop-o-preserved c = λ objects xs ns h n.
     (c.loop-o.invariant objects xs ns h n) (c.in_ok-due_on.ensures.put objects xs ns h n)
 
 pub returns-in_err-due_on-clause-grown : goal.returns-in_err-due_on-clause-grown
-returns-in_err-due_on-clause-grown c = rw (err_from_is_err_and c.from_residual.result c.from_residual.ensures.1).1
-    (λ objects xs ns h. c.in_err-due_on.ensures.grown objects xs ns h.are_in)
+returns-in_err-due_on-clause-grown c = rw (err_from_is_err_and c.from_residual.result c.from_residual.ensures.1).1 c.in_err-due_on.ensures.grown
 
 pub returns-clause-all : goal.returns-clause-all
 returns-clause-all c = λ objects l ns h n e.

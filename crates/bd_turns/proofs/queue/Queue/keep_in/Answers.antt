@@ -1,6 +1,4 @@
-use Rattle.std.proofs.Common.{rules, List, filter, cond, refl, ap, sym, ◌∙◌, subst, arith}
-use Rattle.std.specs.List.{slice_get}
-use Rattle.bd_turns.specs.declared.slots.Slot.{Slot}
+use Rattle.std.proofs.Common.{rules, filter, cond, refl, ap, sym, ◌∙◌, subst, arith}
 use Rattle.bd_turns.specs.Slots.{entries, gone, turns_in}
 use Rattle.bd_turns.specs.Sweep.{kept}
 use Rattle.bd_turns.specs.Listed.{AreListed}

@@ -1,0 +1,16 @@
+-- Whether the end of a process is to be told at all.
+use Rattle.std.specs.Prelude.{ℕ, ◌≡◌, true, List}
+use Rattle.std.specs.List.{list_any}
+use Rattle.bd_space.specs.declared.space.Object.{Object}
+use Rattle.bd_space.specs.declared.space.DeathNotification.{DeathNotification}
+use Rattle.bd_nodes.specs.declared.table.NodeTable.{NodeTable}
+use Rattle.bd_nodes.specs.Stands.{NodesAre}
+use Rattle.bd_deaths.specs.declared.list.DeathList.{DeathList}
+use Rattle.bd_deaths.specs.Due.{is_due}
+use Rattle.bd_deaths.specs.Stands.{AreIn}
+
+-- whatever objects and notifications there are, one of these is due
+abbrev pub OneIsDue : NodeTable → DeathList → ℕ → Type 0
+OneIsDue nodes t p =
+    (objects : List Object) (l : List DeathNotification) → NodesAre nodes objects → AreIn t l
+    → list_any (is_due objects p) l ≡ true
