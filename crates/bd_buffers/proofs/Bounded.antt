@@ -1,10 +1,10 @@
 -- What the bounds of the holes let a search go past, and what stays bounded.
-use Rattle.std.proofs.Common.{◌≡◌, ℕ, zero, suc, ◌+◌, ◌-◌, ◌*◌, ◌/◌, ◌<◌, ◌≤◌, Bool, true, false, cond, List, [], ◌∷◌, length, get_or, drop, refl, ap, ◌&&◌, ◌∙◌, subst, arith, All, inl, inr, ◌⊎◌, leb}
+use Rattle.std.proofs.Common.{◌≡◌, ℕ, zero, suc, ◌+◌, ◌-◌, ◌*◌, ◌/◌, ◌<◌, ◌≤◌, Bool, true, false, cond, List, [], ◌∷◌, length, get_or, drop, refl, ap, ◌∙◌, subst, arith, All, inl, inr, ◌⊎◌, leb}
 use Rattle.std.specs.Prelude.{find, min, vec_len, vec_capacity}
 use Rattle.std.specs.List.{between}
 use Rattle.std.specs.List.Sorted.{IsNonDecreasingBy, IsPartitionedBy, IsPartitionPoint}
 use Rattle.std.proofs.lemmas.List.Sorted.{IsPartitionedBy-leb}
-use Rattle.std.proofs.lemmas.Bool.{cases_lt, lt-leb, leb-true, leb-false}
+use Rattle.std.proofs.lemmas.Bool.{cases_lt, lt-leb, leb-true, leb-false, and_parts}
 use Rattle.std.proofs.lemmas.List.Edits.{length-between, get_or-between}
 use Rattle.std.proofs.lemmas.List.Elements.{All-weaker}
 use Rattle.bd_buffers.specs.declared.hole.Hole.{Hole}
@@ -116,14 +116,9 @@ module _ (P : Hole → Type 0) where
 
 -- ---- before bounds are made anew
 
-both_true : (a b : Bool) → (a && b) ≡ true → (a ≡ true) × (b ≡ true)
-both_true true true e = (refl, refl)
-both_true true false e = cc
-both_true false b e = cc
-
 pub reaches_says : (size : ℕ) (b : Bounds) → reaches size b ≡ true → (size ≤ 4096 * length b.blocks.items) × (size ≤ 131072 * length b.runs.items)
 reaches_says size b e =
-    let both = both_true _ _ e in
+    let both = and_parts _ _ e in
     (leb-true size (4096 * length b.blocks.items) both.0, leb-true size (131072 * length b.runs.items) both.1)
 
 pub reaches_same : (size : ℕ) (old new : Bounds) → IsAsLong old new → reaches size new ≡ reaches size old

@@ -1,10 +1,9 @@
 -- What is so of each hole where a span is taken or given back.
 use Rattle.std.proofs.Common.{◌≡◌, ℕ, ◌+◌, ◌≤◌, List, [], ◌∷◌, arith, All, inl, inr, ◌⊎◌, ltb, eqb}
-use Rattle.std.proofs.lemmas.Bool.{eqb-true}
+use Rattle.std.proofs.lemmas.Bool.{eqb-true, cases_Bool}
 use Rattle.std.proofs.lemmas.List.Elements.{All-nil, All-cons, All-head, All-tail}
 use Rattle.bd_buffers.specs.declared.hole.Hole.{Hole}
 use Rattle.bd_buffers.specs.Holes.{Spaced, Begins, shortened, taken, joined, released}
-use Rattle.bd_buffers.proofs.Fits.{cases_bool}
 use Rattle.bd_buffers.proofs.Split.{ends_above}
 
 module _ (P : Hole → Type 0) where
@@ -14,7 +13,7 @@ module _ (P : Hole → Type 0) where
   taken_each p n tail (h ∷ hs) less all =
       let head = All-head P h hs all in
       let rest = All-tail P h hs all in
-      elim (cases_bool (eqb h.start p)) [
+      elim (cases_Bool (eqb h.start p)) [
         | inl here ↦ rw here (All-cons P (shortened n h) hs (less h (eqb-true h.start p here) head) rest)
         | inr apart ↦ rw apart (All-cons P h (taken p n tail hs).holes head (taken_each p n tail hs less rest))
       ]
@@ -26,12 +25,12 @@ module _ (P : Hole → Type 0) where
 
   joined_each : (b s e tail low : ℕ) (holes : List Hole) → b ≤ s → Joins s e → Spaced tail low holes → All P holes → All P (joined b e tail holes).holes
   joined_each b s e tail low [] le joins sp all =
-      elim (cases_bool (eqb e tail)) [
+      elim (cases_Bool (eqb e tail)) [
         | inl touch ↦ rw touch (All-nil P)
         | inr apart ↦ rw apart (All-cons P (record { start = b; end = e }) [] (joins.own b le) (All-nil P))
       ]
   joined_each b s e tail low (h ∷ hs) le joins sp all =
-      elim (cases_bool (eqb e h.start)) [
+      elim (cases_Bool (eqb e h.start)) [
         | inl touch ↦
             (let same = eqb-true e h.start touch in
             rw touch (All-cons P (record { start = b; end = h.end }) hs (joins.with_next b h le (omega (arith, same)) (omega (arith, same, sp.1)) (All-head P h hs all)) (All-tail P h hs all)))
@@ -43,9 +42,9 @@ module _ (P : Hole → Type 0) where
   released_each s e tail low [] joins sp all = joined_each s s e tail low [] (omega arith) joins sp all
   released_each s e tail low (h ∷ hs) joins sp all =
       let rest = All-tail P h hs all in
-      elim (cases_bool (ltb s h.end)) [
+      elim (cases_Bool (ltb s h.end)) [
         | inl before ↦ rw before (joined_each s s e tail low (h ∷ hs) (omega arith) joins sp all)
-        | inr past ↦ elim (cases_bool (eqb h.end s)) [
+        | inr past ↦ elim (cases_Bool (eqb h.end s)) [
           | inl touch ↦
               (let same = eqb-true h.end s touch in
               rw (past, touch) (joined_each h.start s e tail (h.end + 1) hs (omega (arith, same, sp.1)) joins sp.4 rest))

@@ -1,7 +1,7 @@
 -- The first hole with room, or the tail, begins at the least free place.
-use Rattle.std.proofs.Common.{◌≡◌, ℕ, ◌+◌, ◌-◌, ◌<◌, ◌≤◌, ◌%◌, List, get_or, Bool, true, false, refl, sym, ◌∙◌, [], ◌∷◌, Some, None, arith, inl, inr, ◌⊎◌, leb}
+use Rattle.std.proofs.Common.{◌≡◌, ℕ, ◌+◌, ◌-◌, ◌<◌, ◌≤◌, ◌%◌, List, get_or, Bool, true, refl, sym, ◌∙◌, [], ◌∷◌, Some, None, arith, inl, inr, ◌⊎◌, leb}
 use Rattle.std.specs.Prelude.{Option, Ok}
-use Rattle.std.proofs.lemmas.Bool.{cases_lt, le-leb, lt-leb, leb-true}
+use Rattle.std.proofs.lemmas.Bool.{cases_lt, le-leb, lt-leb, leb-true, cases_Bool}
 use Rattle.bd_space.specs.declared.space.Buffer.{Buffer}
 use Rattle.bd_space.specs.Windows.{start_in, start_for}
 use Rattle.bd_buffers.specs.declared.hole.Hole.{Hole}
@@ -9,10 +9,6 @@ use Rattle.bd_buffers.specs.Holes.{Covered, IsFreeByte, Spaced, IsFreeSpace, Beg
 use Rattle.bd_buffers.specs.Buffer.{IsApart, IsPlaced}
 use Rattle.bd_buffers.specs.Window.{IsFree, IsLeastFree, IsWindow}
 use Rattle.bd_buffers.proofs.Places.{start_at, no_start_at, given_says}
-
-pub cases_bool : (b : Bool) → (b ≡ true) ⊎ (b ≡ false)
-cases_bool true = inl refl
-cases_bool false = inr refl
 
 -- what holes from a place on cover lies from it on
 pub above : (size tail low : ℕ) (holes : List Hole) (q : ℕ) → Spaced tail low holes → Covered size tail holes q → low ≤ q
@@ -40,7 +36,7 @@ fits_by size tail n p low (h ∷ hs) pos sp run =
       | inr there ↦
           let up = above size tail (h.end + 1) hs p sp.4 there in
           let rest = fits_by size tail n p (h.end + 1) hs pos sp.4 (λ q a b. elim (run q a b) [ inl x ↦ absurd (omega (arith, x.1, up)) | inr y ↦ y ]) in
-          elim (cases_bool (leb (h.start + n) h.end)) [
+          elim (cases_Bool (leb (h.start + n) h.end)) [
             | inl fit ↦ (h.start, rw fit refl, omega (arith, sp.1, up))
             | inr not_fit ↦ (rest.0, rw not_fit rest.1, rest.2)
           ]
@@ -54,7 +50,7 @@ record HasRoom (size tail n s : ℕ) (holes : List Hole) : Type 0 where
 covers_fit : (size tail n s low : ℕ) (holes : List Hole) → Spaced tail low holes → first_fit size tail n holes ≡ Some s → HasRoom size tail n s holes
 unfolding first_fit
 covers_fit size tail n s low [] sp e =
-    elim (cases_bool (leb (tail + n) size)) [
+    elim (cases_Bool (leb (tail + n) size)) [
       | inl fit ↦
           let is : Some tail ≡ Some s = rw fit at e in
           let same : tail ≡ s = cc is in
@@ -63,7 +59,7 @@ covers_fit size tail n s low [] sp e =
       | inr not_fit ↦ let is : None ≡ Some s = rw not_fit at e in absurd cc
     ]
 covers_fit size tail n s low (h ∷ hs) sp e =
-    elim (cases_bool (leb (h.start + n) h.end)) [
+    elim (cases_Bool (leb (h.start + n) h.end)) [
       | inl fit ↦
           let is : Some h.start ≡ Some s = rw fit at e in
           let le = leb-true _ _ fit in
@@ -85,12 +81,12 @@ tail_short size tail n lt = rw (lt-leb _ _ lt) refl
 fit_above : (size tail n s low : ℕ) (holes : List Hole) → Spaced tail low holes → first_fit size tail n holes ≡ Some s → low ≤ s
 unfolding first_fit
 fit_above size tail n s low [] sp e =
-    elim (cases_bool (leb (tail + n) size)) [
+    elim (cases_Bool (leb (tail + n) size)) [
       | inl fit ↦ let is : Some tail ≡ Some s = rw fit at e in let same : tail ≡ s = cc is in omega (arith, sp.0, same)
       | inr not_fit ↦ let is : None ≡ Some s = rw not_fit at e in absurd cc
     ]
 fit_above size tail n s low (h ∷ hs) sp e =
-    elim (cases_bool (leb (h.start + n) h.end)) [
+    elim (cases_Bool (leb (h.start + n) h.end)) [
       | inl fit ↦ let is : Some h.start ≡ Some s = rw fit at e in let same : h.start ≡ s = cc is in omega (arith, sp.0, same)
       | inr not_fit ↦ let up = fit_above size tail n s (h.end + 1) hs sp.4 (rw not_fit at e) in omega (arith, sp.0, sp.1, up)
     ]
@@ -99,12 +95,12 @@ fit_above size tail n s low (h ∷ hs) sp e =
 pub fit_begins : (size tail n s low : ℕ) (holes : List Hole) → Spaced tail low holes → first_fit size tail n holes ≡ Some s → Begins tail s n holes
 unfolding first_fit
 fit_begins size tail n s low [] sp e =
-    elim (cases_bool (leb (tail + n) size)) [
+    elim (cases_Bool (leb (tail + n) size)) [
       | inl fit ↦ let is : Some tail ≡ Some s = rw fit at e in let same : tail ≡ s = cc is in sym same
       | inr not_fit ↦ let is : None ≡ Some s = rw not_fit at e in absurd cc
     ]
 fit_begins size tail n s low (h ∷ hs) sp e =
-    elim (cases_bool (leb (h.start + n) h.end)) [
+    elim (cases_Bool (leb (h.start + n) h.end)) [
       | inl fit ↦
           let is : Some h.start ≡ Some s = rw fit at e in
           let same : h.start ≡ s = cc is in

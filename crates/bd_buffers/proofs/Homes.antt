@@ -3,7 +3,7 @@ use Rattle.std.proofs.Common.{◌≡◌, ◌≢◌, ℕ, zero, suc, ◌+◌, ◌
 use Rattle.std.specs.Prelude.{◌==◌, not, find, filter, Some, None, Option, option_map}
 use Rattle.std.specs.List.{cons_option}
 use Rattle.std.specs.Option.{is_some, option_or, option_to_list}
-use Rattle.std.proofs.lemmas.Bool.{eqb-true, eqb-false}
+use Rattle.std.proofs.lemmas.Bool.{eqb-true, eqb-false, cases_Bool}
 use Rattle.std.proofs.lemmas.List.{append-nil}
 use Rattle.std.proofs.lemmas.List.Elements.{All-filter}
 use Rattle.std.proofs.lemmas.List.Folds.{find-append}
@@ -22,7 +22,6 @@ use Rattle.bd_words.proofs.Found.{none_found, find_gone, find_stays}
 use Rattle.bd_buffers.specs.declared.rows.Row.{Row}
 use Rattle.bd_buffers.specs.Homes.{home_key, AreHomes, Forgets}
 use Rattle.bd_buffers.specs.Rows.{live, in_row}
-use Rattle.bd_buffers.proofs.Fits.{cases_bool}
 use Rattle.bd_buffers.proofs.Listed.{key_word, told_handed}
 use Rattle.bd_buffers.proofs.Made.{kept, find_kept, find_beside, find_new, none_of}
 
@@ -76,7 +75,7 @@ pub homes_noted : (homes left : WordMap ℕ) (bs : List Buffer) (b : Buffer) →
     → ((k : WordKey) → look left k ≡ cond (same_word (home_key b.made) k) (Some b.receiver) (look homes k)) → AreHomes left (bs ++ b ∷ [])
 homes_noted homes left bs b are before put = λ m.
     put (home_key m) ∙ ap (λ t. cond t (Some b.receiver) (look homes (home_key m))) (key_word b.made m)
-    ∙ elim (cases_bool (b.made == m)) [
+    ∙ elim (cases_Bool (b.made == m)) [
       | inl here ↦ ap (λ t. cond t (Some b.receiver) (look homes (home_key m))) here ∙ sym (ap home_of (find_new (is_made_at m) b bs [] here (earlier m (eqb-true b.made m here))))
       | inr other ↦
           ap (λ t. cond t (Some b.receiver) (look homes (home_key m))) other ∙ are m
@@ -92,7 +91,7 @@ pub homes_forgotten : (homes left : WordMap ℕ) (bs : List Buffer) (m : ℕ) �
     → ((k : WordKey) → look left k ≡ cond (same_word (home_key m) k) None (look homes k)) → AreHomes left (filter (λ b. not (is_made_at m b)) bs)
 homes_forgotten homes left bs m are gone = λ n.
     gone (home_key n) ∙ ap (λ t. cond t None (look homes (home_key n))) (key_word m n)
-    ∙ elim (cases_bool (m == n)) [
+    ∙ elim (cases_Bool (m == n)) [
       | inl here ↦ (
           let P : ℕ → Type 0 = λ k. find (is_made_at k) (filter (λ b. not (is_made_at m b)) bs) ≡ None in
           ap (λ t. cond t None (look homes (home_key n))) here ∙ sym (ap home_of (subst P (eqb-true m n here) (find_gone made_of m bs))))

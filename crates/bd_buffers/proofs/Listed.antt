@@ -2,7 +2,7 @@
 use Rattle.std.proofs.Common.{◌≡◌, ℕ, ◌<◌, Bool, true, false, cond, List, [], ◌∷◌, ◌++◌, get_or, refl, ap, sym, ◌∙◌, arith, All, subst, inl, inr}
 use Rattle.std.specs.Prelude.{◌==◌, not, find, filter, Some, None, Option, option_map}
 use Rattle.std.proofs.lemmas.List.{append-nil}
-use Rattle.std.proofs.lemmas.Bool.{eqb-true, eqb-false, false≢true}
+use Rattle.std.proofs.lemmas.Bool.{eqb-true, eqb-false, false≢true, cases_Bool}
 use Rattle.bd_space.specs.declared.space.Buffer.{Buffer}
 use Rattle.bd_space.specs.Words.{changed}
 use Rattle.bd_space.specs.ReadItems.{hand_out}
@@ -18,7 +18,7 @@ use Rattle.bd_buffers.specs.Buffer.{IsApart, at_pointer}
 use Rattle.bd_buffers.specs.Window.{IsWindow}
 use Rattle.bd_buffers.specs.Spots.{AreSpots, spot_key}
 use Rattle.bd_buffers.specs.Rows.{IsWithout}
-use Rattle.bd_buffers.proofs.Fits.{cases_bool, filled}
+use Rattle.bd_buffers.proofs.Fits.{filled}
 use Rattle.bd_buffers.proofs.Made.{find_beside, find_new}
 
 pub spots_empty : (spots : WordMap ℕ) → ((k : WordKey) → look spots k ≡ None) → AreSpots [] spots
@@ -72,7 +72,7 @@ pub spots_noted : (bs : List Buffer) (b : Buffer) (spots left : WordMap ℕ) →
     → ((k : WordKey) → look left k ≡ cond (same_word (spot_key (pointer b)) k) (Some b.made) (look spots k)) → AreSpots (bs ++ b ∷ []) left
 spots_noted bs b spots left is new found = λ p.
     found (spot_key p) ∙ ap (λ t. cond t (Some b.made) (look spots (spot_key p))) (key_word (pointer b) p)
-    ∙ elim (cases_bool (pointer b == p)) [
+    ∙ elim (cases_Bool (pointer b == p)) [
       | inl here ↦ (
           let same = eqb-true (pointer b) p here in
           let none : All (λ x. at_pointer p x ≡ false) (bs ++ []) =
@@ -90,7 +90,7 @@ spots_forgotten size b bs new spots left is window gone found = λ p.
     let m = pointer b in
     let rest : filter (λ x. not (at_pointer m x)) bs ≡ new = filter_at pointer m bs gone.index (distinct_pointers size bs window) gone.within (λ d. ap pointer (sym (gone.at d))) ∙ sym gone.left in
     found (spot_key p) ∙ ap (λ t. cond t None (look spots (spot_key p))) (key_word m p)
-    ∙ elim (cases_bool (m == p)) [
+    ∙ elim (cases_Bool (m == p)) [
       | inl here ↦ (
           let P : ℕ → Type 0 = λ k. find (at_pointer k) (filter (λ x. not (at_pointer m x)) bs) ≡ None in
           ap (λ t. cond t None (look spots (spot_key p))) here ∙ sym (ap (option_map (λ (x : Buffer). x.made)) (subst P (eqb-true m p here) (find_gone pointer m bs))))

@@ -1,10 +1,10 @@
 -- What taking and giving back leave free.
 use Rattle.std.proofs.Common.{◌≡◌, ℕ, ◌+◌, ◌<◌, ◌≤◌, ◌%◌, List, [], ◌∷◌, arith, inl, inr, ◌⊎◌, ltb, eqb, All}
-use Rattle.std.proofs.lemmas.Bool.{cases_lt, ltb-true, ltb-false, eqb-true, eqb-false}
+use Rattle.std.proofs.lemmas.Bool.{cases_lt, ltb-true, ltb-false, eqb-true, eqb-false, cases_Bool}
 use Rattle.std.proofs.lemmas.List.Elements.{All-head, All-tail}
 use Rattle.bd_buffers.specs.declared.hole.Hole.{Hole}
 use Rattle.bd_buffers.specs.Holes.{Covered, Spaced, Begins, shortened, taken, joined, released}
-use Rattle.bd_buffers.proofs.Fits.{above, cases_bool}
+use Rattle.bd_buffers.proofs.Fits.{above}
 
 -- a byte outside a span
 abbrev pub IsOutside : ℕ → ℕ → ℕ → Type 0
@@ -36,7 +36,7 @@ pub taken_to : (size tail p n low q : ℕ) (holes : List Hole) → Spaced tail l
 unfolding taken
 taken_to size tail p n low q [] sp b c = ((omega (arith, c.0), c.1), inr (omega (arith, c.0, b)))
 taken_to size tail p n low q (h ∷ hs) sp b c =
-    elim (cases_bool (eqb h.start p)) [
+    elim (cases_Bool (eqb h.start p)) [
       | inl here ↦
           let same = eqb-true _ _ here in
           let c' : Covered size tail (shortened n h ∷ hs) q = rw here at c in
@@ -55,7 +55,7 @@ pub taken_from : (size tail p n low q : ℕ) (holes : List Hole) → Spaced tail
 unfolding taken
 taken_from size tail p n low q [] sp b c out = (elim out [ inl x ↦ absurd (omega (arith, x, b, c.0)) | inr y ↦ omega (arith, y, b) ], c.1)
 taken_from size tail p n low q (h ∷ hs) sp b c out =
-    elim (cases_bool (eqb h.start p)) [
+    elim (cases_Bool (eqb h.start p)) [
       | inl here ↦
           let same = eqb-true _ _ here in
           let out' : IsOutside h.start (h.start + n) q = rw same out in
@@ -74,7 +74,7 @@ pub spaced_taken : (tail p n low : ℕ) (holes : List Hole) → n % 8 ≡ 0 → 
 unfolding taken
 spaced_taken tail p n low [] whole sp b = (omega (arith, sp.0), omega (arith, sp.1))
 spaced_taken tail p n low (h ∷ hs) whole sp b =
-    elim (cases_bool (eqb h.start p)) [
+    elim (cases_Bool (eqb h.start p)) [
       | inl here ↦
           let le = begins_here tail p n h hs sp.1 (eqb-true _ _ here) b in
           rw here (omega (arith, sp.0), le, omega (arith, sp.2), sp.3, sp.4)
@@ -86,7 +86,7 @@ pub taken_within : (size tail p n low : ℕ) (holes : List Hole) → p + n ≤ s
 unfolding taken
 taken_within size tail p n low [] inside le sp b = omega (arith, inside, b)
 taken_within size tail p n low (h ∷ hs) inside le sp b =
-    elim (cases_bool (eqb h.start p)) [
+    elim (cases_Bool (eqb h.start p)) [
       | inl here ↦ rw here le
       | inr there ↦ rw there (taken_within size tail p n (h.end + 1) hs inside le sp.4 (begins_later tail p n h hs (eqb-false _ _ there) b).1)
     ]
@@ -130,7 +130,7 @@ raise size tail s e (h ∷ hs) lt le sp none =
 joined_to : (size tail s e q : ℕ) (holes : List Hole) → s < e → Spaced tail e holes → Covered size (joined s e tail holes).tail (joined s e tail holes).holes q
     → ((s ≤ q) × (q < e)) ⊎ Covered size tail holes q
 joined_to size tail s e q [] lt sp c =
-    elim (cases_bool (eqb e tail)) [
+    elim (cases_Bool (eqb e tail)) [
       | inl touch ↦
           let c' : (s ≤ q) × (q < size) = rw touch at c in
           let is = eqb-true _ _ touch in
@@ -138,7 +138,7 @@ joined_to size tail s e q [] lt sp c =
       | inr apart ↦ let c' : ((s ≤ q) × (q < e)) ⊎ ((tail ≤ q) × (q < size)) = rw apart at c in c'
     ]
 joined_to size tail s e q (h ∷ hs) lt sp c =
-    elim (cases_bool (eqb e h.start)) [
+    elim (cases_Bool (eqb e h.start)) [
       | inl touch ↦
           let c' : ((s ≤ q) × (q < h.end)) ⊎ Covered size tail hs q = rw touch at c in
           let is = eqb-true _ _ touch in
@@ -152,12 +152,12 @@ joined_to size tail s e q (h ∷ hs) lt sp c =
 joined_from : (size tail s e q : ℕ) (holes : List Hole) → s < e → e ≤ size → Spaced tail e holes → ((s ≤ q) × (q < e)) ⊎ Covered size tail holes q
     → Covered size (joined s e tail holes).tail (joined s e tail holes).holes q
 joined_from size tail s e q [] lt le sp c =
-    elim (cases_bool (eqb e tail)) [
+    elim (cases_Bool (eqb e tail)) [
       | inl touch ↦ rw touch (elim c [ inl here ↦ (here.0, omega (arith, here.1, le)) | inr there ↦ (omega (arith, there.0, sp.0, lt), there.1) ])
       | inr apart ↦ rw apart c
     ]
 joined_from size tail s e q (h ∷ hs) lt le sp c =
-    elim (cases_bool (eqb e h.start)) [
+    elim (cases_Bool (eqb e h.start)) [
       | inl touch ↦
           let is = eqb-true _ _ touch in
           rw touch (elim c [
@@ -169,20 +169,20 @@ joined_from size tail s e q (h ∷ hs) lt le sp c =
 
 spaced_joined : (tail s e low : ℕ) (holes : List Hole) → low ≤ s → s < e → s % 8 ≡ 0 → e % 8 ≡ 0 → Spaced tail e holes → Spaced (joined s e tail holes).tail low (joined s e tail holes).holes
 spaced_joined tail s e low [] le lt s8 e8 sp =
-    elim (cases_bool (eqb e tail)) [
+    elim (cases_Bool (eqb e tail)) [
       | inl touch ↦ rw touch (le, s8)
       | inr apart ↦ let ne = eqb-false _ _ apart in rw apart (le, omega arith, s8, e8, (omega (arith, sp.0, ne), sp.1))
     ]
 spaced_joined tail s e low (h ∷ hs) le lt s8 e8 sp =
-    elim (cases_bool (eqb e h.start)) [
+    elim (cases_Bool (eqb e h.start)) [
       | inl touch ↦ let is = eqb-true _ _ touch in rw touch (le, omega (arith, sp.1, is, lt), s8, sp.3, sp.4)
       | inr apart ↦ let ne = eqb-false _ _ apart in rw apart (le, omega arith, s8, e8, (omega (arith, sp.0, ne), sp.1, sp.2, sp.3, sp.4))
     ]
 
 -- the tail begins no later than it did
 joined_tail : (tail s e : ℕ) (holes : List Hole) → s ≤ e → (joined s e tail holes).tail ≤ tail
-joined_tail tail s e [] le = elim (cases_bool (eqb e tail)) [ inl touch ↦ (let is = eqb-true _ _ touch in rw touch (omega (arith, is))) | inr apart ↦ rw apart (omega arith) ]
-joined_tail tail s e (h ∷ hs) le = elim (cases_bool (eqb e h.start)) [ inl touch ↦ rw touch (omega arith) | inr apart ↦ rw apart (omega arith) ]
+joined_tail tail s e [] le = elim (cases_Bool (eqb e tail)) [ inl touch ↦ (let is = eqb-true _ _ touch in rw touch (omega (arith, is))) | inr apart ↦ rw apart (omega arith) ]
+joined_tail tail s e (h ∷ hs) le = elim (cases_Bool (eqb e h.start)) [ inl touch ↦ rw touch (omega arith) | inr apart ↦ rw apart (omega arith) ]
 
 -- a hole that ends past s is past the span
 first_after : (size tail s e low : ℕ) (h : Hole) (hs : List Hole) → s < e → e ≤ size → Spaced tail low (h ∷ hs) → IsUncovered size tail s e (h ∷ hs) → s < h.end → Spaced tail e (h ∷ hs)
@@ -198,9 +198,9 @@ unfolding released
 released_to size tail s e low q [] lt le sp none c = joined_to size tail s e q [] lt (tail_after size tail s e lt le none, sp.1) c
 released_to size tail s e low q (h ∷ hs) lt le sp none c =
     let rest = uncovered_rest size tail s e h hs none in
-    elim (cases_bool (ltb s h.end)) [
+    elim (cases_Bool (ltb s h.end)) [
       | inl before ↦ joined_to size tail s e q (h ∷ hs) lt (first_after size tail s e low h hs lt le sp none (ltb-true _ _ before)) (rw before at c)
-      | inr past ↦ elim (cases_bool (eqb h.end s)) [
+      | inr past ↦ elim (cases_Bool (eqb h.end s)) [
         | inl touch ↦
             let is = eqb-true _ _ touch in
             let sp' : Spaced tail (s + 1) hs = rw (← is) sp.4 in
@@ -224,9 +224,9 @@ unfolding released
 released_from size tail s e low q [] lt le sp none c = joined_from size tail s e q [] lt le (tail_after size tail s e lt le none, sp.1) c
 released_from size tail s e low q (h ∷ hs) lt le sp none c =
     let rest = uncovered_rest size tail s e h hs none in
-    elim (cases_bool (ltb s h.end)) [
+    elim (cases_Bool (ltb s h.end)) [
       | inl before ↦ rw before (joined_from size tail s e q (h ∷ hs) lt le (first_after size tail s e low h hs lt le sp none (ltb-true _ _ before)) c)
-      | inr past ↦ elim (cases_bool (eqb h.end s)) [
+      | inr past ↦ elim (cases_Bool (eqb h.end s)) [
         | inl touch ↦
             let is = eqb-true _ _ touch in
             let sp' : Spaced tail (s + 1) hs = rw (← is) sp.4 in
@@ -247,9 +247,9 @@ unfolding released
 spaced_released size tail s e low [] le lt within s8 e8 sp none = spaced_joined tail s e low [] le lt s8 e8 (tail_after size tail s e lt within none, sp.1)
 spaced_released size tail s e low (h ∷ hs) le lt within s8 e8 sp none =
     let rest = uncovered_rest size tail s e h hs none in
-    elim (cases_bool (ltb s h.end)) [
+    elim (cases_Bool (ltb s h.end)) [
       | inl before ↦ rw before (spaced_joined tail s e low (h ∷ hs) le lt s8 e8 (first_after size tail s e low h hs lt within sp none (ltb-true _ _ before)))
-      | inr past ↦ elim (cases_bool (eqb h.end s)) [
+      | inr past ↦ elim (cases_Bool (eqb h.end s)) [
         | inl touch ↦
             let is = eqb-true _ _ touch in
             let sp' : Spaced tail (s + 1) hs = rw (← is) sp.4 in
@@ -266,9 +266,9 @@ pub released_tail : (tail s e low : ℕ) (holes : List Hole) → s < e → Space
 unfolding released
 released_tail tail s e low [] lt sp = joined_tail tail s e [] (omega arith)
 released_tail tail s e low (h ∷ hs) lt sp =
-    elim (cases_bool (ltb s h.end)) [
+    elim (cases_Bool (ltb s h.end)) [
       | inl before ↦ rw before (joined_tail tail s e (h ∷ hs) (omega arith))
-      | inr past ↦ elim (cases_bool (eqb h.end s)) [
+      | inr past ↦ elim (cases_Bool (eqb h.end s)) [
         | inl touch ↦ let is = eqb-true _ _ touch in rw (past, touch) (joined_tail tail h.start e hs (omega (arith, sp.1, is)))
         | inr apart ↦ rw (past, apart) (released_tail tail s e (h.end + 1) hs lt sp.4)
       ]

@@ -4,7 +4,7 @@ use Rattle.std.specs.Prelude.{Option, Some, None, Result, Ok, Err, option_map, �
 use Rattle.std.specs.List.{list_all}
 use Rattle.std.proofs.lemmas.List.Sums.{AllPass-from_list_all, list_all-from_AllPass}
 use Rattle.std.proofs.lemmas.List.Elements.{All-weaker}
-use Rattle.std.proofs.lemmas.Bool.{cases_lt}
+use Rattle.std.proofs.lemmas.Bool.{cases_lt, and_from, false_from_ne_true}
 use Rattle.bd_uapi.specs.declared.fault.Cause.{Cause}
 use Rattle.bd_uapi.specs.declared.fault.Cause.TheVariants.{NoRoom, OverBudget}
 use Rattle.bd_space.specs.declared.space.Buffer.{Buffer}
@@ -81,9 +81,6 @@ apart_is p n b t = search (rules, tests)
 is_apart_from : (p n : ℕ) (b : Buffer) → IsApart p n b → is_apart p n b ≡ true
 is_apart_from p n b apart = search (rules, tests)
 
-both_true : (a b : Bool) → a ≡ true → b ≡ true → (a && b) ≡ true
-both_true a b s t = rw (s, t) refl
-
 first_true : (a b : Bool) → (a && b) ≡ true → a ≡ true
 first_true true b t = refl
 first_true false b t = cc
@@ -106,21 +103,17 @@ pub free_fits : (size : ℕ) (buffers : List Buffer) (n p : ℕ) → IsFree size
 free_fits size buffers n p room =
     let inside : p + n ≤ size = room.inside in
     let in_window : nat_le (p + n) size ≡ true = search (rules, tests) in
-    both_true (nat_le (p + n) size) (list_all (is_apart p n) buffers) in_window
+    and_from (nat_le (p + n) size) (list_all (is_apart p n) buffers) in_window
     (list_all-from_AllPass (is_apart p n) buffers (All-weaker (IsApart p n) (λ b. is_apart p n b ≡ true) (is_apart_from p n) buffers room.free))
 
 -- ---- the place
-
-not_true : (b : Bool) → (b ≡ true → ⊥) → b ≡ false
-not_true true never = absurd (never refl)
-not_true false never = refl
 
 eight_times : (q : ℕ) → q % 8 ≡ 0 → q ≡ 8 * (q / 8)
 eight_times q aligned = omega arith
 
 no_lower : (size : ℕ) (buffers : List Buffer) (n k j : ℕ) → IsLeastFree size buffers n (8 * k) → j < k → fits_in size buffers n (8 * j) ≡ false
 no_lower size buffers n k j is lt =
-    not_true (fits_in size buffers n (8 * j)) (λ fits.
+    false_from_ne_true (fits_in size buffers n (8 * j)) (λ fits.
     let lower : 8 * k ≤ 8 * j = is.least (8 * j) (fits_free size buffers n (8 * j) (omega arith) fits) in
     omega arith)
 
@@ -145,7 +138,7 @@ unfolding start_in
 no_start_at size buffers n none =
     let fits = λ (j : ℕ). fits_in size buffers n (8 * j) in
     ap (option_map (λ j. 8 * j)) (least-none fits (size / 8) 0 (λ j low high.
-    not_true (fits j) (λ t. none (8 * j) (fits_free size buffers n (8 * j) (omega arith) t))))
+    false_from_ne_true (fits j) (λ t. none (8 * j) (fits_free size buffers n (8 * j) (omega arith) t))))
 
 some_place : (size : ℕ) (buffers : List Buffer) (n p : ℕ) (o : Option ℕ) → least (size / 8) 0 (λ j. fits_in size buffers n (8 * j)) ≡ o
     → option_map (λ j. 8 * j) o ≡ Some p → IsLeastFree size buffers n p

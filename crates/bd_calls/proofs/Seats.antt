@@ -3,10 +3,11 @@ use Rattle.std.proofs.Common.{◌≡◌, ℕ, ◌<◌, ◌≤◌, ◌+◌, ◌==
 use Rattle.std.specs.Prelude.{Option}
 use Rattle.std.specs.Option.{is_none}
 use Rattle.std.specs.List.{list_any}
-use Rattle.std.proofs.lemmas.Bool.{eq-eqb}
+use Rattle.std.proofs.lemmas.Bool.{eq-eqb, or_parts}
 use Rattle.std.proofs.lemmas.List.Folds.{list_any-append}
 use Rattle.std.proofs.lemmas.List.{get_or-set_same, get_or-set_other, take_more, take_all}
 use Rattle.std.proofs.lemmas.Map.Views.{any-filter_same}
+use Rattle.std.proofs.Math.Bool.{and-false}
 use Rattle.bd_space.specs.declared.step.ObjectId.{ObjectId}
 use Rattle.bd_space.specs.declared.space.Frame.{Frame}
 use Rattle.bd_space.specs.declared.space.Thread.{Thread}
@@ -26,8 +27,6 @@ use Rattle.bd_space.specs.Notices.{has_notice_in}
 use Rattle.bd_calls.specs.declared.ready.Seen.{Seen}
 use Rattle.bd_calls.specs.declared.ready.ReadySeats.{ReadySeats}
 use Rattle.bd_calls.specs.Ready.{seen_at, is_of, unless_of, tells_of, KeepsOnly, IsSeen, AreSeen}
-use Rattle.bd_links.proofs.Fronts.{and_false}
-use Rattle.bd_links.proofs.OnList.{neither}
 use Rattle.bd_links.proofs.QueueLemmas.{same_list-eq}
 use Rattle.bd_threads.proofs.Seated.{found_passes}
 use Rattle.bd_calls.proofs.Plain.{anything-to-read}
@@ -133,10 +132,10 @@ none-taken : (list : TodoList) (seat : ℕ) (x : Seen) (w : Work) (taken : List 
     → same_list list w.list ≡ true → list_any (λ d. is_item w d) taken ≡ false
 none-taken list seat x w [] gone told on = refl
 none-taken list seat x w (d ∷ ds) gone told on =
-    let both = neither (tells_of d.list seat x) _ gone in
+    let both = or_parts (tells_of d.list seat x) _ gone in
     let other = differs d.list list (λ e. apart list d.list seat x told both.0 (sym e)) in
     let here : same_list d.list w.list ≡ false = ap (same_list d.list) (sym (same_list-eq list w.list on)) ∙ other in
-    ap (λ b. (same_identity w.id d.id && b) || list_any (λ e. is_item w e) ds) here ∙ ap (λ b. b || list_any (λ e. is_item w e) ds) (and_false (same_identity w.id d.id))
+    ap (λ b. (same_identity w.id d.id && b) || list_any (λ e. is_item w e) ds) here ∙ ap (λ b. b || list_any (λ e. is_item w e) ds) (and-false (same_identity w.id d.id))
     ∙ none-taken list seat x w ds both.1 told on
 
 pub taken-from : (taken ws : List Work) (list : TodoList) (seat : ℕ) (x : Seen) → list_any (λ d. tells_of d.list seat x) taken ≡ false → tells_of list seat x ≡ true

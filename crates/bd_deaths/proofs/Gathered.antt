@@ -7,6 +7,7 @@ use Rattle.std.proofs.lemmas.Bool.{eqb-true, eq-eqb, and_parts, or_cases, or_lef
 use Rattle.std.proofs.lemmas.List.Folds.{list_any_at, list_any_more}
 use Rattle.std.proofs.lemmas.List.Kept.{AllPairs-from_increasing, Contains-dedup_nat}
 use Rattle.std.proofs.lemmas.List.Sorted.{list_any-IsPermutation}
+use Rattle.std.proofs.Math.Bool.{and-false}
 use Rattle.bd_space.specs.declared.space.Object.{Object}
 use Rattle.bd_space.specs.declared.space.DeathNotification.{DeathNotification}
 use Rattle.bd_space.specs.Deaths.{is_notification}
@@ -17,7 +18,7 @@ use Rattle.bd_space.specs.Ranges.{IsPartOf}
 use Rattle.bd_deaths.specs.Stands.{IsRising}
 use Rattle.bd_deaths.proofs.Lives.{any-lives}
 use Rattle.bd_space.proofs.Ranges.{same-filter, filter-of}
-use Rattle.bd_deaths.proofs.Tests.{and-false, eqb-turned}
+use Rattle.bd_deaths.proofs.Tests.{eqb-turned}
 
 -- ---- places sorted, each once
 

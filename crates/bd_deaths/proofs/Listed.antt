@@ -4,6 +4,7 @@ use Rattle.std.specs.Prelude.{◌==◌, All}
 use Rattle.std.proofs.lemmas.List.Elements.{All-nil, All-cons, All-head, All-tail}
 use Rattle.std.proofs.lemmas.List.Folds.{list_any-append}
 use Rattle.std.proofs.lemmas.Bool.{eq-eqb, eqb-true, not-true}
+use Rattle.std.proofs.Math.Bool.{and-false}
 use Rattle.bd_groups.specs.declared.groups.Groups.{Groups}
 use Rattle.bd_groups.specs.declared.group.Group.{Group}
 use Rattle.bd_groups.specs.declared.group.Group.TheVariants.{Process}
@@ -16,7 +17,7 @@ use Rattle.bd_deaths.specs.Keys.{object_group}
 use Rattle.bd_deaths.specs.Listed.{IsListed}
 use Rattle.bd_deaths.specs.Due.{has_place, is_own_at}
 use Rattle.bd_deaths.proofs.Changes.{All-changed}
-use Rattle.bd_deaths.proofs.Tests.{and-false, eqb-turned}
+use Rattle.bd_deaths.proofs.Tests.{eqb-turned}
 use Rattle.bd_space.proofs.Ranges.{all-stay, same-filter}
 use Rattle.bd_deaths.proofs.Kept.{Alike}
 

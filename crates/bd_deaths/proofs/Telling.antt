@@ -4,6 +4,7 @@ use Rattle.std.specs.Prelude.{◌==◌}
 use Rattle.std.specs.List.{list_any}
 use Rattle.std.proofs.lemmas.Bool.{eqb-true, and_parts}
 use Rattle.std.proofs.lemmas.List.Folds.{list_any-append}
+use Rattle.std.proofs.Math.Bool.{and-false, or-false}
 use Rattle.bd_space.specs.declared.space.Object.{Object}
 use Rattle.bd_space.specs.declared.space.DeathNotification.{DeathNotification}
 use Rattle.bd_space.specs.declared.space.Phase.TheVariants.{Queued}
@@ -13,7 +14,7 @@ use Rattle.bd_space.specs.Ranges.{IsPartOf}
 use Rattle.bd_space.proofs.Ranges.{any-of}
 use Rattle.bd_deaths.specs.Due.{is_due, is_due_of, is_due_at, queued_at, has_place}
 use Rattle.bd_deaths.proofs.Changes.{none, same_tests, twice, guarded}
-use Rattle.bd_deaths.proofs.Tests.{or-false, and-false, eqb-turned}
+use Rattle.bd_deaths.proofs.Tests.{eqb-turned}
 
 both-queued : (a b d : Bool) → ((a && d) || (b && (not (a && d) && d))) ≡ ((a || b) && d)
 both-queued true true true = refl

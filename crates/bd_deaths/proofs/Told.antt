@@ -1,8 +1,10 @@
 -- None of the first slots is told, when slots change.
-use Rattle.std.proofs.Common.{◌≡◌, ℕ, zero, suc, ◌≤◌, Bool, true, false, ◌&&◌, ◌||◌, cond, List, [], ◌∷◌, ◌++◌, take, length, set, refl, ap, ◌∙◌, arith}
+use Rattle.std.proofs.Common.{◌≡◌, ℕ, zero, suc, ◌≤◌, Bool, true, false, ◌&&◌, cond, List, [], ◌∷◌, ◌++◌, take, length, set, refl, ap, ◌∙◌, arith}
 use Rattle.std.specs.Prelude.{◌==◌}
 use Rattle.std.specs.List.{list_any}
 use Rattle.std.proofs.lemmas.List.{length-append, length-set, take-append-le}
+use Rattle.std.proofs.Math.Bool.{and-false}
+use Rattle.std.proofs.lemmas.Bool.{or_from}
 use Rattle.bd_nodes.proofs.Found.{length-changed}
 use Rattle.bd_space.specs.Words.{changed}
 use Rattle.bd_space.specs.Clearing.{is_told, is_told_with}
@@ -14,24 +16,16 @@ use Rattle.bd_space.specs.Ranges.{IsWithin}
 use Rattle.bd_space.proofs.Ranges.{no-head, none-after}
 use Rattle.bd_deaths.proofs.Lives.{within-on}
 
-and-false : (a : Bool) → (a && false) ≡ false
-and-false true = refl
-and-false false = refl
-
-either-false : (a b : Bool) → a ≡ false → b ≡ false → (a || b) ≡ false
-either-false true b h k = absurd (cc)
-either-false false b h k = k
-
 none-set : {A : Type 0} (p : A → Bool) (n : ℕ) (xs : List A) (i : ℕ) (y : A) → p y ≡ false → list_any p (take n xs) ≡ false → list_any p (take n (set xs i y)) ≡ false
 none-set p zero xs i y e h = refl
 none-set p (suc n) [] i y e h = refl
-none-set p (suc n) (x ∷ xs) zero y e h = either-false (p y) _ e (no-head (p x) _ h).1
-none-set p (suc n) (x ∷ xs) (suc i) y e h = let k = no-head (p x) _ h in either-false (p x) _ k.0 (none-set p n xs i y e k.1)
+none-set p (suc n) (x ∷ xs) zero y e h = or_from (p y) _ e (no-head (p x) _ h).1
+none-set p (suc n) (x ∷ xs) (suc i) y e h = let k = no-head (p x) _ h in or_from (p x) _ k.0 (none-set p n xs i y e k.1)
 
 none-changed : {A : Type 0} (p q : A → Bool) (f : A → A) → ((x : A) → p x ≡ false → p (f x) ≡ false) → (n : ℕ) (xs : List A) → list_any p (take n xs) ≡ false → list_any p (take n (changed q f xs)) ≡ false
 none-changed p q f keeps zero xs h = refl
 none-changed p q f keeps (suc n) [] h = refl
-none-changed p q f keeps (suc n) (x ∷ xs) h = let k = no-head (p x) _ h in either-false (p (cond (q x) (f x) x)) _ (by (q x) k.0) (none-changed p q f keeps n xs k.1)
+none-changed p q f keeps (suc n) (x ∷ xs) h = let k = no-head (p x) _ h in or_from (p (cond (q x) (f x) x)) _ (by (q x) k.0) (none-changed p q f keeps n xs k.1)
   where
     by : (b : Bool) → p x ≡ false → p (cond b (f x) x) ≡ false
     by true e = keeps x e
@@ -46,7 +40,7 @@ none-before p q f (suc m) (suc n) (suc i) [] a b h k = refl
 none-before p q f (suc m) (suc n) (suc i) (x ∷ xs) a b h k =
     let r = no-head (q x) _ h in
     let s = no-head (p x) _ k in
-    rw r.0 (either-false (p x) _ s.0 (none-before p q f m n i xs (omega arith) (omega arith) r.1 s.1))
+    rw r.0 (or_from (p x) _ s.0 (none-before p q f m n i xs (omega arith) (omega arith) r.1 s.1))
 
 pub told-none : (ss : List Slot) → NoneTold 0 ss
 told-none ss = record { within = omega arith; none = refl }
@@ -80,7 +74,7 @@ none-take : {A : Type 0} (p : A → Bool) (m n : ℕ) (xs : List A) → m ≤ n 
 none-take p zero n xs a h = refl
 none-take p (suc m) zero xs a h = absurd (omega arith)
 none-take p (suc m) (suc n) [] a h = refl
-none-take p (suc m) (suc n) (x ∷ xs) a h = let k = no-head (p x) _ h in either-false (p x) _ k.0 (none-take p m n xs (omega arith) k.1)
+none-take p (suc m) (suc n) (x ∷ xs) a h = let k = no-head (p x) _ h in or_from (p x) _ k.0 (none-take p m n xs (omega arith) k.1)
 
 told-fewer : (m n : ℕ) (ss : List Slot) → m ≤ n → NoneTold n ss → NoneTold m ss
 told-fewer m n ss a h = record { within = let w = h.within in omega (arith, a, w); none = none-take (on was_told) m n ss a h.none }

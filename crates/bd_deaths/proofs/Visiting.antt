@@ -5,6 +5,7 @@ use Rattle.std.specs.List.{list_any}
 use Rattle.std.proofs.lemmas.List.Elements.{All-head, All-tail}
 use Rattle.std.proofs.lemmas.List.Folds.{list_any-append}
 use Rattle.std.proofs.lemmas.Bool.{eqb-true, and_parts, or_cases, or_left, or_right}
+use Rattle.std.proofs.Math.Bool.{and-false, or-false}
 use Rattle.bd_groups.specs.declared.groups.Groups.{Groups}
 use Rattle.bd_groups.specs.Members.{members}
 use Rattle.bd_space.specs.declared.step.ObjectId.{ObjectId}
@@ -22,7 +23,6 @@ use Rattle.bd_deaths.specs.Due.{is_due, is_due_at, is_queued_in, queued_at, has_
 use Rattle.bd_deaths.proofs.Changes.{same_tests}
 use Rattle.bd_deaths.proofs.Listed.{place-in}
 use Rattle.bd_deaths.proofs.Telling.{told_at, queued, same-places, more-places}
-use Rattle.bd_deaths.proofs.Tests.{or-false, and-false}
 
 -- the place is listed with one of these objects
 abbrev pub visited : Groups ℕ → List ObjectId → ℕ → Bool

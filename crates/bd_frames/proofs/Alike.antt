@@ -1,5 +1,7 @@
 -- Threads take part in a frame as before, or one more or one less does.
 use Rattle.std.proofs.Common.{◌≡◌, ℕ, ◌==◌, ◌||◌, Bool, true, false, cond, Option, Some, None, refl, ap, sym, ◌∙◌, eqb-true}
+use Rattle.std.proofs.lemmas.Bool.{or_parts}
+use Rattle.std.proofs.Math.Bool.{or-false}
 use Rattle.bd_space.specs.declared.space.Frame.{Frame}
 use Rattle.bd_space.specs.declared.space.Server.{Server}
 use Rattle.bd_space.specs.declared.space.Server.TheVariants.{Pending, Serving, Gone}
@@ -11,14 +13,6 @@ use Rattle.bd_frames.specs.Words.{lost, lost_frame, left_frame, is_pending}
 
 pub or-left : (a b : Bool) → a ≡ true → (a || b) ≡ true
 or-left a b e = ap (λ x. x || b) e
-
-pub or-right : (a b : Bool) → b ≡ true → (a || b) ≡ true
-or-right true b e = refl
-or-right false b e = e
-
-pub or-false : (a : Bool) → (a || false) ≡ a
-or-false true = refl
-or-false false = refl
 
 -- ---- who would have served it has gone
 
@@ -86,14 +80,10 @@ no-server seat Pending e = refl
 no-server seat Gone e = refl
 no-server seat (Serving t) e = ap (λ b. cond b Gone (Serving t)) e
 
-both-none : (a b : Bool) → (a || b) ≡ false → (a ≡ false) × (b ≡ false)
-both-none true b h = absurd (cc)
-both-none false b h = (refl, h)
-
 -- who takes no part in a frame is not gone from it
 pub left-other : (seat : ℕ) (f : Frame) → takes_part seat f ≡ false → left_frame seat f ≡ f
 left-other seat f e =
-    let g = both-none (calls seat f) _ e in
+    let g = or_parts (calls seat f) _ e in
     ap (λ (o : Option ℕ). record f { caller = o; server = gone_server seat f.server }) (no-caller seat f.caller g.0)
     ∙ ap (λ (v : Server). record f { server = v }) (no-server seat f.server g.1)
 

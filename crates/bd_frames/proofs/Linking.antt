@@ -2,7 +2,7 @@
 use Rattle.std.proofs.Common.{◌≡◌, ℕ, zero, suc, ◌≤◌, ◌<◌, ◌==◌, ◌||◌, Bool, true, false, cond, List, [], ◌∷◌, ◌++◌, Option, Some, None, map, take, drop, length, get_or, set, refl, ap, sym, subst, ◌∙◌, arith, eqb-true}
 use Rattle.std.specs.List.{list_any, remove, slice_get}
 use Rattle.std.specs.Option.{option_and_then}
-use Rattle.std.proofs.lemmas.Bool.{eq-eqb, ne_eqb}
+use Rattle.std.proofs.lemmas.Bool.{eq-eqb, ne_eqb, or_right}
 use Rattle.bd_space.specs.declared.space.Frame.{Frame}
 use Rattle.bd_space.specs.Words.{changed}
 use Rattle.bd_space.specs.Frames.{calls, takes_part, is_frame}
@@ -13,7 +13,7 @@ use Rattle.bd_frames.specs.Words.{left_frame, lost_frame, is_pending}
 use Rattle.bd_frames.specs.Linked.{below_of, with_frame, tops_after, LeadsTo, Linked}
 use Rattle.bd_space.proofs.Ranges.{no-head, changed-none}
 use Rattle.bd_frames.proofs.Places.{rising-above}
-use Rattle.bd_frames.proofs.Alike.{or-left, or-right, left-takes, left-calls, left-gone, lost-takes, served-takes}
+use Rattle.bd_frames.proofs.Alike.{or-left, left-takes, left-calls, left-gone, lost-takes, served-takes}
 
 abbrev pub Tops : Type 0
 Tops = ℕ → Option ℕ
@@ -26,7 +26,7 @@ linked-same t u [] (b ∷ bs) h k = absurd k
 linked-same t u (f ∷ fs) [] h k = absurd k
 linked-same t u (f ∷ fs) (b ∷ bs) h k = (
   λ s e. k.0 s e ∙ h s (or-left (takes_part s f) _ e),
-  linked-same (with_frame t f) (with_frame u f) fs bs (λ s e. ap (λ (o : Option ℕ). cond (takes_part s f) (Some f.made) o) (h s (or-right (takes_part s f) _ e))) k.1,
+  linked-same (with_frame t f) (with_frame u f) fs bs (λ s e. ap (λ (o : Option ℕ). cond (takes_part s f) (Some f.made) o) (h s (or_right (takes_part s f) _ e))) k.1,
 )
 
 pub tops-same : (t u : Tops) (fs : List Frame) (s : ℕ) → t s ≡ u s → tops_after t fs s ≡ tops_after u fs s
@@ -279,7 +279,7 @@ tops-serve m t (f ∷ fs) zero d seat s r lt p none =
     at : (x : Bool) → (seat == s) ≡ x → tops_after (with_frame t (serve seat f)) fs s ≡ cond (seat == s) (Some f.made) (tops_after t (f ∷ fs) s)
     at true g =
         tops-none (with_frame t (serve seat f)) fs s (ap (λ n. list_any (takes_part n) fs) (sym (eqb-true seat s g)) ∙ (no-head (takes_part seat f) _ none).1)
-        ∙ ap (λ (x : Bool). cond x (Some f.made) (t s)) (or-right (calls s f) (seat == s) g)
+        ∙ ap (λ (x : Bool). cond x (Some f.made) (t s)) (or_right (calls s f) (seat == s) g)
         ∙ sym (ap (λ (x : Bool). cond x (Some f.made) (tops_after t (f ∷ fs) s)) g)
     at false g =
         tops-same (with_frame t (serve seat f)) (with_frame t f) fs s (ap (λ (x : Bool). cond x (Some f.made) (t s)) (served-takes seat s f p g))

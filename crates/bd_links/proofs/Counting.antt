@@ -3,6 +3,7 @@ use Rattle.std.proofs.Common.{◌≡◌, ◌≢◌, ◌⊎◌, inl, inr, ℕ, �
 use Rattle.std.proofs.lemmas.Bool.{cases_eq}
 use Rattle.std.proofs.lemmas.List.{length-map}
 use Rattle.std.proofs.lemmas.List.Sums.{length-filter}
+use Rattle.std.proofs.Math.Bool.{and-true}
 use Rattle.bd_space.specs.declared.space.Work.{Work}
 use Rattle.bd_links.specs.declared.queues.Queues.{Queues}
 use Rattle.bd_links.specs.Rings.{In, Distinct, without}
@@ -13,7 +14,7 @@ use Rattle.bd_links.specs.Sweep.{is_seen}
 use Rattle.bd_links.proofs.RingLemmas.{Distinct-right}
 use Rattle.bd_links.proofs.Moves.{filter_agree, In-filter, In-from_filter, Distinct-filter, cut_at}
 use Rattle.bd_links.proofs.QueueLemmas.{filter_both, filter-map}
-use Rattle.bd_links.proofs.Sweeping.{past_other, not_past, just_past, and-true, below_nodes}
+use Rattle.bd_links.proofs.Sweeping.{past_other, not_past, just_past, below_nodes}
 
 -- ---- counts
 

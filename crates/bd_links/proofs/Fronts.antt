@@ -1,6 +1,8 @@
 -- The first work item of a list goes, where no other is called the same.
 use Rattle.std.proofs.Common.{◌≡◌, ℕ, zero, suc, ◌≤◌, length, drop, Bool, true, false, not, ◌&&◌, ◌||◌, cond, List, [], ◌∷◌, filter, is_some, refl, sym, ap, ◌∙◌, arith}
 use Rattle.std.specs.List.{list_any, slice_get}
+use Rattle.std.proofs.Math.Bool.{and-false}
+use Rattle.std.proofs.lemmas.Bool.{and_parts}
 use Rattle.bd_space.specs.declared.space.Identity.{Identity}
 use Rattle.bd_space.specs.declared.space.Work.{Work}
 use Rattle.bd_space.specs.Words.{same_identity, without_first}
@@ -20,14 +22,6 @@ without_taken-cons d ds (w ∷ ws) = one (is_item w d) refl (without_taken-cons 
 pub without_taken-none : (ws : List Work) → without_taken [] ws ≡ ws
 without_taken-none [] = refl
 without_taken-none (w ∷ ws) = ap (λ vs. w ∷ vs) (without_taken-none ws)
-
-pub and_false : (b : Bool) → (b && false) ≡ false
-and_false true = refl
-and_false false = refl
-
-both : (a b : Bool) → (a && b) ≡ true → (a ≡ true) × (b ≡ true)
-both true b h = (refl, h)
-both false b h = cc
 
 not_both : (a b : Bool) → (not a && b) ≡ true → (a ≡ false) × (b ≡ true)
 not_both true b h = cc
@@ -50,7 +44,7 @@ module _ (d : Work) where
           let r = not_both (same_identity w.id d.id) (is_front d.id false (filter (is_on d.list) ws)) h in
           ap (λ s. cond (not (s && is_on d.list w)) (w ∷ filter (λ w. not (is_item w d)) ws) (filter (λ w. not (is_item w d)) ws)) r.0 ∙ ap (λ vs. w ∷ vs) (k r.1)
       at false e h k =
-          ap (λ b. cond (not b) (w ∷ filter (λ w. not (is_item w d)) ws) (filter (λ w. not (is_item w d)) ws)) (ap (λ b. same_identity w.id d.id && b) e ∙ and_false (same_identity w.id d.id)) ∙ ap (λ vs. w ∷ vs) (k h)
+          ap (λ b. cond (not b) (w ∷ filter (λ w. not (is_item w d)) ws) (filter (λ w. not (is_item w d)) ws)) (ap (λ b. same_identity w.id d.id && b) e ∙ and-false (same_identity w.id d.id)) ∙ ap (λ vs. w ∷ vs) (k h)
 
   pub front_goes : (ws : List Work) → is_front d.id true (filter (is_on d.list) ws) ≡ true → without_first (is_on d.list) ws ≡ filter (λ w. not (is_item w d)) ws
   front_goes [] h = refl
@@ -60,11 +54,11 @@ module _ (d : Work) where
           → (is_front d.id true (filter (is_on d.list) ws) ≡ true → without_first (is_on d.list) ws ≡ filter (λ w. not (is_item w d)) ws)
           → cond b ws (w ∷ without_first (is_on d.list) ws) ≡ cond (not (is_item w d)) (w ∷ filter (λ w. not (is_item w d)) ws) (filter (λ w. not (is_item w d)) ws)
       at true e h k =
-          let r = both (same_identity w.id d.id) (is_front d.id false (filter (is_on d.list) ws)) h in
+          let r = and_parts (same_identity w.id d.id) (is_front d.id false (filter (is_on d.list) ws)) h in
           sym (none_left ws r.1) ∙ ap (λ b. cond (not b) (w ∷ filter (λ w. not (is_item w d)) ws) (filter (λ w. not (is_item w d)) ws)) (sym (ap (λ s. s && is_on d.list w) r.0 ∙ e))
       at false e h k =
           ap (λ vs. w ∷ vs) (k h)
-          ∙ ap (λ b. cond (not b) (w ∷ filter (λ w. not (is_item w d)) ws) (filter (λ w. not (is_item w d)) ws)) (sym (ap (λ b. same_identity w.id d.id && b) e ∙ and_false (same_identity w.id d.id)))
+          ∙ ap (λ b. cond (not b) (w ∷ filter (λ w. not (is_item w d)) ws) (filter (λ w. not (is_item w d)) ws)) (sym (ap (λ b. same_identity w.id d.id && b) e ∙ and-false (same_identity w.id d.id)))
 
 -- all that was taken is gone
 pub taken_all : (ds : List Work) (i : ℕ) (l mid : List Work) → length ds ≤ i → without_taken ds l ≡ without_taken (drop i ds) mid → mid ≡ without_taken ds l

@@ -1,6 +1,7 @@
 -- What is found among the work items on a list.
 use Rattle.std.proofs.Common.{◌≡◌, Bool, true, false, not, ◌&&◌, ◌||◌, List, [], ◌∷◌, length, filter, cond, refl, sym, ap, ◌∙◌, is_some, ◌+◌, arith}
 use Rattle.std.specs.List.{list_any, slice_get}
+use Rattle.std.proofs.lemmas.Bool.{or_parts}
 use Rattle.bd_space.specs.declared.space.Work.{Work}
 use Rattle.bd_space.specs.Reading.{is_empty}
 use Rattle.bd_space.specs.Words.{without_first}
@@ -32,14 +33,10 @@ any_first p ws = first (filter p ws) ∙ sym (any_left p ws)
 
 -- ---- the first on a list goes
 
-pub neither : (b r : Bool) → (b || r) ≡ false → (b ≡ false) × (r ≡ false)
-neither false r e = (refl, e)
-neither true r e = absurd (cc)
-
 -- where none is to go, all stay
 pub nothing_goes : (p : Work → Bool) (ws : List Work) → list_any p ws ≡ false → filter (λ w. not (p w)) ws ≡ ws
 nothing_goes p [] e = refl
-nothing_goes p (w ∷ ws) e = let h = neither (p w) (list_any p ws) e in rw h.0 (ap (λ vs. w ∷ vs) (nothing_goes p ws h.1))
+nothing_goes p (w ∷ ws) e = let h = or_parts (p w) (list_any p ws) e in rw h.0 (ap (λ vs. w ∷ vs) (nothing_goes p ws h.1))
 
 -- none that is to go is among those that stay
 pub none_stays : (p : Work → Bool) (ws : List Work) → list_any p (filter (λ w. not (p w)) ws) ≡ false
@@ -52,7 +49,7 @@ none_stays p (w ∷ ws) = at (p w) refl (none_stays p ws)
 
 pub no_first : (p : Work → Bool) (ws : List Work) → list_any p ws ≡ false → without_first p ws ≡ ws
 no_first p [] e = refl
-no_first p (w ∷ ws) e = let h = neither (p w) (list_any p ws) e in rw h.0 (ap (λ vs. w ∷ vs) (no_first p ws h.1))
+no_first p (w ∷ ws) e = let h = or_parts (p w) (list_any p ws) e in rw h.0 (ap (λ vs. w ∷ vs) (no_first p ws h.1))
 
 pub rest_same : (p : Work → Bool) (ws : List Work) → filter (λ w. not (p w)) (without_first p ws) ≡ filter (λ w. not (p w)) ws
 rest_same p [] = refl

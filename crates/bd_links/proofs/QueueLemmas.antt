@@ -9,6 +9,7 @@ use Rattle.bd_space.specs.Words.{without_first}
 use Rattle.bd_space.specs.Todo.{same_list, is_on}
 use Rattle.std.specs.List.{slice_get}
 use Rattle.std.proofs.Common.{◌-◌}
+use Rattle.std.specs.Cmp.{both_ways}
 use Rattle.bd_links.specs.Rings.{Off, In, Distinct, Path, is_in_ring, ring, without, Rings}
 use Rattle.bd_links.specs.Queues.{no_work, work_in, is_used, used, Queued}
 use Rattle.bd_links.specs.Shown.{ShowsAt}
@@ -50,12 +51,6 @@ pub map_agree : {B : Type 0} (f g : ℕ → B) (xs : List ℕ) → ((x : ℕ) �
 map_agree f g [] h = refl
 map_agree f g (x ∷ xs) h = ap (λ y. y ∷ map f xs) (h x (inl refl)) ∙ ap (λ ys. g x ∷ ys) (map_agree f g xs (λ y k. h y (inr k)))
 
-pub bools : (a b : Bool) → (a ≡ true → b ≡ true) → (b ≡ true → a ≡ true) → a ≡ b
-bools true true h k = refl
-bools true false h k = sym (h refl)
-bools false true h k = k refl
-bools false false h k = refl
-
 module _ (N P R : List ℕ) (W : List Work) (H : TodoList → Option ℕ) (heads : List ℕ) (order : List ℕ) (todo : List Work) (q : Queued N P R W H heads order todo) where
   pub used_off_zero : (x h : ℕ) → In h (heads) → get_or R x 0 ≡ h → is_used R x ≡ true
   used_off_zero x h k e =
@@ -85,7 +80,7 @@ module _ (N P R : List ℕ) (W : List Work) (H : TodoList → Option ℕ) (heads
           ap (λ b. b && is_on l (work_in W x)) u ∙ ap (same_list l) (sym same) ∙ same_list-refl l
 
       agree : (x : ℕ) → In x order → (is_used R x && is_on l (work_in W x)) ≡ is_in_ring R h x
-      agree x k = bools _ _ (here x k) (there x k)
+      agree x k = both_ways _ _ (here x k) (there x k)
 
   -- a queue, read from its front, is the work items on the list
   pub queue_is : (l : TodoList) (h : ℕ) → H l ≡ Some h → filter (is_on l) todo ≡ map (work_in W) (ring R order h)

@@ -2,6 +2,7 @@
 use Rattle.std.proofs.Common.{◌≡◌, ◌≢◌, ◌⊎◌, inl, inr, ℕ, ◌+◌, ◌<◌, ◌≤◌, ◌==◌, nat_lt, Bool, true, false, not, ◌&&◌, ◌||◌, List, [], ◌∷◌, ◌++◌, length, map, filter, set, refl, sym, ap, ◌∙◌, subst, arith, eq-eqb, ne_eqb, lt-ltb, le-ltb, ltb-true, ltb-false}
 use Rattle.std.proofs.lemmas.Bool.{cases_eq}
 use Rattle.std.proofs.lemmas.List.{length-map, map-append}
+use Rattle.std.proofs.Math.Bool.{and-true}
 use Rattle.bd_space.specs.declared.space.Work.{Work}
 use Rattle.bd_links.specs.declared.links.Node.{Node}
 use Rattle.bd_links.specs.declared.queues.Queues.{Queues}
@@ -34,10 +35,6 @@ not_past i = le-ltb i i (omega arith)
 
 pub just_past : (i : ℕ) → nat_lt i (i + 1) ≡ true
 just_past i = lt-ltb i (i + 1) (omega arith)
-
-pub and-true : (b : Bool) → (b && true) ≡ b
-and-true true = refl
-and-true false = refl
 
 module _ (p : Work → Bool) (W : List Work) (i : ℕ) where
   stays_own : stays p W i i ≡ true

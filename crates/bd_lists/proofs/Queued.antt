@@ -3,13 +3,14 @@ use Rattle.std.proofs.Common.{◌≡◌, ℕ, zero, suc, ◌+◌, ◌<◌, ◌�
 use Rattle.std.specs.Prelude.{◌==◌}
 use Rattle.std.proofs.lemmas.Bool.{and_parts, or_cases, or_left, or_right}
 use Rattle.std.proofs.lemmas.List.{take_all}
+use Rattle.std.proofs.Math.Bool.{and-false}
 use Rattle.bd_space.specs.declared.space.Object.{Object}
 use Rattle.bd_space.specs.declared.space.DeathNotification.{DeathNotification}
 use Rattle.bd_space.specs.Words.{changed}
 use Rattle.bd_deaths.specs.Due.{is_due_at, is_queued_in, queued_at, has_place}
 use Rattle.bd_deaths.proofs.Changes.{same_tests}
 use Rattle.bd_deaths.proofs.Telling.{queued, told_at, place-next}
-use Rattle.bd_deaths.proofs.Tests.{and-false, eqb-turned}
+use Rattle.bd_deaths.proofs.Tests.{eqb-turned}
 
 abbrev pub places : ℕ → List DeathNotification → List ℕ
 places i l = map (λ x. x.made) (take i l)

@@ -1,15 +1,11 @@
 -- Of as many numbers as there are names, and one more, one is free. So the least free one is the first that a loop finds.
-use Rattle.std.proofs.Common.{◌≡◌, ℕ, zero, suc, ◌+◌, ◌<◌, ◌≤◌, Bool, true, false, not, cond, ◌||◌, ◌&&◌, List, [], ◌∷◌, length, Some, refl, ap, sym, ◌∙◌, subst, inl, inr, ◌⊎◌, arith, unwrap_or}
+use Rattle.std.proofs.Common.{◌≡◌, ℕ, zero, suc, ◌+◌, ◌<◌, ◌≤◌, Bool, true, false, not, cond, ◌&&◌, List, [], ◌∷◌, length, Some, refl, ap, sym, ◌∙◌, subst, inl, inr, arith, unwrap_or}
 use Rattle.std.specs.Prelude.{◌==◌, nat_le}
 use Rattle.std.specs.List.{list_any}
-use Rattle.std.proofs.lemmas.Bool.{cases_lt, false≢true}
+use Rattle.std.proofs.lemmas.Bool.{cases_lt, false≢true, or_cases}
 use Rattle.std.proofs.lemmas.Bool.Decides.{nat_tests}
 use Rattle.bd_space.specs.declared.space.Name.{Name}
 use Rattle.bd_space.specs.Words.{least}
-
-either : (a b : Bool) → (a || b) ≡ true → (a ≡ true) ⊎ (b ≡ true)
-either true b h = inl refl
-either false b h = inr h
 
 -- j is the first number from k on that passes
 pub record IsFirst (p : ℕ → Bool) (k j : ℕ) : Type 0 where
@@ -68,7 +64,7 @@ module _ (p : ℕ) where
 
   fewer : (names : List Name) (n : ℕ) → used names n ≡ true → above names (n + 1) + 1 ≤ above names n
   fewer [] n h = absurd (cc)
-  fewer (m ∷ ms) n h = elim (either (is_with n m) (used ms n) h) [
+  fewer (m ∷ ms) n h = elim (or_cases (is_with n m) (used ms n) h) [
     | inl e ↦ fewer-here m ms n e
     | inr e ↦ fewer-there m ms n (fewer ms n e)
   ]

@@ -1,9 +1,9 @@
 -- The numbers of processes' names in groups, as names come and go.
-use Rattle.std.proofs.Common.{◌≡◌, ◌≢◌, ℕ, zero, suc, ◌<◌, Bool, true, false, not, cond, ◌||◌, ◌&&◌, eqb, List, [], ◌∷◌, ◌++◌, length, filter, refl, ap, sym, ◌∙◌, subst, inl, inr, ◌⊎◌, arith}
+use Rattle.std.proofs.Common.{◌≡◌, ◌≢◌, ℕ, zero, suc, ◌<◌, Bool, true, false, not, cond, ◌&&◌, eqb, List, [], ◌∷◌, ◌++◌, length, filter, refl, ap, sym, ◌∙◌, subst, inl, inr, ◌⊎◌, arith}
 use Rattle.std.specs.Prelude.{get_or}
 use Rattle.std.specs.List.{All, list_any}
 use Rattle.std.specs.Option.{is_some}
-use Rattle.std.proofs.lemmas.Bool.{eqb-true, eq-eqb, ne_eqb}
+use Rattle.std.proofs.lemmas.Bool.{eqb-true, eq-eqb, ne_eqb, and_parts, or_cases, or_right}
 use Rattle.std.proofs.lemmas.List.Elements.{All-filter, All-push, filter_passes}
 use Rattle.bd_groups.specs.declared.group.Group.{Group}
 use Rattle.bd_groups.specs.declared.group.Group.TheVariants.{Process}
@@ -33,22 +33,14 @@ listed-filter held keep l h = All-filter keep (λ (m : Name). HasMember held (Pr
 
 -- ---- of the names that are there, each is a member or still to come
 
-either : (a b : Bool) → (a || b) ≡ true → (a ≡ true) ⊎ (b ≡ true)
-either true b h = inl refl
-either false b h = inr h
-
-both : (a b : Bool) → (a && b) ≡ true → (a ≡ true) × (b ≡ true)
-both true b h = (refl, h)
-both false b h = absurd (cc)
-
 abbrev pub Coming : Groups ℕ → List NumberKey → ℕ → ℕ → Type 0
 Coming held todo p n = (list_any (is_number_key p n) todo ≡ true) ⊎ HasMember held (Process p) n
 
 pub come : (old new : Groups ℕ) (k : NumberKey) (todo left : List NumberKey) → HasMember new (Process k.process) k.number
     → ((g : Group) (n : ℕ) → HasMember old g n → HasMember new g n) → todo ≡ k ∷ left → (p n : ℕ) → Coming old todo p n → Coming new left p n
 come old new k todo left has keeps is p n (inr h) = inr (keeps (Process p) n h)
-come old new k todo left has keeps is p n (inl h) = elim (either (is_number_key p n k) (list_any (is_number_key p n) left) (sym (ap (list_any (is_number_key p n)) is) ∙ h)) [
-  | inl e ↦ (let t = both (eqb p k.process) (eqb n k.number) e in inr (rw (eqb-true p k.process t.0, eqb-true n k.number t.1) has))
+come old new k todo left has keeps is p n (inl h) = elim (or_cases (is_number_key p n k) (list_any (is_number_key p n) left) (sym (ap (list_any (is_number_key p n)) is) ∙ h)) [
+  | inl e ↦ (let t = and_parts (eqb p k.process) (eqb n k.number) e in inr (rw (eqb-true p k.process t.0, eqb-true n k.number t.1) has))
   | inr e ↦ inl e
 ]
 
@@ -56,15 +48,11 @@ pub all-come : (held : Groups ℕ) (todo : List NumberKey) (p n : ℕ) → todo 
 all-come held todo p n none (inl h) = absurd (let e = sym (ap (list_any (is_number_key p n)) none) ∙ h in cc)
 all-come held todo p n none (inr h) = h
 
-or-true : (a b : Bool) → b ≡ true → (a || b) ≡ true
-or-true true b h = refl
-or-true false b h = h
-
 -- each passes its own test
 each-passes : {A : Type 0} (key : A → A → Bool) → ((x : A) → key x x ≡ true) → (xs : List A) (k : ℕ) (d : A) → k < length xs → list_any (key (get_or xs k d)) xs ≡ true
 each-passes key own [] k d lt = absurd (omega arith)
 each-passes key own (x ∷ xs) zero d lt = rw (own x) refl
-each-passes key own (x ∷ xs) (suc k) d lt = or-true (key (get_or xs k d) x) (list_any (key (get_or xs k d)) xs) (each-passes key own xs k d (omega arith))
+each-passes key own (x ∷ xs) (suc k) d lt = or_right (key (get_or xs k d) x) (list_any (key (get_or xs k d)) xs) (each-passes key own xs k d (omega arith))
 
 own-number : (m : Name) → has_number m.process m.number m ≡ true
 own-number m = rw (eq-eqb m.process m.process refl, eq-eqb m.number m.number refl) refl

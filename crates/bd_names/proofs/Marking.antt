@@ -1,7 +1,7 @@
 -- The least number without a mark, and a number that comes into use.
 use Rattle.std.proofs.Common.{◌≡◌, ◌≢◌, ℕ, ◌+◌, ◌-◌, ◌*◌, ◌/◌, ◌%◌, ◌^◌, ◌<◌, ◌≤◌, Bool, true, false, cond, ◌||◌, ◌&&◌, eqb, refl, ap, sym, ◌∙◌, subst, arith, w64}
 use Rattle.std.specs.Int.{trailing_ones}
-use Rattle.std.proofs.lemmas.Bool.{eqb-true, eqb-false, eq-eqb, ne_eqb}
+use Rattle.std.proofs.lemmas.Bool.{eqb-true, eqb-false, eq-eqb, ne_eqb, and_parts}
 use Rattle.bd_names.specs.Bits.{bit_of}
 use Rattle.bd_names.specs.Marked.{MarkedIn}
 use Rattle.bd_names.proofs.Bits.{bit-here, ones-before, full-word, gap-word, IsFirstClear, first-clear-at}
@@ -55,10 +55,6 @@ one-more : (a b : Bool) → cond {A = ℕ} a 1 (cond b 1 0) ≡ cond (a || b) 1 
 one-more true b = refl
 one-more false b = refl
 
-first-of : (a b : Bool) → (a && b) ≡ true → (a ≡ true) × (b ≡ true)
-first-of true b h = (refl, h)
-first-of false b h = absurd (cc)
-
 -- its word isn't full now
 module _ (words now full : ℕ → ℕ → ℕ) (used : ℕ → ℕ → Bool) (h : MarkedIn words full used) (p i : ℕ) (free : used p i ≡ false)
     (bits : (q j : ℕ) → bit_of now q j ≡ cond (eqb p q && eqb i j) 1 (bit_of words q j)) (others : (q v : ℕ) → (eqb p q && eqb (i / 64) v) ≡ false → now q v ≡ words q v)
@@ -68,7 +64,7 @@ module _ (words now full : ℕ → ℕ → ℕ) (used : ℕ → ℕ → Bool) (h
 
   full-case : (q v : ℕ) (b : Bool) → (eqb p q && eqb (i / 64) v) ≡ b → bit_of full q v ≡ cond (eqb (now q v) (2 ^ 64 - 1)) 1 0
   full-case q v true e =
-      let k = first-of (eqb p q) (eqb (i / 64) v) e in
+      let k = and_parts (eqb p q) (eqb (i / 64) v) e in
       subst (λ r. bit_of full r v ≡ cond (eqb (now r v) (2 ^ 64 - 1)) 1 0) (eqb-true p q k.0)
       (subst (λ u. bit_of full p u ≡ cond (eqb (now p u) (2 ^ 64 - 1)) 1 0) (eqb-true (i / 64) v k.1) full-here)
   full-case q v false e = h.full_are q v ∙ ap (λ x. cond (eqb x (2 ^ 64 - 1)) 1 0) (sym (others q v e))

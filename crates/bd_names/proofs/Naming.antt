@@ -3,7 +3,8 @@ use Rattle.std.proofs.Common.{◌≡◌, ℕ, ◌≤◌, Bool, true, false, not,
 use Rattle.std.specs.List.{count_by}
 use Rattle.std.specs.Option.{option_map, option_or, option_and_then, is_some}
 use Rattle.std.proofs.lemmas.List.Folds.{find-append}
-use Rattle.std.proofs.lemmas.Bool.{eqb-true, eq-eqb, and_parts}
+use Rattle.std.proofs.lemmas.Bool.{eqb-true, eq-eqb, and_parts, and_from}
+use Rattle.std.specs.Cmp.{both_ways}
 use Rattle.bd_space.specs.declared.step.ObjectId.{ObjectId}
 use Rattle.bd_space.specs.declared.space.Name.{Name}
 use Rattle.bd_space.specs.Words.{same}
@@ -11,10 +12,7 @@ use Rattle.bd_space.specs.Names.{named_in, number_in}
 use Rattle.bd_space.proofs.Identities.{same-eq, same-self, same-turned}
 use Rattle.bd_names.specs.Sound.{Sound, has_number, has_object}
 use Rattle.bd_names.proofs.Singles.{find-filter, few-push, few-filter, found-passes, only, none-count, none-dropped, same-dropped}
-use Rattle.bd_names.proofs.Lookups.{both-ways, turned}
-
-and-both : (a b : Bool) → a ≡ true → b ≡ true → (a && b) ≡ true
-and-both a b h k = rw (h, k) refl
+use Rattle.bd_names.proofs.Lookups.{turned}
 
 find-push : {A : Type 0} (key : A → Bool) (xs : List A) (x : A) → find key (xs ++ x ∷ []) ≡ option_or (find key xs) (cond (key x) (Some x) None)
 find-push key xs x = find-append key xs (x ∷ [])
@@ -120,13 +118,13 @@ module _ (names : List Name) (h : Sound names) (p : ℕ) (o : ObjectId) where
         let mp : m.process ≡ q = eqb-true m.process q t.0 in
         let mn : m.number ≡ k = eqb-true m.number k t.1 in
         let w = and_parts (eqb there.0.process p) (same there.0.object o) (found-passes (has_object p o) names there.0 there.1) in
-        both-ways (has_object p o m) (eqb p q && eqb n k)
+        both_ways (has_object p o m) (eqb p q && eqb n k)
         (λ y. (let u = and_parts (eqb m.process p) (same m.object o) y in
         let s : Some m ≡ Some there.0 = sym (only (has_object p o) (has_number q k) names m (h.one_name p o) e y) ∙ there.1 in
         let z : m ≡ there.0 = cc in
-        and-both (eqb p q) (eqb n k) (eq-eqb p q (sym (eqb-true m.process p u.0) ∙ mp)) (eq-eqb n k (sym there.2 ∙ ap (λ (v : Name). v.number) (sym z) ∙ mn))))
+        and_from (eqb p q) (eqb n k) (eq-eqb p q (sym (eqb-true m.process p u.0) ∙ mp)) (eq-eqb n k (sym there.2 ∙ ap (λ (v : Name). v.number) (sym z) ∙ mn))))
         (λ y. (let u = and_parts (eqb p q) (eqb n k) y in
-        let pass : has_number q k there.0 ≡ true = and-both (eqb there.0.process q) (eqb there.0.number k)
+        let pass : has_number q k there.0 ≡ true = and_from (eqb there.0.process q) (eqb there.0.number k)
         (eq-eqb there.0.process q (eqb-true there.0.process p w.0 ∙ eqb-true p q u.0)) (eq-eqb there.0.number k (there.2 ∙ eqb-true n k u.1)) in
         let s : Some there.0 ≡ Some m = sym (only (has_number q k) (has_object p o) names there.0 (h.one_number q k) there.1 pass) ∙ e in
         let z : there.0 ≡ m = cc in
@@ -162,7 +160,7 @@ module _ (names : List Name) (h : Sound names) (p n : ℕ) where
     by-object : find (has_object p o) names ≡ Some numbered.0
     by-object =
         only (has_object p o) (has_number p n) names numbered.0 (h.one_name p o) numbered.1
-        (and-both (eqb numbered.0.process p) (same numbered.0.object o) tests.0 (rw numbered.2 (same-self o)))
+        (and_from (eqb numbered.0.process p) (same numbered.0.object o) tests.0 (rw numbered.2 (same-self o)))
 
     pub number-of-it : number_in names p o ≡ Some n
     number-of-it = ap (λ x. option_map (λ (k : Name). k.number) x) by-object ∙ ap Some (eqb-true numbered.0.number n tests.1)

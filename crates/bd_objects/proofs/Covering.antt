@@ -1,7 +1,7 @@
 -- What goes with a process is on objects that it owns, or goes whoever owns it.
 use Rattle.std.proofs.Common.{◌≡◌, ℕ, ◌==◌, Bool, true, false, ◌&&◌, ◌||◌, cond, List, [], ◌∷◌, ◌++◌, map, filter, refl, sym, ◌∙◌, subst, inl, inr, ◌⊎◌}
 use Rattle.std.specs.List.{list_any}
-use Rattle.std.proofs.lemmas.Bool.{and_parts, or_left, or_right}
+use Rattle.std.proofs.lemmas.Bool.{and_parts, or_left, or_right, or_cases}
 use Rattle.std.proofs.lemmas.List.Folds.{list_any-append}
 use Rattle.bd_space.specs.declared.step.ObjectId.{ObjectId}
 use Rattle.bd_space.specs.declared.space.Object.{Object}
@@ -12,10 +12,6 @@ use Rattle.bd_space.specs.References.{owned_in, is_asked_by, is_in_window, is_of
 use Rattle.bd_space.specs.ProcessExits.{is_dropped_with}
 use Rattle.bd_nodes.specs.New.{HasAll}
 use Rattle.bd_space.proofs.Identities.{same-eq, same-self}
-
-either : (a b : Bool) → (a || b) ≡ true → (a ≡ true) ⊎ (b ≡ true)
-either true b h = inl refl
-either false b h = inr h
 
 among-append : (xs ys : List ObjectId) (o : ObjectId) → is_among (xs ++ ys) o ≡ (is_among xs o || is_among ys o)
 among-append xs ys o = list_any-append (λ i. same o i) xs ys
@@ -32,7 +28,7 @@ module _ {A : Type 0} (p : A → Bool) (key : A → ObjectId) (o : ObjectId) whe
   taken x xs h = by (p x) refl h
     where
       by : (b : Bool) → p x ≡ b → is_among (map key (cond b (x ∷ filter p xs) (filter p xs))) o ≡ true → ((p x ≡ true) × (same o (key x) ≡ true)) ⊎ (is_among (map key (filter p xs)) o ≡ true)
-      by true e h = elim (either (same o (key x)) _ h) [ inl k ↦ inl (e, k) | inr k ↦ inr k ]
+      by true e h = elim (or_cases (same o (key x)) _ h) [ inl k ↦ inl (e, k) | inr k ↦ inr k ]
       by false e h = inr h
 
 module _ (p : ℕ) (objects : List Object) where
@@ -44,14 +40,14 @@ module _ (p : ℕ) (objects : List Object) where
 
   pub among-owned : (xs : List Object) (o : ObjectId) → owned_in xs p o ≡ true → is_among (map (λ x. x.id) (filter (λ x. x.owner == p) xs)) o ≡ true
   among-owned [] o h = absurd (cc)
-  among-owned (x ∷ xs) o h = elim (either (same x.id o && (x.owner == p)) (owned_in xs p o) h) [
+  among-owned (x ∷ xs) o h = elim (or_cases (same x.id o && (x.owner == p)) (owned_in xs p o) h) [
     | inl e ↦ (let k = and_parts (same x.id o) (x.owner == p) e in
         put (λ (y : Object). y.owner == p) (λ y. y.id) o x xs k.1 (subst (λ i. same o i ≡ true) (sym (same-eq x.id o k.0)) (same-self o)))
     | inr e ↦ further (λ (y : Object). y.owner == p) (λ y. y.id) o x xs (among-owned xs o e)
   ]
 
   why : (r : Reference) → is_dropped_with objects p r ≡ true → (goes_anyway r ≡ true) ⊎ (owned_in objects p r.object ≡ true)
-  why r h = elim (either (goes_anyway r) (owned_in objects p r.object && is_of_owner r.holder) h) [
+  why r h = elim (or_cases (goes_anyway r) (owned_in objects p r.object && is_of_owner r.holder) h) [
     | inl a ↦ inl a
     | inr k ↦ inr (and_parts _ _ k).0
   ]
@@ -74,7 +70,7 @@ module _ (p : ℕ) (objects : List Object) where
       → HasAll new ((old ++ owned) ++ map (λ r. r.object) (filter (is_dropped_with objects p) refs))
   has-dropped refs old mid new h g = λ o e.
       let first = λ (k : is_among (old ++ owned) o ≡ true). g o (among-append mid _ o ∙ or_left _ _ (h o k)) in
-      elim (either (is_among (old ++ owned) o) _ (sym (among-append (old ++ owned) _ o) ∙ e)) [
+      elim (or_cases (is_among (old ++ owned) o) _ (sym (among-append (old ++ owned) _ o) ∙ e)) [
         | inl k ↦ first k
         | inr k ↦ (elim (among-dropped refs o k) [
           | inl a ↦ g o (among-append mid _ o ∙ or_right _ _ a)
@@ -95,14 +91,14 @@ module _ (p : ℕ) (objects : List Object) where
       → HasAll ((old ++ owned) ++ map (λ r. r.object) (filter (is_dropped_with objects p) refs)) new
   only-dropped refs old mid new h g = λ o e.
       among-append (old ++ owned) _ o
-      ∙ elim (either (is_among mid o) _ (sym (among-append mid _ o) ∙ g o e)) [
+      ∙ elim (or_cases (is_among mid o) _ (sym (among-append mid _ o) ∙ g o e)) [
         | inl k ↦ or_left _ _ (h o k)
         | inr k ↦ or_right _ _ (dropped-anyway refs o k)
       ]
 
   pub any-dropped : (refs : List Reference) → list_any goes_anyway refs ≡ true → list_any (is_dropped_with objects p) refs ≡ true
   any-dropped [] h = absurd (cc)
-  any-dropped (r ∷ rs) h = elim (either (goes_anyway r) (list_any goes_anyway rs) h) [
+  any-dropped (r ∷ rs) h = elim (or_cases (goes_anyway r) (list_any goes_anyway rs) h) [
     | inl e ↦ or_left _ _ (or_left (goes_anyway r) _ e)
     | inr k ↦ or_right _ _ (any-dropped rs k)
   ]

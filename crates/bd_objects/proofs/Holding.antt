@@ -1,7 +1,7 @@
 -- What an acknowledgement that is owed holds is held already, and strongly if it is a strong one.
-use Rattle.std.proofs.Common.{◌≡◌, ℕ, suc, ◌+◌, Bool, true, false, not, ◌&&◌, ◌||◌, if◌then◌else◌, List, [], ◌∷◌, ◌++◌, Option, None, Some, length, refl, ap, sym, ◌∙◌, subst, inl, inr, ◌⊎◌}
+use Rattle.std.proofs.Common.{◌≡◌, ℕ, suc, ◌+◌, Bool, true, false, not, ◌&&◌, ◌||◌, if◌then◌else◌, List, [], ◌∷◌, ◌++◌, Option, None, Some, length, refl, ap, sym, ◌∙◌, subst, inl, inr}
 use Rattle.std.specs.List.{flat_map}
-use Rattle.std.proofs.lemmas.Bool.{and_parts, or_left, or_right}
+use Rattle.std.proofs.lemmas.Bool.{and_parts, or_left, or_right, or_cases}
 use Rattle.std.proofs.lemmas.List.Folds.{list_any-append}
 use Rattle.bd_uapi.specs.declared.command.Return.TheVariants as br
 use Rattle.bd_space.specs.declared.step.ObjectId.{ObjectId}
@@ -17,10 +17,6 @@ use Rattle.bd_space.specs.Returns.{returns_of, returns_of_object}
 use Rattle.bd_space.specs.ReadItems.{shakes, handshakes_for, handshakes_of, handshakes}
 use Rattle.bd_space.proofs.Identities.{same-eq}
 use Rattle.bd_objects.specs.Reading.{owed, HoldsAlike}
-
-either : (a b : Bool) → (a || b) ≡ true → (a ≡ true) ⊎ (b ≡ true)
-either true b h = inl refl
-either false b h = inr h
 
 -- ---- what is owed
 
@@ -43,7 +39,7 @@ owed-is false false c d ptr cookie = rest-none c d ptr cookie
 module _ (refs : List Reference) where
   strong-held : (rs : List Reference) (o : ObjectId) → strong_in rs o ≡ true → held_in rs o ≡ true
   strong-held [] o h = absurd (cc)
-  strong-held (r ∷ rs) o h = elim (either (r.strong && same r.object o) (strong_in rs o) h) [
+  strong-held (r ∷ rs) o h = elim (or_cases (r.strong && same r.object o) (strong_in rs o) h) [
     | inl e ↦ or_left _ _ (and_parts r.strong (same r.object o) e).1
     | inr e ↦ or_right _ _ (strong-held rs o e)
   ]
@@ -62,14 +58,14 @@ module _ (refs : List Reference) where
 
   backed-held : (rs : List Reference) (o : ObjectId) → AreBacked rs → held_in rs o ≡ true → held_in refs o ≡ true
   backed-held [] o b h = absurd (cc)
-  backed-held (r ∷ rs) o b h = elim (either (same r.object o) (held_in rs o) h) [
+  backed-held (r ∷ rs) o b h = elim (or_cases (same r.object o) (held_in rs o) h) [
     | inl e ↦ subst (λ i. held_in refs i ≡ true) (same-eq r.object o e) b.0.held
     | inr e ↦ backed-held rs o b.1 e
   ]
 
   backed-strong : (rs : List Reference) (o : ObjectId) → AreBacked rs → strong_in rs o ≡ true → strong_in refs o ≡ true
   backed-strong [] o b h = absurd (cc)
-  backed-strong (r ∷ rs) o b h = elim (either (r.strong && same r.object o) (strong_in rs o) h) [
+  backed-strong (r ∷ rs) o b h = elim (or_cases (r.strong && same r.object o) (strong_in rs o) h) [
     | inl e ↦ (let k = and_parts r.strong (same r.object o) e in subst (λ i. strong_in refs i ≡ true) (same-eq r.object o k.1) (b.0.strong k.0))
     | inr e ↦ backed-strong rs o b.1 e
   ]

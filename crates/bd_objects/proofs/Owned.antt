@@ -1,5 +1,6 @@
 -- What a process has as owner of its objects goes object by object.
 use Rattle.std.proofs.Common.{◌≡◌, ℕ, Bool, true, false, not, ◌&&◌, ◌||◌, cond, List, [], ◌∷◌, filter, refl, ap, sym, ◌∙◌}
+use Rattle.std.proofs.Math.Bool.{and-false, and-true}
 use Rattle.bd_space.specs.declared.step.ObjectId.{ObjectId}
 use Rattle.bd_space.specs.declared.space.Object.{Object}
 use Rattle.bd_space.specs.declared.space.Reference.{Reference}
@@ -31,14 +32,6 @@ module _ {A : Type 0} where
   pub both-filters : (f g h : A → Bool) → ((x : A) → (f x && g x) ≡ h x) → (xs : List A) → filter g (filter f xs) ≡ filter h xs
   both-filters f g h is [] = refl
   both-filters f g h is (x ∷ xs) = one-more f g h x (filter f xs) (filter h xs) (is x) (both-filters f g h is xs) (f x) refl
-
-and-false : (b : Bool) → (b && false) ≡ false
-and-false true = refl
-and-false false = refl
-
-and-true : (b : Bool) → (b && true) ≡ b
-and-true true = refl
-and-true false = refl
 
 module _ (p : ℕ) (objects : List Object) where
   -- the process has it as owner

@@ -1,18 +1,9 @@
 -- What some of a list pass, and what follows for all.
-use Rattle.std.proofs.Common.{◌≡◌, Bool, true, false, not, cond, ◌&&◌, ◌||◌, List, [], ◌∷◌, filter, inl, inr, refl, ap, sym, ◌∙◌}
+use Rattle.std.proofs.Common.{◌≡◌, Bool, true, false, not, cond, ◌||◌, List, [], ◌∷◌, filter, inl, inr, refl, ap, sym, ◌∙◌}
 use Rattle.std.specs.List.{list_any}
 use Rattle.std.proofs.Math.Bool.{or-true, and_self}
 use Rattle.bd_groups.specs.Members.{IsIn}
 use Rattle.bd_references.proofs.Loads.{filter-twice}
-
-pub alike : (a b : Bool) → (a ≡ true → b ≡ true) → (b ≡ true → a ≡ true) → a ≡ b
-alike true b f g = sym (f refl)
-alike false true f g = g refl
-alike false false f g = refl
-
-pub both : (a b : Bool) → a ≡ true → b ≡ true → (a && b) ≡ true
-both true b h k = k
-both false b h k = h
 
 module _ {A : Type 0} where
   pub in-any : (p : A → Bool) (x : A) (xs : List A) → IsIn x xs → p x ≡ true → list_any p xs ≡ true
@@ -28,7 +19,7 @@ module _ {A : Type 0} where
       by true e rest k = f x (inl refl) e
       by false e rest k = rest k
 
-  -- two tests that are alike for what is there
+  -- two tests that are both_ways for what is there
   pub filter-in : (a b : A → Bool) (xs : List A) → ((x : A) → IsIn x xs → a x ≡ b x) → filter a xs ≡ filter b xs
   filter-in a b [] h = refl
   filter-in a b (x ∷ xs) h =

@@ -2,8 +2,9 @@
 use Rattle.std.proofs.Common.{◌≡◌, ℕ, ◌<◌, ◌==◌, Bool, true, false, not, ◌&&◌, ◌||◌, List, [], ◌∷◌, ◌++◌, map, filter, cond, ltb, refl, ap, sym, subst, ◌∙◌, arith}
 use Rattle.std.specs.List.{list_any}
 use Rattle.std.proofs.Math.Bool.{and-true, or-false, or-true}
-use Rattle.std.proofs.lemmas.Bool.{eqb-true, ltb-true, and_parts}
+use Rattle.std.proofs.lemmas.Bool.{eqb-true, ltb-true, and_parts, and_from}
 use Rattle.std.proofs.lemmas.List.Folds.{list_any-append}
+use Rattle.std.specs.Cmp.{both_ways}
 use Rattle.bd_groups.specs.declared.groups.Groups.{Groups}
 use Rattle.bd_groups.specs.declared.group.Group.TheVariants.{Process}
 use Rattle.bd_groups.specs.Members.{members, IsIn}
@@ -19,7 +20,7 @@ use Rattle.bd_references.specs.declared.counts.Counts.{Counts}
 use Rattle.bd_references.specs.Keys.{same_key, use_key, kind_of, is_of_process, is_one_of}
 use Rattle.bd_references.specs.Counted.{count_at, CountsEach, is_counted}
 use Rattle.bd_references.specs.Listed.{AreUsers, has_key}
-use Rattle.bd_references.proofs.Among.{alike, both, in-any, from-any, filter-in}
+use Rattle.bd_references.proofs.Among.{in-any, from-any, filter-in}
 use Rattle.bd_references.proofs.ByKind.{any-same}
 use Rattle.bd_references.proofs.Counting.{any-count}
 use Rattle.bd_references.proofs.Tests.{key-eq, key-self}
@@ -53,7 +54,7 @@ module _ (p : ℕ) (uses : Counts) (users : Groups CountKey) (l : List Reference
 
   -- the keys of those that go are just the process's
   key-of : (r : Reference) → IsIn r l → has_key users p (use_key r) ≡ goes p r
-  key-of r i = alike (has_key users p (use_key r)) (goes p r)
+  key-of r i = both_ways (has_key users p (use_key r)) (goes p r)
       (λ h. of-process p r.holder ∙ listed.only (use_key r) p h)
       (λ h. listed.has (use_key r) p (sym (of-process p r.holder) ∙ h) (counted r i))
 
@@ -63,21 +64,21 @@ module _ (p : ℕ) (uses : Counts) (users : Groups CountKey) (l : List Reference
   -- a key of the process that counts something passes a test exactly if a reference does that goes
   any-counted : (t : CountKey → Bool)
       → list_any (λ k. is_counted uses k && t k) (members users (Process p)) ≡ list_any (λ r. goes p r && t (use_key r)) l
-  any-counted t = alike (list_any (λ k. is_counted uses k && t k) ks) (list_any (λ r. goes p r && t (use_key r)) l)
+  any-counted t = both_ways (list_any (λ k. is_counted uses k && t k) ks) (list_any (λ r. goes p r && t (use_key r)) l)
       (from-any (λ (k : CountKey). is_counted uses k && t k) _ ks (λ k i h. (
       let parts = and_parts (is_counted uses k) (t k) h in
       let kind = listed.only k p (in-any (λ j. same_key j k) k ks i (key-self k)) in
       from-any (λ (r : Reference). same_key (use_key r) k) _ l (λ r j e. (
       let is = key-eq (use_key r) k e in
       in-any (λ (r : Reference). goes p r && t (use_key r)) r l j
-      (both (goes p r) (t (use_key r)) (of-process p r.holder ∙ ap (λ c. is_of_process p c.kind) is ∙ kind) (ap t is ∙ parts.1))))
+      (and_from (goes p r) (t (use_key r)) (of-process p r.holder ∙ ap (λ c. is_of_process p c.kind) is ∙ kind) (ap t is ∙ parts.1))))
       (sym (any-count (λ (r : Reference). same_key (use_key r) k) l) ∙ ap (λ n. ltb 0 n) (sym (are k)) ∙ parts.0))))
       (from-any (λ (r : Reference). goes p r && t (use_key r)) _ l (λ r i h. (
       let parts = and_parts (goes p r) (t (use_key r)) h in
       from-any (λ (j : CountKey). same_key j (use_key r)) _ ks (λ j m e. (
       let is = key-eq j (use_key r) e in
       in-any (λ (k : CountKey). is_counted uses k && t k) j ks m
-      (both (is_counted uses j) (t j) (ap (is_counted uses) is ∙ some r i) (ap t is ∙ parts.1))))
+      (and_from (is_counted uses j) (t j) (ap (is_counted uses) is ∙ some r i) (ap t is ∙ parts.1))))
       (key-of r i ∙ parts.0))))
     where
       ks : List CountKey

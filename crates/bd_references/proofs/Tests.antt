@@ -1,6 +1,7 @@
 -- The keys of references, and their tests.
 use Rattle.std.proofs.Common.{◌≡◌, ◌==◌, Bool, true, false, refl, ap, ◌∙◌}
 use Rattle.std.proofs.lemmas.Bool.{eqb-true, eq-eqb, and_parts}
+use Rattle.std.specs.Cmp.{both_ways}
 use mathlib.Core.Bool.{beq}
 use Rattle.bd_space.specs.Words.{same}
 use Rattle.bd_references.specs.declared.keys.Kind.{Kind}
@@ -9,7 +10,6 @@ use Rattle.bd_references.specs.declared.keys.CountKey.{CountKey}
 use Rattle.bd_references.specs.declared.keys.ItemKey.{ItemKey}
 use Rattle.bd_references.specs.contracts.keys.KindPartialEq.TheImpl as kinds
 use Rattle.bd_references.specs.Keys.{same_key, same_item}
-use Rattle.bd_references.proofs.Among.{alike}
 
 abbrev pub same_kind : Kind → Kind → Bool
 same_kind = (kinds.ghosts).eq
@@ -67,5 +67,5 @@ unfolding same_item
 item-self a = rw (eq-eqb a.buffer a.buffer refl, eq-eqb a.index a.index refl) refl
 
 pub key-sym : (a b : CountKey) → same_key a b ≡ same_key b a
-key-sym a b = alike (same_key a b) (same_key b a)
+key-sym a b = both_ways (same_key a b) (same_key b a)
     (λ h. ap (same_key b) (key-eq a b h) ∙ key-self b) (λ h. ap (same_key a) (key-eq b a h) ∙ key-self a)

@@ -2,12 +2,13 @@
 use Rattle.std.proofs.Common.{◌≡◌, ℕ, zero, suc, ◌<◌, ◌≤◌, Bool, true, false, cond, ◌&&◌, List, [], ◌∷◌, length, find, Option, Some, None, refl, ap, sym, ◌∙◌, arith}
 use Rattle.std.specs.Option.{option_or, option_map, option_and_then}
 use Rattle.std.specs.List.{slice_get}
+use Rattle.std.proofs.Math.Bool.{and-false, and-true}
 use Rattle.bd_space.specs.declared.step.ObjectId.{ObjectId}
 use Rattle.bd_space.specs.Words.{same}
 use Rattle.bd_turns.specs.declared.slots.Entry.{Entry}
 use Rattle.bd_turns.specs.Slots.{is_on, is_live_on, turns_in, position, last_position, after, live_at}
 use Rattle.bd_space.proofs.Identities.{same-eq}
-use Rattle.bd_turns.proofs.Tests.{and-false, and-true, up, up-none, up-some, up-cond}
+use Rattle.bd_turns.proofs.Tests.{up, up-none, up-some, up-cond}
 
 -- ---- the first of those that haven't gone
 

@@ -27,6 +27,9 @@ module _ {A : Type 0} (p : A → Bool) where
       by true t e rest = let same : x ≡ y = cc in (subst P same (All-head P x xs all), ap p (sym same) ∙ t)
       by false t e rest = rest e
 
+  pub found_passes : (xs : List A) (y : A) → find p xs ≡ Some y → p y ≡ true
+  found_passes xs y e = (found_has (λ _. Unit) xs y e (λ k d h. tt)).1
+
   pub none_found : (xs : List A) → find p xs ≡ None → All (λ x. p x ≡ false) xs
   none_found [] e = λ k d h. absurd (omega arith)
   none_found (x ∷ xs) e = by (p x) refl e (none_found xs)

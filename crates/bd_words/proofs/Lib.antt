@@ -6,3 +6,5 @@ pub mod Looks
 pub mod Tables
 pub mod Rising
 pub mod Found
+pub mod Options
+pub mod Lists

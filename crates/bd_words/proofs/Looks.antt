@@ -77,10 +77,6 @@ replaced : {V : Type 0} (v : V) (o : Option V) → is_some o ≡ true → Some v
 replaced v None h = absurd (cc)
 replaced v (Some x) h = refl
 
-pub none-is : {V : Type 0} (o : Option V) → is_some o ≡ false → o ≡ None
-none-is None h = refl
-none-is (Some x) h = absurd (cc)
-
 -- a value that comes where there is one takes its place
 pub some-there : {V : Type 0} (m : WordKey → Option V) (k l : WordKey) (v : V) → is_some (m k) ≡ true
     → cond (same_word k l) (Some v) (m l) ≡ cond (same_word k l) (option_map (λ y. v) (m l)) (m l)

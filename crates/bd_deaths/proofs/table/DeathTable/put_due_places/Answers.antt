@@ -4,8 +4,8 @@ use Rattle.std.proofs.lemmas.Bool.{or_right}
 use Rattle.std.proofs.lemmas.List.{map-id}
 use Rattle.std.proofs.lemmas.Result.{err_from_is_err_and}
 use Rattle.std.proofs.lemmas.Iterator.Consumers.{YieldsList-at, YieldsList-from_first, YieldsList-end}
+use Rattle.std.proofs.Math.Bool.{or-false}
 use Rattle.bd_nodes.specs.New.{HasAll}
-use Rattle.bd_deaths.proofs.Tests.{or-false}
 use Rattle.bd_deaths.proofs.Visiting.{put-next, both-told}
 use Rattle.bd_deaths.proofs.table.DeathTable.put_due_places.Goals as goal
 

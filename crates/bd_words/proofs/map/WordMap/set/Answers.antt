@@ -1,7 +1,8 @@
 use Rattle.std.proofs.Common.{is_some, refl, ap, sym, ◌∙◌}
 use Rattle.std.specs.Option.{option_map}
+use Rattle.bd_words.proofs.Options.{none_is}
 use Rattle.bd_words.specs.Look.{look}
-use Rattle.bd_words.proofs.Looks.{look-none, hidden, none-is, some-there}
+use Rattle.bd_words.proofs.Looks.{look-none, hidden, some-there}
 use Rattle.bd_words.proofs.map.WordMap.set.Goals as goal
 
 pub returns-then-is_some-clause-set : goal.returns-then-is_some-clause-set
@@ -15,7 +16,7 @@ pub returns-else-is_some-clause-set : goal.returns-else-is_some-clause-set
 returns-else-is_some-clause-set g c = λ l.
     let here = sym c.place.ensures.place ∙ c.in-Some.is in
     hidden (look c.args.self.now) c.args.k l (option_map (λ x. c.args.v))
-    (sym (c.value.ensures c.args.k here) ∙ none-is c.value.result (sym c.is_some.ensures ∙ c.if-is_some.false)) refl
+    (sym (c.value.ensures c.args.k here) ∙ none_is c.value.result (sym c.is_some.ensures ∙ c.if-is_some.false)) refl
 
 pub returns-in_default-clause-set : goal.returns-in_default-clause-set
 returns-in_default-clause-set g c = λ l.
