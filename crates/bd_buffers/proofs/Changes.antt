@@ -1,9 +1,7 @@
 -- Lists with some elements changed or left out.
-use Rattle.std.proofs.Common.{ℕ, zero, suc, ◌+◌, ◌<◌, length, inl, inr, Bool, true, false, cond, List, [], ◌∷◌, arith, All}
-use Rattle.std.specs.Prelude.{AllPairs, remove}
+use Rattle.std.proofs.Common.{zero, suc, Bool, true, false, cond, List, [], ◌∷◌, arith, All}
+use Rattle.std.specs.Prelude.{AllPairs}
 use Rattle.std.proofs.lemmas.List.Elements.{All-cons, All-head, All-tail}
-use Rattle.std.proofs.lemmas.Bool.{cases_lt}
-use Rattle.std.proofs.lemmas.List.Edits.{length-remove, get_or-remove_below, get_or-remove_above}
 use Rattle.bd_space.specs.Words.{changed}
 use Rattle.bd_words.proofs.Rising.{pairs_head, pairs_tail}
 
@@ -25,14 +23,6 @@ All-unchanged p f P k (x ∷ xs) all =
     before : {A : Type 0} (p : A → Bool) (f : A → A) (P : A → Type 0) → ((x : A) → P (f x) → P x) → (x : A) (b : Bool) → P (cond b (f x) x) → P x
     before p f P k x true h = k x h
     before p f P k x false h = h
-
--- what each has of those left where one goes
-pub All-removed : {A : Type 0} (P : A → Type 0) (xs : List A) (i : ℕ) → i < length xs → All P xs → All P (remove xs i)
-All-removed P xs i lt all k d within =
-    elim (cases_lt k i) [
-      | inl before ↦ rw (get_or-remove_below xs i d k before lt) (all k d (omega (arith, length-remove xs i lt)))
-      | inr ge ↦ rw (get_or-remove_above xs i d k ge lt) (all (k + 1) d (omega (arith, length-remove xs i lt)))
-    ]
 
 -- ---- pairs
 

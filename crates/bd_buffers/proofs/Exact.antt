@@ -5,6 +5,7 @@ use Rattle.std.proofs.lemmas.Bool.{cases_lt}
 use Rattle.std.proofs.lemmas.List.{length_push, get_or_append_left, get_or_push}
 use Rattle.std.proofs.lemmas.List.Elements.{All-push}
 use Rattle.std.proofs.lemmas.List.Edits.{length-remove, get_or-remove_below, get_or-remove_above}
+use Rattle.bd_words.proofs.Lists.{All-remove}
 use Rattle.bd_space.specs.declared.space.Buffer.{Buffer}
 use Rattle.bd_buffers.specs.declared.hole.Hole.{Hole}
 use Rattle.bd_buffers.specs.declared.ground.Ground.{Ground}
@@ -24,7 +25,7 @@ use Rattle.bd_space.specs.ReadItems.{hand_out}
 use Rattle.bd_buffers.specs.Bounds.{AreBounded}
 use Rattle.bd_buffers.specs.Sums.{AreNoted}
 use Rattle.bd_buffers.specs.Window.{IsWindow, Keeps, one_way_size}
-use Rattle.bd_buffers.proofs.Changes.{All-changed, All-removed, All-unchanged}
+use Rattle.bd_buffers.proofs.Changes.{All-changed, All-unchanged}
 use Rattle.bd_buffers.proofs.Shares.{sums_handed, sums_without}
 use Rattle.bd_buffers.proofs.Kept.{window_handed, one_way_handed, window_removed, one_way_removed}
 use Rattle.bd_buffers.proofs.Fits.{filled, fit_begins}
@@ -133,7 +134,7 @@ holes_released size tail i bs holes b window is lt at =
     ])
     in
     let kept : All (λ h. IsEdge (remove bs i) h.end) holes = λ k d in'.
-    (let x = (get_or holes k d).end in All-removed (λ b. (x ≤ b.start) ⊎ (b.start + b.size ≤ x)) bs i lt (is.ends k d in')) in
+    (let x = (get_or holes k d).end in All-remove (λ b. (x ≤ b.start) ⊎ (b.start + b.size ≤ x)) bs i lt (is.ends k d in')) in
     record {
       spaced = spaced_released size tail s e 0 holes (omega arith) pos inside aligned (omega (arith, aligned, sized)) is.spaced none;
       within = let le = released_tail tail s e 0 holes pos is.spaced in let old = is.within in omega (arith, le, old);

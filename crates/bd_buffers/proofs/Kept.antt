@@ -5,6 +5,7 @@ use denote.Ref.{Bor}
 use Rattle.std.proofs.lemmas.List.Elements.{All-push}
 use Rattle.std.proofs.lemmas.List.Quantifiers.{all_pairs_push, all_pairs_remove}
 use Rattle.std.proofs.lemmas.List.Sums.{sum_by-cons}
+use Rattle.bd_words.proofs.Lists.{All-remove}
 use Rattle.bd_space.specs.declared.space.Buffer.{Buffer}
 use Rattle.bd_space.specs.Words.{changed}
 use Rattle.bd_space.specs.Windows.{needed, start_for}
@@ -12,7 +13,7 @@ use Rattle.bd_space.specs.ReadItems.{hand_out}
 use Rattle.bd_words.proofs.Found.{found_has}
 use Rattle.bd_buffers.specs.Buffer.{IsApart, IsPlaced, one_way_share}
 use Rattle.bd_buffers.specs.Window.{IsInBudget, IsWindow, one_way_size}
-use Rattle.bd_buffers.proofs.Changes.{All-changed, All-removed, pairs_changed}
+use Rattle.bd_buffers.proofs.Changes.{All-changed, pairs_changed}
 use Rattle.bd_buffers.proofs.Places.{given_says}
 
 -- ---- the one-way sizes
@@ -109,7 +110,7 @@ window_removed size i bs d is lt =
       whole = is.whole;
       small = is.small;
       in_order = all_pairs_remove (λ x y. x.made < y.made) bs i lt is.in_order;
-      placed = All-removed (IsPlaced size) bs i lt is.placed;
+      placed = All-remove (IsPlaced size) bs i lt is.placed;
       apart = all_pairs_remove (λ x y. IsApart y.start y.size x) bs i lt is.apart;
       budget = omega (arith, less, old);
     }

@@ -18,7 +18,7 @@ use Rattle.bd_space.specs.Ranges.{IsPartOf}
 use Rattle.bd_deaths.specs.Stands.{IsRising}
 use Rattle.bd_deaths.proofs.Lives.{any-lives}
 use Rattle.bd_space.proofs.Ranges.{same-filter, filter-of}
-use Rattle.bd_deaths.proofs.Tests.{eqb-turned}
+use Rattle.bd_words.proofs.Lists.{eqb-turned}
 
 -- ---- places sorted, each once
 

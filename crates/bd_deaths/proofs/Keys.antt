@@ -1,8 +1,8 @@
 -- What is kept of those that pass, when the list changes.
 use Rattle.std.proofs.Common.{◌≡◌, ℕ, zero, suc, ◌+◌, ◌-◌, ◌%◌, ◌^◌, ◌<◌, ◌≤◌, Bool, true, false, cond, List, [], ◌∷◌, ◌++◌, Option, Some, filter, length, get_or, refl, ap, sym, subst, ◌∙◌, arith}
-use Rattle.std.specs.Prelude.{All, sum_by, nat_le}
+use Rattle.std.specs.Prelude.{sum_by, nat_le}
 use Rattle.std.specs.List.{remove}
-use Rattle.std.proofs.lemmas.List.Elements.{filter-append, All-cons, All-head, All-tail}
+use Rattle.std.proofs.lemmas.List.Elements.{filter-append}
 use Rattle.std.proofs.lemmas.List.Sums.{sum_by-cons, sum_by_push, length-filter, count_by-le-length}
 use Rattle.std.proofs.lemmas.Bool.{leb-true}
 use Rattle.std.proofs.Math.Nat.{mod-add-mod, add-mod_right, mod-eq_of_lt}
@@ -64,11 +64,6 @@ group-push q xs x few fits false h = rw (filter-append q xs (x ∷ []), h) (ap g
 
 -- ---- one less
 
-pub filter-remove : {A : Type 0} (q : A → Bool) (xs : List A) (i : ℕ) (d : A) → i < length xs → q (get_or xs i d) ≡ false → filter q (remove xs i) ≡ filter q xs
-filter-remove q [] i d h e = absurd (omega arith)
-filter-remove q (x ∷ xs) zero d h e = rw e refl
-filter-remove q (x ∷ xs) (suc i) d h e = ap (λ ys. cond (q x) (x ∷ ys) ys) (filter-remove q xs i d (omega arith) e)
-
 length-remove : {A : Type 0} (q : A → Bool) (xs : List A) (i : ℕ) (d : A) → i < length xs → q (get_or xs i d) ≡ true → length (filter q (remove xs i)) + 1 ≡ length (filter q xs)
 length-remove q [] i d h e = absurd (omega arith)
 length-remove q (x ∷ xs) zero d h e = rw e (omega arith)
@@ -126,12 +121,6 @@ pub group-remove : (q : DeathNotification → Bool) (xs : List DeathNotification
 group-remove q xs i d h fits e =
     group-less (filter q xs) (filter q (remove xs i)) (get_or xs i d).made fits (length-remove q xs i d h e)
     (places-remove q xs i d h e)
-
-pub All-remove : {A : Type 0} (P : A → Type 0) (xs : List A) (i : ℕ) → i < length xs → All P xs → All P (remove xs i)
-All-remove P [] i h all = absurd (omega arith)
-All-remove P (x ∷ xs) zero h all = All-tail P x xs all
-All-remove P (x ∷ xs) (suc i) h all =
-    All-cons P x (remove xs i) (All-head P x xs all) (All-remove P xs i (omega arith) (All-tail P x xs all))
 
 -- ---- changed where it doesn't show
 

@@ -9,6 +9,5 @@ pub mod Staying
 pub mod Places
 pub mod SharedKeys
 pub mod Telling
-pub mod Tests
 pub mod Told
 pub mod Visiting

@@ -4,6 +4,7 @@ use Rattle.std.specs.Prelude.{All}
 use Rattle.std.specs.List.{remove}
 use Rattle.std.specs.HashMap.{get}
 use Rattle.std.proofs.lemmas.Bool.{eqb-true, and_parts}
+use Rattle.bd_words.proofs.Lists.{filter-remove}
 use Rattle.bd_words.specs.declared.key.WordKey.{WordKey}
 use Rattle.bd_words.specs.Look.{look}
 use Rattle.bd_space.specs.declared.space.DeathNotification.{DeathNotification}
@@ -14,7 +15,7 @@ use Rattle.bd_deaths.specs.declared.key.Group.{Group}
 use Rattle.bd_deaths.specs.declared.sharing.Sharing.{Sharing}
 use Rattle.bd_deaths.specs.Keys.{same_name, has, group, with_one, without_one}
 use Rattle.bd_deaths.specs.SharedAt.{AreShared, group_at}
-use Rattle.bd_deaths.proofs.Keys.{group-push, group-remove, filter-remove}
+use Rattle.bd_deaths.proofs.Keys.{group-push, group-remove}
 
 pub name-eq : (a b : NameKey) → same_name a b ≡ true → a ≡ b
 name-eq a b h =

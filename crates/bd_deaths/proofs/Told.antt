@@ -5,7 +5,7 @@ use Rattle.std.specs.List.{list_any}
 use Rattle.std.proofs.lemmas.List.{length-append, length-set, take-append-le}
 use Rattle.std.proofs.Math.Bool.{and-false}
 use Rattle.std.proofs.lemmas.Bool.{or_from}
-use Rattle.bd_nodes.proofs.Found.{length-changed}
+use Rattle.bd_space.proofs.Keyed.{length_changed}
 use Rattle.bd_space.specs.Words.{changed}
 use Rattle.bd_space.specs.Clearing.{is_told, is_told_with}
 use Rattle.bd_space.specs.declared.space.DeathNotification.{DeathNotification}
@@ -60,13 +60,13 @@ told-set n ss i d h = record {
 module _ (q : Slot → Bool) (f : Slot → Slot) (n : ℕ) (ss : List Slot) (h : NoneTold n ss) where
   pub told-kept : ((s : Slot) → on was_told s ≡ false → on was_told (f s) ≡ false) → NoneTold n (changed q f ss)
   told-kept keeps = record {
-    within = let w = h.within in let e = length-changed q f ss in omega (arith, w, e);
+    within = let w = h.within in let e = length_changed q f ss in omega (arith, w, e);
     none = none-changed (on was_told) q f keeps n ss h.none;
   }
 
   told-before : (m i : ℕ) → m ≤ n → m ≤ i → list_any q (take i ss) ≡ false → NoneTold m (changed q f ss)
   told-before m i a b e = record {
-    within = let w = h.within in let l = length-changed q f ss in omega (arith, w, l, a);
+    within = let w = h.within in let l = length_changed q f ss in omega (arith, w, l, a);
     none = none-before (on was_told) q f m n i ss a b e h.none;
   }
 

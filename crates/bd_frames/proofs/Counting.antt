@@ -1,7 +1,6 @@
 -- How many children the calls have, as frames come, go and change.
-use Rattle.std.proofs.Common.{◌≡◌, ℕ, zero, suc, ◌+◌, ◌-◌, ◌<◌, ◌^◌, ◌==◌, ◌&&◌, ◌||◌, Bool, true, false, not, cond, List, [], ◌∷◌, ◌++◌, length, get_or, map, min, Option, Some, None, unwrap_or, refl, ap, sym, subst, ◌∙◌, arith, eqb-true}
+use Rattle.std.proofs.Common.{◌≡◌, ℕ, zero, suc, ◌+◌, ◌-◌, ◌<◌, ◌^◌, ◌==◌, ◌&&◌, ◌||◌, Bool, true, false, not, cond, List, [], ◌∷◌, ◌++◌, length, get_or, map, min, Some, None, unwrap_or, refl, ap, sym, ◌∙◌, arith, eqb-true}
 use Rattle.std.specs.List.{list_any, count_by, remove}
-use Rattle.std.specs.Option.{IsSome}
 use Rattle.std.specs.HashMap.{HashMap}
 use Rattle.std.proofs.lemmas.Bool.{ne_eqb}
 use Rattle.std.proofs.lemmas.List.Sums.{sum_by_push, sum_by-cons, sum_by-remove, count_by-le-length}
@@ -10,9 +9,6 @@ use Rattle.bd_space.specs.Words.{is_some_and, changed}
 use Rattle.bd_space.specs.Frames.{is_gone}
 use Rattle.bd_space.specs.Settle.{is_abandoned}
 use Rattle.bd_frames.specs.Children.{kept_at, child_count, is_child_at, if_any, AreChildren, is_left_alone}
-
-pub there : {A : Type 0} {r : Option A} (x : A) (o : Option A) → r ≡ Some x → r ≡ o → IsSome o
-there x o h e = subst IsSome (sym h ∙ e) refl
 
 pub any-some : (n : ℕ) → 0 < n → Some n ≡ if_any n
 any-some zero h = absurd (omega (arith, h))
@@ -71,7 +67,7 @@ count-map m f h (x ∷ xs) =
     let rest = count-map m f h xs in
     omega (arith, a, b, same, rest)
 
--- of a frame whose parent was made there, and of others
+-- of a frame whose parent was made is_there, and of others
 counts-one : (made m : ℕ) (x : Frame) (b : Bool) → x.parent ≡ Some made → (made == m) ≡ b → cond {A = ℕ} (is_child_at m x) 1 0 ≡ cond b 1 0
 counts-one made m x b is e = ap {B = ℕ} (λ o. cond (is_some_and o (λ k. k == m)) 1 0) is ∙ ap {B = ℕ} (λ b. cond b 1 0) e
 

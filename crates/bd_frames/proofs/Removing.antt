@@ -1,15 +1,11 @@
 -- Those that pass go, one after the other.
-use Rattle.std.proofs.Common.{◌≡◌, ℕ, zero, suc, ◌<◌, cond, refl, Bool, true, false, not, List, [], ◌∷◌, filter, length, get_or, ap, sym, subst, ◌∙◌, arith}
+use Rattle.std.proofs.Common.{◌≡◌, ℕ, ◌<◌, Bool, true, false, not, List, [], ◌∷◌, filter, length, get_or, ap, sym, subst, ◌∙◌, arith}
 use Rattle.std.specs.List.{list_any, remove}
+use Rattle.bd_words.proofs.Lists.{filter-remove}
 use Rattle.bd_space.specs.declared.space.Frame.{Frame}
 use Rattle.bd_frames.specs.declared.table.FrameTable.{FrameTable}
 use Rattle.bd_frames.specs.Stands.{FramesAre}
 use Rattle.bd_space.proofs.Ranges.{filter-none}
-
-filter-remove : {A : Type 0} (q : A → Bool) (xs : List A) (i : ℕ) (d : A) → i < length xs → q (get_or xs i d) ≡ false → filter q (remove xs i) ≡ filter q xs
-filter-remove q [] i d h e = absurd (omega arith)
-filter-remove q (x ∷ xs) zero d h e = rw e refl
-filter-remove q (x ∷ xs) (suc i) d h e = ap (λ ys. cond (q x) (x ∷ ys) ys) (filter-remove q xs i d (omega arith) e)
 
 -- the table stands for its own notifications, of which those that don't pass are those of the list
 pub record Removes (q : Frame → Bool) (t : FrameTable) (l : List Frame) : Type 0 where

@@ -1,5 +1,6 @@
 -- Lists and their keys are alike.
-use Rattle.std.proofs.Common.{◌≡◌, ℕ, ◌==◌, Bool, true, false, refl, sym, ap, ◌∙◌, eqb-true, eq-eqb}
+use Rattle.std.proofs.Common.{◌≡◌, true, refl, ap, eqb-true}
+use Rattle.bd_words.proofs.Lists.{eqb-turned}
 use Rattle.bd_space.specs.declared.space.TodoList.{TodoList}
 use Rattle.bd_space.specs.declared.space.TodoList.TheVariants.{OfThread, OfProcess}
 use Rattle.bd_space.specs.Todo.{same_list}
@@ -18,17 +19,8 @@ same_key-eq (Thread t) (Thread u) h = ap Thread (eqb-true t u h)
 same_key-eq (Process p) (Process q) h = ap Process (eqb-true p q h)
 same_key-eq _ _ h = cc
 
-swapped : (a b : ℕ) → (a == b) ≡ (b == a)
-swapped a b = at (a == b) (b == a) refl refl
-  where
-    at : (p q : Bool) → (a == b) ≡ p → (b == a) ≡ q → p ≡ q
-    at true true h k = refl
-    at true false h k = sym (eq-eqb b a (sym (eqb-true a b h))) ∙ k
-    at false true h k = sym h ∙ eq-eqb a b (sym (eqb-true b a k))
-    at false false h k = refl
-
 pub keys_swapped : (a b : TodoList) → same_list a b ≡ same_key (list_key b) (list_key a)
-keys_swapped (OfThread t) (OfThread u) = swapped t u
+keys_swapped (OfThread t) (OfThread u) = eqb-turned t u
 keys_swapped (OfThread t) (OfProcess q) = refl
 keys_swapped (OfProcess p) (OfThread u) = refl
-keys_swapped (OfProcess p) (OfProcess q) = swapped p q
+keys_swapped (OfProcess p) (OfProcess q) = eqb-turned p q

@@ -1,6 +1,5 @@
 -- The counts of what is looked up, as entries and work items come and go.
-use Rattle.std.proofs.Common.{◌≡◌, ℕ, ◌+◌, ◌-◌, ◌<◌, ◌==◌, nat_lt, Bool, true, false, not, ◌&&◌, ◌||◌, cond, List, [], ◌∷◌, ◌++◌, length, filter, count_by, Option, Some, None, option_map, unwrap_or, min, ap, refl, sym, ◌∙◌, subst, arith, eqb-true, lt-ltb}
-use Rattle.std.specs.Option.{IsSome}
+use Rattle.std.proofs.Common.{◌≡◌, ℕ, ◌+◌, ◌-◌, ◌<◌, ◌==◌, nat_lt, Bool, true, false, not, ◌&&◌, ◌||◌, cond, List, [], ◌∷◌, ◌++◌, length, filter, count_by, Option, Some, None, option_map, unwrap_or, min, ap, refl, sym, ◌∙◌, arith, eqb-true, lt-ltb}
 use Rattle.std.specs.List.{list_any}
 use Rattle.std.proofs.lemmas.List.Sums.{sum_by-append, sum_by-cons, count_by-le-length}
 use Rattle.bd_space.specs.declared.space.Work.{Work}
@@ -17,9 +16,6 @@ pub count_updated : (b : Bool) (w old new : Option Spot) → new ≡ cond b w ol
 count_updated true w old new h = ap (λ o. unwrap_or (option_map (λ (s : Spot). s.count) o) 0) h
 count_updated false w old new h = ap (λ o. unwrap_or (option_map (λ (s : Spot). s.count) o) 0) h
 
-pub there : {A : Type 0} {r : Option A} (x : A) (o : Option A) → r ≡ Some x → r ≡ o → IsSome o
-there x o h e = subst IsSome (sym h ∙ e) refl
-
 pub same_sought-eq : (a b : Sought) → same_sought a b ≡ true → a ≡ b
 same_sought-eq (Notice p i) (Notice q j) h =
     let r = both (p == q) (i == j) h in
@@ -33,7 +29,7 @@ same_sought-eq (Death m) (Death n) h = ap Death (eqb-true m n h)
 same_sought-eq (Unread a) (Unread b) h = ap Unread (same_key-eq a b h)
 same_sought-eq _ _ h = cc
 
--- what is written at a key, as a change of what was found there
+-- what is written at a key, as a change of what was found is_there
 pub at_key : (t : Spots) (a k : Sought) (v : ℕ) (f : ℕ → ℕ) (n : ℕ) → v ≡ f (count_at t a) → cond (same_sought a k) v (count_at t k) ≡ cond (same_sought a k) (f (count_at t k)) (count_at t k)
 at_key t a k v f n e = at (same_sought a k) refl
   where
@@ -41,7 +37,7 @@ at_key t a k v f n e = at (same_sought a k) refl
     at true s = e ∙ ap (λ x. f (count_at t x)) (same_sought-eq a k s)
     at false s = refl
 
--- none is left, and what stood there goes
+-- none is left, and what stood is_there goes
 pub gone_down : (t : Spots) (a k : Sought) (m n new : ℕ) → count_at t a ≡ 0 → count_at t k ≡ cond (same_sought a k) m n
     → new ≡ cond (same_sought a k) 0 (count_at t k) → new ≡ cond (same_sought a k) m n
 gone_down t a k m n new none down gone = at (same_sought a k) refl down gone
@@ -50,7 +46,7 @@ gone_down t a k m n new none down gone = at (same_sought a k) refl down gone
     at true s d g = g ∙ sym none ∙ ap (count_at t) (same_sought-eq a k s) ∙ d
     at false s d g = g ∙ d
 
--- the count of what stands there, or of what is put there
+-- the count of what stands is_there, or of what is put is_there
 pub count_or : (o : Option Spot) (new : Spot) → (unwrap_or o new).count ≡ unwrap_or (option_map (λ (s : Spot). s.count) o) new.count
 count_or None new = refl
 count_or (Some s) new = refl

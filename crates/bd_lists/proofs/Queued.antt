@@ -10,14 +10,10 @@ use Rattle.bd_space.specs.Words.{changed}
 use Rattle.bd_deaths.specs.Due.{is_due_at, is_queued_in, queued_at, has_place}
 use Rattle.bd_deaths.proofs.Changes.{same_tests}
 use Rattle.bd_deaths.proofs.Telling.{queued, told_at, place-next}
-use Rattle.bd_deaths.proofs.Tests.{eqb-turned}
+use Rattle.bd_words.proofs.Lists.{eqb-turned}
 
 abbrev pub places : ℕ → List DeathNotification → List ℕ
 places i l = map (λ x. x.made) (take i l)
-
-pub same-length : {A : Type 0} (q : A → Bool) (f : A → A) (l : List A) → length (changed q f l) ≡ length l
-same-length q f [] = refl
-same-length q f (x ∷ xs) = ap (λ n. suc n) (same-length q f xs)
 
 places-next : (l : List DeathNotification) (i : ℕ) (d : DeathNotification) → i < length l
     → places i l ++ (get_or l i d).made ∷ [] ≡ places (suc i) l

@@ -1,7 +1,8 @@
 -- The least number without a mark is the one that a new name gets.
-use Rattle.std.proofs.Common.{eqb, Option, ◌≡◌, ℕ, zero, suc, ◌+◌, ◌<◌, ◌≤◌, Bool, true, false, not, cond, ◌||◌, ◌&&◌, List, [], ◌∷◌, Some, None, find, refl, ap, sym, ◌∙◌, subst, arith}
+use Rattle.std.proofs.Common.{eqb, ◌≡◌, ℕ, zero, suc, ◌+◌, ◌<◌, ◌≤◌, Bool, true, false, not, cond, ◌||◌, ◌&&◌, List, [], ◌∷◌, Some, None, find, refl, ap, sym, ◌∙◌, subst, arith}
 use Rattle.std.specs.List.{list_any}
 use Rattle.std.specs.Option.{option_map, is_some}
+use Rattle.bd_words.proofs.Options.{none_is}
 use Rattle.bd_space.specs.declared.space.Name.{Name}
 use Rattle.bd_space.specs.Names.{named_in}
 use Rattle.bd_names.specs.Numbers.{free_number_from}
@@ -14,10 +15,6 @@ any-is-some f key (x ∷ xs) = at (key x) (any-is-some f key xs)
     at : (a : Bool) → list_any key xs ≡ is_some (option_map f (find key xs)) → (a || list_any key xs) ≡ is_some (option_map f (cond a (Some x) (find key xs)))
     at true h = refl
     at false h = h
-
-none-of : {A : Type 0} (o : Option A) → is_some o ≡ false → o ≡ None
-none-of None h = refl
-none-of (Some x) h = absurd (cc)
 
 module _ (p : ℕ) (names : List Name) where
   abbrev used : ℕ → Bool
@@ -65,4 +62,4 @@ module _ (p : ℕ) (names : List Name) where
   pub free-unnamed : (first n : ℕ) → n ≡ free_number_from names p first → named_in names p n ≡ None
   free-unnamed first n e =
       let f = free-is p names first in
-      none-of (named_in names p n) (sym (used-named n) ∙ subst (λ k. used k ≡ false) (sym e) (not-true (used (free_number_from names p first)) f.passes))
+      none_is (named_in names p n) (sym (used-named n) ∙ subst (λ k. used k ≡ false) (sym e) (not-true (used (free_number_from names p first)) f.passes))

@@ -5,13 +5,15 @@ use Rattle.std.specs.Option.{option_map, option_or, option_and_then, is_some}
 use Rattle.std.proofs.lemmas.List.Folds.{find-append}
 use Rattle.std.proofs.lemmas.Bool.{eqb-true, eq-eqb, and_parts, and_from}
 use Rattle.std.specs.Cmp.{both_ways}
+use Rattle.bd_words.proofs.Found.{found_passes}
+use Rattle.bd_words.proofs.Options.{none_mapped}
 use Rattle.bd_space.specs.declared.step.ObjectId.{ObjectId}
 use Rattle.bd_space.specs.declared.space.Name.{Name}
 use Rattle.bd_space.specs.Words.{same}
 use Rattle.bd_space.specs.Names.{named_in, number_in}
 use Rattle.bd_space.proofs.Identities.{same-eq, same-self, same-turned}
 use Rattle.bd_names.specs.Sound.{Sound, has_number, has_object}
-use Rattle.bd_names.proofs.Singles.{find-filter, few-push, few-filter, found-passes, only, none-count, none-dropped, same-dropped}
+use Rattle.bd_names.proofs.Singles.{find-filter, few-push, few-filter, only, none-count, none-dropped, same-dropped}
 use Rattle.bd_names.proofs.Lookups.{turned}
 
 find-push : {A : Type 0} (key : A → Bool) (xs : List A) (x : A) → find key (xs ++ x ∷ []) ≡ option_or (find key xs) (cond (key x) (Some x) None)
@@ -23,10 +25,6 @@ map-push f None x true h = refl
 map-push f None x false h = refl
 map-push f (Some y) x true h = absurd (let z = h refl in cc)
 map-push f (Some y) x false h = refl
-
-pub none-map : {A B : Type 0} (f : A → B) (o : Option A) → option_map f o ≡ None → o ≡ None
-none-map f None h = refl
-none-map f (Some x) h = absurd (cc)
 
 some-map : {A B : Type 0} (f : A → B) (o : Option A) (y : B) → option_map f o ≡ Some y → (x : A) × (o ≡ Some x) × (f x ≡ y)
 some-map f None y h = absurd (cc)
@@ -43,8 +41,8 @@ module _ (names : List Name) (m : Name) (h : Sound names) (free : named_in names
 
   pub came-sound : Sound (names ++ m ∷ [])
   came-sound = record {
-    one_number = λ p n. few-push (has_number p n) names m (h.one_number p n) (λ t. none-map (λ (k : Name). k.object) (find (has_number p n) names) (free-at p n t));
-    one_name = λ p o. few-push (has_object p o) names m (h.one_name p o) (λ t. none-map (λ (k : Name). k.number) (find (has_object p o) names) (new-at p o t));
+    one_number = λ p n. few-push (has_number p n) names m (h.one_number p n) (λ t. none_mapped (λ (k : Name). k.object) (find (has_number p n) names) (free-at p n t));
+    one_name = λ p o. few-push (has_object p o) names m (h.one_name p o) (λ t. none_mapped (λ (k : Name). k.number) (find (has_object p o) names) (new-at p o t));
   }
 
   pub came-object : (p n : ℕ) → named_in (names ++ m ∷ []) p n ≡ cond (has_number p n m) (Some m.object) (named_in names p n)
@@ -92,7 +90,7 @@ gone-found f key keep b names few h = ap (λ x. option_map f x) (find-filter key
 none-goes : {B : Type 0} (f : Name → B) (key : Name → Bool) (names : List Name) → option_map f (find key names) ≡ None
     → filter (λ m. not (key m)) names ≡ names
 none-goes f key names e =
-    let none = none-count key names (none-map f (find key names) e) in
+    let none = none-count key names (none_mapped f (find key names) e) in
     none-dropped key names (omega arith)
 
 turned-both : (a b : ℕ) (c d : ObjectId) → (eqb a b && same d c) ≡ (eqb b a && same c d)
@@ -114,10 +112,10 @@ module _ (names : List Name) (h : Sound names) (p : ℕ) (o : ObjectId) where
     -- a name of that number is the one of that object
     same-name : (q k : ℕ) (m : Name) → find (has_number q k) names ≡ Some m → has_object p o m ≡ (eqb p q && eqb n k)
     same-name q k m e =
-        let t = and_parts (eqb m.process q) (eqb m.number k) (found-passes (has_number q k) names m e) in
+        let t = and_parts (eqb m.process q) (eqb m.number k) (found_passes (has_number q k) names m e) in
         let mp : m.process ≡ q = eqb-true m.process q t.0 in
         let mn : m.number ≡ k = eqb-true m.number k t.1 in
-        let w = and_parts (eqb there.0.process p) (same there.0.object o) (found-passes (has_object p o) names there.0 there.1) in
+        let w = and_parts (eqb there.0.process p) (same there.0.object o) (found_passes (has_object p o) names there.0 there.1) in
         both_ways (has_object p o m) (eqb p q && eqb n k)
         (λ y. (let u = and_parts (eqb m.process p) (same m.object o) y in
         let s : Some m ≡ Some there.0 = sym (only (has_object p o) (has_number q k) names m (h.one_name p o) e y) ∙ there.1 in
@@ -128,7 +126,7 @@ module _ (names : List Name) (h : Sound names) (p : ℕ) (o : ObjectId) where
         (eq-eqb there.0.process q (eqb-true there.0.process p w.0 ∙ eqb-true p q u.0)) (eq-eqb there.0.number k (there.2 ∙ eqb-true n k u.1)) in
         let s : Some there.0 ≡ Some m = sym (only (has_number q k) (has_object p o) names there.0 (h.one_number q k) there.1 pass) ∙ e in
         let z : there.0 ≡ m = cc in
-        subst (λ x. has_object p o x ≡ true) z (found-passes (has_object p o) names there.0 there.1)))
+        subst (λ x. has_object p o x ≡ true) z (found_passes (has_object p o) names there.0 there.1)))
 
     pub gone-object : (q k : ℕ) → named_in (filter keep names) q k ≡ cond (eqb p q && eqb n k) None (named_in names q k)
     gone-object q k = gone-found (λ (m : Name). m.object) (has_number q k) keep (eqb p q && eqb n k) names (h.one_number q k) (λ m e. ap not (same-name q k m e))
@@ -141,7 +139,7 @@ module _ (names : List Name) (h : Sound names) (p : ℕ) (o : ObjectId) where
         rw (mp, mo) (turned-both q p o x)
 
     pub gone-number : (q : ℕ) (x : ObjectId) → number_in (filter keep names) q x ≡ cond (eqb p q && same o x) None (number_in names q x)
-    gone-number q x = gone-found (λ (m : Name). m.number) (has_object q x) keep (eqb p q && same o x) names (h.one_name q x) (λ m e. ap not (of-both q x m (found-passes (has_object q x) names m e)))
+    gone-number q x = gone-found (λ (m : Name). m.number) (has_object q x) keep (eqb p q && same o x) names (h.one_name q x) (λ m e. ap not (of-both q x m (found_passes (has_object q x) names m e)))
 
 -- ---- the name with a number of p
 
@@ -155,7 +153,7 @@ module _ (names : List Name) (h : Sound names) (p n : ℕ) where
     numbered = some-map (λ (k : Name). k.object) (find (has_number p n) names) o has
 
     tests : (eqb numbered.0.process p ≡ true) × (eqb numbered.0.number n ≡ true)
-    tests = and_parts (eqb numbered.0.process p) (eqb numbered.0.number n) (found-passes (has_number p n) names numbered.0 numbered.1)
+    tests = and_parts (eqb numbered.0.process p) (eqb numbered.0.number n) (found_passes (has_number p n) names numbered.0 numbered.1)
 
     by-object : find (has_object p o) names ≡ Some numbered.0
     by-object =

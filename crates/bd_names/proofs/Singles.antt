@@ -1,9 +1,10 @@
 -- Lists of which one element at most passes a test.
-use Rattle.std.proofs.Common.{◌≡◌, ◌+◌, ◌≤◌, Bool, true, false, not, cond, List, [], ◌∷◌, ◌++◌, Option, Some, None, find, filter, refl, ap, sym, ◌∙◌, subst, append-nil, arith}
+use Rattle.std.proofs.Common.{◌≡◌, ◌+◌, ◌≤◌, Bool, true, false, not, cond, List, [], ◌∷◌, ◌++◌, Option, Some, None, find, filter, refl, ap, sym, ◌∙◌, append-nil, arith}
 use Rattle.std.specs.List.{count_by}
 use Rattle.std.specs.Option.{option_and_then}
 use Rattle.std.proofs.lemmas.List.Sums.{sum_by-cons, sum_by-append}
 use Rattle.std.proofs.lemmas.List.Elements.{filter-append}
+use Rattle.bd_words.proofs.Found.{found_passes}
 
 module _ {A : Type 0} (key : A → Bool) where
   count-yes : (x : A) (xs : List A) → key x ≡ true → count_by key (x ∷ xs) ≡ 1 + count_by key xs
@@ -84,14 +85,6 @@ module _ {A : Type 0} (key : A → Bool) where
       at false true e f rest = rw e (rest (let c = count-no x xs e in omega arith))
       at false false e f rest = rest (let c = count-no x xs e in omega arith)
 
-pub found-passes : {A : Type 0} (p : A → Bool) (xs : List A) (x : A) → find p xs ≡ Some x → p x ≡ true
-found-passes p [] x h = absurd (cc)
-found-passes p (y ∷ xs) x h = at (p y) refl h (λ k. found-passes p xs x k)
-  where
-    at : (b : Bool) → p y ≡ b → cond b (Some y) (find p xs) ≡ Some x → (find p xs ≡ Some x → p x ≡ true) → p x ≡ true
-    at true e h rest = let s : y ≡ x = cc in subst (λ z. p z ≡ true) s e
-    at false e h rest = rest h
-
 -- one that another test finds is the one
 pub only : {A : Type 0} (key other : A → Bool) (xs : List A) (x : A) → count_by key xs ≤ 1 → find other xs ≡ Some x → key x ≡ true → find key xs ≡ Some x
 only key other [] x few h t = absurd (cc)
@@ -118,6 +111,6 @@ same-dropped a b (y ∷ xs) x few less h k = at (a y) (b y) refl refl h k (λ c 
         let c = count-yes a y xs e in
         let d = count-yes b y xs f in
         none-dropped a xs (omega arith) ∙ sym (none-dropped b xs (omega arith))
-    at true false e f h k rest = absurd (let s : y ≡ x = cc in let t = found-passes b xs x k in let u = sym f ∙ ap b s ∙ t in cc)
-    at false true e f h k rest = absurd (let s : y ≡ x = cc in let t = found-passes a xs x h in let u = sym e ∙ ap a s ∙ t in cc)
+    at true false e f h k rest = absurd (let s : y ≡ x = cc in let t = found_passes b xs x k in let u = sym f ∙ ap b s ∙ t in cc)
+    at false true e f h k rest = absurd (let s : y ≡ x = cc in let t = found_passes a xs x h in let u = sym e ∙ ap a s ∙ t in cc)
     at false false e f h k rest = ap (λ ys. y ∷ ys) (rest (let c = count-no a y xs e in omega arith) (let d = count-no b y xs f in omega arith) h k)

@@ -1,5 +1,6 @@
 -- What the calls on maps leave, where they succeed.
 use Rattle.std.proofs.Common.{◌≡◌, ℕ, ◌+◌, Bool, true, false, not, if◌then◌else◌, List, Option, Some, None, Result, Ok, Err, OnOk, IfOk, IfNone, IsOk, is_some, option_map, find, refl, ap, sym, subst, ◌∙◌}
+use Rattle.bd_words.proofs.Found.{found_passes}
 use Rattle.bd_words.specs.declared.key.WordKey.{WordKey}
 use Rattle.bd_words.specs.Keys.{same_word}
 use Rattle.bd_words.proofs.Keys.{word-eq, word-self}
@@ -10,7 +11,7 @@ use Rattle.bd_space.specs.References.{object_in}
 use Rattle.bd_nodes.specs.Keys.{id_key, own_key}
 use Rattle.bd_nodes.specs.Stands.{AreDistinct}
 use Rattle.bd_space.proofs.Identities.{same-eq, same-self}
-use Rattle.bd_nodes.proofs.Found.{found-passes, found-own}
+use Rattle.bd_nodes.proofs.Found.{found-own}
 
 pub ok-then : {T E P : Type 0} (r : Result T E) → IsOk r → OnOk r P → P
 ok-then (Ok x) ok h = h
@@ -55,7 +56,7 @@ only-own objects o x ids owns h l y e = ap not (at (same y.id o) refl (same_word
     test z = same_word (own_key z) l
 
     own : own_key y ≡ l
-    own = word-eq (own_key y) l (found-passes test objects y e)
+    own = word-eq (own_key y) l (found_passes test objects y e)
 
     at : (a : Bool) → same y.id o ≡ a → (b : Bool) → same_word (own_key x) l ≡ b → a ≡ b
     at true f true g = refl
@@ -75,5 +76,5 @@ only-own objects o x ids owns h l y e = ap not (at (same y.id o) refl (same_word
         subst (λ k. find (λ z. same_word (own_key z) k) objects ≡ Some x) (word-eq (own_key x) l g) found in
         let is : x ≡ y = cc in
         let yes : same y.id o ≡ true =
-        subst (λ z. same z.id o ≡ true) is (found-passes (λ z. same z.id o) objects x h) in
+        subst (λ z. same z.id o ≡ true) is (found_passes (λ z. same z.id o) objects x h) in
         absurd (cc)

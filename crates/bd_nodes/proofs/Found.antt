@@ -6,21 +6,10 @@ use Rattle.bd_nodes.specs.Stands.{AreDistinct}
 use Rattle.bd_nodes.proofs.Distinct.{cons-none, none-cons, filter-none, away-none}
 
 -- what is found passes
-pub found-passes : {A : Type 0} (p : A → Bool) (xs : List A) (x : A) → find p xs ≡ Some x → p x ≡ true
-found-passes p [] x h = absurd (cc)
-found-passes {A} p (y ∷ ys) x h = by (p y) refl h (found-passes p ys x)
-  where
-    by : (b : Bool) → p y ≡ b → cond b (Some y) (find p ys) ≡ Some x → (find p ys ≡ Some x → p x ≡ true) → p x ≡ true
-    by true e h further = let is : y ≡ x = cc in subst (λ z. p z ≡ true) is e
-    by false e h further = further h
 
 pub option-same : {A : Type 0} (o : Option A) → option_map (λ x. x) o ≡ o
 option-same None = refl
 option-same (Some x) = refl
-
-pub length-changed : {A : Type 0} (p : A → Bool) (f : A → A) (xs : List A) → length (changed p f xs) ≡ length xs
-length-changed p f [] = refl
-length-changed p f (x ∷ xs) = ap suc (length-changed p f xs)
 
 module _ {A K : Type 0} (key : A → K) (eq : K → K → Bool) (alike : (a b : K) → eq a b ≡ true → a ≡ b)
     (itself : (a : K) → eq a a ≡ true) where

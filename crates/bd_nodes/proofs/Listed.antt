@@ -5,6 +5,8 @@ use Rattle.std.specs.Option.{IfSome}
 use Rattle.std.specs.HashMap.{HashMap, get}
 use Rattle.std.proofs.lemmas.Bool.{eqb-true, and_parts}
 use Rattle.std.proofs.lemmas.List.Folds.{list_any-append}
+use Rattle.bd_words.proofs.Found.{found_passes}
+use Rattle.bd_words.proofs.Lists.{any-same}
 use Rattle.bd_groups.specs.declared.groups.Groups.{Groups}
 use Rattle.bd_groups.specs.Members.{IsIn, members}
 use Rattle.bd_space.specs.declared.step.ObjectId.{ObjectId}
@@ -17,14 +19,10 @@ use Rattle.bd_nodes.specs.Keys.{id_key, owner_group}
 use Rattle.bd_nodes.specs.Stands.{NodesAre, IsListed, Lists}
 use Rattle.bd_space.proofs.Identities.{same-eq, same-self, same-turned}
 use Rattle.bd_space.proofs.Ranges.{any-some}
-use Rattle.bd_nodes.proofs.Found.{found-passes, found-own}
+use Rattle.bd_nodes.proofs.Found.{found-own}
 use Rattle.bd_nodes.proofs.Maps.{Puts}
 
 -- ---- tests of lists
-
-any-alike : {A : Type 0} (p q : A → Bool) (xs : List A) → ((x : A) → p x ≡ q x) → list_any p xs ≡ list_any q xs
-any-alike p q [] e = refl
-any-alike p q (x ∷ xs) e = rw (e x, any-alike p q xs e) refl
 
 -- a test that passes implies another
 pub any-weaker : {A : Type 0} (p q : A → Bool) (xs : List A) → ((x : A) → p x ≡ true → q x ≡ true)
@@ -93,7 +91,7 @@ pub owned-among : (objects : List Object) (p : ℕ) (o : ObjectId)
 owned-among objects p o =
     any-map (same o) (λ (x : Object). x.id) (filter (λ x. x.owner == p) objects)
     ∙ any-filter (λ (x : Object). same o x.id) (λ x. x.owner == p) objects
-    ∙ any-alike _ _ objects (λ x. swapped (x.owner == p) (same o x.id) ∙ ap (λ b. b && x.owner == p) (same-turned o x.id))
+    ∙ any-same _ _ objects (λ x. swapped (x.owner == p) (same o x.id) ∙ ap (λ b. b && x.owner == p) (same-turned o x.id))
   where
     swapped : (a b : Bool) → (a && b) ≡ (b && a)
     swapped true true = refl
@@ -131,7 +129,7 @@ owned-is-listed t objects p o n h =
     let is_it = λ (x : Object). same x.id o && x.owner == p in
     let found = some-one (find is_it objects) (sym (any-some is_it objects) ∙ h) in
     let x = found.0 in
-    let passes = and_parts (same x.id o) (x.owner == p) (found-passes is_it objects x found.1) in
+    let passes = and_parts (same x.id o) (x.owner == p) (found_passes is_it objects x found.1) in
     let there : get same t.objects (id_key x) ≡ Some x =
     n.found (id_key x)
     ∙ ap (option_map (λ y. y)) (found-own id_key same same-eq same-self is_it objects x n.ids found.1) in

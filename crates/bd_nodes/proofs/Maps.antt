@@ -2,14 +2,12 @@
 use Rattle.std.proofs.Common.{◌≡◌, Bool, true, false, not, cond, List, [], ◌∷◌, ◌++◌, Option, Some, None, find, filter, option_map, refl, ap, sym, subst, ◌∙◌}
 use Rattle.std.specs.Option.{option_or}
 use Rattle.std.proofs.lemmas.List.Folds.{find-append}
+use Rattle.bd_words.proofs.Found.{found_passes}
+use Rattle.bd_words.proofs.Options.{or_none}
 use Rattle.bd_space.specs.Words.{changed}
 use Rattle.bd_nodes.specs.Keys.{kept}
 use Rattle.bd_nodes.specs.Stands.{AreDistinct, Finds}
-use Rattle.bd_nodes.proofs.Found.{found-filter, found-changed, found-passes, turned, turn}
-
-or-none : {A : Type 0} (o : Option A) → option_or o None ≡ o
-or-none None = refl
-or-none (Some x) = refl
+use Rattle.bd_nodes.proofs.Found.{found-filter, found-changed, turned, turn}
 
 neither : {A : Type 0} (b : Bool) (o : Option A) → o ≡ None → cond b None o ≡ None
 neither true o h = refl
@@ -35,7 +33,7 @@ module _ {A K V : Type 0} (key : A → K) (eq : K → K → Bool) (alike : (a b 
           let none : find (λ y. eq (key y) k) xs ≡ None =
           subst (λ l. find (λ y. eq (key y) l) xs ≡ None) (alike (key x) k e) new in
           ap (λ o. option_map shown (option_or o (Some x))) (sym none)
-      at k false e = f k ∙ ap (option_map shown) (sym (or-none (find (λ y. eq (key y) k) xs)))
+      at k false e = f k ∙ ap (option_map shown) (sym (or_none (find (λ y. eq (key y) k) xs)))
 
   -- those go that don't pass, of which there is one, at the key k
   pub finds-remove : (m n : K → Option V) (xs : List A) (q : A → Bool) (k : K) → Finds eq key shown m xs
@@ -88,7 +86,7 @@ module _ {A K : Type 0} (key : A → K) (eq : K → K → Bool) (alike : (a b : 
           → option_map (λ y. y) o ≡ option_map (λ y. y) (option_map by_test o)
       other l e None h = refl
       other l e (Some y) h =
-          let is : key y ≡ l = alike (key y) l (found-passes (λ y. eq (key y) l) xs y h) in
+          let is : key y ≡ l = alike (key y) l (found_passes (λ y. eq (key y) l) xs y h) in
           let no : eq (key y) k ≡ false = subst (λ j. eq j k ≡ false) (sym is) (turned key eq alike itself k l e) in
           ap (λ b. Some (cond b (g y) y)) (sym no)
 
@@ -97,7 +95,7 @@ module _ {A K : Type 0} (key : A → K) (eq : K → K → Bool) (alike : (a b : 
       at l true e =
           let here : find (λ y. eq (key y) l) xs ≡ Some x =
           subst (λ j. find (λ y. eq (key y) j) xs ≡ Some x) (alike k l e) has in
-          let yes : eq (key x) k ≡ true = found-passes (λ y. eq (key y) k) xs x has in
+          let yes : eq (key x) k ≡ true = found_passes (λ y. eq (key y) k) xs x has in
           ap (λ b. Some (cond b (g x) x)) (sym yes) ∙ ap (λ o. option_map (λ y. y) (option_map by_test o)) (sym here)
       at l false e = f l ∙ other l e (find (λ y. eq (key y) l) xs) refl
 
@@ -106,5 +104,5 @@ pub only-key : {A K : Type 0} (key : A → K) (eq : K → K → Bool) (alike : (
     (itself : (a : K) → eq a a ≡ true) (xs : List A) (k l : K) (y : A)
     → find (λ x. eq (key x) l) xs ≡ Some y → not (eq (key y) k) ≡ not (eq k l)
 only-key key eq alike itself xs k l y e =
-    let is : key y ≡ l = alike (key y) l (found-passes (λ x. eq (key x) l) xs y e) in
+    let is : key y ≡ l = alike (key y) l (found_passes (λ x. eq (key x) l) xs y e) in
     ap (λ j. not (eq j k)) is ∙ ap not (turn key eq alike itself l k)

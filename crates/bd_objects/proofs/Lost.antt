@@ -3,6 +3,7 @@ use Rattle.std.proofs.Common.{◌≡◌, ℕ, ◌==◌, Bool, true, false, not, 
 use Rattle.std.specs.Prelude.{count_by}
 use Rattle.std.specs.List.{list_any}
 use Rattle.std.proofs.lemmas.Bool.{and_parts, and_from, eqb-true, eq-eqb}
+use Rattle.bd_words.proofs.Found.{found_passes}
 use Rattle.bd_space.specs.declared.step.ObjectId.{ObjectId}
 use Rattle.bd_space.specs.declared.space.Process.{Process}
 use Rattle.bd_space.specs.declared.space.Object.{Object}
@@ -16,7 +17,6 @@ use Rattle.bd_space.specs.Space.{Space}
 use Rattle.bd_space.specs.Notices.{still_due, is_name_of}
 use Rattle.bd_space.specs.Deaths.{is_uncleared_on, is_notification, uncleared_in}
 use Rattle.bd_space.specs.Local.{at_name, is_touched, deaths_go_of}
-use Rattle.bd_nodes.proofs.Found.{found-passes}
 use Rattle.bd_objects.specs.Deaths.{only_lost}
 use Rattle.bd_objects.proofs.AtName.{filtered-at}
 use Rattle.bd_deaths.specs.Only.{only_uncleared_in}
@@ -108,7 +108,7 @@ module _ (p : ℕ) (o : ObjectId) where
     on-name : list_any (made_at x.made) xs ≡ true
     on-name =
         let one = is-only xs x is in
-        let q = found-passes (is_uncleared_on p o) xs x one.1 in
+        let q = found_passes (is_uncleared_on p o) xs x one.1 in
         found-any (is_uncleared_on p o) (made_at x.made) x
         (and_from _ _ (eq-eqb x.made x.made refl) (at-uncleared x.cleared (x.process == p) (same x.object o) q)) xs one.1
 

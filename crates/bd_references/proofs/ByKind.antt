@@ -130,9 +130,6 @@ any-either p q (x ∷ xs) = ap (λ b. (p x || q x) || b) (any-either p q xs) ∙
     by false true false d = refl
     by false false c d = refl
 
-pub any-same : {A : Type 0} (p q : A → Bool) (xs : List A) → ((x : A) → p x ≡ q x) → list_any p xs ≡ list_any q xs
-any-same p q xs is = ap (λ t. list_any t xs) (λ i x. is x i)
-
 -- the first holds, or else the second is the answer
 pub or-then : (a b c : Bool) → a ≡ true → a ≡ b → a ≡ (b || c)
 or-then a true c h e = e

@@ -5,6 +5,7 @@ use Rattle.std.proofs.Math.Bool.{and-true, or-false, or-true}
 use Rattle.std.proofs.lemmas.Bool.{eqb-true, ltb-true, and_parts, and_from}
 use Rattle.std.proofs.lemmas.List.Folds.{list_any-append}
 use Rattle.std.specs.Cmp.{both_ways}
+use Rattle.bd_words.proofs.Lists.{any-same}
 use Rattle.bd_groups.specs.declared.groups.Groups.{Groups}
 use Rattle.bd_groups.specs.declared.group.Group.TheVariants.{Process}
 use Rattle.bd_groups.specs.Members.{members, IsIn}
@@ -21,7 +22,6 @@ use Rattle.bd_references.specs.Keys.{same_key, use_key, kind_of, is_of_process, 
 use Rattle.bd_references.specs.Counted.{count_at, CountsEach, is_counted}
 use Rattle.bd_references.specs.Listed.{AreUsers, has_key}
 use Rattle.bd_references.proofs.Among.{in-any, from-any, filter-in}
-use Rattle.bd_references.proofs.ByKind.{any-same}
 use Rattle.bd_references.proofs.Counting.{any-count}
 use Rattle.bd_references.proofs.Tests.{key-eq, key-self}
 

@@ -29,7 +29,7 @@ module _ {A : Type 0} (key : A → ℕ) (f : A → A) where
 -- ---- what stays where it does in each element
 
 module _ {A : Type 0} (p : A → Bool) (f : A → A) where
-  length_changed : (xs : List A) → length (changed p f xs) ≡ length xs
+  pub length_changed : (xs : List A) → length (changed p f xs) ≡ length xs
   length_changed [] = refl
   length_changed (x ∷ xs) = ap suc (length_changed xs)
 

@@ -1,24 +1,12 @@
 -- A seat's thread is the one that was made where the map says.
-use Rattle.std.proofs.Common.{◌≡◌, ℕ, ◌<◌, ◌==◌, Bool, true, false, cond, List, [], ◌∷◌, length, get_or, Some, None, find, sym, ◌∙◌, All, refl, ap, IfSome, eqb-true}
-use Rattle.std.specs.Prelude.{Option, option_map, MatchOption}
+use Rattle.std.proofs.Common.{◌≡◌, ℕ, ◌<◌, ◌==◌, false, List, length, get_or, Some, None, find, sym, ◌∙◌, All, IfSome, eqb-true}
+use Rattle.std.specs.Prelude.{Option, MatchOption}
+use Rattle.bd_words.proofs.Options.{none_mapped}
 use Rattle.bd_space.specs.declared.space.Thread.{Thread}
 use Rattle.bd_space.specs.Seats.{thread_in}
 use Rattle.bd_words.proofs.Rising.{distinct, find_none, find_at}
-use Rattle.bd_words.proofs.Found.{by_key, none_found}
+use Rattle.bd_words.proofs.Found.{by_key, none_found, found_passes}
 use Rattle.bd_threads.specs.Apart.{AreApart}
-
-module _ {A : Type 0} (p : A → Bool) where
-  pub found_passes : (xs : List A) (y : A) → find p xs ≡ Some y → p y ≡ true
-  found_passes [] y e = cc
-  found_passes (x ∷ xs) y e = by (p x) refl e (found_passes xs y)
-    where
-      by : (b : Bool) → p x ≡ b → cond b (Some x) (find p xs) ≡ Some y → (find p xs ≡ Some y → p y ≡ true) → p y ≡ true
-      by true t e rest = let same : x ≡ y = cc in ap p (sym same) ∙ t
-      by false t e rest = rest e
-
-none_mapped : {A B : Type 0} (f : A → B) (o : Option A) → option_map f o ≡ None → o ≡ None
-none_mapped f None e = refl
-none_mapped f (Some x) e = cc
 
 abbrev made_of : Thread → ℕ
 made_of t = t.made

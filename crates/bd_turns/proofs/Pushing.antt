@@ -2,6 +2,7 @@
 use Rattle.std.proofs.Common.{◌≡◌, ℕ, zero, suc, ◌<◌, ◌-◌, Bool, true, false, cond, ◌&&◌, List, [], ◌∷◌, ◌++◌, length, get_or, Option, Some, None, refl, ap, sym, ◌∙◌, subst, arith}
 use Rattle.std.specs.Option.{option_or, option_map, option_and_then, is_none}
 use Rattle.std.specs.List.{slice_get}
+use Rattle.bd_words.proofs.Options.{or_none}
 use Rattle.bd_space.specs.declared.step.ObjectId.{ObjectId}
 use Rattle.bd_space.specs.Words.{same}
 use Rattle.bd_turns.specs.declared.slots.Entry.{Entry}
@@ -10,7 +11,7 @@ use Rattle.bd_turns.specs.Slots.{is_on, is_live_on, turns_in, position, last_pos
 use Rattle.bd_turns.specs.Ends.{ends_in}
 use Rattle.bd_turns.proofs.Chains.{none-on}
 use Rattle.bd_space.proofs.Identities.{same-eq, same-turned}
-use Rattle.bd_turns.proofs.Tests.{or-none, up, up-cond}
+use Rattle.bd_turns.proofs.Tests.{up, up-cond}
 
 up-or : (o : Option ℕ) (b : Bool) (n : ℕ) → up (option_or o (cond b (Some n) None)) ≡ option_or (up o) (cond b (Some (suc n)) None)
 up-or (Some k) b n = refl
@@ -49,7 +50,7 @@ ends-push es x live q =
         → option_map {T = ℕ} {U = Ends} (λ n. record { first = option_or (position (is_live_on q) es) (cond b (Some (length es)) None); last = n }) (cond b (Some (length es)) (last_position (is_on q) es))
         ≡ cond b (Some (record { first = option_or (position (is_live_on x.turn.target) es) (Some (length es)); last = length es })) (ends_in es q)
     at true e = ap (λ o. let r : Ends = record { first = option_or (position (is_live_on o) es) (Some (length es)); last = length es } in Some r) (sym (same-eq x.turn.target q e))
-    at false e = ap (λ f. option_map {T = ℕ} {U = Ends} (λ n. record { first = f; last = n }) (last_position (is_on q) es)) (or-none (position (is_live_on q) es))
+    at false e = ap (λ f. option_map {T = ℕ} {U = Ends} (λ n. record { first = f; last = n }) (last_position (is_on q) es)) (or_none (position (is_live_on q) es))
 
 -- ---- the chains
 
@@ -92,7 +93,7 @@ first-push o t es x is = position-append (is_on t) es x ∙ ap (λ b. option_or 
     at true e =
         subst (λ y. option_or (position (is_on y) es) (Some (length es)) ≡ cond (is_none (last_position (is_on o) es)) (Some (length es)) (position (is_on y) es))
         (sym (same-eq t o e)) (on-o (last_position (is_on o) es) refl)
-    at false e = or-none (position (is_on t) es)
+    at false e = or_none (position (is_on t) es)
 
 after-push : (es : List Entry) (x : Entry) (i : ℕ) → after is_on (es ++ x ∷ []) i ≡ cond (last_here x.turn.target es i) (Some (length es)) (after is_on es i)
 unfolding last_here

@@ -1,10 +1,6 @@
 -- Tests, and options.
 use Rattle.std.proofs.Common.{◌≡◌, ℕ, suc, Bool, true, false, cond, Option, Some, None, refl}
-use Rattle.std.specs.Option.{option_or, option_map}
-
-pub or-none : {A : Type 0} (o : Option A) → option_or o None ≡ o
-or-none None = refl
-or-none (Some x) = refl
+use Rattle.std.specs.Option.{option_map}
 
 -- one place on
 abbrev pub up : Option ℕ → Option ℕ

@@ -1,9 +1,10 @@
 use Rattle.std.proofs.Common.{rules, ◌≡◌, ℕ, ◌<◌, ◌==◌, false, None, cond, refl, ap, sym, subst, ◌∙◌}
 use Rattle.std.specs.HashMap.{get_by}
 use Rattle.std.proofs.lemmas.Bool.{eq-eqb}
+use Rattle.bd_words.proofs.Options.{updated}
 use Rattle.bd_references.specs.Gathered.{item_in, end_in, gathered, is_used}
 use Rattle.bd_references.proofs.Gathers.{forgotten}
-use Rattle.bd_references.proofs.Updated.{updated, fewer}
+use Rattle.bd_references.proofs.Updated.{fewer}
 use Rattle.bd_references.proofs.Viewed.{window-left}
 use Rattle.bd_references.proofs.windows.leave_window.Goals as goal
 

@@ -1,7 +1,7 @@
 use Rattle.std.proofs.Common.{ap, sym, ◌∙◌, length}
+use Rattle.bd_space.proofs.Keyed.{length_changed}
 use Rattle.bd_space.specs.Deaths.{is_notification}
 use Rattle.bd_deaths.proofs.Telling.{told_at, place-told, place-else, queued}
-use Rattle.bd_lists.proofs.Queued.{same-length}
 use Rattle.bd_lists.proofs.deaths.DeathList.queue_at.Goals as goal
 
 pub returns-then-has_due-clause-items : goal.returns-then-has_due-clause-items
@@ -11,7 +11,7 @@ returns-then-has_due-clause-items c =
 
 pub returns-then-has_due-clause-len : goal.returns-then-has_due-clause-len
 returns-then-has_due-clause-len c =
-    ap length c.set_phase.ensures ∙ same-length (is_notification c.args.made) (queued c.args.nodes.now.objects.items c.args.p) c.args.self.now.deaths.items
+    ap length c.set_phase.ensures ∙ length_changed (is_notification c.args.made) (queued c.args.nodes.now.objects.items c.args.p) c.args.self.now.deaths.items
 
 pub returns-else-has_due-clause-items : goal.returns-else-has_due-clause-items
 returns-else-has_due-clause-items c =

@@ -1,8 +1,8 @@
 use Rattle.std.specs.HashMap.{get_by}
 use Rattle.bd_names.specs.Keys.{is_number_key}
 use Rattle.std.proofs.Common.{eqb, ◌&&◌, None}
+use Rattle.bd_words.proofs.Options.{updated}
 use Rattle.bd_names.specs.declared.keys.NumberKey.{NumberKey}
-use Rattle.bd_names.proofs.Lookups.{updated}
 use Rattle.bd_names.proofs.words.Words.forget.Goals as goal
 
 pub returns-clause-words : goal.returns-clause-words

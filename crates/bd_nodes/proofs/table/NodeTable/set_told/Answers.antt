@@ -1,6 +1,7 @@
 use Rattle.std.proofs.Common.{◌≡◌, None, Some, refl, ap, sym, subst, ◌∙◌, is_some}
 use Rattle.std.specs.Option.{option_copied_mut, IfSome}
 use Rattle.std.specs.HashMap.{get}
+use Rattle.bd_space.proofs.Keyed.{length_changed}
 use Rattle.bd_words.specs.Keys.{same_word}
 use Rattle.bd_words.specs.Look.{look}
 use Rattle.bd_words.proofs.Keys.{word-eq, word-self}
@@ -11,7 +12,7 @@ use Rattle.bd_nodes.specs.Keys.{id_key, own_key}
 use Rattle.bd_nodes.specs.Stands.{NodesAre, IsListed}
 use Rattle.bd_space.proofs.Identities.{same-eq, same-self}
 use Rattle.bd_nodes.proofs.Distinct.{changed-distinct}
-use Rattle.bd_nodes.proofs.Found.{option-same, length-changed, changed-nothing}
+use Rattle.bd_nodes.proofs.Found.{option-same, changed-nothing}
 use Rattle.bd_nodes.proofs.Maps.{Puts, finds-changed, finds-hidden}
 use Rattle.bd_nodes.proofs.Listed.{lists-put}
 use Rattle.bd_nodes.proofs.table.NodeTable.set_told.Goals as goal
@@ -35,7 +36,7 @@ returns-in-Some-clause-stands c = λ objects n.
           puts;
       owned = finds-hidden own_key same_word word-eq word-self (λ y. y.id) (look c.args.self.now.owns) objects p f
           (λ y. refl) (λ y. refl) n.owned;
-      count = writes.2 ∙ n.count ∙ sym (length-changed p f objects);
+      count = writes.2 ∙ n.count ∙ sym (length_changed p f objects);
       ids = changed-distinct id_key same p f (λ y. refl) objects n.ids;
       owns = changed-distinct own_key same_word p f (λ y. refl) objects n.owns;
       listed = lists-put c.args.self.now.objects new c.args.self.now.owned c.args.self.now.owned

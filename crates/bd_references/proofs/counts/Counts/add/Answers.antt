@@ -1,10 +1,10 @@
 use Rattle.std.proofs.Common.{◌+◌, ◌-◌, ◌^◌, Some, min, ap, arith, ◌∙◌, unwrap_or}
 use Rattle.std.specs.HashMap.{get}
 use Rattle.std.specs.HashMap.Entry.{map_with_value}
+use Rattle.bd_words.proofs.Options.{updated}
 use Rattle.bd_references.specs.Keys.{same_key}
 use Rattle.bd_references.specs.Counted.{count_at}
 use Rattle.bd_references.proofs.Keyed.{set-more}
-use Rattle.bd_references.proofs.Updated.{updated}
 use Rattle.bd_references.proofs.counts.Counts.add.Goals as goal
 
 pub returns-in-Ok-clause-counts : goal.returns-in-Ok-clause-counts

@@ -1,9 +1,10 @@
 use Rattle.std.proofs.Common.{sym, ◌∙◌}
+use Rattle.bd_words.proofs.Lists.{any-same}
 use Rattle.bd_space.specs.declared.space.Reference.{Reference}
 use Rattle.bd_space.specs.References.{is_asking}
 use Rattle.bd_references.specs.declared.keys.Kind.TheVariants.{Asked}
 use Rattle.bd_references.specs.Keys.{same_key, use_key, count_key}
-use Rattle.bd_references.proofs.ByKind.{any-same, asking-key}
+use Rattle.bd_references.proofs.ByKind.{asking-key}
 use Rattle.bd_references.proofs.table.ReferenceTable.is_asked.Goals as goal
 
 pub returns : goal.returns

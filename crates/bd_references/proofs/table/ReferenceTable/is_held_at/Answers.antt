@@ -1,9 +1,10 @@
 use Rattle.std.proofs.Common.{true, false, ◌&&◌, ◌||◌, sym, ◌∙◌}
+use Rattle.bd_words.proofs.Lists.{any-same}
 use Rattle.bd_space.specs.declared.space.Reference.{Reference}
 use Rattle.bd_space.specs.Words.{same}
 use Rattle.bd_references.specs.declared.keys.Kind.TheVariants.{Any}
 use Rattle.bd_references.specs.Keys.{same_key, total_key, count_key}
-use Rattle.bd_references.proofs.ByKind.{any-either, any-same, total-key, strong-key, or-then, or-else}
+use Rattle.bd_references.proofs.ByKind.{any-either, total-key, strong-key, or-then, or-else}
 use Rattle.bd_references.proofs.table.ReferenceTable.is_held_at.Goals as goal
 
 pub returns-then-strong : goal.returns-then-strong

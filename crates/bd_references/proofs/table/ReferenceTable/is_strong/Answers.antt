@@ -1,9 +1,10 @@
 use Rattle.std.proofs.Common.{true, ◌&&◌, sym, ◌∙◌}
+use Rattle.bd_words.proofs.Lists.{any-same}
 use Rattle.bd_space.specs.declared.space.Reference.{Reference}
 use Rattle.bd_space.specs.Words.{same}
 use Rattle.bd_references.specs.declared.keys.Kind.TheVariants.{Any}
 use Rattle.bd_references.specs.Keys.{same_key, total_key, count_key}
-use Rattle.bd_references.proofs.ByKind.{any-same, strong-key}
+use Rattle.bd_references.proofs.ByKind.{strong-key}
 use Rattle.bd_references.proofs.table.ReferenceTable.is_strong.Goals as goal
 
 pub returns : goal.returns

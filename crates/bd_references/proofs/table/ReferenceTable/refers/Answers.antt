@@ -1,9 +1,10 @@
 use Rattle.std.proofs.Common.{true, false, ◌&&◌, ◌||◌, sym, ◌∙◌}
+use Rattle.bd_words.proofs.Lists.{any-same}
 use Rattle.bd_space.specs.declared.space.Reference.{Reference}
 use Rattle.bd_space.specs.Words.{same}
 use Rattle.bd_space.specs.References.{names_for}
 use Rattle.bd_references.specs.Keys.{names_with}
-use Rattle.bd_references.proofs.ByKind.{any-either, any-same, naming, or-then, or-else}
+use Rattle.bd_references.proofs.ByKind.{any-either, naming, or-then, or-else}
 use Rattle.bd_references.proofs.table.ReferenceTable.refers.Goals as goal
 
 pub returns-then-names : goal.returns-then-names

@@ -1,9 +1,10 @@
 use Rattle.std.proofs.Common.{true, ◌&&◌, sym, ◌∙◌}
+use Rattle.bd_words.proofs.Lists.{any-same}
 use Rattle.bd_space.specs.declared.space.Reference.{Reference}
 use Rattle.bd_space.specs.Words.{same}
 use Rattle.bd_space.specs.References.{names_for}
 use Rattle.bd_references.specs.Keys.{names_with}
-use Rattle.bd_references.proofs.ByKind.{any-same, naming-strongly}
+use Rattle.bd_references.proofs.ByKind.{naming-strongly}
 use Rattle.bd_references.proofs.table.ReferenceTable.refers_strongly.Goals as goal
 
 pub returns : goal.returns
