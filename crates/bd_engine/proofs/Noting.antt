@@ -1,10 +1,10 @@
 -- Noting the readiness of seats, one after the other.
-use Rattle.std.proofs.Common.{ℕ, ◌≡◌, ◌<◌, Bool, true, false, cond, List, [], ◌∷◌, ◌++◌, length, get_or, refl, ap, sym, subst, ◌∙◌, arith}
+use Rattle.std.proofs.Common.{ℕ, ◌≡◌, ◌<◌, ◌≤◌, Bool, true, false, cond, List, [], ◌∷◌, ◌++◌, length, take, get_or, refl, ap, sym, subst, ◌∙◌, arith}
 use Rattle.std.specs.Prelude.{◌==◌, ◌||◌, not}
 use mathlib.Core.Bool.{beq}
 use Rattle.std.proofs.Math.Bool.{or-true, or-false}
 use Rattle.std.proofs.Math.ListN.{set}
-use Rattle.std.proofs.lemmas.List.{get_or-set_same, get_or-set_other}
+use Rattle.std.proofs.lemmas.List.{get_or-set_same, get_or-set_other, take_all}
 use Rattle.std.proofs.lemmas.List.Folds.{list_any-append}
 use Rattle.std.proofs.lemmas.Bool.{eqb-true, eq-eqb}
 use Rattle.bd_space.specs.Space.{Space}
@@ -88,6 +88,10 @@ pub seen-none : (s : Space) (before : List Bool) (y : ℕ) → IsSeen s before b
 seen-none s before y = record { is = refl; listed = sym (flip-none (get_or before y false)) }
 
 -- after the last
+pub seen-whole : (s : Space) (before noted : List Bool) (changed touched : List ℕ) (i y : ℕ) → length touched ≤ i → IsSeen s before noted changed (take i touched) y
+    → IsSeen s before noted changed touched y
+seen-whole s before noted changed touched i y le seen = subst (λ v. IsSeen s before noted changed v y) (take_all i touched le) seen
+
 pub seen-all : (s : Space) (before noted : List Bool) (changed touched : List ℕ) (y : ℕ) → IsSeen s before noted changed touched y
     → (has_seat touched y ≡ false → get_or before y false ≡ is_ready s y) → get_or noted y false ≡ is_ready s y
 seen-all s before noted changed touched y seen k = by_touched (has_seat touched y) refl seen.is

@@ -156,39 +156,6 @@ impl Tables {
         }
     }
 
-    // A call.
-    #[tactic(auto, unfolding(bd_space::specs::Returns::returns_of))]
-    fn call_return(&self, made: u32) -> Option<Return>
-        ensures { TellsBefore self.now (spec.one result) (λ s. spec.returns_of s (work.Call made)) }
-    {
-        match self.record_at(made) {
-            Some(r) => Some(Return::Transaction(r)),
-            None => None,
-        }
-    }
-
-    // A reply.
-    #[tactic(auto, unfolding(bd_space::specs::Returns::returns_of))]
-    fn reply_return(&self, made: u32) -> Option<Return>
-        ensures { TellsBefore self.now (spec.one result) (λ s. spec.returns_of s (work.Reply made)) }
-    {
-        match self.record_at(made) {
-            Some(r) => Some(Return::Reply(r)),
-            None => None,
-        }
-    }
-
-    // The end of an object's owner.
-    #[tactic(auto, unfolding(bd_space::specs::Returns::returns_of))]
-    fn death_return(&self, made: u32) -> Option<Return>
-        ensures { TellsBefore self.now (spec.one result) (λ s. spec.returns_of s (work.Death made)) }
-    {
-        match self.objects.death(made) {
-            Some(x) => Some(Return::DeadBinder(x.cookie)),
-            None => None,
-        }
-    }
-
     // The returns that a work item gives.
     #[tactic(auto, unfolding(bd_space::specs::Returns::returns_of))]
     fn returns_of(&self, kind: WorkKind) -> [Option<Return>; 4]
@@ -199,9 +166,11 @@ impl Tables {
             WorkKind::Complete { spam } => alone(Some(completion(spam))),
             WorkKind::Refusal(r) => alone(Some(r)),
             WorkKind::Verdict(r) => alone(Some(r)),
-            WorkKind::Call(b) => alone(self.call_return(b)),
-            WorkKind::Reply(b) => alone(self.reply_return(b)),
-            WorkKind::Death(n) => alone(self.death_return(n)),
+            WorkKind::Call(b) => alone(self.record_at(b).map(Return::Transaction)),
+            WorkKind::Reply(b) => alone(self.record_at(b).map(Return::Reply)),
+            WorkKind::Death(n) => alone(
+                self.objects.death(n).map(|x| Return::DeadBinder(x.cookie)),
+            ),
             WorkKind::Cleared(cookie) => alone(Some(Return::ClearDeathNotificationDone(cookie))),
         }
     }

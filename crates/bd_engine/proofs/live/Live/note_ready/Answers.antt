@@ -1,7 +1,7 @@
 use Rattle.std.proofs.Common.{rules, ◌≡◌, ◌<◌, [], false, refl, arith, ap, subst, ◌∙◌, get_or, take, length}
-use Rattle.std.proofs.lemmas.List.{take_more, take_all}
+use Rattle.std.proofs.lemmas.List.{take_more}
 use Rattle.bd_space.specs.Histories.{space_after, is_ready}
-use Rattle.bd_engine.proofs.Noting.{IsSeen, seen-same, seen-other, seen-none, seen-all, seen-as, differ, agree}
+use Rattle.bd_engine.proofs.Noting.{seen-same, seen-other, seen-none, seen-whole, seen-all, seen-as, differ, agree}
 use Rattle.bd_engine.proofs.live.Live.note_ready.Goals as goal
 use Rattle.bd_engine.proofs.live.Live.note_ready.Goals.{then-at-noted+then-noted-at, then-at-noted+else-noted-at, else-at-noted}
 
@@ -13,54 +13,45 @@ loop-i-init c = record {
 }
 
 pub loop-i-preserved : goal.loop-i-preserved
-loop-i-preserved c = elim c.if-at-noted.branch [
-  | then-at-noted+then-noted-at w ↦
+loop-i-preserved c = record {
+  len = omega (arith, c.if-at-noted.auto.noted, c.loop-i.invariant.len);
+  room = elim c.if-at-noted.branch [
+    | then-at-noted+then-noted-at w ↦ search rules
+    | then-at-noted+else-noted-at w ↦ search rules
+    | else-at-noted w ↦ search rules
+  ];
+  seen = λ h follows y lt.
+      let s = space_after h in
       let x = get_or c.args.touched.now c.loop-i.i 0 in
-      record {
-        len = omega (arith, c.if-at-noted.auto.noted, c.loop-i.invariant.len);
-        room = search rules;
-        seen = λ h follows y lt.
-            seen-as (space_after h) _ _ c.if-at-noted.noted _ c.if-at-noted.changed.items _ _ y w.noted-is (ap (λ v. v.items) w.changed-is ∙ w.push_reserved.ensures.items)
-            (take_more c.args.touched.now c.loop-i.i 0 c.loop-i-test.true)
-            (seen-other (space_after h) c.args.noted.now c.loop-i.noted c.loop-i.changed.items (take c.loop-i.i c.args.touched.now) x y (c.loop-i.invariant.seen h follows y lt)
-            w.is_ready-ready.result w.if-at-noted.true (differ _ _ w.if-noted-at.true) (λ e. w.is_ready-ready.ensures h follows));
-      }
-  | then-at-noted+else-noted-at w ↦
-      let x = get_or c.args.touched.now c.loop-i.i 0 in
-      record {
-        len = omega (arith, c.if-at-noted.auto.noted, c.loop-i.invariant.len);
-        room = search rules;
-        seen = λ h follows y lt.
-            seen-as (space_after h) _ _ c.if-at-noted.noted _ c.if-at-noted.changed.items _ _ y w.noted-is (ap (λ v. v.items) w.changed-is)
-            (take_more c.args.touched.now c.loop-i.i 0 c.loop-i-test.true)
-            (seen-same (space_after h) c.args.noted.now c.loop-i.noted c.loop-i.changed.items (take c.loop-i.i c.args.touched.now) x y (c.loop-i.invariant.seen h follows y lt)
-            (λ e. subst (λ v. get_or c.loop-i.noted v false ≡ is_ready (space_after h) v) e (agree _ _ w.if-noted-at.false ∙ w.is_ready-ready.ensures h follows)));
-      }
-  | else-at-noted w ↦
-      let x = get_or c.args.touched.now c.loop-i.i 0 in
-      record {
-        len = omega (arith, c.if-at-noted.auto.noted, c.loop-i.invariant.len);
-        room = search rules;
-        seen = λ h follows y lt.
-            seen-as (space_after h) _ _ c.if-at-noted.noted _ c.if-at-noted.changed.items _ _ y w.noted-is (ap (λ v. v.items) w.changed-is)
-            (take_more c.args.touched.now c.loop-i.i 0 c.loop-i-test.true)
-            (seen-same (space_after h) c.args.noted.now c.loop-i.noted c.loop-i.changed.items (take c.loop-i.i c.args.touched.now) x y (c.loop-i.invariant.seen h follows y lt)
-            (λ e. absurd (omega (arith, w.if-at-noted.false, c.loop-i.invariant.len, lt, e))));
-      }
-]
+      let before = c.args.noted.now in
+      let done = take c.loop-i.i c.args.touched.now in
+      let more = take_more c.args.touched.now c.loop-i.i 0 c.loop-i-test.true in
+      let seen = c.loop-i.invariant.seen h follows y lt in
+      elim c.if-at-noted.branch [
+        | then-at-noted+then-noted-at w ↦
+            seen-as s before _ c.if-at-noted.noted _ c.if-at-noted.changed.items _ _ y w.noted-is (ap (λ v. v.items) w.changed-is ∙ w.push_reserved.ensures.items) more
+            (seen-other s before c.loop-i.noted c.loop-i.changed.items done x y seen w.is_ready-ready.result w.if-at-noted.true (differ _ _ w.if-noted-at.true) (λ e. w.is_ready-ready.ensures h follows))
+        | then-at-noted+else-noted-at w ↦
+            seen-as s before _ c.if-at-noted.noted _ c.if-at-noted.changed.items _ _ y w.noted-is (ap (λ v. v.items) w.changed-is) more
+            (seen-same s before c.loop-i.noted c.loop-i.changed.items done x y seen
+            (λ e. subst (λ v. get_or c.loop-i.noted v false ≡ is_ready s v) e (agree _ _ w.if-noted-at.false ∙ w.is_ready-ready.ensures h follows)))
+        | else-at-noted w ↦
+            seen-as s before _ c.if-at-noted.noted _ c.if-at-noted.changed.items _ _ y w.noted-is (ap (λ v. v.items) w.changed-is) more
+            (seen-same s before c.loop-i.noted c.loop-i.changed.items done x y seen (λ e. absurd (omega (arith, w.if-at-noted.false, c.loop-i.invariant.len, lt, e))))
+      ];
+}
 
 pub returns-clause-seen : goal.returns-clause-seen
 returns-clause-seen c = λ h follows y lt.
-    let inside : y < length c.args.noted.now = omega (arith, c.loop-i.invariant.len, lt) in
-    let all : take c.loop-i.i c.args.touched.now ≡ c.args.touched.now = take_all c.loop-i.i c.args.touched.now (omega arith) in
-    (subst (λ v. IsSeen (space_after h) c.args.noted.now c.loop-i.noted c.loop-i.changed.items v y) all (c.loop-i.invariant.seen h follows y inside)).is
+    let seen = c.loop-i.invariant.seen h follows y (omega (arith, c.loop-i.invariant.len, lt)) in
+    (seen-whole (space_after h) c.args.noted.now c.loop-i.noted c.loop-i.changed.items c.args.touched.now c.loop-i.i y (omega arith) seen).is
 
 pub returns-clause-noted : goal.returns-clause-noted
 returns-clause-noted c = λ h follows touched_only y lt.
     let inside : y < length c.args.noted.now = omega (arith, c.loop-i.invariant.len, lt) in
-    let all : take c.loop-i.i c.args.touched.now ≡ c.args.touched.now = take_all c.loop-i.i c.args.touched.now (omega arith) in
+    let seen = c.loop-i.invariant.seen h follows y inside in
     seen-all (space_after h) c.args.noted.now c.loop-i.noted c.loop-i.changed.items c.args.touched.now y
-    (subst (λ v. IsSeen (space_after h) c.args.noted.now c.loop-i.noted c.loop-i.changed.items v y) all (c.loop-i.invariant.seen h follows y inside)) (touched_only y inside)
+    (seen-whole (space_after h) c.args.noted.now c.loop-i.noted c.loop-i.changed.items c.args.touched.now c.loop-i.i y (omega arith) seen) (touched_only y inside)
 
 pub returns-clause-changed : goal.returns-clause-changed
 returns-clause-changed c = λ h follows y lt. (c.loop-i.invariant.seen h follows y lt).listed

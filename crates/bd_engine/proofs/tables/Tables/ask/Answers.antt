@@ -1,8 +1,8 @@
-use Rattle.std.proofs.Common.{◌≡◌, true, sym, ap, subst}
+use Rattle.std.proofs.Common.{◌≡◌, true, ap, subst}
 use Rattle.bd_space.specs.Outcomes.{Outcome, by_check}
 use Rattle.bd_space.specs.Names.{has_number_past_limit}
-use Rattle.bd_space.specs.Asking.{ask_step, ask}
-use Rattle.bd_engine.proofs.Accepting.{accepts, notes}
+use Rattle.bd_space.specs.Asking.{ask_step, ask_check, ask}
+use Rattle.bd_engine.proofs.Accepting.{checked-notes, checked-accepts}
 use Rattle.bd_engine.proofs.Keeping.{full-if}
 use Rattle.bd_engine.proofs.Meeting.{taken-step}
 use Rattle.bd_engine.proofs.tables.Tables.ask.Goals as goal
@@ -10,13 +10,14 @@ use Rattle.bd_engine.proofs.tables.Tables.ask.Goals as goal
 pub returns-in-Err : goal.returns-in-Err
 unfolding ask_step
 returns-in-Err c = taken-step _ _ _ _ _ (
-    notes _ _ _ _ (λ s h by. sym (ap (by_check s (λ o. ask s c.args.a.process.made o c.args.strong)) (c.in-Err.ensures s h.objects_stand h.own.manager_is))))
+    checked-notes _ _ (λ s o. ask s c.args.a.process.made o c.args.strong) (λ s. ask_check s c.args.a.process.made c.args.n c.args.strong) _
+    (λ s h. c.in-Err.ensures s h.objects_stand h.own.manager_is))
 
 pub returns-in-Ok-add_asked : goal.returns-in-Ok-add_asked
 unfolding ask_step
 returns-in-Ok-add_asked c = taken-step _ _ _ _ _ (
-    accepts _ c.reserve.new.self _ _ _ (λ s. ask s c.args.a.process.made c.in-Ok.o c.args.strong) c.reserve.ensures.stands (λ s h by. c.in-Ok-add_asked.ensures.stands s h by.tidy)
-    (λ s h by. sym (ap (by_check s (λ o. ask s c.args.a.process.made o c.args.strong)) (c.in-Ok.ensures s h.objects_stand h.own.manager_is))))
+    checked-accepts _ _ (λ s o. ask s c.args.a.process.made o c.args.strong) (λ s. ask_check s c.args.a.process.made c.args.n c.args.strong) _
+    (λ s h. c.in-Ok.ensures s h.objects_stand h.own.manager_is) _ _ c.reserve.ensures.stands (λ s h by. c.in-Ok-add_asked.ensures.stands s h by.tidy))
 
 pub returns-in-Err-add_asked : goal.returns-in-Err-add_asked
 unfolding ask_step
