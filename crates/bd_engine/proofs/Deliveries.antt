@@ -1,5 +1,5 @@
 -- How tables go on standing through the parts of a delivery.
-use Rattle.std.proofs.Common.{◌≡◌, ℕ, true, false, ◌+◌, ◌<◌, ◌≤◌, ◌&&◌, not, Bool, cond, List, ◌++◌, Option, take, drop, length, get_or, ap, sym, subst, ◌∙◌, arith, filter, map}
+use Rattle.std.proofs.Common.{◌≡◌, ℕ, true, ◌+◌, ◌<◌, ◌≤◌, ◌&&◌, not, Bool, cond, List, ◌++◌, Option, take, drop, length, get_or, ap, sym, subst, ◌∙◌, arith, filter, map}
 use Rattle.std.proofs.lemmas.List.{take_all}
 use Rattle.std.specs.List.{fold}
 use Rattle.bd_uapi.specs.declared.command.TransactionData.{TransactionData}

@@ -11,7 +11,6 @@ use Rattle.bd_space.specs.declared.step.Parcel.{Parcel}
 use Rattle.bd_space.specs.declared.space.Actor.{Actor}
 use Rattle.bd_space.specs.declared.space.Buffer.{Buffer}
 use Rattle.bd_space.specs.declared.space.Thread.{Thread}
-use Rattle.bd_space.specs.declared.space.Process.{Process}
 use Rattle.bd_space.specs.declared.space.Work.{Work}
 use Rattle.bd_space.specs.declared.space.TodoList.TheVariants.{OfThread}
 use Rattle.bd_space.specs.Words.{is_some_and}
@@ -19,7 +18,7 @@ use Rattle.bd_space.specs.Space.{Space, opening}
 use Rattle.bd_space.specs.declared.step.StepAnswer.{StepAnswer}
 use Rattle.bd_space.specs.declared.step.Entry.{Entry}
 use Rattle.bd_space.specs.Histories.{History, space_after, extended}
-use Rattle.bd_space.specs.Seats.{actor, process_in}
+use Rattle.bd_space.specs.Seats.{actor}
 use Rattle.bd_space.specs.Windows.{buffers_of}
 use Rattle.bd_space.specs.Returns.{buffer_in}
 use Rattle.bd_space.specs.Todo.{is_on, hands_out}

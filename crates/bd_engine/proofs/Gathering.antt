@@ -30,7 +30,7 @@ use Rattle.bd_laws.proofs.Leaving.{or-left, or-right}
 use Rattle.bd_nodes.specs.New.{HasAll}
 use Rattle.bd_calls.specs.Closing.{is_place_among}
 use Rattle.bd_engine.specs.declared.exit.Exit.{Exit}
-use Rattle.bd_engine.specs.Exits.{HasObject, HasFrame, Grows, HasWork, HasWorks, HasList, HasThread, HasThreads, HasProcess}
+use Rattle.bd_engine.specs.Exits.{HasObject, HasFrame, Grows, HasWork, HasList, HasThread, HasThreads, HasProcess}
 use Rattle.bd_engine.proofs.TakingItems.{one_left}
 
 -- ---- one after the other

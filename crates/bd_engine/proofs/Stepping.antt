@@ -1,7 +1,6 @@
 -- The steps of BC_TRANSACTION and BC_REPLY, by what was checked.
 use Rattle.std.proofs.Common.{◌≡◌, ℕ, ◌+◌, Bool, true, false, List, Option, Some, None, Result, Ok, Err, refl, ap, sym, subst, ◌∙◌}
 use Rattle.std.specs.Prelude.{◌&&◌, IfSome, option_and_then, option_map, if◌then◌else◌}
-use Rattle.std.proofs.lemmas.Option.{none-some}
 use Rattle.bd_uapi.specs.declared.command.TransactionData.{TransactionData}
 use Rattle.bd_uapi.specs.declared.command.Return.{Return}
 use Rattle.bd_uapi.specs.declared.fault.Cause.{Cause}
@@ -10,7 +9,6 @@ use Rattle.bd_uapi.specs.declared.command.Return.TheVariants.{FailedReply, Trans
 use Rattle.bd_space.specs.declared.step.ObjectId.{ObjectId}
 use Rattle.bd_space.specs.declared.step.Parcel.{Parcel}
 use Rattle.bd_space.specs.declared.space.Process.{Process}
-use Rattle.bd_space.specs.declared.space.Thread.{Thread}
 use Rattle.bd_space.specs.declared.space.Frame.{Frame}
 use Rattle.bd_space.specs.declared.space.WorkKind.{WorkKind}
 use Rattle.bd_space.specs.declared.space.Callee.{Callee}
@@ -19,7 +17,7 @@ use Rattle.bd_space.specs.declared.space.TodoList.TheVariants.{OfThread}
 use Rattle.bd_space.specs.declared.space.WorkKind.TheVariants.{Complete, Refusal, Reply, Verdict}
 use Rattle.bd_space.specs.Words.{found_or, unless, and_then}
 use Rattle.bd_space.specs.Space.{Space}
-use Rattle.bd_space.specs.Seats.{process_in, thread_in, actor, actor_of}
+use Rattle.bd_space.specs.Seats.{process_in, actor}
 use Rattle.bd_space.specs.Names.{names_go, has_number_past_limit, assign_numbers}
 use Rattle.bd_space.specs.Todo.{owe, tell_caller}
 use Rattle.bd_space.specs.Frames.{closed, served_innermost}
