@@ -6,9 +6,10 @@ use Rattle.bd_laws.proofs.words.Space.{Space, opening, step, History, history_of
 use Rattle.bd_engine.specs.declared.why.Why.{Why}
 use Rattle.bd_engine.specs.Refusals.{FullOnly}
 use Rattle.bd_audit.specs.declared.judging.AuditFault.{AuditFault}
-use Rattle.bd_audit.specs.Replays.{with_entry, beginning, Begins, IfUnlawful, fault_of, StopsAt}
+use Rattle.bd_audit.specs.Replays.{with_entry, beginning, IsEntryAt, Begins, IfUnlawful, fault_of, StopsAt}
 use Rattle.bd_laws.proofs.Tests.{both}
 use Rattle.std.proofs.lemmas.List.Folds.{list_all-append}
+use Rattle.std.proofs.lemmas.Option.{slice_get_within, get_or_from_slice_get}
 
 pub follows-front : (s : Space) (es fs : List Entry) → Follows s (es ++ fs) → Follows s es
 follows-front s [] fs h = tt
@@ -76,9 +77,6 @@ take-history n h k = history-front h.seats (take n h.entries) (drop n h.entries)
 pub front-begun : (n : ℕ) (h : History) (es : List Entry) → es ≡ h.entries → IsHistory (beginning n h) → IsHistory (record { seats = h.seats; entries = take n es })
 front-begun n h es same_es k = subst (λ xs. IsHistory (record { seats = h.seats; entries = take n xs })) (sym same_es) k
 
-pub front-lawful : (n : ℕ) (h : History) (es : List Entry) → es ≡ h.entries → IsHistory h → IsHistory (record { seats = h.seats; entries = take n es })
-front-lawful n h es same_es k = front-begun n h es same_es (take-history n h k)
-
 -- the entry at this place, one more than those before it
 pub one_more : (h : History) (i : ℕ) (e : Entry) → i < length h.entries → e ≡ get_or h.entries i e → with_entry (beginning i h) e ≡ beginning (i + 1) h
 one_more h i e lt is = ap (λ es. let k : History = record { seats = h.seats; entries = es } in k) (ap (λ x. take i h.entries ++ x ∷ []) is ∙ sym (take_more h.entries i e lt))
@@ -89,6 +87,10 @@ one-next h g i e es at_i same_es below found = search (arith, one_more)
 
 pub next-lawful : (h g : History) (i : ℕ) (e : Entry) (es : List Entry) → IsHistory h → g ≡ beginning i h → es ≡ h.entries → i < length es → e ≡ get_or es i e → IsHistory (with_entry g e)
 next-lawful h g i e es lawful at_i same_es below found = subst IsHistory (sym (one-next h g i e es at_i same_es below found)) (take-history (i + 1) h lawful)
+
+-- with the entry at a place
+pub entry-lawful : (h g : History) (i : ℕ) (e : Entry) → IsHistory h → IsEntryAt h i g e → IsHistory (with_entry g e)
+entry-lawful h g i e lawful at = next-lawful h g i e h.entries lawful at.begins refl (slice_get_within h.entries i e at.stands) (sym (get_or_from_slice_get h.entries i e e at.stands))
 
 pub not-history : (f : AuditFault) (h g : History) (i : ℕ) (e : Entry) → g ≡ beginning i h → (es : List Entry) → es ≡ h.entries → i < length es → e ≡ get_or es i e
     → IfUnlawful f (λ at. IsHistory (with_entry g e) → ⊥) → IfUnlawful f (λ at. IsHistory h → ⊥)

@@ -1,6 +1,5 @@
 -- For the public search `call_of_reply`, and for no law: which reply a reading took, and which call a reply closed.
 use Rattle.bd_laws.proofs.words.Logic.{◌≡◌, ◌≤◌, ◌<◌, ◌==◌, ℕ, Bool, true, false, List, [], ◌∷◌, length, get_or, Option, Some, None, ◌⊎◌, inl, inr, Result, ap, sym, subst, ◌∙◌, arith, MatchResult, slice_get, option_eq, option_map, option_and_then, eqb-true, eq-eqb}
-use Rattle.std.proofs.lemmas.Option.{slice_get-get_or, slice_get_past}
 use Rattle.bd_laws.proofs.words.Types.{Fault, NoMemory, Read, Entry}
 use Rattle.bd_laws.proofs.words.Space.{Space, opening, serves, History, next, space_after}
 use Rattle.bd_engine.specs.Looks.{first_reply, innermost_of}
@@ -48,12 +47,6 @@ module _ (g k : History) (e : Entry) (limit : ℕ) (reading : e.step ≡ Read li
   ]
 
 -- ---- the entry at a place
-
-pub got : (h : History) (es : List Entry) (i : ℕ) (e : Entry) → es ≡ h.entries → i < length es → e ≡ get_or es i e → slice_get h.entries i ≡ Some e
-got h es i e same_es lt is = subst (λ xs. slice_get xs i ≡ Some e) same_es (slice_get-get_or es i e lt ∙ ap (λ y. Some y) (sym is))
-
-pub got-none : (h : History) (es : List Entry) (i : ℕ) → es ≡ h.entries → length es ≤ i → slice_get h.entries i ≡ None
-got-none h es i same_es le = subst (λ xs. slice_get xs i ≡ None) same_es (slice_get_past es i le)
 
 -- the same answer by another name
 pub by_name : (r : Result (Option ℕ) Fault) (x y : Option ℕ) → x ≡ y → MatchResult r (λ v. v ≡ x) (λ f. f ≡ NoMemory) → MatchResult r (λ v. v ≡ y) (λ f. f ≡ NoMemory)

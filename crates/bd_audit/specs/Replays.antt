@@ -1,5 +1,6 @@
 -- Where a record stops being a history.
-use Rattle.std.specs.Prelude.{ℕ, ◌+◌, ◌<◌, ◌≡◌, [], ◌∷◌, ◌++◌, length, take}
+use Rattle.std.specs.Prelude.{ℕ, ◌+◌, ◌<◌, ◌≡◌, [], ◌∷◌, ◌++◌, length, take, Some}
+use Rattle.std.specs.List.{slice_get}
 use Rattle.bd_space.specs.declared.step.Entry.{Entry}
 use Rattle.bd_space.specs.Histories.{History, IsHistory, history_of, BeginsWith}
 use Rattle.bd_engine.specs.declared.why.Why.{Why}
@@ -10,6 +11,11 @@ use Rattle.bd_audit.specs.declared.judging.AuditFault.TheVariants.{Unlawful, NoM
 -- its first n entries
 abbrev pub beginning : ℕ → History → History
 beginning n h = history_of h.seats (take n h.entries)
+
+-- the entry at this place, and what the entries before it are
+pub record IsEntryAt (h : History) (place : ℕ) (before : History) (e : Entry) : Type 0 where
+  pub begins : before ≡ beginning place h
+  pub stands : slice_get h.entries place ≡ Some e
 
 -- the entries before this place are a history, and with its entry they aren't
 pub record StopsAt (h : History) (at : ℕ) : Type 0 where

@@ -7,7 +7,7 @@ ghost use Rattle.bd_space.specs.Histories.{IsHistory, history_in};
 ghost use Rattle.bd_audit.specs.Given as spec;
 ghost use Rattle.bd_audit.specs.Replays.{beginning};
 
-use crate::playing::played_before;
+use crate::playing::entry_at;
 use bd_engine::{Engine, Why};
 use bd_space::{Entry, Record, StepAnswer};
 use bd_uapi::Fault;
@@ -48,11 +48,8 @@ pub fn given_at(alloc: Global, record: &Record, place: u32) -> Result<Given, Fau
     ensures given { IfOk result (spec.IsGivenAt (history_in «record».now) place) }
     ensures fault { IfErr result (λ f. f ≡ faults.NoMemory) }
 {
-    match record.entries.as_slice().get(place as usize) {
-        Some(entry) => {
-            let engine = played_before(alloc, record, place as usize)?;
-            given_to(engine, entry)
-        }
+    match entry_at(alloc, record, place)? {
+        Some((engine, entry)) => given_to(engine, entry),
         None => Ok(Given::NoStep),
     }
 }

@@ -1,10 +1,10 @@
 //! The steps of a history, made again.
 
-ghost use Rattle.std.specs.Prelude.{◌≡◌, ◌≤◌, length, IfOk, IfErr, MatchResult};
+ghost use Rattle.std.specs.{Prelude.{◌≡◌, ◌≤◌, length, None, IfOk, IfErr, MatchOption, MatchResult}, List.{slice_get}};
 ghost use Rattle.bd_uapi.specs.Limits.{IsSeats};
 ghost use Rattle.bd_uapi.specs.declared.fault.Fault.TheVariants as faults;
 ghost use Rattle.bd_space.specs.Histories.{IsHistory, history_in};
-ghost use Rattle.bd_audit.specs.Replays.{with_entry, beginning};
+ghost use Rattle.bd_audit.specs.Replays.{with_entry, beginning, IsEntryAt};
 
 use crate::judging::{AuditFault, accept};
 use bd_engine::Engine;
@@ -50,4 +50,26 @@ pub fn played_before(alloc: Global, record: &Record, place: usize) -> Result<Eng
     ensures fault { IfErr result (λ f. f ≡ faults.NoMemory) }
 {
     played(alloc, record.seats, &record.entries.as_slice()[..place])
+}
+
+/// The engine before the entry at a place and that entry, where the entries before it are a history; None past the last. The
+/// only fault is `NoMemory`.
+pub(crate) fn entry_at(
+    alloc: Global,
+    record: &Record,
+    place: u32,
+) -> Result<Option<(Engine, &Entry)>, Fault>
+    requires seats { IsSeats «record».now.seats }
+    requires before { IsHistory (beginning place (history_in «record».now)) }
+    ensures found { IfOk result (λ found. MatchOption found (slice_get «record».now.entries place ≡ None)
+        (λ x. IsEntryAt (history_in «record».now) place x.0 x.1.now)) }
+    ensures fault { IfErr result (λ f. f ≡ faults.NoMemory) }
+{
+    match record.entries.as_slice().get(place as usize) {
+        Some(entry) => {
+            let engine = played_before(alloc, record, place as usize)?;
+            Ok(Some((engine, entry)))
+        }
+        None => Ok(None),
+    }
 }

@@ -7,7 +7,7 @@ ghost use Rattle.bd_space.specs.Histories.{IsHistory, space_after, history_in};
 ghost use Rattle.bd_audit.specs.Replays.{with_entry, beginning};
 ghost use Rattle.bd_audit.specs.Replies as spec;
 
-use crate::playing::{advance, played};
+use crate::playing::{advance, entry_at, played_before};
 use bd_engine::Engine;
 use bd_space::{Entry, Record, Step};
 use bd_uapi::Fault;
@@ -22,7 +22,7 @@ pub fn played_to(alloc: Global, record: &Record, place: usize) -> Result<Engine,
     ensures ok { IfOk result (λ e. e ≡ beginning place (history_in «record».now)) }
     ensures fault { IfErr result (λ f. f ≡ faults.NoMemory) }
 {
-    played(alloc, record.seats, &record.entries.as_slice()[..place])
+    played_before(alloc, record, place)
 }
 
 // The reply that the entry's reading takes: the first on the thread's list, if it is not the first any more after it.
@@ -50,11 +50,8 @@ fn reply_taken_at(alloc: Global, record: &Record, place: u32) -> Result<Option<u
     requires lawful { IsHistory (history_in «record».now) }
     ensures { MatchResult result (λ r. r ≡ spec.reply_taken_at (history_in «record».now) place) (λ f. f ≡ faults.NoMemory) }
 {
-    match record.entries.as_slice().get(place as usize) {
-        Some(entry) => {
-            let mut engine = played_to(alloc, record, place as usize)?;
-            take_reply(&mut engine, entry)
-        }
+    match entry_at(alloc, record, place)? {
+        Some((mut engine, entry)) => take_reply(&mut engine, entry),
         None => Ok(None),
     }
 }
@@ -65,14 +62,11 @@ fn call_closed_at(alloc: Global, record: &Record, place: u32) -> Result<Option<u
     requires lawful { IsHistory (history_in «record».now) }
     ensures { MatchResult result (λ r. r ≡ spec.call_closed_at (history_in «record».now) place) (λ f. f ≡ faults.NoMemory) }
 {
-    match record.entries.as_slice().get(place as usize) {
-        Some(entry) => {
-            let engine = played_to(alloc, record, place as usize)?;
-            match engine.innermost(entry.seat) {
-                Some((made, _)) => Ok(Some(made)),
-                None => Ok(None),
-            }
-        }
+    match entry_at(alloc, record, place)? {
+        Some((engine, entry)) => match engine.innermost(entry.seat) {
+            Some((made, _)) => Ok(Some(made)),
+            None => Ok(None),
+        },
         None => Ok(None),
     }
 }

@@ -1,6 +1,6 @@
 use Rattle.bd_space.specs.Histories.{history_in}
-use Rattle.bd_audit.proofs.Beginnings.{front-lawful}
+use Rattle.bd_audit.proofs.Beginnings.{take-history}
 use Rattle.bd_audit.proofs.replies.played_to.Goals as goal
 
-pub played-requires-clause-lawful : goal.played-requires-clause-lawful
-played-requires-clause-lawful c = front-lawful c.args.place (history_in c.args.record.now) c.as_slice.result.now c.as_slice.ensures c.requires.lawful
+pub played_before-requires-clause-before : goal.played_before-requires-clause-before
+played_before-requires-clause-before c = take-history c.args.place (history_in c.args.record.now) c.requires.lawful

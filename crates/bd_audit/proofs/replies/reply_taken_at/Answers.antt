@@ -1,27 +1,24 @@
 use Rattle.bd_space.specs.Histories.{space_after, history_in}
 use Rattle.bd_audit.specs.Replies.{reply_taken, reply_taken_at}
-use Rattle.bd_audit.proofs.Beginnings.{next-lawful}
-use Rattle.bd_audit.proofs.ReplyCalls.{got, got-none, by_name, there-taken, past-taken}
+use Rattle.bd_audit.proofs.Beginnings.{take-history, entry-lawful}
+use Rattle.bd_audit.proofs.ReplyCalls.{by_name, there-taken, past-taken}
 use Rattle.bd_audit.proofs.replies.reply_taken_at.Goals as goal
+
+pub entry_at-requires-clause-before : goal.entry_at-requires-clause-before
+entry_at-requires-clause-before c = take-history c.args.place (history_in c.args.record.now) c.requires.lawful
 
 pub take_reply-requires : goal.take_reply-requires
 take_reply-requires c =
-    let found = c.in-Some.ensures.lookup in
-    record {
-      lawful = next-lawful (history_in c.args.record.now) c.in_ok-engine-in-Some.engine c.args.place c.in-Some.entry.now c.as_slice.result.now c.requires.lawful c.in_ok-engine-in-Some.ensures.ok
-          c.as_slice.ensures found.3.0 found.1;
-    }
+    let at = rw c.in-Some.is at c.in_ok-engine.ensures.found in
+    record { lawful = entry-lawful (history_in c.args.record.now) c.in-Some.engine c.args.place c.in-Some.entry.now c.requires.lawful at }
 
-pub returns-in_ok-engine-in-Some : goal.returns-in_ok-engine-in-Some
-returns-in_ok-engine-in-Some c =
+pub returns-in-Some : goal.returns-in-Some
+returns-in-Some c =
     let h = history_in c.args.record.now in
-    let engine = c.in_ok-engine-in-Some.engine in
-    let found = c.in-Some.ensures.lookup in
+    let engine = c.in-Some.engine in
+    let at = rw c.in-Some.is at c.in_ok-engine.ensures.found in
     by_name c.take_reply.result (reply_taken (space_after engine) c.in-Some.entry.now) (reply_taken_at h c.args.place)
-    (there-taken h engine c.args.place c.in-Some.entry.now c.in_ok-engine-in-Some.ensures.ok
-    (got h c.as_slice.result.now c.args.place c.in-Some.entry.now c.as_slice.ensures found.3.0 found.1)) c.take_reply.ensures
+    (there-taken h engine c.args.place c.in-Some.entry.now at.begins at.stands) c.take_reply.ensures
 
 pub returns-in-None : goal.returns-in-None
-returns-in-None c =
-    let h = history_in c.args.record.now in
-    past-taken h c.args.place (got-none h c.as_slice.result.now c.args.place c.as_slice.ensures c.in-None.ensures.lookup.3)
+returns-in-None c = past-taken (history_in c.args.record.now) c.args.place (rw c.in-None.is at c.in_ok-engine.ensures.found)
