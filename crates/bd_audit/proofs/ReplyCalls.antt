@@ -1,5 +1,5 @@
 -- For the public search `call_of_reply`, and for no law: which reply a reading took, and which call a reply closed.
-use Rattle.bd_laws.proofs.words.Logic.{◌≡◌, ◌≤◌, ◌<◌, ◌==◌, ℕ, Bool, true, false, List, [], ◌∷◌, length, get_or, Option, Some, None, ◌⊎◌, inl, inr, Result, ap, sym, subst, ◌∙◌, arith, MatchResult, slice_get, option_eq, option_map, option_and_then, eqb-true, eq-eqb}
+use Rattle.bd_laws.proofs.words.Logic.{◌≡◌, ◌==◌, ℕ, Bool, true, false, [], ◌∷◌, Option, Some, None, inl, inr, Result, ap, sym, subst, ◌∙◌, arith, MatchResult, slice_get, option_eq, option_map, option_and_then, eqb-true, eq-eqb}
 use Rattle.bd_laws.proofs.words.Types.{Fault, NoMemory, Read, Entry}
 use Rattle.bd_laws.proofs.words.Space.{Space, opening, serves, History, next, space_after}
 use Rattle.bd_engine.specs.Looks.{first_reply, innermost_of}

@@ -1,5 +1,5 @@
 -- For NamesHaveGiftChains: each name has a gift chain.
-use Rattle.bd_laws.proofs.words.Logic.{◌≡◌, ℕ, suc, ◌+◌, ◌<◌, ◌≤◌, ◌==◌, Bool, true, cond, ◌&&◌, List, [], ◌∷◌, ◌++◌, Option, Some, Ok, ◌⊎◌, inl, inr, refl, ap, sym, subst, ◌∙◌, length, arith, length-append, append_assoc, append-nil, eq-eqb}
+use Rattle.bd_laws.proofs.words.Logic.{◌≡◌, ℕ, ◌+◌, ◌<◌, ◌≤◌, ◌==◌, Bool, true, cond, ◌&&◌, List, [], ◌∷◌, ◌++◌, Option, Some, Ok, ◌⊎◌, inl, inr, refl, ap, sym, subst, ◌∙◌, length, arith, length-append, append_assoc, append-nil, eq-eqb}
 use Rattle.bd_laws.proofs.words.Types.{ObjectId, Entry, Parcel, Command, Accepted, Actor, Object, Name, Holder, Carried}
 use Rattle.bd_laws.proofs.words.Space.{same, is_some_and, Space, opening, actor, owned_in, named, ask_check, ask_step, command_step, change, counted, History, after, next, space_after}
 use Rattle.bd_uapi.specs.declared.command.Command.TheVariants as bc

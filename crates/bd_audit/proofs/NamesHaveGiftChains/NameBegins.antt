@@ -1,6 +1,6 @@
 -- For the public search `gift_chain`: the step at which a name begins, and to whom a step gives. GoneUnheld uses one lemma.
 use Rattle.bd_laws.proofs.words.Logic.{◌≡◌, ℕ, ◌<◌, ◌==◌, Bool, true, false, ◌&&◌, not, List, [], ◌∷◌, ◌++◌, Option, Some, None, inl, inr, refl, ap, sym, subst, ◌∙◌, length, find, arith, length-append, is_some, option_map, option_and_then, option_or, eqb-true, eq-eqb}
-use Rattle.bd_laws.proofs.words.Types.{ObjectId, Entry, Process, Thread, Actor, Name, Buffer, Carried}
+use Rattle.bd_laws.proofs.words.Types.{ObjectId, Entry, Thread, Actor, Name, Buffer, Carried}
 use Rattle.bd_laws.proofs.words.Space.{same, when, Space, opening, actor, number_in, named, is_made_at, buffer_in, change, counted, History, after, next, space_after}
 use Rattle.bd_engine.specs.Looks.{knows, process_of}
 use Rattle.bd_laws.proofs.words.Laws.{In, IsTidy}

@@ -1,6 +1,6 @@
 -- For OnlyOwnersHear: a Notice stands where its owner's threads read it, through work items, transactions and replies.
-use Rattle.bd_laws.proofs.words.Logic.{◌≡◌, ℕ, ◌==◌, Bool, true, false, cond, List, ◌++◌, Option, Some, None, Ok, inl, inr, refl, ap, sym, subst, ◌∙◌, filter, arith, eqb-true}
-use Rattle.bd_laws.proofs.words.Types.{TransactionData, ObjectId, Parcel, Process, Thread, Object, Frame, Actor, Item, Work, WorkKind, TodoList, OfThread, OfProcess, is_own}
+use Rattle.bd_laws.proofs.words.Logic.{◌≡◌, ℕ, Bool, true, false, cond, List, ◌++◌, Option, Some, None, Ok, inl, inr, refl, ap, sym, subst, ◌∙◌, filter, arith}
+use Rattle.bd_laws.proofs.words.Types.{TransactionData, ObjectId, Parcel, Thread, Object, Frame, Actor, Item, Work, WorkKind, TodoList, OfThread, OfProcess, is_own}
 use Rattle.bd_laws.proofs.words.Space.{same, Space, thread_in, actor, object_in, assign_numbers, goes_to, closed, with_work, owe, notice_of, with_notice, Delivery, delivered, own_notices, add_buffer, known_by, refer, make_objects, buffer_of, add_notice, withdraw_notice, transaction_check, transacted, called, call_out, reply_check, replied, is_spam}
 use Rattle.bd_space.specs.declared.space.WorkKind.TheVariants as work
 use Rattle.bd_laws.proofs.words.Laws.{In, Pairs, Here, Differ, KeptBefore}

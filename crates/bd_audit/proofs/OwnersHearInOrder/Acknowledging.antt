@@ -4,7 +4,7 @@ use Rattle.bd_laws.proofs.words.Types.{DeadReply, ObjectId, Process, Actor, Obje
 use Rattle.bd_laws.proofs.words.Space.{same, without_first, owe, ripen, follow, Space, actor, lives_in, is_shaking, is_handshake, same_strength, closed, completed, is_own_with, done_check, acknowledge}
 use Rattle.bd_space.specs.declared.space.WorkKind.TheVariants as work
 use Rattle.bd_laws.proofs.words.Laws.{In, Before}
-use Rattle.bd_laws.proofs.Lists.{without-in, any-in, find-in}
+use Rattle.bd_laws.proofs.Lists.{without-in, any-in}
 use Rattle.bd_laws.proofs.Tests.{and_then-ok, found-ok, unless-ok, when-none}
 use Rattle.bd_laws.proofs.Machine.Adding.{told-keeps}
 use Rattle.bd_laws.proofs.Machine.Settled.{settle-keeps}

@@ -1,12 +1,12 @@
 -- For RepliesAreHandedOut and RepliesReachTheirCallers: each reply that is due has its buffer, through transactions and
 -- replies.
-use Rattle.bd_laws.proofs.words.Logic.{◌≡◌, ℕ, ◌==◌, Bool, true, false, cond, List, [], ◌∷◌, ◌++◌, Option, Some, None, Ok, inl, inr, refl, ap, sym, subst, ◌∙◌, arith, eqb-true}
+use Rattle.bd_laws.proofs.words.Logic.{◌≡◌, ℕ, Bool, true, false, cond, List, [], ◌∷◌, ◌++◌, Option, Some, None, Ok, inl, inr, refl, ap, sym, subst, ◌∙◌, arith}
 use Rattle.bd_laws.proofs.words.Types.{TransactionData, Parcel, Process, Thread, Buffer, Frame, Turn, Work, Actor, TodoList, OfThread, OfProcess, WorkKind}
 use Rattle.bd_laws.proofs.words.Space.{Space, actor, turn_of, turns_of, is_ripe, ripened, ripen, with_work, owe, hands_out, assign_numbers, closed, goes_to, Delivery, delivered, own_notices, add_buffer, known_by, refer, make_objects, buffer_of, transacted, called, call_out, reply_check, replied}
 use Rattle.bd_space.specs.declared.space.WorkKind.TheVariants as work
 use Rattle.bd_links.specs.TodoList.{reply_of}
 use Rattle.bd_laws.proofs.words.Laws.{In, IsInTurn}
-use Rattle.bd_laws.proofs.Lists.{in-left, in-last, in-push, in-filter_map, find-in}
+use Rattle.bd_laws.proofs.Lists.{in-left, in-last, in-push, in-filter_map}
 use Rattle.bd_laws.proofs.Checks.{actor-acts, reply-checked}
 use Rattle.bd_laws.proofs.IsInTurn.OneWay.{Less, owe-less, sent-due}
 use Rattle.bd_laws.proofs.Machine.Fields.{closed-same, closed-steps, closed-threads, owe-buffers, sent-steps, sent-threads, owe-threads}

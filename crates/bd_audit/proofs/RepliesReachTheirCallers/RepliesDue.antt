@@ -1,6 +1,6 @@
 -- For RepliesReachTheirCallers, RepliesAnswerTheLatestOpenCall and the search `call_of_reply`: the replies that are due,
 -- each on a thread's list, and none with another item's identity. For that, what frames and replies a step makes.
-use Rattle.bd_laws.proofs.words.Logic.{◌≡◌, ℕ, suc, Bool, true, false, List, Some, ◌⊎◌, inl, inr, refl, ap, sym, ◌∙◌, arith, None}
+use Rattle.bd_laws.proofs.words.Logic.{◌≡◌, ℕ, Bool, true, false, List, Some, ◌⊎◌, inl, inr, refl, ap, sym, ◌∙◌, arith, None}
 use Rattle.bd_laws.proofs.words.Types.{TransactionData, Step, Entry, Object, Process, Reference, Frame, Work, Actor, TodoList, OfThread, WorkKind, ObjectId}
 use Rattle.bd_laws.proofs.words.Space.{Space, opening, with_work, owe, goes_to, Delivery, transacted, called, call_out, replied, read_by, change, counted, History, next, space_after, notice_of, death_of, wants_notice, object_in}
 use Rattle.bd_space.specs.declared.space.WorkKind.TheVariants as work

@@ -1,13 +1,13 @@
 -- For RepliesReachTheirCallers, and by it RepliesAnswerTheLatestOpenCall: the past of frames and of replies that are due:
 -- what they have behind them, and one frame or reply more.
-use Rattle.bd_laws.proofs.words.Logic.{◌≡◌, ℕ, ◌<◌, ◌==◌, List, [], ◌∷◌, ◌++◌, length, Option, Some, Ok, inl, inr, refl, ap, sym, subst, ◌∙◌, append_assoc, length-append, arith, option_map, eqb-true}
+use Rattle.bd_laws.proofs.words.Logic.{◌≡◌, ℕ, ◌<◌, List, [], ◌∷◌, ◌++◌, length, Option, Some, Ok, inl, inr, refl, ap, sym, subst, ◌∙◌, append_assoc, length-append, arith, option_map}
 use Rattle.bd_laws.proofs.words.Types.{TransactionData, Parcel, Command, Accepted, Entry, Thread, Work, Frame, Actor, Serving, OfThread}
 use Rattle.bd_laws.proofs.words.Space.{Space, opening, actor, owe, goes_to, served_innermost, Delivery, completed, transaction_step, transaction_check, called, call_out, reply_step, reply_check, replied, command_step, change, after}
 use Rattle.bd_uapi.specs.declared.command.Command.TheVariants as bc
 use Rattle.bd_space.specs.declared.space.WorkKind.TheVariants as work
 use Rattle.bd_links.specs.TodoList.{reply_of}
 use Rattle.bd_laws.specs.Lists.{In}
-use Rattle.bd_laws.proofs.Lists.{in-push, find-in}
+use Rattle.bd_laws.proofs.Lists.{in-push}
 use Rattle.bd_laws.proofs.Checks.{actor-lives, actor-acts}
 use Rattle.bd_audit.specs.Replies.{thread_made, Calls, TakesCall, AnswersCall, At}
 use Rattle.bd_audit.proofs.RepliesReachTheirCallers.Quiet.{Quiet, with_work-quiet}

@@ -1,6 +1,6 @@
 -- For the public search `oneway_turns`, and for no law: a step changes no turn that has ended, and none after the first that
 -- hasn't ended then.
-use Rattle.bd_laws.proofs.words.Logic.{◌≡◌, ℕ, ◌+◌, zero, suc, ◌<◌, Bool, true, false, not, List, [], ◌∷◌, ◌++◌, Option, Some, None, inl, inr, refl, ap, sym, subst, ◌∙◌, map, length, take, drop, set, get_or, add-one, arith, list_all, filter_map, is_some, take-append-drop, map-append, list_all-map, list_all_more}
+use Rattle.bd_laws.proofs.words.Logic.{◌≡◌, ℕ, ◌+◌, zero, suc, ◌<◌, Bool, true, false, not, List, [], ◌∷◌, ◌++◌, Option, None, inl, inr, refl, ap, sym, subst, ◌∙◌, map, length, take, drop, set, get_or, add-one, arith, list_all, filter_map, is_some, take-append-drop, map-append, list_all-map, list_all_more}
 use Rattle.bd_laws.proofs.words.Types.{ObjectId, Entry}
 use Rattle.bd_laws.proofs.words.Space.{Space, History, space_after}
 use Rattle.bd_laws.specs.Lists.{In, Pairs}
