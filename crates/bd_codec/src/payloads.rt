@@ -1,6 +1,7 @@
 //! The payloads of commands and returns, read behind a code.
 
-ghost use Rattle.std.specs.Prelude.{◌≡◌, ◌≤◌, ◌+◌, length, Ok};
+ghost use Rattle.std.specs.Prelude.{◌≡◌, ◌≤◌, ◌<◌, ◌+◌, length, Ok, OnOk, IfErr};
+ghost use Rattle.bd_uapi.specs.declared.fault.Fault.TheVariants.{ShortCommand};
 ghost use Rattle.bd_uapi.specs.Bytes.{word_at, long_at};
 ghost use Rattle.bd_codec.specs.Reading.{record_at, sized, MakesSized};
 
@@ -8,13 +9,22 @@ use bd_uapi::numbers::{u32_at, u64_at};
 use bd_uapi::{Fault, TransactionData, TransactionFlags};
 use bitflags::Flags;
 
+// Whether the bytes are enough for a spelling of this size.
+fn enough(bytes: &[u8], size: usize) -> Result<(), Fault>
+    ensures ok { OnOk result (size ≤ length bytes.now) }
+    ensures err { IfErr result (λ f. (length bytes.now < size) × (f ≡ ShortCommand)) }
+{
+    if bytes.len() < size {
+        return Err(Fault::ShortCommand);
+    }
+    Ok(())
+}
+
 // The code.
 pub fn code(bytes: &[u8]) -> Result<u32, Fault>
     ensures { result ≡ sized 4 bytes.now (word_at 0 bytes.now) }
 {
-    if bytes.len() < 4 {
-        return Err(Fault::ShortCommand);
-    }
+    enough(bytes, 4)?;
     Ok(u32_at(bytes, 0))
 }
 
@@ -52,9 +62,7 @@ pub fn record<T, F: FnOnce(TransactionData) -> T>(
     requires { F.IsAlwaysCallable make }
     ensures { MakesSized 68 bytes.now (F.post make (record_at 4 bytes.now)) result }
 {
-    if bytes.len() < 68 {
-        return Err(Fault::ShortCommand);
-    }
+    enough(bytes, 68)?;
     Ok((make(record_of(bytes, 4)), 68))
 }
 
@@ -62,9 +70,7 @@ pub fn handle<T, F: FnOnce(u32) -> T>(bytes: &[u8], make: F) -> Result<(T, usize
     requires { F.IsAlwaysCallable make }
     ensures { MakesSized 8 bytes.now (F.post make (word_at 4 bytes.now)) result }
 {
-    if bytes.len() < 8 {
-        return Err(Fault::ShortCommand);
-    }
+    enough(bytes, 8)?;
     Ok((make(u32_at(bytes, 4)), 8))
 }
 
@@ -72,9 +78,7 @@ pub fn pointer<T, F: FnOnce(u64) -> T>(bytes: &[u8], make: F) -> Result<(T, usiz
     requires { F.IsAlwaysCallable make }
     ensures { MakesSized 12 bytes.now (F.post make (long_at 4 bytes.now)) result }
 {
-    if bytes.len() < 12 {
-        return Err(Fault::ShortCommand);
-    }
+    enough(bytes, 12)?;
     Ok((make(u64_at(bytes, 4)), 12))
 }
 
@@ -85,9 +89,7 @@ pub fn pointer_and_cookie<T, F: FnOnce(u64, u64) -> T>(
     requires { F.IsAlwaysCallable make }
     ensures { MakesSized 20 bytes.now (F.post make (long_at 4 bytes.now) (long_at 12 bytes.now)) result }
 {
-    if bytes.len() < 20 {
-        return Err(Fault::ShortCommand);
-    }
+    enough(bytes, 20)?;
     Ok((make(u64_at(bytes, 4), u64_at(bytes, 12)), 20))
 }
 
@@ -98,8 +100,6 @@ pub fn handle_and_cookie<T, F: FnOnce(u32, u64) -> T>(
     requires { F.IsAlwaysCallable make }
     ensures { MakesSized 16 bytes.now (F.post make (word_at 4 bytes.now) (long_at 8 bytes.now)) result }
 {
-    if bytes.len() < 16 {
-        return Err(Fault::ShortCommand);
-    }
+    enough(bytes, 16)?;
     Ok((make(u32_at(bytes, 4), u64_at(bytes, 8)), 16))
 }
