@@ -1,5 +1,5 @@
 -- Of what is told of a space.
-use Rattle.std.specs.Prelude.{◌≡◌, ⊤, ℕ, ◌+◌, Bool, true, false, not, List, Option, Some, None, is_some}
+use Rattle.std.specs.Prelude.{◌≡◌, ⊤, ℕ, ◌+◌, Bool, true, false, not, List, map, Option, Some, None, is_some}
 use Rattle.std.specs.Option.{option_map}
 use Rattle.bd_space.specs.declared.step.Entry.{Entry}
 use Rattle.bd_space.specs.declared.step.ObjectId.{ObjectId}
@@ -13,7 +13,7 @@ use Rattle.bd_space.specs.declared.space.WorkKind.TheVariants as work
 use Rattle.bd_space.specs.Space.{Space}
 use Rattle.bd_space.specs.Names.{strongly_named}
 use Rattle.bd_space.specs.Seats.{process_in}
-use Rattle.bd_engine.specs.Looks.{has_asked, innermost_of}
+use Rattle.bd_engine.specs.Looks.{carried, has_asked, innermost_of}
 use Rattle.bd_state.specs.declared.buffers.BufferState.{BufferState}
 use Rattle.bd_state.specs.declared.death_notifications.DeathState.{DeathState}
 use Rattle.bd_state.specs.declared.handles.HandleState.{HandleState}
@@ -54,6 +54,7 @@ pub record IsOfBuffer (s : Space) (b : Buffer) (t : BufferState) : Type 0 where
   pub size : t.size ≡ b.size
   pub made : t.made ≡ b.made
   pub target : t.target ≡ option_map object_text b.target
+  pub carries : t.carries.items ≡ map object_text (carried s b.made)
   pub one_way : t.one_way ≡ b.one_way
   pub unread : t.unread ≡ not b.handed
 

@@ -1,8 +1,9 @@
 //! The buffers in the window of a process.
 
-ghost use Rattle.std.specs.Prelude.{◌≡◌, IfOk};
+ghost use Rattle.std.specs.Prelude.{◌≡◌, map, IfOk};
 ghost use Rattle.bd_space.specs.Histories.{space_after};
-ghost use Rattle.bd_state.specs.States.{IsOfBuffer};
+ghost use Rattle.bd_engine.specs.Looks.{carried};
+ghost use Rattle.bd_state.specs.States.{IsOfBuffer, object_text};
 
 use crate::lists::{write_each, write_mark};
 use crate::texts::{ObjectText, Wide};
@@ -59,12 +60,13 @@ impl fmt::Display for BufferState {
 }
 
 // The objects that the buffer made at a place carries.
-fn objects_in(alloc: Global, engine: &Engine, made: u32) -> Result<Vec<ObjectText>, AllocError> {
-    let mut objects = Vec::new(alloc);
-    for object in engine.carried(made) {
-        objects.push(ObjectText(object))?;
-    }
-    Ok(objects)
+fn objects_in(alloc: Global, engine: &Engine, made: u32) -> Result<Vec<ObjectText>, AllocError>
+    ensures { IfOk result (λ v. v.items ≡ map object_text (carried (space_after engine.now) made)) }
+{
+    engine
+        .carried(made)
+        .map(|object| ObjectText(object))
+        .collect::<Vec<ObjectText>>(alloc)
 }
 
 /// Where the buffers in the window of a process were made, in order.
