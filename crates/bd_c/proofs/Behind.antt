@@ -10,7 +10,7 @@ use Rattle.bd_c.specs.declared.held.Held.{Held}
 use Rattle.bd_c.specs.declared.seat.OwnedSeat.{OwnedSeat}
 use Rattle.bd_c.specs.declared.status.Status.TheVariants as status
 use Rattle.bd_space.specs.declared.step.Request.TheVariants.{Write}
-use Rattle.bd_c.specs.Behind.{Of, Over, IsDriver, IsSeat, driver_of, seat_of}
+use Rattle.bd_c.specs.Behind.{Of, Over, IsThere, IsDriver, IsSeat, driver_of, seat_of}
 use Rattle.bd_c.specs.Drivers.{IsOwn}
 use Rattle.bd_c.specs.Hosts.{IsRefusal}
 use Rattle.bd_c.specs.Lives.{IsLiveRefusal}
@@ -18,7 +18,7 @@ use Rattle.bd_c.specs.Seats.{Stays, OverSeat, AsksAt}
 use Rattle.bd_c.specs.Status.{refusal_of}
 
 -- what is of some kind is there
-pub there : (P : Held → Type 0) (h : Option Held) → IsSomeAnd h P → (x : Held) × (h ≡ Some x)
+pub there : (P : Held → Type 0) (h : Option Held) → IsSomeAnd h P → IsThere h
 there P None is = absurd is
 there P (Some x) is = (x, refl)
 
@@ -51,7 +51,7 @@ none_own : {T : Type 0} (m : Option T) → IsSomeAnd m (λ x. ⊥) → ⊥
 none_own None is = is
 none_own (Some x) is = is
 
-pub own_seat : (h s : Option Held) → IsOwn h s → (x : Held) × (s ≡ Some x)
+pub own_seat : (h s : Option Held) → IsOwn h s → IsThere s
 own_seat None s own = absurd own
 own_seat (Some v) None own = absurd (none_own (driver_of v) own)
 own_seat (Some v) (Some x) own = (x, refl)

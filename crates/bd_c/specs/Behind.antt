@@ -9,7 +9,11 @@ use Rattle.bd_c.specs.declared.seat.OwnedSeat.{OwnedSeat}
 use Rattle.bd_c.specs.declared.status.Status.{Status}
 use Rattle.bd_c.specs.declared.status.Status.TheVariants.{Done}
 
--- something of the kind is behind the handle, of which this is so
+-- something is behind the handle
+abbrev pub IsThere : Option Held → Type 0
+IsThere h = (x : Held) × (h ≡ Some x)
+
+-- something of the kind is, of which this is so
 abbrev pub Of : {T : Type 0} → (Held → Option T) → Option Held → (T → Type 0) → Type 0
 Of kind h P = IsSomeAnd h (λ v. IsSomeAnd (kind v) P)
 

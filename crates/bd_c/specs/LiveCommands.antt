@@ -24,14 +24,17 @@ IsCommandOf command c = IsCommand c × (command ≡ command_bytes c)
 abbrev pub IsStepOf : List ℕ → List ℕ → List ℕ → Step → Type 0
 IsStepOf command bytes offsets z = (c : Command) × IsCommandOf command c × (z ≡ step_of.Command c (parcel_given c bytes offsets))
 
+abbrev pub IsNoCommand : List ℕ → Type 0
+IsNoCommand command = (c : Command) → IsCommandOf command c → ⊥
+
 -- no command has these bytes, or there was no memory for a copy of its parcel
 abbrev pub IsNoStep : List ℕ → List ℕ → List ℕ → Status → Type 0
-IsNoStep command bytes offsets NoCommand = (c : Command) → IsCommandOf command c → ⊥
+IsNoStep command bytes offsets NoCommand = IsNoCommand command
 IsNoStep command bytes offsets NoMemory = (z : Step) × IsStepOf command bytes offsets z × HasParcel z
 IsNoStep command bytes offsets _ = ⊥
 
 -- the command's step was asked for, or there is no command, and nothing was done
 abbrev pub Commands : Option Held → Option Held → ℕ → List ℕ → List ℕ → List ℕ → Status → Told → Told → Type 0
 Commands h k seat command bytes offsets s a b =
-    ((s ≡ NoCommand) × ((c : Command) → IsCommandOf command c → ⊥) × (k ≡ h) × (b ≡ a))
+    ((s ≡ NoCommand) × IsNoCommand command × (k ≡ h) × (b ≡ a))
     ⊎ ((z : Step) × IsStepOf command bytes offsets z × StepsAt h k seat z a b s)

@@ -1,6 +1,6 @@
 //! What C calls of a driver.
-ghost use Rattle.std.specs.Prelude.{◌≡◌, Some, None};
-ghost use Rattle.bd_c.specs.{declared.held.Held.{Held}, Status.{Reports}, Behind.{Of, IsDriver, IsEnded, history_of}};
+ghost use Rattle.std.specs.Prelude.{◌≡◌, None};
+ghost use Rattle.bd_c.specs.{Status.{Reports}, Behind.{Of, IsThere, IsDriver, IsEnded, history_of}};
 ghost use Rattle.bd_c.specs.{Drivers.{IsOwn, OpensAt, HandsAt, ReturnsAt, Finishes}, Journals.{Journals, Judges}};
 
 use crate::handles::Handle;
@@ -99,7 +99,7 @@ pub extern "C" fn hullpippin_verdict(alloc: Global, journal: &[u8], verdict: &mu
 /// Lets go of what is behind a driver's handle, which then has nothing.
 #[unsafe(no_mangle)]
 pub extern "C" fn hullpippin_free_driver(alloc: Global, driver: &mut Handle)
-    requires some { (x : Held) × (driver.old.held ≡ Some x) }
+    requires some { IsThere driver.old.held }
     ensures { driver.new.held ≡ None }
 {
     drop(take(alloc, driver));
@@ -108,7 +108,7 @@ pub extern "C" fn hullpippin_free_driver(alloc: Global, driver: &mut Handle)
 /// Lets go of a seat. Its handle then has nothing.
 #[unsafe(no_mangle)]
 pub extern "C" fn hullpippin_free_seat(alloc: Global, seat: &mut Handle)
-    requires some { (x : Held) × (seat.old.held ≡ Some x) }
+    requires some { IsThere seat.old.held }
     ensures { seat.new.held ≡ None }
 {
     drop(take(alloc, seat));

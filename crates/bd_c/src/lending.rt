@@ -1,11 +1,11 @@
 //! What is behind a handle, lent to a call.
 ghost use Rattle.std.specs.{Prelude.{◌≡◌, Some}, Borrow.{sem}};
 ghost use Rattle.bd_space.specs.contracts.record.Record.{the_row as record_row};
-ghost use Rattle.bd_c.specs.{declared.held.Held.{Held}, declared.held.Held.TheVariants.{Driver, History, Live, Seat}};
+ghost use Rattle.bd_c.specs.declared.held.Held.TheVariants.{Driver, History, Live, Seat};
 ghost use Rattle.bd_c.specs.{contracts.held.Held.{the_row as held_row}, contracts.host.Host.{the_row as host_row}};
 ghost use Rattle.bd_c.specs.contracts.live.OwnedLive.{the_row as live_row};
 ghost use Rattle.bd_c.specs.contracts.seat.OwnedSeat.{the_row as seat_row};
-ghost use Rattle.bd_c.specs.{Behind.{IsDriver, IsEnded, IsLive, IsSeat}, Lending.{LendsAs}};
+ghost use Rattle.bd_c.specs.{Behind.{IsThere, IsDriver, IsEnded, IsLive, IsSeat}, Lending.{LendsAs}};
 
 use crate::handles::Handle;
 use crate::held::Held;
@@ -17,7 +17,7 @@ use bd_space::Record;
 impl Handle {
     /// What is behind it, whatever that is.
     pub(crate) fn held(&mut self) -> &mut Held
-        requires { (x : Held) × (self.old.held ≡ Some x) }
+        requires { IsThere self.old.held }
         ensures* lends { sem 𝓛 (LendsAs held_row (λ x. x) self.entry result) }
         ensures held { self.old.held ≡ Some result.now }
     {

@@ -3,9 +3,10 @@ ghost use Rattle.std.specs.Prelude.{◌≡◌, true, IfOk, IfErr, OnErr};
 ghost use Rattle.bd_journal.specs.Spelling.{carries};
 ghost use Rattle.bd_c.specs.LiveCommands.{parcel_given, IsStepOf, IsNoStep};
 
+use crate::requests::copied;
 use crate::status::Status;
 use bd_codec::read_command;
-use bd_space::{Bytes, Parcel, Step};
+use bd_space::{Parcel, Step};
 use bd_uapi::Command;
 use std::alloc::{AllocError, Global};
 
@@ -13,8 +14,8 @@ fn parcel(alloc: Global, bytes: &[u8], offsets: &[u8]) -> Result<Parcel, AllocEr
     ensures { IfOk result (λ p. p ≡ record { bytes = bytes.now; offsets = offsets.now }) }
 {
     Ok(Parcel {
-        bytes: Bytes::new(bytes.to_vec(alloc)?),
-        offsets: Bytes::new(offsets.to_vec(alloc)?),
+        bytes: copied(alloc, bytes)?,
+        offsets: copied(alloc, offsets)?,
     })
 }
 

@@ -1,9 +1,9 @@
 //! What C is told of a live engine and of its latest entry.
-ghost use Rattle.std.specs.Prelude.{◌≡◌, Some, None, length};
+ghost use Rattle.std.specs.Prelude.{◌≡◌, None, length};
 ghost use Rattle.bd_space.specs.Histories.{History, space_after, is_ready};
 ghost use Rattle.bd_engine.specs.Follows.{Follows};
 ghost use Rattle.bd_journal.specs.{Spelling.{heading_bytes}, Writing.{IsHeading}};
-ghost use Rattle.bd_c.specs.{declared.held.Held.{Held}, Behind.{Of, IsLive, live_of}, Status.{Reports}};
+ghost use Rattle.bd_c.specs.{Behind.{Of, IsThere, IsLive, live_of}, Status.{Reports}};
 ghost use Rattle.bd_c.specs.{Parts.{Fetches, Tells}, LiveEntries.{got_of, IsSpelled, spelled}};
 
 use crate::handles::Handle;
@@ -80,7 +80,7 @@ pub extern "C" fn hullpippin_live_heading(
 /// Lets go of a live engine. Its handle then has nothing.
 #[unsafe(no_mangle)]
 pub extern "C" fn hullpippin_free_live(alloc: Global, live: &mut Handle)
-    requires some { (x : Held) × (live.old.held ≡ Some x) }
+    requires some { IsThere live.old.held }
     ensures { live.new.held ≡ None }
 {
     drop(take(alloc, live));

@@ -1,7 +1,7 @@
 //! What is behind a handle, taken out and put back.
 ghost use Rattle.std.specs.Prelude.{◌≡◌, Some, None, IfOk, IfErr, MatchResult};
 ghost use Rattle.bd_c.specs.{declared.held.Held.{Held}, declared.status.Status.TheVariants.{Done, NoMemory}};
-ghost use Rattle.bd_c.specs.Status.{number_of};
+ghost use Rattle.bd_c.specs.{Behind.{IsThere}, Status.{number_of}};
 
 use crate::handles::Handle;
 use crate::held::Held;
@@ -10,7 +10,7 @@ use crate::status::Status;
 use std::alloc::Global;
 
 fn open(alloc: Global, h: Handle) -> Loose<Held, Global>
-    requires { (x : Held) × (h.held ≡ Some x) }
+    requires { IsThere h.held }
     ensures { (x : Held) → h.held ≡ Some x → result.value ≡ x }
 {
     let Handle { at } = h;
@@ -48,7 +48,7 @@ pub(crate) fn boxed(alloc: Global, held: Held) -> Result<Box<Held>, Status>
 
 /// Takes out what is behind the handle, which then has nothing.
 pub(crate) fn take(alloc: Global, handle: &mut Handle) -> Box<Held>
-    requires { (x : Held) × (handle.old.held ≡ Some x) }
+    requires { IsThere handle.old.held }
     ensures held { handle.old.held ≡ Some result.value }
     ensures empty { handle.new.held ≡ None }
 {

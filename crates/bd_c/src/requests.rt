@@ -26,7 +26,8 @@ pub struct RequestGiven {
     pub on: u32,
 }
 
-fn copied(alloc: Global, from: &[u8]) -> Result<Bytes, AllocError>
+/// The same bytes, in memory of their own.
+pub(crate) fn copied(alloc: Global, from: &[u8]) -> Result<Bytes, AllocError>
     ensures { IfOk result (λ b. b ≡ from.now) }
 {
     Ok(Bytes::new(from.to_vec(alloc)?))
