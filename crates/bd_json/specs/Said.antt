@@ -4,7 +4,6 @@ use Rattle.std.specs.Option.{option_map}
 use Rattle.bd_uapi.specs.declared.fault.Note.{Note}
 use Rattle.bd_space.specs.declared.step.Answer.{Answer}
 use Rattle.bd_space.specs.declared.step.Answer.TheVariants as answer
-use Rattle.bd_journal.specs.Codes.{note_number}
 use Rattle.bd_driver.specs.declared.outcome.Why.{Why}
 use Rattle.bd_driver.specs.declared.outcome.Why.TheVariants as why
 use Rattle.bd_driver.specs.declared.outcome.Served.TheVariants as served
@@ -13,11 +12,11 @@ use Rattle.bd_player.specs.declared.said.Said.TheVariants as said
 use Rattle.bd_json.specs.declared.said.NotePart.{NotePart}
 use Rattle.bd_json.specs.declared.said.SaidPart.{SaidPart}
 use Rattle.bd_json.specs.declared.said.SaidPart.TheVariants as part
-use Rattle.bd_show.specs.Refusals.{refusal}
-use Rattle.bd_json.specs.Told.{fault_refusal, stop_refusal}
+use Rattle.bd_show.specs.Refusals.{of_fault, of_note}
+use Rattle.bd_json.specs.Told.{stop_refusal}
 
 abbrev pub note_part : ℕ → Note → NotePart
-note_part command n = record { command = command; note = refusal 78 (note_number n) }
+note_part command n = record { command = command; note = of_note n }
 
 abbrev pub note_parts : List (ℕ × Note) → List NotePart
 note_parts ns = map (λ n. note_part n.0 n.1) ns
@@ -31,7 +30,7 @@ Answers (answer.Wrote consumed notes stop) from to (part.Wrote f t n parts s) =
     (f ≡ from) × (t ≡ to) × (n ≡ consumed) × (parts.items ≡ note_parts notes) × (s ≡ option_map stop_refusal stop)
 Answers (answer.Got stream bytes offsets) from to (part.Got f t r d o) =
     (f ≡ from) × (t ≡ to) × (r.0.now ≡ stream) × (d.0.now ≡ bytes) × (o.0.now ≡ offsets)
-Answers (answer.Refused fault) from to (part.Refused f t r) = (f ≡ from) × (t ≡ to) × (r ≡ fault_refusal fault)
+Answers (answer.Refused fault) from to (part.Refused f t r) = (f ≡ from) × (t ≡ to) × (r ≡ of_fault fault)
 Answers _ _ _ _ = ⊥
 
 -- a request that found the driver taken has used its turns up

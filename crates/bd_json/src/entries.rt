@@ -5,8 +5,7 @@ ghost use Rattle.bd_show.specs.Payloads.{of_returns};
 ghost use Rattle.bd_json.specs.Told as spec;
 
 use crate::members::member;
-use bd_codec::read_return;
-use bd_show::{Made, Refusal, Word};
+use bd_show::{Made, Refusal, Returns, Word};
 use bd_space::StepAnswer;
 use serde::{Described, Serialize, Serializer};
 use std::alloc::{AllocError, Global};
@@ -68,19 +67,12 @@ impl Serialize for AnswerPart {
 }
 
 // The returns of a stream.
-#[tactic(auto, using(crate::proofs::Returns::at_last))]
 fn returns_in(alloc: Global, stream: &[u8]) -> Result<Vec<Word>, AllocError>
     ensures { IfOk result (λ words. map (λ w. w.payload) words.items ≡ of_returns stream.now) }
 {
     let mut words = Vec::new(alloc);
-    let mut rest = stream;
-    // Each return is 4 bytes long or more.
-    for _index in 0..stream.len() {
-        let Ok((told, len)) = read_return(rest) else {
-            return Ok(words);
-        };
+    for told in Returns::of(stream) {
         words.push(Word::of_return(&told))?;
-        rest = &rest[len..];
     }
     Ok(words)
 }

@@ -1,17 +1,16 @@
 -- What a step or a return has.
-use Rattle.std.specs.Prelude.{ℕ, zero, suc, List, [], ◌∷◌, length, drop, Result, Ok, Err, Some, None}
+use Rattle.std.specs.Prelude.{ℕ, List, map, Some, None}
 use Rattle.bd_uapi.specs.declared.command.TransactionData.{TransactionData}
 use Rattle.bd_uapi.specs.declared.command.Command.{Command}
 use Rattle.bd_uapi.specs.declared.command.Command.TheVariants as command
 use Rattle.bd_uapi.specs.declared.command.Return.{Return}
 use Rattle.bd_uapi.specs.declared.command.Return.TheVariants as returned
-use Rattle.bd_uapi.specs.declared.fault.Fault.{Fault}
-use Rattle.bd_codec.specs.Reading.{return_at}
 use Rattle.bd_space.specs.declared.step.Step.{Step}
 use Rattle.bd_space.specs.declared.step.Step.TheVariants as step
 use Rattle.bd_space.specs.Transactions.{handle_of}
 use Rattle.bd_state.specs.States.{wide}
 use Rattle.bd_show.specs.declared.words.Payload.{Payload}
+use Rattle.bd_show.specs.Streams.{returns_in}
 
 abbrev pub nothing : Payload
 nothing = record {
@@ -90,16 +89,6 @@ of_step step.SetManager = nothing
 of_step step.ExitThread = nothing
 of_step step.ExitProcess = nothing
 
--- what the first return has that was read, if one was, and then what those behind its bytes have
-abbrev pub of_next : (ℕ → List Payload) → Result (Return × ℕ) Fault → List Payload
-of_next behind (Ok (r, len)) = of_return r ∷ behind len
-of_next behind (Err f) = []
-
--- what the returns have that are read one after the other, at most so many
-abbrev pub of_returns_to : ℕ → List ℕ → List Payload
-of_returns_to zero bytes = []
-of_returns_to (suc n) bytes = of_next (λ len. of_returns_to n (drop len bytes)) (return_at bytes)
-
--- the same of all that a stream spells, each of which takes a byte or more
+-- what the returns of a stream have, one after the other
 abbrev pub of_returns : List ℕ → List Payload
-of_returns bytes = of_returns_to (length bytes) bytes
+of_returns bytes = map of_return (returns_in bytes)

@@ -1,8 +1,7 @@
 //! Refusals by letter and number.
 
 ghost use Rattle.std.specs.Prelude.{◌≡◌};
-ghost use Rattle.bd_journal.specs.Codes.{cause_number, fault_number, note_number};
-ghost use Rattle.bd_show.specs.Refusals.{refusal};
+ghost use Rattle.bd_show.specs.Refusals as spec;
 
 use bd_journal::{cause_number, fault_number, note_number};
 use bd_uapi::{Cause, Fault, Note};
@@ -19,7 +18,7 @@ pub struct Refusal {
 impl Refusal {
     /// A fault.
     pub fn of_fault(fault: Fault) -> Refusal
-        ensures { result ≡ refusal 70 (fault_number fault) }
+        ensures { result ≡ spec.of_fault fault }
     {
         Refusal {
             letter: 'F',
@@ -29,7 +28,7 @@ impl Refusal {
 
     /// A cause.
     pub fn of_cause(cause: Cause) -> Refusal
-        ensures { result ≡ refusal 88 (cause_number cause) }
+        ensures { result ≡ spec.of_cause cause }
     {
         Refusal {
             letter: 'X',
@@ -39,7 +38,7 @@ impl Refusal {
 
     /// A note.
     pub fn of_note(note: Note) -> Refusal
-        ensures { result ≡ refusal 78 (note_number note) }
+        ensures { result ≡ spec.of_note note }
     {
         Refusal {
             letter: 'N',

@@ -1,10 +1,11 @@
-use Rattle.std.proofs.Common.{arith, sym, length}
 use Rattle.bd_show.specs.Payloads.{of_returns}
-use Rattle.bd_json.proofs.Returns.{goes_on, all_behind}
+use Rattle.bd_json.proofs.Returns.{one_more, all_told}
 use Rattle.bd_json.proofs.entries.returns_in.Goals as goal
 
-pub loop-index-preserved : goal.loop-index-preserved
-loop-index-preserved c =
-    goes_on c.loop-index.words.items _ c.of_return.result (length c.args.stream.now) c.loop-index._index c.loop-index.rest.now _ c.in-Ok.told c.in-Ok.len
-    (of_returns c.args.stream.now) c.loop-index.invariant (omega (arith, c.loop-index-test.true)) (sym c.in-Ok.ensures.computed) c.of_return.ensures
-    c.in_ok-push.ensures.items (all_behind c.loop-index.rest.now c.in-Ok.len)
+pub loop-told-preserved : goal.loop-told-preserved
+loop-told-preserved c =
+    one_more c.loop-told.words.items _ c.of_return.result c.in-Some.told _ _ (of_returns c.args.stream.now)
+    c.loop-told.invariant c.in-Some.ensures.steps c.of_return.ensures c.in_ok-push.ensures.items
+
+pub returns : goal.returns
+returns c = all_told c.loop-told.words.items _ (of_returns c.args.stream.now) c.loop-told.invariant c.in-None.ensures.steps.0

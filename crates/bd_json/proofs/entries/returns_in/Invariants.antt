@@ -1,7 +1,9 @@
-use Rattle.std.proofs.Common.{◌≡◌, ◌-◌, ◌++◌, length, map}
-use Rattle.bd_show.specs.Payloads.{of_returns, of_returns_to}
+use Rattle.std.proofs.Common.{◌≡◌, ◌++◌, map}
+use Rattle.bd_show.specs.Streams as streams
+use Rattle.bd_show.specs.Payloads.{of_return, of_returns}
+use Rattle.bd_json.proofs.Returns.{payloads_of}
 use Rattle.bd_json.proofs.entries.returns_in.Given as goal
 
--- those that were read, and those to come
-abbrev pub invariant-loop-index : goal.invariant-loop-index
-invariant-loop-index l = map (λ w. w.payload) l.words.items ++ of_returns_to (length l.fn.stream - l._index) l.rest ≡ of_returns l.fn.stream
+-- those that were told, and those to come
+abbrev pub invariant-loop-told : goal.invariant-loop-told
+invariant-loop-told l = payloads_of l.words.items ++ map of_return (streams.returns_in l.told-iterator.0.now) ≡ of_returns l.fn.stream
