@@ -1,15 +1,14 @@
 //! What is drawn of a history, and how.
 
-ghost use Rattle.std.specs.Prelude.{◌≡◌, ◌≤◌};
+ghost use Rattle.std.specs.Prelude.{◌≤◌};
 ghost use Rattle.bd_uapi.specs.Limits.{IsSeats};
 ghost use Rattle.bd_space.specs.Histories.{IsHistory, history_in};
-ghost use Rattle.bd_diagram.specs.Held.{holds, is_within};
 
 use crate::mermaid::print_mermaid;
 use crate::plot::plotted;
 use crate::svg::print_svg;
 use crate::text::print_text;
-use bd_show::Untold;
+use bd_show::{Places, Untold};
 use bd_space::Record;
 use std::alloc::Global;
 use std::io::Write;
@@ -30,26 +29,8 @@ pub enum Format {
 pub struct Drawing {
     /// In what form.
     pub format: Format,
-    /// From this place on.
-    pub from: u32,
-    /// Up to and without this place, if there is an end.
-    pub to: Option<u32>,
-}
-
-impl Drawing {
-    /// Whether the entry at a place is drawn, if it leaves a mark.
-    pub fn holds(&self, place: u32) -> bool
-        ensures { result ≡ holds self.now place }
-    {
-        self.from <= place && self.to.is_none_or(|to| place < to)
-    }
-
-    // Whether a history with so many entries has these places. An end may be the place after the last.
-    fn is_within(&self, len: usize) -> bool
-        ensures { result ≡ is_within self.now len }
-    {
-        self.from as usize <= len && self.to.is_none_or(|to| to as usize <= len)
-    }
+    /// The entries at these places, so far as they leave a mark.
+    pub places: Places,
 }
 
 /// Draws a history, or a part of it.
@@ -65,10 +46,10 @@ pub fn draw<W: Write>(
     requires seats { IsSeats «record».now.seats }
     requires lawful { IsHistory (history_in «record».now) }
 {
-    if !drawing.is_within(record.entries.as_slice().len()) {
+    if !drawing.places.is_within(record.entries.as_slice().len()) {
         return Err(Untold::OutOfRange);
     }
-    let diagram = plotted(alloc, record, drawing)?;
+    let diagram = plotted(alloc, record, drawing.places)?;
     match drawing.format {
         Format::Svg => print_svg(&diagram, out)?,
         Format::Mermaid => print_mermaid(&diagram, out)?,

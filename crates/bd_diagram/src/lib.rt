@@ -13,5 +13,4 @@ mod svg;
 mod text;
 mod tracks;
 
-pub use bd_show::Untold as Undrawn;
 pub use drawing::{Drawing, Format, draw};

@@ -4,13 +4,12 @@ ghost use Rattle.std.specs.Prelude.{◌≤◌};
 ghost use Rattle.bd_uapi.specs.Limits.{IsSeats};
 ghost use Rattle.bd_space.specs.Histories.{IsHistory, history_in};
 
-use crate::drawing::Drawing;
 use crate::model::{Arrow, Diagram, End, Event, Kind};
 use crate::sheet::Sheet;
 use crate::stepping::{Taken, make_step};
 use crate::tracks::Tracks;
 use bd_engine::Engine;
-use bd_show::{Reason, Returns, Untold, handle_of};
+use bd_show::{Places, Reason, Returns, Untold, handle_of};
 use bd_space::{Buffer, Entry, ObjectId, Record, Step, StepAnswer};
 use bd_uapi::{Command, Fault, Return, TransactionData};
 use bd_words::{WordKey, WordMap};
@@ -45,10 +44,10 @@ fn may_end_calls(step: &Step) -> bool {
 }
 
 impl Plot {
-    fn new(alloc: Global, seats: u32, drawing: Drawing) -> Result<Plot, AllocError> {
+    fn new(alloc: Global, seats: u32, places: Places) -> Result<Plot, AllocError> {
         Ok(Plot {
             tracks: Tracks::new(alloc, seats)?,
-            sheet: Sheet::new(alloc, drawing),
+            sheet: Sheet::new(alloc, places),
             arrows: Vec::new(alloc),
             oneways: WordMap::new(alloc),
             turns: WordMap::new(alloc),
@@ -323,16 +322,16 @@ impl Plot {
 }
 
 /// A history as a diagram.
-pub(crate) fn plotted(alloc: Global, record: &Record, drawing: Drawing) -> Result<Diagram, Untold>
+pub(crate) fn plotted(alloc: Global, record: &Record, places: Places) -> Result<Diagram, Untold>
     requires seats { IsSeats «record».now.seats }
     requires lawful { IsHistory (history_in «record».now) }
 {
     let entries = record.entries.as_slice();
     let mut engine = Engine::new(alloc, record.seats)?;
-    let mut plot = Plot::new(alloc, record.seats, drawing)?;
+    let mut plot = Plot::new(alloc, record.seats, places)?;
     for entry in entries {
         let place = engine.len();
-        if drawing.to == Some(place) {
+        if places.to == Some(place) {
             break;
         }
         plot.before(&engine, entries, place, entry.seat)?;

@@ -1,13 +1,13 @@
 //! The sheet that a diagram is drawn on, from top to bottom.
 
-use crate::drawing::Drawing;
 use crate::model::{Event, Item, Row};
+use bd_show::Places;
 use std::alloc::{AllocError, Global};
 
 /// What was drawn so far.
 #[derive(Drop)]
 pub(crate) struct Sheet {
-    drawing: Drawing,
+    places: Places,
     items: Vec<Item>,
     rows: u32,
     /// Whether the first entry that is drawn was come to.
@@ -15,9 +15,9 @@ pub(crate) struct Sheet {
 }
 
 impl Sheet {
-    pub fn new(alloc: Global, drawing: Drawing) -> Sheet {
+    pub fn new(alloc: Global, places: Places) -> Sheet {
         Sheet {
-            drawing,
+            places,
             items: Vec::new(alloc),
             rows: 0,
             is_begun: false,
@@ -30,7 +30,7 @@ impl Sheet {
 
     /// Whether the entry there is the first that is drawn.
     pub fn begins_at(&self, place: u32) -> bool {
-        self.drawing.from == place
+        self.places.from == place
     }
 
     pub fn is_begun(&self) -> bool {
@@ -44,7 +44,7 @@ impl Sheet {
 
     /// Draws what an entry did, if it is one that is to be drawn.
     pub fn mark(&mut self, place: u32, seat: u32, event: Event) -> Result<(), AllocError> {
-        if self.drawing.holds(place) {
+        if self.places.holds(place) {
             self.items.push(Item::Row(Row { place, seat, event }))?;
             self.rows = self.rows.saturating_add(1);
         }
@@ -62,7 +62,7 @@ impl Sheet {
     /// What was drawn, and in how many rows.
     pub fn into_items(self) -> (Vec<Item>, u32) {
         let Sheet {
-            drawing: _,
+            places: _,
             items,
             rows,
             is_begun: _,

@@ -7,7 +7,7 @@ ghost use Rattle.bd_audit.specs.Replays.{StopsAt};
 
 use crate::grounds::Grounds;
 use bd_audit::{Given, given_at, played_before};
-use bd_show::{Form, Made, Untold, pid_of, show_at};
+use bd_show::{Form, Made, Untold, entry_at, pid_of};
 use bd_space::{Entry, Record, StepAnswer};
 use serde::Serialize;
 use std::alloc::Global;
@@ -40,11 +40,9 @@ pub fn explain_entry<F: Form, W: Write>(
     requires seats { IsSeats «record».now.seats }
     requires lawful { IsHistory (history_in «record».now) }
 {
-    show_at(alloc, record, place, form, out)?;
-    match record.entries.as_slice().get(place as usize) {
-        Some(entry) => tell_grounds(alloc, entry, &entry.answer, form, out),
-        None => Err(Untold::OutOfRange),
-    }
+    let made = entry_at(alloc, record, place)?;
+    form.entry(made, out)?;
+    tell_grounds(alloc, made.entry, &made.entry.answer, form, out)
 }
 
 /// Where two of the same name differ first.

@@ -8,7 +8,7 @@ use crate::commands::Making;
 use crate::sources::Source;
 use bd_explain::{Explanation, explained};
 use bd_json::Format;
-use bd_show::{Question, Selection};
+use bd_show::{Places, Question, Selection};
 use bd_space::ObjectId;
 use clap::{Arg, ArgAction, ArgMatches, value_parser};
 use std::alloc::Global;
@@ -260,10 +260,17 @@ pub fn format_in(matches: &ArgMatches<'_>) -> Format
     }
 }
 
-fn selection_in(matches: &ArgMatches<'_>) -> Selection {
-    Selection {
+/// The places that were found. From the first on unless another was given.
+pub fn places_in(matches: &ArgMatches<'_>) -> Places {
+    Places {
         from: number_in(matches, "from").unwrap_or(0),
         to: number_in(matches, "to"),
+    }
+}
+
+fn selection_in(matches: &ArgMatches<'_>) -> Selection {
+    Selection {
+        places: places_in(matches),
         seat: number_in(matches, "seat"),
         pid: number_in(matches, "pid"),
     }

@@ -1,10 +1,11 @@
 //! Diagrams of a journal: their words, and the drawing.
 
 use crate::commands::Making;
-use crate::inquiries::{journal_arg, number_in, number_option, progress_arg, source_in};
+use crate::inquiries::{journal_arg, number_option, places_in, progress_arg, source_in};
 use crate::sources::{Source, judged_in};
-use bd_diagram::{Drawing, Format, Undrawn, draw};
+use bd_diagram::{Drawing, Format, draw};
 use bd_player::{DONE, FAULT, Fault, Judged, print_unlawful, tell};
+use bd_show::Untold;
 use clap::{Arg, ArgMatches};
 use std::alloc::Global;
 use std::io::{Eprint, Write};
@@ -60,8 +61,7 @@ fn format_in(matches: &ArgMatches<'_>) -> Format {
 pub fn sketch_in<'a>(matches: &ArgMatches<'a>) -> Option<Sketch<'a>> {
     let drawing = Drawing {
         format: format_in(matches),
-        from: number_in(matches, "from").unwrap_or(0),
-        to: number_in(matches, "to"),
+        places: places_in(matches),
     };
     Some(Sketch {
         source: source_in(matches)?,
@@ -70,12 +70,12 @@ pub fn sketch_in<'a>(matches: &ArgMatches<'a>) -> Option<Sketch<'a>> {
 }
 
 // The status where this came of a drawing. Of an output that failed it is told in the end.
-fn status_of<E: Write>(came: Result<(), Undrawn>, err: &mut E) -> u8 {
+fn status_of<E: Write>(came: Result<(), Untold>, err: &mut E) -> u8 {
     match came {
         Ok(()) => DONE,
-        Err(Undrawn::Output) => FAULT,
-        Err(Undrawn::OutOfRange) => tell(Fault::Arguments, err),
-        Err(Undrawn::Memory) => tell(Fault::Memory, err),
+        Err(Untold::Output) => FAULT,
+        Err(Untold::OutOfRange) => tell(Fault::Arguments, err),
+        Err(Untold::Memory) => tell(Fault::Memory, err),
     }
 }
 

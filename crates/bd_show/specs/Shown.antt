@@ -1,6 +1,11 @@
 -- Which entries are shown.
-use Rattle.std.specs.Prelude.{ℕ, Bool, true, false, ◌&&◌, ◌==◌, nat_le, nat_lt, Option, Some, None}
+use Rattle.std.specs.Prelude.{◌≡◌, ℕ, Bool, true, false, ◌&&◌, ◌==◌, Option, Some, None}
+use Rattle.std.specs.List.{slice_get}
+use Rattle.bd_space.specs.Histories.{History}
+use Rattle.bd_show.specs.declared.form.Made.{Made}
 use Rattle.bd_show.specs.declared.selection.Selection.{Selection}
+use Rattle.bd_show.specs.Pids.{maker_of}
+use Rattle.bd_show.specs.Places.{holds}
 
 -- the number that is wanted, or any where none is
 abbrev pub fits : Option ℕ → Option ℕ → Bool
@@ -8,10 +13,12 @@ fits None found = true
 fits (Some n) (Some m) = n == m
 fits (Some n) None = false
 
-abbrev pub is_before : ℕ → Option ℕ → Bool
-is_before place None = true
-is_before place (Some to) = nat_lt place to
-
--- from its first place on, before its last, of its seat and of its process
+-- at its places, of its seat and of its process
 abbrev pub shows : Selection → ℕ → ℕ → Option ℕ → Bool
-shows s place seat pid = nat_le s.from place && is_before place s.to && fits s.seat (Some seat) && fits s.pid pid
+shows s place seat pid = holds s.places place && fits s.seat (Some seat) && fits s.pid pid
+
+-- the entry at this place, and the pid of the process that made it
+pub record IsEntryAt (h : History) (place : ℕ) (m : Made) : Type 0 where
+  pub place_is : m.place ≡ place
+  pub entry : slice_get h.entries place ≡ Some m.entry.now
+  pub pid : m.pid ≡ maker_of h place

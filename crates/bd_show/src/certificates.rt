@@ -8,7 +8,7 @@ ghost use Rattle.bd_audit.specs.{Gifts.{IsChainOf}, Replays.{with_entry}, Replie
 ghost use Rattle.bd_audit.specs.TurnCalls.{AreTurns};
 ghost use Rattle.bd_show.specs.{Certified.{IsMadeBy, named_by, turn_told}, Pids.{maker_of}};
 
-use crate::entries::show_at;
+use crate::entries::entry_at;
 use crate::fault::Untold;
 use crate::form::{Form, Gift};
 use crate::pids::{pid_of, receiver_of};
@@ -180,8 +180,8 @@ pub(crate) fn tell_answered<F: Form, W: Write>(
 {
     match answered_by(alloc, record, place)? {
         Some(call) => {
-            show_at(alloc, record, call, form, out)?;
-            show_at(alloc, record, place, form, out)?;
+            form.entry(entry_at(alloc, record, call)?, out)?;
+            form.entry(entry_at(alloc, record, place)?, out)?;
             Ok(true)
         }
         None => {

@@ -1,8 +1,9 @@
 //! The entries of a history, a line each.
 
-ghost use Rattle.std.specs.Prelude.{◌≤◌};
+ghost use Rattle.std.specs.Prelude.{◌≤◌, IfOk};
 ghost use Rattle.bd_uapi.specs.Limits.{IsSeats};
 ghost use Rattle.bd_space.specs.Histories.{IsHistory, history_in};
+ghost use Rattle.bd_show.specs.Shown.{IsEntryAt};
 
 use crate::fault::Untold;
 use crate::form::{Form, Made};
@@ -36,23 +37,18 @@ pub(crate) fn show<F: Form, W: Write>(
     Ok(())
 }
 
-/// Tells the entry at a place.
+/// The entry at a place, as it is told.
 ///
 /// # Errors
-/// `OutOfRange` where there is no such place; nothing is told then.
-pub fn show_at<F: Form, W: Write>(
-    alloc: Global,
-    record: &Record,
-    place: u32,
-    form: &F,
-    out: &mut W,
-) -> Result<(), Untold>
+/// `OutOfRange` where there is no such place.
+pub fn entry_at(alloc: Global, record: &Record, place: u32) -> Result<Made<'_>, Untold>
     requires seats { IsSeats «record».now.seats }
     requires lawful { IsHistory (history_in «record».now) }
+    ensures { IfOk result (IsEntryAt (history_in «record».now) place) }
 {
     let pid = maker_of(alloc, record, place)?;
     match record.entries.as_slice().get(place as usize) {
-        Some(entry) => form.entry(Made { place, entry, pid }, out),
+        Some(entry) => Ok(Made { place, entry, pid }),
         None => Err(Untold::OutOfRange),
     }
 }

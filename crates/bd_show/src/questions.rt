@@ -30,14 +30,13 @@ pub enum Question {
     State { at: Option<u32> },
 }
 
-// Whether every place and seat that the question names is one of the history. An end may be the place after the last.
+// Whether every place and seat that the question names is one of the history.
 fn is_within(question: Question, record: &Record) -> bool {
     let len = record.entries.as_slice().len();
     match question {
         Question::Entries(selection) => {
             let seated = selection.seat.is_none_or(|seat| seat < record.seats);
-            let ended = selection.to.is_none_or(|to| to as usize <= len);
-            seated && ended && selection.from as usize <= len
+            seated && selection.places.is_within(len)
         }
         Question::Chain { .. } => true,
         Question::CallOfReply { place } => (place as usize) < len,

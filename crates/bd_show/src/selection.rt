@@ -3,13 +3,13 @@
 ghost use Rattle.std.specs.Prelude.{◌≡◌};
 ghost use Rattle.bd_show.specs.Shown.{shows, fits};
 
+use crate::places::Places;
+
 /// Which entries are shown: those that fit all of it.
 #[derive(Clone, Copy, Debug, PartialEq, Eq)]
 pub struct Selection {
-    /// From this place on.
-    pub from: u32,
-    /// Up to and without this place, if there is an end.
-    pub to: Option<u32>,
+    /// At these places.
+    pub places: Places,
     /// Of this seat alone.
     pub seat: Option<u32>,
     /// Of the process with this pid alone.
@@ -31,7 +31,6 @@ impl Selection {
     pub(crate) fn shows(&self, place: u32, seat: u32, pid: Option<u32>) -> bool
         ensures { result ≡ shows self.now place seat pid }
     {
-        let inside = self.from <= place && self.to.is_none_or(|to| place < to);
-        inside && fits(self.seat, Some(seat)) && fits(self.pid, pid)
+        self.places.holds(place) && fits(self.seat, Some(seat)) && fits(self.pid, pid)
     }
 }
