@@ -9,6 +9,7 @@
 #define HULLPIPPIN_DAEMON_H
 
 #include "hullpippin.h"
+#include "../packets.h"
 #include "../protocol.h"
 
 #include <linux/android/binder.h>
@@ -194,8 +195,6 @@ uint32_t descriptor_hold(int fd);
 /* The descriptor, which is the caller's then, or -1 where it is no longer there. */
 int descriptor_take(uint32_t held);
 bool descriptors_are_held(void);
-/* Closes clients' descriptors, without waiting for their end. They are -1 then. */
-void descriptors_close(int *fds, uint32_t count);
 /* Begins the thread that closes them; signals have to be blocked by now. */
 bool descriptors_begin(void);
 /* Closes one of the daemon's own. */
@@ -349,13 +348,6 @@ void drain_process(struct process *process);
 bool doorbell_make(struct thread *thread);
 void doorbell_set(struct thread *thread, bool rings);
 void doorbell_free(struct thread *thread);
-
-/* --- packets.c: packets with descriptors. --- */
-
-/* None of these waits. A packet of another size, or with more descriptors, is none. */
-bool packet_send(int fd, const void *bytes, size_t size, const int *fds, uint32_t count);
-/* Tells 1: a packet; 0: none is there; -1: the other end has gone, or sends what it shouldn't. */
-int packet_receive(int fd, void *bytes, size_t size, int *fds, uint32_t room, uint32_t *count);
 
 /* --- listener.c --- */
 

@@ -48,7 +48,7 @@ static int fetch_descriptors(struct thread *thread, uint32_t wanted, int fds[DES
     *count = 0;
     if (!wanted)
         return 0;
-    if (packet_receive(thread->link.fd, &told, sizeof told, fds, DESCRIPTORS_MAX, count) == 1 && *count == wanted)
+    if (packet_receive(thread->link.fd, &told, sizeof told, fds, DESCRIPTORS_MAX, count, MSG_DONTWAIT) == 1 && *count == wanted)
         return 0;
     descriptors_close(fds, *count);
     return EINVAL;
@@ -101,7 +101,7 @@ static int give_doorbell(struct thread *thread)
     uint32_t count = 1;
     if (!doorbell_make(thread))
         return EMFILE;
-    if (!packet_send(thread->link.fd, &count, sizeof count, &thread->doorbell_end, 1))
+    if (!packet_send(thread->link.fd, &count, sizeof count, &thread->doorbell_end, 1, MSG_DONTWAIT))
         return EAGAIN;
     thread->answer.descriptors = 1;
     return 0;

@@ -193,7 +193,7 @@ static bool answer_control(struct process *process, const struct control_request
     default:
         return false;
     }
-    bool is_sent = packet_send(process->control.fd, &answer, sizeof answer, fds, answer.descriptors);
+    bool is_sent = packet_send(process->control.fd, &answer, sizeof answer, fds, answer.descriptors, MSG_DONTWAIT);
     if (request->op == CONTROL_MAP)
         process->window.fd = -1;
     for (uint32_t i = 0; i < answer.descriptors && i < 2; i++)
@@ -206,7 +206,7 @@ static void control_ready(struct watch *watch, uint32_t events)
     struct process *process = container_of(watch, struct process, control);
     struct control_request request;
     uint32_t count;
-    int received = packet_receive(watch->fd, &request, sizeof request, NULL, 0, &count);
+    int received = packet_receive(watch->fd, &request, sizeof request, NULL, 0, &count, MSG_DONTWAIT);
     if (received < 0 || (received == 0 && events & (EPOLLHUP | EPOLLERR | EPOLLRDHUP))
         || (received == 1 && !answer_control(process, &request)))
         process_end(process);

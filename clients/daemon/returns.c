@@ -100,7 +100,7 @@ static void send_landing(struct thread *thread)
     struct landing *landing = thread->landing;
     if (!landing || !landing->count)
         return;
-    if (packet_send(thread->link.fd, &landing->count, sizeof landing->count, landing->fds, landing->count))
+    if (packet_send(thread->link.fd, &landing->count, sizeof landing->count, landing->fds, landing->count, MSG_DONTWAIT))
         thread->answer.descriptors = landing->count;
     descriptors_close(landing->fds, landing->count); /* the places stay, for the numbers */
 }

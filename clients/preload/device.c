@@ -51,18 +51,26 @@ static int dial(void)
     return -1;
 }
 
+void descriptors_close(int *fds, uint32_t count)
+{
+    for (uint32_t i = 0; i < count; i++) {
+        real()->close(fds[i]);
+        fds[i] = -1;
+    }
+}
+
 int device_ask(struct device *device, int fd, struct control_request *request, struct control_answer *answer, int *fds,
                uint32_t room)
 {
     uint32_t count = 0;
     request->version = PROTOCOL_VERSION;
     pthread_mutex_lock(&device->control);
-    bool done = packet_send(fd, request, sizeof *request, NULL, 0) && packet_receive(fd, answer, sizeof *answer, fds, room, &count);
+    bool done = packet_send(fd, request, sizeof *request, NULL, 0, 0)
+                && packet_receive(fd, answer, sizeof *answer, fds, room, &count, 0) == 1;
     pthread_mutex_unlock(&device->control);
     if (done && !answer->error && count == room)
         return 0;
-    for (uint32_t i = 0; i < count; i++)
-        real()->close(fds[i]);
+    descriptors_close(fds, count);
     return done && answer->error ? answer->error : ENODEV;
 }
 

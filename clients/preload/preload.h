@@ -7,6 +7,7 @@
 #ifndef HULLPIPPIN_PRELOAD_H
 #define HULLPIPPIN_PRELOAD_H
 
+#include "../packets.h"
 #include "../protocol.h"
 
 #include <errno.h>
@@ -91,12 +92,6 @@ int device_ioctl(int fd, unsigned long request, void *argument);
 extern pthread_mutex_t devices_lock;
 /* Child of a fork: no device is usable, and nothing of the parent's stays open. */
 void devices_forked(void);
-
-/* --- packets.c --- */
-
-/* These wait, and go on after signals. */
-bool packet_send(int fd, const void *bytes, size_t size, const int *fds, uint32_t count);
-bool packet_receive(int fd, void *bytes, size_t size, int *fds, uint32_t room, uint32_t *count);
 
 /* --- link.c: a thread's way to the daemon. --- */
 

@@ -64,7 +64,7 @@ static int place_descriptors(struct link *link, uint32_t wanted)
     uint32_t told, count;
     int fds[DESCRIPTORS_MAX];
     struct page_answer answer;
-    if (!packet_receive(link->socket, &told, sizeof told, fds, DESCRIPTORS_MAX, &count) || count != wanted)
+    if (packet_receive(link->socket, &told, sizeof told, fds, DESCRIPTORS_MAX, &count, 0) != 1 || count != wanted)
         return ENODEV;
     memcpy(link->page->numbers, fds, count * sizeof *fds);
     const struct page_request request = {.op = PAGE_PLACE, .stream_size = count};
@@ -77,7 +77,7 @@ static int exchange(struct link *link, const struct packing *packing, uint32_t r
 {
     uint32_t flags = link->device->is_nonblocking ? PAGE_NONBLOCK : 0;
     const struct page_request request = {PAGE_WRITE_READ, packing->stream_size, room, flags, packing->fd_count};
-    if (packing->fd_count && !packet_send(link->socket, &packing->fd_count, sizeof packing->fd_count, packing->fds, packing->fd_count))
+    if (packing->fd_count && !packet_send(link->socket, &packing->fd_count, sizeof packing->fd_count, packing->fds, packing->fd_count, 0))
         return errno;
     int error = link_ask(link, &request, answer);
     what->write_consumed += answer->consumed;

@@ -1,13 +1,13 @@
-/* packets.c: packets with descriptors, over sockets that keep packets apart. Nothing here waits. */
-#include "daemon.h"
+/* packets.c: packets with descriptors, over sockets that keep packets apart. */
+#include "packets.h"
+#include "protocol.h"
 
 #include <errno.h>
 #include <string.h>
-#include <sys/socket.h>
 
 #define CONTROL_ROOM CMSG_SPACE(sizeof(int) * DESCRIPTORS_MAX)
 
-bool packet_send(int fd, const void *bytes, size_t size, const int *fds, uint32_t count)
+bool packet_send(int fd, const void *bytes, size_t size, const int *fds, uint32_t count, int flags)
 {
     _Alignas(struct cmsghdr) char control[CONTROL_ROOM];
     struct iovec vector = {.iov_base = (void *)(uintptr_t)bytes, .iov_len = size};
@@ -22,7 +22,7 @@ bool packet_send(int fd, const void *bytes, size_t size, const int *fds, uint32_
     }
     ssize_t sent;
     do
-        sent = sendmsg(fd, &message, MSG_DONTWAIT | MSG_NOSIGNAL);
+        sent = sendmsg(fd, &message, flags | MSG_NOSIGNAL);
     while (sent < 0 && errno == EINTR);
     return sent == (ssize_t)size;
 }
@@ -49,7 +49,7 @@ static bool take_descriptors(struct msghdr *message, int *fds, uint32_t room, ui
     return all;
 }
 
-int packet_receive(int fd, void *bytes, size_t size, int *fds, uint32_t room, uint32_t *count)
+int packet_receive(int fd, void *bytes, size_t size, int *fds, uint32_t room, uint32_t *count, int flags)
 {
     _Alignas(struct cmsghdr) char control[CONTROL_ROOM];
     struct iovec vector = {.iov_base = bytes, .iov_len = size};
@@ -57,7 +57,7 @@ int packet_receive(int fd, void *bytes, size_t size, int *fds, uint32_t room, ui
     ssize_t received;
     *count = 0;
     do
-        received = recvmsg(fd, &message, MSG_DONTWAIT | MSG_CMSG_CLOEXEC);
+        received = recvmsg(fd, &message, flags | MSG_CMSG_CLOEXEC);
     while (received < 0 && errno == EINTR);
     if (received < 0)
         return errno == EAGAIN ? 0 : -1;
