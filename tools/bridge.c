@@ -1,43 +1,13 @@
 /* What a bridge to other programs asks a live engine after a step: which buffers ended by it, and which seats have come to be ready
    or unready. Plays a few one-way calls, and complains where an answer isn't the one that docs/RULES.md gives. Prints nothing else. */
-#include "hullpippin.h"
+#include "asking.h"
 
 #include <stdio.h>
-#include <string.h>
-
-/* Codes of <linux/android/binder.h>. */
-#define BC_TRANSACTION 0x40406300u
-#define BC_FREE_BUFFER 0x40086303u
-#define BC_ENTER_LOOPER 0x0000630cu
-#define TF_ONE_WAY 1u
 
 enum { MANAGER, CLIENT, IDLE, SEATS };
 
 /* A buffer at the beginning of a window has this pointer. */
 #define FIRST_POINTER 65536u
-
-static const char *complaint;
-
-static bool fails(const char *why)
-{
-    if (!complaint)
-        complaint = why;
-    return false;
-}
-
-static bool is_made(uint32_t status, const hullpippin_answer *answer, uint32_t kind)
-{
-    if (status == HULLPIPPIN_NO_MEMORY)
-        return fails("no memory");
-    return (status == HULLPIPPIN_DONE && answer->kind == kind && answer->stop == 0 && answer->notes == 0)
-           || fails("another answer to a step");
-}
-
-static void put32(uint8_t *at, uint32_t value)
-{
-    for (int i = 0; i < 4; i++)
-        at[i] = (uint8_t)(value >> 8 * i);
-}
 
 static bool run(hullpippin_live *live, uint32_t seat, const uint8_t *command, size_t size, size_t data, uint32_t *place)
 {
@@ -51,10 +21,8 @@ static bool run(hullpippin_live *live, uint32_t seat, const uint8_t *command, si
 /* A one-way call to the context manager, with two bytes of data. Tells its place. */
 static bool call(hullpippin_live *live, uint32_t *place)
 {
-    uint8_t command[68] = {0};
-    put32(command, BC_TRANSACTION);
-    put32(command + 4 + 20, TF_ONE_WAY);
-    put32(command + 4 + 32, 2);
+    uint8_t command[CALL_SIZE];
+    spell_call(command, 2);
     return run(live, CLIENT, command, sizeof command, 2, place);
 }
 
@@ -118,14 +86,6 @@ static bool have_changed(hullpippin_live *live, const uint32_t *seats, size_t co
     return are_fetched(hullpippin_live_changed, live, changed, changes);
 }
 
-static bool open(hullpippin_live *live)
-{
-    hullpippin_answer answer;
-    return is_made(hullpippin_live_open(live, MANAGER, 100, 1000, 4096, &answer), &answer, HULLPIPPIN_OPENED)
-           && is_made(hullpippin_live_manager(live, MANAGER, &answer), &answer, HULLPIPPIN_SET) && loop(live, MANAGER)
-           && is_made(hullpippin_live_open(live, CLIENT, 200, 2000, 4096, &answer), &answer, HULLPIPPIN_OPENED);
-}
-
 /* The call makes both seats ready; each is unready once it has read, and is told so when it is asked about. */
 static bool wakes(hullpippin_live *live, uint32_t *place)
 {
@@ -151,7 +111,7 @@ int main(void)
     uint32_t place = 0;
     if (hullpippin_live_new(SEATS, &live) != HULLPIPPIN_DONE)
         return fputs("bridge: no memory\n", stderr), 1;
-    bool done = has_ended_none(&live) && open(&live) && wakes(&live, &place) && ends(&live, place);
+    bool done = has_ended_none(&live) && opens_live(&live, MANAGER, CLIENT) && loop(&live, MANAGER) && wakes(&live, &place) && ends(&live, place);
     hullpippin_free_live(&live);
     if (!done)
         fprintf(stderr, "bridge: %s\n", complaint);

@@ -1,61 +1,11 @@
 /* Reports of one-way flooding: a client asks for them, floods the context manager, and asks for them no longer; of a driver, by a call
    and handed over, and of a live engine, each with as many seats as a journal may have. Numbers that ask for neither are to be refused.
    Complains where an answer isn't the one that docs/RULES.md gives. Prints nothing else. */
-#include "hullpippin.h"
+#include "asking.h"
 
 #include <stdio.h>
-#include <string.h>
-
-/* Codes of <linux/android/binder.h>. */
-#define BC_TRANSACTION 0x40406300u
-#define BC_ENTER_LOOPER 0x0000630cu
-#define BR_TRANSACTION_COMPLETE 0x00007206u
-#define BR_NOOP 0x0000720cu
-#define BR_ONEWAY_SPAM_SUSPECT 0x00007213u
-#define TF_ONE_WAY 1u
-
-/* The fault of a write that memory stopped. */
-#define F_NO_MEMORY 14u
 
 enum { MANAGER, CLIENT, MOST_SEATS = 31 };
-
-#define WINDOW 4096u
-
-static const char *complaint;
-
-static bool fails(const char *why)
-{
-    if (!complaint)
-        complaint = why;
-    return false;
-}
-
-static bool is_made(uint32_t status, const hullpippin_answer *answer, uint32_t kind)
-{
-    if (status == HULLPIPPIN_NO_MEMORY)
-        return fails("no memory");
-    if (status != HULLPIPPIN_DONE)
-        return fails("not made");
-    if ((answer->kind == HULLPIPPIN_BACK && answer->why == HULLPIPPIN_BACK_NO_MEMORY)
-        || (answer->stop == HULLPIPPIN_AT_FAULT && answer->number == F_NO_MEMORY))
-        return fails("no memory");
-    return (answer->kind == kind && answer->stop == 0 && answer->notes == 0) || fails("another answer");
-}
-
-static void put32(uint8_t *at, uint32_t value)
-{
-    for (int i = 0; i < 4; i++)
-        at[i] = (uint8_t)(value >> 8 * i);
-}
-
-/* A one-way call to the context manager, with so many bytes of data, as a command. */
-static void spell_call(uint8_t command[68], uint32_t data)
-{
-    memset(command, 0, 68);
-    put32(command, BC_TRANSACTION);
-    put32(command + 4 + 20, TF_ONE_WAY);
-    put32(command + 4 + 32, data);
-}
 
 /* What a client reads of its calls: a BR_NOOP, and then this. */
 static bool is_told(const uint8_t *stream, size_t size, uint32_t code)
@@ -95,7 +45,7 @@ struct run {
 
 static bool calls(struct run *run, uint32_t data, uint32_t code)
 {
-    uint8_t command[68], stream[256];
+    uint8_t command[CALL_SIZE], stream[256];
     hullpippin_answer answer;
     hullpippin_seat *client = &run->seats[CLIENT];
     spell_call(command, data);
@@ -159,11 +109,6 @@ static bool floods(struct run *run)
            && calls(run, 0, BR_TRANSACTION_COMPLETE);
 }
 
-static bool is_done(uint32_t status)
-{
-    return status == HULLPIPPIN_DONE || fails(status == HULLPIPPIN_NO_MEMORY ? "no memory" : "not made");
-}
-
 static bool floods_a_driver(void)
 {
     struct run run = {HULLPIPPIN_NO_DRIVER, {HULLPIPPIN_NO_SEAT, HULLPIPPIN_NO_SEAT}};
@@ -184,7 +129,7 @@ static bool floods_a_driver(void)
 
 static bool live_calls(hullpippin_live *live, uint32_t data, uint32_t code)
 {
-    uint8_t command[68], stream[256];
+    uint8_t command[CALL_SIZE], stream[256];
     hullpippin_answer answer;
     spell_call(command, data);
     if (!is_made(hullpippin_live_command(live, CLIENT, command, sizeof command, zeros, data, HULLPIPPIN_NOWHERE, 0, &answer), &answer,
@@ -209,10 +154,7 @@ static bool live_refuses(hullpippin_live *live)
 static bool live_floods(hullpippin_live *live)
 {
     hullpippin_answer answer;
-    return is_made(hullpippin_live_open(live, MANAGER, 100, 1000, WINDOW, &answer), &answer, HULLPIPPIN_OPENED)
-           && is_made(hullpippin_live_manager(live, MANAGER, &answer), &answer, HULLPIPPIN_SET)
-           && is_made(hullpippin_live_open(live, CLIENT, 200, 2000, WINDOW, &answer), &answer, HULLPIPPIN_OPENED)
-           && is_made(hullpippin_live_set_spam(live, CLIENT, 1, &answer), &answer, HULLPIPPIN_SET)
+    return opens_live(live, MANAGER, CLIENT) && is_made(hullpippin_live_set_spam(live, CLIENT, 1, &answer), &answer, HULLPIPPIN_SET)
            && live_calls(live, WINDOW / 4, BR_TRANSACTION_COMPLETE) && live_refuses(live)
            && live_calls(live, 0, BR_ONEWAY_SPAM_SUSPECT)
            && is_made(hullpippin_live_set_spam(live, CLIENT, 0, &answer), &answer, HULLPIPPIN_SET)

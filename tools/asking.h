@@ -1,0 +1,78 @@
+/* What bridge.c and flooding.c share: commands, what an answer has to be, and the first complaint. */
+#ifndef HULLPIPPIN_TOOLS_ASKING_H
+#define HULLPIPPIN_TOOLS_ASKING_H
+
+#include "hullpippin.h"
+
+#include <stdbool.h>
+#include <stddef.h>
+#include <stdint.h>
+#include <string.h>
+
+/* Codes of <linux/android/binder.h>. */
+#define BC_TRANSACTION 0x40406300u
+#define BC_FREE_BUFFER 0x40086303u
+#define BC_ENTER_LOOPER 0x0000630cu
+#define BR_TRANSACTION_COMPLETE 0x00007206u
+#define BR_NOOP 0x0000720cu
+#define BR_ONEWAY_SPAM_SUSPECT 0x00007213u
+#define TF_ONE_WAY 1u
+
+/* The fault of a write that memory stopped. */
+#define F_NO_MEMORY 14u
+
+#define WINDOW 4096u
+
+/* A command of a call, with its code. */
+#define CALL_SIZE 68
+
+static const char *complaint;
+
+static inline bool fails(const char *why)
+{
+    if (!complaint)
+        complaint = why;
+    return false;
+}
+
+static inline bool is_done(uint32_t status)
+{
+    return status == HULLPIPPIN_DONE || fails(status == HULLPIPPIN_NO_MEMORY ? "no memory" : "not made");
+}
+
+/* Whether a step came to this kind of answer, without a stop or a note. */
+static inline bool is_made(uint32_t status, const hullpippin_answer *answer, uint32_t kind)
+{
+    if (!is_done(status))
+        return false;
+    if ((answer->kind == HULLPIPPIN_BACK && answer->why == HULLPIPPIN_BACK_NO_MEMORY)
+        || (answer->stop == HULLPIPPIN_AT_FAULT && answer->number == F_NO_MEMORY))
+        return fails("no memory");
+    return (answer->kind == kind && answer->stop == 0 && answer->notes == 0) || fails("another answer to a step");
+}
+
+static inline void put32(uint8_t *at, uint32_t value)
+{
+    for (int i = 0; i < 4; i++)
+        at[i] = (uint8_t)(value >> 8 * i);
+}
+
+/* A one-way call to the context manager, with so many bytes of data. */
+static inline void spell_call(uint8_t command[CALL_SIZE], uint32_t data)
+{
+    memset(command, 0, CALL_SIZE);
+    put32(command, BC_TRANSACTION);
+    put32(command + 4 + 20, TF_ONE_WAY);
+    put32(command + 4 + 32, data);
+}
+
+/* Two processes of a live engine, the first the context manager's. */
+static inline bool opens_live(hullpippin_live *live, uint32_t manager, uint32_t client)
+{
+    hullpippin_answer answer;
+    return is_made(hullpippin_live_open(live, manager, 100, 1000, WINDOW, &answer), &answer, HULLPIPPIN_OPENED)
+           && is_made(hullpippin_live_manager(live, manager, &answer), &answer, HULLPIPPIN_SET)
+           && is_made(hullpippin_live_open(live, client, 200, 2000, WINDOW, &answer), &answer, HULLPIPPIN_OPENED);
+}
+
+#endif
