@@ -23,11 +23,8 @@ static void serve(struct looper *looper, const struct binder_transaction_data *c
 static void come_and_go(void *with)
 {
     struct client client;
-    struct writer object = {0};
-    struct binder_transaction_data reply;
     raw_open(&client, WINDOW, NULL);
-    write_own_object(&object, 0x1000, 0x2000);
-    CHECK(raw_call_with(&client.looper, (struct call){0}, &object, &reply) == BR_REPLY, "a call wasn't answered");
+    raw_give(&client, 0);
     raw_ready();
     if (*(size_t *)with % 2)
         pause();

@@ -68,12 +68,8 @@ static uint32_t take_object(struct client *client)
 static void give_and_end(void *with)
 {
     struct client client;
-    struct writer object = {0};
-    struct binder_transaction_data reply;
     raw_open(&client, WINDOW, NULL);
-    write_own_object(&object, 0x1000, 0x2000);
-    CHECK(raw_call_with(&client.looper, (struct call){.code = TAKE}, &object, &reply) == BR_REPLY, "the object wasn't taken");
-    looper_free(&client.looper, &reply);
+    raw_give(&client, TAKE);
     CHECK(looper_flush(&client.looper), "can't write");
     raw_ready();
     if (*(bool *)with)

@@ -47,15 +47,11 @@ static void serve_back(struct looper *looper, const struct binder_transaction_da
 int main(void)
 {
     struct client client;
-    struct writer object = {0};
-    struct binder_transaction_data reply;
     raw_begin(30);
     main_thread_of_client = gettid();
     pid_t manager = raw_start_manager(serve);
     raw_open(&client, WINDOW, serve_back);
-    write_own_object(&object, 0x1000, 0x2000);
-    CHECK(raw_call_with(&client.looper, (struct call){.code = MEET}, &object, &reply) == BR_REPLY, "the object wasn't taken");
-    looper_free(&client.looper, &reply);
+    raw_give(&client, MEET);
     for (uint32_t depth = 0; depth <= DEPTH; depth++) {
         uint32_t deep = descend(&client.looper, depth);
         CHECK(deep == depth, "%u levels in place of %u", deep, depth);

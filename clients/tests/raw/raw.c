@@ -99,6 +99,15 @@ uint32_t raw_call_with(struct looper *looper, struct call call, struct writer *w
     return ending;
 }
 
+void raw_give(struct client *client, uint32_t code)
+{
+    struct writer object = {0};
+    struct binder_transaction_data reply;
+    write_own_object(&object, 0x1000, 0x2000);
+    CHECK(raw_call_with(&client->looper, (struct call){.code = code}, &object, &reply) == BR_REPLY, "the object wasn't taken");
+    looper_free(&client->looper, &reply);
+}
+
 uint32_t raw_ask(struct looper *looper, struct call call)
 {
     struct binder_transaction_data reply;

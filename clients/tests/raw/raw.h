@@ -51,6 +51,8 @@ struct call {
 uint32_t raw_call(struct looper *looper, struct call call, struct binder_transaction_data *reply);
 /* Calls with a parcel that has objects, and frees it. */
 uint32_t raw_call_with(struct looper *looper, struct call call, struct writer *writer, struct binder_transaction_data *reply);
+/* Gives the context manager an object by a call with this code, which has to be answered. */
+void raw_give(struct client *client, uint32_t code);
 /* A call whose reply has to be one number. */
 uint32_t raw_ask(struct looper *looper, struct call call);
 

@@ -32,3 +32,21 @@ int open_files(void)
     closedir(folder);
     return count;
 }
+
+GBinderLocalReply *reply_of(answer_function *answer, GBinderLocalObject *object, GBinderRemoteRequest *request, guint code)
+{
+    GBinderReader reader;
+    GBinderWriter writer;
+    GBinderLocalReply *reply = gbinder_local_object_new_reply(object);
+    gbinder_remote_request_init_reader(request, &reader);
+    gbinder_local_reply_init_writer(reply, &writer);
+    answer(code, &reader, &writer);
+    return reply;
+}
+
+void add_service(GBinderServiceManager *manager, const char *name, const char *interface, GBinderLocalTransactFunc serve)
+{
+    GBinderLocalObject *object = gbinder_servicemanager_new_local_object(manager, interface, serve, NULL);
+    int status = gbinder_servicemanager_add_service_sync(manager, name, object);
+    NEED(status == GBINDER_STATUS_OK, "%s wasn't added: %d", name, status);
+}

@@ -2,6 +2,7 @@
    a string by a string, 2 a vector of strings by the same, 3 counts one-way calls, 4 tells the count. Prints
    `ready`. */
 #include "codes.h"
+#include "common.h"
 
 static guint counted;
 
@@ -25,19 +26,13 @@ static void answer(guint code, GBinderReader *reader, GBinderWriter *writer)
 static GBinderLocalReply *serve(GBinderLocalObject *object, GBinderRemoteRequest *request, guint code, guint flags, int *status,
                                 void *with)
 {
-    GBinderReader reader;
-    GBinderWriter writer;
     (void)with;
     *status = GBINDER_STATUS_OK;
     if (flags & GBINDER_TX_FLAG_ONEWAY) {
         counted += code == 3;
         return NULL;
     }
-    GBinderLocalReply *reply = gbinder_local_object_new_reply(object);
-    gbinder_remote_request_init_reader(request, &reader);
-    gbinder_local_reply_init_writer(reply, &writer);
-    answer(code, &reader, &writer);
-    return reply;
+    return reply_of(answer, object, request, code);
 }
 
 int main(void)
@@ -45,9 +40,7 @@ int main(void)
     setvbuf(stdout, NULL, _IOLBF, 0);
     GBinderServiceManager *manager = gbinder_servicemanager_new("/dev/hwbinder");
     NEED(manager, "no device");
-    GBinderLocalObject *object = gbinder_servicemanager_new_local_object(manager, "hullpippin.test@1.0::IEcho", serve, NULL);
-    int status = gbinder_servicemanager_add_service_sync(manager, "default", object);
-    NEED(status == GBINDER_STATUS_OK, "the service wasn't added: %d", status);
+    add_service(manager, "default", "hullpippin.test@1.0::IEcho", serve);
     printf("ready\n");
     g_main_loop_run(g_main_loop_new(NULL, FALSE));
     return 0;

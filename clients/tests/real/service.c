@@ -124,19 +124,13 @@ static void answer(guint code, GBinderReader *reader, GBinderWriter *writer)
 static GBinderLocalReply *serve(GBinderLocalObject *object, GBinderRemoteRequest *request, guint code, guint flags, int *status,
                                 void *with)
 {
-    GBinderReader reader;
-    GBinderWriter writer;
     (void)with;
     *status = code <= MIXED ? GBINDER_STATUS_OK : GBINDER_STATUS_FAILED;
     if (flags & GBINDER_TX_FLAG_ONEWAY) {
         counted += code == COUNT;
         return NULL;
     }
-    GBinderLocalReply *reply = gbinder_local_object_new_reply(object);
-    gbinder_remote_request_init_reader(request, &reader);
-    gbinder_local_reply_init_writer(reply, &writer);
-    answer(code, &reader, &writer);
-    return reply;
+    return reply_of(answer, object, request, code);
 }
 
 int main(int argc, char **argv)
@@ -149,9 +143,7 @@ int main(int argc, char **argv)
     NEED(manager, "no device %s", device);
     for (int i = 0; i < (count ? count : 1); i++) {
         char *name = count ? g_strdup_printf("%s%d", argv[1], i) : g_strdup(argv[1]);
-        GBinderLocalObject *object = gbinder_servicemanager_new_local_object(manager, INTERFACE, serve, NULL);
-        int status = gbinder_servicemanager_add_service_sync(manager, name, object);
-        NEED(status == GBINDER_STATUS_OK, "%s wasn't added: %d", name, status);
+        add_service(manager, name, INTERFACE, serve);
         g_free(name);
     }
     printf("ready\n");
