@@ -129,32 +129,31 @@ impl Steps {
         self.free(client);
     }
 
-    /// The whole life of an object of seat 1's.
-    pub fn object_first(&mut self, object: Object, handle: u32) {
+    /// A call with an object of seat 1's, which the manager acquires and releases; `reply` reads the reply.
+    fn call_with(&mut self, object: Object, handle: u32, reply: impl FnOnce(&mut Steps)) {
         self.call(1, 0, 3, 0, Parcel::beginning_with(object));
         self.read(0, CALL);
         self.acquire(0, handle);
         self.reply(0, Parcel::counting(64));
-        self.read(1, TWO_NOTICES_AND_REPLY);
-        self.handshakes(1, object);
+        reply(self);
         self.free(1);
         self.free(0);
         self.release(0, handle);
         self.read(0, COMPLETE);
+    }
+
+    /// The whole life of an object of seat 1's.
+    pub fn object_first(&mut self, object: Object, handle: u32) {
+        self.call_with(object, handle, |steps| {
+            steps.read(1, TWO_NOTICES_AND_REPLY);
+            steps.handshakes(1, object);
+        });
         self.read(1, TWO_NOTICES);
     }
 
     /// A call with an object that the manager has a name for.
     pub fn object_again(&mut self, object: Object, handle: u32) {
-        self.call(1, 0, 3, 0, Parcel::beginning_with(object));
-        self.read(0, CALL);
-        self.acquire(0, handle);
-        self.reply(0, Parcel::counting(64));
-        self.read(1, COMPLETE_AND_CALL);
-        self.free(1);
-        self.free(0);
-        self.release(0, handle);
-        self.read(0, COMPLETE);
+        self.call_with(object, handle, |steps| steps.read(1, COMPLETE_AND_CALL));
     }
 
     /// Seat 1 sends its first n objects to the manager, 64 in a parcel, which acquires each; `told`: it reads its
