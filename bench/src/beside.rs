@@ -7,6 +7,7 @@ use baseline::engine::{self, replay};
 use baseline::hist::VecHist;
 use baseline::types::{self, Answer, Got, RunAnswer, Step};
 use baseline::{journal, types::Wrote};
+use std::marker::PhantomData;
 use std::sync::atomic::{AtomicU32, Ordering};
 use std::sync::{Arc, Mutex};
 
@@ -15,11 +16,24 @@ pub const IS_THERE: bool = true;
 
 type Inner = engine::Engine<VecHist>;
 
-/// Asked as ours is.
-pub struct ByRequests(Inner);
+/// The engine, asked in a way.
+pub struct Beside<A>(Inner, PhantomData<A>);
 
-/// Asked with steps that were made ahead.
-pub struct BySteps(Inner);
+/// A way in which it is asked.
+pub trait Asking {
+    type Form;
+    fn form(ask: &Ask) -> Self::Form;
+    fn ask(engine: &mut Inner, seat: u32, form: &Self::Form, buffer: u64) -> Told;
+}
+
+/// As ours is.
+pub struct Requests;
+
+/// With steps that were made ahead.
+pub struct Steps;
+
+pub type ByRequests = Beside<Requests>;
+pub type BySteps = Beside<Steps>;
 
 fn told_of_got(got: &Got) -> Told {
     Told::Got { size: got.stream().len(), buffer: commands::buffer_of(got.stream()) }
@@ -51,29 +65,20 @@ fn asked(ask: &Ask, buffer: u64) -> types::Request {
     })
 }
 
-fn journal_of(engine: &Inner) -> Vec<u8> {
-    let mut bytes = Vec::new();
-    journal::write_entries(engine.seats, engine.len() as usize, engine.hist.iter(), |some| {
-        bytes.extend_from_slice(some);
-        true
-    });
-    bytes
-}
+impl<A: Asking> Engine for Beside<A> {
+    type Form = A::Form;
 
-impl Engine for ByRequests {
-    type Form = Ask;
-
-    fn new(seats: u32) -> ByRequests {
-        ByRequests(Inner::new(seats).expect("1 to 16 seats"))
+    fn new(seats: u32) -> Beside<A> {
+        Beside(Inner::new(seats).expect("1 to 16 seats"), PhantomData)
     }
 
-    fn form(ask: &Ask) -> Ask {
-        ask.clone()
+    fn form(ask: &Ask) -> A::Form {
+        A::form(ask)
     }
 
     #[inline]
-    fn ask(&mut self, seat: u32, ask: &Ask, buffer: u64) -> Told {
-        told(&self.0.run(seat, asked(ask, buffer)).0)
+    fn ask(&mut self, seat: u32, form: &A::Form, buffer: u64) -> Told {
+        A::ask(&mut self.0, seat, form, buffer)
     }
 
     fn is_ready(&mut self, seat: u32) -> bool {
@@ -85,17 +90,32 @@ impl Engine for ByRequests {
     }
 
     fn journal(self) -> Vec<u8> {
-        journal_of(&self.0)
+        let Beside(engine, _) = self;
+        let mut bytes = Vec::new();
+        journal::write_entries(engine.seats, engine.len() as usize, engine.hist.iter(), |some| {
+            bytes.extend_from_slice(some);
+            true
+        });
+        bytes
     }
 }
 
-impl Engine for BySteps {
+impl Asking for Requests {
+    type Form = Ask;
+
+    fn form(ask: &Ask) -> Ask {
+        ask.clone()
+    }
+
+    #[inline]
+    fn ask(engine: &mut Inner, seat: u32, ask: &Ask, buffer: u64) -> Told {
+        told(&engine.run(seat, asked(ask, buffer)).0)
+    }
+}
+
+impl Asking for Steps {
     /// None is a free, whose buffer isn't known ahead.
     type Form = Option<Step>;
-
-    fn new(seats: u32) -> BySteps {
-        BySteps(Inner::new(seats).expect("1 to 16 seats"))
-    }
 
     fn form(ask: &Ask) -> Option<Step> {
         match (ask, asked(ask, 0)) {
@@ -108,20 +128,8 @@ impl Engine for BySteps {
     }
 
     #[inline]
-    fn ask(&mut self, seat: u32, step: &Option<Step>, buffer: u64) -> Told {
-        told_of_step(&self.0.step(seat, step.clone().unwrap_or(Step::Free(buffer))))
-    }
-
-    fn is_ready(&mut self, seat: u32) -> bool {
-        self.0.ready() >> seat & 1 == 1
-    }
-
-    fn steps(&mut self) -> u32 {
-        self.0.len()
-    }
-
-    fn journal(self) -> Vec<u8> {
-        journal_of(&self.0)
+    fn ask(engine: &mut Inner, seat: u32, step: &Option<Step>, buffer: u64) -> Told {
+        told_of_step(&engine.step(seat, step.clone().unwrap_or(Step::Free(buffer))))
     }
 }
 
