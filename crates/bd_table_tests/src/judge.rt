@@ -5,7 +5,7 @@ use std::fmt::Debug;
 use std::process::Abort;
 
 /// Compares answers after so many calls.
-#[derive(Clone, Copy)]
+#[derive(Drop)]
 pub struct Judge<'a, R> {
     rt: &'a R,
     pub alloc: Global,

@@ -101,9 +101,13 @@ struct Both {
 
 impl Both {
     // One of the processes, or none that there is.
+    fn process_at(&self, i: u32) -> u32 {
+        let process = self.list.processes.get(i as usize);
+        process.map(|q| q.made).unwrap_or(0)
+    }
+
     fn any_process(&self, random: &mut Random) -> u32 {
-        let i = random.below(PROCESSES + 1) as usize;
-        self.list.processes.get(i).map(|q| q.made).unwrap_or(0)
+        self.process_at(random.below(PROCESSES + 1))
     }
 
     // One of the live buffers, mostly an early one, or none that there is.
@@ -232,13 +236,7 @@ impl Pair for Both {
         let found = seen(self.table.buffer(i));
         judge.same("buffer", i, found, seen(self.list.buffer(i)));
         let (k, n) = (i % (PROCESSES + 1), i / (PROCESSES + 1));
-        let p = self
-            .list
-            .processes
-            .get(k as usize)
-            .map(|q| q.made)
-            .unwrap_or(0);
-        self.look_at_window(judge, p, n);
+        self.look_at_window(judge, self.process_at(k), n);
         Ok(())
     }
 }

@@ -40,8 +40,12 @@ impl Both {
         self.list.iter().find(|x| x.0 == key).map(|x| x.1)
     }
 
-    fn set_listed(&mut self, key: WordKey, value: u32) -> Result<(), Fail> {
+    fn remove_listed(&mut self, key: WordKey) {
         self.list.retain(|x| x.0 != key);
+    }
+
+    fn set_listed(&mut self, key: WordKey, value: u32) -> Result<(), Fail> {
+        self.remove_listed(key);
         self.list.push((key, value))?;
         Ok(())
     }
@@ -79,7 +83,7 @@ impl Pair for Both {
             }
             10..=14 => {
                 judge.same("remove", i, self.map.remove(key), was);
-                self.list.retain(|x| x.0 != key);
+                self.remove_listed(key);
             }
             _ => self.map.reserve(random.below(20) as usize)?,
         }

@@ -167,7 +167,8 @@ impl Pair for Both {
             58 | 59 => {
                 // The kinds that stay, as bits.
                 let kept = random.below(262144) | random.below(262144);
-                both!(self.keep_kinds(|kind| is_among(kept, number_of(kind))));
+                let stays = |kind: WorkKind| is_among(kept, number_of(kind));
+                both!(self.keep_kinds(stays));
             }
             60 => both!(self.clear_list(list)),
             _ => self.table.reserve(random.below(20) as usize)?,
