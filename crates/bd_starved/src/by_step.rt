@@ -3,9 +3,9 @@
 ghost use Rattle.std.specs.Prelude.{◌≡◌, ◌<◌};
 
 use crate::broken::Broken;
-use crate::by_run::engine_for;
 use crate::changes::print_change;
 use crate::fingerprint::fingerprint;
+use crate::maker::engine_for;
 use bd_engine::Engine;
 use bd_space::{Entry, Record};
 use std::alloc::Global;
@@ -29,7 +29,7 @@ fn step<W: Write>(engine: &mut Engine, entry: &Entry, out: &mut W) -> Result<(),
     let before = fingerprint(engine);
     match step_once(engine, entry) {
         Err(Broken::Memory) => {
-            print_change("step", fingerprint(engine) == before, out)?;
+            print_change(fingerprint(engine) == before, out)?;
             step_once(engine, entry)
         }
         made => made,

@@ -2,24 +2,24 @@
 //! it then answers: so a run in which any one growth is refused prints what an undisturbed run prints.
 //!
 //! The script is standard input. One word asks for something else than `play`: `cut` for the script by calls and then
-//! writes that aren't made again, `reserved` for one such write by an engine with room for its first command, `spellings` for those of all commands and returns, `limits` for numbers of seats that
-//! none can have.
+//! writes that aren't made again, `reserved` for one such write by an engine with room for its first command,
+//! `spellings` for those of all commands and returns, `limits` for numbers of seats that none can have.
 #![tactic(auto)]
 
 mod again;
 mod broken;
-mod by_call;
-mod by_driver;
-mod by_hand_over;
-mod by_run;
 mod by_step;
 mod certificates;
 mod changes;
 mod cut;
+mod dealt;
 mod every_way;
 mod fingerprint;
+mod hand_over;
 mod journals;
 mod limits;
+mod maker;
+mod playing;
 mod spellings;
 mod writes;
 
@@ -28,23 +28,19 @@ use broken::Broken;
 use cut::{play_cut, play_reserved};
 use every_way::play_every_way;
 use limits::print_limits;
+use playing::{Text, script_of};
 use spellings::spell_all;
 use std::alloc::Global;
 use std::io::{BufWriter, Read, Write};
 use std::rt::Runtime;
 use std::{env, io};
 
-// What a script is for.
+// What is asked for.
 #[derive(Clone, Copy)]
-enum Use {
+enum Asked {
     EveryWay,
     Cut,
     Reserved,
-}
-
-// What is asked for.
-enum Asked {
-    Play(Use),
     Spellings,
     Limits,
 }
@@ -52,12 +48,12 @@ enum Asked {
 impl Asked {
     fn of(words: &[String]) -> Result<Asked, Broken> {
         let Some(word) = words.get(1) else {
-            return Ok(Asked::Play(Use::EveryWay));
+            return Ok(Asked::EveryWay);
         };
         match word.as_str() {
-            "play" => Ok(Asked::Play(Use::EveryWay)),
-            "cut" => Ok(Asked::Play(Use::Cut)),
-            "reserved" => Ok(Asked::Play(Use::Reserved)),
+            "play" => Ok(Asked::EveryWay),
+            "cut" => Ok(Asked::Cut),
+            "reserved" => Ok(Asked::Reserved),
             "spellings" => Ok(Asked::Spellings),
             "limits" => Ok(Asked::Limits),
             _ => Err(Broken::Never("no word of this program")),
@@ -71,27 +67,26 @@ fn words<H: Runtime<A = Global>>(rt: &H) -> Result<Vec<String>, Broken> {
     Ok(args.collect::<Vec<String>>(rt.alloc())?)
 }
 
-// All that a reader has. What was read before memory was refused stays in the vector.
-fn read_all<R: Read>(alloc: Global, reader: &mut R) -> Result<Vec<u8>, Broken> {
-    let mut bytes = Vec::new(alloc);
+// All that standard input has. What was read before memory was refused stays in the vector.
+fn input<H: AllocGlobal + Input>(rt: &H) -> Result<Vec<u8>, Broken> {
+    let mut reader = rt.reader();
+    let mut bytes = Vec::new(rt.alloc());
     again!(reader.read_to_end(&mut bytes))?;
     Ok(bytes)
 }
 
-fn what_is_asked<H: Runtime<A = Global>>(rt: &H) -> Result<Asked, Broken> {
-    let words = again!(words(rt))?;
-    Asked::of(words.as_slice())
-}
-
-fn input<H: AllocGlobal + Input>(rt: &H) -> Result<Vec<u8>, Broken> {
-    read_all(rt.alloc(), &mut rt.reader())
-}
-
-fn play<W: Write>(alloc: Global, text: Vec<u8>, what_for: Use, out: &mut W) -> Result<(), Broken> {
-    match what_for {
-        Use::EveryWay => play_every_way(alloc, &text, out),
-        Use::Cut => play_cut(alloc, &text, out),
-        Use::Reserved => play_reserved(alloc, &text, out),
+// Plays the script that standard input has.
+fn play<H: AllocGlobal + Input, W: Write>(rt: &H, asked: Asked, out: &mut W) -> Result<(), Broken> {
+    let bytes = input(rt)?;
+    let spare = script_of(rt.alloc(), &bytes)?;
+    let text = Text {
+        bytes: &bytes,
+        spare: &spare,
+    };
+    match asked {
+        Asked::Cut => play_cut(rt.alloc(), text, out),
+        Asked::Reserved => play_reserved(rt.alloc(), text, out),
+        _ => play_every_way(rt.alloc(), text, out),
     }
 }
 
@@ -99,10 +94,11 @@ fn run<H: AllocGlobal + Input + Runtime<A = Global>, W: Write>(
     rt: &H,
     out: &mut W,
 ) -> Result<(), Broken> {
-    match what_is_asked(rt)? {
-        Asked::Play(what_for) => play(rt.alloc(), input(rt)?, what_for, out),
+    let words = again!(words(rt))?;
+    match Asked::of(&words)? {
         Asked::Spellings => spell_all(rt.alloc(), out),
         Asked::Limits => Ok(print_limits(rt.alloc(), out)?),
+        asked => play(rt, asked, out),
     }
 }
 

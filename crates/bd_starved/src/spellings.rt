@@ -1,7 +1,6 @@
 //! Each command and each return, spelled.
 
 use crate::broken::Broken;
-use crate::journals::print_hex;
 use bd_codec::{write_command, write_return};
 use bd_uapi::{Command, Fault, Return, TransactionData, TransactionFlags};
 use std::alloc::Global;
@@ -61,7 +60,7 @@ fn print_spelled<W: Write>(
 ) -> Result<bool, Broken> {
     match first {
         Ok(()) => {
-            print_hex(bytes, out)?;
+            writeln!(out, "{bytes:?}")?;
             Ok(true)
         }
         Err(Fault::NoMemory) => {
