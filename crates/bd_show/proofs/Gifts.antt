@@ -1,14 +1,18 @@
 -- Gifts that are told of as their steps are made.
 use Rattle.std.proofs.Common.{◌≡◌, ◌<◌, ℕ, List, get_or, length, Some, ap, sym, ◌∙◌, subst, arith}
 use Rattle.std.specs.Prelude.{option_and_then}
+use Rattle.std.specs.List.{slice_get}
 use Rattle.std.proofs.lemmas.List.{length-take-le}
+use Rattle.std.proofs.lemmas.Option.{slice_get-get_or}
 use Rattle.bd_space.specs.declared.step.Entry.{Entry}
 use Rattle.bd_space.specs.Histories.{History, space_after}
 use Rattle.bd_audit.specs.Replays.{beginning}
-use Rattle.bd_audit.proofs.ReplyCalls.{got}
 use Rattle.bd_show.specs.declared.form.Gift.{Gift}
 use Rattle.bd_show.specs.Certified.{IsMadeBy}
 use Rattle.bd_show.specs.Pids.{maker_of, pid_of}
+
+got : (h : History) (es : List Entry) (i : ℕ) (e : Entry) → es ≡ h.entries → i < length es → e ≡ get_or es i e → slice_get h.entries i ≡ Some e
+got h es i e same_es below found = subst (λ (xs : List Entry). slice_get xs i ≡ Some e) same_es (slice_get-get_or es i e below ∙ ap (λ (x : Entry). Some x) (sym found))
 
 -- the gift is told with the pid of who made its step
 abbrev pub IsTold : History → Gift → Type 0
