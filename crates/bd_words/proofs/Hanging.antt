@@ -1,56 +1,48 @@
 -- A tree with a new key.
-use Rattle.std.proofs.Common.{◌≡◌, ◌≢◌, ℕ, zero, suc, ◌+◌, ◌*◌, ◌/◌, ◌%◌, ◌^◌, ◌<◌, ◌==◌, ◌⊎◌, inl, inr, Bool, true, false, cond, List, [], ◌∷◌, ◌++◌, length, set, Option, Some, None, refl, ap, sym, subst, ◌∙◌, arith, true≢false, mod-eq_of_lt, add_comm}
-use Rattle.std.proofs.lemmas.Bool.{eqb-true, eqb-false, false≢true, false_from_ne_true, cases_eq, cases_lt}
+use Rattle.std.proofs.Common.{◌≡◌, ◌≢◌, ℕ, zero, suc, ◌+◌, ◌*◌, ◌/◌, ◌%◌, ◌^◌, ◌<◌, ◌≤◌, ◌⊎◌, inl, inr, true, false, List, [], ◌∷◌, ◌++◌, length, get_or, set, Option, Some, None, refl, ap, sym, subst, ◌∙◌, arith, mod-eq_of_lt, add_comm}
+use Rattle.std.proofs.lemmas.Bool.{false_from_ne_true, cases_eq, cases_lt}
 use Rattle.std.proofs.lemmas.Nat.{mod-pow-add}
-use Rattle.std.proofs.lemmas.List.{length-set, length_push, get_or_push, get_or_append_left, get_or-set_same, get_or-set_other, map-set, set-get_or}
+use Rattle.std.proofs.Math.Pow.{pow_mono}
+use Rattle.std.proofs.lemmas.List.{length-set, length_push, get_or_push, get_or_append_left, get_or-replicate, get_or-set_same, get_or-set_other, map-set, set-get_or}
 use Rattle.bd_words.specs.declared.key.WordKey.{WordKey}
 use Rattle.bd_words.specs.declared.node.Node.{Node}
 use Rattle.bd_words.specs.Keys.{same_word, spread, place_in}
-use Rattle.bd_words.specs.Walk.{blank, leaf, node_at, keys, goes_left, toward, linked, next, onward, end_from, end_of, hung, hanging}
+use Rattle.bd_words.specs.Walk.{blank, leaf, no_node, node_at, keys, way, toward, linked, next, onward, end_from, end_of, hung, hanging}
 use Rattle.bd_words.specs.Tree.{Agree, IsNode, IsTree}
 use Rattle.bd_words.proofs.Keys.{word-eq, word-self, spread-eq, spread-below}
 use Rattle.bd_words.proofs.Walks.{next-some, next-at, next-own, next-none, end-none, end-some, key-at, step-inside, step-deeper, end_of-inside, end_of-last, end_of-agrees, none-apart}
 
--- with a child on one side, what goes to that side goes to the child, and the rest where it went
-turned : (p q : Bool) (c l r : ℕ) → ((p ≡ q) × (cond p (cond q c l) (cond q r c) ≡ c))
-    ⊎ ((p ≡ q → ⊥) × (cond p (cond q c l) (cond q r c) ≡ cond p l r))
-turned true true c l r = inl (refl, refl)
-turned false false c l r = inl (refl, refl)
-turned true false c l r = inr (true≢false, refl)
-turned false true c l r = inr (false≢true, refl)
+-- with a child where x goes, what goes the same way goes to the child, and the rest where it went
+toward-linked : (m : Node) (x c y : ℕ) → length m.children ≡ 8
+    → ((way m y ≡ way m x) × (toward (linked m x c) y ≡ c))
+    ⊎ ((way m y ≢ way m x) × (toward (linked m x c) y ≡ toward m y))
+toward-linked m x c y eight = elim (cases_eq (way m y) (way m x)) [
+  | inl q ↦
+      inl (
+        q,
+        ap (λ w. get_or (set m.children (way m x) c) w 0) q
+            ∙ get_or-set_same m.children (way m x) c 0 (omega (arith, eight)),
+      )
+  | inr n ↦ inr (n, get_or-set_other m.children (way m x) (way m y) c 0 n)
+]
 
-toward-linked : (m : Node) (x c y : ℕ) → ((goes_left m y ≡ goes_left m x) × (toward (linked m x c) y ≡ c))
-    ⊎ ((goes_left m y ≡ goes_left m x → ⊥) × (toward (linked m x c) y ≡ toward m y))
-toward-linked m x c y = turned (goes_left m y) (goes_left m x) c m.left m.right
-
-toward-same : (m : Node) (x y : ℕ) → goes_left m y ≡ goes_left m x → toward m y ≡ toward m x
-toward-same m x y e = ap (λ b. cond b m.left m.right) e
+toward-same : (m : Node) (x y : ℕ) → way m y ≡ way m x → toward m y ≡ toward m x
+toward-same m x y e = ap (λ w. get_or m.children w 0) e
 
 toward-leaf : (k : WordKey) (n y : ℕ) → toward (leaf k n) y ≡ 0
-toward-leaf k n y = at (goes_left (leaf k n) y)
-  where
-    at : (b : Bool) → ◌≡◌ {A = ℕ} (cond b 0 0) 0
-    at true = refl
-    at false = refl
+toward-leaf k n y = get_or-replicate 8 (way (leaf k n) y) 0 0 (omega arith)
 
-same-bit : (a b : ℕ) → a < 2 → b < 2 → (a == 0) ≡ (b == 0) → a ≡ b
-same-bit a b h g e = at (a == 0) refl (b == 0) refl
-  where
-    at : (p : Bool) → (a == 0) ≡ p → (q : Bool) → (b == 0) ≡ q → a ≡ b
-    at true f true s = eqb-true a 0 f ∙ sym (eqb-true b 0 s)
-    at false f false s = omega (arith, h, g, eqb-false a 0 f, eqb-false b 0 s)
-    at true f false s = absurd (cc)
-    at false f true s = absurd (cc)
+-- two numbers that agree, and go the same way, agree in three bits more
+three-more : (n x y : ℕ) → Agree n x y → x / 2 ^ n % 8 ≡ y / 2 ^ n % 8 → Agree (n + 3) x y
+three-more n x y a e =
+    let sum : x % 2 ^ (3 + n) ≡ y % 2 ^ (3 + n) =
+    mod-pow-add x 3 n ∙ ap (λ b. b * 2 ^ n + x % 2 ^ n) e ∙ ap (λ r. (y / 2 ^ n % 8) * 2 ^ n + r) a
+    ∙ sym (mod-pow-add y 3 n) in
+    subst (λ m. Agree m x y) (add_comm 3 n) sum
 
--- two numbers that agree, and go the same way, agree in one bit more
-one-more : (n x y : ℕ) → Agree n x y → (x / 2 ^ n % 2 == 0) ≡ (y / 2 ^ n % 2 == 0) → Agree (n + 1) x y
-one-more n x y a e =
-    let bits : x / 2 ^ n % 2 ≡ y / 2 ^ n % 2 =
-    same-bit (x / 2 ^ n % 2) (y / 2 ^ n % 2) (omega arith) (omega arith) e in
-    let sum : x % 2 ^ (1 + n) ≡ y % 2 ^ (1 + n) =
-    mod-pow-add x 1 n ∙ ap (λ b. b * 2 ^ n + x % 2 ^ n) bits ∙ ap (λ r. (y / 2 ^ n % 2) * 2 ^ n + r) a
-    ∙ sym (mod-pow-add y 1 n) in
-    subst (λ m. Agree m x y) (add_comm 1 n) sum
+-- past its 97 bits a number has no more
+past-all : (k : WordKey) (n : ℕ) → 97 ≤ n → k.word < 2 ^ 64 → k.process < 2 ^ 32 → spread k < 2 ^ n
+past-all k n past word process = omega (arith, spread-below k word process, pow_mono past)
 
 module _ (ns : List Node) (t : IsTree ns) (k : WordKey) (some : 0 < length ns)
     (new : place_in (keys ns) k ≡ None) (word : k.word < 2 ^ 64) (process : k.process < 2 ^ 32) where
@@ -63,22 +55,25 @@ module _ (ns : List Node) (t : IsTree ns) (k : WordKey) (some : 0 < length ns)
   inside : end_of ns k < length ns
   inside = end_of-inside ns t some k
 
+  eight : length parent.children ≡ 8
+  eight = (t.nodes (end_of ns k) inside).children
+
   pub grown-length : length grown ≡ length ns + 1
   grown-length = length_push (hung ns k) (hanging ns k) ∙ ap (λ n. n + 1) (length-set ns (end_of ns k) _)
 
   at-new : node_at grown (length ns) ≡ hanging ns k
-  at-new = get_or_push (hung ns k) (hanging ns k) (leaf blank 0) (length ns) (length-set ns (end_of ns k) _)
+  at-new = get_or_push (hung ns k) (hanging ns k) no_node (length ns) (length-set ns (end_of ns k) _)
 
   at-old : (i : ℕ) → i < length ns → node_at grown i ≡ node_at (hung ns k) i
   at-old i h =
-      get_or_append_left (hung ns k) (hanging ns k ∷ []) (leaf blank 0) i
+      get_or_append_left (hung ns k) (hanging ns k ∷ []) no_node i
       (omega (arith, h, length-set ns (end_of ns k) (linked parent (spread k) (length ns))))
 
   at-end : node_at grown (end_of ns k) ≡ linked parent (spread k) (length ns)
-  at-end = at-old (end_of ns k) inside ∙ get_or-set_same ns (end_of ns k) _ (leaf blank 0) inside
+  at-end = at-old (end_of ns k) inside ∙ get_or-set_same ns (end_of ns k) _ no_node inside
 
   at-other : (i : ℕ) → i < length ns → i ≢ end_of ns k → node_at grown i ≡ node_at ns i
-  at-other i h n = at-old i h ∙ get_or-set_other ns (end_of ns k) i _ (leaf blank 0) n
+  at-other i h n = at-old i h ∙ get_or-set_other ns (end_of ns k) i _ no_node n
 
   key-kept : (i : ℕ) → i < length ns → (node_at grown i).key ≡ (node_at ns i).key
   key-kept i h = elim (cases_eq i (end_of ns k)) [
@@ -103,18 +98,15 @@ module _ (ns : List Node) (t : IsTree ns) (k : WordKey) (some : 0 < length ns)
   stuck : toward parent (spread k) ≡ 0
   stuck = next-none ns (end_of ns k) k (end_of-last ns t some k) other
 
-  -- at the last bit the keys would be the same
+  -- past all bits of a number the keys would be the same
   shallow : parent.bit < 97
   shallow = elim (cases_lt parent.bit 97) [
     | inl less ↦ less
-    | inr most ↦
+    | inr past ↦
         let o = t.nodes (end_of ns k) inside in
-        let all : parent.bit ≡ 97 = omega (arith, most, o.bit) in
-        let agree : Agree 97 (spread parent.key) (spread k) =
-        subst (λ n. Agree n (spread parent.key) (spread k)) all (end_of-agrees ns t some k) in
         let same : spread parent.key ≡ spread k =
-        sym (mod-eq_of_lt (spread-below parent.key o.word o.process)) ∙ agree
-        ∙ mod-eq_of_lt (spread-below k word process) in
+        sym (mod-eq_of_lt (past-all parent.key parent.bit past o.word o.process)) ∙ end_of-agrees ns t some k
+        ∙ mod-eq_of_lt (past-all k parent.bit past word process) in
         absurd (apart (spread-eq parent.key k o.word word same))
   ]
 
@@ -124,7 +116,7 @@ module _ (ns : List Node) (t : IsTree ns) (k : WordKey) (some : 0 < length ns)
   toward-kept i y h n = elim (cases_eq i (end_of ns k)) [
     | inr d ↦ ap (λ m. toward m y) (at-other i h d)
     | inl q ↦
-        elim (toward-linked parent (spread k) (length ns) y) [
+        elim (toward-linked parent (spread k) (length ns) y eight) [
           | inr s ↦
               ap (λ j. toward (node_at grown j) y) q ∙ ap (λ m. toward m y) at-end ∙ s.1
               ∙ ap (λ j. toward (node_at ns j) y) (sym q)
@@ -136,11 +128,12 @@ module _ (ns : List Node) (t : IsTree ns) (k : WordKey) (some : 0 < length ns)
   node-new : IsNode grown (hanging ns k)
   node-new = record {
     bit = omega (arith, shallow);
+    children = refl;
     word = word;
     process = process;
-    within = λ y n. absurd (n (toward-leaf k (parent.bit + 1) y));
-    deeper = λ y n. absurd (n (toward-leaf k (parent.bit + 1) y));
-    agrees = λ y n a. absurd (n (toward-leaf k (parent.bit + 1) y));
+    within = λ y n. absurd (n (toward-leaf k (parent.bit + 3) y));
+    deeper = λ y n. absurd (n (toward-leaf k (parent.bit + 3) y));
+    agrees = λ y n a. absurd (n (toward-leaf k (parent.bit + 3) y));
   }
 
   node-other : (i : ℕ) → i < length ns → IsNode grown (node_at ns i)
@@ -148,20 +141,21 @@ module _ (ns : List Node) (t : IsTree ns) (k : WordKey) (some : 0 < length ns)
       let o = t.nodes i h in
       record {
         bit = o.bit;
+        children = o.children;
         word = o.word;
         process = o.process;
         within = λ y n. omega (arith, o.within y n, grown-length);
         deeper = λ y n. bit-kept (toward (node_at ns i) y) (o.within y n) ∙ o.deeper y n;
-        agrees = λ y n a. subst (λ q. Agree ((node_at ns i).bit + 1) (spread q) y)
+        agrees = λ y n a. subst (λ q. Agree ((node_at ns i).bit + 3) (spread q) y)
             (sym (key-kept (toward (node_at ns i) y) (o.within y n))) (o.agrees y n a);
       }
 
   -- where a number goes from the parent: to the new node, or as before
   leads : (y : ℕ) → toward (linked parent (spread k) (length ns)) y ≢ 0
-      → ((goes_left parent y ≡ goes_left parent (spread k))
+      → ((way parent y ≡ way parent (spread k))
       × (toward (linked parent (spread k) (length ns)) y ≡ length ns))
       ⊎ ((toward (linked parent (spread k) (length ns)) y ≡ toward parent y) × (toward parent y ≢ 0))
-  leads y n = elim (toward-linked parent (spread k) (length ns) y) [
+  leads y n = elim (toward-linked parent (spread k) (length ns) y eight) [
     | inl s ↦ inl s
     | inr s ↦ inr (s.1, λ z. n (s.1 ∙ z))
   ]
@@ -171,6 +165,7 @@ module _ (ns : List Node) (t : IsTree ns) (k : WordKey) (some : 0 < length ns)
       let o = t.nodes (end_of ns k) inside in
       record {
         bit = o.bit;
+        children = length-set parent.children (way parent (spread k)) (length ns) ∙ eight;
         word = o.word;
         process = o.process;
         within = λ y n. elim (leads y n) [
@@ -178,19 +173,19 @@ module _ (ns : List Node) (t : IsTree ns) (k : WordKey) (some : 0 < length ns)
           | inr s ↦ subst (λ c. c < length grown) (sym s.0) (omega (arith, o.within y s.1, grown-length))
         ];
         deeper = λ y n. elim (leads y n) [
-          | inl s ↦ subst (λ c. (node_at grown c).bit ≡ parent.bit + 1) (sym s.1) (ap (λ (m : Node). m.bit) at-new)
+          | inl s ↦ subst (λ c. (node_at grown c).bit ≡ parent.bit + 3) (sym s.1) (ap (λ (m : Node). m.bit) at-new)
           | inr s ↦
-              subst (λ c. (node_at grown c).bit ≡ parent.bit + 1) (sym s.0)
+              subst (λ c. (node_at grown c).bit ≡ parent.bit + 3) (sym s.0)
               (bit-kept (toward parent y) (o.within y s.1) ∙ o.deeper y s.1)
         ];
         agrees = λ y n a. elim (leads y n) [
           | inl s ↦
-              subst (λ c. Agree (parent.bit + 1) (spread (node_at grown c).key) y) (sym s.1)
-              (subst (λ (m : Node). Agree (parent.bit + 1) (spread m.key) y) (sym at-new)
-              (one-more parent.bit (spread k) y (sym (end_of-agrees ns t some k) ∙ a) (sym s.0)))
+              subst (λ c. Agree (parent.bit + 3) (spread (node_at grown c).key) y) (sym s.1)
+              (subst (λ (m : Node). Agree (parent.bit + 3) (spread m.key) y) (sym at-new)
+              (three-more parent.bit (spread k) y (sym (end_of-agrees ns t some k) ∙ a) (sym s.0)))
           | inr s ↦
-              subst (λ c. Agree (parent.bit + 1) (spread (node_at grown c).key) y) (sym s.0)
-              (subst (λ q. Agree (parent.bit + 1) (spread q) y)
+              subst (λ c. Agree (parent.bit + 3) (spread (node_at grown c).key) y) (sym s.0)
+              (subst (λ q. Agree (parent.bit + 3) (spread q) y)
               (sym (key-kept (toward parent y) (o.within y s.1))) (o.agrees y s.1 a))
         ];
       }
@@ -232,16 +227,16 @@ module _ (ns : List Node) (t : IsTree ns) (k : WordKey) (some : 0 < length ns)
       (ap (λ m. toward m (spread k)) at-end ∙ here) (λ z. omega (arith, z, some))
     where
       here : toward (linked parent (spread k) (length ns)) (spread k) ≡ length ns
-      here = elim (toward-linked parent (spread k) (length ns) (spread k)) [ inl s ↦ s.1 | inr s ↦ absurd (s.0 refl) ]
+      here = elim (toward-linked parent (spread k) (length ns) (spread k) eight) [ inl s ↦ s.1 | inr s ↦ absurd (s.0 refl) ]
 
   -- the walk to the new key goes on from where it ended
-  end-new : (f i : ℕ) → i < length ns → f + (node_at ns i).bit ≡ 98 → end_from ns f i k ≡ end_of ns k
+  end-new : (f i : ℕ) → i < length ns → f + (node_at ns i).bit / 3 ≡ 34 → end_from ns f i k ≡ end_of ns k
       → end_from grown f i k ≡ length ns
   unfolding end_from
   end-new zero i h b e = absurd (omega (arith, b, (t.nodes i h).bit))
   end-new (suc f) i h b e = at (λ c less d g. end-new f c less d g) (next ns i k) refl e
     where
-      at : ((c : ℕ) → c < length ns → f + (node_at ns c).bit ≡ 98 → end_from ns f c k ≡ end_of ns k
+      at : ((c : ℕ) → c < length ns → f + (node_at ns c).bit / 3 ≡ 34 → end_from ns f c k ≡ end_of ns k
           → end_from grown f c k ≡ length ns)
           → (o : Option ℕ) → next ns i k ≡ o → onward i (λ n. end_from ns f n k) o ≡ end_of ns k
           → end_from grown (suc f) i k ≡ length ns
@@ -253,11 +248,11 @@ module _ (ns : List Node) (t : IsTree ns) (k : WordKey) (some : 0 < length ns)
 
   own-old : (i : ℕ) → i < length ns → end_of grown (node_at ns i).key ≡ i
   unfolding end_of
-  own-old i h = end-kept 98 0 (node_at ns i).key i some (t.own i h) refl
+  own-old i h = end-kept 34 0 (node_at ns i).key i some (t.own i h) refl
 
   own-new : end_of grown k ≡ length ns
   unfolding end_of
-  own-new = end-new 98 0 some (omega (arith, t.root)) refl
+  own-new = end-new 34 0 some (omega (arith, t.root)) refl
 
   pub grown-tree : length ns < 2 ^ 32 → IsTree grown
   grown-tree room = record {
@@ -291,7 +286,7 @@ module _ (ns : List Node) (t : IsTree ns) (k : WordKey) (some : 0 < length ns)
 
 root-own : (k : WordKey) → end_of (leaf k 0 ∷ []) k ≡ 0
 unfolding end_of
-root-own k = end-none (leaf k 0 ∷ []) 97 0 k (next-own (leaf k 0 ∷ []) 0 k (word-self k))
+root-own k = end-none (leaf k 0 ∷ []) 33 0 k (next-own (leaf k 0 ∷ []) 0 k (word-self k))
 
 -- the first key makes the root
 pub root-tree : (k : WordKey) → k.word < 2 ^ 64 → k.process < 2 ^ 32 → IsTree (leaf k 0 ∷ [])
@@ -300,6 +295,7 @@ root-tree k word process = record {
   root = refl;
   nodes = λ i h. subst (λ j. IsNode (leaf k 0 ∷ []) (node_at (leaf k 0 ∷ []) j)) (first i h) (record {
     bit = omega arith;
+    children = refl;
     word = word;
     process = process;
     within = λ y n. absurd (n (toward-leaf k 0 y));

@@ -1,11 +1,11 @@
 -- The walk to a key.
-use Rattle.std.proofs.Common.{◌≡◌, ◌≢◌, ℕ, zero, suc, ◌+◌, ◌-◌, ◌<◌, ◌==◌, Bool, true, false, cond, List, [], ◌∷◌, length, get_or, Option, Some, None, refl, ap, sym, subst, ◌∙◌, arith}
+use Rattle.std.proofs.Common.{◌≡◌, ◌≢◌, ℕ, zero, suc, ◌+◌, ◌-◌, ◌/◌, ◌<◌, ◌==◌, Bool, true, false, cond, List, [], ◌∷◌, length, get_or, Option, Some, None, refl, ap, sym, subst, ◌∙◌, arith}
 use Rattle.std.proofs.lemmas.Bool.{eqb-true, eqb-false, ne_eqb}
 use Rattle.std.proofs.lemmas.List.{length-map, get_or-map}
 use Rattle.bd_words.specs.declared.key.WordKey.{WordKey}
 use Rattle.bd_words.specs.declared.node.Node.{Node}
 use Rattle.bd_words.specs.Keys.{same_word, spread, place_in}
-use Rattle.bd_words.specs.Walk.{blank, leaf, node_at, keys, toward, next, onward, end_from, end_of}
+use Rattle.bd_words.specs.Walk.{blank, no_node, node_at, keys, toward, next, onward, end_from, end_of}
 use Rattle.bd_words.specs.Tree.{Agree, IsTree}
 use Rattle.bd_words.proofs.Keys.{word-eq, word-self}
 use Rattle.bd_words.proofs.Places.{place-some, place-none}
@@ -73,7 +73,7 @@ unfolding end_from
 end-some ns f i k j e = ap (onward i (λ n. end_from ns f n k)) e
 
 pub key-at : (ns : List Node) (i : ℕ) → i < length ns → get_or (keys ns) i blank ≡ (node_at ns i).key
-key-at ns i h = get_or-map (λ (n : Node). n.key) ns i (leaf blank 0) blank h
+key-at ns i h = get_or-map (λ (n : Node). n.key) ns i no_node blank h
 
 pub keys-length : (ns : List Node) → length (keys ns) ≡ length ns
 keys-length ns = length-map ns (λ (n : Node). n.key)
@@ -85,19 +85,19 @@ module _ (ns : List Node) (t : IsTree ns) where
       subst (λ c. c < length ns) s.1 ((t.nodes i h).within (spread k) s.2)
 
   pub step-deeper : (i : ℕ) (k : WordKey) (j : ℕ) → i < length ns → next ns i k ≡ Some j
-      → (node_at ns j).bit ≡ (node_at ns i).bit + 1
+      → (node_at ns j).bit ≡ (node_at ns i).bit + 3
   step-deeper i k j h e =
       let s = next-some ns i k j e in
-      subst (λ c. (node_at ns c).bit ≡ (node_at ns i).bit + 1) s.1 ((t.nodes i h).deeper (spread k) s.2)
+      subst (λ c. (node_at ns c).bit ≡ (node_at ns i).bit + 3) s.1 ((t.nodes i h).deeper (spread k) s.2)
 
   pub step-agrees : (i : ℕ) (k : WordKey) (j : ℕ) → i < length ns → next ns i k ≡ Some j
       → Agree (node_at ns i).bit (spread (node_at ns i).key) (spread k)
       → Agree (node_at ns j).bit (spread (node_at ns j).key) (spread k)
   step-agrees i k j h e a =
       let s = next-some ns i k j e in
-      let one_more = (t.nodes i h).agrees (spread k) s.2 a in
+      let more = (t.nodes i h).agrees (spread k) s.2 a in
       subst (λ n. Agree n (spread (node_at ns j).key) (spread k)) (sym (step-deeper i k j h e))
-      (subst (λ c. Agree ((node_at ns i).bit + 1) (spread (node_at ns c).key) (spread k)) s.1 one_more)
+      (subst (λ c. Agree ((node_at ns i).bit + 3) (spread (node_at ns c).key) (spread k)) s.1 more)
 
   end-inside : (f i : ℕ) (k : WordKey) → i < length ns → end_from ns f i k < length ns
   unfolding end_from
@@ -110,13 +110,13 @@ module _ (ns : List Node) (t : IsTree ns) where
       at again (Some j) e = again j (step-inside i k j h e)
 
   -- a node further at each step, the walk ends before its steps are used up
-  end-last : (f i : ℕ) (k : WordKey) → i < length ns → f + (node_at ns i).bit ≡ 98
+  end-last : (f i : ℕ) (k : WordKey) → i < length ns → f + (node_at ns i).bit / 3 ≡ 34
       → next ns (end_from ns f i k) k ≡ None
   unfolding end_from
   end-last zero i k h b = absurd (omega (arith, b, (t.nodes i h).bit))
   end-last (suc f) i k h b = at (λ j l d. end-last f j k l d) (next ns i k) refl
     where
-      at : ((j : ℕ) → j < length ns → f + (node_at ns j).bit ≡ 98 → next ns (end_from ns f j k) k ≡ None)
+      at : ((j : ℕ) → j < length ns → f + (node_at ns j).bit / 3 ≡ 34 → next ns (end_from ns f j k) k ≡ None)
           → (o : Option ℕ) → next ns i k ≡ o → next ns (onward i (λ j. end_from ns f j k) o) k ≡ None
       at again None e = e
       at again (Some j) e = again j (step-inside i k j h e) (omega (arith, b, step-deeper i k j h e))
@@ -138,18 +138,18 @@ module _ (ns : List Node) (t : IsTree ns) where
 
   pub end_of-inside : 0 < length ns → (k : WordKey) → end_of ns k < length ns
   unfolding end_of
-  end_of-inside h k = end-inside 98 0 k h
+  end_of-inside h k = end-inside 34 0 k h
 
   pub end_of-last : 0 < length ns → (k : WordKey) → next ns (end_of ns k) k ≡ None
   unfolding end_of
-  end_of-last h k = end-last 98 0 k h (omega (arith, t.root))
+  end_of-last h k = end-last 34 0 k h (omega (arith, t.root))
 
   pub end_of-agrees : 0 < length ns → (k : WordKey)
       → Agree (node_at ns (end_of ns k)).bit (spread (node_at ns (end_of ns k)).key) (spread k)
   unfolding end_of
   end_of-agrees h k =
       let none : Agree 0 (spread (node_at ns 0).key) (spread k) = omega arith in
-      end-agrees 98 0 k h (subst (λ n. Agree n (spread (node_at ns 0).key) (spread k)) (sym t.root) none)
+      end-agrees 34 0 k h (subst (λ n. Agree n (spread (node_at ns 0).key) (spread k)) (sym t.root) none)
 
   -- a key's walk ends at its place
   pub end-own : (k : WordKey) (j : ℕ) → place_in (keys ns) k ≡ Some j → (j < length ns) × (end_of ns k ≡ j)
@@ -198,12 +198,12 @@ module _ (ns : List Node) (t : IsTree ns) where
 
   -- a walk, step by step: so many steps are left at a node that the walk ends where it is to end
   abbrev pub OnTheWay : WordKey → ℕ → Type 0
-  OnTheWay k i = (f : ℕ) → f + (node_at ns i).bit ≡ 98 → end_from ns f i k ≡ end_of ns k
+  OnTheWay k i = (f : ℕ) → f + (node_at ns i).bit / 3 ≡ 34 → end_from ns f i k ≡ end_of ns k
 
   pub walk-begins : (k : WordKey) → OnTheWay k 0
   unfolding end_of
   walk-begins k f b =
-      let all : f ≡ 98 = omega (arith, b, t.root) in
+      let all : f ≡ 34 = omega (arith, b, t.root) in
       ap (λ n. end_from ns n 0 k) all
 
   pub walk-goes : (k : WordKey) (i j : ℕ) → i < length ns → next ns i k ≡ Some j → OnTheWay k i → OnTheWay k j
@@ -213,11 +213,11 @@ module _ (ns : List Node) (t : IsTree ns) where
   pub walk-ends : (k : WordKey) (i : ℕ) → i < length ns → next ns i k ≡ None → OnTheWay k i → i ≡ end_of ns k
   walk-ends k i h e w =
       let o = t.nodes i h in
-      sym (end-none ns (97 - (node_at ns i).bit) i k e)
-      ∙ w (suc (97 - (node_at ns i).bit)) (omega (arith, o.bit))
+      sym (end-none ns (33 - (node_at ns i).bit / 3) i k e)
+      ∙ w (suc (33 - (node_at ns i).bit / 3)) (omega (arith, o.bit))
 
   pub walk-falls : (k : WordKey) (i j : ℕ) → i < length ns → next ns i k ≡ Some j
-      → 98 - (node_at ns j).bit < 98 - (node_at ns i).bit
+      → 34 - (node_at ns j).bit / 3 < 34 - (node_at ns i).bit / 3
   walk-falls k i j h e = let o = t.nodes i h in omega (arith, o.bit, step-deeper i k j h e)
 
 -- in an empty tree there is none

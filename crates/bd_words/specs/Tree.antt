@@ -10,15 +10,17 @@ Agree n x y = x % 2 ^ n ≡ y % 2 ^ n
 
 -- a node as it stands among the others
 pub record IsNode (ns : List Node) (n : Node) : Type 0 where
-  pub bit : n.bit ≤ 97
+  -- a number has 97 bits, so those that agree up to here are the same
+  pub bit : n.bit ≤ 99
+  pub children : length n.children ≡ 8
   pub word : n.key.word < 2 ^ 64
   pub process : n.key.process < 2 ^ 32
-  -- there is a node where a number goes to, one bit further
+  -- there is a node where a number goes to, three bits further
   pub within : (x : ℕ) → toward n x ≢ 0 → toward n x < length ns
-  pub deeper : (x : ℕ) → toward n x ≢ 0 → (node_at ns (toward n x)).bit ≡ n.bit + 1
+  pub deeper : (x : ℕ) → toward n x ≢ 0 → (node_at ns (toward n x)).bit ≡ n.bit + 3
   -- and what agrees with this one, and goes on, agrees with that one
   pub agrees : (x : ℕ) → toward n x ≢ 0 → Agree n.bit (spread n.key) x
-      → Agree (n.bit + 1) (spread (node_at ns (toward n x)).key) x
+      → Agree (n.bit + 3) (spread (node_at ns (toward n x)).key) x
 
 pub record IsTree (ns : List Node) : Type 0 where
   pub count : length ns ≤ 2 ^ 32

@@ -1,5 +1,5 @@
 -- The walk to a key, from node to node.
-use Rattle.std.specs.Prelude.{ℕ, zero, suc, ◌+◌, ◌/◌, ◌%◌, ◌^◌, ◌==◌, Bool, cond, List, length, map, get_or, set, Option, Some, None}
+use Rattle.std.specs.Prelude.{ℕ, zero, suc, ◌+◌, ◌/◌, ◌%◌, ◌^◌, ◌==◌, cond, List, [], length, map, get_or, set, replicate, Option, Some, None}
 use Rattle.bd_words.specs.declared.key.WordKey.{WordKey}
 use Rattle.bd_words.specs.declared.node.Node.{Node}
 use Rattle.bd_words.specs.Keys.{same_word, spread}
@@ -8,24 +8,28 @@ abbrev pub blank : WordKey
 blank = record { process = 0; word = 0 }
 
 abbrev pub leaf : WordKey → ℕ → Node
-leaf k n = record { key = k; bit = n; left = 0; right = 0 }
+leaf k n = record { key = k; bit = n; children = replicate 8 0 }
+
+-- what a list of nodes has past its end
+abbrev pub no_node : Node
+no_node = record { key = blank; bit = 0; children = [] }
 
 abbrev pub node_at : List Node → ℕ → Node
-node_at ns i = get_or ns i (leaf blank 0)
+node_at ns i = get_or ns i no_node
 
 abbrev pub keys : List Node → List WordKey
 keys ns = map (λ n. n.key) ns
 
--- where a number goes from a node
-abbrev pub goes_left : Node → ℕ → Bool
-goes_left n x = x / 2 ^ n.bit % 2 == 0
+-- where a number goes from a node, by its three bits from the node's on
+abbrev pub way : Node → ℕ → ℕ
+way n x = x / 2 ^ n.bit % 8
 
 abbrev pub toward : Node → ℕ → ℕ
-toward n x = cond (goes_left n x) n.left n.right
+toward n x = get_or n.children (way n x) 0
 
 -- the node with a child there
 abbrev pub linked : Node → ℕ → ℕ → Node
-linked n x c = record n { left = cond (goes_left n x) c n.left; right = cond (goes_left n x) n.right c }
+linked n x c = record n { children = set n.children (way n x) c }
 
 -- the node after one: none at the key's own, and none where no more go that way
 unfoldable pub next : List Node → ℕ → WordKey → Option ℕ
@@ -43,7 +47,7 @@ end_from ns zero i k = i
 end_from ns (suc f) i k = onward i (λ j. end_from ns f j k) (next ns i k)
 
 unfoldable pub end_of : List Node → WordKey → ℕ
-end_of ns k = end_from ns 98 0 k
+end_of ns k = end_from ns 34 0 k
 
 -- the nodes once the next one, of this key, is linked to the one that it comes under
 abbrev pub hung : List Node → WordKey → List Node
@@ -51,4 +55,4 @@ hung ns k = set ns (end_of ns k) (linked (node_at ns (end_of ns k)) (spread k) (
 
 -- and that node
 abbrev pub hanging : List Node → WordKey → Node
-hanging ns k = leaf k ((node_at ns (end_of ns k)).bit + 1)
+hanging ns k = leaf k ((node_at ns (end_of ns k)).bit + 3)

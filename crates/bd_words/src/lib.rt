@@ -1,5 +1,5 @@
 //! Values found by process and word (a ptr, a cookie, a pointer, a pid): whoever chooses the words, no look-up takes
-//! more than about a hundred steps.
+//! more than 34 steps.
 #![tactic(auto)]
 
 mod key;

@@ -1,6 +1,6 @@
 //! A node of the tree.
 
-ghost use Rattle.std.specs.Prelude.{◌≡◌, ◌+◌, ◌<◌};
+ghost use Rattle.std.specs.Prelude.{◌≡◌, ◌+◌, ◌<◌, replicate};
 ghost use Rattle.bd_words.specs.Keys.{spread};
 
 use crate::key::WordKey;
@@ -9,34 +9,32 @@ use crate::key::WordKey;
 #[derive(Clone, Copy)]
 pub(crate) struct Node {
     pub(crate) key: WordKey,
-    // Which bit of a key's number parts those that go left from those that go right: one further at each step.
+    // The first of the three bits of a key's number that tell which child it goes to: three further at each step.
     pub(crate) bit: u8,
     // Indexes of nodes, or 0 where there is none: the root is nobody's child.
-    pub(crate) left: u32,
-    pub(crate) right: u32,
+    pub(crate) children: [u32; 8],
 }
 
 impl Node {
-    ghost use Rattle.bd_words.specs.Walk.{toward, goes_left, linked};
+    ghost use Rattle.bd_words.specs.Walk.{way, toward, linked};
 
     /// A node with nothing below it.
     pub(crate) fn new(key: WordKey, bit: u8) -> Node
-        ensures { result ≡ record { key = key; bit = bit; left = 0; right = 0 } }
+        ensures { result ≡ record { key = key; bit = bit; children = replicate 8 0 } }
     {
         Node {
             key,
             bit,
-            left: 0,
-            right: 0,
+            children: [0; 8],
         }
     }
 
-    // Whether a key goes left from here.
-    fn goes_left(&self, k: WordKey) -> bool
+    // Which child a key goes to from here.
+    fn way(&self, k: WordKey) -> usize
         requires { self.now.bit < 128 }
-        ensures { result ≡ goes_left self.now (spread k) }
+        ensures { result ≡ way self.now (spread k) }
     {
-        (k.spread() >> self.bit) % 2 == 0
+        ((k.spread() >> self.bit) % 8) as usize
     }
 
     /// The child that a key goes to, or 0.
@@ -44,11 +42,7 @@ impl Node {
         requires { self.now.bit < 128 }
         ensures { result ≡ toward self.now (spread k) }
     {
-        if self.goes_left(k) {
-            self.left
-        } else {
-            self.right
-        }
+        self.children[self.way(k)]
     }
 
     /// A child comes where a key goes.
@@ -56,10 +50,7 @@ impl Node {
         requires { self.old.bit < 128 }
         ensures { self.new ≡ linked self.old (spread k) child }
     {
-        if self.goes_left(k) {
-            self.left = child;
-        } else {
-            self.right = child;
-        }
+        let way = self.way(k);
+        self.children[way] = child;
     }
 }

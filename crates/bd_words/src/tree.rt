@@ -27,7 +27,7 @@ fn next(nodes: &[Node], at: usize, k: WordKey) -> Option<usize>
 }
 
 // Where the walk to a key ends: at its own node, or at the one that a new node of the key comes under. Each node is
-// a bit further than the one before, so there are 98 at most.
+// three bits further than the one before, so there are 34 at most.
 fn end(nodes: &[Node], k: WordKey) -> usize
     requires root { 0 < length nodes.now }
     requires tree { IsTree nodes.now }
@@ -70,10 +70,10 @@ fn hang(nodes: &mut Vec<Node>, k: WordKey) -> u8
     let at = end(nodes, k);
     let parent = &mut nodes[at];
     parent.link(k, child);
-    parent.bit + 1
+    parent.bit + 3
 }
 
-/// Keys, each at its place: a binary tree by their bits, whose nodes stay.
+/// Keys, each at its place: a tree by their bits, three at each node, whose nodes stay.
 #[derive(Drop)]
 pub(crate) struct Tree {
     pub(crate) nodes: Vec<Node>,

@@ -2,7 +2,7 @@ use Rattle.std.proofs.Common.{◌≡◌, ◌<◌, ◌+◌, ◌++◌, ◌∷◌, 
 use Rattle.std.proofs.lemmas.Bool.{eqb-true}
 use Rattle.std.proofs.lemmas.List.{nil_from_length, get_or_read}
 use Rattle.bd_words.specs.Keys.{spread}
-use Rattle.bd_words.specs.Walk.{blank, leaf, node_at, keys, linked, end_of}
+use Rattle.bd_words.specs.Walk.{leaf, no_node, node_at, keys, linked, end_of}
 use Rattle.bd_words.specs.Tree.{IsTree}
 use Rattle.bd_words.proofs.Hanging.{grown-tree, hung-keys, root-tree}
 use Rattle.bd_words.proofs.tree.hang.Goals as goal
@@ -19,7 +19,7 @@ links : (c : goal.After-nodes-1) → c.link.new.self
 links c =
     let ns = c.args.nodes.now.items in
     let parent =
-    get_or_read ns c.end-at.result _ (inside c) c.index_mut-parent.ensures.value (leaf blank 0)
+    get_or_read ns c.end-at.result _ (inside c) c.index_mut-parent.ensures.value no_node
     ∙ ap (node_at ns) (at-end c) in
     let child : c.len-child.result ≡ length ns = omega (arith, c.len-child.ensures, c.args.nodes.now.ok.0) in
     c.link.ensures ∙ ap₂ (λ n i. linked n (spread c.args.k) i) parent child
@@ -32,7 +32,7 @@ returns-then-is_empty-clause-tree c =
 
 pub returns-clause-tree : goal.returns-clause-tree
 returns-clause-tree c =
-    subst₂ (λ i n. IsTree (set c.args.nodes.now.items i n ++ leaf c.args.k (n.bit + 1) ∷ [])) (sym (at-end c))
+    subst₂ (λ i n. IsTree (set c.args.nodes.now.items i n ++ leaf c.args.k (n.bit + 3) ∷ [])) (sym (at-end c))
     (sym (links c))
     (grown-tree c.args.nodes.now.items c.requires.tree c.args.k (omega (arith, inside c)) c.requires.new
     (omega arith) (omega arith) c.requires.room)
