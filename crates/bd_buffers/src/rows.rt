@@ -16,8 +16,8 @@ pub(crate) struct Row {
     pub(crate) buffer: Option<Buffer>,
 }
 
-// The index of the row made there.
-fn index_among(rows: &[Row], made: u32) -> Option<usize>
+// The index of the row made there, found by halves.
+fn index_by_halves(rows: &[Row], made: u32) -> Option<usize>
     requires order { AllPairs (λ a b. a.made < b.made) rows.now }
     ensures { MatchOption result
         (All (λ r. (r.made == made) ≡ false) rows.now)
@@ -28,6 +28,20 @@ fn index_among(rows: &[Row], made: u32) -> Option<usize>
         Some(i)
     } else {
         None
+    }
+}
+
+// The index of the row made there. The last is looked at first: it is what a step mostly speaks of.
+fn index_among(rows: &[Row], made: u32) -> Option<usize>
+    requires order { AllPairs (λ a b. a.made < b.made) rows.now }
+    ensures { MatchOption result
+        (All (λ r. (r.made == made) ≡ false) rows.now)
+        (λ i. (i < length rows.now) × ((d : Row) → (slice_index_or rows.now i d).made ≡ made)) }
+{
+    if !rows.is_empty() && rows[rows.len() - 1].made == made {
+        Some(rows.len() - 1)
+    } else {
+        index_by_halves(rows, made)
     }
 }
 

@@ -3,8 +3,8 @@ use Rattle.std.proofs.lemmas.List.{get_or_default}
 use Rattle.std.proofs.lemmas.List.Sorted.{IsPartitionPoint-from_clause}
 use Rattle.bd_buffers.specs.declared.rows.Row.{Row}
 use Rattle.bd_buffers.proofs.Made.{missed}
-use Rattle.bd_buffers.proofs.rows.index_among.Goals as goal
-use Rattle.bd_buffers.proofs.rows.index_among.Goals.{else-i-rows-via-then-i-rows+else-rows-i, else-i-rows-via-else-i-rows}
+use Rattle.bd_buffers.proofs.rows.index_by_halves.Goals as goal
+use Rattle.bd_buffers.proofs.rows.index_by_halves.Goals.{else-i-rows-via-then-i-rows+else-rows-i, else-i-rows-via-else-i-rows}
 
 pub returns-else-i-rows : goal.returns-else-i-rows
 returns-else-i-rows c =
