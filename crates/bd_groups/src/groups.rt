@@ -9,7 +9,7 @@ ghost use Rattle.bd_groups.specs.Trail.{latest_at};
 use crate::group::Group;
 use crate::link::Link;
 use crate::members::Members;
-use bd_words::insert_reserved;
+use bd_words::{insert_reserved, room_anew};
 use std::alloc::{AllocError, Global};
 use std::collections::HashMap;
 
@@ -49,6 +49,9 @@ fn take_latest(latest: &mut HashMap<Group, usize>, g: Group)
     let _gone = latest.remove(&g);
 }
 
+// Room is made anew for so many members at least.
+const LEAST: usize = 64;
+
 /// Members by their groups. One alone can't be taken away: its table knows what is still there, and makes the groups anew
 /// when most of what they have is gone.
 #[derive(Drop)]
@@ -79,7 +82,7 @@ impl<T: Copy> Groups<T> {
         ensures count { IfOk result (λ t. member_count t ≡ 0) }
         ensures room { IfOk result (λ t. left + more ≤ group_room t) }
     {
-        let room = left.checked_add(more).ok_or(AllocError)?;
+        let room = room_anew(LEAST, left, more)?;
         let mut groups = Groups::new(alloc);
         groups.reserve(room)?;
         Ok(groups)

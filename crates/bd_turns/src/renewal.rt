@@ -9,21 +9,11 @@ use crate::queue::Queue;
 use crate::slots::{Slot, count_live};
 use crate::table::TurnTable;
 use bd_groups::Groups;
+use bd_words::room_anew;
 use std::alloc::{AllocError, Global};
 
-// A table that grows has no fewer slots, so that a small one isn't renewed at each call.
-const LEAST_SLOTS: usize = 16;
-
-// So many slots that those which go later are paid for by the calls that come in until then.
-fn slots_for(live: usize, more: usize) -> Result<usize, AllocError>
-    ensures { IfOk result (λ n. live + more ≤ n) }
-{
-    let slots = live
-        .checked_mul(2)
-        .and_then(|twice| twice.checked_add(more))
-        .ok_or(AllocError)?;
-    Ok(slots.max(LEAST_SLOTS))
-}
+// Room is made anew for so many calls at least.
+const LEAST: usize = 64;
 
 // The calls that haven't gone come into another table.
 fn push_live(slots: &[Slot], table: &mut TurnTable)
@@ -66,7 +56,7 @@ impl TurnTable {
         ensures count { IfOk result (λ t. turn_count t ≤ turn_count self.now) }
     {
         let slots = &self.queue.slots;
-        let calls = slots_for(count_live(slots), more)?;
+        let calls = room_anew(LEAST, count_live(slots), more)?;
         let mut table = TurnTable::with_capacity(*slots.allocator(), calls)?;
         push_live(slots, &mut table);
         Ok(table)

@@ -7,9 +7,11 @@ mod map;
 mod node;
 mod numbers;
 mod reserved;
+mod room;
 mod tree;
 
 pub use key::WordKey;
 pub use map::WordMap;
 pub use numbers::{pair, wide};
 pub use reserved::insert_reserved;
+pub use room::room_anew;

@@ -4,8 +4,12 @@ ghost use Rattle.std.specs.Prelude.{◌≡◌, ◌+◌, ◌≤◌, ◌<◌, if�
 ghost use Rattle.std.specs.Option.{option_map};
 
 use crate::key::WordKey;
+use crate::room::room_anew;
 use crate::tree::Tree;
 use std::alloc::{AllocError, Global};
+
+// Room is made anew for so many keys at least.
+const LEAST: usize = 16;
 
 /// Values by process and word.
 #[derive(Drop)]
@@ -57,7 +61,7 @@ impl<V: Copy> WordMap<V> {
         ensures kept { IfOk result (λ m. (k : WordKey) → look m k ≡ look self.now k) }
         ensures room { IfOk result (λ m. more ≤ word_room m) }
     {
-        let room = self.live.checked_add(more).ok_or(AllocError)?;
+        let room = room_anew(LEAST, self.live, more)?;
         let mut fresh = WordMap::new(*self.values.allocator());
         fresh.grow(room)?;
         for (at, value) in self.values.iter().enumerate() {
