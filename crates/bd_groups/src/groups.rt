@@ -30,14 +30,16 @@ fn reserve_latest(latest: &mut HashMap<Group, usize>, more: usize) -> Result<(),
     latest.reserve(more)
 }
 
+// The group's latest member stands there from now on. Answers where the one before it stands.
 #[tactic(auto, unfolding(crate::specs::Group::same_group))]
-fn put_latest(latest: &mut HashMap<Group, usize>, g: Group, at: usize)
+fn put_latest(latest: &mut HashMap<Group, usize>, g: Group, at: usize) -> Option<usize>
     requires { 0 < spare latest.old }
+    ensures before { result ≡ latest_at latest.old g }
     ensures at { (h : group.Group) → latest_at latest.new h
         ≡ (if groups.same_group g h then Some at else latest_at latest.old h) }
     ensures spare { spare latest.old ≤ spare latest.new + 1 }
 {
-    insert_reserved(latest, g, at);
+    insert_reserved(latest, g, at)
 }
 
 #[tactic(auto, unfolding(crate::specs::Group::same_group))]
@@ -139,9 +141,8 @@ impl<T: Copy> Groups<T> {
         ensures uses { group_room self.old ≤ group_room self.new + 1 }
     {
         let at = self.links.len();
-        let before = latest_of(&self.latest, g);
+        let before = put_latest(&mut self.latest, g, at);
         self.links.push_reserved(Link { member, before });
-        put_latest(&mut self.latest, g, at);
     }
 
     /// The group has no members from now on.
