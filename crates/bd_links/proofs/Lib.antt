@@ -4,6 +4,7 @@ pub mod Columns
 pub mod Each
 pub mod RingLemmas
 pub mod ListKeys
+pub mod HeadRows
 pub mod Moves
 pub mod QueueLemmas
 pub mod Growing

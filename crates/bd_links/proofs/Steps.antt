@@ -61,21 +61,22 @@ front_none t todo s l h is found = sym (any_none (is_on l) todo (of h.either))
 -- ---- growing
 
 pub begin_stands : (t u : Queues) (todo : List Work) (n : Node) → Stands t todo → t.nodes.items ≡ [] → n.prev ≡ 0 → n.next ≡ 0 → n.row ≡ 0
-    → u.nodes.items ≡ n ∷ [] → head_at u.lists ≡ head_at t.lists → u.free ≡ t.free → Stands u todo
+    → u.nodes.items ≡ n ∷ [] → (((l : TodoList) → head_at t.lists l ≡ None) → (l : TodoList) → head_at u.lists l ≡ None)
+    → u.free ≡ t.free → Stands u todo
 begin_stands t u todo n h none p x r ns ls fr = record { either = of h.either }
   where
     of : Empty t todo ⊎ ((order : List ℕ) × Shows t todo order) → Empty u todo ⊎ ((order : List ℕ) × Shows u todo order)
     of (inl e) = inr (
       [],
-      rw (ns, ls, p, x, r) (record {
+      rw (ns, p, x, r) (record {
         heads = [];
         queued = record {
           rings = begun;
           works = refl;
           listed = λ y k u. elim k [ ];
           todo_are = e.none;
-          headed = λ l g k. absurd (none_some g (sym (e.no_lists l) ∙ k));
-          one_list = λ l m g k i. absurd (none_some g (sym (e.no_lists l) ∙ k));
+          headed = λ l g k. absurd (none_some g (sym (ls e.no_lists l) ∙ k));
+          one_list = λ l m g k i. absurd (none_some g (sym (ls e.no_lists l) ∙ k));
         };
         free = let f = e.none_free in omega (arith, fr, f);
         covered = λ y u. absurd (unused y u);
@@ -84,6 +85,16 @@ begin_stands t u todo n h none p x r ns ls fr = record { either = of h.either }
       where
         unused : (y : ℕ) → not (get_or (0 ∷ []) y 0 == 0) ≡ true → ⊥
         unused y u = let none : not (get_or (0 ∷ []) y 0 == 0) ≡ false = ap (λ r. not (r == 0)) (zero_added [] y) ∙ ap not (eq-eqb 0 0 refl) in cc
+    of (inr k) = let low = k.1.queued.rings.within.0 in let l = ap length none in let m = length-map t.nodes.items (λ (n : Node). n.next) in absurd (omega (arith, low, l, m))
+
+-- no node was made
+pub unbegun_stands : (t u : Queues) (todo : List Work) → Stands t todo → t.nodes.items ≡ [] → u.nodes.items ≡ []
+    → (((l : TodoList) → head_at t.lists l ≡ None) → (l : TodoList) → head_at u.lists l ≡ None)
+    → u.free ≡ t.free → Stands u todo
+unbegun_stands t u todo h none ns ls fr = record { either = of h.either }
+  where
+    of : Empty t todo ⊎ ((order : List ℕ) × Shows t todo order) → Empty u todo ⊎ ((order : List ℕ) × Shows u todo order)
+    of (inl e) = inl (record { no_nodes = ns; no_lists = ls e.no_lists; none_free = fr ∙ e.none_free; none = e.none })
     of (inr k) = let low = k.1.queued.rings.within.0 in let l = ap length none in let m = length-map t.nodes.items (λ (n : Node). n.next) in absurd (omega (arith, low, l, m))
 
 pub grow_stands : (t u : Queues) (todo : List Work) (x : ℕ) (n : Node) → Stands t todo → 1 ≤ length t.nodes.items → x ≡ length t.nodes.items → n.prev ≡ 0 → n.next ≡ 0 → n.row ≡ 0

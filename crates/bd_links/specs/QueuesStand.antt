@@ -28,7 +28,7 @@ pub record Stands (t : Queues) (todo : List Work) : Type 0 where
 
 -- so many work items more take no memory: one may need two nodes, the second for the head of its list
 abbrev pub queue_room : Queues → ℕ
-queue_room t = min (t.free / 2) (spare t.lists)
+queue_room t = min (t.free / 2) (spare t.lists.others)
 
 -- the node holds the first work item on the list, as some order shows
 abbrev pub FrontIn : Queues → List Work → TodoList → ℕ → Type 0

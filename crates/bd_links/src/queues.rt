@@ -5,18 +5,17 @@ ghost use Rattle.std.specs.{List.{list_any}, HashMap.{spare}};
 ghost use Rattle.bd_space.specs.declared.space.Work.{Work};
 ghost use Rattle.bd_links.specs.{Heads.{head_at}, Queues.{no_work}};
 
-use crate::heads::{ListKey, head_of, put_head, take_head};
+use crate::heads::Heads;
 use crate::links::{Node, attach, detach, move_last, next_of, set_next, set_prev, set_work};
 use bd_space::{Identity, TodoList, Work, WorkKind};
 use std::alloc::{AllocError, Global};
-use std::collections::HashMap;
 
 /// Work items in queues.
 #[derive(Debug, Drop)]
 pub struct Queues {
     pub nodes: Vec<Node>,
     // Where the ring of each list begins that has one.
-    pub lists: HashMap<ListKey, usize>,
+    pub lists: Heads,
     // At least so many nodes are free.
     pub free: usize,
 }
@@ -57,7 +56,7 @@ impl Queues {
     {
         Queues {
             nodes: Vec::new(alloc),
-            lists: HashMap::new(alloc),
+            lists: Heads::new(alloc),
             free: 0,
         }
     }
@@ -66,10 +65,11 @@ impl Queues {
     fn begin(&mut self) -> Result<(), AllocError>
         ensures stands { (todo : List Work) → Stands self.old todo → Stands self.new todo }
         ensures begun { OnOk result (1 ≤ vec_len self.new.nodes) }
-        ensures lists { self.new.lists ≡ self.old.lists }
+        ensures lists { self.new.lists.others ≡ self.old.lists.others }
         ensures free { self.new.free ≡ self.old.free }
     {
         if self.nodes.len() == 0 {
+            self.lists.begin()?;
             self.nodes.push(free_node())?;
         }
         Ok(())
@@ -97,7 +97,7 @@ impl Queues {
     // Free nodes for so many work items and their lists.
     fn grow(&mut self, works: usize) -> Result<(), AllocError>
         ensures stands { (todo : List Work) → Stands self.old todo → Stands self.new todo }
-        ensures lists { self.new.lists ≡ self.old.lists }
+        ensures lists { self.new.lists.others ≡ self.old.lists.others }
         ensures ok { OnOk result (works ≤ self.new.free / 2) }
         ensures free { self.old.free ≤ self.new.free }
         ensures grown { OnErr result (works ≤ self.old.free / 2 → ⊥) }
@@ -126,20 +126,20 @@ impl Queues {
     // The head of a list's ring, which is made where there is none.
     fn head_for(&mut self, list: TodoList) -> usize
         requires node { 1 ≤ self.old.free }
-        requires room { 0 < spare self.old.lists }
+        requires room { 0 < spare self.old.lists.others }
         ensures stands { (todo : List Work) → Stands self.old todo → Stands self.new todo }
         ensures head { head_at self.new.lists list ≡ Some result }
         ensures free { self.old.free ≤ self.new.free + 1 }
-        ensures lists { spare self.old.lists ≤ spare self.new.lists + 1 }
+        ensures lists { spare self.old.lists.others ≤ spare self.new.lists.others + 1 }
     {
-        if let Some(head) = head_of(&self.lists, list) {
+        if let Some(head) = self.lists.of(list) {
             return head;
         }
         let x = next_of(&self.nodes, 0);
         detach(&mut self.nodes, x);
         set_next(&mut self.nodes, x, x);
         set_prev(&mut self.nodes, x, x);
-        put_head(&mut self.lists, list, x);
+        self.lists.put(list, x);
         self.free -= 1;
         x
     }
@@ -185,8 +185,8 @@ impl Queues {
         ensures stands { (todo : List Work) → Stands self.old todo → list_any (is_on list) todo ≡ false → Stands self.new todo }
         ensures uses { queue_room self.old ≤ queue_room self.new }
     {
-        if let Some(head) = head_of(&self.lists, list) {
-            take_head(&mut self.lists, list);
+        if let Some(head) = self.lists.of(list) {
+            self.lists.take(list);
             attach(&mut self.nodes, head, 0);
             self.free = self.free.saturating_add(1);
         }
@@ -198,7 +198,7 @@ impl Queues {
         ensures some { (todo : List Work) → Stands self.now todo → IfSome result (FrontIn self.now todo list) }
         ensures first { (todo : List Work) → Stands self.now todo → IfSome result (IsFirstAt self.now todo list) }
     {
-        if let Some(head) = head_of(&self.lists, list) {
+        if let Some(head) = self.lists.of(list) {
             let x = next_of(&self.nodes, head);
             if x != head {
                 return Some(x);

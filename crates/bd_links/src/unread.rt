@@ -4,7 +4,6 @@ ghost use Rattle.std.specs.{Prelude.{ℕ, ◌≡◌, List, Some}, Iterator.{Yiel
 ghost use Rattle.bd_space.specs.declared.space.Work.{Work};
 ghost use Rattle.bd_links.specs.Walk.{works_from};
 
-use crate::heads::head_of;
 use crate::links::{Node, next_of};
 use crate::queues::Queues;
 use bd_space::{TodoList, Work};
@@ -54,7 +53,7 @@ impl Queues {
     pub fn works_on(&self, list: TodoList) -> Works<'_>
         ensures { (todo : List Work) → Stands self.now todo → result ≡ work_on todo (Some list) }
     {
-        match head_of(&self.lists, list) {
+        match self.lists.of(list) {
             Some(head) => Works {
                 nodes: &self.nodes,
                 head,

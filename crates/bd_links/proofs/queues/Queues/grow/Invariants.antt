@@ -7,7 +7,7 @@ abbrev pub invariant-loop-self : goal.invariant-loop-self
 invariant-loop-self l = record {
   stands : (todo : List Work) → Stands l.fn.self todo → Stands l.self todo;
   begun : 1 ≤ vec_len l.self.nodes;
-  lists : l.self.lists ≡ l.fn.self.lists;
+  lists : l.self.lists.others ≡ l.fn.self.lists.others;
   free : l.fn.self.free ≤ l.self.free;
 }
 
