@@ -1,7 +1,7 @@
 /*
  * hullpippin.h: the transaction engine of Android's Binder driver, as a library that the threads of a program share.
  *
- * Link with libhullpippin.a and with the C library object of the Rattle kit, which gives it malloc, realloc and free
+ * Link with libbd_c.a and with the C library object of the Rattle kit, which gives it malloc, realloc and free
  * (docs/LIBRARY.md, "Building"). Nothing else is needed: the library starts no thread, takes no lock, waits for nobody
  * and opens no file.
  *

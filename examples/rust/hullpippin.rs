@@ -1,5 +1,6 @@
 //! Hullpippin's library as safe Rust: a [`Driver`], its [`Seat`]s, each of which may go to a thread of its own, and the
-//! [`Outcome`] of a seat's request; or a [`Live`] engine, which keeps no history. Needs nothing but std; link with `libhullpippin.a` and the kit's C library object.
+//! [`Outcome`] of a seat's request; or a [`Live`] engine, which keeps no history. Needs nothing but std; link with `libbd_c.a` and
+//! the kit's C library object.
 //!
 //! What include/hullpippin.h asks of its callers is kept by the types: a handle is owned by one value, whose calls take
 //! `&mut self`; a seat goes back to the driver that it came from, by a number that each driver has of its own.
