@@ -97,7 +97,7 @@ enum {
     HULLPIPPIN_EXITED = 3,  /* exit_thread, exit_process: the thread or the process has ended */
     HULLPIPPIN_WROTE = 4,   /* write: commands were run */
     HULLPIPPIN_GOT = 5,     /* read: there are bytes to be fetched */
-    HULLPIPPIN_REFUSED = 6, /* a step was refused, and changed nothing: `number` is its fault, F1 to F16 */
+    HULLPIPPIN_REFUSED = 6, /* it was refused, and changed nothing: `number` is its fault, F1 to F16 */
     HULLPIPPIN_BACK = 7,    /* it wasn't run: `why` */
 };
 
