@@ -12,8 +12,10 @@ use Rattle.bd_space.specs.Words.{same}
 use Rattle.bd_space.specs.References.{is_asked_by, is_in_window, is_handshake, is_asking, is_shaking, is_of_buffer, is_of_owner, same_strength, names_for}
 use Rattle.bd_references.specs.declared.keys.Kind.{Kind}
 use Rattle.bd_references.specs.declared.keys.Kind.TheVariants.{Asked, Carried, Handshake, Manager, Any}
-use Rattle.bd_references.specs.Keys.{same_key, use_key, total_key, count_key, kind_of, names_with, is_to}
-use Rattle.bd_references.proofs.Tests.{same_kind, key-sym}
+use Rattle.bd_references.specs.declared.keys.UseKey.{UseKey}
+use Rattle.bd_references.specs.declared.keys.CountKey.{CountKey}
+use Rattle.bd_references.specs.Keys.{same_use, same_key, use_of, of_use, to_use, use_key, total_key, count_key, kind_of, names, names_with, is_of_use}
+use Rattle.bd_references.proofs.Tests.{same_kind, use-sym}
 
 asked-kind : (p : ℕ) (h : Holder) → is_asked_by p h ≡ same_kind (kind_of h) (Asked p)
 asked-kind p (holders.Asked q) = refl
@@ -48,38 +50,40 @@ strength false r = by r.strong
     by true = refl
     by false = refl
 
-ordered : (s o k : Bool) → ((s && o) && k) ≡ (o && (k && s))
-ordered true true k = sym (and-true k)
-ordered true false k = refl
+ordered : (s o k : Bool) → ((s && o) && k) ≡ ((o && k) && s)
+ordered true o k = sym (and-true (o && k))
 ordered false true true = refl
 ordered false true false = refl
 ordered false false k = refl
-
--- strongly, or weakly
-halves : (s o k : Bool) → (o && k) ≡ (((s && o) && k) || ((not s && o) && k))
-halves true o k = sym (or-false (o && k))
-halves false o k = refl
 
 and-or : (a b c : Bool) → (a && (b || c)) ≡ ((a && b) || (a && c))
 and-or true b c = refl
 and-or false b c = refl
 
-module _ (o : ObjectId) (kind : Kind) (r : Reference) (held : Kind) (h : Bool) (is : h ≡ same_kind held kind) where
-  -- of one strength
-  of-key : (strong : Bool) → ((same_strength strong r && same r.object o) && h) ≡ same_key (count_key r.object held r.strong) (count_key o kind strong)
-  unfolding same_key
-  of-key strong =
-      ordered (same_strength strong r) (same r.object o) h
-      ∙ ap (λ k. same r.object o && (k && same_strength strong r)) is
-      ∙ ap (λ s. same r.object o && (same_kind held kind && s)) (strength strong r)
+-- of one use, and of one strength
+of-use : (o : ObjectId) (kind : Kind) (r : Reference) (held : Kind)
+    → same_use (to_use o kind) (to_use r.object held) ≡ (same r.object o && same_kind held kind)
+unfolding same_use
+of-use o kind r held = use-sym (to_use o kind) (to_use r.object held)
 
-  -- of either
-  of-both : (same r.object o && h)
-      ≡ (same_key (count_key r.object held r.strong) (count_key o kind true) || same_key (count_key r.object held r.strong) (count_key o kind false))
-  of-both =
-      halves r.strong (same r.object o) h
-      ∙ ap (λ b. b || ((not r.strong && same r.object o) && h)) (of-key true)
-      ∙ ap (λ b. same_key (count_key r.object held r.strong) (count_key o kind true) || b) (of-key false)
+of-key : (o : ObjectId) (kind : Kind) (r : Reference) (held : Kind) (h : Bool) → h ≡ same_kind held kind → (strong : Bool)
+    → ((same_strength strong r && same r.object o) && h) ≡ same_key (count_key r.object held r.strong) (count_key o kind strong)
+unfolding same_use same_key
+of-key o kind r held h is strong =
+    ordered (same_strength strong r) (same r.object o) h
+    ∙ ap (λ k. (same r.object o && k) && same_strength strong r) is
+    ∙ ap (λ s. (same r.object o && same_kind held kind) && s) (strength strong r)
+
+-- of either strength
+pub either-strength : (k : CountKey) (u : UseKey)
+    → (same_key k (of_use u true) || same_key k (of_use u false)) ≡ same_use u (use_of k)
+unfolding same_key
+either-strength k u = by (same_use (use_of k) u) k.strong ∙ use-sym (use_of k) u
+  where
+    by : (a s : Bool) → ((a && beq s true) || (a && beq s false)) ≡ a
+    by true true = refl
+    by true false = refl
+    by false s = refl
 
 -- what a process asked for, and what the owner is to acknowledge
 pub asking-key : (p : ℕ) (o : ObjectId) (strong : Bool) (r : Reference)
@@ -91,9 +95,8 @@ pub shaking-key : (o : ObjectId) (strong : Bool) (r : Reference)
 shaking-key o strong r = of-key o Handshake r (kind_of r.holder) (is_handshake r.holder) (shaken-kind r.holder) strong
 
 -- all that refer to the object, and strongly
-pub total-key : (o : ObjectId) (r : Reference)
-    → same r.object o ≡ (same_key (total_key r) (count_key o Any true) || same_key (total_key r) (count_key o Any false))
-total-key o r = sym (and-true (same r.object o)) ∙ of-both o Any r Any true refl
+pub total-key : (o : ObjectId) (r : Reference) → same r.object o ≡ same_use (to_use o Any) (use_of (total_key r))
+total-key o r = sym (and-true (same r.object o)) ∙ sym (of-use o Any r Any)
 
 pub strong-key : (o : ObjectId) (r : Reference) → (r.strong && same r.object o) ≡ same_key (total_key r) (count_key o Any true)
 strong-key o r = sym (and-true (r.strong && same r.object o)) ∙ of-key o Any r Any true refl true
@@ -112,12 +115,12 @@ pub naming-strongly : (p : ℕ) (o : ObjectId) (r : Reference)
     → (r.strong && same r.object o && names_for p r.holder) ≡ names_with p o true r
 naming-strongly p o r = naming-key p o r true
 
-pub naming : (p : ℕ) (o : ObjectId) (r : Reference)
-    → (same r.object o && names_for p r.holder) ≡ (names_with p o true r || names_with p o false r)
+pub naming : (p : ℕ) (o : ObjectId) (r : Reference) → (same r.object o && names_for p r.holder) ≡ names p o r
 naming p o r =
-    halves r.strong (same r.object o) (names_for p r.holder)
-    ∙ ap (λ b. b || ((not r.strong && same r.object o) && names_for p r.holder)) (naming-key p o r true)
-    ∙ ap (λ b. names_with p o true r || b) (naming-key p o r false)
+    let kind = kind_of r.holder in
+    ap (λ n. same r.object o && n) (named-kind p r.holder) ∙ and-or (same r.object o) (same_kind kind (Asked p)) (same_kind kind (Carried p))
+    ∙ ap (λ b. b || (same r.object o && same_kind kind (Carried p))) (sym (of-use o (Asked p) r kind))
+    ∙ ap (λ b. is_of_use (to_use o (Asked p)) r || b) (sym (of-use o (Carried p) r kind))
 
 -- one of two kinds
 pub any-either : {A : Type 0} (p q : A → Bool) (xs : List A) → list_any (λ x. p x || q x) xs ≡ (list_any p xs || list_any q xs)
@@ -163,12 +166,6 @@ pub shaken-apart : (o : ObjectId) (strong : Bool) (b : ℕ) (r : Reference)
 shaken-apart o strong b r h = shaken-free b r.holder (and_parts (same_strength strong r && same r.object o) (is_handshake r.holder) h).1
 
 -- what the owner has to its own object
-to-kind : (o : ObjectId) (kind : Kind) (r : Reference) → is_to o kind (use_key r) ≡ (same r.object o && same_kind (kind_of r.holder) kind)
-to-kind o kind r =
-    ap (λ b. b || same_key (count_key o kind false) (use_key r)) (key-sym (count_key o kind true) (use_key r))
-    ∙ ap (λ b. same_key (use_key r) (count_key o kind true) || b) (key-sym (count_key o kind false) (use_key r))
-    ∙ sym (of-both o kind r (kind_of r.holder) (same_kind (kind_of r.holder) kind) refl)
-
 owner-kinds : (w : Bool) (h : Holder)
     → (not (w && same_kind (kind_of h) Handshake) && not (w && same_kind (kind_of h) Manager)) ≡ not (w && is_of_owner h)
 owner-kinds false h = refl
@@ -178,11 +175,11 @@ owner-kinds true (holders.Target b q) = refl
 owner-kinds true holders.Handshake = refl
 owner-kinds true holders.Manager = refl
 
-pub owner-keys : (o : ObjectId) (r : Reference)
-    → (not (is_to o Handshake (use_key r)) && not (is_to o Manager (use_key r))) ≡ not (same r.object o && is_of_owner r.holder)
-owner-keys o r =
-    ap (λ b. not b && not (is_to o Manager (use_key r))) (to-kind o Handshake r)
-    ∙ ap (λ b. not (same r.object o && same_kind (kind_of r.holder) Handshake) && not b) (to-kind o Manager r)
+pub owner-uses : (o : ObjectId) (r : Reference)
+    → (not (is_of_use (to_use o Handshake) r) && not (is_of_use (to_use o Manager) r)) ≡ not (same r.object o && is_of_owner r.holder)
+owner-uses o r =
+    ap (λ b. not b && not (is_of_use (to_use o Manager) r)) (of-use o Handshake r (kind_of r.holder))
+    ∙ ap (λ b. not (same r.object o && same_kind (kind_of r.holder) Handshake) && not b) (of-use o Manager r (kind_of r.holder))
     ∙ owner-kinds (same r.object o) r.holder
 
 pub owner-free : (w : Bool) (b : ℕ) (h : Holder) → (not (w && is_of_owner h) && is_of_buffer b h) ≡ is_of_buffer b h

@@ -90,6 +90,12 @@ module _ {A : Type 0} where
       by true rest = omega arith
       by false rest = omega (arith, rest)
 
+  -- those that pass where a test is true, and none where it is false
+  pub count-if : (b : Bool) (p : A → Bool) (xs : List A) → count_by (λ x. b && p x) xs ≡ cond b (count_by p xs) 0
+  count-if true p xs = refl
+  count-if false p [] = refl
+  count-if false p (x ∷ xs) = count-cons (λ y. false) x xs ∙ (let rest = count-if false p xs in omega (arith, rest))
+
   -- all that pass q are alike for p
   pub count-within : (p q : A → Bool) (b : Bool) (xs : List A) → ((x : A) → q x ≡ true → p x ≡ b)
       → count_by (λ x. q x && p x) xs ≡ cond b (count_by q xs) 0

@@ -1,6 +1,7 @@
 pub mod Updated
 pub mod Among
 pub mod Tests
+pub mod Strengths
 pub mod Keyed
 pub mod Gathers
 pub mod Entries

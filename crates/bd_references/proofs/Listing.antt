@@ -16,14 +16,19 @@ use Rattle.bd_space.specs.declared.space.Holder.TheVariants as holders
 use Rattle.bd_space.specs.Words.{same}
 use Rattle.bd_space.specs.Local.{is_among}
 use Rattle.bd_space.specs.References.{is_asked_by, is_in_window}
+use Rattle.bd_references.specs.declared.count.Count.{Count}
+use Rattle.bd_references.specs.declared.keys.UseKey.{UseKey}
 use Rattle.bd_references.specs.declared.keys.CountKey.{CountKey}
 use Rattle.bd_references.specs.declared.counts.Counts.{Counts}
-use Rattle.bd_references.specs.Keys.{same_key, use_key, kind_of, is_of_process, is_one_of}
-use Rattle.bd_references.specs.Counted.{count_at, CountsEach, is_counted}
-use Rattle.bd_references.specs.Listed.{AreUsers, has_key}
+use Rattle.bd_references.specs.Count.{of_strength, is_empty}
+use Rattle.bd_references.specs.Keys.{same_use, same_key, use_of, of_use, use_key, kind_of, is_of_process, is_one_of}
+use Rattle.bd_references.specs.Counted.{both_at, count_at, CountsEach, is_counted}
+use Rattle.bd_references.specs.Listed.{AreUsers, has_use}
 use Rattle.bd_references.proofs.Among.{in-any, from-any, filter-in}
 use Rattle.bd_references.proofs.Counting.{any-count}
-use Rattle.bd_references.proofs.Tests.{key-eq, key-self}
+use Rattle.bd_references.proofs.Strengths.{some-strength}
+use Rattle.bd_references.proofs.Tallying.{any-used}
+use Rattle.bd_references.proofs.Tests.{use-eq, use-self, key-self}
 
 -- its holder says whether it goes with the process
 abbrev pub goes : ℕ → Reference → Bool
@@ -46,133 +51,140 @@ any-mapped t f p (x ∷ xs) = by (t x) (any-mapped t f p xs)
     by true e = ap (λ y. p (f x) || y) e
     by false e = e
 
-module _ (p : ℕ) (uses : Counts) (users : Groups CountKey) (l : List Reference) (are : CountsEach use_key uses l)
+module _ (p : ℕ) (uses : Counts) (users : Groups UseKey) (l : List Reference) (are : CountsEach use_key uses l)
     (listed : AreUsers uses users) where
   counted : (r : Reference) → IsIn r l → 0 < count_at uses (use_key r)
   counted r i = ltb-true 0 _ (ap (λ n. ltb 0 n) (are (use_key r)) ∙ any-count (λ x. same_key (use_key x) (use_key r)) l
       ∙ in-any (λ x. same_key (use_key x) (use_key r)) r l i (key-self (use_key r)))
 
-  -- the keys of those that go are just the process's
-  key-of : (r : Reference) → IsIn r l → has_key users p (use_key r) ≡ goes p r
-  key-of r i = both_ways (has_key users p (use_key r)) (goes p r)
-      (λ h. of-process p r.holder ∙ listed.only (use_key r) p h)
+  -- the uses of those that go are just the process's
+  use-goes : (r : Reference) → IsIn r l → has_use users p (use_of (use_key r)) ≡ goes p r
+  use-goes r i = both_ways (has_use users p (use_of (use_key r))) (goes p r)
+      (λ h. of-process p r.holder ∙ listed.only (use_of (use_key r)) p h)
       (λ h. listed.has (use_key r) p (sym (of-process p r.holder) ∙ h) (counted r i))
 
-  pub rest-of : filter (λ r. not (has_key users p (use_key r))) l ≡ filter (λ r. not (goes p r)) l
-  rest-of = filter-in (λ (r : Reference). not (has_key users p (use_key r))) (λ r. not (goes p r)) l (λ r i. ap not (key-of r i))
+  pub rest-of : filter (λ r. not (has_use users p (use_of (use_key r)))) l ≡ filter (λ r. not (goes p r)) l
+  rest-of = filter-in (λ (r : Reference). not (has_use users p (use_of (use_key r)))) (λ r. not (goes p r)) l (λ r i. ap not (use-goes r i))
 
-  -- a key of the process that counts something passes a test exactly if a reference does that goes
-  any-counted : (t : CountKey → Bool)
-      → list_any (λ k. is_counted uses k && t k) (members users (Process p)) ≡ list_any (λ r. goes p r && t (use_key r)) l
-  any-counted t = both_ways (list_any (λ k. is_counted uses k && t k) ks) (list_any (λ r. goes p r && t (use_key r)) l)
-      (from-any (λ (k : CountKey). is_counted uses k && t k) _ ks (λ k i h. (
-      let parts = and_parts (is_counted uses k) (t k) h in
-      let kind = listed.only k p (in-any (λ j. same_key j k) k ks i (key-self k)) in
-      from-any (λ (r : Reference). same_key (use_key r) k) _ l (λ r j e. (
-      let is = key-eq (use_key r) k e in
-      in-any (λ (r : Reference). goes p r && t (use_key r)) r l j
-      (and_from (goes p r) (t (use_key r)) (of-process p r.holder ∙ ap (λ c. is_of_process p c.kind) is ∙ kind) (ap t is ∙ parts.1))))
-      (sym (any-count (λ (r : Reference). same_key (use_key r) k) l) ∙ ap (λ n. ltb 0 n) (sym (are k)) ∙ parts.0))))
-      (from-any (λ (r : Reference). goes p r && t (use_key r)) _ l (λ r i h. (
-      let parts = and_parts (goes p r) (t (use_key r)) h in
-      from-any (λ (j : CountKey). same_key j (use_key r)) _ ks (λ j m e. (
-      let is = key-eq j (use_key r) e in
-      in-any (λ (k : CountKey). is_counted uses k && t k) j ks m
-      (and_from (is_counted uses j) (t j) (ap (is_counted uses) is ∙ some r i) (ap t is ∙ parts.1))))
-      (key-of r i ∙ parts.0))))
+  -- a use of the process that counts something passes a test exactly if a reference does that goes
+  any-counted : (t : UseKey → Bool)
+      → list_any (λ u. is_counted uses u && t u) (members users (Process p)) ≡ list_any (λ r. goes p r && t (use_of (use_key r))) l
+  any-counted t = both_ways (list_any (λ u. is_counted uses u && t u) us) (list_any (λ r. goes p r && t (use_of (use_key r))) l)
+      (from-any (λ (u : UseKey). is_counted uses u && t u) _ us (λ u i h. (
+      let parts = and_parts (is_counted uses u) (t u) h in
+      let kind = listed.only u p (in-any (λ x. same_use x u) u us i (use-self u)) in
+      from-any (λ (r : Reference). same_use u (use_of (use_key r))) _ l (λ r j e. (
+      let is = sym (use-eq u (use_of (use_key r)) e) in
+      in-any (λ (r : Reference). goes p r && t (use_of (use_key r))) r l j
+      (and_from (goes p r) (t (use_of (use_key r))) (of-process p r.holder ∙ ap (λ (x : UseKey). is_of_process p x.kind) is ∙ kind) (ap t is ∙ parts.1))))
+      (sym (any-used use_key uses u l are) ∙ parts.0))))
+      (from-any (λ (r : Reference). goes p r && t (use_of (use_key r))) _ l (λ r i h. (
+      let parts = and_parts (goes p r) (t (use_of (use_key r))) h in
+      from-any (λ (u : UseKey). same_use u (use_of (use_key r))) _ us (λ u m e. (
+      let is = use-eq u (use_of (use_key r)) e in
+      in-any (λ (x : UseKey). is_counted uses x && t x) u us m
+      (and_from (is_counted uses u) (t u) (ap (is_counted uses) is ∙ some r i) (ap t is ∙ parts.1))))
+      (use-goes r i ∙ parts.0))))
     where
-      ks : List CountKey
-      ks = members users (Process p)
+      us : List UseKey
+      us = members users (Process p)
 
-      some : (r : Reference) → IsIn r l → is_counted uses (use_key r) ≡ true
-      some r i = ap (λ n. ltb 0 n) (are (use_key r)) ∙ any-count (λ x. same_key (use_key x) (use_key r)) l
-          ∙ in-any (λ x. same_key (use_key x) (use_key r)) r l i (key-self (use_key r))
+      some : (r : Reference) → IsIn r l → is_counted uses (use_of (use_key r)) ≡ true
+      some r i = let u = use_of (use_key r) in
+          any-used use_key uses u l are ∙ in-any (λ x. same_use u (use_of (use_key x))) r l i (use-self u)
 
   pub any-dropped : list_any (is_counted uses) (members users (Process p)) ≡ list_any (goes p) l
   any-dropped =
-      any-same (is_counted uses) (λ k. is_counted uses k && true) (members users (Process p)) (λ k. sym (and-true (is_counted uses k)))
-      ∙ any-counted (λ k. true) ∙ any-same (λ r. goes p r && true) (goes p) l (λ r. and-true (goes p r))
+      any-same (is_counted uses) (λ u. is_counted uses u && true) (members users (Process p)) (λ u. sym (and-true (is_counted uses u)))
+      ∙ any-counted (λ u. true) ∙ any-same (λ r. goes p r && true) (goes p) l (λ r. and-true (goes p r))
 
-  -- those keys tell to which objects such references are
+  -- those uses tell to which objects such references are
   pub just-dropped : (ids : List ObjectId) (o : ObjectId)
-      → is_among (ids ++ map (λ (k : CountKey). k.object) (filter (is_counted uses) (members users (Process p)))) o
+      → is_among (ids ++ map (λ (u : UseKey). u.object) (filter (is_counted uses) (members users (Process p)))) o
       ≡ is_among (ids ++ map (λ (r : Reference). r.object) (filter (goes p) l)) o
   just-dropped ids o =
       let is = λ (j : ObjectId). same o j in
-      let ks = members users (Process p) in
+      let us = members users (Process p) in
       let object = λ (r : Reference). r.object in
-      let of_key = λ (k : CountKey). k.object in
-      list_any-append is ids (map of_key (filter (is_counted uses) ks))
-      ∙ ap (λ b. list_any is ids || b) (any-mapped (is_counted uses) of_key is ks ∙ any-counted (λ k. is k.object)
+      let object_of = λ (u : UseKey). u.object in
+      list_any-append is ids (map object_of (filter (is_counted uses) us))
+      ∙ ap (λ b. list_any is ids || b) (any-mapped (is_counted uses) object_of is us ∙ any-counted (λ u. is u.object)
       ∙ sym (any-mapped (goes p) object is l))
       ∙ sym (list_any-append is ids (map object (filter (goes p) l)))
 
 -- what is left where a process has none any more
-module _ (p : ℕ) (old new : Counts) (users after : Groups CountKey)
-    (gone : (k : CountKey) → count_at new k ≡ cond (has_key users p k) 0 (count_at old k))
+module _ (p : ℕ) (old new : Counts) (users after : Groups UseKey)
+    (gone : (k : CountKey) → count_at new k ≡ cond (has_use users p (use_of k)) 0 (count_at old k))
     (put : (q : ℕ) → members after (Process q) ≡ cond (p == q) [] (members users (Process q))) (listed : AreUsers old users) where
-  left-has : (k : CountKey) (q : ℕ) → is_of_process q k.kind ≡ true → 0 < count_at new k → has_key after q k ≡ true
-  left-has k q kind some = by (has_key users p k) refl (gone k)
+  left-has : (k : CountKey) (q : ℕ) → is_of_process q k.kind ≡ true → 0 < count_at new k → has_use after q (use_of k) ≡ true
+  left-has k q kind some = by (has_use users p (use_of k)) refl (gone k)
     where
-      by : (b : Bool) → has_key users p k ≡ b → count_at new k ≡ cond b 0 (count_at old k) → has_key after q k ≡ true
+      by : (b : Bool) → has_use users p (use_of k) ≡ b → count_at new k ≡ cond b 0 (count_at old k) → has_use after q (use_of k) ≡ true
       by true h e = absurd (omega (arith, some, e))
       by false h e =
           let was = listed.has k q kind (omega (arith, some, e)) in
           at (p == q) refl was
         where
-          at : (b : Bool) → (p == q) ≡ b → has_key users q k ≡ true → has_key after q k ≡ true
-          at true s was = let no : true ≡ false = sym was ∙ ap (λ n. has_key users n k) (sym (eqb-true p q s)) ∙ h in absurd (cc)
-          at false s was = ap (λ ks. is_one_of ks k) (put q ∙ ap (λ b. cond b [] (members users (Process q))) s) ∙ was
+          at : (b : Bool) → (p == q) ≡ b → has_use users q (use_of k) ≡ true → has_use after q (use_of k) ≡ true
+          at true s was = let no : true ≡ false = sym was ∙ ap (λ n. has_use users n (use_of k)) (sym (eqb-true p q s)) ∙ h in absurd (cc)
+          at false s was = ap (λ us. is_one_of us (use_of k)) (put q ∙ ap (λ b. cond b [] (members users (Process q))) s) ∙ was
 
-  left-only : (k : CountKey) (q : ℕ) → has_key after q k ≡ true → is_of_process q k.kind ≡ true
-  left-only k q h = by (p == q) (sym (ap (λ ks. is_one_of ks k) (put q)) ∙ h)
+  left-only : (u : UseKey) (q : ℕ) → has_use after q u ≡ true → is_of_process q u.kind ≡ true
+  left-only u q h = by (p == q) (sym (ap (λ us. is_one_of us u) (put q)) ∙ h)
     where
-      by : (b : Bool) → is_one_of (cond b [] (members users (Process q))) k ≡ true → is_of_process q k.kind ≡ true
+      by : (b : Bool) → is_one_of (cond b [] (members users (Process q))) u ≡ true → is_of_process q u.kind ≡ true
       by true e = absurd (cc)
-      by false e = listed.only k q e
+      by false e = listed.only u q e
 
   pub users-left : AreUsers new after
   users-left = record { has = left-has; only = left-only }
 
--- a key comes in for its process
-module _ (k : CountKey) (old new : Groups CountKey) (put : (p : ℕ)
-    → members new (Process p) ≡ cond (is_of_process p k.kind) (k ∷ members old (Process p)) (members old (Process p))) where
-  pub put-has : (p : ℕ) → is_of_process p k.kind ≡ true → has_key new p k ≡ true
-  put-has p h = ap (λ ks. is_one_of ks k) (put p ∙ ap (λ b. cond b (k ∷ members old (Process p)) (members old (Process p))) h)
-      ∙ ap (λ b. b || has_key old p k) (key-self k)
+-- a use comes in for its process
+module _ (u : UseKey) (old new : Groups UseKey) (put : (p : ℕ)
+    → members new (Process p) ≡ cond (is_of_process p u.kind) (u ∷ members old (Process p)) (members old (Process p))) where
+  pub put-has : (p : ℕ) → is_of_process p u.kind ≡ true → has_use new p u ≡ true
+  put-has p h = ap (λ us. is_one_of us u) (put p ∙ ap (λ b. cond b (u ∷ members old (Process p)) (members old (Process p))) h)
+      ∙ ap (λ b. b || has_use old p u) (use-self u)
 
-  pub put-keeps : (q : CountKey) (p : ℕ) → has_key old p q ≡ true → has_key new p q ≡ true
-  put-keeps q p h = ap (λ ks. is_one_of ks q) (put p) ∙ by (is_of_process p k.kind)
+  pub put-keeps : (v : UseKey) (p : ℕ) → has_use old p v ≡ true → has_use new p v ≡ true
+  put-keeps v p h = ap (λ us. is_one_of us v) (put p) ∙ by (is_of_process p u.kind)
     where
-      by : (b : Bool) → is_one_of (cond b (k ∷ members old (Process p)) (members old (Process p))) q ≡ true
-      by true = ap (λ b. same_key k q || b) h ∙ or-true (same_key k q)
+      by : (b : Bool) → is_one_of (cond b (u ∷ members old (Process p)) (members old (Process p))) v ≡ true
+      by true = ap (λ b. same_use u v || b) h ∙ or-true (same_use u v)
       by false = h
 
-  pub put-only : (q : CountKey) (p : ℕ) → (has_key old p q ≡ true → is_of_process p q.kind ≡ true) → has_key new p q ≡ true
-      → is_of_process p q.kind ≡ true
-  put-only q p was h = by (is_of_process p k.kind) refl (sym (ap (λ ks. is_one_of ks q) (put p)) ∙ h)
+  pub put-only : (v : UseKey) (p : ℕ) → (has_use old p v ≡ true → is_of_process p v.kind ≡ true) → has_use new p v ≡ true
+      → is_of_process p v.kind ≡ true
+  put-only v p was h = by (is_of_process p u.kind) refl (sym (ap (λ us. is_one_of us v) (put p)) ∙ h)
     where
-      by : (b : Bool) → is_of_process p k.kind ≡ b → is_one_of (cond b (k ∷ members old (Process p)) (members old (Process p))) q ≡ true
-          → is_of_process p q.kind ≡ true
-      by true e t = at (same_key k q) refl t
+      by : (b : Bool) → is_of_process p u.kind ≡ b → is_one_of (cond b (u ∷ members old (Process p)) (members old (Process p))) v ≡ true
+          → is_of_process p v.kind ≡ true
+      by true e t = at (same_use u v) refl t
         where
-          at : (c : Bool) → same_key k q ≡ c → (c || has_key old p q) ≡ true → is_of_process p q.kind ≡ true
-          at true s u = ap (λ c. is_of_process p c.kind) (sym (key-eq k q s)) ∙ e
-          at false s u = was u
+          at : (c : Bool) → same_use u v ≡ c → (c || has_use old p v) ≡ true → is_of_process p v.kind ≡ true
+          at true s t = ap (λ (x : UseKey). is_of_process p x.kind) (sym (use-eq u v s)) ∙ e
+          at false s t = was t
       by false e t = was t
 
--- a counter may rise whose key is there
-pub risen : (k : CountKey) (uses later : Counts) (old new : Groups CountKey)
-    → ((q : CountKey) → same_key k q ≡ false → count_at later q ≡ count_at uses q)
-    → ((p : ℕ) → is_of_process p k.kind ≡ true → has_key new p k ≡ true)
-    → ((q : CountKey) (p : ℕ) → has_key old p q ≡ true → has_key new p q ≡ true)
-    → ((q : CountKey) (p : ℕ) → has_key new p q ≡ true → is_of_process p q.kind ≡ true) → AreUsers uses old → AreUsers later new
-risen k uses later old new same has keeps only are = record { has = has-all; only = only }
+-- the counters of a use may rise that is there
+pub risen : (u : UseKey) (uses later : Counts) (old new : Groups UseKey)
+    → ((q : CountKey) → same_use u (use_of q) ≡ false → count_at later q ≡ count_at uses q)
+    → ((p : ℕ) → is_of_process p u.kind ≡ true → has_use new p u ≡ true)
+    → ((v : UseKey) (p : ℕ) → has_use old p v ≡ true → has_use new p v ≡ true)
+    → ((v : UseKey) (p : ℕ) → has_use new p v ≡ true → is_of_process p v.kind ≡ true) → AreUsers uses old → AreUsers later new
+risen u uses later old new same has keeps only are = record { has = has-all; only = only }
   where
-    has-all : (q : CountKey) (p : ℕ) → is_of_process p q.kind ≡ true → 0 < count_at later q → has_key new p q ≡ true
-    has-all q p kind some = by (same_key k q) refl
+    has-all : (q : CountKey) (p : ℕ) → is_of_process p q.kind ≡ true → 0 < count_at later q → has_use new p (use_of q) ≡ true
+    has-all q p kind some = by (same_use u (use_of q)) refl
       where
-        by : (b : Bool) → same_key k q ≡ b → has_key new p q ≡ true
-        by true e = let is = key-eq k q e in
-            ap (has_key new p) (sym is) ∙ has p (ap (λ c. is_of_process p c.kind) is ∙ kind)
-        by false e = keeps q p (are.has q p kind (subst (λ n. 0 < n) (same q e) some))
+        by : (b : Bool) → same_use u (use_of q) ≡ b → has_use new p (use_of q) ≡ true
+        by true e = let is = use-eq u (use_of q) e in
+            ap (has_use new p) (sym is) ∙ has p (ap (λ (x : UseKey). is_of_process p x.kind) is ∙ kind)
+        by false e = keeps (use_of q) p (are.has q p kind (subst (λ n. 0 < n) (same q e) some))
+
+-- a use that counts something is there
+pub had : (u : UseKey) (uses : Counts) (users : Groups UseKey) (c : Count) → c ≡ both_at uses u → is_empty c ≡ false → AreUsers uses users
+    → (p : ℕ) → is_of_process p u.kind ≡ true → has_use users p u ≡ true
+had u uses users c is some are p kind =
+    let one = some-strength c some in
+    are.has (of_use u one.0) p kind (subst (λ (d : Count). 0 < of_strength one.0 d) is one.1)

@@ -1,16 +1,20 @@
 -- Counters of a list, as the list changes.
-use Rattle.std.proofs.Common.{◌≡◌, ℕ, ◌+◌, ◌-◌, ◌<◌, ◌^◌, Bool, true, not, cond, ltb, List, [], ◌∷◌, ◌++◌, length, filter, refl, ap, sym, ◌∙◌, arith}
+use Rattle.std.proofs.Common.{◌≡◌, ℕ, ◌+◌, ◌-◌, ◌<◌, ◌^◌, Bool, true, false, not, ◌||◌, cond, ltb, List, [], ◌∷◌, ◌++◌, length, filter, refl, ap, sym, ◌∙◌, arith}
 use Rattle.std.specs.List.{list_any, count_by}
 use Rattle.std.proofs.lemmas.List.Sums.{count_by-le-length}
 use Rattle.bd_space.specs.declared.space.Reference.{Reference}
 use Rattle.bd_space.specs.Words.{without_first}
+use Rattle.bd_references.specs.declared.keys.UseKey.{UseKey}
 use Rattle.bd_references.specs.declared.keys.CountKey.{CountKey}
 use Rattle.bd_references.specs.declared.counts.Counts.{Counts}
 use Rattle.bd_references.specs.declared.tallies.Tallies.{Tallies}
-use Rattle.bd_references.specs.Keys.{same_key, use_key, total_key}
+use Rattle.bd_references.specs.Count.{is_empty}
+use Rattle.bd_references.specs.Keys.{same_use, same_key, use_of, of_use, use_key, total_key}
 use Rattle.bd_references.specs.Tallied.{Tallied, TakenBack}
-use Rattle.bd_references.specs.Counted.{count_at, keyed, CountsEach, Lacks}
+use Rattle.bd_references.specs.Counted.{both_at, count_at, keyed, CountsEach, Lacks}
+use Rattle.bd_references.proofs.ByKind.{any-either, either-strength}
 use Rattle.bd_references.proofs.Counting.{count-cons, count-push, count-filter, count-both, count-without_first, any-count}
+use Rattle.bd_references.proofs.Strengths.{not-empty}
 
 module _ (key : Reference → CountKey) (old new : Counts) where
   -- one more
@@ -47,6 +51,20 @@ pub any-keyed : (key : Reference → CountKey) (t : Counts) (test : Reference �
     → ((r : Reference) → test r ≡ same_key (key r) k) → CountsEach key t l → ltb 0 (count_at t k) ≡ list_any test l
 any-keyed key t test k l is are = ap (λ n. ltb 0 n) (are k) ∙ any-count (λ r. same_key (key r) k) l
     ∙ ap (λ p. list_any p l) (λ i r. sym (is r) i)
+
+-- whether one of the use is there, of either strength
+pub any-used : (key : Reference → CountKey) (t : Counts) (u : UseKey) (l : List Reference) → CountsEach key t l
+    → not (is_empty (both_at t u)) ≡ list_any (λ r. same_use u (use_of (key r))) l
+any-used key t u l are =
+    not-empty (both_at t u)
+    ∙ ap (λ b. b || ltb 0 (both_at t u).weak) (some true) ∙ ap (λ b. list_any (tests true) l || b) (some false)
+    ∙ sym (any-either (tests true) (tests false) l) ∙ ap (λ p. list_any p l) (λ i r. either-strength (key r) u i)
+  where
+    tests : Bool → Reference → Bool
+    tests s r = same_key (key r) (of_use u s)
+
+    some : (s : Bool) → ltb 0 (count_at t (of_use u s)) ≡ list_any (tests s) l
+    some s = ap (λ n. ltb 0 n) (are (of_use u s)) ∙ any-count (tests s) l
 
 -- one was taken
 pub lacks-one : (key : Reference → CountKey) (old new : Counts) (r : Reference)

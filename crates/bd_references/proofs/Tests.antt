@@ -6,10 +6,11 @@ use mathlib.Core.Bool.{beq}
 use Rattle.bd_space.specs.Words.{same}
 use Rattle.bd_references.specs.declared.keys.Kind.{Kind}
 use Rattle.bd_references.specs.declared.keys.Kind.TheVariants.{Asked, Carried, Target, Handshake, Manager, Any}
+use Rattle.bd_references.specs.declared.keys.UseKey.{UseKey}
 use Rattle.bd_references.specs.declared.keys.CountKey.{CountKey}
 use Rattle.bd_references.specs.declared.keys.ItemKey.{ItemKey}
 use Rattle.bd_references.specs.contracts.keys.KindPartialEq.TheImpl as kinds
-use Rattle.bd_references.specs.Keys.{same_key, same_item}
+use Rattle.bd_references.specs.Keys.{same_use, same_key, same_item, use_of}
 
 abbrev pub same_kind : Kind → Kind → Bool
 same_kind = (kinds.ghosts).eq
@@ -41,21 +42,34 @@ strong-self : (a : Bool) → beq a a ≡ true
 strong-self true = refl
 strong-self false = refl
 
+pub use-eq : (a b : UseKey) → same_use a b ≡ true → a ≡ b
+unfolding same_use
+use-eq a b h =
+    let k = and_parts (same a.object b.object) _ h in
+    let l = and_parts (a.object.place == b.object.place) _ k.0 in
+    (λ i. record {
+      object = record { place = eqb-true a.object.place b.object.place l.0 i; index = eqb-true a.object.index b.object.index l.1 i };
+      kind = kind-eq a.kind b.kind k.1 i;
+    })
+
+pub use-self : (a : UseKey) → same_use a a ≡ true
+unfolding same_use
+use-self a = rw (eq-eqb a.object.place a.object.place refl, eq-eqb a.object.index a.object.index refl) (kind-self a.kind)
+
+pub use-sym : (a b : UseKey) → same_use a b ≡ same_use b a
+use-sym a b = both_ways (same_use a b) (same_use b a)
+    (λ h. ap (same_use b) (use-eq a b h) ∙ use-self b) (λ h. ap (same_use a) (use-eq b a h) ∙ use-self a)
+
 pub key-eq : (a b : CountKey) → same_key a b ≡ true → a ≡ b
 unfolding same_key
 key-eq a b h =
-    let k = and_parts (same a.object b.object) _ h in
-    let l = and_parts (a.object.place == b.object.place) _ k.0 in
-    let m = and_parts (same_kind a.kind b.kind) _ k.1 in
-    (λ i. record {
-      object = record { place = eqb-true a.object.place b.object.place l.0 i; index = eqb-true a.object.index b.object.index l.1 i };
-      kind = kind-eq a.kind b.kind m.0 i;
-      strong = strong-eq a.strong b.strong m.1 i;
-    })
+    let k = and_parts (same_use (use_of a) (use_of b)) _ h in
+    let u = use-eq (use_of a) (use_of b) k.0 in
+    (λ i. record { object = (u i).object; kind = (u i).kind; strong = strong-eq a.strong b.strong k.1 i })
 
 pub key-self : (a : CountKey) → same_key a a ≡ true
 unfolding same_key
-key-self a = rw (eq-eqb a.object.place a.object.place refl, eq-eqb a.object.index a.object.index refl, kind-self a.kind) (strong-self a.strong)
+key-self a = rw (use-self (use_of a)) (strong-self a.strong)
 
 pub item-eq : (a b : ItemKey) → same_item a b ≡ true → a ≡ b
 unfolding same_item
@@ -65,7 +79,3 @@ item-eq a b h = let k = and_parts (a.buffer == b.buffer) (a.index == b.index) h 
 pub item-self : (a : ItemKey) → same_item a a ≡ true
 unfolding same_item
 item-self a = rw (eq-eqb a.buffer a.buffer refl, eq-eqb a.index a.index refl) refl
-
-pub key-sym : (a b : CountKey) → same_key a b ≡ same_key b a
-key-sym a b = both_ways (same_key a b) (same_key b a)
-    (λ h. ap (same_key b) (key-eq a b h) ∙ key-self b) (λ h. ap (same_key a) (key-eq b a h) ∙ key-self a)

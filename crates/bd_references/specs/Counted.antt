@@ -1,15 +1,22 @@
 -- What counters say.
-use Rattle.std.specs.Prelude.{ℕ, ◌≡◌, ◌-◌, nat_lt, Bool, List, unwrap_or}
+use Rattle.std.specs.Prelude.{ℕ, ◌≡◌, ◌-◌, not, Bool, List, unwrap_or}
 use Rattle.std.specs.List.{count_by}
 use Rattle.std.specs.HashMap.{get}
 use Rattle.bd_space.specs.declared.space.Reference.{Reference}
+use Rattle.bd_references.specs.declared.count.Count.{Count}
+use Rattle.bd_references.specs.declared.keys.UseKey.{UseKey}
 use Rattle.bd_references.specs.declared.keys.CountKey.{CountKey}
 use Rattle.bd_references.specs.declared.counts.Counts.{Counts}
-use Rattle.bd_references.specs.Keys.{same_key, use_key, total_key}
+use Rattle.bd_references.specs.Count.{no_count, of_strength, is_empty}
+use Rattle.bd_references.specs.Keys.{same_use, same_key, use_of, use_key, total_key}
 
--- what isn't there is 0
+-- how many there are of the use, of both strengths: none where nothing stands
+abbrev pub both_at : Counts → UseKey → Count
+both_at t u = unwrap_or (get same_use t.counts u) no_count
+
+-- and of one strength
 abbrev pub count_at : Counts → CountKey → ℕ
-count_at t k = unwrap_or (get same_key t.counts k) 0
+count_at t k = of_strength k.strong (both_at t (use_of k))
 
 -- how many have the key
 abbrev pub keyed : (Reference → CountKey) → CountKey → List Reference → ℕ
@@ -28,6 +35,6 @@ pub record CountBoth (uses totals : Counts) (l : List Reference) : Type 0 where
   pub uses_are : CountsEach use_key uses l
   pub totals_are : CountsEach total_key totals l
 
--- the key counts something
-abbrev pub is_counted : Counts → CountKey → Bool
-is_counted t k = nat_lt 0 (count_at t k)
+-- the use counts something
+abbrev pub is_counted : Counts → UseKey → Bool
+is_counted t u = not (is_empty (both_at t u))

@@ -1,5 +1,6 @@
 -- By what references are counted and found.
-use Rattle.std.specs.Prelude.{ℕ, ◌==◌, ◌+◌, ◌*◌, ◌^◌, Bool, true, false, ◌||◌, if◌then◌else◌, Option, Some, None, List}
+use Rattle.std.specs.Prelude.{ℕ, ◌==◌, ◌+◌, ◌*◌, ◌^◌, Bool, ◌&&◌, ◌||◌, Option, Some, None, List}
+use Rattle.std.specs.Bool.{beq}
 use Rattle.std.specs.List.{list_any}
 use Rattle.bd_words.specs.Numbers.{pair}
 use Rattle.bd_space.specs.declared.step.ObjectId.{ObjectId}
@@ -9,13 +10,21 @@ use Rattle.bd_space.specs.Words.{is_some_and}
 use Rattle.bd_space.specs.declared.space.Holder.TheVariants as holders
 use Rattle.bd_references.specs.declared.keys.Kind.{Kind}
 use Rattle.bd_references.specs.declared.keys.Kind.TheVariants as kinds
+use Rattle.bd_references.specs.declared.keys.UseKey.{UseKey}
 use Rattle.bd_references.specs.declared.keys.CountKey.{CountKey}
 use Rattle.bd_references.specs.declared.keys.ItemKey.{ItemKey}
-use Rattle.bd_references.specs.contracts.keys.CountKeyPartialEq.TheImpl as counts
+use Rattle.bd_references.specs.contracts.keys.UseKeyPartialEq.TheImpl as uses
 use Rattle.bd_references.specs.contracts.keys.ItemKeyPartialEq.TheImpl as items
 
+unfoldable pub same_use : UseKey → UseKey → Bool
+same_use = (uses.ghosts).eq
+
+-- what these references are to, and what for
+abbrev pub use_of : CountKey → UseKey
+use_of k = record { object = k.object; kind = k.kind }
+
 unfoldable pub same_key : CountKey → CountKey → Bool
-same_key = (counts.ghosts).eq
+same_key j k = same_use (use_of j) (use_of k) && beq j.strong k.strong
 
 unfoldable pub same_item : ItemKey → ItemKey → Bool
 same_item = (items.ghosts).eq
@@ -28,6 +37,9 @@ kind_of (holders.Target b p) = kinds.Target p
 kind_of holders.Handshake = kinds.Handshake
 kind_of holders.Manager = kinds.Manager
 
+abbrev pub to_use : ObjectId → Kind → UseKey
+to_use o kind = record { object = o; kind = kind }
+
 abbrev pub count_key : ObjectId → Kind → Bool → CountKey
 count_key o kind strong = record { object = o; kind = kind; strong = strong }
 
@@ -38,7 +50,19 @@ use_key r = count_key r.object (kind_of r.holder) r.strong
 abbrev pub total_key : Reference → CountKey
 total_key r = count_key r.object kinds.Any r.strong
 
+-- the references of one use that are of one strength
+abbrev pub of_use : UseKey → Bool → CountKey
+of_use u strong = count_key u.object u.kind strong
+
+-- the reference is of this use
+abbrev pub is_of_use : UseKey → Reference → Bool
+is_of_use u r = same_use u (use_of (use_key r))
+
 -- it gives the process a name: the process asked for it, or a buffer in its window carries it
+abbrev pub names : ℕ → ObjectId → Reference → Bool
+names p o r = is_of_use (to_use o (kinds.Asked p)) r || is_of_use (to_use o (kinds.Carried p)) r
+
+-- the same, in one strength
 abbrev pub names_with : ℕ → ObjectId → Bool → Reference → Bool
 names_with p o strong r =
     same_key (use_key r) (count_key o (kinds.Asked p) strong)
@@ -58,13 +82,12 @@ is_of_process p kind = is_some_and (process_of kind) (λ q. q == p)
 abbrev pub any_kind : CountKey → CountKey
 any_kind k = record k { kind = kinds.Any }
 
--- the key is one of these
-abbrev pub is_one_of : List CountKey → CountKey → Bool
-is_one_of ks q = list_any (λ k. same_key k q) ks
+abbrev pub any_use : UseKey → UseKey
+any_use u = record u { kind = kinds.Any }
 
--- the key is the object's, of this kind
-abbrev pub is_to : ObjectId → Kind → CountKey → Bool
-is_to o kind k = same_key (count_key o kind true) k || same_key (count_key o kind false) k
+-- the use is one of these
+abbrev pub is_one_of : List UseKey → UseKey → Bool
+is_one_of us u = list_any (λ x. same_use x u) us
 
 -- another number for each kind, below 2 ^ 35
 abbrev pub kind_word : Kind → ℕ
@@ -75,6 +98,6 @@ kind_word kinds.Handshake = 3 * 2 ^ 32
 kind_word kinds.Manager = 4 * 2 ^ 32
 kind_word kinds.Any = 5 * 2 ^ 32
 
--- another number for each key, by which it is hashed
-abbrev pub count_spread : CountKey → ℕ
-count_spread k = pair k.object.index k.object.place + (kind_word k.kind * 2 + (if k.strong then 1 else 0)) * 2 ^ 64
+-- another number for each use, by which it is hashed
+abbrev pub use_spread : UseKey → ℕ
+use_spread u = pair u.object.index u.object.place + kind_word u.kind * 2 ^ 64

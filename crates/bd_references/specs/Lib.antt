@@ -2,6 +2,7 @@ pub mod Stands
 pub mod Room
 pub mod Carried
 pub mod Keys
+pub mod Count
 pub mod Counted
 pub mod Gathered
 pub mod Listed

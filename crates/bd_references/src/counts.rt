@@ -1,15 +1,16 @@
 //! How many references there are, by what they are to, what for, and how strong.
 
 ghost use Rattle.std.specs.{Prelude.{◌≡◌, ◌≤◌, ◌<◌, ◌+◌, ◌-◌, ◌^◌, false, if◌then◌else◌, OnOk, OnErr}, HashMap.{spare}};
-ghost use Rattle.bd_references.specs.{Keys.{same_key}, Counted.{count_at}};
+ghost use Rattle.bd_references.specs.{Count.{of_strength}, Keys.{same_use, same_key, use_of}, Counted.{both_at, count_at}};
 
-use crate::keys::CountKey;
+use crate::count::Count;
+use crate::keys::{CountKey, UseKey, use_of};
 use std::alloc::{AllocError, Global};
 use std::collections::HashMap;
 
-/// The counters that aren't 0.
+/// The counters that aren't 0: those of both strengths stand together, since most steps look at both.
 pub(crate) struct Counts {
-    pub(crate) counts: HashMap<CountKey, u64>,
+    pub(crate) counts: HashMap<UseKey, Count>,
 }
 
 impl Drop for Counts {
@@ -22,7 +23,7 @@ impl Counts {
     ghost use Rattle.bd_references.specs.declared.keys.CountKey as declared;
 
     /// Nothing is counted.
-    #[tactic(auto, unfolding(crate::specs::Keys::same_key))]
+    #[tactic(auto, unfolding(crate::specs::Keys::same_use))]
     pub(crate) fn new(alloc: Global) -> Counts
         ensures { (k : declared.CountKey) → count_at result k ≡ 0 }
     {
@@ -41,64 +42,87 @@ impl Counts {
         self.counts.reserve(more)
     }
 
+    /// How many there are, of both strengths.
+    #[tactic(auto, unfolding(crate::specs::Keys::same_use))]
+    pub(crate) fn both(&self, u: UseKey) -> Count
+        ensures { result ≡ both_at self.now u }
+    {
+        match self.counts.get(&u) {
+            Some(count) => *count,
+            None => Count::none(),
+        }
+    }
+
     /// How many there are.
-    #[tactic(auto, unfolding(crate::specs::Keys::same_key))]
     pub(crate) fn at(&self, k: CountKey) -> u64
         ensures { result ≡ count_at self.now k }
     {
-        match self.counts.get(&k) {
-            Some(n) => *n,
-            None => 0,
-        }
+        self.both(use_of(k)).of(k.strong)
     }
 
-    /// A counter becomes 0. Tells how many there were.
-    #[tactic(auto, unfolding(crate::specs::Keys::same_key))]
-    pub(crate) fn forget(&mut self, k: CountKey) -> u64
-        ensures before { result ≡ count_at self.old k }
-        ensures counts { (q : declared.CountKey) → count_at self.new q ≡ (if same_key k q then 0 else count_at self.old q) }
+    /// The counters of a use become 0. Tells how many there were.
+    #[tactic(auto, unfolding(crate::specs::Keys::same_use))]
+    pub(crate) fn forget(&mut self, u: UseKey) -> Count
+        ensures before { result ≡ both_at self.old u }
+        ensures counts { (q : declared.CountKey) → count_at self.new q ≡ (if same_use u (use_of q) then 0 else count_at self.old q) }
         ensures spare { spare self.old.counts ≤ spare self.new.counts }
     {
-        self.counts.remove(&k).unwrap_or(0)
+        self.counts.remove(&u).unwrap_or(Count::none())
     }
 
-    // So many fewer. The counter stays, even if it becomes 0.
-    #[tactic(auto, unfolding(crate::specs::Keys::same_key))]
-    fn lower(&mut self, k: CountKey, fewer: u64) -> u64
-        ensures before { result ≡ count_at self.old k }
-        ensures counts { (q : declared.CountKey) → count_at self.new q ≡ count_at self.old q - (if same_key k q then fewer else 0) }
+    // So many fewer. The counters stay, even if they become 0.
+    #[tactic(auto, unfolding(crate::specs::Keys::same_use))]
+    fn lower(&mut self, u: UseKey, fewer: Count) -> Count
+        ensures before { result ≡ both_at self.old u }
+        ensures counts { (q : declared.CountKey) → count_at self.new q
+            ≡ count_at self.old q - (if same_use u (use_of q) then of_strength q.strong fewer else 0) }
         ensures spare { spare self.old.counts ≤ spare self.new.counts }
     {
-        match self.counts.get_mut(&k) {
+        match self.counts.get_mut(&u) {
             Some(count) => {
                 let before = *count;
-                *count = before.saturating_sub(fewer);
+                *count = before.less(fewer);
                 before
             }
-            None => 0,
+            None => Count::none(),
         }
     }
 
-    /// One more. Tells how many there were.
-    #[tactic(auto, unfolding(crate::specs::Keys::same_key))]
-    pub(crate) fn add(&mut self, k: CountKey) -> u64
+    /// One more. Tells how many there were, of both strengths.
+    #[tactic(auto, unfolding(crate::specs::Keys::same_use))]
+    pub(crate) fn add(&mut self, k: CountKey) -> Count
         requires { 0 < spare self.old.counts }
-        ensures before { result ≡ count_at self.old k }
+        ensures before { result ≡ both_at self.old (use_of k) }
         ensures counts { (q : declared.CountKey) → count_at self.old k < 2 ^ 64 - 1
             → count_at self.new q ≡ count_at self.old q + (if same_key k q then 1 else 0) }
-        ensures others { (q : declared.CountKey) → same_key k q ≡ false → count_at self.new q ≡ count_at self.old q }
+        ensures others { (q : declared.CountKey) → same_use (use_of k) (use_of q) ≡ false
+            → count_at self.new q ≡ count_at self.old q }
         ensures spare { spare self.old.counts ≤ spare self.new.counts + 1 }
     {
-        match self.counts.entry(k) {
+        match self.counts.entry(use_of(k)) {
             Ok(entry) => {
-                let count = entry.or_insert(0);
+                let count = entry.or_insert(Count::none());
                 let before = *count;
-                *count = before.saturating_add(1);
+                *count = before.one_more(k.strong);
                 before
             }
             // It doesn't come: there is room.
-            Err(_) => 0,
+            Err(_) => Count::none(),
         }
+    }
+
+    /// So many fewer, of both strengths. Tells how many there were.
+    pub(crate) fn take_both(&mut self, u: UseKey, fewer: Count) -> Count
+        ensures before { result ≡ both_at self.old u }
+        ensures counts { (q : declared.CountKey) → count_at self.new q
+            ≡ count_at self.old q - (if same_use u (use_of q) then of_strength q.strong fewer else 0) }
+        ensures spare { spare self.old.counts ≤ spare self.new.counts }
+    {
+        let before = self.lower(u, fewer);
+        if !before.is_empty() && before.less(fewer).is_empty() {
+            self.forget(u);
+        }
+        before
     }
 
     /// So many fewer. Tells how many there were.
@@ -107,10 +131,7 @@ impl Counts {
         ensures counts { (q : declared.CountKey) → count_at self.new q ≡ count_at self.old q - (if same_key k q then fewer else 0) }
         ensures spare { spare self.old.counts ≤ spare self.new.counts }
     {
-        let before = self.lower(k, fewer);
-        if 0 < before && before <= fewer {
-            self.forget(k);
-        }
-        before
+        self.take_both(use_of(k), Count::only(k.strong, fewer))
+            .of(k.strong)
     }
 }

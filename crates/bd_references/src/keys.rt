@@ -27,8 +27,15 @@ pub(crate) enum Kind {
     Any,
 }
 
-/// References to one object, of one kind and one strength.
+/// References to one object, of one kind, whatever their strength.
 #[derive(Clone, Copy, PartialEq, Eq)]
+pub(crate) struct UseKey {
+    pub(crate) object: ObjectId,
+    pub(crate) kind: Kind,
+}
+
+/// Those of one strength.
+#[derive(Clone, Copy)]
 pub(crate) struct CountKey {
     pub(crate) object: ObjectId,
     pub(crate) kind: Kind,
@@ -59,20 +66,19 @@ impl Kind {
     }
 }
 
-impl CountKey {
+impl UseKey {
     // Another number for each key.
     fn spread(self) -> u128
-        ensures { result ≡ keys.count_spread self }
+        ensures { result ≡ keys.use_spread self }
     {
         let object = pair(self.object.index, self.object.place);
-        let used = self.kind.word() * 2 + u64::from(self.strong);
-        u128::from(object) + u128::from(used) * 0x1_0000_0000_0000_0000
+        u128::from(object) + u128::from(self.kind.word()) * 0x1_0000_0000_0000_0000
     }
 }
 
 // One write, as `bd_words` says.
-impl Hash for CountKey {
-    ghost hash_input = { λ k. fed.u128 (keys.count_spread k) };
+impl Hash for UseKey {
+    ghost hash_input = { λ k. fed.u128 (keys.use_spread k) };
 
     ghost respects_eq = { Prim.search (hashing, rules) };
 
@@ -89,6 +95,20 @@ impl Hash for ItemKey {
     fn hash<H: Hasher>(&self, state: &mut H) {
         state.write_u128(wide(self.buffer, self.index));
     }
+}
+
+/// References to this object, of this kind.
+pub(crate) fn to_use(o: ObjectId, kind: Kind) -> UseKey
+    ensures { result ≡ keys.to_use o kind }
+{
+    UseKey { object: o, kind }
+}
+
+/// What these are to, and what for.
+pub(crate) fn use_of(k: CountKey) -> UseKey
+    ensures { result ≡ keys.use_of k }
+{
+    to_use(k.object, k.kind)
 }
 
 fn kind_of(holder: Holder) -> Kind
@@ -146,4 +166,11 @@ pub(crate) fn any_kind(k: CountKey) -> CountKey
         kind: Kind::Any,
         ..k
     }
+}
+
+/// Among all, those to the object.
+pub(crate) fn any_use(u: UseKey) -> UseKey
+    ensures { result ≡ keys.any_use u }
+{
+    to_use(u.object, Kind::Any)
 }

@@ -4,6 +4,7 @@
 mod asking;
 mod buffers;
 mod carried;
+mod count;
 mod counts;
 mod exits;
 mod held;

@@ -20,23 +20,15 @@ pub struct Hold {
 impl ReferenceTable {
     ghost use Rattle.bd_references.specs.Stands.{ReferencesAre};
 
-    // Whether anything refers to the object, where it is known whether anything does so strongly.
-    fn is_held_at(&self, o: ObjectId, strong: bool) -> bool
-        ensures { (l : List Reference) → ReferencesAre self.now l → strong ≡ refer.strong_in l o
-            → result ≡ refer.held_in l o }
-    {
-        strong || self.tallies.has_any(o, false)
-    }
-
     /// How the object is referred to.
     pub fn hold(&self, o: ObjectId) -> Hold
         ensures held { (l : List Reference) → ReferencesAre self.now l → result.is_held ≡ refer.held_in l o }
         ensures strong { (l : List Reference) → ReferencesAre self.now l → result.is_strong ≡ refer.strong_in l o }
     {
-        let is_strong = self.is_strong(o);
+        let total = self.tallies.total(o);
         Hold {
-            is_held: self.is_held_at(o, is_strong),
-            is_strong,
+            is_held: !total.is_empty(),
+            is_strong: total.strong > 0,
         }
     }
 
@@ -51,7 +43,7 @@ impl ReferenceTable {
     pub fn is_strong(&self, o: ObjectId) -> bool
         ensures { (l : List Reference) → ReferencesAre self.now l → result ≡ refer.strong_in l o }
     {
-        self.tallies.has_any(o, true)
+        self.hold(o).is_strong
     }
 
     /// Whether the process refers to it: it asked for it, or a buffer in its window carries it.
@@ -59,7 +51,7 @@ impl ReferenceTable {
         ensures { (l : List Reference) → ReferencesAre self.now l
             → result ≡ list_any (λ r. words.same r.object o && refer.names_for p r.holder) l }
     {
-        self.tallies.names(p, o, true) || self.tallies.names(p, o, false)
+        self.tallies.names(p, o)
     }
 
     /// The same, strongly.
@@ -67,6 +59,6 @@ impl ReferenceTable {
         ensures { (l : List Reference) → ReferencesAre self.now l
             → result ≡ list_any (λ r. r.strong && words.same r.object o && refer.names_for p r.holder) l }
     {
-        self.tallies.names(p, o, true)
+        self.tallies.names_with(p, o, true)
     }
 }

@@ -1,18 +1,21 @@
 //! How many references there are, by what they are for, and in all.
 
-ghost use Rattle.std.specs.Prelude.{◌≡◌, ◌≤◌, ◌<◌, ◌+◌, ◌-◌, ◌^◌, ◌++◌, ◌∷◌, [], Bool, List, length, filter, not, ◌||◌, ◌&&◌, OnOk, OnErr};
+ghost use Rattle.std.specs.Prelude.{◌≡◌, ◌≤◌, ◌<◌, ◌+◌, ◌-◌, ◌^◌, ◌++◌, ◌∷◌, [], nat_lt, Bool, true, List, length, filter, not, ◌||◌, ◌&&◌, OnOk, OnErr};
 ghost use Rattle.std.specs.List.{list_any};
 ghost use Rattle.bd_space.specs.declared.space.Reference as declared;
 ghost use Rattle.bd_space.specs.Words.{same, without_first};
 ghost use Rattle.bd_space.specs.References as refer;
 ghost use Rattle.bd_references.specs.declared.keys.Kind.TheVariants as kinds;
 ghost use Rattle.bd_references.specs.Keys as keys;
-ghost use Rattle.bd_references.specs.Listed.{AreUsers};
+ghost use Rattle.bd_references.specs.{Count.{is_empty}, Listed.{AreUsers}};
 
+use crate::count::Count;
 use crate::counts::Counts;
 use crate::held::HeldReferences;
-use crate::keys::{CountKey, Kind, any_kind, count_key, total_key, use_key};
-use crate::leaving::{drop_each, drop_key};
+use crate::keys::{
+    CountKey, Kind, UseKey, any_kind, count_key, to_use, total_key, use_key, use_of,
+};
+use crate::leaving::{drop_each, drop_use};
 use crate::users::{enlist, reserve_users};
 use bd_groups::{Group, Groups};
 use bd_space::{ObjectId, Reference};
@@ -24,8 +27,8 @@ pub(crate) struct Tallies {
     pub(crate) uses: Counts,
     // Whatever for.
     pub(crate) totals: Counts,
-    // By process the keys under which `uses` counts for it, and keys that it did count under.
-    pub(crate) users: Groups<CountKey>,
+    // By process the uses that `uses` counts for it, and uses that it did count.
+    pub(crate) users: Groups<UseKey>,
     pub(crate) alloc: Global,
     ghost listed: { AreUsers uses users },
 }
@@ -68,7 +71,7 @@ impl Tallies {
         reserve_users(&mut self.users, &self.uses, self.alloc, more)
     }
 
-    /// Whether there is one of this kind.
+    /// Whether there is one of this kind, in this strength.
     pub(crate) fn has(&self, o: ObjectId, kind: Kind, strong: bool) -> bool
         ensures { (l : List declared.Reference) → Tallied self.now l
             → result ≡ list_any (λ r. keys.same_key (keys.use_key r) (keys.count_key o kind strong)) l }
@@ -76,16 +79,33 @@ impl Tallies {
         self.uses.at(count_key(o, kind, strong)) > 0
     }
 
-    /// Whether there is one of any kind.
-    pub(crate) fn has_any(&self, o: ObjectId, strong: bool) -> bool
+    // Whether there is one of this kind, in either strength.
+    fn has_either(&self, o: ObjectId, kind: Kind) -> bool
         ensures { (l : List declared.Reference) → Tallied self.now l
-            → result ≡ list_any (λ r. keys.same_key (keys.total_key r) (keys.count_key o kinds.Any strong)) l }
+            → result ≡ list_any (keys.is_of_use (keys.to_use o kind)) l }
     {
-        self.totals.at(count_key(o, Kind::Any, strong)) > 0
+        !self.uses.both(to_use(o, kind)).is_empty()
+    }
+
+    /// How many there are of any kind.
+    pub(crate) fn total(&self, o: ObjectId) -> Count
+        ensures any { (l : List declared.Reference) → Tallied self.now l → not (is_empty result)
+            ≡ list_any (λ r. keys.same_use (keys.to_use o kinds.Any) (keys.use_of (keys.total_key r))) l }
+        ensures strong { (l : List declared.Reference) → Tallied self.now l → nat_lt 0 result.strong
+            ≡ list_any (λ r. keys.same_key (keys.total_key r) (keys.count_key o kinds.Any true)) l }
+    {
+        self.totals.both(to_use(o, Kind::Any))
     }
 
     /// Whether there is one that gives the process a name.
-    pub(crate) fn names(&self, p: u32, o: ObjectId, strong: bool) -> bool
+    pub(crate) fn names(&self, p: u32, o: ObjectId) -> bool
+        ensures { (l : List declared.Reference) → Tallied self.now l → result ≡ list_any (keys.names p o) l }
+    {
+        self.has_either(o, Kind::Asked(p)) || self.has_either(o, Kind::Carried(p))
+    }
+
+    /// The same, in one strength.
+    pub(crate) fn names_with(&self, p: u32, o: ObjectId, strong: bool) -> bool
         ensures { (l : List declared.Reference) → Tallied self.now l → result ≡ list_any (keys.names_with p o strong) l }
     {
         self.has(o, Kind::Asked(p), strong) || self.has(o, Kind::Carried(p), strong)
@@ -99,7 +119,7 @@ impl Tallies {
     {
         let k = use_key(r);
         let before = self.uses.add(k);
-        enlist(&mut self.users, k, before);
+        enlist(&mut self.users, use_of(k), before);
         self.totals.add(total_key(r));
     }
 
@@ -151,17 +171,7 @@ impl Tallies {
             → Tallied self.new (filter (λ r. not (same r.object o && refer.is_of_owner r.holder)) l) }
         ensures uses { tally_room self.old ≤ tally_room self.new }
     {
-        self.drop_kind(o, Kind::Handshake);
-        self.drop_kind(o, Kind::Manager);
-    }
-
-    // Those of the kind go, in both strengths.
-    fn drop_kind(&mut self, o: ObjectId, kind: Kind)
-        ensures stands { (l : List declared.Reference) → Tallied self.old l
-            → Tallied self.new (filter (λ r. not (keys.is_to o kind (keys.use_key r))) l) }
-        ensures uses { tally_room self.old ≤ tally_room self.new }
-    {
-        drop_key(&mut self.uses, &mut self.totals, count_key(o, kind, true));
-        drop_key(&mut self.uses, &mut self.totals, count_key(o, kind, false));
+        drop_use(&mut self.uses, &mut self.totals, to_use(o, Kind::Handshake));
+        drop_use(&mut self.uses, &mut self.totals, to_use(o, Kind::Manager));
     }
 }

@@ -3,9 +3,9 @@ use Rattle.std.specs.List.{list_any}
 use Rattle.bd_references.specs.Counted.{is_counted}
 use Rattle.bd_references.proofs.users.push_counted.Given as goal
 
-abbrev pub invariant-loop-k : goal.invariant-loop-k
-invariant-loop-k l = record {
-  pushed : l.fn.touched.items ++ map (λ k. k.object) (filter (is_counted l.uses) l.fn.listed)
-      ≡ l.touched.items ++ map (λ k. k.object) (filter (is_counted l.uses) l.k-iterator);
-  rest : list_any (is_counted l.uses) l.k-iterator ≡ true → list_any (is_counted l.uses) l.fn.listed ≡ true;
+abbrev pub invariant-loop-u : goal.invariant-loop-u
+invariant-loop-u l = record {
+  pushed : l.fn.touched.items ++ map (λ u. u.object) (filter (is_counted l.uses) l.fn.listed)
+      ≡ l.touched.items ++ map (λ u. u.object) (filter (is_counted l.uses) l.u-iterator);
+  rest : list_any (is_counted l.uses) l.u-iterator ≡ true → list_any (is_counted l.uses) l.fn.listed ≡ true;
 }

@@ -1,31 +1,31 @@
 use Rattle.std.proofs.Common.{inl, inr, ap, sym, ◌∙◌, length, arith}
 use Rattle.std.specs.Map.Iter.{deref_pair}
 use Rattle.std.proofs.lemmas.Map.Iter.{rest_more}
-use Rattle.bd_references.specs.declared.keys.CountKey.{CountKey}
-use Rattle.bd_references.specs.Keys.{same_key, is_of_process}
-use Rattle.bd_references.specs.Listed.{has_key}
+use Rattle.bd_references.specs.declared.keys.UseKey.{UseKey}
+use Rattle.bd_references.specs.Keys.{same_use, is_of_process}
+use Rattle.bd_references.specs.Listed.{has_use}
 use Rattle.bd_references.proofs.Entries.{entry-step}
 use Rattle.bd_references.proofs.Listing.{put-has, put-keeps, put-only}
-use Rattle.bd_references.proofs.Tests.{key-eq}
+use Rattle.bd_references.proofs.Tests.{use-eq}
 use Rattle.bd_references.proofs.users.renewed.Goals as goal
 
-pub loop-k-preserved : goal.loop-k-preserved
-loop-k-preserved c =
-    let inv = c.loop-k.invariant in
-    let j = c.in-Some.k.now in
-    let old = c.loop-k.users in
+pub loop-u-preserved : goal.loop-u-preserved
+loop-u-preserved c =
+    let inv = c.loop-u.invariant in
+    let j = c.in-Some.u.now in
+    let old = c.loop-u.users in
     let new = c.put_user.new.users in
     let put = c.put_user.ensures.put in
-    let first = rest_more deref_pair _ _ _ (c.in-Some.k, c.in-Some.field-0-1) c.in-Some.is c.next.ensures.steps in
+    let first = rest_more deref_pair _ _ _ (c.in-Some.u, c.in-Some.field-0-1) c.in-Some.is c.next.ensures.steps in
     let fewer = ap length first in
     record {
-      has = λ k p n found kind. elim (inv.has k p n found kind) [
-        | inl more ↦ elim (entry-step same_key key-eq k n (j, c.in-Some.field-0-1.now) _ _ first more) [
-          | inl is ↦ inr (ap (has_key new p) is.0 ∙ put-has j old new put p (ap (λ (i : CountKey). is_of_process p i.kind) (sym is.0) ∙ kind))
+      has = λ u p n found kind. elim (inv.has u p n found kind) [
+        | inl more ↦ elim (entry-step same_use use-eq u n (j, c.in-Some.field-0-1.now) _ _ first more) [
+          | inl is ↦ inr (ap (has_use new p) is.0 ∙ put-has j old new put p (ap (λ (i : UseKey). is_of_process p i.kind) (sym is.0) ∙ kind))
           | inr rest ↦ inl rest
         ]
-        | inr has ↦ inr (put-keeps j old new put k p has)
+        | inr has ↦ inr (put-keeps j old new put u p has)
       ];
-      only = λ k p h. put-only j old new put k p (inv.only k p) h;
+      only = λ u p h. put-only j old new put u p (inv.only u p) h;
       room = omega (arith, fewer, inv.room, c.put_user.ensures.uses);
     }

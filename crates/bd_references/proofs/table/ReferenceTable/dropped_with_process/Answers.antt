@@ -6,7 +6,7 @@ use Rattle.bd_groups.specs.Members.{members}
 use Rattle.bd_space.specs.declared.step.ObjectId.{ObjectId}
 use Rattle.bd_space.specs.declared.space.Reference.{Reference}
 use Rattle.bd_space.specs.Local.{is_among}
-use Rattle.bd_references.specs.declared.keys.CountKey.{CountKey}
+use Rattle.bd_references.specs.declared.keys.UseKey.{UseKey}
 use Rattle.bd_references.specs.declared.tallies.Tallies.{Tallies}
 use Rattle.bd_references.specs.Counted.{is_counted}
 use Rattle.bd_references.specs.Tallied.{Tallied}
@@ -14,11 +14,11 @@ use Rattle.bd_references.proofs.Listing.{goes, any-dropped, just-dropped}
 use Rattle.bd_references.proofs.table.ReferenceTable.dropped_with_process.Goals as goal
 
 -- what was put tells of the same objects
-same-objects : (p : ℕ) (t : Tallies) (l : List Reference) (keys : List CountKey) (before ids : List ObjectId) → Tallied t l
-    → keys ≡ members t.users (Process p) → ids ≡ before ++ map (λ k. k.object) (filter (is_counted t.uses) keys)
+same-objects : (p : ℕ) (t : Tallies) (l : List Reference) (uses : List UseKey) (before ids : List ObjectId) → Tallied t l
+    → uses ≡ members t.users (Process p) → ids ≡ before ++ map (λ u. u.object) (filter (is_counted t.uses) uses)
     → (o : ObjectId) → is_among ids o ≡ is_among (before ++ map (λ r. r.object) (filter (goes p) l)) o
-same-objects p t l keys before ids are listed put o =
-    ap (λ (os : List ObjectId). is_among os o) (put ∙ ap (λ (ks : List CountKey). before ++ map (λ (k : CountKey). k.object) (filter (is_counted t.uses) ks)) listed)
+same-objects p t l uses before ids are listed put o =
+    ap (λ (os : List ObjectId). is_among os o) (put ∙ ap (λ (us : List UseKey). before ++ map (λ (u : UseKey). u.object) (filter (is_counted t.uses) us)) listed)
     ∙ just-dropped p t.uses t.users l are.uses_are t.listed before o
 
 pub returns-clause-all : goal.returns-clause-all

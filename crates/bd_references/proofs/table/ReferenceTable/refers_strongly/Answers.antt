@@ -11,6 +11,6 @@ pub returns : goal.returns
 returns c = λ l are.
     let p = c.args.p in
     let o = c.args.o in
-    c.names.ensures l are.tallied
+    c.names_with.ensures l are.tallied
     ∙ sym (any-same (λ (r : Reference). r.strong && same r.object o && names_for p r.holder)
     (names_with p o true) l (naming-strongly p o))
