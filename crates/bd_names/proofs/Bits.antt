@@ -73,11 +73,14 @@ module _ (f g : ℕ → ℕ → ℕ) (p i y b : ℕ) (words : (q v : ℕ) → g 
   pub bits-changed : (q j : ℕ) → bit_of g q j ≡ cond (eqb p q && eqb i j) b (bit_of f q j)
   bits-changed q j = bits-case q j (eqb p q) refl
 
-pub word-unchanged : (f g : ℕ → ℕ → ℕ) (p w y : ℕ) → ((q v : ℕ) → g q v ≡ cond (eqb p q && eqb w v) y (f q v)) → (q v : ℕ) → (eqb p q && eqb w v) ≡ false → g q v ≡ f q v
-word-unchanged f g p w y words q v e = words q v ∙ ap (λ c. cond c y (f q v)) e
-
-pub word-changed : (f g : ℕ → ℕ → ℕ) (p w y : ℕ) → ((q v : ℕ) → g q v ≡ cond (eqb p q && eqb w v) y (f q v)) → g p w ≡ y
-word-changed f g p w y words = words p w ∙ rw (eq-eqb p p refl, eq-eqb w w refl) refl
+-- a word that is what it comes to be
+pub word-same : (f : ℕ → ℕ → ℕ) (p w y : ℕ) → y ≡ f p w → (q v : ℕ) → f q v ≡ cond (eqb p q && eqb w v) y (f q v)
+word-same f p w y is q v = at (eqb p q) (eqb w v) refl refl
+  where
+    at : (b c : Bool) → eqb p q ≡ b → eqb w v ≡ c → f q v ≡ cond (b && c) y (f q v)
+    at true true d e = sym (is ∙ ap (λ r. f r w) (eqb-true p q d) ∙ ap (f q) (eqb-true w v e))
+    at true false d e = refl
+    at false c d e = refl
 
 pub set-word : (f g : ℕ → ℕ → ℕ) (p i : ℕ) → ((q v : ℕ) → g q v ≡ cond (eqb p q && eqb (i / 64) v) (bit_or (f p (i / 64)) (1 * 2 ^ (i % 64) % 2 ^ 64)) (f q v))
     → (q j : ℕ) → bit_of g q j ≡ cond (eqb p q && eqb i j) 1 (bit_of f q j)
@@ -90,8 +93,3 @@ pub clear-word : (f g : ℕ → ℕ → ℕ) (p i : ℕ) → ((q v : ℕ) → g 
 clear-word f g p i words =
     let k : i % 64 < 64 = omega arith in
     bits-changed f g p i _ 0 words (bit_at_clear_same w64 (f p (i / 64)) (i % 64) k) (λ j lt ne. bit_at_clear_other w64 (f p (i / 64)) (i % 64) k j lt ne)
-
-pub cleared-gap : (f g : ℕ → ℕ → ℕ) (p i : ℕ) → ((q j : ℕ) → bit_of g q j ≡ cond (eqb p q && eqb i j) 0 (bit_of f q j)) → g p (i / 64) ≢ 2 ^ 64 - 1
-cleared-gap f g p i bits =
-    let k : i % 64 < 64 = omega arith in
-    gap-word (g p (i / 64)) (i % 64) k (bits p i ∙ rw (eq-eqb p p refl, eq-eqb i i refl) refl)

@@ -8,4 +8,6 @@ mod Lookups
 mod Marking
 mod Moved
 mod Naming
+mod Paging
+mod Places
 mod Singles

@@ -1,22 +1,27 @@
 -- The numbers of processes' names in groups, as names come and go.
-use Rattle.std.proofs.Common.{◌≡◌, ◌≢◌, ℕ, zero, suc, ◌<◌, Bool, true, false, not, cond, ◌&&◌, eqb, List, [], ◌∷◌, ◌++◌, length, filter, refl, ap, sym, ◌∙◌, subst, inl, inr, ◌⊎◌, arith}
+use Rattle.std.proofs.Common.{◌≡◌, ◌≢◌, ℕ, zero, suc, ◌<◌, Bool, true, false, not, cond, ◌&&◌, eqb, List, [], ◌∷◌, ◌++◌, length, Option, Some, None, filter, refl, ap, sym, ◌∙◌, subst, inl, inr, ◌⊎◌, arith}
 use Rattle.std.specs.Prelude.{get_or}
 use Rattle.std.specs.List.{All, list_any}
+use Rattle.std.specs.Map.{lookup}
 use Rattle.std.specs.Option.{is_some}
-use Rattle.std.proofs.lemmas.Bool.{eqb-true, eq-eqb, ne_eqb, and_parts, or_cases, or_right}
+use Rattle.std.proofs.lemmas.Bool.{eqb-true, eq-eqb, ne_eqb, or_right}
 use Rattle.std.proofs.lemmas.List.Elements.{All-filter, All-push, filter_passes}
 use Rattle.bd_groups.specs.declared.group.Group.{Group}
 use Rattle.bd_groups.specs.declared.group.Group.TheVariants.{Process}
 use Rattle.bd_groups.specs.declared.groups.Groups.{Groups}
 use Rattle.bd_groups.specs.Group.{same_group}
 use Rattle.bd_groups.specs.Members.{members, IsIn, HasMember}
+use Rattle.bd_space.specs.declared.step.ObjectId.{ObjectId}
 use Rattle.bd_space.specs.declared.space.Name.{Name}
-use Rattle.bd_names.specs.declared.keys.NumberKey.{NumberKey}
+use Rattle.bd_space.specs.Words.{same}
+use Rattle.bd_space.specs.Names.{named_in}
+use Rattle.bd_names.specs.declared.keys.ObjectKey.{ObjectKey}
 use Rattle.bd_names.specs.declared.names.Names.{Names}
-use Rattle.bd_names.specs.Keys.{is_number_key, object_at}
+use Rattle.bd_names.specs.Keys.{is_object_key, number_at}
 use Rattle.bd_names.specs.Named.{Named, Listed, HasNumbers}
 use Rattle.bd_names.specs.Sound.{has_number}
 use Rattle.bd_names.proofs.Freeing.{any-is-some}
+use Rattle.bd_names.proofs.Naming.{number-of-it}
 
 other-process : (p q : ℕ) → p ≢ q → same_group (Process p) (Process q) ≡ false
 unfolding same_group
@@ -33,20 +38,23 @@ listed-filter held keep l h = All-filter keep (λ (m : Name). HasMember held (Pr
 
 -- ---- of the names that are there, each is a member or still to come
 
-abbrev pub Coming : Groups ℕ → List NumberKey → ℕ → ℕ → Type 0
-Coming held todo p n = (list_any (is_number_key p n) todo ≡ true) ⊎ HasMember held (Process p) n
+abbrev pub Coming : Groups ℕ → List (ObjectKey × ℕ) → ℕ → ObjectId → ℕ → Type 0
+Coming held todo p o n = (lookup (is_object_key p o) todo ≡ Some n) ⊎ HasMember held (Process p) n
 
-pub come : (old new : Groups ℕ) (k : NumberKey) (todo left : List NumberKey) → HasMember new (Process k.process) k.number
-    → ((g : Group) (n : ℕ) → HasMember old g n → HasMember new g n) → todo ≡ k ∷ left → (p n : ℕ) → Coming old todo p n → Coming new left p n
-come old new k todo left has keeps is p n (inr h) = inr (keeps (Process p) n h)
-come old new k todo left has keeps is p n (inl h) = elim (or_cases (is_number_key p n k) (list_any (is_number_key p n) left) (sym (ap (list_any (is_number_key p n)) is) ∙ h)) [
-  | inl e ↦ (let t = and_parts (eqb p k.process) (eqb n k.number) e in inr (rw (eqb-true p k.process t.0, eqb-true n k.number t.1) has))
-  | inr e ↦ inl e
-]
+pub come : (old new : Groups ℕ) (k : ObjectKey) (n : ℕ) (todo left : List (ObjectKey × ℕ)) → HasMember new (Process k.process) n
+    → ((g : Group) (m : ℕ) → HasMember old g m → HasMember new g m) → todo ≡ (k, n) ∷ left → (p : ℕ) (o : ObjectId) (m : ℕ) → Coming old todo p o m → Coming new left p o m
+come old new k n todo left has keeps is p o m (inr h) = inr (keeps (Process p) m h)
+come old new k n todo left has keeps is p o m (inl h) = by (eqb p k.process) (same o k.object) refl (sym (ap (lookup (is_object_key p o)) is) ∙ h)
+  where
+    by : (b c : Bool) → eqb p k.process ≡ b → cond {A = Option ℕ} (b && c) (Some n) (lookup (is_object_key p o) left) ≡ Some m
+        → (lookup (is_object_key p o) left ≡ Some m) ⊎ HasMember new (Process p) m
+    by true true e f = let s : n ≡ m = cc in inr (rw (eqb-true p k.process e, ← s) has)
+    by true false e f = inl f
+    by false c e f = inl f
 
-pub all-come : (held : Groups ℕ) (todo : List NumberKey) (p n : ℕ) → todo ≡ [] → Coming held todo p n → HasMember held (Process p) n
-all-come held todo p n none (inl h) = absurd (let e = sym (ap (list_any (is_number_key p n)) none) ∙ h in cc)
-all-come held todo p n none (inr h) = h
+pub all-come : (held : Groups ℕ) (todo : List (ObjectKey × ℕ)) (p : ℕ) (o : ObjectId) (n : ℕ) → todo ≡ [] → Coming held todo p o n → HasMember held (Process p) n
+all-come held todo p o n none (inl h) = absurd (let e : None ≡ Some n = sym (ap (lookup (is_object_key p o)) none) ∙ h in cc)
+all-come held todo p o n none (inr h) = h
 
 -- each passes its own test
 each-passes : {A : Type 0} (key : A → A → Bool) → ((x : A) → key x x ≡ true) → (xs : List A) (k : ℕ) (d : A) → k < length xs → list_any (key (get_or xs k d)) xs ≡ true
@@ -57,12 +65,16 @@ each-passes key own (x ∷ xs) (suc k) d lt = or_right (key (get_or xs k d) x) (
 own-number : (m : Name) → has_number m.process m.number m ≡ true
 own-number m = rw (eq-eqb m.process m.process refl, eq-eqb m.number m.number refl) refl
 
-pub listed-all : (t : Names) (held : Groups ℕ) (l : List Name) → Named t l → ((p n : ℕ) → is_some (object_at t.objects p n) ≡ true → HasMember held (Process p) n) → Listed held l
+listed-number : (t : Names) (held : Groups ℕ) (l : List Name) → Named t l → ((p : ℕ) (o : ObjectId) (n : ℕ) → number_at t.numbers p o ≡ Some n → HasMember held (Process p) n)
+    → (p n : ℕ) (o : Option ObjectId) → named_in l p n ≡ o → is_some o ≡ true → HasMember held (Process p) n
+listed-number t held l h all p n None e some = absurd (cc)
+listed-number t held l h all p n (Some o) e some = all p o n (sym (h.numbers_are p o) ∙ number-of-it l h.sound p n o e)
+
+pub listed-all : (t : Names) (held : Groups ℕ) (l : List Name) → Named t l → ((p : ℕ) (o : ObjectId) (n : ℕ) → number_at t.numbers p o ≡ Some n → HasMember held (Process p) n) → Listed held l
 listed-all t held l h all = λ k d lt.
     let m : Name = get_or l k d in
-    all m.process m.number
-    (ap is_some (sym (h.objects_are m.process m.number)) ∙ sym (any-is-some (λ (x : Name). x.object) (has_number m.process m.number) l)
-    ∙ each-passes (λ (x y : Name). has_number x.process x.number y) own-number l k d lt)
+    listed-number t held l h all m.process m.number (named_in l m.process m.number) refl
+    (sym (any-is-some (λ (x : Name). x.object) (has_number m.process m.number) l) ∙ each-passes (λ (x y : Name). has_number x.process x.number y) own-number l k d lt)
 
 -- ---- the names of p go, one by one
 

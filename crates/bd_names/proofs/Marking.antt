@@ -1,10 +1,14 @@
--- The least number without a mark, and a number that comes into use.
-use Rattle.std.proofs.Common.{◌≡◌, ◌≢◌, ℕ, ◌+◌, ◌-◌, ◌*◌, ◌/◌, ◌%◌, ◌^◌, ◌<◌, ◌≤◌, Bool, true, false, cond, ◌||◌, ◌&&◌, eqb, refl, ap, sym, ◌∙◌, subst, arith, w64}
+-- The least place without a mark.
+use Rattle.std.proofs.Common.{◌≡◌, ◌≢◌, ℕ, ◌+◌, ◌-◌, ◌*◌, ◌/◌, ◌%◌, ◌^◌, ◌<◌, Bool, true, false, cond, eqb, refl, sym, ◌∙◌, arith, w64}
 use Rattle.std.specs.Int.{trailing_ones}
-use Rattle.std.proofs.lemmas.Bool.{eqb-true, eqb-false, eq-eqb, ne_eqb, and_parts}
+use Rattle.std.proofs.lemmas.Bool.{eqb-true, eqb-false}
 use Rattle.bd_names.specs.Bits.{bit_of}
-use Rattle.bd_names.specs.Marked.{MarkedIn}
-use Rattle.bd_names.proofs.Bits.{bit-here, ones-before, full-word, gap-word, IsFirstClear, first-clear-at}
+use Rattle.bd_names.proofs.Bits.{bit-here, ones-before, full-word, IsFirstClear, first-clear-at}
+
+-- a bit says that its place is in use, or that its word is full
+pub record MarkedIn (words full : ℕ → ℕ → ℕ) (used : ℕ → ℕ → Bool) : Type 0 where
+  pub used_are : (p i : ℕ) → bit_of words p i ≡ cond (used p i) 1 0
+  pub full_are : (p w : ℕ) → bit_of full p w ≡ cond (eqb (words p w) (2 ^ 64 - 1)) 1 0
 
 is-true : (b : Bool) → cond {A = ℕ} b 1 0 ≡ 1 → b ≡ true
 is-true true h = refl
@@ -43,57 +47,3 @@ module _ (words full : ℕ → ℕ → ℕ) (used : ℕ → ℕ → Bool) (h : M
       → (used p (w * 64 + t) ≡ false) × ((j : ℕ) → j < w * 64 + t → used p j ≡ true)
   least-at w x t small is ones gap all =
       let f = first-clear-at x (words p w) t small (λ e. not-max w gap (sym is ∙ e)) ones is in (least-free w t f, least-before w t all f)
-
-  -- the word of a number that isn't in use isn't full
-  pub not-full : (i : ℕ) → used p i ≡ false → bit_of full p (i / 64) ≡ 0
-  not-full i e =
-      let z : bit_of words p i ≡ 0 = h.used_are p i ∙ ap (λ b. cond b 1 0) e in
-      let ne : words p (i / 64) ≢ 2 ^ 64 - 1 = gap-word (words p (i / 64)) (i % 64) (omega arith) z in
-      h.full_are p (i / 64) ∙ ap (λ b. cond b 1 0) (ne_eqb (words p (i / 64)) (2 ^ 64 - 1) ne)
-
-one-more : (a b : Bool) → cond {A = ℕ} a 1 (cond b 1 0) ≡ cond (a || b) 1 0
-one-more true b = refl
-one-more false b = refl
-
--- its word isn't full now
-module _ (words now full : ℕ → ℕ → ℕ) (used : ℕ → ℕ → Bool) (h : MarkedIn words full used) (p i : ℕ) (free : used p i ≡ false)
-    (bits : (q j : ℕ) → bit_of now q j ≡ cond (eqb p q && eqb i j) 1 (bit_of words q j)) (others : (q v : ℕ) → (eqb p q && eqb (i / 64) v) ≡ false → now q v ≡ words q v)
-    (gap : now p (i / 64) ≢ 2 ^ 64 - 1) where
-  full-here : bit_of full p (i / 64) ≡ cond (eqb (now p (i / 64)) (2 ^ 64 - 1)) 1 0
-  full-here = not-full words full used h p i free ∙ ap (λ b. cond b 1 0) (sym (ne_eqb (now p (i / 64)) (2 ^ 64 - 1) gap))
-
-  full-case : (q v : ℕ) (b : Bool) → (eqb p q && eqb (i / 64) v) ≡ b → bit_of full q v ≡ cond (eqb (now q v) (2 ^ 64 - 1)) 1 0
-  full-case q v true e =
-      let k = and_parts (eqb p q) (eqb (i / 64) v) e in
-      subst (λ r. bit_of full r v ≡ cond (eqb (now r v) (2 ^ 64 - 1)) 1 0) (eqb-true p q k.0)
-      (subst (λ u. bit_of full p u ≡ cond (eqb (now p u) (2 ^ 64 - 1)) 1 0) (eqb-true (i / 64) v k.1) full-here)
-  full-case q v false e = h.full_are q v ∙ ap (λ x. cond (eqb x (2 ^ 64 - 1)) 1 0) (sym (others q v e))
-
-  pub marked-apart : MarkedIn now full (λ q j. (eqb p q && eqb i j) || used q j)
-  marked-apart = record {
-    used_are = λ q j. bits q j ∙ ap (λ x. cond (eqb p q && eqb i j) 1 x) (h.used_are q j) ∙ one-more (eqb p q && eqb i j) (used q j);
-    full_are = λ q v. full-case q v (eqb p q && eqb (i / 64) v) refl;
-  }
-
--- ---- the numbers from 1 on
-
-pub marked-same : (words full : ℕ → ℕ → ℕ) (used now : ℕ → ℕ → Bool) → ((q i : ℕ) → now q i ≡ used q i) → MarkedIn words full used → MarkedIn words full now
-marked-same words full used now e h = record { used_are = λ q i. h.used_are q i ∙ ap (λ b. cond {A = ℕ} b 1 0) (sym (e q i)); full_are = h.full_are }
-
--- a number and its place
-pub place : (p q n j : ℕ) → 0 < n → (eqb p q && eqb n (j + 1)) ≡ (eqb p q && eqb (n - 1) j)
-place p q n j h = ap (λ b. eqb p q && b) (at (eqb (n - 1) j) refl)
-  where
-    at : (b : Bool) → eqb (n - 1) j ≡ b → eqb n (j + 1) ≡ b
-    at true e = let k : n - 1 ≡ j = eqb-true (n - 1) j e in eq-eqb n (j + 1) (omega arith)
-    at false e = let ne : n - 1 ≢ j = eqb-false (n - 1) j e in ne_eqb n (j + 1) (λ k. ne (omega arith))
-
-pub no-place : (p q n j : ℕ) → n ≤ 0 → (eqb p q && eqb n (j + 1)) ≡ false
-no-place p q n j h = at (eqb p q)
-  where
-    ne : n ≢ j + 1
-    ne k = omega arith
-
-    at : (a : Bool) → (a && eqb n (j + 1)) ≡ false
-    at true = ne_eqb n (j + 1) ne
-    at false = refl

@@ -1,7 +1,7 @@
 -- Names by process and number, and by process and object, as names come and go. No two of a process have one number.
-use Rattle.std.proofs.Common.{◌≡◌, ℕ, ◌≤◌, Bool, true, false, not, cond, ◌||◌, ◌&&◌, eqb, List, [], ◌∷◌, ◌++◌, Option, Some, None, find, filter, refl, ap, sym, ◌∙◌, subst, arith}
+use Rattle.std.proofs.Common.{◌≡◌, ℕ, ◌≤◌, Bool, true, false, not, cond, ◌&&◌, eqb, List, [], ◌∷◌, ◌++◌, Option, Some, None, find, filter, refl, ap, sym, ◌∙◌, subst, arith}
 use Rattle.std.specs.List.{count_by}
-use Rattle.std.specs.Option.{option_map, option_or, option_and_then, is_some}
+use Rattle.std.specs.Option.{option_map, option_or, option_and_then}
 use Rattle.std.proofs.lemmas.List.Folds.{find-append}
 use Rattle.std.proofs.lemmas.Bool.{eqb-true, eq-eqb, and_parts, and_from}
 use Rattle.std.specs.Cmp.{both_ways}
@@ -54,14 +54,6 @@ module _ (names : List Name) (m : Name) (h : Sound names) (free : named_in names
   came-number p o =
       ap (λ x. option_map (λ (k : Name). k.number) x) (find-push (has_object p o) names m)
       ∙ map-push (λ (k : Name). k.number) (find (has_object p o) names) m (has_object p o m) (new-at p o)
-
-pub is-some-came : {A : Type 0} (b : Bool) (x : A) (old : Option A) → is_some (cond b (Some x) old) ≡ (b || is_some old)
-is-some-came true x old = refl
-is-some-came false x old = refl
-
-pub is-some-gone : {A : Type 0} (b : Bool) (old : Option A) → is_some (cond b None old) ≡ (not b && is_some old)
-is-some-gone true old = refl
-is-some-gone false old = refl
 
 -- ---- names go that a test drops
 

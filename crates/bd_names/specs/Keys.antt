@@ -12,8 +12,5 @@ is_number_key p n k = (p == k.process) && (n == k.number)
 abbrev pub is_object_key : ℕ → ObjectId → ObjectKey → Bool
 is_object_key p o k = (p == k.process) && same o k.object
 
-abbrev pub object_at : {S : Type 0} → HashMap NumberKey ObjectId S → ℕ → ℕ → Option ObjectId
-object_at objects p n = get_by (is_number_key p n) objects
-
 abbrev pub number_at : {S : Type 0} → HashMap ObjectKey ℕ S → ℕ → ObjectId → Option ℕ
 number_at numbers p o = get_by (is_object_key p o) numbers

@@ -1,7 +1,7 @@
 pub mod Numbers
 pub mod Stands
 pub mod Bits
-pub mod Marked
 pub mod Keys
+pub mod Page
 pub mod Sound
 pub mod Named

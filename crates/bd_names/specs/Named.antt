@@ -1,5 +1,5 @@
--- What the maps and marks of names stand for.
-use Rattle.std.specs.Prelude.{ℕ, ◌≡◌, List, false, is_some, min}
+-- What the pages and numbers of names stand for.
+use Rattle.std.specs.Prelude.{ℕ, ◌≡◌, ◌<◌, ◌-◌, ◌^◌, ◌==◌, List, false, min, if◌then◌else◌}
 use Rattle.std.specs.HashMap.{spare}
 use Rattle.std.specs.List.{All}
 use Rattle.bd_groups.specs.declared.groups.Groups.{Groups}
@@ -9,20 +9,24 @@ use Rattle.bd_space.specs.declared.step.ObjectId.{ObjectId}
 use Rattle.bd_space.specs.declared.space.Name.{Name}
 use Rattle.bd_space.specs.Names.{named_in, number_in, has_number_past_limit}
 use Rattle.bd_names.specs.declared.names.Names.{Names}
-use Rattle.bd_names.specs.Keys.{object_at, number_at}
-use Rattle.bd_names.specs.Marked.{NumbersMarked, mark_room}
+use Rattle.bd_names.specs.Keys.{number_at}
+use Rattle.bd_names.specs.Page.{object_at, FullAre, page_room}
 use Rattle.bd_names.specs.Sound.{Sound}
+
+-- the place of a number: the search from 1 on begins at place 0, and never comes to the place of 0
+abbrev pub place_of : ℕ → ℕ
+place_of n = if n == 0 then 4294967295 else n - 1
 
 pub record Named (t : Names) (l : List Name) : Type 0 where
   pub sound : Sound l
-  pub objects_are : (p n : ℕ) → named_in l p n ≡ object_at t.objects p n
+  pub objects_are : (p n : ℕ) → n < 2 ^ 32 → named_in l p n ≡ object_at t.pages.pages p (place_of n)
   pub numbers_are : (p : ℕ) (o : ObjectId) → number_in l p o ≡ number_at t.numbers p o
-  pub marks_are : NumbersMarked t.marks (λ p n. is_some (named_in l p n))
+  pub full_are : FullAre t.pages
   pub fits : has_number_past_limit l ≡ false
 
 -- how many names can come in without memory
 abbrev pub index_room : Names → ℕ
-index_room t = min (min (spare t.objects) (spare t.numbers)) (mark_room t.marks)
+index_room t = min (page_room t.pages) (spare t.numbers)
 
 -- each name's number is a member of its process's group, which may have others too
 abbrev pub Listed : Groups ℕ → List Name → Type 0

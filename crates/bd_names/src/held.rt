@@ -14,9 +14,9 @@ fn renewed(names: &Names, alloc: Global, more: usize) -> Result<Groups<u32>, All
     ensures listed { IfOk result (λ held. (l : List declared.Name) → Named names.now l → Listed held l) }
     ensures room { IfOk result (λ held. more ≤ group_room held) }
 {
-    let mut held = Groups::with_room(alloc, names.objects.len(), more)?;
-    for k in names.objects.keys() {
-        held.push(Group::Process { made: k.process }, k.number);
+    let mut held = Groups::with_room(alloc, names.numbers.len(), more)?;
+    for (k, n) in names.numbers.iter() {
+        held.push(Group::Process { made: k.process }, *n);
     }
     Ok(held)
 }
@@ -34,7 +34,7 @@ pub fn reserve_held(
     // Memory was asked for, or would have been past what there can be: there was no room.
     ensures grown { OnErr result (more ≤ group_room held.old → ⊥) }
 {
-    if held.is_worn(names.objects.len(), more) {
+    if held.is_worn(names.numbers.len(), more) {
         *held = renewed(names, alloc, more)?;
         return Ok(());
     }

@@ -7,14 +7,14 @@ ghost use Rattle.std.{specs.HashMap.{spare}, proofs.Common.{rules}};
 ghost use Rattle.bd_words.specs.Numbers.{pair, wide};
 ghost use Rattle.bd_space.specs.declared.step.ObjectId as declared;
 ghost use Rattle.bd_space.specs.Words.{same};
-ghost use Rattle.bd_names.specs.Keys.{object_at, number_at};
+ghost use Rattle.bd_names.specs.Keys.{number_at};
 
 use bd_space::ObjectId;
 use bd_words::{insert_reserved, pair, wide};
 use std::collections::HashMap;
 use std::hash::{Hash, Hasher};
 
-/// A number of a process: that of a name, or that of a word of its marks.
+/// A number of a process: that of a page, or that of a word of bits.
 #[derive(Clone, Copy, PartialEq, Eq)]
 pub struct NumberKey {
     pub process: u32,
@@ -49,18 +49,6 @@ impl Hash for ObjectKey {
     }
 }
 
-/// What the number names for the process.
-pub fn object_of(objects: &HashMap<NumberKey, ObjectId>, p: u32, n: u32) -> Option<ObjectId>
-    ensures { result ≡ object_at objects.now p n }
-{
-    objects
-        .get(&NumberKey {
-            process: p,
-            number: n,
-        })
-        .copied()
-}
-
 /// The process's number of the object.
 pub fn number_of(numbers: &HashMap<ObjectKey, u32>, p: u32, o: ObjectId) -> Option<u32>
     ensures { result ≡ number_at numbers.now p o }
@@ -71,19 +59,6 @@ pub fn number_of(numbers: &HashMap<ObjectKey, u32>, p: u32, o: ObjectId) -> Opti
             object: o,
         })
         .copied()
-}
-
-/// The process's number names the object from now on.
-pub fn put_object(objects: &mut HashMap<NumberKey, ObjectId>, p: u32, n: u32, o: ObjectId)
-    requires { 0 < spare objects.old }
-    ensures at { (q k : ℕ) → object_at objects.new q k ≡ (if (p == q) && (n == k) then Some o else object_at objects.old q k) }
-    ensures spare { spare objects.old ≤ spare objects.new + 1 }
-{
-    let key = NumberKey {
-        process: p,
-        number: n,
-    };
-    insert_reserved(objects, key, o);
 }
 
 /// The object has this number of the process from now on.
@@ -98,17 +73,6 @@ pub fn put_number(numbers: &mut HashMap<ObjectKey, u32>, p: u32, o: ObjectId, n:
         object: o,
     };
     insert_reserved(numbers, key, n);
-}
-
-/// The process's number names nothing from now on.
-pub fn take_object(objects: &mut HashMap<NumberKey, ObjectId>, p: u32, n: u32)
-    ensures at { (q k : ℕ) → object_at objects.new q k ≡ (if (p == q) && (n == k) then None else object_at objects.old q k) }
-    ensures spare { spare objects.old ≤ spare objects.new }
-{
-    let _gone = objects.remove(&NumberKey {
-        process: p,
-        number: n,
-    });
 }
 
 /// The object has no number of the process from now on.

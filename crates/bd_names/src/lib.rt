@@ -3,9 +3,11 @@
 
 mod held;
 mod keys;
-mod marks;
 mod names;
 mod numbers;
+mod page;
+mod paged;
+mod pages;
 mod table;
 mod words;
 

@@ -4,12 +4,10 @@ ghost use Rattle.std.specs.Prelude.{◌≡◌, ◌==◌, ◌≤◌, ◌<◌, ◌
 ghost use Rattle.bd_space.specs.declared.space.Name as declared;
 ghost use Rattle.bd_space.specs.Names as names_of;
 ghost use Rattle.bd_names.specs.Numbers as numbers;
-ghost use Rattle.bd_names.specs.{Sound.{has_number, has_object}, Named.{Named, HasNumbers, index_room}};
+ghost use Rattle.bd_names.specs.{Sound.{has_number, has_object}, Named.{Named, HasNumbers, index_room, place_of}};
 
-use crate::keys::{
-    NumberKey, ObjectKey, number_of, object_of, put_number, put_object, take_number, take_object,
-};
-use crate::marks::Marks;
+use crate::keys::{ObjectKey, number_of, put_number, take_number};
+use crate::pages::Pages;
 use bd_groups::Members;
 use bd_space::{Name, ObjectId};
 use std::alloc::{AllocError, Global};
@@ -17,19 +15,24 @@ use std::collections::HashMap;
 
 /// The names of all processes.
 pub struct Names {
-    pub(crate) objects: HashMap<NumberKey, ObjectId>,
+    pub(crate) pages: Pages,
     pub(crate) numbers: HashMap<ObjectKey, u32>,
-    pub(crate) marks: Marks,
 }
 
 impl Drop for Names {
     fn drop(self) {
         let Names {
-            objects: _,
+            pages: _,
             numbers: _,
-            marks: _,
         } = self;
     }
+}
+
+// The place of a number in its process's pages. That of 0 is past all that a search from 1 on comes to.
+fn place_of(n: u32) -> u32
+    ensures { result ≡ place_of n }
+{
+    if n == 0 { u32::MAX } else { n - 1 }
 }
 
 impl Names {
@@ -38,9 +41,8 @@ impl Names {
         ensures { Named result [] }
     {
         Names {
-            objects: HashMap::new(alloc),
+            pages: Pages::new(alloc),
             numbers: HashMap::new(alloc),
-            marks: Marks::new(alloc),
         }
     }
 
@@ -51,16 +53,15 @@ impl Names {
         ensures room { OnOk result (more ≤ index_room self.new) }
         ensures grown { OnErr result (more ≤ index_room self.old → ⊥) }
     {
-        self.objects.reserve(more)?;
-        self.numbers.reserve(more)?;
-        self.marks.reserve(more)
+        self.pages.reserve(more)?;
+        self.numbers.reserve(more)
     }
 
     /// The object that the number names for the process.
     pub fn named(&self, p: u32, n: u32) -> Option<ObjectId>
         ensures { (l : List declared.Name) → Named self.now l → result ≡ names_of.named_in l p n }
     {
-        object_of(&self.objects, p, n)
+        self.pages.at(p, place_of(n))
     }
 
     /// The process's number of the object.
@@ -75,7 +76,7 @@ impl Names {
         ensures { (l : List declared.Name) → Named self.now l → let free = numbers.free_number_from l p 1 in
             MatchOption result (4294967294 < free) (λ n. (n ≡ free) × (n ≤ 4294967294)) }
     {
-        match self.marks.least(p) {
+        match self.pages.least(p) {
             Some(i) => Some(i + 1),
             None => None,
         }
@@ -112,9 +113,8 @@ impl Names {
             → Named self.new (l ++ m ∷ []) }
         ensures uses { index_room self.old ≤ index_room self.new + 1 }
     {
-        put_object(&mut self.objects, m.process, m.number, m.object);
+        self.pages.put(m.process, place_of(m.number), m.object);
         put_number(&mut self.numbers, m.process, m.object, m.number);
-        self.marks.mark_number(m.process, m.number);
     }
 
     // The process's name of the object goes, which has this number.
@@ -123,9 +123,8 @@ impl Names {
             → Named self.new (filter (λ m. not (has_object p o m)) l) }
         ensures uses { index_room self.old ≤ index_room self.new }
     {
-        take_object(&mut self.objects, p, n);
+        self.pages.take(p, place_of(n));
         take_number(&mut self.numbers, p, o);
-        self.marks.unmark_number(p, n);
     }
 
     /// The process's name of the object goes, if it has one.

@@ -1,6 +1,6 @@
 //! Sets of numbers, one a process, as words of 64 bits.
 
-ghost use Rattle.std.specs.Prelude.{ℕ, ◌≡◌, ◌≢◌, ◌==◌, ◌≤◌, ◌<◌, ◌+◌, ◌-◌, ◌*◌, ◌/◌, ◌^◌, ◌&&◌, false, MatchOption, if◌then◌else◌, OnOk, OnErr};
+ghost use Rattle.std.specs.Prelude.{ℕ, ◌≡◌, ◌≢◌, ◌==◌, ◌≤◌, ◌<◌, ◌+◌, ◌-◌, ◌*◌, ◌/◌, ◌^◌, ◌&&◌, MatchOption, if◌then◌else◌, OnOk, OnErr};
 ghost use Rattle.std.specs.HashMap.{spare};
 ghost use Rattle.bd_names.specs.Bits.{word_at, bit_of};
 
@@ -92,7 +92,6 @@ impl Words {
         requires { 0 < spare self.old.words }
         ensures bits { (q j : ℕ) → bit_of (word_at self.new) q j
             ≡ (if (p == q) && (i == j) then 1 else bit_of (word_at self.old) q j) }
-        ensures others { (q v : ℕ) → ((p == q) && (i / 64 == v)) ≡ false → word_at self.new q v ≡ word_at self.old q v }
         ensures spare { spare self.old.words ≤ spare self.new.words + 1 }
     {
         let x = self.word(p, i / 64) | 1 << (i % 64);
@@ -103,11 +102,13 @@ impl Words {
     pub fn clear(&mut self, p: u32, i: u32)
         ensures bits { (q j : ℕ) → bit_of (word_at self.new) q j
             ≡ (if (p == q) && (i == j) then 0 else bit_of (word_at self.old) q j) }
-        ensures others { (q v : ℕ) → ((p == q) && (i / 64 == v)) ≡ false → word_at self.new q v ≡ word_at self.old q v }
-        ensures gap { word_at self.new p (i / 64) ≢ 2 ^ 64 - 1 }
         ensures spare { spare self.old.words ≤ spare self.new.words }
     {
-        let x = self.word(p, i / 64) & !(1 << (i % 64));
+        let word = self.word(p, i / 64);
+        let x = word & !(1 << (i % 64));
+        if x == word {
+            return;
+        }
         if x == 0 {
             self.forget(p, i / 64);
         } else {

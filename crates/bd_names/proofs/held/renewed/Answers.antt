@@ -1,18 +1,20 @@
-use Rattle.std.proofs.Common.{length, arith, ap, sym, ◌∙◌, inl}
-use Rattle.std.proofs.lemmas.Grind.{common_steps}
-use Rattle.bd_names.specs.declared.keys.NumberKey.{NumberKey}
-use Rattle.bd_names.proofs.Listing.{all-come, listed-all}
+use Rattle.std.proofs.Common.{length, arith, ap}
+use Rattle.std.specs.Map.Iter.{deref_pair}
+use Rattle.std.proofs.lemmas.Map.Iter.{rest_more, rest_all}
+use Rattle.bd_names.proofs.Listing.{come, all-come, listed-all}
 use Rattle.bd_names.proofs.held.renewed.Goals as goal
 
-pub loop-k-init : goal.loop-k-init
-loop-k-init c =
-    let same = c.into_iter-k-iterator.ensures.into_iter_gives in
-    let long = ap length same in
+pub loop-k-preserved : goal.loop-k-preserved
+loop-k-preserved c =
+    let first = rest_more deref_pair _ _ _ (c.in-Some.k, c.in-Some.n) c.in-Some.is c.next.ensures.steps in
+    let fewer = ap length first in
     record {
-      coming = λ p n some. (let q : NumberKey = record { process = p; number = n } in inl (rw same (sym (c.keys-k-items.ensures.has q) ∙ some)));
-      room = grind (arith, common_steps, long, c.keys-k-items.ensures.len, c.len.ensures.len, c.in_ok-held.ensures.room);
+      coming = λ p o n found. come c.loop-k.held c.push.new.self c.in-Some.k.now c.in-Some.n.now _ _ c.push.ensures.has c.push.ensures.keeps first p o n
+          (c.loop-k.invariant.coming p o n found);
+      room = omega (arith, fewer, c.loop-k.invariant.room, c.push.ensures.uses);
     }
 
 pub returns-clause-listed : goal.returns-clause-listed
 returns-clause-listed c = λ l h.
-    listed-all c.args.names.now c.loop-k.held l h (λ p n some. all-come c.loop-k.held c.loop-k.k-iterator p n c.in-None.ensures.steps.0 (c.loop-k.invariant.coming p n some))
+    let none = rest_all deref_pair _ _ _ c.in-None.is c.next.ensures.steps in
+    listed-all c.args.names.now c.loop-k.held l h (λ p o n has. all-come c.loop-k.held c.loop-k.k-iterator p o n none (c.loop-k.invariant.coming p o n has))

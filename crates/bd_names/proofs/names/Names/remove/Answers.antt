@@ -1,8 +1,6 @@
-use Rattle.std.proofs.Common.{not, eqb, ◌&&◌}
-use Rattle.std.specs.Option.{is_some}
+use Rattle.std.proofs.Common.{not, eqb, ◌&&◌, arith}
 use Rattle.bd_space.specs.declared.space.Name.{Name}
 use Rattle.bd_space.specs.Words.{same}
-use Rattle.bd_space.specs.Names.{named_in}
 use Rattle.bd_names.specs.Sound.{has_object}
 use Rattle.bd_names.proofs.Limits.{fits-filter}
 use Rattle.bd_names.proofs.Moved.{named-gone}
@@ -15,6 +13,5 @@ returns-clause-stands c = λ l h has.
     let o = c.args.o in
     let n = c.args.n in
     let keep = λ (m : Name). not (has_object p o m) in
-    named-gone c.args.self.now _ l _ (λ q k. eqb p q && eqb n k) (λ q x. eqb p q && same o x) h (gone-sound l keep h.sound) (fits-filter keep l h.fits)
-    (gone-object l h.sound p o n has) (gone-number l h.sound p o n has) c.take_object.ensures.at c.take_number.ensures.at
-    (c.unmark_number.ensures.stands (λ q k. is_some (named_in l q k)) h.marks_are)
+    named-gone c.args.self.now _ l _ p n c.place_of.result (λ q x. eqb p q && same o x) (omega arith) c.place_of.ensures h (gone-sound l keep h.sound) (fits-filter keep l h.fits)
+    (gone-object l h.sound p o n has) (gone-number l h.sound p o n has) c.take.ensures.at c.take_number.ensures.at (c.take.ensures.full h.full_are)
