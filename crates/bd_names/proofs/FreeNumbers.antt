@@ -114,12 +114,6 @@ module _ (p : ℕ) where
         | inr ge ↦ ge
       ])
 
-  -- one more number is used
-  pub used-more : (names : List Name) (first n : ℕ) → ((i : ℕ) → first ≤ i → i < n → used names i ≡ true) → used names n ≡ true
-      → (i : ℕ) → first ≤ i → i < n + 1 → used names i ≡ true
-  used-more names first n before e i a b =
-      elim (cases_lt i n) [ inl lt ↦ before i a lt | inr ge ↦ (let s : n ≡ i = omega arith in subst (λ k. used names k ≡ true) s e) ]
-
   -- the number that is free is the first that is
   pub free-is : (names : List Name) (first : ℕ) → IsFirst (free names) first (unwrap_or (least (suc (length names)) first (free names)) 0)
   free-is names first =

@@ -37,9 +37,6 @@ last-back base all given l m h e k =
 pub one-given : (base given l : List Name) (m : Name) → l ≡ base ++ given → l ++ m ∷ [] ≡ base ++ (given ++ m ∷ [])
 one-given base given l m e = ap (λ xs. xs ++ m ∷ []) e ∙ append_assoc base given (m ∷ [])
 
-pub had-name : (from_zero : Bool) (p : ℕ) (l : List Name) (o : ObjectId) → is_some (number_in l p o) ≡ true → l ≡ with_number from_zero p l o
-had-name from_zero p l o e = ap (λ b. cond b l (l ++ record { process = p; number = new_number from_zero p l; object = o } ∷ [])) (sym e)
-
 pub new-name : (from_zero : Bool) (p n : ℕ) (l : List Name) (o : ObjectId) → number_in l p o ≡ None → n ≡ new_number from_zero p l
     → l ++ record { process = p; number = n; object = o } ∷ [] ≡ with_number from_zero p l o
 new-name from_zero p n l o e is =

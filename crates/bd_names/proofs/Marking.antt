@@ -3,12 +3,13 @@ use Rattle.std.proofs.Common.{◌≡◌, ◌≢◌, ℕ, ◌+◌, ◌-◌, ◌*�
 use Rattle.std.specs.Int.{trailing_ones}
 use Rattle.std.proofs.lemmas.Bool.{eqb-true, eqb-false}
 use Rattle.bd_names.specs.Bits.{bit_of}
+use Rattle.bd_names.specs.Page.{FullIn}
 use Rattle.bd_names.proofs.Bits.{bit-here, ones-before, full-word, IsFirstClear, first-clear-at}
 
--- a bit says that its place is in use, or that its word is full
+-- a bit says that its place is in use
 pub record MarkedIn (words full : ℕ → ℕ → ℕ) (used : ℕ → ℕ → Bool) : Type 0 where
   pub used_are : (p i : ℕ) → bit_of words p i ≡ cond (used p i) 1 0
-  pub full_are : (p w : ℕ) → bit_of full p w ≡ cond (eqb (words p w) (2 ^ 64 - 1)) 1 0
+  pub full_are : FullIn words full
 
 is-true : (b : Bool) → cond {A = ℕ} b 1 0 ≡ 1 → b ≡ true
 is-true true h = refl

@@ -35,8 +35,8 @@ impl Words {
         self.words.reserve(more)
     }
 
-    /// A word of the process.
-    pub fn word(&self, p: u32, w: u32) -> u64
+    // A word of the process.
+    fn word(&self, p: u32, w: u32) -> u64
         ensures { result ≡ word_at self.now p w }
     {
         match self.words.get(&NumberKey {
