@@ -138,7 +138,9 @@ or that is empty too",
     Explanation {
         name: "F16",
         word: "SeatCount",
-        when: "an engine or a driver is made for fewer than 1 or more than 31 seats",
+        when: "\
+an engine or a driver is made for fewer than 1 or more than 31 seats, or a live engine for fewer than \
+1 or more than 65536",
         leaves: "nothing is made",
     },
     Explanation {
@@ -199,8 +201,8 @@ other lengths",
         name: "X9",
         word: "BadObject",
         when: "\
-the first faulty offset isn't divisible by 4, lies in the object before it, has no room for \
-24 bytes behind it, or finds no type of an object",
+the first faulty offset isn't divisible by 4, lies before the end of the object before it, has no \
+room for 24 bytes behind it, or finds no type of an object",
         leaves: BOTH,
     },
     Explanation {
