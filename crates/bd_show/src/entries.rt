@@ -7,8 +7,9 @@ ghost use Rattle.bd_show.specs.Shown.{IsEntryAt};
 
 use crate::fault::Untold;
 use crate::form::{Form, Made};
-use crate::pids::{maker_of, step_made};
+use crate::pids::step_made;
 use crate::selection::Selection;
+use bd_audit::played_to;
 use bd_engine::Engine;
 use bd_space::Record;
 use std::alloc::Global;
@@ -46,9 +47,11 @@ pub fn entry_at(alloc: Global, record: &Record, place: u32) -> Result<Made<'_>, 
     requires lawful { IsHistory (history_in «record».now) }
     ensures { IfOk result (IsEntryAt (history_in «record».now) place) }
 {
-    let pid = maker_of(alloc, record, place)?;
-    match record.entries.as_slice().get(place as usize) {
-        Some(entry) => Ok(Made { place, entry, pid }),
-        None => Err(Untold::OutOfRange),
-    }
+    let entries = record.entries.as_slice();
+    let Some(entry) = entries.get(place as usize) else {
+        return Err(Untold::OutOfRange);
+    };
+    let mut engine = played_to(alloc, record, place as usize)?;
+    let pid = step_made(&mut engine, entries, entry)?;
+    Ok(Made { place, entry, pid })
 }
