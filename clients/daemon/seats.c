@@ -6,16 +6,22 @@
 
 #include <errno.h>
 
-static void put_back(struct thread *thread)
+/* The thread has no seat any more, and nothing is to be looked at for it. */
+static void take_away(struct thread *thread)
 {
-    struct engine *engine = thread->process->engine;
-    engine->lent[thread->seat] = NULL;
-    engine->free_seats[engine->free_count++] = thread->seat;
+    thread->process->engine->lent[thread->seat] = NULL;
     thread->seat = NO_SEAT;
     thread->is_looper = false;
     thread->serving = thread->calling = thread->refusals = 0;
     doorbell_set(thread, false);
     settle_watch(thread);
+}
+
+static void put_back(struct thread *thread)
+{
+    struct engine *engine = thread->process->engine;
+    engine->free_seats[engine->free_count++] = thread->seat;
+    take_away(thread);
 }
 
 /* Whether the thread would lose nothing with its seat. */
@@ -25,7 +31,7 @@ static bool is_idle(struct engine *engine, const struct thread *thread)
            && !thread->pending_size && !hullpippin_live_ready(&engine->live, thread->seat);
 }
 
-/* Takes the seat of an idle thread back. */
+/* Takes the seat of an idle thread back. False where there is none, or it is lost. */
 static bool recycle(struct engine *engine)
 {
     for (uint32_t seat = 1; seat < engine->seats; seat++) {
@@ -33,7 +39,7 @@ static bool recycle(struct engine *engine)
         if (thread && is_idle(engine, thread)) {
             log_event("%s: seat %u is recycled", engine->device, seat);
             seat_return(thread);
-            return true;
+            return engine->free_count > 0;
         }
     }
     return false;
@@ -98,8 +104,7 @@ void seat_return(struct thread *thread)
     /* Without memory the engine keeps the thread, and the seat with it: it isn't lent again. */
     if (engine_exit_thread(engine, thread->seat)) {
         log_line("%s: seat %u is lost", engine->device, thread->seat);
-        engine->lent[thread->seat] = NULL;
-        thread->seat = NO_SEAT;
+        take_away(thread);
         return;
     }
     put_back(thread);
