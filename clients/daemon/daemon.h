@@ -278,8 +278,11 @@ struct landing *thread_landing(struct thread *thread);
 void page_rung(struct thread *thread);
 /* Answers the thread's request. */
 void page_answer(struct thread *thread, const uint8_t *returns, uint32_t size);
-/* Answers a request that waits, for returns or for a seat, with an errno. */
+/* Answers a request with an errno. */
 void page_interrupt(struct thread *thread, int error);
+/* The same where it waits for a seat: the descriptors that came with it are closed. Who has asked for nothing, and only
+   gives buffers back, isn't answered: that is tried again with its next ring. */
+void page_refuse(struct thread *thread, int error);
 /* Copies from a page, once: what the compiler makes of the copy doesn't look at the page again. */
 void page_copy(void *to, const void *from, size_t size);
 

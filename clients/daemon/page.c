@@ -54,6 +54,27 @@ static int fetch_descriptors(struct thread *thread, uint32_t wanted, int fds[DES
     return EINVAL;
 }
 
+/* Closes the descriptors that came with a request that isn't run: else the thread's next request would get them. */
+static void drop_descriptors(struct thread *thread, uint32_t wanted)
+{
+    int fds[DESCRIPTORS_MAX];
+    uint32_t count;
+    if (!fetch_descriptors(thread, wanted, fds, &count))
+        descriptors_close(fds, count);
+}
+
+void page_refuse(struct thread *thread, int error)
+{
+    struct page *page = thread->page;
+    uint32_t wanted;
+    list_remove(&thread->in_seatless);
+    if (atomic_load_explicit(&page->state, memory_order_acquire) != PAGE_ASKED)
+        return;
+    page_copy(&wanted, &page->request.descriptors, sizeof wanted);
+    drop_descriptors(thread, wanted);
+    page_interrupt(thread, error);
+}
+
 /* Runs the write half, and begins the read half. */
 static int write_read(struct thread *thread, const struct page_request *request)
 {
@@ -110,8 +131,10 @@ static int give_doorbell(struct thread *thread)
 /* Does what a request asks for: 0 or an errno. Where it has begun a read, `settle` answers. */
 static int do_request(struct thread *thread, const struct page_request *request)
 {
-    if (!thread->process->engine_pid)
-        return EINVAL; /* there was no mmap */
+    if (!thread->process->engine_pid) { /* there was no mmap */
+        drop_descriptors(thread, request->descriptors);
+        return EINVAL;
+    }
     switch (request->op) {
     case PAGE_EXIT_THREAD:
         return exit_thread(thread), 0;
@@ -165,8 +188,10 @@ static void cancel(struct thread *thread)
 {
     if (!atomic_load(&thread->page->cancel))
         return;
-    list_remove(&thread->in_seatless);
-    page_interrupt(thread, EINTR);
+    if (thread->is_waiting)
+        page_interrupt(thread, EINTR);
+    else
+        page_refuse(thread, EINTR);
 }
 
 void page_rung(struct thread *thread)

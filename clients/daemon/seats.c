@@ -90,10 +90,8 @@ void seats_retry(struct engine *engine)
 void seats_refuse(struct engine *engine)
 {
     struct thread *thread;
-    while ((thread = first_seatless(engine))) {
-        list_remove(&thread->in_seatless);
-        page_interrupt(thread, EMFILE);
-    }
+    while ((thread = first_seatless(engine)))
+        page_refuse(thread, EMFILE);
 }
 
 void seat_return(struct thread *thread)
