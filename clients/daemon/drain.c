@@ -1,7 +1,8 @@
 /*
  * drain.c: what is unread where a thread or a process ends. The engine forgets it then, but the daemon may hold
  * descriptors for it; so it reads it first. For everybody else that comes to the same: who has read a call and ends
- * leaves its caller without a reply.
+ * leaves its caller without a reply. Only buffers that were read stay, where a thread ends and its process doesn't; so
+ * these are given back.
  */
 #include "daemon.h"
 
@@ -12,8 +13,8 @@
 
 #define OWN_SEAT 0u
 
-/* What a read has found: nothing, something, or a call of one kind. */
-enum found { NOTHING, SOMETHING, CALL, ONE_WAY_CALL };
+/* What a read has found: nothing, something without a parcel, or one of these. */
+enum found { NOTHING, SOMETHING, REPLY, CALL, ONE_WAY_CALL };
 
 static void free_buffer(struct engine *engine, uint32_t seat, uint64_t pointer)
 {
@@ -29,7 +30,7 @@ static void run_looper(struct engine *engine, uint32_t seat, uint32_t code)
     engine_command(engine, seat, &code, sizeof code);
 }
 
-/* Reads once, and closes the descriptors of what was read. */
+/* Reads once, and closes the descriptors of what was read. Tells the pointer of its parcel, if it has one. */
 static enum found read_away(struct engine *engine, uint32_t seat, uint64_t *pointer)
 {
     static uint8_t stream[PAGE_RETURNS];
@@ -44,7 +45,7 @@ static enum found read_away(struct engine *engine, uint32_t seat, uint64_t *poin
             memcpy(&record, stream + at + sizeof code, sizeof record);
             parcel_discard(engine, &record);
             *pointer = record.data.ptr.buffer;
-            return code == BR_REPLY ? SOMETHING : record.flags & TF_ONE_WAY ? ONE_WAY_CALL : CALL;
+            return code == BR_REPLY ? REPLY : record.flags & TF_ONE_WAY ? ONE_WAY_CALL : CALL;
         }
         at += sizeof code + _IOC_SIZE(code);
     }
@@ -59,8 +60,12 @@ void drain_thread(struct thread *thread)
     if (thread->seat == NO_SEAT || !descriptors_are_held() || !hullpippin_live_ready(&engine->live, thread->seat))
         return;
     run_looper(engine, thread->seat, BC_EXIT_LOOPER);
-    for (uint32_t steps = 0; steps < STEPS_MAX && read_away(engine, thread->seat, &pointer) != NOTHING; steps++)
-        ;
+    enum found found = SOMETHING;
+    for (uint32_t steps = 0; steps < STEPS_MAX && found != NOTHING; steps++) {
+        found = read_away(engine, thread->seat, &pointer);
+        if (found >= REPLY)
+            free_buffer(engine, thread->seat, pointer);
+    }
 }
 
 /* Reads the process's list until it is empty. A thread that has read a call isn't free to read on, so another takes
