@@ -32,7 +32,7 @@ static bool is_trusted(int fd)
 {
     struct ucred peer;
     socklen_t size = sizeof peer;
-    return getenv("HULLPIPPIN_SOCKET")
+    return chosen_address()
            || (getsockopt(fd, SOL_SOCKET, SO_PEERCRED, &peer, &size) == 0 && (peer.uid == geteuid() || peer.uid == 0));
 }
 
