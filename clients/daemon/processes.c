@@ -126,10 +126,10 @@ static int open_in_engine(struct process *process)
     return 0;
 }
 
-/* As the kernel does, a longer mapping has a window of the largest size at its beginning. */
+/* As the kernel does, a mapping has whole pages, and a longer one a window of the largest size at its beginning. */
 static int map_window(struct process *process, const struct control_request *request)
 {
-    uint64_t size = request->size > WINDOW_MAX ? WINDOW_MAX : request->size & ~(uint64_t)(PAGE_BYTES - 1);
+    uint64_t size = request->size > WINDOW_MAX ? WINDOW_MAX : (request->size + PAGE_BYTES - 1) & ~(uint64_t)(PAGE_BYTES - 1);
     if (!process->engine || !size)
         return EINVAL;
     if (process->window.at)

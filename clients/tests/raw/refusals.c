@@ -60,6 +60,15 @@ static void refuses_requests(struct client *client)
     works(client);
 }
 
+/* A mapping has whole pages, so one of 100 bytes is a window too, which takes replies. */
+static void maps_whole_pages(void)
+{
+    struct client client;
+    raw_open(&client, 100, NULL);
+    works(&client);
+    binder_close(&client.binder);
+}
+
 static void waits_as_told(void)
 {
     struct client client;
@@ -83,6 +92,7 @@ int main(void)
     refuses_calls(&client);
     refuses_streams(&client);
     refuses_requests(&client);
+    maps_whole_pages();
     waits_as_told();
     printf("all refused as they should be\n");
     raw_kill(manager);
