@@ -60,6 +60,15 @@ static int take_lock(const char *path)
     return fd;
 }
 
+/* Removes the socket at our address: our own, or that of a daemon that was killed, since we have the lock. Any other file
+   stays, and the address can't be had. */
+static void remove_socket(const char *path)
+{
+    struct stat stat;
+    if (lstat(path, &stat) == 0 && S_ISSOCK(stat.st_mode))
+        unlink(path);
+}
+
 int listener_lock(struct daemon *daemon, const char *path)
 {
     struct listener *listener = &daemon->listener;
@@ -87,7 +96,7 @@ bool listener_begin(struct daemon *daemon)
     const struct sockaddr *address = (const struct sockaddr *)&listener->address;
     listener->spare = open("/dev/null", O_RDONLY | O_CLOEXEC);
     *watch = (struct watch){.fd = socket(AF_UNIX, SOCK_SEQPACKET | SOCK_CLOEXEC | SOCK_NONBLOCK, 0), .ready = listener_ready};
-    unlink(listener->address.sun_path); /* it is of a daemon that was killed: we have the lock */
+    remove_socket(listener->address.sun_path);
     if (watch->fd < 0 || bind(watch->fd, address, sizeof listener->address) || listen(watch->fd, BACKLOG)
         || !loop_add(&daemon->loop, watch, EPOLLIN)) {
         log_line("%s: %s", listener->address.sun_path, strerror(errno));
@@ -101,7 +110,7 @@ void listener_end(struct daemon *daemon)
 {
     struct listener *listener = &daemon->listener;
     if (listener->watch.fd >= 0)
-        unlink(listener->address.sun_path);
+        remove_socket(listener->address.sun_path);
     loop_drop(&daemon->loop, &listener->watch);
     descriptor_close(&listener->spare);
     descriptor_close(&listener->lock);
