@@ -87,8 +87,8 @@ void loop_end(struct loop *loop);
 bool loop_add(struct loop *loop, struct watch *watch, uint32_t events);
 /* Closes the descriptor. */
 void loop_drop(struct loop *loop, struct watch *watch);
-/* Runs until it is stopped. `idle` is called where nothing has come for a second. */
-void loop_run(struct loop *loop, void (*idle)(void *context), void *context);
+/* Runs until it is stopped, or can't wait: then false. `idle` is called where nothing has come for a second. */
+bool loop_run(struct loop *loop, void (*idle)(void *context), void *context);
 
 /* --- log.c --- */
 

@@ -36,20 +36,21 @@ void loop_drop(struct loop *loop, struct watch *watch)
     watch->fd = -1;
 }
 
-void loop_run(struct loop *loop, void (*idle)(void *context), void *context)
+bool loop_run(struct loop *loop, void (*idle)(void *context), void *context)
 {
     while (!loop->is_stopped) {
         struct epoll_event event;
         int count = epoll_wait(loop->epoll, &event, 1, IDLE_MILLISECONDS);
         if (count < 0 && errno != EINTR) {
             log_line("waiting: %s", strerror(errno));
-            return;
+            return false;
         }
         if (count == 1) {
             struct watch *watch = event.data.ptr;
             watch->ready(watch, event.events);
-        } else {
+        } else if (count == 0) {
             idle(context);
         }
     }
+    return true;
 }

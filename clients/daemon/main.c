@@ -161,8 +161,8 @@ static int run(struct daemon *daemon, const struct options *options, int told)
     bool is_begun = watch_signals(daemon) && descriptors_begin() && devices_begin(daemon) && listener_begin(daemon);
     status = is_begun ? 0 : STATUS_FAILED;
     tell_status(told, (unsigned char)status);
-    if (!status)
-        loop_run(&daemon->loop, when_idle, daemon);
+    if (!status && !loop_run(&daemon->loop, when_idle, daemon))
+        status = STATUS_FAILED;
     devices_end(daemon);
     listener_end(daemon);
     loop_drop(&daemon->loop, &daemon->signals);
