@@ -191,11 +191,27 @@ void epolls_forget(struct device *device, int doorbell)
     }
 }
 
+/* Lets go of epolls that were closed since, whose numbers may be others' by now: such a one takes the doorbell, while one
+   that is as it was has it already. */
+static void forget_closed(struct device *device)
+{
+    for (int i = 0; i < EPOLLS_MAX; i++) {
+        int epoll = device->epolls[i].epoll, doorbell = device->epolls[i].doorbell;
+        struct epoll_event none = {0};
+        if (epoll < 0 || (real()->epoll_ctl(epoll, EPOLL_CTL_ADD, doorbell, &none) && errno == EEXIST))
+            continue;
+        real()->epoll_ctl(epoll, EPOLL_CTL_DEL, doorbell, NULL);
+        device->epolls[i].epoll = device->epolls[i].doorbell = -1;
+    }
+}
+
 /* With the devices' lock. */
 static int control(struct device *device, int epoll, int operation, int doorbell, const struct epoll_event *event)
 {
     struct epoll_event only = event ? *event : (struct epoll_event){0};
     only.events &= ~(uint32_t)EPOLLOUT;
+    if (operation == EPOLL_CTL_ADD)
+        forget_closed(device);
     int at = find_epoll(device, operation == EPOLL_CTL_ADD ? -1 : epoll);
     if (operation == EPOLL_CTL_ADD && find_epoll(device, epoll) >= 0)
         return errno = EEXIST, -1;
