@@ -167,7 +167,7 @@ __attribute__((visibility("default"))) int select(int count, fd_set *reads, fd_s
         return real()->select(count, reads, writes, errors, timeout);
     struct timespec fine = {0};
     if (timeout)
-        fine = (struct timespec){timeout->tv_sec, timeout->tv_usec * 1000};
+        fine = (struct timespec){timeout->tv_sec + timeout->tv_usec / 1000000, timeout->tv_usec % 1000000 * 1000};
     return select_files(count, reads, writes, errors, timeout ? &fine : NULL, NULL);
 }
 
