@@ -159,7 +159,7 @@ void device_forget(int fd)
 
 void device_copied(int fd, int copy)
 {
-    if (copy < 0 || copy >= FILES)
+    if (copy < 0 || copy >= FILES || atomic_load(&owner) != getpid())
         return;
     pthread_mutex_lock(&devices_lock);
     struct device *device = files[fd];
