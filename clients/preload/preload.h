@@ -32,6 +32,7 @@ struct real {
     int (*openat)(int folder, const char *path, int flags, ...);
     int (*close)(int fd);
     int (*close_range)(unsigned first, unsigned last, int flags);
+    void (*closefrom)(int first);
     int (*dup)(int fd);
     int (*dup2)(int fd, int copy);
     int (*dup3)(int fd, int copy, int flags);

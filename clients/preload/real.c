@@ -27,6 +27,7 @@ static void look_up_all(void)
     look_up(&functions.openat, "openat");
     look_up(&functions.close, "close");
     look_up(&functions.close_range, "close_range");
+    look_up(&functions.closefrom, "closefrom");
     look_up(&functions.dup, "dup");
     look_up(&functions.dup2, "dup2");
     look_up(&functions.dup3, "dup3");

@@ -1,6 +1,7 @@
 /* wrappers.c: what programs call: the functions of libc that may get a binder file's path or descriptor. */
 #include "preload.h"
 
+#include <limits.h>
 #include <stdarg.h>
 #include <stdlib.h>
 
@@ -55,12 +56,25 @@ EXPORT int close(int fd)
     return real()->close(fd);
 }
 
-EXPORT int close_range(unsigned first, unsigned last, int flags)
+static void forget_all(unsigned first, unsigned last)
 {
-    for (unsigned fd = first; !(flags & CLOSE_RANGE_CLOEXEC) && fd <= last && fd < 65536; fd++)
+    for (unsigned fd = first; fd <= last && fd < 65536; fd++)
         if (device_is((int)fd))
             device_forget((int)fd);
+}
+
+EXPORT int close_range(unsigned first, unsigned last, int flags)
+{
+    if (!(flags & CLOSE_RANGE_CLOEXEC))
+        forget_all(first, last);
     return real()->close_range(first, last, flags);
+}
+
+/* libc's own goes past our close_range. */
+EXPORT void closefrom(int first)
+{
+    forget_all(first < 0 ? 0 : (unsigned)first, UINT_MAX);
+    real()->closefrom(first);
 }
 
 EXPORT int dup(int fd)
