@@ -68,7 +68,6 @@ struct device {
     struct {
         int epoll, doorbell; /* -1: none */
     } epolls[EPOLLS_MAX];
-    void *window; /* NULL: not mapped yet */
 };
 
 /* Whether a path names what the daemon may have. */
