@@ -1,14 +1,16 @@
 /*
  * descriptors [TIMES]: a descriptor goes to the server, which reads through it and sends one back, as often as asked.
  * In the end nobody has more open than after the first hundred: not the client, the server or the daemon between
- * them.
+ * them. The client has tried before its mmap, and was refused: nothing of that comes with what it sends later.
  */
 #include "raw.h"
 
+#include <errno.h>
 #include <fcntl.h>
 #include <stdio.h>
 #include <stdlib.h>
 #include <string.h>
+#include <sys/mman.h>
 #include <sys/stat.h>
 #include <unistd.h>
 
@@ -78,6 +80,24 @@ static void pass(struct client *client, uint32_t handle, uint32_t number)
     looper_free(&client->looper, &reply);
 }
 
+/* Sends a descriptor before there is a window, which is refused, and then maps one. */
+static void open_late(struct client *client)
+{
+    struct writer writer = {0};
+    struct binder_transaction_data reply;
+    int given = holding(0), fd = open(raw_device(), O_RDWR | O_CLOEXEC);
+    CHECK(fd >= 0, "can't open %s", raw_device());
+    client->binder = (struct binder){.fd = fd, .size = WINDOW};
+    raw_looper(&client->looper, client, NULL);
+    write_descriptor(&writer, given);
+    CHECK(!raw_call_with(&client->looper, (struct call){.code = PASS}, &writer, &reply) && errno == EINVAL, "a call without a window");
+    close(given);
+    void *window = mmap(NULL, WINDOW, PROT_READ, MAP_PRIVATE, fd, 0);
+    CHECK(window != MAP_FAILED, "no window");
+    client->binder.window = window;
+    raw_looper(&client->looper, client, NULL);
+}
+
 /* How many descriptors client, server and daemon have open. */
 struct counts {
     size_t client, server, daemon;
@@ -97,7 +117,7 @@ int main(int argc, char **argv)
     uint32_t times = argc > 1 ? (uint32_t)atoi(argv[1]) : 10000;
     raw_begin(120);
     pid_t manager = raw_start_manager(serve);
-    raw_open(&client, WINDOW, NULL);
+    open_late(&client);
     CHECK(raw_call(&client.looper, (struct call){.code = GIVE}, &reply) == BR_REPLY, "no object came");
     uint32_t handle = raw_keep(&client.looper, &reply);
     looper_free(&client.looper, &reply);
