@@ -43,8 +43,9 @@ static void start(struct playing *playing, uint64_t seed, size_t act)
 {
     pid_t parent = getpid();
     playing->until = now() + below(LONGEST_MS) / 1e3;
-    playing->pid = fork();
-    if (playing->pid)
+    pid_t pid = fork();
+    playing->pid = pid > 0 ? pid : 0; /* where none can be made there is none: -1 would stand for all that may be killed */
+    if (pid)
         return;
     prctl(PR_SET_PDEATHSIG, SIGKILL);
     if (getppid() != parent)
