@@ -100,7 +100,8 @@ def fetch(folder):
     apt("install", "-y", "--download-only", *RUN)
     apt("download", *HEADERS, cwd=f"{folder}/apt/cache/archives")
     for package in sorted(glob.glob(f"{folder}/apt/cache/archives/*.deb")):
-        subprocess.run(["dpkg-deb", "-x", package, f"{folder}/root"], check=True)
+        if subprocess.run(["dpkg-deb", "-x", package, f"{folder}/root"], stdin=subprocess.DEVNULL).returncode:
+            raise Missing(f"{os.path.basename(package)} can't be unpacked")
     shutil.rmtree(f"{folder}/apt")
     for tool in glob.glob(f"{folder}/root/usr/bin/binder-*"):
         write_starter(folder, os.path.basename(tool))
@@ -137,7 +138,7 @@ def main():
         return 2
     try:
         Packages(os.path.abspath(sys.argv[1]))
-    except (Missing, OSError, subprocess.CalledProcessError) as why:
+    except (Missing, OSError) as why:
         print(f"libgbinder can't be had: {why}", file=sys.stderr)
         return 1
     return 0
