@@ -208,7 +208,8 @@ void page_rung(struct thread *thread)
         page_copy(&request, &page->request, sizeof request);
     if (!is_asked && freed == thread->freed)
         return;
-    if (thread->process->engine_pid) {
+    bool steps = !is_asked || request.op != PAGE_PLACE; /* numbers are placed without a seat */
+    if (thread->process->engine_pid && steps) {
         if (!seat_lend(thread)) {
             thread->answer = (struct page_answer){0};
             seat_await(thread);
