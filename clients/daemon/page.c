@@ -92,7 +92,7 @@ static int write_read(struct thread *thread, const struct page_request *request)
     if (!error && request->room) {
         thread->is_waiting = true;
         thread->room = request->room;
-        thread->defers = thread->calling > calling && !thread->pending_size && !thread->is_prompt
+        thread->defers = thread->calling > calling && !thread->answer.refused && !thread->pending_size && !thread->is_prompt
                          && !(request->flags & PAGE_NONBLOCK);
     }
     return error;
