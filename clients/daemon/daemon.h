@@ -199,6 +199,8 @@ bool descriptors_are_held(void);
 bool descriptors_begin(void);
 /* Closes one of the daemon's own. */
 void descriptor_close(int *fd);
+/* The same of one whose other end a client has, which is told at once, whenever this one is closed. */
+void descriptor_end(int *fd);
 
 /* --- processes.c: an open file is a process. --- */
 

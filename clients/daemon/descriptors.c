@@ -71,8 +71,8 @@ bool descriptors_are_held(void)
 
 /*
  * A client's descriptor may be one whose end takes its time, as a socket's that lingers, or a file's behind a
- * network. Pipes, memory and other sockets are closed at once. The rest is closed by a thread of its own, last come
- * first served.
+ * network. So may a local socket, the daemon's own among them: what lies unread in it may have such a one. Pipes, memory
+ * and other sockets are closed at once. The rest is closed by a thread of its own, last come first served.
  */
 static struct {
     pthread_mutex_t lock;
@@ -90,15 +90,22 @@ static bool look_at(int fd, struct statx *stat)
     return statx(fd, "", AT_EMPTY_PATH | AT_STATX_DONT_SYNC, STATX_TYPE, stat) == 0;
 }
 
+static bool is_swift_socket(int fd)
+{
+    struct linger linger = {0};
+    int domain = AF_UNIX;
+    socklen_t size = sizeof linger, domain_size = sizeof domain;
+    return getsockopt(fd, SOL_SOCKET, SO_LINGER, &linger, &size) == 0 && !linger.l_onoff
+           && getsockopt(fd, SOL_SOCKET, SO_DOMAIN, &domain, &domain_size) == 0 && domain != AF_UNIX;
+}
+
 static bool closes_at_once(int fd)
 {
     struct statx stat;
-    struct linger linger = {0};
-    socklen_t size = sizeof linger;
     if (!look_at(fd, &stat))
         return false;
     if (S_ISSOCK(stat.stx_mode))
-        return getsockopt(fd, SOL_SOCKET, SO_LINGER, &linger, &size) == 0 && !linger.l_onoff;
+        return is_swift_socket(fd);
     return S_ISFIFO(stat.stx_mode)
            || (S_ISREG(stat.stx_mode) && stat.stx_dev_major == memory_major && stat.stx_dev_minor == memory_minor);
 }
@@ -161,6 +168,13 @@ void descriptors_close(int *fds, uint32_t count)
             close(fds[i]);
         fds[i] = -1;
     }
+}
+
+void descriptor_end(int *fd)
+{
+    if (*fd >= 0)
+        shutdown(*fd, SHUT_RDWR);
+    descriptors_close(fd, 1);
 }
 
 void descriptor_close(int *fd)

@@ -9,7 +9,6 @@
 #include "daemon.h"
 
 #include <sys/socket.h>
-#include <unistd.h>
 
 bool doorbell_make(struct thread *thread)
 {
@@ -38,9 +37,6 @@ void doorbell_set(struct thread *thread, bool rings)
 
 void doorbell_free(struct thread *thread)
 {
-    if (thread->doorbell < 0)
-        return;
-    close(thread->doorbell);
-    close(thread->doorbell_end);
-    thread->doorbell = thread->doorbell_end = -1;
+    descriptor_end(&thread->doorbell);
+    descriptor_end(&thread->doorbell_end);
 }

@@ -32,8 +32,7 @@ void loop_drop(struct loop *loop, struct watch *watch)
     if (watch->fd < 0)
         return;
     epoll_ctl(loop->epoll, EPOLL_CTL_DEL, watch->fd, NULL);
-    close(watch->fd);
-    watch->fd = -1;
+    descriptor_end(&watch->fd);
 }
 
 bool loop_run(struct loop *loop, void (*idle)(void *context), void *context)

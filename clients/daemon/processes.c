@@ -9,7 +9,6 @@
 #include <string.h>
 #include <sys/epoll.h>
 #include <sys/socket.h>
-#include <unistd.h>
 
 #define PAGE_BYTES 4096u
 
@@ -219,7 +218,7 @@ void process_accept(struct daemon *daemon, int fd)
     struct process *process = calloc(1, sizeof *process);
     if (!process || getsockopt(fd, SOL_SOCKET, SO_PEERCRED, &peer, &size)) {
         free(process);
-        close(fd);
+        descriptor_end(&fd);
         return;
     }
     process->control = (struct watch){.fd = fd, .ready = control_ready};
@@ -234,7 +233,7 @@ void process_accept(struct daemon *daemon, int fd)
     list_begin(&process->in_resting);
     if (!loop_add(&daemon->loop, &process->control, EPOLLIN | EPOLLRDHUP)) {
         list_remove(&process->in_engine);
-        close(fd);
+        descriptor_end(&fd);
         free(process);
     }
 }
