@@ -147,6 +147,13 @@ def fuzz(build):
             f"longest {calls['longest'] / 1e3:.1f} ms; the daemon grew by {grown} KiB; {attacks}")
 
 
+@test("raw linger")
+def linger(build):
+    """Others needn't wait while a descriptor is closed that a client has left, however long that takes."""
+    with Stage(build) as stage:
+        return stage.run([build.fuzz("linger")], client=False)
+
+
 @test("raw fuzz of managers")
 def fuzz_managers(build):
     """The two context managers get requests that lie for a while, and work afterwards."""
