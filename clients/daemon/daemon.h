@@ -337,7 +337,9 @@ void settle_forget(struct thread *thread);
 /* Answers the reads that can be answered, and puts all doorbells right. Follows each request that makes steps; the
    thread that has made them, if there is one, comes last. */
 void settle(struct engine *engine, struct thread *acting);
-/* Puts the doorbells of a process right. */
+/* Puts a thread's doorbell right. */
+void settle_doorbell(struct thread *thread);
+/* The same for all threads of a process. */
 void settle_doorbells(struct process *process);
 
 /* --- drain.c: what is unread where a thread or a process ends. --- */

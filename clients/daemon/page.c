@@ -38,6 +38,7 @@ void page_interrupt(struct thread *thread, int error)
 {
     thread->is_waiting = false;
     settle_watch(thread);
+    settle_doorbell(thread); /* its read may have taken the completion of a call, which isn't handed over yet */
     answer_error(thread, error);
 }
 

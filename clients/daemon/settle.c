@@ -38,7 +38,7 @@ void settle_watch(struct thread *thread)
         list_append(&process->engine->resting, &process->in_resting);
 }
 
-static void put_doorbell_right(struct thread *thread)
+void settle_doorbell(struct thread *thread)
 {
     if (thread->doorbell < 0 || thread->seat == NO_SEAT)
         return;
@@ -51,7 +51,7 @@ static void put_doorbell_right(struct thread *thread)
 void settle_doorbells(struct process *process)
 {
     for (struct list *entry = process->threads.next; entry != &process->threads; entry = entry->next)
-        put_doorbell_right(container_of(entry, struct thread, in_process));
+        settle_doorbell(container_of(entry, struct thread, in_process));
 }
 
 /* Looks at one thread. Whether that has changed more than its doorbell: then others may be ready that weren't, or not
@@ -59,7 +59,7 @@ void settle_doorbells(struct process *process)
 static bool look(struct thread *thread)
 {
     if (!thread->is_waiting) {
-        put_doorbell_right(thread);
+        settle_doorbell(thread);
         return false;
     }
     bool reads = !returns_are_there(thread) && is_ready(thread);
@@ -92,7 +92,7 @@ static bool look_at_idle(struct process *process)
         return look(thread);
     for (struct list *entry = process->idle.next, *next; entry != &process->idle; entry = next) {
         next = entry->next;
-        put_doorbell_right(container_of(entry, struct thread, in_watch));
+        settle_doorbell(container_of(entry, struct thread, in_watch));
     }
     return false;
 }
