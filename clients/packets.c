@@ -59,12 +59,15 @@ int packet_receive(int fd, void *bytes, size_t size, int *fds, uint32_t room, ui
     do
         received = recvmsg(fd, &message, flags | MSG_CMSG_CLOEXEC);
     while (received < 0 && errno == EINTR);
+    if (received < 0 && errno == EAGAIN)
+        return 0;
     if (received < 0)
-        return errno == EAGAIN ? 0 : -1;
+        return errno = ENODEV, -1;
     bool all = take_descriptors(&message, fds, room, count);
     if (all && received == (ssize_t)size && !(message.msg_flags & MSG_TRUNC))
         return 1;
     descriptors_close(fds, *count);
     *count = 0;
+    errno = message.msg_flags & MSG_CTRUNC ? EMFILE : ENODEV; /* there is room for as many as a packet takes */
     return -1;
 }

@@ -13,7 +13,8 @@
 /* Both go on after signals; with MSG_DONTWAIT for a flag they don't wait. A packet of another size, or with more
    descriptors, is none. */
 bool packet_send(int fd, const void *bytes, size_t size, const int *fds, uint32_t count, int flags);
-/* Tells 1: a packet; 0: none is there; -1: the other end has gone, or sends what it shouldn't. */
+/* Tells 1: a packet; 0: none is there; -1 and EMFILE: not all of its descriptors can be had here; -1 and ENODEV: the other
+   end has gone, or sends what it shouldn't. */
 int packet_receive(int fd, void *bytes, size_t size, int *fds, uint32_t room, uint32_t *count, int flags);
 
 /* Closes descriptors that nobody gets, which are -1 then. Each of the two programs has a way of its own. */

@@ -49,8 +49,11 @@ static int fetch_descriptors(struct thread *thread, uint32_t wanted, int fds[DES
     *count = 0;
     if (!wanted)
         return 0;
-    if (packet_receive(thread->link.fd, &told, sizeof told, fds, DESCRIPTORS_MAX, count, MSG_DONTWAIT) == 1 && *count == wanted)
+    int received = packet_receive(thread->link.fd, &told, sizeof told, fds, DESCRIPTORS_MAX, count, MSG_DONTWAIT);
+    if (received == 1 && *count == wanted)
         return 0;
+    if (received < 0 && errno == EMFILE)
+        return EMFILE;
     descriptors_close(fds, *count);
     return EINVAL;
 }

@@ -65,13 +65,14 @@ int device_ask(struct device *device, int fd, struct control_request *request, s
     uint32_t count = 0;
     request->version = PROTOCOL_VERSION;
     pthread_mutex_lock(&device->control);
-    bool done = packet_send(fd, request, sizeof *request, NULL, 0, 0)
-                && packet_receive(fd, answer, sizeof *answer, fds, room, &count, 0) == 1;
+    bool is_sent = packet_send(fd, request, sizeof *request, NULL, 0, 0);
+    bool done = is_sent && packet_receive(fd, answer, sizeof *answer, fds, room, &count, 0) == 1;
+    int error = is_sent && !done ? errno : ENODEV;
     pthread_mutex_unlock(&device->control);
     if (done && !answer->error && count == room)
         return 0;
     descriptors_close(fds, count);
-    return done && answer->error ? answer->error : ENODEV;
+    return done && answer->error ? answer->error : error;
 }
 
 static struct device *new_device(int flags)

@@ -207,7 +207,9 @@ int link_doorbell(struct link *link)
     if (link->doorbell >= 0)
         return link->doorbell;
     int error = link_ask(link, &request, &answer);
-    if (!error && (packet_receive(link->socket, &told, sizeof told, &link->doorbell, 1, &count, 0) != 1 || count != 1))
+    if (!error && packet_receive(link->socket, &told, sizeof told, &link->doorbell, 1, &count, 0) != 1)
+        error = errno;
+    else if (!error && count != 1)
         error = ENODEV;
     if (error)
         return errno = error, -1;

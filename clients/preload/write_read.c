@@ -58,13 +58,16 @@ static uint64_t pack_stream(struct packing *packing, const uint8_t *commands, ui
     return done;
 }
 
-/* Fetches the descriptors of what was read, and tells the daemon their numbers, which it writes into the window. */
+/* Fetches the descriptors of what was read, and tells the daemon their numbers, which it writes into the window. Where there
+   is no room for all of them in the process, -1 stays there for each. */
 static int place_descriptors(struct link *link, uint32_t wanted)
 {
     uint32_t told, count;
     int fds[DESCRIPTORS_MAX];
     struct page_answer answer;
-    if (packet_receive(link->socket, &told, sizeof told, fds, DESCRIPTORS_MAX, &count, 0) != 1 || count != wanted)
+    if (packet_receive(link->socket, &told, sizeof told, fds, DESCRIPTORS_MAX, &count, 0) != 1)
+        return errno == EMFILE ? 0 : ENODEV;
+    if (count != wanted)
         return ENODEV;
     memcpy(link->page->numbers, fds, count * sizeof *fds);
     const struct page_request request = {.op = PAGE_PLACE, .stream_size = count};
