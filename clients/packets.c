@@ -27,8 +27,7 @@ bool packet_send(int fd, const void *bytes, size_t size, const int *fds, uint32_
     return sent == (ssize_t)size;
 }
 
-/* Takes the descriptors out of a message; closes what there is no room for. False where there was such a one. */
-static bool take_descriptors(struct msghdr *message, int *fds, uint32_t room, uint32_t *count)
+bool packet_take(struct msghdr *message, int *fds, uint32_t room, uint32_t *count)
 {
     bool all = !(message->msg_flags & MSG_CTRUNC);
     for (struct cmsghdr *header = CMSG_FIRSTHDR(message); header; header = CMSG_NXTHDR(message, header)) {
@@ -63,7 +62,7 @@ int packet_receive(int fd, void *bytes, size_t size, int *fds, uint32_t room, ui
         return 0;
     if (received < 0)
         return errno = ENODEV, -1;
-    bool all = take_descriptors(&message, fds, room, count);
+    bool all = packet_take(&message, fds, room, count);
     if (all && received == (ssize_t)size && !(message.msg_flags & MSG_TRUNC))
         return 1;
     descriptors_close(fds, *count);

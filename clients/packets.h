@@ -16,6 +16,9 @@ bool packet_send(int fd, const void *bytes, size_t size, const int *fds, uint32_
 /* Tells 1: a packet; 0: none is there; -1 and EMFILE: not all of its descriptors can be had here; -1 and ENODEV: the other
    end has gone, or sends what it shouldn't. */
 int packet_receive(int fd, void *bytes, size_t size, int *fds, uint32_t room, uint32_t *count, int flags);
+/* Takes the descriptors out of a message that was received; closes what there is no room for. False where there was such a
+   one. */
+bool packet_take(struct msghdr *message, int *fds, uint32_t room, uint32_t *count);
 
 /* Closes descriptors that nobody gets, which are -1 then. Each of the two programs has a way of its own. */
 void descriptors_close(int *fds, uint32_t count);

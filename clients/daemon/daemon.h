@@ -199,7 +199,7 @@ bool descriptors_are_held(void);
 bool descriptors_begin(void);
 /* Closes one of the daemon's own. */
 void descriptor_close(int *fd);
-/* The same of one whose other end a client has, which is told at once, whenever this one is closed. */
+/* The same of one whose other end a client has, without waiting for what the client has put into it. */
 void descriptor_end(int *fd);
 
 /* --- processes.c: an open file is a process. --- */

@@ -71,8 +71,9 @@ bool descriptors_are_held(void)
 
 /*
  * A client's descriptor may be one whose end takes its time, as a socket's that lingers, or a file's behind a
- * network. So may a local socket, the daemon's own among them: what lies unread in it may have such a one. Pipes, memory
- * and other sockets are closed at once. The rest is closed by a thread of its own, last come first served.
+ * network; or a local socket in which such a one lies unread. Pipes, memory and other sockets are closed at once. The rest
+ * is closed by a thread of its own, last come first served. What lies unread in one of the daemon's own sockets is taken out
+ * before that is closed.
  */
 static struct {
     pthread_mutex_t lock;
@@ -170,11 +171,32 @@ void descriptors_close(int *fds, uint32_t count)
     }
 }
 
+/* Takes out what lies unread in a socket that gets no more. With its sender's credentials, an empty packet isn't the end. */
+static void empty(int socket)
+{
+    static char bytes[4096];
+    _Alignas(struct cmsghdr) char control[CMSG_SPACE(sizeof(struct ucred)) + CMSG_SPACE(sizeof(int) * DESCRIPTORS_MAX)];
+    struct iovec vector = {bytes, sizeof bytes};
+    struct msghdr message;
+    int on = 1, type = SOCK_STREAM;
+    socklen_t size = sizeof type;
+    uint32_t none = 0;
+    ssize_t received;
+    getsockopt(socket, SOL_SOCKET, SO_TYPE, &type, &size);
+    setsockopt(socket, SOL_SOCKET, SO_PASSCRED, &on, sizeof on);
+    do {
+        message = (struct msghdr){.msg_iov = &vector, .msg_iovlen = 1, .msg_control = control, .msg_controllen = sizeof control};
+        received = recvmsg(socket, &message, MSG_DONTWAIT | MSG_CMSG_CLOEXEC);
+        if (received >= 0)
+            packet_take(&message, NULL, 0, &none);
+    } while (received > 0 || (received == 0 && type == SOCK_SEQPACKET && message.msg_controllen));
+}
+
 void descriptor_end(int *fd)
 {
-    if (*fd >= 0)
-        shutdown(*fd, SHUT_RDWR);
-    descriptors_close(fd, 1);
+    if (*fd >= 0 && shutdown(*fd, SHUT_RDWR) == 0)
+        empty(*fd);
+    descriptor_close(fd);
 }
 
 void descriptor_close(int *fd)
