@@ -34,5 +34,8 @@ def run(test, label, *given):
     except Failed as why:
         print(f"FAIL {label}: {why}", flush=True)
         return False
+    except Exception as why:  # what breaks a test fails it, and the others are run all the same
+        print(f"FAIL {label}: {type(why).__name__}: {why}", flush=True)
+        return False
     print(f"ok   {label}: {told} ({time.monotonic() - start:.1f} s)", flush=True)
     return True
