@@ -1,5 +1,6 @@
 -- Notes of seats, where some weren't looked at yet.
-use Rattle.std.proofs.Common.{◌≡◌, ℕ, zero, suc, ◌<◌, ◌≤◌, Bool, false, cond, List, [], ◌∷◌, ◌++◌, length, get_or, take, replicate, refl, ap, sym, ◌∙◌, arith}
+use Rattle.std.proofs.Common.{◌≡◌, ℕ, zero, suc, ◌<◌, ◌≤◌, Bool, false, cond, List, [], ◌∷◌, ◌++◌, length, get_or, take, replicate, refl, ap, sym, subst, ◌∙◌, arith}
+use Rattle.std.specs.Prelude.{◌==◌, All, count_by}
 use Rattle.bd_space.specs.Histories.{History, space_after, is_ready}
 use Rattle.bd_engine.specs.Readiness.{has_seat, flipped}
 use Rattle.bd_c.specs.declared.live.OwnedLive.{OwnedLive}
@@ -18,15 +19,19 @@ resized-same (suc n) m (b ∷ bs) zero lt = refl
 resized-same (suc n) m (b ∷ bs) (suc k) lt = resized-same n m bs k (omega (arith, lt))
 
 -- seats that were noted in such a list
-pub polled : (h : History) (x y : OwnedLive) (seats : List ℕ) (mid new : List Bool) (changed : List ℕ) (m : ℕ) → mid ≡ take x.live.seats x.noted.items ++ replicate m false → x.live.seats ≤ length mid
+pub polled : (h : History) (x y : OwnedLive) (seats : List ℕ) (mid new : List Bool) (changed : List ℕ) (m : ℕ) → mid ≡ take x.live.seats x.noted.items ++ replicate m false → x.live.seats ≡ length mid
     → y.noted.items ≡ new → y.changed.items ≡ changed
     → ((seat : ℕ) → seat < length mid → get_or new seat false ≡ cond (has_seat seats seat) (is_ready (space_after h) seat) (get_or mid seat false))
-    → ((seat : ℕ) → seat < length mid → has_seat changed seat ≡ flipped (get_or mid seat false) (get_or new seat false)) → AreNoted h x y seats
-polled h x y seats mid new changed m is all new_is changed_is seen listed = record {
+    → ((seat : ℕ) → seat < length mid → has_seat changed seat ≡ flipped (get_or mid seat false) (get_or new seat false))
+    → ((seat : ℕ) → seat < length mid → count_by (λ v. v == seat) changed ≤ 1) → All (λ v. v < length mid) changed → AreNoted h x y seats
+polled h x y seats mid new changed m is all new_is changed_is seen listed once inside = record {
   noted = λ seat lt. ap (λ bs. get_or bs seat false) new_is ∙ seen seat (omega (arith, lt, all)) ∙ ap (λ b. cond (has_seat seats seat) (is_ready (space_after h) seat) b) (same seat lt);
   changed = λ seat lt.
       ap (λ ss. has_seat ss seat) changed_is ∙ listed seat (omega (arith, lt, all)) ∙ ap (λ b. flipped b (get_or new seat false)) (same seat lt)
       ∙ ap (λ bs. flipped (get_or x.noted.items seat false) (get_or bs seat false)) (sym new_is);
+  once = λ seat lt. subst (λ ss. count_by (λ v. v == seat) ss ≤ 1) (sym changed_is) (once seat (omega (arith, lt, all)));
+  inside = subst (λ ss. All (λ v. v < x.live.seats) ss) (sym changed_is)
+      (subst (λ n. All (λ v. v < n) changed) (sym all) inside);
 }
   where
     same : (seat : ℕ) → seat < x.live.seats → get_or mid seat false ≡ get_or x.noted.items seat false

@@ -1,5 +1,5 @@
 -- Which seats of a live engine have something to read, as was noted when they were last looked at.
-use Rattle.std.specs.Prelude.{◌≡◌, ◌<◌, ℕ, Bool, false, List, length, get_or, if◌then◌else◌}
+use Rattle.std.specs.Prelude.{◌≡◌, ◌==◌, ◌<◌, ◌≤◌, ℕ, Bool, false, List, All, length, count_by, get_or, if◌then◌else◌}
 use Rattle.bd_space.specs.Histories.{History, space_after, is_ready}
 use Rattle.bd_engine.specs.Follows.{Follows}
 use Rattle.bd_engine.specs.Readiness.{has_seat, flipped}
@@ -18,10 +18,13 @@ pub record OnlyNotes (x y : OwnedLive) : Type 0 where
   pub latest : y.latest ≡ x.latest
   pub ended : y.ended.items ≡ x.ended.items
 
--- after this history each of these seats is noted as it is, and every other as before; exactly those are listed that changed by it
+-- after this history each of these seats is noted as it is, and every other as before; exactly those are listed that changed by
+-- it, each once
 pub record AreNoted (h : History) (x y : OwnedLive) (seats : List ℕ) : Type 0 where
   pub noted : (seat : ℕ) → seat < x.live.seats → is_noted y seat ≡ (if has_seat seats seat then is_ready (space_after h) seat else is_noted x seat)
   pub changed : (seat : ℕ) → seat < x.live.seats → has_seat y.changed.items seat ≡ flipped (is_noted x seat) (is_noted y seat)
+  pub once : (seat : ℕ) → seat < x.live.seats → count_by (λ v. v == seat) y.changed.items ≤ 1
+  pub inside : All (λ seat. seat < x.live.seats) y.changed.items
 
 pub record HasPolled (x y : OwnedLive) (seats : List ℕ) (count : ℕ) : Type 0 where
   pub only : OnlyNotes x y

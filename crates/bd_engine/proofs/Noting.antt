@@ -1,11 +1,12 @@
 -- Noting the readiness of seats, one after the other.
 use Rattle.std.proofs.Common.{ℕ, ◌≡◌, ◌<◌, ◌≤◌, Bool, true, false, cond, List, [], ◌∷◌, ◌++◌, length, take, get_or, refl, ap, sym, subst, ◌∙◌, arith}
-use Rattle.std.specs.Prelude.{◌==◌, ◌||◌, not}
+use Rattle.std.specs.Prelude.{◌==◌, ◌+◌, ◌||◌, not, count_by}
 use mathlib.Core.Bool.{beq}
 use Rattle.std.proofs.Math.Bool.{or-true, or-false}
 use Rattle.std.proofs.Math.ListN.{set}
 use Rattle.std.proofs.lemmas.List.{get_or-set_same, get_or-set_other, take_all}
 use Rattle.std.proofs.lemmas.List.Folds.{list_any-append}
+use Rattle.std.proofs.lemmas.List.Sums.{sum_by-append, sum_by-cons}
 use Rattle.std.proofs.lemmas.Bool.{eqb-true, eq-eqb}
 use Rattle.bd_space.specs.Space.{Space}
 use Rattle.bd_space.specs.Histories.{is_ready}
@@ -15,6 +16,27 @@ use Rattle.bd_engine.specs.Readiness.{has_seat, flipped}
 pub record IsSeen (s : Space) (before noted : List Bool) (changed done : List ℕ) (y : ℕ) : Type 0 where
   pub is : get_or noted y false ≡ cond (has_seat done y) (is_ready s y) (get_or before y false)
   pub listed : has_seat changed y ≡ flipped (get_or before y false) (get_or noted y false)
+  pub once : count_by (λ v. v == y) changed ≤ 1
+
+-- a list in which it isn't counts it not at all
+uncounted : (xs : List ℕ) (y : ℕ) → has_seat xs y ≡ false → count_by (λ v. v == y) xs ≡ 0
+uncounted [] y h = omega arith
+uncounted (x ∷ xs) y h = go (x == y) refl h (λ k. uncounted xs y k)
+  where
+    go : (b : Bool) → (x == y) ≡ b → (b || has_seat xs y) ≡ false
+        → (has_seat xs y ≡ false → count_by (λ v. v == y) xs ≡ 0) → count_by (λ v. v == y) (x ∷ xs) ≡ 0
+    go true e h rest = absurd (cc)
+    go false e h rest =
+        let all = sum_by-cons (λ v. cond (v == y) 1 0) x xs in
+        let here : ◌≡◌ {A = ℕ} (cond (x == y) 1 0) 0 = ap (λ b. cond b 1 0) e in
+        let others = rest h in
+        omega (arith, all, here, others)
+
+count-more : (xs : List ℕ) (x y : ℕ) → count_by (λ v. v == y) (xs ++ x ∷ []) ≡ count_by (λ v. v == y) xs + cond (x == y) 1 0
+count-more xs x y =
+    sum_by-append (λ v. cond (v == y) 1 0) xs (x ∷ [])
+    ∙ ap (λ n. count_by (λ v. v == y) xs + n) (sum_by-cons (λ v. cond (v == y) 1 0) x [])
+    ∙ omega arith
 
 among-same : (xs : List ℕ) (x y : ℕ) → x ≡ y → has_seat (xs ++ x ∷ []) y ≡ true
 among-same xs x y e = list_any-append (λ v. v == y) xs (x ∷ []) ∙ ap (λ b. has_seat xs y || (b || false)) (eq-eqb x y e) ∙ or-true (has_seat xs y)
@@ -37,8 +59,8 @@ module _ (s : Space) (before noted : List Bool) (changed done : List ℕ) (x y :
   seen-same k = go (x == y) refl
     where
       go : (b : Bool) → (x == y) ≡ b → IsSeen s before noted changed (done ++ x ∷ []) y
-      go true e = record { is = k (eqb-true x y e) ∙ sym (as_seen (among-same done x y (eqb-true x y e))); listed = seen.listed }
-      go false e = record { is = seen.is ∙ as_seen (sym (among-other done x y e)); listed = seen.listed }
+      go true e = record { is = k (eqb-true x y e) ∙ sym (as_seen (among-same done x y (eqb-true x y e))); listed = seen.listed; once = seen.once }
+      go false e = record { is = seen.is ∙ as_seen (sym (among-other done x y e)); listed = seen.listed; once = seen.once }
 
   -- it was noted otherwise
   pub seen-other : (ready : Bool) → x < length noted → (get_or noted x false ≡ ready → ⊥) → (x ≡ y → ready ≡ is_ready s x)
@@ -63,6 +85,12 @@ module _ (s : Space) (before noted : List Bool) (changed done : List ℕ) (x y :
             listed = among-same changed x y same
                 ∙ sym (ap (flipped (get_or before y false)) (at same) ∙ ap (λ b. flipped b ready) (unlisted same)
                 ∙ flip-true (get_or noted y false) ready (λ f. differs (ap (λ v. get_or noted v false) same ∙ f)));
+            once =
+                let none = seen.listed ∙ ap (λ b. flipped b (get_or noted y false)) (unlisted same) ∙ flip-none (get_or noted y false) in
+                let before = uncounted changed y none in
+                let here : ◌≡◌ {A = ℕ} (cond (x == y) 1 0) 1 = ap (λ b. cond b 1 0) e in
+                let more = count-more changed x y in
+                omega (arith, more, before, here);
           }
       go false e =
           let apart : y ≡ x → ⊥ = λ f. absurd (let same = eq-eqb x y (sym f) in cc) in
@@ -70,6 +98,11 @@ module _ (s : Space) (before noted : List Bool) (changed done : List ℕ) (x y :
           record {
             is = kept ∙ seen.is ∙ as_seen (sym (among-other done x y e));
             listed = among-other changed x y e ∙ seen.listed ∙ ap (flipped (get_or before y false)) (sym kept);
+            once =
+                let here : ◌≡◌ {A = ℕ} (cond (x == y) 1 0) 0 = ap (λ b. cond b 1 0) e in
+                let more = count-more changed x y in
+                let was = seen.once in
+                omega (arith, more, was, here);
           }
 
 pub seen-as : (s : Space) (before noted noted2 : List Bool) (changed changed2 done done2 : List ℕ) (y : ℕ) → noted2 ≡ noted → changed2 ≡ changed → done2 ≡ done
@@ -85,7 +118,7 @@ agree a b e = search arith
 
 -- before the first
 pub seen-none : (s : Space) (before : List Bool) (y : ℕ) → IsSeen s before before [] [] y
-seen-none s before y = record { is = refl; listed = sym (flip-none (get_or before y false)) }
+seen-none s before y = record { is = refl; listed = sym (flip-none (get_or before y false)); once = omega arith }
 
 -- after the last
 pub seen-whole : (s : Space) (before noted : List Bool) (changed touched : List ℕ) (i y : ℕ) → length touched ≤ i → IsSeen s before noted changed (take i touched) y

@@ -1,6 +1,6 @@
 //! Which seats' readiness has changed.
 
-ghost use Rattle.std.specs.Prelude.{ℕ, ◌≡◌, ◌+◌, ◌≤◌, ◌<◌, false, if◌then◌else◌, [], length, get_or, vec_len, vec_capacity};
+ghost use Rattle.std.specs.Prelude.{ℕ, ◌≡◌, ◌+◌, ◌≤◌, ◌<◌, ◌==◌, false, if◌then◌else◌, [], All, length, count_by, get_or, vec_len, vec_capacity};
 ghost use Rattle.bd_space.specs.Histories.{History, space_after, is_ready};
 ghost use Rattle.bd_engine.specs.{Follows.{Follows}, Readiness.{has_seat, flipped, Noted}};
 
@@ -25,6 +25,10 @@ impl Live {
         // The list has exactly the seats that are noted otherwise than before.
         ensures changed { (h : History) → Follows self.now h → (seat : ℕ) → seat < length noted.old
             → has_seat changed.new.items seat ≡ flipped (get_or noted.old seat false) (get_or noted.new seat false) }
+        // None of them stands there twice, and no other seat does.
+        ensures once { (h : History) → Follows self.now h → (seat : ℕ) → seat < length noted.old
+            → count_by (λ x. x == seat) changed.new.items ≤ 1 }
+        ensures inside { All (λ x. x < length noted.old) changed.new.items }
         ensures len { length noted.new ≡ length noted.old }
     {
         for i in 0..touched.len() {

@@ -1,5 +1,6 @@
-use Rattle.std.proofs.Common.{rules, ◌≡◌, ◌<◌, [], false, refl, arith, ap, subst, ◌∙◌, get_or, take, length}
+use Rattle.std.proofs.Common.{rules, ◌≡◌, ◌<◌, [], ◌∷◌, ◌++◌, false, refl, arith, ap, subst, ◌∙◌, get_or, take, length}
 use Rattle.std.proofs.lemmas.List.{take_more}
+use Rattle.std.proofs.lemmas.List.Elements.{All-same, All-push}
 use Rattle.bd_space.specs.Histories.{space_after, is_ready}
 use Rattle.bd_engine.proofs.Noting.{seen-same, seen-other, seen-none, seen-whole, seen-all, seen-as, differ, agree}
 use Rattle.bd_engine.proofs.live.Live.note_ready.Goals as goal
@@ -9,6 +10,7 @@ pub loop-i-init : goal.loop-i-init
 loop-i-init c = record {
   len = refl;
   room = omega arith;
+  inside = search (rules, arith);
   seen = λ h follows y lt. seen-as (space_after h) _ c.args.noted.now _ [] c.args.changed.now.items [] [] y refl c.requires.none refl (seen-none (space_after h) c.args.noted.now y);
 }
 
@@ -17,6 +19,16 @@ loop-i-preserved c = record {
   len = omega (arith, c.if-at-noted.auto.noted, c.loop-i.invariant.len);
   room = elim c.if-at-noted.branch [
     | then-at-noted+then-noted-at w ↦ search rules
+    | then-at-noted+else-noted-at w ↦ search rules
+    | else-at-noted w ↦ search rules
+  ];
+  inside = elim c.if-at-noted.branch [
+    | then-at-noted+then-noted-at w ↦
+        All-same (λ x. x < length c.args.noted.now) c.if-at-noted.changed.items
+        (c.loop-i.changed.items ++ get_or c.args.touched.now c.loop-i.i 0 ∷ [])
+        (ap (λ v. v.items) w.changed-is ∙ w.push_reserved.ensures.items)
+        (All-push (λ x. x < length c.args.noted.now) c.loop-i.changed.items (get_or c.args.touched.now c.loop-i.i 0)
+        c.loop-i.invariant.inside (omega (arith, w.if-at-noted.true, c.loop-i.invariant.len)))
     | then-at-noted+else-noted-at w ↦ search rules
     | else-at-noted w ↦ search rules
   ];
@@ -55,3 +67,6 @@ returns-clause-noted c = λ h follows touched_only y lt.
 
 pub returns-clause-changed : goal.returns-clause-changed
 returns-clause-changed c = λ h follows y lt. (c.loop-i.invariant.seen h follows y lt).listed
+
+pub returns-clause-once : goal.returns-clause-once
+returns-clause-once c = λ h follows y lt. (c.loop-i.invariant.seen h follows y lt).once

@@ -1,4 +1,4 @@
-use Rattle.std.proofs.Common.{ℕ, ◌≡◌, ◌+◌, ◌-◌, ◌<◌, ◌≤◌, length, take, vec_len, vec_capacity}
+use Rattle.std.proofs.Common.{ℕ, ◌≡◌, ◌+◌, ◌-◌, ◌<◌, ◌≤◌, All, length, take, vec_len, vec_capacity}
 use Rattle.bd_space.specs.Histories.{History, space_after}
 use Rattle.bd_engine.specs.Follows.{Follows}
 use Rattle.bd_engine.proofs.Noting.{IsSeen}
@@ -8,6 +8,7 @@ abbrev pub invariant-loop-i : goal.invariant-loop-i
 invariant-loop-i l = record {
   len : length l.noted ≡ length l.initial.noted;
   room : vec_len l.changed + (length l.touched - l.i) ≤ vec_capacity l.changed;
+  inside : All (λ x. x < length l.initial.noted) l.changed.items;
   seen : (h : History) → Follows l.self h → (seat : ℕ) → seat < length l.initial.noted
       → IsSeen (space_after h) l.initial.noted l.noted l.changed.items (take l.i l.touched) seat;
 }
