@@ -17,7 +17,7 @@
 #include <stdint.h>
 
 /* Goes up with each change of this file: a library of another build is refused. */
-#define PROTOCOL_VERSION 2u
+#define PROTOCOL_VERSION 3u
 
 /* The largest window, as the kernel's is. */
 #define WINDOW_MAX (4u << 20)
@@ -115,6 +115,8 @@ struct page {
     uint8_t returns[PAGE_RETURNS];
     uint8_t stream[PAGE_STREAM];
     int32_t numbers[DESCRIPTORS_MAX];
+    uint64_t parcel; /* by the daemon: where the client sees the parcel that an answer's descriptors came with .. */
+    uint8_t is_of_array[DESCRIPTORS_MAX]; /* .. and which of these are an FDA object's */
     _Alignas(4096) uint8_t area[PAGE_AREA]; /* whole pages: a large parcel's can be given back */
 };
 

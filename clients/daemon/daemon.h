@@ -231,10 +231,11 @@ void process_note_handed(struct process *process, uint64_t place, bool handed);
 
 /* Descriptors of the latest parcel that the thread has read, and where their numbers go in the window. */
 struct landing {
+    uint64_t parcel; /* where the client sees it */
     uint32_t count;
     int fds[DESCRIPTORS_MAX];
     uint64_t places[DESCRIPTORS_MAX];
-    bool is_wide[DESCRIPTORS_MAX]; /* the number fills 8 bytes */
+    bool is_wide[DESCRIPTORS_MAX]; /* the number fills 8 bytes: an FD object's, not an FDA object's */
 };
 
 struct thread {

@@ -129,6 +129,8 @@ static void deliver_wrapped(struct thread *thread, struct binder_transaction_dat
         return;
     if (trailer.held_count)
         arrival.landing = thread_landing(thread);
+    if (arrival.landing)
+        arrival.landing->parcel = record->data.ptr.buffer;
     put_right(&arrival);
     memcpy(window->at + place, parcel_bytes, engine->answer.data);
     record->data_size = trailer.data_size;

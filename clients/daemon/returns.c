@@ -100,6 +100,9 @@ static void send_landing(struct thread *thread)
     struct landing *landing = thread->landing;
     if (!landing || !landing->count)
         return;
+    thread->page->parcel = landing->parcel;
+    for (uint32_t i = 0; i < landing->count; i++)
+        thread->page->is_of_array[i] = !landing->is_wide[i];
     if (packet_send(thread->link.fd, &landing->count, sizeof landing->count, landing->fds, landing->count, MSG_DONTWAIT))
         thread->answer.descriptors = landing->count;
     descriptors_close(landing->fds, landing->count); /* the places stay, for the numbers */

@@ -126,6 +126,12 @@ void write_descriptor(struct writer *writer, int descriptor)
     write_object(writer, &object, sizeof object);
 }
 
+void write_descriptors(struct writer *writer, size_t count, int parent, size_t offset)
+{
+    struct binder_fd_array_object object = {.hdr.type = BINDER_TYPE_FDA, .num_fds = count, .parent = parent, .parent_offset = offset};
+    write_object(writer, &object, sizeof object);
+}
+
 void write_no_object(struct writer *writer)
 {
     struct flat_binder_object object = {.hdr.type = BINDER_TYPE_BINDER};

@@ -38,6 +38,8 @@ void write_name(struct writer *writer, const uint8_t *name, size_t size);
 void write_strong_handle(struct writer *writer, uint32_t handle);
 void write_own_object(struct writer *writer, binder_uintptr_t pointer, binder_uintptr_t cookie);
 void write_descriptor(struct writer *writer, int descriptor);
+/* An FDA object: so many descriptors stand at an offset of the buffer that the PTR object with this number has. */
+void write_descriptors(struct writer *writer, size_t count, int parent, size_t offset);
 /* What stands for no object at all. */
 void write_no_object(struct writer *writer);
 /* A PTR object; `parent` is the number of the one whose bytes at an offset are to lead here, or -1. Tells its own

@@ -83,6 +83,7 @@ static struct device *new_device(int flags)
     device->references = device->descriptors = 1;
     device->is_nonblocking = flags & O_NONBLOCK;
     pthread_mutex_init(&device->control, NULL);
+    pthread_mutex_init(&device->arrays.lock, NULL);
     for (int i = 0; i < EPOLLS_MAX; i++)
         device->epolls[i].epoll = device->epolls[i].doorbell = -1;
     return device;
@@ -136,6 +137,7 @@ void device_release(struct device *device)
     pthread_mutex_unlock(&devices_lock);
     if (is_last) {
         pthread_mutex_destroy(&device->control);
+        pthread_mutex_destroy(&device->arrays.lock);
         free(device);
     }
 }
@@ -146,12 +148,14 @@ void device_forget(int fd)
         return;
     pthread_mutex_lock(&devices_lock);
     struct device *device = atomic_exchange(&files[fd], NULL);
-    bool is_real = device && device != &forked;
-    if (is_real && --device->descriptors == 0) {
+    bool is_real = device && device != &forked, is_last = is_real && --device->descriptors == 0;
+    if (is_last) {
         device->is_closed = true;
         epolls_forget(device, -1);
     }
     pthread_mutex_unlock(&devices_lock);
+    if (is_last)
+        arrays_end(device);
     if (is_real) {
         say("%d is closed", fd);
         device_release(device);

@@ -54,6 +54,26 @@ void say(const char *format, ...) __attribute__((format(printf, 1, 2)));
 /* The same in any case. */
 void complain(const char *format, ...) __attribute__((format(printf, 1, 2)));
 
+/* --- arrays.c: descriptors of FDA objects. --- */
+
+/* They are kept by the page of the window that their buffer begins on: no list is longer than what a page has room for. */
+struct arrays {
+    pthread_mutex_t lock;
+    _Atomic uint32_t count; /* of all lists; mostly there is nothing to be looked for */
+    struct array *on_page[WINDOW_MAX / 4096];
+};
+
+struct device;
+
+/* Keeps those of a parcel's descriptors that are of FDA objects, by what the page says. False where there is no memory. */
+bool arrays_keep(struct device *device, const struct page *page, const int *fds, uint32_t count);
+/* A buffer is given back: what came with it goes in front of a list. */
+void arrays_take(struct device *device, uint64_t buffer, struct array **taken);
+/* Closes what is on the list. errno stays as it is. */
+void arrays_close(struct array *taken);
+/* The device is closed. */
+void arrays_end(struct device *device);
+
 /* --- device.c: open binder files. --- */
 
 #define EPOLLS_MAX 8
@@ -64,6 +84,7 @@ struct device {
     _Atomic bool is_closed;
     _Atomic bool is_nonblocking;
     pthread_mutex_t control; /* a request over the control socket is made by one thread at a time */
+    struct arrays arrays;
     struct link *links;
     struct {
         int epoll, doorbell; /* -1: none */
@@ -120,11 +141,13 @@ int write_read(struct link *link, struct binder_write_read *what);
 
 /* What was put into a page. */
 struct packing {
+    struct device *device;
     struct page *page;
     uint32_t stream_size;
     uint64_t area_size;
     uint32_t fd_count;
     int fds[DESCRIPTORS_MAX];
+    struct array *taken; /* what came with buffers that the stream gives back */
 };
 
 /* Puts the parcel of a transaction or reply into the page, whose record lies in the page's stream. False where there

@@ -25,6 +25,14 @@ static bool pack_call(struct packing *packing, uint8_t *payload, uint32_t size)
     return true;
 }
 
+/* Before the daemon knows of it: then the buffer's place may soon be another's. */
+static void take_arrays(struct device *device, const uint8_t *free_command, struct array **taken)
+{
+    uint64_t buffer;
+    memcpy(&buffer, free_command + sizeof(uint32_t), sizeof buffer);
+    arrays_take(device, buffer, taken);
+}
+
 /* Puts one command at the end of the stream: its size, or 0 where it has to wait for the next stream. A command that
    is cut short, or longer than any, goes as it is: the daemon says what the kernel would. */
 static uint32_t pack_command(struct packing *packing, const uint8_t *command, uint64_t left)
@@ -41,6 +49,8 @@ static uint32_t pack_command(struct packing *packing, const uint8_t *command, ui
     memcpy(to, command, size);
     if (is_whole && is_call(code) && !pack_call(packing, to + sizeof code, _IOC_SIZE(code)))
         return 0;
+    if (is_whole && code == BC_FREE_BUFFER)
+        take_arrays(packing->device, command, &packing->taken);
     packing->stream_size += (uint32_t)size;
     return (uint32_t)size;
 }
@@ -59,7 +69,7 @@ static uint64_t pack_stream(struct packing *packing, const uint8_t *commands, ui
 }
 
 /* Fetches the descriptors of what was read, and tells the daemon their numbers, which it writes into the window. Where there
-   is no room for all of them in the process, -1 stays there for each. */
+   is no room for all of them in the process, or no memory to remember them, -1 stays there for each. */
 static int place_descriptors(struct link *link, uint32_t wanted)
 {
     uint32_t told, count;
@@ -69,6 +79,10 @@ static int place_descriptors(struct link *link, uint32_t wanted)
         return errno == EMFILE ? 0 : ENODEV;
     if (count != wanted)
         return ENODEV;
+    if (!arrays_keep(link->device, link->page, fds, count)) {
+        descriptors_close(fds, count);
+        return 0;
+    }
     memcpy(link->page->numbers, fds, count * sizeof *fds);
     const struct page_request request = {.op = PAGE_PLACE, .stream_size = count};
     return link_ask(link, &request, &answer);
@@ -80,7 +94,10 @@ static int exchange(struct link *link, const struct packing *packing, uint32_t r
 {
     uint32_t flags = link->device->is_nonblocking ? PAGE_NONBLOCK : 0;
     const struct page_request request = {PAGE_WRITE_READ, packing->stream_size, room, flags, packing->fd_count};
-    if (packing->fd_count && !packet_send(link->socket, &packing->fd_count, sizeof packing->fd_count, packing->fds, packing->fd_count, 0))
+    bool is_sent = !packing->fd_count
+                   || packet_send(link->socket, &packing->fd_count, sizeof packing->fd_count, packing->fds, packing->fd_count, 0);
+    arrays_close(packing->taken); /* after those that a call sends on have gone, before a read waits */
+    if (!is_sent)
         return errno;
     int error = link_ask(link, &request, answer);
     what->write_consumed += answer->consumed;
@@ -113,6 +130,10 @@ static bool free_buffers(struct link *link, struct binder_write_read *what)
         if (code != BC_FREE_BUFFER)
             return false;
     }
+    struct array *taken = NULL;
+    for (uint64_t i = 0; i < size / each; i++)
+        arrays_take(link->device, buffers[i], &taken);
+    arrays_close(taken);
     if (!link_free_buffers(link, buffers, (uint32_t)(size / each)))
         return false;
     what->write_consumed = what->write_size;
@@ -126,7 +147,7 @@ int write_read(struct link *link, struct binder_write_read *what)
     if (free_buffers(link, what))
         return 0;
     while (!is_last) {
-        struct packing packing = {.page = link->page};
+        struct packing packing = {.device = link->device, .page = link->page};
         struct page_answer answer;
         uint64_t left = what->write_size > what->write_consumed && !is_refused ? what->write_size - what->write_consumed : 0;
         is_last = pack_stream(&packing, (const uint8_t *)(uintptr_t)what->write_buffer + what->write_consumed, left) == left;

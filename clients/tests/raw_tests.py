@@ -28,6 +28,7 @@ def plays(name, *words, title=None):
 for name in ("nested", "oneway", "deaths", "parcels", "pool", "two_opens", "refusals", "files", "seats"):
     plays(name)
 plays("descriptors", "10000")
+plays("arrays", "1000")
 for word in ("asked", "unasked"):
     plays("flooding", word, title=f"flooding {word}")
 
