@@ -5,7 +5,9 @@
 #include "daemon.h"
 
 #include <errno.h>
+#include <fcntl.h>
 #include <string.h>
+#include <sys/stat.h>
 
 /* As many as a journal may have. */
 #define JOURNAL_SEATS 31u
@@ -48,8 +50,43 @@ static bool begin(struct daemon *daemon, struct device *device)
     return device->engine != NULL;
 }
 
+/* Makes sure that a journal can be written, and tells which file it is; what is in it stays. */
+static bool look_at(const char *path, struct stat *file)
+{
+    int fd = open(path, O_WRONLY | O_CREAT | O_CLOEXEC, 0666);
+    bool is_there = fd >= 0 && fstat(fd, file) == 0;
+    if (!is_there)
+        log_line("%s: %s", path, strerror(errno));
+    descriptor_close(&fd);
+    return is_there;
+}
+
+/* Before one journal is written anew, all have to be files of their own, by whatever names. */
+static bool look_at_journals(const struct daemon *daemon)
+{
+    struct stat files[DEVICES_MAX];
+    uint32_t count = 0;
+    for (uint32_t i = 0; i < daemon->device_count; i++) {
+        const char *path = daemon->devices[i].journal;
+        if (!path)
+            continue;
+        if (!look_at(path, &files[count]))
+            return false;
+        for (uint32_t other = 0; other < count && S_ISREG(files[count].st_mode); other++) {
+            if (files[other].st_dev == files[count].st_dev && files[other].st_ino == files[count].st_ino) {
+                log_line("%s: two devices can't have one journal", path);
+                return false;
+            }
+        }
+        count++;
+    }
+    return true;
+}
+
 bool devices_begin(struct daemon *daemon)
 {
+    if (!look_at_journals(daemon))
+        return false;
     for (uint32_t i = 0; i < daemon->device_count; i++)
         if (daemon->devices[i].journal && !begin(daemon, &daemon->devices[i]))
             return false;

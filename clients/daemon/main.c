@@ -158,7 +158,8 @@ static int run(struct daemon *daemon, const struct options *options, int told)
         tell_status(told, (unsigned char)status);
         return status;
     }
-    bool is_begun = watch_signals(daemon) && descriptors_begin() && devices_begin(daemon) && listener_begin(daemon);
+    /* Old journals are written anew once the address is ours. A client that comes before waits until the loop runs. */
+    bool is_begun = watch_signals(daemon) && descriptors_begin() && listener_begin(daemon) && devices_begin(daemon);
     status = is_begun ? 0 : STATUS_FAILED;
     tell_status(told, (unsigned char)status);
     if (!status && !loop_run(&daemon->loop, when_idle, daemon))

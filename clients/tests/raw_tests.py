@@ -1,4 +1,7 @@
 """Tests with our own clients alone, which need nothing but the kernel's header."""
+import os
+import subprocess
+import tempfile
 import time
 
 from stage import Stage, expect, open_files, processor_time, resident
@@ -123,6 +126,30 @@ def full(build):
         stage.see_end(1)
         expect(stage.daemon.printed().count("the history is full, the daemon ends") == 1, f"the daemon: {stage.daemon.printed()}")
     return f"the daemon ended in order; lawful, {stage.entries} steps"
+
+
+def refuses(build, words, why):
+    """Whether a daemon that is started with these words ends at once, and says why."""
+    done = subprocess.run([build.daemon, *words], env={**os.environ, **build.environment}, capture_output=True, text=True, timeout=10)
+    expect(done.returncode == 1 and why in done.stderr, f"{' '.join(words)}: {done.returncode}, {done.stderr}")
+
+
+@test("raw refused beginnings")
+def refused_beginnings(build):
+    """A daemon that can't begin leaves old journals as they are."""
+    with tempfile.TemporaryDirectory(prefix="hullpippin-begin-") as folder:
+        old, again, taken = (f"{folder}/{name}" for name in ("old", "again", "taken"))
+        for path in (old, taken):
+            with open(path, "w", encoding="ascii") as file:
+                file.write("old")
+        os.symlink(old, again)
+        refuses(build, ["--socket", taken, "--journal", old], "Address already in use")
+        refuses(build, ["--socket", f"{folder}/socket", "--journal", old, "--journal", f"/dev/hwbinder={again}"], "two devices")
+        refuses(build, ["--socket", f"{folder}/socket", "--journal", old, "--journal", f"/dev/hwbinder={folder}/none/new"], "No such file")
+        with open(old, encoding="ascii") as file:
+            expect(file.read() == "old", "the old journal is gone")
+        expect(not os.path.exists(f"{folder}/socket"), "a daemon that hasn't begun left its socket")
+    return "where the address is taken, a journal would be two devices', or one can't be had, the old journal stays"
 
 
 @test("raw fuzz")
