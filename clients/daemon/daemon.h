@@ -85,6 +85,8 @@ struct loop {
 bool loop_begin(struct loop *loop);
 void loop_end(struct loop *loop);
 bool loop_add(struct loop *loop, struct watch *watch, uint32_t events);
+/* It is waited for other events from now on: with 0 for none but errors. */
+void loop_change(struct loop *loop, struct watch *watch, uint32_t events);
 /* Closes the descriptor. */
 void loop_drop(struct loop *loop, struct watch *watch);
 /* Runs until it is stopped, or can't wait: then false. `idle` is called where nothing has come for a second. */
@@ -361,6 +363,7 @@ void doorbell_free(struct thread *thread);
 
 struct listener {
     struct watch watch;
+    struct watch rest; /* a timer: until it ends no client is taken */
     int lock;  /* held as long as a daemon has this address */
     int spare; /* a descriptor to let go of, so that a client can be sent away where no more are left */
     struct sockaddr_un address;

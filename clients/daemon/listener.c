@@ -8,11 +8,14 @@
 #include <sys/epoll.h>
 #include <sys/file.h>
 #include <sys/stat.h>
+#include <sys/timerfd.h>
 
 #define BACKLOG 128
 
-/* Where no descriptor is left, the spare one is let go of, so that the client can be taken and sent away. */
-static void send_away(struct listener *listener)
+#define REST_SECONDS 1
+
+/* Where no descriptor is left, the spare one is let go of, so that the client can be taken and sent away. False where it can't. */
+static bool send_away(struct listener *listener)
 {
     close(listener->spare);
     int fd = accept4(listener->watch.fd, NULL, NULL, SOCK_CLOEXEC);
@@ -20,6 +23,32 @@ static void send_away(struct listener *listener)
         close(fd);
     listener->spare = open("/dev/null", O_RDONLY | O_CLOEXEC);
     log_event("no descriptor is left for another client");
+    return fd >= 0;
+}
+
+/* A client waits that the kernel has no memory for, and the loop would be told of it without an end. A busy daemon is never idle, so
+   a timer says when it's tried again. */
+static void rest(struct daemon *daemon, int error)
+{
+    const struct itimerspec time = {.it_value.tv_sec = REST_SECONDS};
+    log_event("a client can't be taken yet: %s", strerror(error));
+    if (timerfd_settime(daemon->listener.rest.fd, 0, &time, NULL) == 0)
+        loop_change(&daemon->loop, &daemon->listener.watch, 0);
+}
+
+static void rest_ready(struct watch *watch, uint32_t events)
+{
+    struct daemon *daemon = container_of(watch, struct daemon, listener.rest);
+    uint64_t times;
+    (void)events;
+    if (read(watch->fd, &times, sizeof times) == sizeof times)
+        loop_change(&daemon->loop, &daemon->listener.watch, EPOLLIN);
+}
+
+/* Whether the client that was to be taken has gone, or there was none. */
+static bool has_gone(int error)
+{
+    return error == EAGAIN || error == EINTR || error == ECONNABORTED;
 }
 
 static void listener_ready(struct watch *watch, uint32_t events)
@@ -27,10 +56,13 @@ static void listener_ready(struct watch *watch, uint32_t events)
     struct daemon *daemon = container_of(watch, struct daemon, listener.watch);
     (void)events;
     int fd = accept4(watch->fd, NULL, NULL, SOCK_CLOEXEC);
-    if (fd >= 0)
+    if (fd >= 0) {
         process_accept(daemon, fd);
-    else if (errno == EMFILE || errno == ENFILE)
-        send_away(&daemon->listener);
+        return;
+    }
+    bool is_away = (errno == EMFILE || errno == ENFILE) && send_away(&daemon->listener);
+    if (!is_away && !has_gone(errno))
+        rest(daemon, errno);
 }
 
 /* The folder of the user's own address is made where it isn't there. */
@@ -95,10 +127,11 @@ bool listener_begin(struct daemon *daemon)
     struct watch *watch = &listener->watch;
     const struct sockaddr *address = (const struct sockaddr *)&listener->address;
     listener->spare = open("/dev/null", O_RDONLY | O_CLOEXEC);
+    listener->rest = (struct watch){.fd = timerfd_create(CLOCK_MONOTONIC, TFD_CLOEXEC | TFD_NONBLOCK), .ready = rest_ready};
     *watch = (struct watch){.fd = socket(AF_UNIX, SOCK_SEQPACKET | SOCK_CLOEXEC | SOCK_NONBLOCK, 0), .ready = listener_ready};
     remove_socket(listener->address.sun_path);
-    if (watch->fd < 0 || bind(watch->fd, address, sizeof listener->address) || listen(watch->fd, BACKLOG)
-        || !loop_add(&daemon->loop, watch, EPOLLIN)) {
+    if (listener->rest.fd < 0 || !loop_add(&daemon->loop, &listener->rest, EPOLLIN) || watch->fd < 0
+        || bind(watch->fd, address, sizeof listener->address) || listen(watch->fd, BACKLOG) || !loop_add(&daemon->loop, watch, EPOLLIN)) {
         log_line("%s: %s", listener->address.sun_path, strerror(errno));
         return false;
     }
@@ -112,6 +145,7 @@ void listener_end(struct daemon *daemon)
     if (listener->watch.fd >= 0)
         remove_socket(listener->address.sun_path);
     loop_drop(&daemon->loop, &listener->watch);
+    loop_drop(&daemon->loop, &listener->rest);
     descriptor_close(&listener->spare);
     descriptor_close(&listener->lock);
 }

@@ -26,6 +26,12 @@ bool loop_add(struct loop *loop, struct watch *watch, uint32_t events)
     return epoll_ctl(loop->epoll, EPOLL_CTL_ADD, watch->fd, &event) == 0;
 }
 
+void loop_change(struct loop *loop, struct watch *watch, uint32_t events)
+{
+    struct epoll_event event = {.events = events, .data.ptr = watch};
+    epoll_ctl(loop->epoll, EPOLL_CTL_MOD, watch->fd, &event);
+}
+
 /* A bell's description is the client's too, so closing it here wouldn't end its events. */
 void loop_drop(struct loop *loop, struct watch *watch)
 {

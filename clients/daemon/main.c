@@ -172,7 +172,7 @@ static int run(struct daemon *daemon, const struct options *options, int told)
 
 int main(int count, char **words)
 {
-    static struct daemon daemon = {.seats = DEFAULT_SEATS, .signals.fd = -1, .listener = {.watch.fd = -1, .spare = -1}};
+    static struct daemon daemon = {.seats = DEFAULT_SEATS, .signals.fd = -1, .listener = {.watch.fd = -1, .rest.fd = -1, .spare = -1}};
     struct options options = {0};
     list_begin(&daemon.strangers);
     if (!read_options(&daemon, &options, count, words))

@@ -128,6 +128,16 @@ def full(build):
     return f"the daemon ended in order; lawful, {stage.entries} steps"
 
 
+@test("raw short of memory")
+def short_of_memory(build):
+    """A daemon whose clients the kernel has no memory for tries again each second, and does nothing meanwhile."""
+    with Stage(build, journal=DEVICE, daemon=build.short, daemon_environment={"SHORT_OF_MEMORY": "1"}) as stage:
+        told = stage.run([build.raw("seats")])
+        used = processor_time(stage.daemon.pid)
+        expect(used <= 1, f"the daemon used {used} s of processor time")
+    return f"{told}, {used} s of processor time; lawful, {stage.entries} steps"
+
+
 def refuses(build, words, why):
     """Whether a daemon that is started with these words ends at once, and says why."""
     done = subprocess.run([build.daemon, *words], env={**os.environ, **build.environment}, capture_output=True, text=True, timeout=10)

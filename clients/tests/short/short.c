@@ -1,10 +1,17 @@
 /*
  * short.c: goes into a daemon of the tests, whose histories can take no more after so many steps: what the engine answers
- * after 4294967295. The linker has the daemon call these in the library's place.
+ * after 4294967295. The linker has the daemon call these in the library's place. With SHORT_OF_MEMORY in its environment the
+ * kernel has no memory for its clients in the first seconds.
  */
+#include <errno.h>
+#include <stdlib.h>
+#include <sys/socket.h>
+#include <time.h>
+
 #include "hullpippin.h"
 
 #define STEPS 4000
+#define SECONDS 3
 
 /* The library's function of this name, and what the daemon calls. */
 #define SHORT(name, parameters, ...) \
@@ -26,3 +33,16 @@ SHORT(command, (hullpippin_live *live, uint32_t seat, const uint8_t *command, si
 SHORT(read, (hullpippin_live *live, uint32_t seat, uint32_t limit, hullpippin_answer *answer), live, seat, limit, answer)
 SHORT(exit_thread, (hullpippin_live *live, uint32_t seat, hullpippin_answer *answer), live, seat, answer)
 SHORT(exit_process, (hullpippin_live *live, uint32_t seat, hullpippin_answer *answer), live, seat, answer)
+
+int __real_accept4(int fd, struct sockaddr *address, socklen_t *size, int flags);
+int __wrap_accept4(int fd, struct sockaddr *address, socklen_t *size, int flags);
+int __wrap_accept4(int fd, struct sockaddr *address, socklen_t *size, int flags)
+{
+    static struct timespec first, now;
+    clock_gettime(CLOCK_MONOTONIC, &now);
+    if (!first.tv_sec)
+        first = now;
+    if (getenv("SHORT_OF_MEMORY") && now.tv_sec - first.tv_sec < SECONDS)
+        return errno = ENOMEM, -1;
+    return __real_accept4(fd, address, size, flags);
+}
