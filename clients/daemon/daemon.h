@@ -136,6 +136,8 @@ struct engine {
     struct thread **lent;     /* by seat: whose it is, or NULL */
     uint32_t *free_seats;     /* a stack */
     uint32_t free_count;
+    uint32_t *lost_seats;     /* a stack: no memory was there to end the engine's thread with that seat */
+    uint32_t lost_count;
     struct list seatless;     /* threads whose request waits for a seat */
 
     struct list processes;
@@ -169,8 +171,9 @@ bool seat_lend(struct thread *thread);
 void seat_await(struct thread *thread);
 /* Looks again at the requests that wait. Follows each event. */
 void seats_retry(struct engine *engine);
-/* Nothing has happened for a second: requests that wait are refused, since those who have the seats may wait for
-   them. */
+/* Both follow a second in which nothing has happened. Threads whose end has failed for want of memory are ended, and their seats
+   lent again; requests that wait are refused, since those who have the seats may wait for them. */
+void seats_regain(struct engine *engine);
 void seats_refuse(struct engine *engine);
 /* Ends the thread in the engine, and takes its seat back. */
 void seat_return(struct thread *thread);

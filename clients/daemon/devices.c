@@ -108,6 +108,7 @@ void devices_idle(struct daemon *daemon)
         struct engine *engine = daemon->devices[i].engine;
         if (!engine)
             continue;
+        seats_regain(engine);
         journal_flush(&engine->journal);
         seats_refuse(engine);
     }

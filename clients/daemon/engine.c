@@ -13,7 +13,8 @@ static bool make_seats(struct engine *engine, uint32_t seats)
     engine->seats = seats;
     engine->lent = calloc(seats, sizeof *engine->lent);
     engine->free_seats = calloc(seats, sizeof *engine->free_seats);
-    if (!engine->lent || !engine->free_seats)
+    engine->lost_seats = calloc(seats, sizeof *engine->lost_seats);
+    if (!engine->lent || !engine->free_seats || !engine->lost_seats)
         return false;
     for (uint32_t seat = seats - 1; seat > 0; seat--)
         engine->free_seats[engine->free_count++] = seat;
@@ -49,6 +50,7 @@ void engine_free(struct engine *engine)
     }
     free(engine->lent);
     free(engine->free_seats);
+    free(engine->lost_seats);
     free(engine);
 }
 

@@ -24,6 +24,12 @@ static void put_back(struct thread *thread)
     take_away(thread);
 }
 
+static void lose(struct engine *engine, uint32_t seat)
+{
+    log_line("%s: seat %u is lost until there is memory", engine->device, seat);
+    engine->lost_seats[engine->lost_count++] = seat;
+}
+
 /* Whether the thread would lose nothing with its seat. */
 static bool is_idle(struct engine *engine, const struct thread *thread)
 {
@@ -59,7 +65,7 @@ bool seat_lend(struct thread *thread)
         return false;
     engine->free_count--;
     if (engine->answer.kind != HULLPIPPIN_OPENED) { /* a process has it that couldn't be ended for want of memory */
-        log_line("%s: seat %u is lost", engine->device, seat);
+        lose(engine, seat);
         return false;
     }
     engine->lent[seat] = thread;
@@ -87,6 +93,19 @@ void seats_retry(struct engine *engine)
     }
 }
 
+/* Whose process has ended meanwhile has no thread any more, and the engine says so. */
+void seats_regain(struct engine *engine)
+{
+    uint32_t lost = engine->lost_count;
+    while (engine->lost_count && !engine_exit_thread(engine, engine->lost_seats[engine->lost_count - 1]))
+        engine->free_seats[engine->free_count++] = engine->lost_seats[--engine->lost_count];
+    if (engine->lost_count == lost)
+        return;
+    log_line("%s: %u lost seats are back", engine->device, lost - engine->lost_count);
+    settle(engine, NULL);
+    seats_retry(engine);
+}
+
 void seats_refuse(struct engine *engine)
 {
     struct thread *thread;
@@ -99,9 +118,9 @@ void seat_return(struct thread *thread)
     struct engine *engine = thread->process->engine;
     if (thread->seat == NO_SEAT)
         return;
-    /* Without memory the engine keeps the thread, and the seat with it: it isn't lent again. */
+    /* Without memory the engine keeps the thread, and the seat with it. */
     if (engine_exit_thread(engine, thread->seat)) {
-        log_line("%s: seat %u is lost", engine->device, thread->seat);
+        lose(engine, thread->seat);
         take_away(thread);
         return;
     }

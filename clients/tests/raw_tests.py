@@ -4,7 +4,7 @@ import subprocess
 import tempfile
 import time
 
-from stage import Stage, expect, open_files, processor_time, resident
+from stage import Stage, expect, open_files, processor_time, resident, tail
 from suite import figures, test
 
 # what a round trip may take, in microseconds
@@ -130,11 +130,13 @@ def full(build):
 
 @test("raw short of memory")
 def short_of_memory(build):
-    """A daemon whose clients the kernel has no memory for tries again each second, and does nothing meanwhile."""
+    """A daemon whose clients the kernel has no memory for tries again each second, and does nothing meanwhile; seats that were lost
+    for want of memory are lent again."""
     with Stage(build, journal=DEVICE, daemon=build.short, daemon_environment={"SHORT_OF_MEMORY": "1"}) as stage:
         told = stage.run([build.raw("seats")])
         used = processor_time(stage.daemon.pid)
         expect(used <= 1, f"the daemon used {used} s of processor time")
+        expect("lost seats are back" in stage.daemon.printed(), f"the daemon: {tail(stage.daemon.printed())}")
     return f"{told}, {used} s of processor time; lawful, {stage.entries} steps"
 
 

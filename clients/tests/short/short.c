@@ -1,7 +1,7 @@
 /*
  * short.c: goes into a daemon of the tests, whose histories can take no more after so many steps: what the engine answers
  * after 4294967295. The linker has the daemon call these in the library's place. With SHORT_OF_MEMORY in its environment the
- * kernel has no memory for its clients in the first seconds.
+ * kernel has no memory for its clients in the first seconds, and the engine none to end the first threads.
  */
 #include <errno.h>
 #include <stdlib.h>
@@ -12,6 +12,7 @@
 
 #define STEPS 4000
 #define SECONDS 3
+#define THREADS 29
 
 /* The library's function of this name, and what the daemon calls. */
 #define SHORT(name, parameters, ...) \
@@ -31,8 +32,18 @@ SHORT(command, (hullpippin_live *live, uint32_t seat, const uint8_t *command, si
                 const uint8_t *offsets, size_t offsets_size, hullpippin_answer *answer), live, seat, command, size, data, data_size,
       offsets, offsets_size, answer)
 SHORT(read, (hullpippin_live *live, uint32_t seat, uint32_t limit, hullpippin_answer *answer), live, seat, limit, answer)
-SHORT(exit_thread, (hullpippin_live *live, uint32_t seat, hullpippin_answer *answer), live, seat, answer)
 SHORT(exit_process, (hullpippin_live *live, uint32_t seat, hullpippin_answer *answer), live, seat, answer)
+
+/* Those of the daemon's own seat end as they should. */
+uint32_t __real_hullpippin_live_exit_thread(hullpippin_live *live, uint32_t seat, hullpippin_answer *answer);
+uint32_t __wrap_hullpippin_live_exit_thread(hullpippin_live *live, uint32_t seat, hullpippin_answer *answer);
+uint32_t __wrap_hullpippin_live_exit_thread(hullpippin_live *live, uint32_t seat, hullpippin_answer *answer)
+{
+    static int kept;
+    if (getenv("SHORT_OF_MEMORY") && seat && kept < THREADS && ++kept)
+        return HULLPIPPIN_NO_MEMORY;
+    return hullpippin_live_len(live) < STEPS ? __real_hullpippin_live_exit_thread(live, seat, answer) : HULLPIPPIN_HISTORY_FULL;
+}
 
 int __real_accept4(int fd, struct sockaddr *address, socklen_t *size, int flags);
 int __wrap_accept4(int fd, struct sockaddr *address, socklen_t *size, int flags);
