@@ -144,6 +144,7 @@ struct packing {
     struct device *device;
     struct page *page;
     uint32_t stream_size;
+    bool is_over; /* its last command is cut short: what follows is none */
     uint64_t area_size;
     uint32_t fd_count;
     int fds[DESCRIPTORS_MAX];

@@ -34,7 +34,8 @@ static void take_arrays(struct device *device, const uint8_t *free_command, stru
 }
 
 /* Puts one command at the end of the stream: its size, or 0 where it has to wait for the next stream. A command that
-   is cut short, or longer than any, goes as it is: the daemon says what the kernel would. */
+   is cut short, or longer than any, is the last, and goes without its payload: the daemon says what the kernel would. What
+   follows is no command, and may be anything. */
 static uint32_t pack_command(struct packing *packing, const uint8_t *command, uint64_t left)
 {
     uint8_t *to = packing->page->stream + packing->stream_size;
@@ -46,6 +47,7 @@ static uint32_t pack_command(struct packing *packing, const uint8_t *command, ui
         size = left < sizeof code ? left : sizeof code;
     if (size > room)
         return 0;
+    packing->is_over = !is_whole;
     memcpy(to, command, size);
     if (is_whole && is_call(code) && !pack_call(packing, to + sizeof code, _IOC_SIZE(code)))
         return 0;
@@ -59,7 +61,7 @@ static uint32_t pack_command(struct packing *packing, const uint8_t *command, ui
 static uint64_t pack_stream(struct packing *packing, const uint8_t *commands, uint64_t size)
 {
     uint64_t done = 0;
-    while (done < size) {
+    while (done < size && !packing->is_over) {
         uint32_t packed = pack_command(packing, commands + done, size - done);
         if (!packed)
             break;
@@ -150,7 +152,8 @@ int write_read(struct link *link, struct binder_write_read *what)
         struct packing packing = {.device = link->device, .page = link->page};
         struct page_answer answer;
         uint64_t left = what->write_size > what->write_consumed && !is_refused ? what->write_size - what->write_consumed : 0;
-        is_last = pack_stream(&packing, (const uint8_t *)(uintptr_t)what->write_buffer + what->write_consumed, left) == left;
+        uint64_t packed = pack_stream(&packing, (const uint8_t *)(uintptr_t)what->write_buffer + what->write_consumed, left);
+        is_last = packed == left || packing.is_over;
         uint32_t room = is_last ? room_for_returns(what) : 0;
         if (!packing.stream_size && !room)
             break;

@@ -51,6 +51,23 @@ static void refuses_streams(struct client *client)
     works(client);
 }
 
+/* What there is of a command that is cut short looks like another one, whose parcel isn't there. The command before is run. */
+static void refuses_cut_streams(struct client *client)
+{
+    const struct {
+        uint32_t first, cut, inner;
+        struct binder_transaction_data record;
+    } __attribute__((packed)) stream = {BC_ENTER_LOOPER, BC_TRANSACTION_SG, BC_TRANSACTION, {.data_size = 64, .data.ptr.buffer = 16}};
+    struct binder_write_read both = {.write_size = sizeof stream, .write_buffer = (uintptr_t)&stream};
+    CHECK(looper_flush(&client->looper), "can't write");
+    CHECK(ioctl(client->binder.fd, BINDER_WRITE_READ, &both) && errno == EINVAL, "a command that is cut short was taken");
+    CHECK(both.write_consumed == sizeof stream.first, "%llu bytes were consumed", (unsigned long long)both.write_consumed);
+    works(client);
+    for (size_t size = sizeof stream.first + 1; size < sizeof stream; size++)
+        CHECK(written(client, &stream, size) == EINVAL, "a command that has %zu bytes was taken", size - sizeof stream.first);
+    works(client);
+}
+
 static void refuses_requests(struct client *client)
 {
     int fd = client->binder.fd, more = 1;
@@ -91,6 +108,7 @@ int main(void)
     raw_open(&client, WINDOW, NULL);
     refuses_calls(&client);
     refuses_streams(&client);
+    refuses_cut_streams(&client);
     refuses_requests(&client);
     maps_whole_pages();
     waits_as_told();
