@@ -1,7 +1,7 @@
 -- What is kept of those that pass, when the list changes.
 use Rattle.std.proofs.Common.{◌≡◌, ℕ, zero, suc, ◌+◌, ◌-◌, ◌%◌, ◌^◌, ◌<◌, ◌≤◌, Bool, true, false, cond, List, [], ◌∷◌, ◌++◌, Option, Some, filter, length, get_or, refl, ap, sym, subst, ◌∙◌, arith}
-use Rattle.std.specs.Prelude.{sum_by, nat_le}
-use Rattle.std.specs.List.{remove}
+use Rattle.std.specs.Prelude.{sum_by, nat_le, is_some, ◌||◌}
+use Rattle.std.specs.List.{remove, list_any}
 use Rattle.std.proofs.lemmas.List.Elements.{filter-append}
 use Rattle.std.proofs.lemmas.List.Sums.{sum_by-cons, sum_by_push, length-filter, count_by-le-length}
 use Rattle.std.proofs.lemmas.Bool.{leb-true}
@@ -28,6 +28,15 @@ same-group [] [] e f = refl
 same-group [] (z ∷ zs) e f = absurd (omega (arith, e))
 same-group (y ∷ ys) [] e f = absurd (omega (arith, e))
 same-group (y ∷ ys) (z ∷ zs) e f = same-kept _ _ _ _ e (ap (λ n. n % 2 ^ 32) f)
+
+-- something is kept where there are any
+pub any-kept : (q : DeathNotification → Bool) (xs : List DeathNotification) → is_some (group (filter q xs)) ≡ list_any q xs
+any-kept q [] = refl
+any-kept q (x ∷ xs) = at (q x) (any-kept q xs)
+  where
+    at : (b : Bool) → is_some (group (filter q xs)) ≡ list_any q xs → is_some (group (cond b (x ∷ filter q xs) (filter q xs))) ≡ (b || list_any q xs)
+    at true rest = refl
+    at false rest = rest
 
 -- ---- one more, after the others
 

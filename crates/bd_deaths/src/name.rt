@@ -66,6 +66,14 @@ impl DeathTable {
         self.uncleared(p, o).is_some()
     }
 
+    /// Whether any notification is on the name, also a cleared one. Looks at none.
+    pub fn has_on(&self, p: u32, o: ObjectId) -> bool
+        ensures { (l : List declared.DeathNotification) → DeathsAre self.now l
+            → result ≡ list_any (λ x. local.at_name p o x.process x.object) l }
+    {
+        self.list.has_key(name_key(p, o))
+    }
+
     /// Whether the notification that was made there is on the name.
     pub fn is_on(&self, p: u32, o: ObjectId, made: u32) -> bool
         ensures { (l : List declared.DeathNotification) → DeathsAre self.now l

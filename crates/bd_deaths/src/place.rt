@@ -1,6 +1,7 @@
 //! Where the notifications lie that are looked for.
 
 ghost use Rattle.std.specs.Prelude.{◌≡◌, ◌==◌, ◌≤◌, ◌+◌, ℕ, not, length, vec_len, List, IfSome};
+ghost use Rattle.std.specs.List.{list_any};
 ghost use Rattle.bd_space.specs.Clearing as clearing;
 ghost use Rattle.bd_space.specs.Deaths as deaths_of;
 ghost use Rattle.bd_space.specs.declared.space.DeathNotification as declared;
@@ -44,6 +45,13 @@ impl DeathList {
         } else {
             0..self.slots.len()
         }
+    }
+
+    /// Whether any has this key.
+    pub(crate) fn has_key(&self, key: Key) -> bool
+        ensures { (l : List declared.DeathNotification) → AreIn self.now l → result ≡ list_any (keys.has key) l }
+    {
+        self.sharing.at(key).is_some()
     }
 
     /// Between which slots those with this key lie that haven't gone, if there is at most one.

@@ -18,7 +18,7 @@ use bd_space::{Actor, ObjectId};
 impl Tables {
     // The reference comes in that the process asks for, and a name with it, and what follows at the object; or nothing,
     // where a number past the limit would be needed.
-    fn add_asked(&mut self, p: u32, o: ObjectId, strong: bool) -> Result<(), Why>
+    fn add_asked(&mut self, p: u32, n: u32, o: ObjectId, strong: bool) -> Result<(), Why>
         requires references { 1 ≤ reference_room self.old.objects }
         requires names { 1 ≤ name_room self.old.objects }
         requires works { 1 ≤ work_room self.old.calls }
@@ -28,7 +28,7 @@ impl Tables {
         // There is room by then, so that nothing else is a reason.
         ensures limit { IfErr result (λ why. why ≡ Why.HistoryFull) }
     {
-        match self.objects.ask(self.steps, self.manager, p, o, strong) {
+        match self.objects.ask(self.steps, self.manager, p, n, o, strong) {
             Ok(()) => {
                 self.follow_objects(&[o]);
                 Ok(())
@@ -56,7 +56,7 @@ impl Tables {
         if self.reserve(room, 0).is_err() {
             return Err(Why::NoMemory);
         }
-        match self.add_asked(a.process.made, o, strong) {
+        match self.add_asked(a.process.made, n, o, strong) {
             Ok(()) => Ok(Plain::Accepted),
             Err(why) => Err(why),
         }

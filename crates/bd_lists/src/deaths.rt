@@ -143,6 +143,13 @@ impl DeathList {
         self.deaths.iter().any(|x| is_at(p, o, x) && !x.cleared)
     }
 
+    /// Whether any notification is on the name, also a cleared one.
+    pub fn has_on(&self, p: u32, o: ObjectId) -> bool
+        ensures { result ≡ list_any (λ x. local.at_name p o x.process x.object) self.now.deaths.items }
+    {
+        self.deaths.iter().any(|x| is_at(p, o, x))
+    }
+
     /// Whether the notification that was made there is on the name.
     pub fn is_on(&self, p: u32, o: ObjectId, made: u32) -> bool
         ensures { result

@@ -1,7 +1,8 @@
 -- The names that come with references, given one after the other: an object that a process comes to refer to is to be
 -- named unless it is its own.
-use Rattle.std.proofs.Common.{◌≡◌, ℕ, zero, suc, ◌+◌, ◌<◌, Bool, true, false, not, ◌&&◌, ◌||◌, if◌then◌else◌, List, [], ◌∷◌, ◌++◌, Option, take, drop, length, get_or, fold, filter, map, refl, ap, sym, ◌∙◌, subst, append-nil, arith}
-use Rattle.std.specs.Prelude.{◌==◌, nat_lt, is_some}
+use Rattle.std.proofs.Common.{◌≡◌, ℕ, zero, suc, ◌+◌, ◌<◌, Bool, true, false, not, ◌&&◌, ◌||◌, if◌then◌else◌, cond, List, [], ◌∷◌, ◌++◌, Option, take, drop, length, get_or, fold, filter, map, refl, ap, sym, ◌∙◌, subst, append-nil, arith}
+use Rattle.std.specs.Prelude.{◌==◌, nat_lt, is_some, Some, None, find, option_map}
+use Rattle.std.specs.Option.{option_eq}
 use Rattle.std.proofs.lemmas.Bool.{lt-ltb, or_right}
 use Rattle.std.proofs.lemmas.List.Folds.{fold-map, list_any-append}
 use Rattle.std.proofs.lemmas.List.Sums.{fold_more}
@@ -14,7 +15,8 @@ use Rattle.bd_space.specs.declared.space.Reference.{Reference}
 use Rattle.bd_space.specs.Words.{same}
 use Rattle.bd_space.specs.References.{owned_in}
 use Rattle.bd_space.specs.Parcels.{object_of_item}
-use Rattle.bd_space.specs.Names.{is_named_in, is_object, number_in, with_name, with_names, has_number_past_limit}
+use Rattle.bd_space.specs.Names.{is_named_in, is_object, named_in, number_in, with_name, with_names, has_number_past_limit}
+use Rattle.bd_space.proofs.Identities.{same-eq, same-self}
 use Rattle.bd_names.specs.Numbers.{IsFull, new_number}
 use Rattle.bd_objects.specs.Naming.{with_name_unless, with_other_name, is_referred, AreReferred}
 use Rattle.bd_objects.specs.Numbers.{IsPastLimit}
@@ -23,6 +25,29 @@ by-cases : {A : Type 0} (own some : Bool) (xs ys : A) → (if own then xs else (
 by-cases true some xs ys = refl
 by-cases false true xs ys = refl
 by-cases false false xs ys = refl
+
+-- what a number names has a number
+named-has : (p n : ℕ) (o : ObjectId) (ns : List Name) → named_in ns p n ≡ Some o → is_some (number_in ns p o) ≡ true
+named-has p n o [] h = absurd (cc)
+named-has p n o (m ∷ ns) h = at (m.process == p) (m.number == n) (same m.object o) refl h (named-has p n o ns)
+  where
+    at : (a b c : Bool) → same m.object o ≡ c → option_map (λ (x : Name). x.object) (cond (a && b) (Some m) (find (λ (x : Name). (x.process == p) && (x.number == n)) ns)) ≡ Some o
+        → (named_in ns p n ≡ Some o → is_some (number_in ns p o) ≡ true)
+        → is_some (option_map (λ (x : Name). x.number) (cond (a && c) (Some m) (find (λ (x : Name). (x.process == p) && same x.object o) ns))) ≡ true
+    at true true true f h rest = refl
+    at true true false f h rest = let is : m.object ≡ o = cc in let known = subst (λ x. same x o ≡ true) (sym is) (same-self o) in absurd (cc)
+    at true false true f h rest = refl
+    at true false false f h rest = rest h
+    at false b c f h rest = rest h
+
+pub is-named : (x : Option ObjectId) (o : ObjectId) → option_eq same x (Some o) ≡ true → x ≡ Some o
+is-named None o h = absurd (cc)
+is-named (Some y) o h = ap (λ z. Some z) (same-eq y o h)
+
+-- so none is given
+pub known-stays : (own : Bool) (manager : Option ObjectId) (p n : ℕ) (ns : List Name) (o : ObjectId) → named_in ns p n ≡ Some o → with_name_unless own manager p ns o ≡ ns
+known-stays true manager p n ns o h = refl
+known-stays false manager p n ns o h = ap (λ b. cond b ns (ns ++ record { process = p; number = new_number (is_object manager o) p ns; object = o } ∷ [])) (named-has p n o ns h)
 
 module _ (manager : Option ObjectId) (objects : List Object) (p : ℕ) where
   abbrev other : List Name → ObjectId → List Name

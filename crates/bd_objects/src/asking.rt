@@ -6,7 +6,7 @@ ghost use Rattle.bd_space.specs.Asking as asking;
 ghost use Rattle.bd_space.specs.{Names.{named_in as named_in_list}, declared.space.Name.{Name}};
 ghost use Rattle.bd_names.specs.Stands.{NamesAre};
 
-use crate::naming::give_name;
+use crate::naming::give_asked_name;
 use crate::table::ObjectTable;
 use bd_names::{NameTable, NumbersFull};
 use bd_space::{Holder, Identity, Object, ObjectId, Reference};
@@ -52,13 +52,15 @@ impl ObjectTable {
     }
 
     /// The reference that the process asks for, with a name for the object if it has none. All of it, or nothing where
-    /// a number past the limit would be needed. Takes the context manager's object.
+    /// a number past the limit would be needed. Takes the context manager's object, and the number by which the process asked:
+    /// whichever that is, the same is done, but sooner where it is the object's.
     #[tactic(auto, unfolding(bd_space::specs::Asking::ask, bd_space::specs::Names::assign_numbers, bd_space::specs::Names::names_go, crate::specs::Room::rooms))]
     pub fn ask(
         &mut self,
         place: u32,
         manager: Option<ObjectId>,
         p: u32,
+        n: u32,
         o: ObjectId,
         strong: bool,
     ) -> Result<(), NumbersFull>
@@ -71,9 +73,7 @@ impl ObjectTable {
             (λ s. asking.ask s p o strong)) }
         ensures uses { Uses self.old self.new (record nothing { references = 1; names = 1 }) }
     {
-        let own = self.nodes.owns(p, o);
-        give_name(&mut self.names, manager, own, p, o)?;
-        self.names.settle();
+        give_asked_name(&mut self.names, manager, &self.nodes, p, n, o)?;
         self.references.push(Reference {
             id: Identity { place, index: 0 },
             object: o,

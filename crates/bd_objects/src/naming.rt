@@ -47,6 +47,31 @@ pub(crate) fn give_name(
     names.give(is_object(manager, o), p, o)
 }
 
+/// The same for a process that asked for the object by a number: where that is the object's already, nothing else is looked at.
+pub(crate) fn give_asked_name(
+    names: &mut NameTable,
+    manager: Option<ObjectId>,
+    nodes: &NodeTable,
+    p: u32,
+    n: u32,
+    o: ObjectId,
+) -> Result<(), NumbersFull>
+    requires { 1 ≤ name_room names.old }
+    ensures ok { OnOk result ((objects : List Object) (l : List Name) → NodesAre nodes.now objects
+        → NamesAre names.old l → NamesAre names.new (with_other_name manager objects p l o)) }
+    ensures err { OnErr result ((l : List Name) → NamesAre names.old l → NamesAre names.new l) }
+    ensures other { OnErr result ((objects : List Object) → NodesAre nodes.now objects → refer.owned_in objects p o ≡ false) }
+    ensures full { OnErr result ((l : List Name) → NamesAre names.old l → IsFull (names_of.is_object manager o) p l o) }
+    ensures uses { Uses names.old names.new 1 }
+{
+    if names.named(p, n) == Some(o) {
+        return Ok(());
+    }
+    give_name(names, manager, nodes.owns(p, o), p, o)?;
+    names.settle();
+    Ok(())
+}
+
 fn has_own(made: &[Object], p: u32) -> bool
     ensures { result ≡ list_any (λ x. x.owner == p) made.now }
 {

@@ -51,6 +51,10 @@ impl ObjectTable {
     pub fn has_lost_death(&self, p: u32, o: ObjectId) -> bool
         ensures { Tells (StandsFor self.now) result (λ s. list_any (is_lost s.names p o) s.deaths) }
     {
+        // Few names have a notification.
+        if !self.deaths.has_on(p, o) {
+            return false;
+        }
         !self.names.has(p, o) && self.deaths.has_uncleared(p, o)
     }
 

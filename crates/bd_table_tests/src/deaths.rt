@@ -155,6 +155,7 @@ impl Pair for Both {
         let (o, cookie) = (object_of(n % OBJECTS), u64::from(n % COOKIES));
         alike!(judge, i, self.uncleared(p, o));
         alike!(judge, i, self.only_uncleared(p, o));
+        alike!(judge, i, self.has_on(p, o));
         alike!(judge, i, self.has_uncleared(p, o));
         alike!(judge, i, self.told(p, cookie));
         let o = object_of(judge.calls % OBJECTS);

@@ -6,7 +6,7 @@ use Rattle.bd_space.specs.Asking.{ask}
 use Rattle.bd_references.specs.Stands.{ReferencesAre}
 use Rattle.bd_names.specs.Stands.{NamesAre}
 use Rattle.bd_names.specs.Numbers.{IsFull}
-use Rattle.bd_objects.specs.Naming.{with_name_unless, with_other_name}
+use Rattle.bd_objects.specs.Naming.{with_other_name}
 use Rattle.bd_objects.specs.Numbers.{IsPastLimit}
 use Rattle.bd_objects.proofs.Giving.{same-name, past-one}
 use Rattle.bd_objects.proofs.Referring.{referred-asked}
@@ -22,29 +22,28 @@ returns-clause-ok c = λ s h at.
     record {
       objects_are = h.objects_are;
       references_are = subst (λ n. ReferencesAre c.push.new.self (s.references ++ reference_of n 0 o c.args.strong (Asked p) ∷ [])) (sym at.0) (c.push.ensures.stands s.references h.references_are);
-      names_are = subst (λ ns. NamesAre c.settle.new.self ns)
-          (ap (λ own. with_name_unless own c.args.manager p s.names o) (c.owns-own.ensures s.objects h.objects_are)
-          ∙ ap (λ m. with_other_name m s.objects p s.names o) (sym at.1)
+      names_are = subst (λ ns. NamesAre c.give_asked_name.new.names ns)
+          (ap (λ m. with_other_name m s.objects p s.names o) (sym at.1)
           ∙ same-name s.manager s.objects p refs s.names o (referred-asked s.steps p o c.args.strong s.references))
-          (c.settle.ensures.stands s.names _ (c.in_ok-give_name.ensures.ok s.names s.names h.names_are));
+          (c.in_ok-give_asked_name.ensures.ok s.objects s.names h.objects_are h.names_are);
       deaths_are = h.deaths_are;
     }
 
-pub returns-in_err-give_name-clause-full : goal.returns-in_err-give_name-clause-full
+pub returns-in_err-give_asked_name-clause-full : goal.returns-in_err-give_asked_name-clause-full
 unfolding ask assign_numbers names_go
-returns-in_err-give_name-clause-full c = on-err c.from_residual.result (λ s h at.
+returns-in_err-give_asked_name-clause-full c = on-err c.from_residual.result (λ s h at.
     let p = c.args.p in
     let o = c.args.o in
     let refs = s.references ++ reference_of s.steps 0 o c.args.strong (Asked p) ∷ [] in
     let referred = referred-asked s.steps p o c.args.strong s.references in
-    let full = subst (λ m. IsFull (is_object m o) p s.names o) (sym at.1) (c.in_err-give_name.ensures.full s.names s.names h.names_are) in
+    let full = subst (λ m. IsFull (is_object m o) p s.names o) (sym at.1) (c.in_err-give_asked_name.ensures.full s.names h.names_are) in
     subst (λ ns. IsPastLimit s.objects refs ns) (same-name s.manager s.objects p refs s.names o referred)
-    (past-one s.manager s.objects p refs s.names o (sym (c.owns-own.ensures s.objects h.objects_are) ∙ c.in_err-give_name.ensures.other) referred full))
+    (past-one s.manager s.objects p refs s.names o (c.in_err-give_asked_name.ensures.other s.objects h.objects_are) referred full))
 
-pub returns-in_err-give_name-clause-err : goal.returns-in_err-give_name-clause-err
-returns-in_err-give_name-clause-err c = on-err c.from_residual.result (λ s h. record {
+pub returns-in_err-give_asked_name-clause-err : goal.returns-in_err-give_asked_name-clause-err
+returns-in_err-give_asked_name-clause-err c = on-err c.from_residual.result (λ s h. record {
   objects_are = h.objects_are;
   references_are = h.references_are;
-  names_are = c.in_err-give_name.ensures.err s.names s.names h.names_are;
+  names_are = c.in_err-give_asked_name.ensures.err s.names h.names_are;
   deaths_are = h.deaths_are;
 })

@@ -1,6 +1,9 @@
-use Rattle.std.proofs.Common.{not, ap, ◌∙◌}
-use Rattle.bd_objects.proofs.AtName.{lost-gone, lost-none}
+use Rattle.std.proofs.Common.{not, ap, sym, ◌∙◌}
+use Rattle.bd_objects.proofs.AtName.{lost-gone, lost-none, none-lost}
 use Rattle.bd_objects.proofs.table.ObjectTable.has_lost_death.Goals as goal
+
+pub returns-then-not-has_on : goal.returns-then-not-has_on
+returns-then-not-has_on c = λ s h. none-lost s.names c.args.p c.args.o s.deaths (sym (c.has_on.ensures s.deaths h.deaths_are) ∙ c.if-not-has_on.true)
 
 pub returns-then-not-has : goal.returns-then-not-has
 returns-then-not-has c = λ s h.
