@@ -386,6 +386,7 @@ void listener_end(struct daemon *daemon);
 struct device {
     char name[DEVICE_NAME_ROOM];
     const char *journal; /* NULL: none */
+    int journal_lock;    /* by which no other daemon writes it; -1: none */
     struct engine *engine; /* NULL: nobody has opened it yet */
 };
 

@@ -7,6 +7,7 @@
 #include <errno.h>
 #include <fcntl.h>
 #include <string.h>
+#include <sys/file.h>
 #include <sys/stat.h>
 
 /* As many as a journal may have. */
@@ -28,6 +29,7 @@ bool devices_add(struct daemon *daemon, const char *names)
             return false;
         struct device *device = &daemon->devices[daemon->device_count++];
         memcpy(device->name, names, length);
+        device->journal_lock = -1;
         names += length + (names[length] == ',');
     }
     return daemon->device_count > 0;
@@ -51,33 +53,53 @@ static bool begin(struct daemon *daemon, struct device *device)
 }
 
 /* Makes sure that a journal can be written, and tells which file it is; what is in it stays. */
-static bool look_at(const char *path, struct stat *file)
+static bool look_at(struct device *device, struct stat *file)
 {
-    int fd = open(path, O_WRONLY | O_CREAT | O_CLOEXEC, 0666);
-    bool is_there = fd >= 0 && fstat(fd, file) == 0;
+    device->journal_lock = open(device->journal, O_WRONLY | O_CREAT | O_CLOEXEC, 0666);
+    bool is_there = device->journal_lock >= 0 && fstat(device->journal_lock, file) == 0;
     if (!is_there)
-        log_line("%s: %s", path, strerror(errno));
-    descriptor_close(&fd);
+        log_line("%s: %s", device->journal, strerror(errno));
     return is_there;
 }
 
+static bool is_among(const struct stat *file, const struct stat *files, uint32_t count)
+{
+    for (uint32_t i = 0; i < count; i++)
+        if (files[i].st_dev == file->st_dev && files[i].st_ino == file->st_ino)
+            return true;
+    return false;
+}
+
+/* No other daemon writes it from now on. A file system without locks can't say so. */
+static bool lock(const struct device *device)
+{
+    if (flock(device->journal_lock, LOCK_EX | LOCK_NB) == 0 || errno != EWOULDBLOCK)
+        return true;
+    log_line("%s: another daemon writes this journal", device->journal);
+    return false;
+}
+
 /* Before one journal is written anew, all have to be files of their own, by whatever names. */
-static bool look_at_journals(const struct daemon *daemon)
+static bool look_at_journals(struct daemon *daemon)
 {
     struct stat files[DEVICES_MAX];
     uint32_t count = 0;
     for (uint32_t i = 0; i < daemon->device_count; i++) {
-        const char *path = daemon->devices[i].journal;
-        if (!path)
+        struct device *device = &daemon->devices[i];
+        if (!device->journal)
             continue;
-        if (!look_at(path, &files[count]))
+        if (!look_at(device, &files[count]))
             return false;
-        for (uint32_t other = 0; other < count && S_ISREG(files[count].st_mode); other++) {
-            if (files[other].st_dev == files[count].st_dev && files[other].st_ino == files[count].st_ino) {
-                log_line("%s: two devices can't have one journal", path);
-                return false;
-            }
+        if (!S_ISREG(files[count].st_mode)) {
+            descriptor_close(&device->journal_lock);
+            continue;
         }
+        if (is_among(&files[count], files, count)) {
+            log_line("%s: two devices can't have one journal", device->journal);
+            return false;
+        }
+        if (!lock(device))
+            return false;
         count++;
     }
     return true;
@@ -124,11 +146,12 @@ void devices_end(struct daemon *daemon)
 {
     end_all(&daemon->strangers);
     for (uint32_t i = 0; i < daemon->device_count; i++) {
-        struct engine *engine = daemon->devices[i].engine;
-        if (!engine)
-            continue;
-        end_all(&engine->processes);
-        engine_free(engine);
-        daemon->devices[i].engine = NULL;
+        struct device *device = &daemon->devices[i];
+        if (device->engine) {
+            end_all(&device->engine->processes);
+            engine_free(device->engine);
+            device->engine = NULL;
+        }
+        descriptor_close(&device->journal_lock);
     }
 }

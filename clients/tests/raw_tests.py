@@ -158,10 +158,13 @@ def refused_beginnings(build):
         refuses(build, ["--socket", taken, "--journal", old], "Address already in use")
         refuses(build, ["--socket", f"{folder}/socket", "--journal", old, "--journal", f"/dev/hwbinder={again}"], "two devices")
         refuses(build, ["--socket", f"{folder}/socket", "--journal", old, "--journal", f"/dev/hwbinder={folder}/none/new"], "No such file")
+        with Stage(build, journal=DEVICE) as stage:  # whose journal is judged, so that it wasn't written anew either
+            stage.run([build.raw("oneway")], 60)
+            refuses(build, ["--socket", f"{folder}/socket", "--journal", stage.journal], "another daemon writes")
         with open(old, encoding="ascii") as file:
             expect(file.read() == "old", "the old journal is gone")
         expect(not os.path.exists(f"{folder}/socket"), "a daemon that hasn't begun left its socket")
-    return "where the address is taken, a journal would be two devices', or one can't be had, the old journal stays"
+    return "where the address is taken, a journal would be two devices' or is another daemon's, or one can't be had, the old journal stays"
 
 
 @test("raw fuzz")
