@@ -92,6 +92,18 @@ def write_starter(folder, tool):
     os.chmod(f"{folder}/bin/{tool}", 0o755)
 
 
+def without_links(root):
+    """Puts the file itself in the place of each link, as `rt ci` takes no checkout that has links; links to folders and to nothing go."""
+    for folder, folders, files in os.walk(root):
+        for path in (os.path.join(folder, name) for name in folders + files):
+            if not os.path.islink(path):
+                continue
+            file = os.path.realpath(path)
+            os.unlink(path)
+            if os.path.isfile(file) and file.startswith(f"{root}/"):
+                os.link(file, path)
+
+
 def fetch(folder):
     """Fetches the packages and unpacks them into `folder`/root, in place of what isn't whole there."""
     shutil.rmtree(folder, ignore_errors=True)
@@ -102,6 +114,7 @@ def fetch(folder):
     for package in sorted(glob.glob(f"{folder}/apt/cache/archives/*.deb")):
         if subprocess.run(["dpkg-deb", "-x", package, f"{folder}/root"], stdin=subprocess.DEVNULL).returncode:
             raise Missing(f"{os.path.basename(package)} can't be unpacked")
+    without_links(os.path.realpath(f"{folder}/root"))
     shutil.rmtree(f"{folder}/apt")
     for tool in glob.glob(f"{folder}/root/usr/bin/binder-*"):
         write_starter(folder, os.path.basename(tool))
