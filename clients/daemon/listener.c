@@ -14,16 +14,23 @@
 
 #define REST_SECONDS 1
 
+/* Whether the client that was to be taken has gone, or there was none. */
+static bool has_gone(int error)
+{
+    return error == EAGAIN || error == EINTR || error == ECONNABORTED;
+}
+
 /* Where no descriptor is left, the spare one is let go of, so that the client can be taken and sent away. False where it can't. */
 static bool send_away(struct listener *listener)
 {
     close(listener->spare);
     int fd = accept4(listener->watch.fd, NULL, NULL, SOCK_CLOEXEC);
+    bool is_away = fd >= 0 || has_gone(errno);
     if (fd >= 0)
         close(fd);
     listener->spare = open("/dev/null", O_RDONLY | O_CLOEXEC);
     log_event("no descriptor is left for another client");
-    return fd >= 0;
+    return is_away;
 }
 
 /* A client waits that the kernel has no memory for, and the loop would be told of it without an end. A busy daemon is never idle, so
@@ -45,12 +52,6 @@ static void rest_ready(struct watch *watch, uint32_t events)
         loop_change(&daemon->loop, &daemon->listener.watch, EPOLLIN);
 }
 
-/* Whether the client that was to be taken has gone, or there was none. */
-static bool has_gone(int error)
-{
-    return error == EAGAIN || error == EINTR || error == ECONNABORTED;
-}
-
 static void listener_ready(struct watch *watch, uint32_t events)
 {
     struct daemon *daemon = container_of(watch, struct daemon, listener.watch);
@@ -60,9 +61,10 @@ static void listener_ready(struct watch *watch, uint32_t events)
         process_accept(daemon, fd);
         return;
     }
-    bool is_away = (errno == EMFILE || errno == ENFILE) && send_away(&daemon->listener);
-    if (!is_away && !has_gone(errno))
-        rest(daemon, errno);
+    int error = errno;
+    bool is_away = has_gone(error) || ((error == EMFILE || error == ENFILE) && send_away(&daemon->listener));
+    if (!is_away)
+        rest(daemon, error);
 }
 
 /* The folder of the user's own address is made where it isn't there. */
