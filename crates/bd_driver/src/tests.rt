@@ -1,15 +1,10 @@
-ghost use Rattle.std.specs.{Prelude.{◌≡◌, IfOk, IfSome, All}, Thread.{IsSync}};
+ghost use Rattle.std.specs.Prelude.{◌≡◌, IfOk, IfSome, All};
 
 use crate::{Driver, Outcome, Page, Seat, Served, Why};
 use bd_space::{Answer, Record, Request};
 use bd_uapi::Fault;
 use std::alloc::{AllocError, Global};
 use std::test::Fail;
-use std::thread;
-use std::thread::Threads;
-
-/// How often a loop tries before it gives up.
-const TURNS: u32 = 100000000;
 
 // One step, whatever its answer is.
 fn read() -> Request {
@@ -142,107 +137,6 @@ fn back(driver: &Driver, mut seats: Vec<Seat>, seat: Seat) -> Result<Vec<Seat>, 
     Ok(seats)
 }
 
-// Calls until so many calls are answered.
-fn work(driver: &Driver, mut seat: Seat, calls: u32, turns: u32) -> Seat
-    requires { seat.table ≡ driver.now.table }
-    ensures { result.table ≡ driver.now.table }
-{
-    let mut done = 0;
-    for turn in 0..turns {
-        if done >= calls {
-            break;
-        }
-        match call(driver, &mut seat, read()) {
-            Outcome::Done { .. } => done += 1,
-            _ => thread::yield_now(),
-        }
-    }
-    seat
-}
-
-fn all_work<R: Threads + Sync>(
-    rt: &R,
-    driver: &Driver,
-    seats: Vec<Seat>,
-    calls: u32,
-) -> Result<Vec<Seat>, AllocError>
-    requires { All (λ s. s.table ≡ driver.now.table) seats.items }
-    ensures { IfOk result (λ v. All (λ s. s.table ≡ driver.now.table) v.items) }
-{
-    thread::map_vec(
-        rt,
-        seats,
-        &|seat: Seat| -> Seat
-            requires { seat.table ≡ driver.now.table }
-            ensures { result.table ≡ driver.entry.now.table }
-        { work(driver, seat, calls, TURNS) },
-    )
-}
-
-// So many threads, whose calls all stand in the record.
-fn threads<R: Threads + Sync>(rt: &R, alloc: Global, count: u32, calls: u32) -> Result<bool, Fail> {
-    let (driver, seats) = seated(alloc, count)?;
-    let seats = all_work(rt, &driver, seats, calls)?;
-    let record = driver.finish(seats);
-    Ok((0..count).all(|seat| entries_of(&record, seat) == calls as usize))
-}
-
-#[test]
-fn two_threads(rt: HostRuntime) -> Result<(), Fail> {
-    assert!(rt; threads(&rt, rt.alloc(), 2, 200)?);
-    Ok(())
-}
-
-#[test]
-fn eight_threads(rt: HostRuntime) -> Result<(), Fail> {
-    assert!(rt; threads(&rt, rt.alloc(), 8, 50)?);
-    Ok(())
-}
-
-// No driver has so many seats.
-fn is_out_of_limits(alloc: Global, seats: u32) -> bool {
-    match Driver::new(alloc, seats) {
-        Err(Fault::SeatCount) => true,
-        _ => false,
-    }
-}
-
-#[test]
-fn seats_out_of_limits(rt: HostRuntime) -> Result<(), Fail> {
-    assert!(rt; is_out_of_limits(rt.alloc(), 0));
-    assert!(rt; is_out_of_limits(rt.alloc(), 32));
-    let (driver, seats) = seated(rt.alloc(), 31)?;
-    let count = seats.len();
-    let record = driver.finish(seats);
-    assert!(rt; count == 31 && record.seats == 31);
-    Ok(())
-}
-
-// A request that is handed over waits until another seat serves it, and then can't be taken back.
-fn hands_over(driver: &Driver, poster: &mut Seat, other: &mut Seat) -> bool
-    requires { (poster.old.table ≡ driver.now.table) × (other.old.table ≡ driver.now.table) }
-    ensures { (poster.new.table ≡ driver.now.table) × (other.new.table ≡ driver.now.table) }
-{
-    let posted = post(driver, poster, open());
-    let waits = is_handed(collect(driver, poster));
-    let served = serve(driver, other) == Served::Ran { picked: 1 };
-    let kept = is_handed(withdraw(driver, poster));
-    let opened = is_opened(collect(driver, poster));
-    posted && waits && served && kept && opened
-}
-
-// Before anybody serves it, it can.
-fn takes_back(driver: &Driver, poster: &mut Seat, other: &mut Seat) -> bool
-    requires { (poster.old.table ≡ driver.now.table) × (other.old.table ≡ driver.now.table) }
-    ensures { (poster.new.table ≡ driver.now.table) × (other.new.table ≡ driver.now.table) }
-{
-    let posted = post(driver, poster, read());
-    let back = withdraw(driver, poster).map_or(false, |o| is_read_back(o, Why::Withdrawn));
-    let served = serve(driver, other) == Served::Ran { picked: 0 };
-    let page = look(driver, poster);
-    posted && back && served && page.stamp == 1 && page.ready == 0 && !page.taken
-}
-
 // What came of it, once both seats are back.
 fn finished(
     driver: Driver,
@@ -256,114 +150,6 @@ fn finished(
     let seats = back(&driver, seats, first)?;
     let seats = back(&driver, seats, second)?;
     Ok(driver.finish(seats))
-}
-
-#[test]
-fn handed_over(rt: HostRuntime) -> Result<(), Fail> {
-    let (driver, mut seats) = seated(rt.alloc(), 2)?;
-    let mut other = next(&driver, &mut seats)?;
-    let mut poster = next(&driver, &mut seats)?;
-    let handed_over = hands_over(&driver, &mut poster, &mut other);
-    let taken_back = takes_back(&driver, &mut poster, &mut other);
-    assert!(rt; handed_over && taken_back);
-    let record = finished(driver, seats, other, poster)?;
-    assert!(rt; record.seats == 2 && record.entries.as_slice().len() == 1);
-    Ok(())
-}
-
-fn sees(driver: &Driver, seat: &mut Seat, stamp: u32) -> bool
-    requires { seat.old.table ≡ driver.now.table }
-    ensures { seat.new.table ≡ driver.now.table }
-{
-    for turn in 0..TURNS {
-        if look(driver, seat).stamp >= stamp {
-            return true;
-        }
-    }
-    false
-}
-
-fn collects(driver: &Driver, seat: &mut Seat) -> bool
-    requires { seat.old.table ≡ driver.now.table }
-    ensures { seat.new.table ≡ driver.now.table }
-{
-    for turn in 0..TURNS {
-        if is_opened(collect(driver, seat)) {
-            return true;
-        }
-    }
-    false
-}
-
-// Posts, looks until the history has a step, and collects until Done; or has used up its turns.
-fn poster_part(driver: &Driver, mut seat: Seat) -> (Seat, bool)
-    requires { seat.table ≡ driver.now.table }
-    ensures { result.0.table ≡ driver.now.table }
-{
-    let done = post(driver, &mut seat, open())
-        && sees(driver, &mut seat, 1)
-        && collects(driver, &mut seat);
-    (seat, done)
-}
-
-// Serves until it has picked one; or has used up its turns.
-fn server_part(driver: &Driver, mut seat: Seat) -> (Seat, bool)
-    requires { seat.table ≡ driver.now.table }
-    ensures { result.0.table ≡ driver.now.table }
-{
-    for turn in 0..TURNS {
-        if serve(driver, &mut seat) == (Served::Ran { picked: 1 }) {
-            return (seat, true);
-        }
-    }
-    (seat, false)
-}
-
-fn both_parts<R: Threads + Sync>(
-    rt: &R,
-    driver: &Driver,
-    poster: Seat,
-    server: Seat,
-) -> ((Seat, bool), (Seat, bool))
-    requires { (poster.table ≡ driver.now.table) × (server.table ≡ driver.now.table) }
-    ensures { (result.0.0.table ≡ driver.now.table) × (result.1.0.table ≡ driver.now.table) }
-{
-    thread::join(
-        rt,
-        || -> (Seat, bool)
-            requires { poster.table ≡ driver.now.table }
-            ensures { result.0.table ≡ driver.entry.now.table }
-        { poster_part(driver, poster) },
-        || -> (Seat, bool)
-            requires { server.table ≡ driver.now.table }
-            ensures { result.0.table ≡ driver.entry.now.table }
-        { server_part(driver, server) },
-    )
-}
-
-#[test]
-fn handed_over_between_threads(rt: HostRuntime) -> Result<(), Fail> {
-    let (driver, mut seats) = seated(rt.alloc(), 2)?;
-    let server = next(&driver, &mut seats)?;
-    let poster = next(&driver, &mut seats)?;
-    let ((poster, collected), (server, served)) = both_parts(&rt, &driver, poster, server);
-    assert!(rt; collected && served);
-    let record = finished(driver, seats, server, poster)?;
-    assert!(rt; entries_of(&record, 0) == 1 && entries_of(&record, 1) == 0);
-    Ok(())
-}
-
-#[test]
-fn one_thread(rt: HostRuntime) -> Result<(), Fail> {
-    let (driver, mut seats) = seated(rt.alloc(), 2)?;
-    let server = next(&driver, &mut seats)?;
-    let poster = next(&driver, &mut seats)?;
-    let (poster, collected) = poster_part(&driver, poster);
-    let (server, served) = server_part(&driver, server);
-    assert!(rt; !collected && served);
-    let record = finished(driver, seats, server, poster)?;
-    assert!(rt; entries_of(&record, 0) == 1);
-    Ok(())
 }
 
 // What others get while a serve stands between its pick and its answer.

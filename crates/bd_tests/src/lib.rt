@@ -7,6 +7,8 @@ mod audit;
 #[cfg(test)]
 mod codec;
 #[cfg(test)]
+mod hand_over;
+#[cfg(test)]
 mod live;
 #[cfg(test)]
 mod parcel;

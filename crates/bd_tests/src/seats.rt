@@ -33,7 +33,7 @@ struct Part {
 }
 
 // One step, whatever its answer is.
-fn read() -> Request {
+pub(crate) fn read() -> Request {
     Request::Read { limit: 72 }
 }
 
@@ -133,7 +133,7 @@ fn seats_of(alloc: Global, driver: &Driver, parts: Vec<Part>) -> Result<Vec<Seat
     Ok(seats)
 }
 
-fn entries_of(record: &Record, seat: u32) -> usize {
+pub(crate) fn entries_of(record: &Record, seat: u32) -> usize {
     record
         .entries
         .as_slice()

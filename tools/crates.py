@@ -1,0 +1,59 @@
+"""What crates.txt says, and the words by which the kit's compiler works over libraries that the gate has built."""
+import functools
+import os
+import subprocess
+
+ROOT = os.path.dirname(os.path.dirname(os.path.abspath(__file__)))
+
+
+@functools.lru_cache(maxsize=None)
+def kit():
+    """The folder of the kit: `rt doc` prints the path of a page in it."""
+    return os.path.dirname(subprocess.run(["rt", "doc"], check=True, capture_output=True, text=True).stdout.split()[-1])
+
+
+@functools.lru_cache(maxsize=None)
+def uses():
+    """What each crate of the repository stands on, lowest first."""
+    found = {}
+    with open(f"{ROOT}/crates.txt", encoding="utf-8") as file:
+        for line in file:
+            name, colon, below = line.partition("#")[0].partition(":")
+            if colon:
+                found[name.split()[0]] = below.split()
+    return found
+
+
+def below(name):
+    """The crates of the repository that a crate stands on, itself not among them."""
+    found = {}
+    for it in uses()[name]:
+        if it in uses():
+            found |= below(it) | {it: None}
+    return found
+
+
+def folder(name):
+    return f"{ROOT}/crates/{name}"
+
+
+def built(name):
+    """Where the gate has a crate's library."""
+    return f"{folder(name)}/out/rlib/{name}.rlib"
+
+
+def of_gate(name):
+    """Whether all libraries below a crate are there, as the gate leaves them: those of `rt check` have a stamp."""
+    return all(os.path.isdir(built(it)) and not os.path.exists(f"{os.path.dirname(built(it))}/stamp") for it in below(name))
+
+
+def words(name):
+    """The words by which a check or a build of the crate finds what it stands on."""
+    at = kit()
+    top = "src/main.rt" if os.path.exists(f"{folder(name)}/src/main.rt") else "src/lib.rt"
+    found = ["--crate-name", name, top, "--links", f"{name}="]
+    for it in dict.fromkeys([*uses()[name], "std"]):
+        found += ["--extern", f"{it}={built(it) if it in uses() else f'{at}/rlibs/{it}.rlib'}"]
+    for it in [f"{at}/rlibs", *(os.path.dirname(built(it)) for it in below(name))]:
+        found += ["-L", f"dependency={it}"]
+    return [*found, "--antt-project", f"{at}/rattle/logic/antt-project.json", "--logic-built", f"{at}/logic_built"]
