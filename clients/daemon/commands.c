@@ -52,6 +52,10 @@ static int run_call(struct run *run, uint32_t code, const uint8_t *payload)
     static struct parcel parcel;
     bool is_reply = code == BC_REPLY || code == BC_REPLY_SG;
     struct binder_transaction_data_sg record = {0};
+    struct process *process = run->thread->process;
+    if (!caller_euid(&process->caller, &parcel.euid))
+        return EPERM;
+    parcel.tells_euid = parcel.euid != process->euid;
     memcpy(&record, payload, _IOC_SIZE(code));
     record.transaction_data.flags &= ~FLAG_TRAILER;
     parcel_fetch(&parcel, run->thread->page, &record, run->fds, run->fd_count);

@@ -17,6 +17,7 @@
 #include <stddef.h>
 #include <stdint.h>
 #include <stdio.h>
+#include <sys/socket.h>
 #include <sys/types.h>
 #include <sys/un.h>
 
@@ -207,6 +208,21 @@ void descriptor_close(int *fd);
 /* The same of one whose other end a client has, without waiting for what the client has put into it. */
 void descriptor_end(int *fd);
 
+/* --- callers.c: whose call it is. --- */
+
+/* The main thread of a client's process, as the kernel tells of it. */
+struct caller {
+    int folder;                    /* in /proc */
+    uid_t real, effective, saved;  /* when its effective uid was last seen to be another one */
+    bool may_be_anybody;
+};
+
+/* What the process is that has connected; false where that can't be told. */
+bool caller_begin(struct caller *caller, int socket, const struct ucred *peer);
+/* Its effective uid at this moment. False where it has gone, or is another program by now that has more rights. */
+bool caller_euid(struct caller *caller, uid_t *euid);
+void caller_end(struct caller *caller);
+
 /* --- processes.c: an open file is a process. --- */
 
 struct process {
@@ -217,7 +233,8 @@ struct process {
     struct list threads;
     struct list idle, in_resting; /* settle.c */
     pid_t pid;
-    uid_t euid;
+    uid_t euid;           /* of the opening */
+    struct caller caller;
     uint32_t engine_pid;  /* 0: it has no window, and so isn't in the engine yet */
     struct window window;
     uint32_t thread_count;
@@ -310,6 +327,8 @@ struct parcel {
     bool is_wrapped; /* it ends with a trailer */
     const uint8_t *data, *offsets;
     uint64_t data_size, offsets_size;
+    uid_t euid;      /* the caller's; it is the first to be set */
+    bool tells_euid; /* .. which isn't what the engine tells */
     uint32_t held_count; /* of descriptors.c */
     uint32_t held[DESCRIPTORS_MAX];
 };

@@ -127,6 +127,7 @@ static void deliver_wrapped(struct thread *thread, struct binder_transaction_dat
     record->flags &= ~FLAG_TRAILER;
     if (!unwrap(engine, &arrival.objects, &trailer))
         return;
+    record->sender_euid = (uid_t)trailer.euid;
     if (trailer.held_count)
         arrival.landing = thread_landing(thread);
     if (arrival.landing)

@@ -9,7 +9,7 @@
 #include "daemon.h"
 
 struct trailer {
-    uint64_t data_size, offsets_size, extra_size, held_count;
+    uint64_t data_size, offsets_size, extra_size, held_count, euid;
 };
 
 #define PARCEL_ROOM (PAGE_AREA + sizeof(uint64_t) * DESCRIPTORS_MAX + sizeof(struct trailer))

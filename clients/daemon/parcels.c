@@ -96,6 +96,21 @@ static bool check_object(struct walk *walk, uint64_t index)
     }
 }
 
+static bool check_objects(struct walk *walk)
+{
+    for (uint64_t i = 0; i < walk->objects.offsets_size / 8; i++)
+        if (!check_object(walk, i))
+            return false;
+    return true;
+}
+
+/* The engine gets none of it, and refuses it. */
+static void lose(struct parcel *parcel)
+{
+    parcel->is_lost = true;
+    parcel->data_size = parcel->offsets_size = 0;
+}
+
 static bool has_other_objects(const struct objects *objects)
 {
     for (uint64_t i = 0; i < objects->offsets_size / 8; i++) {
@@ -111,7 +126,7 @@ static void wrap(struct walk *walk)
 {
     struct parcel *parcel = walk->parcel;
     const struct objects *objects = &walk->objects;
-    struct trailer trailer = {objects->data_size, objects->offsets_size, objects->extra_size, parcel->held_count};
+    struct trailer trailer = {objects->data_size, objects->offsets_size, objects->extra_size, parcel->held_count, parcel->euid};
     uint8_t *end = objects_extra(objects) + round8(objects->extra_size);
     for (uint32_t i = 0; i < parcel->held_count; i++, end += sizeof(uint64_t)) {
         uint64_t held = parcel->held[i];
@@ -155,7 +170,8 @@ static bool copy_in(const struct objects *objects, const struct page *page, cons
 
 /*
  * A parcel that can't be had is given to the engine as none, for which it refuses the command. One with a bad object
- * is given as it is: the engine refuses it as well, since it knows no PTR, FD or FDA object.
+ * is given as it is: the engine refuses it as well, since it knows no PTR, FD or FDA object. But where it would tell whose call it
+ * is, none goes without that.
  */
 void parcel_fetch(struct parcel *parcel, const struct page *page, const struct binder_transaction_data_sg *record, int *fds,
                   uint32_t fd_count)
@@ -173,12 +189,12 @@ void parcel_fetch(struct parcel *parcel, const struct page *page, const struct b
     parcel->data_size = data->data_size;
     parcel->offsets = objects_offsets(&walk.objects);
     parcel->offsets_size = data->offsets_size;
-    if (data->offsets_size % 8 || !has_other_objects(&walk.objects))
+    if (!parcel->tells_euid && (data->offsets_size % 8 || !has_other_objects(&walk.objects)))
         return;
-    for (uint64_t i = 0; i < data->offsets_size / 8; i++)
-        if (!check_object(&walk, i))
-            return;
-    wrap(&walk);
+    if (data->offsets_size % 8 == 0 && check_objects(&walk))
+        wrap(&walk);
+    else if (parcel->tells_euid)
+        lose(parcel);
 }
 
 void parcel_refuse(const struct parcel *parcel)

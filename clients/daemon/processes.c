@@ -216,7 +216,7 @@ void process_accept(struct daemon *daemon, int fd)
     struct ucred peer;
     socklen_t size = sizeof peer;
     struct process *process = calloc(1, sizeof *process);
-    if (!process || getsockopt(fd, SOL_SOCKET, SO_PEERCRED, &peer, &size)) {
+    if (!process || getsockopt(fd, SOL_SOCKET, SO_PEERCRED, &peer, &size) || !caller_begin(&process->caller, fd, &peer)) {
         free(process);
         descriptor_end(&fd);
         return;
@@ -233,6 +233,7 @@ void process_accept(struct daemon *daemon, int fd)
     list_begin(&process->in_resting);
     if (!loop_add(&daemon->loop, &process->control, EPOLLIN | EPOLLRDHUP)) {
         list_remove(&process->in_engine);
+        caller_end(&process->caller);
         descriptor_end(&fd);
         free(process);
     }
@@ -261,6 +262,7 @@ void process_end(struct process *process)
     list_remove(&process->in_bucket);
     loop_drop(&process->daemon->loop, &process->control);
     window_free(&process->window);
+    caller_end(&process->caller);
     free(process->handed);
     bool was_open = process->engine_pid != 0;
     free(process);

@@ -1,5 +1,6 @@
 """Tests with our own clients alone, which need nothing but the kernel's header."""
 import os
+import shutil
 import subprocess
 import tempfile
 import time
@@ -34,6 +35,24 @@ plays("descriptors", "10000")
 plays("arrays", "1000")
 for word in ("asked", "unasked"):
     plays("flooding", word, title=f"flooding {word}")
+
+
+@test("raw callers")
+def callers(build):
+    """Whose a call is, and that nobody's is told as another's. Both need a root that may become others."""
+    if os.geteuid():
+        return "nothing was seen: only root can become another user"
+    with Stage(build, journal=DEVICE) as stage:
+        told = stage.run([build.raw("callers")]).rpartition("\n")[2]
+    with Stage(build) as stage:
+        program = f"{stage.folder}/sleep"
+        shutil.copy("/bin/sleep", program)
+        os.chmod(program, 0o4755)
+        os.chmod(stage.folder, 0o755)
+        os.chmod(stage.socket, 0o777)
+        stage.start([build.raw("callers"), "serve"]).wait_for("ready")
+        nobody = stage.run([build.fuzz("impostor"), program], client=False)
+    return f"{told}; {nobody}"
 
 
 @test("raw latency", plain_only=True, timed=True)

@@ -1,0 +1,140 @@
+/*
+ * impostor SET-UID-PROGRAM: calls in the name of a process that has more rights than who makes them. A process opens the device, and gives
+ * its pages to an accomplice. The one becomes a set-uid program then, and another, which was root's, has ended: its folder in /proc is
+ * root's then. No call of the accomplices may be told as root's. A context manager of raw/callers.c has to be there.
+ */
+#include "hostile.h"
+
+#include <errno.h>
+#include <linux/android/binder.h>
+#include <signal.h>
+#include <stdio.h>
+#include <stdlib.h>
+#include <string.h>
+#include <sys/mman.h>
+#include <sys/stat.h>
+#include <sys/wait.h>
+#include <unistd.h>
+
+#define TELL 1
+#define SOMEBODY 1000
+#define WINDOW (1 << 20)
+#define BASE 0x7f0000000000
+
+#define CHECK(condition, ...) ((condition) ? (void)0 : (fprintf(stderr, __VA_ARGS__), fprintf(stderr, ": %s\n", strerror(errno)), exit(1)))
+
+struct call {
+    uint32_t code;
+    struct binder_transaction_data data;
+} __attribute__((packed));
+
+/* Asks the manager who this is: the uid, or -1 where no reply came. */
+static int64_t told(struct hostile *hostile)
+{
+    struct call call = {BC_TRANSACTION, {.code = TELL}}, reply;
+    uint32_t uid;
+    memcpy(hostile->page->stream, &call, sizeof call);
+    hostile->page->request = (struct page_request){PAGE_WRITE_READ, sizeof call, PAGE_RETURNS, 0, 0};
+    if (!hostile_ask(hostile, 900) || hostile->page->answer.error)
+        return -1;
+    for (uint32_t at = 0; at + sizeof(uint32_t) <= hostile->page->answer.returns_size;) {
+        memcpy(&reply, hostile->page->returns + at, sizeof reply);
+        if (reply.code == BR_REPLY) {
+            const uint8_t *window = mmap(NULL, WINDOW, PROT_READ, MAP_SHARED, hostile->window_memory, 0);
+            CHECK(window != MAP_FAILED, "no window");
+            memcpy(&uid, window + (reply.data.data.ptr.buffer - BASE), sizeof uid);
+            return uid;
+        }
+        at += sizeof reply.code + _IOC_SIZE(reply.code);
+    }
+    return -1;
+}
+
+static uid_t owner_of(pid_t pid)
+{
+    char name[32];
+    struct stat stat;
+    snprintf(name, sizeof name, "/proc/%d", (int)pid);
+    CHECK(!lstat(name, &stat), "%s", name);
+    return stat.st_uid;
+}
+
+/* Waits for one byte. */
+static void await(int end)
+{
+    char byte;
+    CHECK(read(end, &byte, 1) == 1, "the other one has ended");
+}
+
+static void go(int end)
+{
+    CHECK(write(end, "g", 1) == 1, "the other one has ended");
+}
+
+/* Opens the device as one user, makes sure of it by a call where that is `before`, and becomes another. */
+static void become(struct hostile *hostile, uid_t before, uid_t after)
+{
+    CHECK(!setresuid(before, before, before), "can't become %u", before);
+    CHECK(hostile_begin(hostile, "/dev/binder"), "can't open the device");
+    if (before)
+        CHECK(told(hostile) == before, "a call isn't told as %u's", before);
+    CHECK(!setresuid(after, after, after), "can't become %u", after);
+}
+
+/* The accomplice: is told to call, and tells who that was. */
+static void call_when_told(struct hostile *hostile, int start, int result)
+{
+    await(start);
+    int64_t who = told(hostile);
+    CHECK(write(result, &who, sizeof who) == sizeof who, "nobody waits for the result");
+    exit(0);
+}
+
+/* A process that opens the device, has an accomplice, and then becomes a set-uid program, or ends. */
+static pid_t start(uid_t before, int start_end, int result_end, int ready_end, char *program)
+{
+    struct hostile hostile;
+    pid_t pid = fork();
+    if (pid)
+        return pid;
+    become(&hostile, before, SOMEBODY);
+    if (!fork())
+        call_when_told(&hostile, start_end, result_end);
+    go(ready_end);
+    if (program)
+        execl(program, program, "20", NULL);
+    exit(0);
+}
+
+/* Who the accomplice is told to be; `program` is NULL for an opener that ends. */
+static int64_t attack(uid_t before, char *program)
+{
+    int starts[2], results[2], readies[2];
+    int64_t who = 0;
+    CHECK(!pipe(starts) && !pipe(results) && !pipe(readies), "no pipes");
+    pid_t opener = start(before, starts[0], results[1], readies[1], program);
+    await(readies[0]);
+    if (program)
+        for (int i = 0; i < 200 && owner_of(opener) != 0; i++)
+            usleep(10000);
+    if (program)
+        CHECK(owner_of(opener) == 0, "%s is no set-uid program here", program);
+    else
+        CHECK(waitpid(opener, NULL, 0) == opener, "the opener hasn't ended");
+    go(starts[1]);
+    CHECK(read(results[0], &who, sizeof who) == sizeof who, "the accomplice told nothing");
+    kill(opener, SIGKILL);
+    return who;
+}
+
+int main(int argc, char **argv)
+{
+    CHECK(argc == 2 && !geteuid(), "usage, by root: impostor SET-UID-PROGRAM");
+    alarm(30);
+    int64_t who = attack(SOMEBODY, argv[1]);
+    CHECK(who != 0, "a call in the name of what has become a set-uid program is told as root's");
+    who = attack(0, NULL);
+    CHECK(who != 0, "a call in the name of what has ended is told as root's");
+    printf("no call is root's that root doesn't make\n");
+    return 0;
+}
