@@ -32,6 +32,12 @@ static int by_link(struct device *device, int fd, unsigned long request, void *a
     }
 }
 
+/* There are no security contexts, and the manager's object is known by no pointer: a program that wants either has to be told. */
+static bool is_plain_manager(const struct flat_binder_object *object)
+{
+    return !(object->flags & FLAT_BINDER_FLAG_TXN_SECURITY_CTX) && !object->binder && !object->cookie;
+}
+
 /* 0, or an errno. What the kernel has besides these is told to be unknown, as an older kernel would. */
 static int do_ioctl(struct device *device, int fd, unsigned long request, void *argument)
 {
@@ -42,8 +48,9 @@ static int do_ioctl(struct device *device, int fd, unsigned long request, void *
     case BINDER_WRITE_READ:
     case BINDER_THREAD_EXIT:
     case BINDER_SET_CONTEXT_MGR:
-    case BINDER_SET_CONTEXT_MGR_EXT:
         return by_link(device, fd, request, argument);
+    case BINDER_SET_CONTEXT_MGR_EXT:
+        return is_plain_manager(argument) ? by_link(device, fd, request, argument) : EINVAL;
     case BINDER_SET_MAX_THREADS:
         return ask_control(device, fd, CONTROL_MAX_THREADS, argument);
     case BINDER_VERSION:

@@ -54,6 +54,14 @@ static void pack_descriptor(struct copy *copy, uint8_t *at)
     memcpy(at, &object, sizeof object);
 }
 
+/* Copies bytes of the program, and zeros up to a multiple of 8: what the page had there before is of another parcel, and goes to nobody. */
+static void put_part(uint8_t *to, uint64_t from, uint64_t size)
+{
+    if (size)
+        memcpy(to, (const void *)(uintptr_t)from, size);
+    memset(to + size, 0, round8(size) - size);
+}
+
 /* A buffer that doesn't fit is left where it is: that is no place, and the daemon refuses the parcel. */
 static void pack_buffer(struct copy *copy, uint8_t *at)
 {
@@ -62,8 +70,7 @@ static void pack_buffer(struct copy *copy, uint8_t *at)
     if (object.length > copy->extra_size - copy->used) {
         object.buffer = PAGE_NOWHERE;
     } else {
-        if (object.length)
-            memcpy(copy->extra + copy->used, (const void *)(uintptr_t)object.buffer, object.length);
+        put_part(copy->extra + copy->used, object.buffer, object.length);
         object.buffer = copy->used;
         copy->used += round8(object.length);
         if (copy->used > copy->extra_size)
@@ -118,11 +125,10 @@ static void copy_parcel(struct packing *packing, struct binder_transaction_data_
     uint8_t *offsets = at + round8(data->data_size);
     copy.offsets = offsets;
     copy.extra = offsets + round8(data->offsets_size);
-    if (data->data_size)
-        memcpy(copy.data, (const void *)(uintptr_t)data->data.ptr.buffer, data->data_size);
-    if (data->offsets_size)
-        memcpy(offsets, (const void *)(uintptr_t)data->data.ptr.offsets, data->offsets_size);
+    put_part(copy.data, data->data.ptr.buffer, data->data_size);
+    put_part(offsets, data->data.ptr.offsets, data->offsets_size);
     pack_objects(&copy);
+    memset(copy.extra + copy.used, 0, round8(copy.extra_size) - copy.used);
     data->data.ptr.buffer = packing->area_size;
     data->data.ptr.offsets = packing->area_size + round8(data->data_size);
     packing->area_size += round8(data->data_size) + round8(data->offsets_size) + round8(record->buffers_size);

@@ -12,12 +12,13 @@
 /* The calling thread's doorbell for a binder file, or -1. */
 static int doorbell_of(int fd)
 {
+    int before = cancel_never();
     struct device *device = device_hold(fd);
-    if (!device)
-        return -1;
-    struct link *link = link_of(device, fd);
+    struct link *link = device ? link_of(device, fd) : NULL;
     int doorbell = link ? link_doorbell(link) : -1;
-    device_release(device);
+    if (device)
+        device_release(device);
+    cancel_again(before);
     return doorbell;
 }
 
@@ -54,14 +55,14 @@ static int poll_files(struct pollfd *files, nfds_t count, const struct timespec 
         copies = malloc(count * sizeof *copies);
     if (!copies)
         return errno = ENOMEM, -1;
-    int result = -1;
+    volatile int result = -1;
+    pthread_cleanup_push(free, copies == on_stack ? NULL : copies); /* the wait may be cancelled, as libc's own */
     if (with_doorbells(copies, files, count)) {
         result = is_ppoll ? real()->ppoll(copies, count, timeout, mask) : real()->poll(copies, count, milliseconds);
         for (nfds_t i = 0; i < count && result >= 0; i++)
             files[i].revents = copies[i].revents;
     }
-    if (copies != on_stack)
-        free(copies);
+    pthread_cleanup_pop(true);
     return result;
 }
 
@@ -235,12 +236,14 @@ __attribute__((visibility("default"))) int epoll_ctl(int epoll, int operation, i
     int doorbell = operation == EPOLL_CTL_ADD ? doorbell_of(fd) : -1;
     if (operation == EPOLL_CTL_ADD && doorbell < 0)
         return -1;
+    int before = cancel_never(), result = -1;
     struct device *device = device_hold(fd);
-    if (!device)
-        return -1;
-    pthread_mutex_lock(&devices_lock);
-    int result = control(device, epoll, operation, doorbell, event);
-    pthread_mutex_unlock(&devices_lock);
-    device_release(device);
+    if (device) {
+        pthread_mutex_lock(&devices_lock);
+        result = control(device, epoll, operation, doorbell, event);
+        pthread_mutex_unlock(&devices_lock);
+        device_release(device);
+    }
+    cancel_again(before);
     return result;
 }

@@ -49,9 +49,14 @@ struct real {
 /* They are looked up at the first call, which may come before this library's constructor. */
 const struct real *real(void);
 
-/* A line on standard error, where HULLPIPPIN_LOG is set. */
+/* What the kernel does in one call is never cancelled half-way, and so nothing that stands for it here is: a lock would stay taken,
+   a descriptor open. What is asked for meanwhile comes at the program's next cancellation point. */
+int cancel_never(void);
+void cancel_again(int before);
+
+/* A line on standard error, where HULLPIPPIN_LOG is set, and isn't 0. */
 void say(const char *format, ...) __attribute__((format(printf, 1, 2)));
-/* The same in any case. */
+/* The same unless HULLPIPPIN_LOG is 0. */
 void complain(const char *format, ...) __attribute__((format(printf, 1, 2)));
 
 /* --- arrays.c: descriptors of FDA objects. --- */

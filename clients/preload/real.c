@@ -41,6 +41,18 @@ static void look_up_all(void)
     look_up(&functions.epoll_ctl, "epoll_ctl");
 }
 
+int cancel_never(void)
+{
+    int before;
+    pthread_setcancelstate(PTHREAD_CANCEL_DISABLE, &before);
+    return before;
+}
+
+void cancel_again(int before)
+{
+    pthread_setcancelstate(before, &before);
+}
+
 const struct real *real(void)
 {
     pthread_once(&once, look_up_all);
@@ -60,10 +72,19 @@ static void write_line(const char *format, va_list rest)
     errno = error;
 }
 
+/* What HULLPIPPIN_LOG says: nothing is told, only what goes wrong, or all. */
+enum wish { NOTHING, COMPLAINTS, ALL };
+
+static enum wish wish(void)
+{
+    const char *word = getenv("HULLPIPPIN_LOG");
+    return !word || !*word ? COMPLAINTS : strcmp(word, "0") ? ALL : NOTHING;
+}
+
 void say(const char *format, ...)
 {
     va_list rest;
-    if (!getenv("HULLPIPPIN_LOG"))
+    if (wish() < ALL)
         return;
     va_start(rest, format);
     write_line(format, rest);
@@ -73,6 +94,8 @@ void say(const char *format, ...)
 void complain(const char *format, ...)
 {
     va_list rest;
+    if (wish() < COMPLAINTS)
+        return;
     va_start(rest, format);
     write_line(format, rest);
     va_end(rest);

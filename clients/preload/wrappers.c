@@ -13,13 +13,20 @@ static mode_t mode_of(int flags, va_list rest)
     return flags & O_CREAT || (flags & O_TMPFILE) == O_TMPFILE ? (mode_t)va_arg(rest, int) : 0;
 }
 
+static int open_device(const char *path, int flags)
+{
+    int before = cancel_never(), fd = device_open(path, flags);
+    cancel_again(before);
+    return fd;
+}
+
 EXPORT int open(const char *path, int flags, ...)
 {
     va_list rest;
     va_start(rest, flags);
     mode_t mode = mode_of(flags, rest);
     va_end(rest);
-    return device_is_path(path) ? device_open(path, flags) : real()->open(path, flags, mode);
+    return device_is_path(path) ? open_device(path, flags) : real()->open(path, flags, mode);
 }
 
 EXPORT int openat(int folder, const char *path, int flags, ...)
@@ -28,7 +35,7 @@ EXPORT int openat(int folder, const char *path, int flags, ...)
     va_start(rest, flags);
     mode_t mode = mode_of(flags, rest);
     va_end(rest);
-    return device_is_path(path) ? device_open(path, flags) : real()->openat(folder, path, flags, mode);
+    return device_is_path(path) ? open_device(path, flags) : real()->openat(folder, path, flags, mode);
 }
 
 /* The names of these where files may be large, which all are on a machine of 64 bits. */
@@ -51,16 +58,22 @@ EXPORT int __openat64_2(int folder, const char *path, int flags) __attribute__((
 
 EXPORT int close(int fd)
 {
-    if (device_is(fd))
-        device_forget(fd);
-    return real()->close(fd);
+    if (!device_is(fd))
+        return real()->close(fd);
+    int before = cancel_never();
+    device_forget(fd);
+    int result = real()->close(fd);
+    cancel_again(before);
+    return result;
 }
 
 static void forget_all(unsigned first, unsigned last)
 {
+    int before = cancel_never();
     for (unsigned fd = first; fd <= last && fd < 65536; fd++)
         if (device_is((int)fd))
             device_forget((int)fd);
+    cancel_again(before);
 }
 
 EXPORT int close_range(unsigned first, unsigned last, int flags)
@@ -90,10 +103,12 @@ static int copied_to(int fd, int copy, int result)
 {
     if (result < 0 || fd == copy)
         return result;
+    int before = cancel_never();
     if (device_is(copy))
         device_forget(copy);
     if (device_is(fd))
         device_copied(fd, copy);
+    cancel_again(before);
     return result;
 }
 
@@ -144,12 +159,21 @@ EXPORT int ioctl(int fd, unsigned long request, ...)
     va_start(rest, request);
     void *argument = va_arg(rest, void *);
     va_end(rest);
-    return device_is(fd) ? device_ioctl(fd, request, argument) : real()->ioctl(fd, request, argument);
+    if (!device_is(fd))
+        return real()->ioctl(fd, request, argument);
+    int before = cancel_never(), result = device_ioctl(fd, request, argument);
+    cancel_again(before);
+    return result;
 }
 
 EXPORT void *mmap(void *at, size_t size, int protection, int flags, int fd, off_t offset)
 {
-    return device_is(fd) ? device_map(fd, at, size, protection, flags) : real()->mmap(at, size, protection, flags, fd, offset);
+    if (!device_is(fd))
+        return real()->mmap(at, size, protection, flags, fd, offset);
+    int before = cancel_never();
+    void *window = device_map(fd, at, size, protection, flags);
+    cancel_again(before);
+    return window;
 }
 
 EXPORT void *mmap64(void *at, size_t size, int protection, int flags, int fd, off_t offset) __attribute__((alias("mmap")));

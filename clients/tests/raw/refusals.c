@@ -71,7 +71,9 @@ static void refuses_cut_streams(struct client *client)
 static void refuses_requests(struct client *client)
 {
     int fd = client->binder.fd, more = 1;
+    struct flat_binder_object with_contexts = {.flags = FLAT_BINDER_FLAG_TXN_SECURITY_CTX};
     CHECK(ioctl(fd, _IOW('b', 99, int), &more) < 0 && errno == EINVAL, "an ioctl that there isn't was taken");
+    CHECK(ioctl(fd, BINDER_SET_CONTEXT_MGR_EXT, &with_contexts) < 0 && errno == EINVAL, "security contexts were promised");
     CHECK(!binder_become_manager(&client->binder) && errno == EBUSY, "there is a second context manager");
     CHECK(mmap(NULL, 4096, PROT_READ, MAP_PRIVATE, fd, 0) == MAP_FAILED, "the window was mapped twice");
     works(client);
