@@ -1,14 +1,22 @@
-/* address.h: where the daemon listens. */
+/* address.h: where the daemon listens, and where the library looks for it. */
 #ifndef HULLPIPPIN_ADDRESS_H
 #define HULLPIPPIN_ADDRESS_H
 
+#include <errno.h>
 #include <stdbool.h>
 #include <stdio.h>
 #include <stdlib.h>
 #include <string.h>
 #include <sys/socket.h>
+#include <sys/stat.h>
 #include <sys/un.h>
 #include <unistd.h>
+
+/* Where a daemon is for all users, if its unit has started it (share/systemd). */
+#define SYSTEM_ADDRESS "/run/hullpippin/socket"
+
+/* Addresses that nobody has chosen, in the order in which they are looked at. A daemon takes the first that it can. */
+enum { ADDRESS_OF_RUNTIME, ADDRESS_OF_TMP, ADDRESS_OF_SYSTEM, ADDRESSES };
 
 /* What HULLPIPPIN_SOCKET says, or NULL; an empty one says nothing. */
 static inline const char *chosen_address(void)
@@ -17,14 +25,74 @@ static inline const char *chosen_address(void)
     return path && *path ? path : NULL;
 }
 
-/* The path that is given, else the chosen one, else one of the user's own. False where it is too long. */
-static inline bool daemon_address(const char *given, struct sockaddr_un *address)
+/* The user's own folder for sockets, or NULL. One that another user could change, as after `su`, isn't the user's own. */
+static inline const char *runtime_folder(void)
 {
-    const char *path = given ? given : chosen_address();
+    const char *folder = getenv("XDG_RUNTIME_DIR");
+    struct stat stat;
+    bool is_own = folder && *folder == '/' && lstat(folder, &stat) == 0 && S_ISDIR(stat.st_mode) && stat.st_uid == geteuid()
+                  && !(stat.st_mode & (S_IWGRP | S_IWOTH));
+    return is_own ? folder : NULL;
+}
+
+/* False where the path is too long, or there is none of this kind. */
+static inline bool address_of(int which, struct sockaddr_un *address)
+{
+    const char *folder = which == ADDRESS_OF_RUNTIME ? runtime_folder() : NULL;
+    int size = 0;
     *address = (struct sockaddr_un){.sun_family = AF_UNIX};
-    int size = path && *path ? snprintf(address->sun_path, sizeof address->sun_path, "%s", path)
-                             : snprintf(address->sun_path, sizeof address->sun_path, "/tmp/hullpippin-%u/socket", geteuid());
+    if (which == ADDRESS_OF_RUNTIME && folder)
+        size = snprintf(address->sun_path, sizeof address->sun_path, "%s/hullpippin/socket", folder);
+    else if (which == ADDRESS_OF_TMP)
+        size = snprintf(address->sun_path, sizeof address->sun_path, "/tmp/hullpippin-%u/socket", geteuid());
+    else if (which == ADDRESS_OF_SYSTEM)
+        size = snprintf(address->sun_path, sizeof address->sun_path, SYSTEM_ADDRESS);
     return size > 0 && (size_t)size < sizeof address->sun_path;
+}
+
+/* A path that was chosen; false where it is too long. */
+static inline bool address_at(const char *path, struct sockaddr_un *address)
+{
+    *address = (struct sockaddr_un){.sun_family = AF_UNIX};
+    return snprintf(address->sun_path, sizeof address->sun_path, "%s", path) < (int)sizeof address->sun_path;
+}
+
+/* A daemon at an address that nobody has chosen is the user's own, or root's. */
+static inline bool is_own_or_root(int fd)
+{
+    struct ucred peer;
+    socklen_t size = sizeof peer;
+    return getsockopt(fd, SOL_SOCKET, SO_PEERCRED, &peer, &size) == 0 && (peer.uid == geteuid() || peer.uid == 0);
+}
+
+/* Connects a socket to one address: 0 or an errno. */
+static inline int address_connect(int fd, const struct sockaddr_un *address, bool is_chosen)
+{
+    if (connect(fd, (const struct sockaddr *)address, sizeof *address))
+        return errno;
+    return is_chosen || is_own_or_root(fd) ? 0 : EPERM;
+}
+
+/* A connection to the daemon at a path, else at the chosen one, else at one of the user's or the system's; -1 and errno where there is
+   none. The address is that of the daemon, or the first at which there is none. */
+static inline int daemon_dial(const char *path, struct sockaddr_un *address)
+{
+    const char *chosen = path ? path : chosen_address();
+    int error = ENAMETOOLONG;
+    for (int which = 0; which < (chosen ? 1 : ADDRESSES); which++) {
+        struct sockaddr_un one;
+        if (!(chosen ? address_at(chosen, &one) : address_of(which, &one)))
+            continue;
+        int fd = socket(AF_UNIX, SOCK_SEQPACKET | SOCK_CLOEXEC, 0), why = fd < 0 ? errno : address_connect(fd, &one, chosen);
+        if (!why || error == ENAMETOOLONG)
+            *address = one;
+        if (!why)
+            return fd;
+        if (fd >= 0)
+            close(fd);
+        error = error == ENAMETOOLONG || error == ENOENT ? why : error;
+    }
+    return errno = error, -1;
 }
 
 #endif

@@ -17,7 +17,7 @@
 #include <stdint.h>
 
 /* Goes up with each change of this file: a library of another build is refused. */
-#define PROTOCOL_VERSION 3u
+#define PROTOCOL_VERSION 4u
 
 /* The largest window, as the kernel's is. */
 #define WINDOW_MAX (4u << 20)
@@ -39,6 +39,7 @@ enum control_op {
     CONTROL_MAP,         /* mmap: `size`, `base`; answers the window's size and its memory */
     CONTROL_MAX_THREADS, /* BINDER_SET_MAX_THREADS: `size` */
     CONTROL_THREAD,      /* answers the three descriptors of a thread: link, page, bell */
+    CONTROL_LOOK,        /* whether `device` is there, for who doesn't open it */
     CONTROL_SPAM,        /* BINDER_ENABLE_ONEWAY_SPAM_DETECTION: `size`, 0 for off */
 };
 

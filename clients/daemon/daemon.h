@@ -386,13 +386,23 @@ void doorbell_free(struct thread *thread);
 struct listener {
     struct watch watch;
     struct watch rest; /* a timer: until it ends no client is taken */
-    int lock;  /* held as long as a daemon has this address */
+    int lock;  /* held as long as a daemon has this address; -1: it was given to us with its socket */
     int spare; /* a descriptor to let go of, so that a client can be sent away where no more are left */
     struct sockaddr_un address;
+    mode_t mode; /* of the socket; NO_MODE: what the umask says */
+    gid_t group; /* of the socket; NO_GROUP: the daemon's own */
 };
 
+#define NO_MODE ((mode_t)-1)
+#define NO_GROUP ((gid_t)-1)
+
 enum { LISTENER_OK, LISTENER_BUSY, LISTENER_FAILED };
-/* Takes the lock of an address. */
+/* What --mode and --group say; false where that is none. */
+bool listener_set_mode(struct listener *listener, const char *word);
+bool listener_set_group(struct listener *listener, const char *word);
+/* Tells on standard output or error whether a daemon can be reached, as programs reach it: a status. */
+int listener_look(const char *path);
+/* Takes the lock of an address, or the socket that whoever has started this daemon listens with. */
 int listener_lock(struct daemon *daemon, const char *path);
 /* Lets clients come. */
 bool listener_begin(struct daemon *daemon);
@@ -413,6 +423,8 @@ struct device {
 bool devices_add(struct daemon *daemon, const char *names);
 /* [NAME=]FILE; without a name it is the first device's. */
 bool devices_set_journal(struct daemon *daemon, const char *word);
+/* Whether there is a device of that name. */
+bool device_is_there(struct daemon *daemon, const char *name);
 /* The engine of a name; NULL and an errno where there is none. */
 struct engine *device_engine(struct daemon *daemon, const char *name);
 bool devices_begin(struct daemon *daemon);

@@ -115,6 +115,11 @@ bool devices_begin(struct daemon *daemon)
     return true;
 }
 
+bool device_is_there(struct daemon *daemon, const char *name)
+{
+    return find(daemon, name, strlen(name)) != NULL;
+}
+
 struct engine *device_engine(struct daemon *daemon, const char *name)
 {
     struct device *device = find(daemon, name, strlen(name));

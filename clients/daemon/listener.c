@@ -1,10 +1,11 @@
-/* listener.c: where clients come from. One daemon has an address at a time: it holds a lock beside it. */
+/* listener.c: where clients come from. One daemon has an address at a time: it holds a lock beside it, or was given the socket. */
 #include "daemon.h"
 
 #include "../address.h"
 
 #include <errno.h>
 #include <fcntl.h>
+#include <grp.h>
 #include <sys/epoll.h>
 #include <sys/file.h>
 #include <sys/stat.h>
@@ -67,8 +68,23 @@ static void listener_ready(struct watch *watch, uint32_t events)
         rest(daemon, error);
 }
 
-/* The folder of the user's own address is made where it isn't there. */
-static bool make_folder(const char *path)
+/* Why a folder isn't the daemon's own alone, or NULL. Who could put a socket or a lock there would be taken for the daemon. */
+static const char *why_not_own(const char *folder)
+{
+    struct stat stat;
+    if (lstat(folder, &stat))
+        return strerror(errno);
+    if (S_ISLNK(stat.st_mode))
+        return "it is a link";
+    if (!S_ISDIR(stat.st_mode))
+        return "it is no folder";
+    if (stat.st_uid != geteuid())
+        return "it is another user's";
+    return stat.st_mode & (S_IRWXG | S_IRWXO) ? "others may come there" : NULL;
+}
+
+/* The address's folder is made where it isn't there. Where nobody has chosen it, it has to be ours alone. */
+static bool make_folder(const char *path, bool is_chosen)
 {
     char folder[sizeof((struct sockaddr_un *)0)->sun_path];
     snprintf(folder, sizeof folder, "%s", path);
@@ -76,22 +92,31 @@ static bool make_folder(const char *path)
     if (!slash || slash == folder)
         return true;
     *slash = 0;
-    return mkdir(folder, 0700) == 0 || errno == EEXIST;
+    bool is_there = mkdir(folder, 0700) == 0 || errno == EEXIST;
+    const char *why = !is_there ? strerror(errno) : is_chosen ? NULL : why_not_own(folder);
+    if (why)
+        log_line("%s: %s", folder, why);
+    return !why;
 }
 
-/* Takes the lock of an address. */
+/* Takes the lock of an address; where that is another user's, it says nothing about daemons. */
 static int take_lock(const char *path)
 {
     char name[sizeof((struct sockaddr_un *)0)->sun_path + sizeof ".lock"];
+    struct stat stat;
     snprintf(name, sizeof name, "%s.lock", path);
-    int fd = open(name, O_RDWR | O_CREAT | O_CLOEXEC | O_NOFOLLOW, 0600);
-    if (fd >= 0 && flock(fd, LOCK_EX | LOCK_NB)) {
-        int error = errno;
+    int fd = open(name, O_RDWR | O_CREAT | O_CLOEXEC | O_NOFOLLOW, 0600), error = errno;
+    bool is_ours = fd >= 0 && fstat(fd, &stat) == 0 && stat.st_uid == geteuid();
+    if (is_ours && flock(fd, LOCK_EX | LOCK_NB) == 0)
+        return fd;
+    if (fd >= 0)
+        error = is_ours ? errno : EPERM;
+    if (error != EWOULDBLOCK)
+        log_line("%s: %s", name, is_ours || fd < 0 ? strerror(error) : "it is another user's");
+    if (fd >= 0)
         close(fd);
-        errno = error;
-        return -1;
-    }
-    return fd;
+    errno = error;
+    return -1;
 }
 
 /* Removes the socket at our address: our own, or that of a daemon that was killed, since we have the lock. Any other file
@@ -103,37 +128,140 @@ static void remove_socket(const char *path)
         unlink(path);
 }
 
+bool listener_set_mode(struct listener *listener, const char *word)
+{
+    char *end;
+    unsigned long mode = strtoul(word, &end, 8);
+    listener->mode = (mode_t)mode;
+    return *word >= '0' && *word <= '7' && !*end && mode <= 0777;
+}
+
+bool listener_set_group(struct listener *listener, const char *word)
+{
+    char *end;
+    const struct group *group = getgrnam(word);
+    unsigned long number = strtoul(word, &end, 10);
+    listener->group = group ? group->gr_gid : (gid_t)number;
+    return group || (*word >= '0' && *word <= '9' && !*end && number < NO_GROUP);
+}
+
+/* As for the library: a daemon of its build answers, be it that it has no such device. */
+int listener_look(const char *path)
+{
+    static const struct timeval patience = {.tv_sec = 5};
+    struct control_request request = {.version = PROTOCOL_VERSION, .op = CONTROL_LOOK, .device = "/dev/binder"};
+    struct control_answer answer;
+    struct sockaddr_un address = {0};
+    uint32_t count;
+    int fd = daemon_dial(path, &address);
+    const char *why = fd < 0 ? strerror(errno) : NULL;
+    if (fd >= 0) {
+        setsockopt(fd, SOL_SOCKET, SO_RCVTIMEO, &patience, sizeof patience);
+        bool is_one = packet_send(fd, &request, sizeof request, NULL, 0, 0)
+                      && packet_receive(fd, &answer, sizeof answer, NULL, 0, &count, 0) == 1;
+        why = is_one ? NULL : "it doesn't answer, or is of another build";
+        close(fd);
+    }
+    fprintf(why ? stderr : stdout, "hullpippind: %s at %s%s%s\n", why ? "no daemon" : "a daemon listens", address.sun_path, why ? ": " : "",
+            why ? why : "");
+    return why ? 1 : 0;
+}
+
+/* The number that an environment variable has, or 0. */
+static long number_in(const char *name)
+{
+    const char *word = getenv(name);
+    return word ? strtol(word, NULL, 10) : 0;
+}
+
+/* Whether a descriptor listens as we would. */
+static bool listens(int fd)
+{
+    int domain = 0, type = 0, accepts = 0;
+    socklen_t size = sizeof domain;
+    return getsockopt(fd, SOL_SOCKET, SO_DOMAIN, &domain, &size) == 0 && domain == AF_UNIX
+           && getsockopt(fd, SOL_SOCKET, SO_TYPE, &type, &size) == 0 && type == SOCK_SEQPACKET
+           && getsockopt(fd, SOL_SOCKET, SO_ACCEPTCONN, &accepts, &size) == 0 && accepts
+           && fcntl(fd, F_SETFD, FD_CLOEXEC) == 0 && fcntl(fd, F_SETFL, O_NONBLOCK) == 0;
+}
+
+/* Takes the socket that this daemon was started with, as systemd gives it: descriptor 3, where LISTEN_PID is ours. */
+static int take_given(struct listener *listener)
+{
+    enum { FIRST = 3 };
+    socklen_t size = sizeof listener->address;
+    bool is_good = number_in("LISTEN_FDS") == 1 && listens(FIRST);
+    listener->watch.fd = is_good ? FIRST : -1;
+    if (!is_good || getsockname(FIRST, (struct sockaddr *)&listener->address, &size)) {
+        log_line("LISTEN_FDS: what is given isn't one socket that listens for packets (SOCK_SEQPACKET)");
+        return LISTENER_FAILED;
+    }
+    listener->address.sun_path[sizeof listener->address.sun_path - 1] = 0;
+    unsetenv("LISTEN_PID");
+    unsetenv("LISTEN_FDS");
+    unsetenv("LISTEN_FDNAMES");
+    return LISTENER_OK;
+}
+
+/* The path that is given, else the chosen one, else the first of the user's own. */
+static bool find_address(const char *path, struct sockaddr_un *address)
+{
+    const char *chosen = path ? path : chosen_address();
+    if (chosen)
+        return address_at(chosen, address);
+    return address_of(ADDRESS_OF_RUNTIME, address) || address_of(ADDRESS_OF_TMP, address);
+}
+
 int listener_lock(struct daemon *daemon, const char *path)
 {
     struct listener *listener = &daemon->listener;
-    if (!daemon_address(path, &listener->address)) {
+    if (number_in("LISTEN_PID") == getpid() && number_in("LISTEN_FDS"))
+        return take_given(listener);
+    if (!find_address(path, &listener->address)) {
         log_line("the socket's path is too long");
         return LISTENER_FAILED;
     }
     const char *at = listener->address.sun_path;
-    listener->lock = make_folder(at) ? take_lock(at) : -1;
+    listener->lock = make_folder(at, path || chosen_address()) ? take_lock(at) : -1;
     if (listener->lock < 0 && errno == EWOULDBLOCK) {
         log_event("a daemon listens at %s already", at);
         return LISTENER_BUSY;
     }
-    if (listener->lock < 0) {
-        log_line("%s: %s", at, strerror(errno));
-        return LISTENER_FAILED;
-    }
-    return LISTENER_OK;
+    return listener->lock < 0 ? LISTENER_FAILED : LISTENER_OK;
+}
+
+/* The mode is the socket's from the beginning: nobody comes before. */
+static bool bind_at(const struct listener *listener, int fd)
+{
+    const char *path = listener->address.sun_path;
+    mode_t before = listener->mode == NO_MODE ? 0 : umask(~listener->mode & 0777);
+    bool is_bound = bind(fd, (const struct sockaddr *)&listener->address, sizeof listener->address) == 0;
+    int error = errno;
+    if (listener->mode != NO_MODE)
+        umask(before);
+    errno = error;
+    return is_bound && (listener->group == NO_GROUP || lchown(path, (uid_t)-1, listener->group) == 0);
+}
+
+/* Listens at our address, where we don't yet. */
+static bool listens_at_last(struct listener *listener)
+{
+    struct watch *watch = &listener->watch;
+    watch->ready = listener_ready;
+    if (watch->fd >= 0)
+        return true;
+    remove_socket(listener->address.sun_path);
+    watch->fd = socket(AF_UNIX, SOCK_SEQPACKET | SOCK_CLOEXEC | SOCK_NONBLOCK, 0);
+    return watch->fd >= 0 && bind_at(listener, watch->fd) && listen(watch->fd, BACKLOG) == 0;
 }
 
 bool listener_begin(struct daemon *daemon)
 {
     struct listener *listener = &daemon->listener;
-    struct watch *watch = &listener->watch;
-    const struct sockaddr *address = (const struct sockaddr *)&listener->address;
     listener->spare = open("/dev/null", O_RDONLY | O_CLOEXEC);
     listener->rest = (struct watch){.fd = timerfd_create(CLOCK_MONOTONIC, TFD_CLOEXEC | TFD_NONBLOCK), .ready = rest_ready};
-    *watch = (struct watch){.fd = socket(AF_UNIX, SOCK_SEQPACKET | SOCK_CLOEXEC | SOCK_NONBLOCK, 0), .ready = listener_ready};
-    remove_socket(listener->address.sun_path);
-    if (listener->rest.fd < 0 || !loop_add(&daemon->loop, &listener->rest, EPOLLIN) || watch->fd < 0
-        || bind(watch->fd, address, sizeof listener->address) || listen(watch->fd, BACKLOG) || !loop_add(&daemon->loop, watch, EPOLLIN)) {
+    if (listener->rest.fd < 0 || !loop_add(&daemon->loop, &listener->rest, EPOLLIN) || !listens_at_last(listener)
+        || !loop_add(&daemon->loop, &listener->watch, EPOLLIN)) {
         log_line("%s: %s", listener->address.sun_path, strerror(errno));
         return false;
     }
@@ -144,7 +272,7 @@ bool listener_begin(struct daemon *daemon)
 void listener_end(struct daemon *daemon)
 {
     struct listener *listener = &daemon->listener;
-    if (listener->watch.fd >= 0)
+    if (listener->watch.fd >= 0 && listener->lock >= 0)
         remove_socket(listener->address.sun_path);
     loop_drop(&daemon->loop, &listener->watch);
     loop_drop(&daemon->loop, &listener->rest);

@@ -20,20 +20,26 @@
 enum { STATUS_FAILED = 1, STATUS_USAGE = 2, STATUS_BUSY = 3 };
 
 static const char usage[] =
-    "usage: hullpippind [--socket PATH] [--devices NAME,..] [--journal [NAME=]FILE].. [--seats N] [--log FILE] [-v] [--background]\n"
+    "usage: hullpippind [--socket PATH] [--mode MODE] [--group GROUP] [--devices NAME,..] [--journal [NAME=]FILE].. [--seats N]\n"
+    "                   [--log FILE] [-v] [--background]\n"
+    "       hullpippind --look [--socket PATH] | --help | --version\n"
     "\n"
-    "  --socket PATH           where to listen (else HULLPIPPIN_SOCKET, else /tmp/hullpippin-UID/socket)\n"
+    "  --socket PATH           where to listen (else HULLPIPPIN_SOCKET, else $XDG_RUNTIME_DIR/hullpippin/socket,\n"
+    "                          else /tmp/hullpippin-UID/socket); not looked at where the socket is given by LISTEN_FDS\n"
+    "  --mode MODE             who may come, in octal: 600 the user alone, 660 the group too, 666 all (what the umask says)\n"
+    "  --group GROUP           the socket's group, by its name or number (the daemon's own)\n"
     "  --devices NAME,..       the devices (" DEFAULT_DEVICES ")\n"
     "  --journal [NAME=]FILE   appends the history of a device, else of the first, to a new FILE\n"
     "  --seats N               seats of a device, 2 to 65536 (16384); with a journal 31 at most\n"
     "  --log FILE              log there, not on standard error; -v: all that happens\n"
     "  --background            return as soon as clients may come\n"
+    "  --look                  only tell whether programs reach a daemon, and where: status 0 or 1\n"
     "\n"
     "Ends in order on SIGTERM and SIGINT. Status 3: a daemon listens there already.\n";
 
 struct options {
     const char *socket, *log;
-    bool is_verbose, is_background;
+    bool is_verbose, is_background, looks, helps, tells_version;
 };
 
 /* Seats are at least the daemon's own and one to lend. */
@@ -52,7 +58,10 @@ static bool read_options(struct daemon *daemon, struct options *options, int cou
         {"socket", required_argument, NULL, 's'},  {"devices", required_argument, NULL, 'd'},
         {"journal", required_argument, NULL, 'j'}, {"seats", required_argument, NULL, 'n'},
         {"log", required_argument, NULL, 'l'},     {"background", no_argument, NULL, 'b'},
-        {"verbose", no_argument, NULL, 'v'},       {NULL, 0, NULL, 0},
+        {"verbose", no_argument, NULL, 'v'},       {"mode", required_argument, NULL, 'm'},
+        {"group", required_argument, NULL, 'g'},   {"look", no_argument, NULL, 'k'},
+        {"help", no_argument, NULL, 'h'},          {"version", no_argument, NULL, 'V'},
+        {NULL, 0, NULL, 0},
     };
     const char *devices = DEFAULT_DEVICES, *journals[DEVICES_MAX];
     int option, journal_count = 0;
@@ -70,6 +79,11 @@ static bool read_options(struct daemon *daemon, struct options *options, int cou
         case 'l': options->log = optarg; break;
         case 'b': options->is_background = true; break;
         case 'v': options->is_verbose = true; break;
+        case 'm': is_good = is_good && listener_set_mode(&daemon->listener, optarg); break;
+        case 'g': is_good = is_good && listener_set_group(&daemon->listener, optarg); break;
+        case 'k': options->looks = true; break;
+        case 'h': options->helps = true; break;
+        case 'V': options->tells_version = true; break;
         default: is_good = false;
         }
     }
@@ -172,11 +186,18 @@ static int run(struct daemon *daemon, const struct options *options, int told)
 
 int main(int count, char **words)
 {
-    static struct daemon daemon = {.seats = DEFAULT_SEATS, .signals.fd = -1, .listener = {.watch.fd = -1, .rest.fd = -1, .spare = -1}};
+    static struct daemon daemon = {.seats = DEFAULT_SEATS, .signals.fd = -1, 
+                                   .listener = {.watch.fd = -1, .rest.fd = -1, .lock = -1, .spare = -1, .mode = NO_MODE, .group = NO_GROUP}};
     struct options options = {0};
     list_begin(&daemon.strangers);
     if (!read_options(&daemon, &options, count, words))
         return fputs(usage, stderr), STATUS_USAGE;
+    if (options.helps)
+        return fputs(usage, stdout), 0;
+    if (options.tells_version)
+        return printf("hullpippind: Binder protocol %d, library protocol %u\n", BINDER_CURRENT_PROTOCOL_VERSION, PROTOCOL_VERSION), 0;
+    if (options.looks)
+        return listener_look(options.socket);
     int told = options.is_background ? go_to_background() : -1;
     if (options.is_background && told < 0)
         return perror("hullpippind"), STATUS_FAILED;

@@ -173,6 +173,9 @@ static bool answer_control(struct process *process, const struct control_request
     case CONTROL_OPEN:
         answer.error = open_device(process, request);
         break;
+    case CONTROL_LOOK:
+        answer.error = !memchr(request->device, 0, sizeof request->device) || !device_is_there(process->daemon, request->device) ? ENOENT : 0;
+        break;
     case CONTROL_MAP:
         answer.error = map_window(process, request);
         answer.size = process->window.size;

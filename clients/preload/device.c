@@ -27,27 +27,15 @@ bool device_is(int fd)
     return fd >= 0 && fd < FILES && atomic_load_explicit(&files[fd], memory_order_acquire);
 }
 
-/* A daemon at an address that nobody has chosen is the user's own, or root's. */
-static bool is_trusted(int fd)
-{
-    struct ucred peer;
-    socklen_t size = sizeof peer;
-    return chosen_address()
-           || (getsockopt(fd, SOL_SOCKET, SO_PEERCRED, &peer, &size) == 0 && (peer.uid == geteuid() || peer.uid == 0));
-}
-
 static int dial(void)
 {
-    struct sockaddr_un address;
-    if (!daemon_address(NULL, &address))
-        return -1;
-    int fd = socket(AF_UNIX, SOCK_SEQPACKET | SOCK_CLOEXEC, 0);
-    if (fd < 0)
-        return -1;
-    if (fd < FILES && connect(fd, (struct sockaddr *)&address, sizeof address) == 0 && is_trusted(fd))
+    struct sockaddr_un address = {0};
+    int fd = daemon_dial(NULL, &address);
+    if (fd >= 0 && fd < FILES)
         return fd;
     say("no daemon at %s: %s", address.sun_path, strerror(errno));
-    real()->close(fd);
+    if (fd >= 0)
+        real()->close(fd);
     return -1;
 }
 

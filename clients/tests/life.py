@@ -1,0 +1,216 @@
+"""Where a daemon lives, who may come there, and how it's started."""
+import fcntl
+import os
+import shutil
+import signal
+import socket
+import stat
+import subprocess
+import tempfile
+import time
+from contextlib import contextmanager
+
+from builds import CLIENTS
+from stage import expect, tail
+from suite import test
+
+# users that no machine has, with whom root plays; each has a folder of its own in /tmp, which goes away
+STRANGER, OTHER = 4294900001, 4294900002
+
+SECONDS = 10
+
+
+@contextmanager
+def folder():
+    """A folder of this user's alone, which goes away."""
+    path = tempfile.mkdtemp(prefix="hullpippin-life-")
+    try:
+        yield path
+    finally:
+        shutil.rmtree(path, ignore_errors=True)
+
+
+class Copied:
+    """The daemon, the library and a client where other users may run them too, as they perhaps can't where they were built."""
+
+    def __init__(self, build, where):
+        self.environment, self.versions = build.environment, f"{where}/versions"
+        self.daemon, library = f"{where}/hullpippind", f"{where}/{os.path.basename(build.library)}"
+        for old, new in ((build.daemon, self.daemon), (build.library, library), (build.raw("versions"), self.versions)):
+            shutil.copy(old, new)
+        self.preload = build.preload.replace(build.library, library)
+
+    def raw(self, name):
+        return {"versions": self.versions}[name]
+
+
+def environment(build, **words):
+    """Where no address is chosen but by these words."""
+    left = {key: word for key, word in os.environ.items() if key not in ("HULLPIPPIN_SOCKET", "XDG_RUNTIME_DIR")}
+    return {**left, **build.environment, **words}
+
+
+def end(build, words, why, status=1, **how):
+    """A daemon that is started so ends at once, and says why."""
+    done = subprocess.run([build.daemon, *words], capture_output=True, text=True, timeout=SECONDS, stdin=subprocess.DEVNULL, **how)
+    told = done.stdout + done.stderr
+    expect(done.returncode == status and why in told, f"{' '.join(words) or 'no words'}: status {done.returncode}, {tail(told)}")
+
+
+@contextmanager
+def daemon(build, words, path, **how):
+    """A daemon that listens at a path; it ends in order."""
+    with subprocess.Popen([build.daemon, *words], stdin=subprocess.DEVNULL, stderr=subprocess.PIPE, text=True, **how) as process:
+        try:
+            until = time.monotonic() + SECONDS
+            while not os.path.exists(path) and process.poll() is None and time.monotonic() < until:
+                time.sleep(0.01)
+            expect(process.poll() is None and os.path.exists(path), f"no daemon at {path}: {tail(process.stderr.read()) if process.poll() is not None else ''}")
+            yield process
+            process.send_signal(signal.SIGTERM)
+            expect(process.wait(SECONDS) == 0, f"the daemon ended with {process.returncode}")
+        finally:
+            if process.poll() is None:
+                process.kill()
+
+
+def reaches(build, **how):
+    """Whether the library finds a daemon, and `--look` says the same."""
+    words = how.pop("env")
+    looked = subprocess.run([build.daemon, "--look"], env=words, capture_output=True, text=True, timeout=SECONDS, **how)
+    called = subprocess.run([build.raw("versions")], env={**words, "LD_PRELOAD": build.preload}, capture_output=True, text=True, timeout=SECONDS, **how)
+    expect((looked.returncode == 0) == (called.returncode == 0),
+           f"--look ends with {looked.returncode}, a program with {called.returncode}: {tail(looked.stderr + called.stderr)}")
+    return looked.returncode == 0
+
+
+def own_folders(build, where):
+    """The user's own folder for sockets comes first; what is there has to be the user's alone."""
+    env = environment(build, XDG_RUNTIME_DIR=where)
+    own, path = f"{where}/hullpippin", f"{where}/hullpippin/socket"
+    with daemon(build, [], path, env=env):
+        expect(stat.S_IMODE(os.stat(own).st_mode) == 0o700, "others may come to the folder")
+        expect(reaches(build, env=env), "the library doesn't look there")
+    os.chmod(own, 0o755)
+    end(build, [], "others may come there", env=env)
+    os.rename(own, f"{where}/elsewhere")
+    os.chmod(f"{where}/elsewhere", 0o700)
+    os.symlink("elsewhere", own)
+    end(build, [], "it is a link", env=env)
+    os.unlink(own)
+    with open(own, "w", encoding="ascii"):
+        end(build, [], "it is no folder", env=env)
+    expect(not os.path.exists(f"{where}/elsewhere/socket"), "a daemon listens behind a link")
+
+
+def of_others(build, where):
+    """Another user's folder, or lock, isn't taken for one's own."""
+    taken, lock = f"/tmp/hullpippin-{STRANGER}", f"{where}/socket.lock"
+    os.mkdir(taken, 0o777)
+    try:
+        os.chmod(taken, 0o777)
+        end(build, [], "it is another user's", env=environment(build), user=STRANGER, group=STRANGER)
+        os.chown(taken, STRANGER, STRANGER)
+        os.chmod(taken, 0o700)
+        # a folder that others may write to isn't the user's own
+        os.mkdir(f"{where}/open", 0o777)
+        os.chown(f"{where}/open", STRANGER, STRANGER)
+        os.chmod(f"{where}/open", 0o777)
+        env = environment(build, XDG_RUNTIME_DIR=f"{where}/open")
+        with daemon(build, [], f"{taken}/socket", env=env, user=STRANGER, group=STRANGER):
+            expect(reaches(build, env=env, user=STRANGER, group=STRANGER), "the library doesn't look into /tmp")
+    finally:
+        shutil.rmtree(taken, ignore_errors=True)
+    with open(lock, "w", encoding="ascii") as file:
+        os.chown(lock, OTHER, OTHER)
+        os.chmod(lock, 0o666)
+        fcntl.flock(file, fcntl.LOCK_EX)
+        end(build, ["--socket", f"{where}/socket"], "it is another user's", env=environment(build))
+
+
+def who_may_come(build, where):
+    """The socket's mode and group are what was asked for."""
+    path = f"{where}/s"
+    env = environment(build, HULLPIPPIN_SOCKET=path)
+    for mode in (0o600, 0o660, 0o666):
+        with daemon(build, ["--mode", f"{mode:o}", "--group", str(os.getgid())], path, env=env):
+            found = os.stat(path)
+            expect(stat.S_IMODE(found.st_mode) == mode and found.st_gid == os.getgid(), f"{found.st_mode:o} in place of {mode:o}")
+            if os.geteuid() == 0:
+                expect(reaches(build, env=env, user=STRANGER, group=STRANGER) == (mode == 0o666), f"with mode {mode:o} it is otherwise")
+    if os.geteuid() == 0:
+        with daemon(build, ["--mode", "660", "--group", str(OTHER)], path, env=env):
+            expect(reaches(build, env=env, user=STRANGER, group=OTHER), "one of the group isn't let in")
+            expect(not reaches(build, env=env, user=STRANGER, group=STRANGER), "one who isn't of the group is let in")
+    for words in (["--mode", "888"], ["--mode", "1777"], ["--mode", ""], ["--group", "no such group"], ["--group", "-1"]):
+        end(build, words, "usage: ", 2, env=env)
+
+
+def given(build, where):
+    """A socket that it is started with is listened at, and stays."""
+    path = f"{where}/given"
+    env = environment(build, HULLPIPPIN_SOCKET=path)
+    starts = ["sh", "-c", 'LISTEN_PID=$$ LISTEN_FDS=1 exec "$0" "$@"', build.daemon]
+    for kind, good in ((socket.SOCK_SEQPACKET, True), (socket.SOCK_STREAM, False)):
+        with socket.socket(socket.AF_UNIX, kind) as listening:
+            listening.bind(path)
+            listening.listen()
+            with subprocess.Popen(starts, env=env, stdin=subprocess.DEVNULL, stderr=subprocess.PIPE, text=True,
+                                  preexec_fn=lambda: os.dup2(listening.fileno(), 3), pass_fds=[3]) as process:  # pylint: disable=cell-var-from-loop
+                if good:
+                    expect(reaches(build, env=env), "a daemon with a given socket isn't reached")
+                    process.send_signal(signal.SIGTERM)
+                expect(process.wait(SECONDS) == (0 if good else 1), f"the daemon ended with {process.returncode}")
+                expect(good or "listens for packets" in process.stderr.read(), "a socket of streams was taken")
+        expect(os.path.exists(path), "a given socket is gone")
+        os.unlink(path)
+
+
+@test("raw addresses")
+def addresses(build):
+    """Where a daemon listens, and who may come there."""
+    with folder() as programs:
+        os.chmod(programs, 0o755)
+        copied = Copied(build, programs)
+        with folder() as where:
+            own_folders(copied, where)
+        for part in (who_may_come, given, *([] if os.geteuid() else [of_others])):
+            with folder() as where:
+                os.chmod(where, 0o711)
+                part(copied, where)
+    if os.geteuid():
+        return "own folders, modes, given sockets; of other users nothing was seen: only root can be others"
+    return "own folders, other users' folders and locks, modes, given sockets"
+
+
+def run(words, **how):
+    """hullpippin-run, or another program: its status, and all that it printed."""
+    done = subprocess.run(words, capture_output=True, text=True, timeout=SECONDS, stdin=subprocess.DEVNULL, **how)
+    return done.returncode, done.stdout + done.stderr
+
+
+@test("raw run")
+def running(build):
+    """hullpippin-run never goes on without a daemon that the program reaches, nor without its library."""
+    program = f"{CLIENTS}/hullpippin-run"
+    with folder() as where:
+        env = environment(build, HULLPIPPIN_SOCKET=f"{where}/socket", HULLPIPPIN_BUILD=build.out)
+        with open(f"{where}/socket.lock", "w", encoding="ascii") as lock:
+            fcntl.flock(lock, fcntl.LOCK_EX)
+            status, said = run([program, "echo", "went on"], env=env)
+        expect(status == 1 and "no daemon at" in said and "went on" not in said, f"beside a lock without a daemon: {status}, {said}")
+        for letter in " :":
+            os.symlink(CLIENTS, f"{where}/cli{letter}ents")
+            status, said = run([f"{where}/cli{letter}ents/hullpippin-run", "echo", "went on"], env=env)
+            expect(status == 2 and "a space or a colon" in said and "went on" not in said, f"in a folder with {letter!r}: {status}, {said}")
+        with daemon(build, [], f"{where}/socket", env=env):
+            for word, lines in (("0", 0), ("1", 1)):
+                status, said = run([program, build.raw("versions")], env={**env, "HULLPIPPIN_LOG": word})
+                expect(status == 0 and ("hullpippin[" in said) == bool(lines), f"with HULLPIPPIN_LOG={word}: {status}, {said}")
+        for words in ([program, "--help"], [build.daemon, "--help"]):
+            status, said = run(words)
+            expect(status == 0 and said.startswith("usage: "), f"{words}: {status}, {said}")
+        status, said = run([build.daemon, "--version"])
+        expect(status == 0 and "Binder protocol 8, library protocol" in said, f"--version: {status}, {said}")
+        expect(run([program])[0] == 2, "hullpippin-run without words goes on")
+    return "it sees that the daemon is there, and refuses a folder that LD_PRELOAD can't name"
