@@ -3,7 +3,7 @@
 use Rattle.bd_laws.proofs.words.Logic.{◌≡◌, ◌≤◌, ◌<◌, ◌+◌, ℕ, Bool, true, false, ◌||◌, List, [], ◌∷◌, ◌++◌, length, take, drop, get_or, Some, refl, ap, sym, ◌∙◌, subst, arith, length-append, nat_lt, nat_le, list_all, lt-leb, take-append-drop, take_all, take_more, length-take-le}
 use Rattle.bd_laws.proofs.words.Types.{Entry, StepAnswer, Step}
 use Rattle.bd_laws.proofs.words.Space.{Space, opening, step, History, history_of, IsHistory, EntryFollows, Follows, after, next, space_after, is_at_limit}
-use Rattle.bd_engine.specs.declared.why.Why.{Why}
+use Rattle.bd_engine.specs.Why.{Why}
 use Rattle.bd_engine.specs.Refusals.{FullOnly}
 use Rattle.bd_audit.specs.declared.judging.AuditFault.{AuditFault}
 use Rattle.bd_audit.specs.Replays.{with_entry, beginning, IsEntryAt, Begins, IfUnlawful, fault_of, StopsAt}

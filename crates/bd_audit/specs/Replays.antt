@@ -3,8 +3,8 @@ use Rattle.std.specs.Prelude.{ℕ, ◌+◌, ◌<◌, ◌≡◌, [], ◌∷◌, �
 use Rattle.std.specs.List.{slice_get}
 use Rattle.bd_space.specs.declared.step.Entry.{Entry}
 use Rattle.bd_space.specs.Histories.{History, IsHistory, history_of, BeginsWith}
-use Rattle.bd_engine.specs.declared.why.Why.{Why}
-use Rattle.bd_engine.specs.declared.why.Why.TheVariants as why
+use Rattle.bd_engine.specs.Why.{Why}
+use Rattle.bd_engine.specs.Why.TheVariants as why
 use Rattle.bd_audit.specs.declared.judging.AuditFault.{AuditFault}
 use Rattle.bd_audit.specs.declared.judging.AuditFault.TheVariants.{Unlawful, NoMemory}
 

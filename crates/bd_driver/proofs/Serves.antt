@@ -11,8 +11,8 @@ use Rattle.bd_space.specs.Runs.{IsAtLimit, HasEntry, HasRun, IsRun}
 use Rattle.bd_driver.specs.Views.{ready_of, places, tick, view_of}
 use Rattle.bd_driver.specs.Words.{page_word}
 use Rattle.bd_driver.specs.Rule.{Kept}
-use Rattle.bd_engine.specs.declared.why.Why.{Why as Refused}
-use Rattle.bd_engine.specs.declared.why.Why.TheVariants.{NoMemory as Memory, HistoryFull as Full}
+use Rattle.bd_engine.specs.Why.{Why as Refused}
+use Rattle.bd_engine.specs.Why.TheVariants.{NoMemory as Memory, HistoryFull as Full}
 use Rattle.bd_engine.specs.Refusals.{FullOnly, MemoryOnly}
 use Rattle.bd_engine.specs.declared.run.Ran.{Ran as HasRan}
 use Rattle.bd_driver.specs.declared.outcome.Outcome.TheVariants.{Done, Back, Handed}

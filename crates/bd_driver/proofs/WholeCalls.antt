@@ -8,8 +8,8 @@ use Rattle.bd_space.specs.Runs.{AllBy, HasRun, IsRun, HasEntry, IsAtLimit}
 use Rattle.bd_driver.specs.Views.{places, view_of}
 use Rattle.std.specs.Prelude.{Result, Ok, Err, MatchResult, IfOk, IfErr, OnErr}
 use Rattle.bd_engine.specs.declared.run.Ran.{Ran}
-use Rattle.bd_engine.specs.declared.why.Why.{Why as Refused}
-use Rattle.bd_engine.specs.declared.why.Why.TheVariants.{NoMemory as Memory, HistoryFull as Full}
+use Rattle.bd_engine.specs.Why.{Why as Refused}
+use Rattle.bd_engine.specs.Why.TheVariants.{NoMemory as Memory, HistoryFull as Full}
 use Rattle.bd_engine.specs.Refusals.{FullOnly, MemoryOnly}
 use Rattle.bd_driver.specs.declared.view.View.{View}
 use Rattle.bd_driver.specs.declared.outcome.Outcome.{Outcome}

@@ -1,6 +1,6 @@
 -- Why a request comes back that the engine refused.
-use Rattle.bd_engine.specs.declared.why.Why.{Why as Refused}
-use Rattle.bd_engine.specs.declared.why.Why.TheVariants.{NoMemory as Memory, HistoryFull as Full}
+use Rattle.bd_engine.specs.Why.{Why as Refused}
+use Rattle.bd_engine.specs.Why.TheVariants.{NoMemory as Memory, HistoryFull as Full}
 use Rattle.bd_driver.specs.declared.outcome.Why.{Why}
 use Rattle.bd_driver.specs.declared.outcome.Why.TheVariants.{NoMemory, HistoryFull}
 

@@ -24,8 +24,8 @@ use Rattle.bd_space.specs.Streams.{Readable, readable, commands_of, step_of_comm
 use Rattle.bd_space.specs.Writes.{Written, written, ends_here, goes_on, wrote, run_of_written, Run, write}
 use Rattle.bd_space.specs.Runs.{run, IsRun, AllBy, HasRun}
 use Rattle.bd_space.specs.Stops.{write_first, step_after, MayStop}
-use Rattle.bd_engine.specs.declared.why.Why.{Why}
-use Rattle.bd_engine.specs.declared.why.Why.TheVariants.{NoMemory, HistoryFull}
+use Rattle.bd_step.specs.declared.why.Why.{Why}
+use Rattle.bd_step.specs.declared.why.Why.TheVariants.{NoMemory, HistoryFull}
 use Rattle.bd_engine.specs.Refusals.{FullOnly, MemoryOnly}
 use Rattle.bd_engine.specs.Writing.{IsProgress, IsNext, IsUnrefused, IsTurnedAway, joined, fault_of}
 

@@ -13,14 +13,11 @@ use Rattle.bd_space.specs.Names.{has_number_past_limit}
 use Rattle.bd_space.specs.Steps.{change, step, counted}
 use Rattle.bd_space.specs.Histories.{History, Follows as EntriesFollow, EntryFollows, next, after, space_after, extended, is_at_limit, history_of}
 use Rattle.bd_buffers.specs.WindowsStand.{WindowsOf}
-use Rattle.bd_engine.specs.declared.tables.Tables.{Tables}
-use Rattle.bd_engine.specs.Stands.{Before, Within}
+use Rattle.bd_step.specs.declared.tables.Tables.{Tables}
+use Rattle.bd_step.specs.Stands.{Before, Within}
 use Rattle.bd_engine.specs.declared.live.Live.{Live}
 use Rattle.bd_engine.specs.Follows.{Follows}
 use Rattle.bd_engine.specs.Keeps.{Keeps}
-use Rattle.bd_engine.specs.declared.why.Why.{Why}
-use Rattle.bd_engine.specs.declared.why.Why.TheVariants.{NoMemory, HistoryFull}
-use Rattle.bd_engine.specs.Refusals.{FullOnly, MemoryOnly}
 use Rattle.bd_objects.proofs.Fitting.{numbers-fit}
 use Rattle.bd_laws.proofs.Machine.Steps.{always-steps}
 
@@ -97,10 +94,6 @@ follows-kept h old new k same stands = record { seats_are = same ∙ k.seats_are
 
 -- ---- why a step is refused
 
-pub memory-if : (why : Why) (A : Type 0) → A → MemoryOnly why A
-memory-if NoMemory A x = x
-memory-if HistoryFull A x = tt
-
 pub full-at-length : (h : History) (seat : ℕ) (x : Step) → nat_le 4294967295 (length h.entries) ≡ true → is_at_limit h seat (Some x) ≡ true
 unfolding is_at_limit
 full-at-length h seat x e = ap (λ b. b || has_number_past_limit (step (space_after h) seat x).space.names) e
@@ -111,14 +104,6 @@ short-of-full h k b is fewer same = leb-false _ _ (ap (λ (z : History). nat_le 
 pub full-by-number : (h : History) (seat : ℕ) (x : Step) → has_number_past_limit (change (space_after h) seat x).space.names ≡ true → is_at_limit h seat (Some x) ≡ true
 unfolding is_at_limit counted
 full-by-number h seat x e = ap (λ b. nat_le 4294967295 (length h.entries) || b) e ∙ or-true (nat_le 4294967295 (length h.entries))
-
-pub full-as : (why : Why) (A B : Type 0) → (A → B) → FullOnly why A → FullOnly why B
-full-as NoMemory A B f x = x
-full-as HistoryFull A B f x = f x
-
-pub full-if : (why : Why) (A : Type 0) → A → FullOnly why A
-full-if NoMemory A x = tt
-full-if HistoryFull A x = x
 
 -- ---- an engine, which holds the entries
 

@@ -2,7 +2,7 @@
 use Rattle.std.specs.Prelude.{◌≡◌, ◌≤◌}
 use Rattle.bd_space.specs.Histories.{History, IsHistory, space_after}
 use Rattle.bd_engine.specs.declared.live.Live.{Live}
-use Rattle.bd_engine.specs.Stands.{Before}
+use Rattle.bd_step.specs.Stands.{Before}
 
 -- the history is lawful, has as many seats, and the tables stand for the space after it
 pub record Follows (l : Live) (h : History) : Type 0 where

@@ -3,18 +3,7 @@ use Rattle.std.specs.Prelude.{ℕ, ◌≤◌}
 use Rattle.bd_uapi.specs.Limits.{IsSeats}
 use Rattle.bd_uapi.specs.declared.fault.Fault.{Fault}
 use Rattle.bd_uapi.specs.declared.fault.Fault.TheVariants as fault
-use Rattle.bd_engine.specs.declared.why.Why.{Why}
-use Rattle.bd_engine.specs.declared.why.Why.TheVariants.{NoMemory, HistoryFull}
-
--- a full history is answered only where P holds
-abbrev pub FullOnly : Why → Type 0 → Type 0
-FullOnly NoMemory P = Unit {0}
-FullOnly HistoryFull P = P
-
--- want of memory is answered only where P holds
-abbrev pub MemoryOnly : Why → Type 0 → Type 0
-MemoryOnly NoMemory P = P
-MemoryOnly HistoryFull P = Unit {0}
+pub use Rattle.bd_step.specs.Refusals.{FullOnly, MemoryOnly}
 
 -- the fault is that of the number of seats, and that is outside, or memory was refused
 abbrev pub IsSeatFault : ℕ → Fault → Type 0

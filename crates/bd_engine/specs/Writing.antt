@@ -17,8 +17,8 @@ use Rattle.bd_space.specs.Histories.{History, space_after, HasPlace}
 use Rattle.bd_space.specs.Streams.{readable, commands_of}
 use Rattle.bd_space.specs.Writes.{Written, written, wrote}
 use Rattle.bd_space.specs.Runs.{AllBy, HasRun, HasEntry, IsAtLimit}
-use Rattle.bd_engine.specs.declared.why.Why.{Why}
-use Rattle.bd_engine.specs.declared.why.Why.TheVariants.{NoMemory, HistoryFull}
+use Rattle.bd_step.specs.declared.why.Why.{Why}
+use Rattle.bd_step.specs.declared.why.Why.TheVariants.{NoMemory, HistoryFull}
 use Rattle.bd_engine.specs.Refusals.{FullOnly, MemoryOnly}
 use Rattle.bd_engine.specs.declared.write.Progress.{Progress}
 use Rattle.bd_engine.specs.declared.write.Course.{Course}

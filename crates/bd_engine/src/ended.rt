@@ -1,88 +1,18 @@
 //! Buffers that end by a step: where they were made.
 
-ghost use Rattle.std.specs.Prelude.{◌≡◌, ◌<◌, [], true, Some, Option, IfOk, IfErr, OnOk, OnErr, filter};
-ghost use Rattle.bd_uapi.specs.declared.command.Command.TheVariants as bc;
-ghost use Rattle.bd_space.specs.declared.step.Step.TheVariants as step_of;
-ghost use Rattle.bd_space.specs.declared.step.Parcel.{Parcel};
+ghost use Rattle.std.specs.Prelude.{◌≡◌, ◌<◌, [], true, Some, IfOk, IfErr, OnOk, OnErr, filter};
 ghost use Rattle.bd_space.specs.Histories.{History, HasPlace, space_after, extended, is_at_limit};
 ghost use Rattle.bd_space.specs.Steps as steps;
-ghost use Rattle.bd_engine.specs.{Stands.{Before}, Follows.{Follows}, Refusals.{FullOnly, MemoryOnly}};
-ghost use Rattle.bd_engine.specs.Ending.{is_gone, ended_between, HasEndings};
+ghost use Rattle.bd_step.specs.{Refusals.{FullOnly, MemoryOnly}, Ending.{is_gone, ended_between, HasEndings}};
+ghost use Rattle.bd_engine.specs.Follows.{Follows};
 
 use crate::live::Live;
-use crate::tables::Tables;
-use crate::why::Why;
 use bd_space::{Entry, Step};
-use bd_uapi::Command;
-use std::alloc::AllocError;
-
-impl Tables {
-    // Where the buffer was made that the seat's process knows by this pointer, if there is one.
-    fn list_freed(&self, seat: u32, pointer: u64, places: &mut Vec<u32>) -> Result<(), AllocError>
-        requires none { places.old.items ≡ [] }
-        ensures { OnOk result ((h : History) (parcel : Option Parcel) → Before self.now (space_after h)
-            → HasEndings places.new.items (space_after h)
-            (steps.change (space_after h) seat (step_of.Command (bc.FreeBuffer pointer) parcel)).space) }
-    {
-        let Some(a) = self.actor(seat) else {
-            return Ok(());
-        };
-        if let Some(b) = self.windows.at_pointer(a.process.made, pointer) {
-            places.push(b.made)?;
-        }
-        Ok(())
-    }
-
-    // Where the live buffers were made that the seat's process has received.
-    fn list_received(&self, seat: u32, places: &mut Vec<u32>) -> Result<(), AllocError>
-        requires none { places.old.items ≡ [] }
-        ensures thread { OnOk result ((h : History) → Before self.now (space_after h)
-            → HasEndings places.new.items (space_after h) (steps.change (space_after h) seat step_of.ExitThread).space) }
-        ensures process { OnOk result ((h : History) → Before self.now (space_after h)
-            → HasEndings places.new.items (space_after h) (steps.change (space_after h) seat step_of.ExitProcess).space) }
-    {
-        match self.actor(seat) {
-            None => Ok(()),
-            Some(a) => self.windows.list_made(a.process.made, places),
-        }
-    }
-
-    // Where buffers were made among which are all that the command ends.
-    fn list_endings_of(
-        &self,
-        seat: u32,
-        command: &Command,
-        places: &mut Vec<u32>,
-    ) -> Result<(), AllocError>
-        requires none { places.old.items ≡ [] }
-        ensures { OnOk result ((h : History) (parcel : Option Parcel) → Before self.now (space_after h)
-            → HasEndings places.new.items (space_after h)
-            (steps.change (space_after h) seat (step_of.Command command.now parcel)).space) }
-    {
-        match command {
-            Command::FreeBuffer(pointer) => self.list_freed(seat, *pointer, places),
-            _ => Ok(()),
-        }
-    }
-
-    // Where buffers were made among which are all that the step of the seat ends. Only a `BC_FREE_BUFFER` and the exits end
-    // any: with another step nothing is looked at.
-    fn list_endings(&self, seat: u32, step: &Step, places: &mut Vec<u32>) -> Result<(), AllocError>
-        requires none { places.old.items ≡ [] }
-        ensures { OnOk result ((h : History) → Before self.now (space_after h)
-            → HasEndings places.new.items (space_after h) (steps.change (space_after h) seat step.now).space) }
-    {
-        match step {
-            Step::Command { command, parcel: _ } => self.list_endings_of(seat, command, places),
-            Step::ExitThread => self.list_received(seat, places),
-            Step::ExitProcess => self.list_received(seat, places),
-            _ => Ok(()),
-        }
-    }
-}
+use bd_step::Why;
 
 impl Live {
-    // The same. A full history is found before any memory is asked for.
+    // Where buffers were made among which are all that the step of the seat ends. A full history is found before any memory
+    // is asked for.
     fn list_endings(&self, seat: u32, step: &Step, places: &mut Vec<u32>) -> Result<(), Why>
         requires none { places.old.items ≡ [] }
         ensures listed { OnOk result ((h : History) → Follows self.now h
@@ -117,6 +47,7 @@ impl Live {
     {
         places.retain(|made| self.is_gone(*made));
     }
+
     /// Makes one step as `step` does, and puts into `ended`, in place of what it had, the buffers that ended by it, each by
     /// the place of the step that made it, oldest first. Only a `BC_FREE_BUFFER`, which may end one, and an exit, which ends
     /// buffers of its own process alone, look for them; a step of another kind costs nothing more. Memory for them is asked

@@ -5,13 +5,13 @@ ghost use Rattle.bd_uapi.specs.Limits.{most_seats, IsSeats};
 ghost use Rattle.bd_space.specs.Histories as histories;
 ghost use Rattle.bd_space.specs.Histories.{most_steps};
 ghost use Rattle.bd_space.specs.Steps as steps;
-ghost use Rattle.bd_engine.specs.{Stands.{Before}, Refusals.{FullOnly, MemoryOnly, IsSeatFault}};
-ghost use Rattle.bd_engine.specs.declared.why.Why.TheVariants.{NoMemory};
+ghost use Rattle.bd_step.specs.Stands.{Before};
+ghost use Rattle.bd_engine.specs.Refusals.{FullOnly, MemoryOnly, IsSeatFault};
+ghost use Rattle.bd_step.specs.declared.why.Why.TheVariants.{NoMemory};
 
 use crate::live::Live;
-use crate::tables::Tables;
-use crate::why::Why;
 use bd_space::{Entries, Entry, Record, Step, StepAnswer};
+use bd_step::{Tables, Why};
 use bd_uapi::{Fault, MOST_SEATS};
 use std::alloc::{AllocError, Global};
 use std::marker::Model;

@@ -4,12 +4,12 @@ ghost use Rattle.std.specs.Prelude.{◌≡◌, ◌<◌, true, [], length, IfOk, 
 ghost use Rattle.bd_space.specs.Histories as histories;
 ghost use Rattle.bd_space.specs.Histories.{History, HasPlace, history_of};
 ghost use Rattle.bd_space.specs.Steps as steps;
-ghost use Rattle.bd_engine.specs.{Stands.{Before}, Follows.{Follows}};
+ghost use Rattle.bd_step.specs.Stands.{Before};
+ghost use Rattle.bd_engine.specs.Follows.{Follows};
 ghost use Rattle.bd_engine.specs.Refusals.{FullOnly, MemoryOnly, IsLiveSeats, IsLiveSeatFault};
 
-use crate::tables::Tables;
-use crate::why::Why;
 use bd_space::{Entry, Step, StepAnswer};
+use bd_step::{Tables, Why};
 use bd_uapi::Fault;
 use std::alloc::{AllocError, Global};
 

@@ -6,7 +6,7 @@ ghost use Rattle.bd_space.specs.{Histories.{History, space_after}, Seats.{thread
 ghost use Rattle.bd_space.specs.Names as names;
 ghost use Rattle.bd_space.specs.{Todo.{work_on}, Deaths.{is_notification}, Returns.{buffer_in}};
 ghost use Rattle.bd_engine.specs.Follows.{Follows};
-ghost use Rattle.bd_engine.specs.Looks as looks;
+ghost use Rattle.bd_step.specs.Looks as looks;
 
 use crate::live::Live;
 use bd_links::Works;

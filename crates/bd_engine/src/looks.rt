@@ -2,73 +2,11 @@
 
 ghost use Rattle.std.specs.{Prelude.{◌≡◌}, Option.{option_copied}};
 ghost use Rattle.bd_space.specs.{Histories.{space_after}, Returns.{buffer_in}};
-ghost use Rattle.bd_engine.specs.Looks as looks;
-ghost use Rattle.bd_engine.specs.Stands.{Tells, TellsOfStacked};
+ghost use Rattle.bd_step.specs.Looks as looks;
 
 use crate::engine::Engine;
-use crate::tables::Tables;
-use bd_calls::serves;
 use bd_objects::CarriedObjects;
-use bd_space::{Buffer, ObjectId, TodoList};
-
-impl Tables {
-    pub(crate) fn process_of(&self, seat: u32) -> Option<u32>
-        ensures { Tells self.now result (λ s. looks.process_of s seat) }
-    {
-        match self.calls.thread(seat) {
-            Some(t) => Some(t.process),
-            None => None,
-        }
-    }
-
-    pub(crate) fn process_of_pid(&self, pid: u32) -> Option<u32>
-        ensures { Tells self.now result (λ s. looks.process_of_pid s pid) }
-    {
-        match self.process_with_pid(pid) {
-            Some(q) => Some(q.made),
-            None => None,
-        }
-    }
-
-    pub(crate) fn named_by(&self, pid: u32, number: u32) -> Option<ObjectId>
-        ensures { Tells self.now result (λ s. looks.named_by s pid number) }
-    {
-        match self.process_with_pid(pid) {
-            Some(q) => self.objects.named(q.made, number),
-            None => None,
-        }
-    }
-
-    pub(crate) fn owner_of_object(&self, o: ObjectId) -> Option<u32>
-        ensures { Tells self.now result (λ s. looks.owner_of s o) }
-    {
-        match self.objects.object(o) {
-            Some(x) => Some(x.owner),
-            None => None,
-        }
-    }
-
-    pub(crate) fn innermost_of(&self, seat: u32) -> Option<(u32, bool)>
-        ensures { TellsOfStacked self.now result (λ s. looks.innermost_of s seat) }
-    {
-        match self.calls.innermost(seat) {
-            Some(f) => Some((f.made, serves(seat, f.server))),
-            None => None,
-        }
-    }
-
-    pub(crate) fn first_reply_of(&self, seat: u32) -> Option<u32>
-        ensures { Tells self.now result (λ s. looks.first_reply s seat) }
-    {
-        self.calls.first_reply(TodoList::OfThread(seat))
-    }
-
-    pub(crate) fn is_known_to(&self, process: u32, o: ObjectId) -> bool
-        ensures { Tells self.now result (λ s. looks.knows s process o) }
-    {
-        self.objects.number_of(process, o).is_some()
-    }
-}
+use bd_space::{Buffer, ObjectId};
 
 impl Engine {
     /// The process of the live thread of a seat, by the place of its Open. Takes no memory.

@@ -4,7 +4,7 @@ ghost use Rattle.std.specs.Prelude.{◌≡◌, Some, find};
 ghost use Rattle.bd_space.specs.{Histories.{space_after}, Seats.{process_in, thread_in}, References.{object_in}};
 ghost use Rattle.bd_space.specs.Names as names;
 ghost use Rattle.bd_space.specs.{Todo.{work_on}, Deaths.{is_notification}};
-ghost use Rattle.bd_engine.specs.Looks as looks;
+ghost use Rattle.bd_step.specs.Looks as looks;
 
 use crate::engine::Engine;
 use bd_links::Works;

@@ -8,8 +8,8 @@ ghost use Rattle.bd_space.specs.Runs.{HasRun, HasEntry, IsAtLimit, answered};
 ghost use Rattle.bd_engine.specs.{Refusals.{FullOnly, MemoryOnly}, Writing.{IsTurnedAway}};
 
 use crate::engine::Engine;
-use crate::why::Why;
 use bd_space::{Answer, Request, Step, StepAnswer};
+use bd_step::Why;
 use bd_uapi::Fault;
 
 /// What a run answered, and the places of its steps: from `from` up to and without `to`.

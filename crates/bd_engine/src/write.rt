@@ -12,9 +12,9 @@ ghost use Rattle.bd_engine.specs.Writing.{HasCome, IsSame, IsAfter, IsCourse, Is
 
 use crate::engine::Engine;
 use crate::parcel::parcel_for;
-use crate::why::Why;
 use bd_codec::read_command;
 use bd_space::{Answer, Notes, Step, StepAnswer, Stop};
+use bd_step::Why;
 use bd_uapi::{Command, Fault, Note};
 use std::alloc::{AllocError, Global};
 

@@ -1,6 +1,6 @@
 use Rattle.bd_space.specs.Histories.{space_after}
 use Rattle.bd_laws.proofs.Always.{always-tidy}
-use Rattle.bd_engine.proofs.Stacked.{tidy-stacked}
+use Rattle.bd_step.proofs.Stacked.{tidy-stacked}
 use Rattle.bd_engine.proofs.engine.Engine.innermost.Goals as goal
 
 pub returns : goal.returns

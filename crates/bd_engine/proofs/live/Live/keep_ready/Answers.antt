@@ -1,9 +1,9 @@
 use Rattle.std.proofs.Common.{refl, sym, subst}
 use Rattle.bd_space.specs.Histories.{space_after}
-use Rattle.bd_engine.specs.declared.tables.Tables.{Tables}
-use Rattle.bd_engine.specs.Stands.{Before}
+use Rattle.bd_step.specs.declared.tables.Tables.{Tables}
+use Rattle.bd_step.specs.Stands.{Before}
 use Rattle.bd_engine.proofs.Keeping.{follows-kept}
-use Rattle.bd_engine.proofs.Changing.{with-calls}
+use Rattle.bd_step.proofs.Changing.{with-calls}
 use Rattle.bd_engine.proofs.live.Live.keep_ready.Goals as goal
 
 pub returns-clause-follows : goal.returns-clause-follows

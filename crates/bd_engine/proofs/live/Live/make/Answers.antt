@@ -2,10 +2,11 @@ use Rattle.std.proofs.Common.{ℕ, ◌≡◌, ◌+◌, ◌≤◌, ◌<◌, lengt
 use Rattle.std.proofs.lemmas.Bool.{le-leb}
 use Rattle.bd_space.specs.Histories.{HasPlace, space_after}
 use Rattle.bd_laws.proofs.Always.{always-tidy}
-use Rattle.bd_engine.specs.declared.tables.Tables.{Tables}
-use Rattle.bd_engine.specs.Stands.{Before}
+use Rattle.bd_step.specs.declared.tables.Tables.{Tables}
+use Rattle.bd_step.specs.Stands.{Before}
 use Rattle.bd_laws.proofs.Machine.Steps.{change-steps}
-use Rattle.bd_engine.proofs.Keeping.{follows-step, follows-kept, place, full-at-length, full-by-number, full-as, memory-if}
+use Rattle.bd_step.proofs.Refusals.{full-as, memory-if}
+use Rattle.bd_engine.proofs.Keeping.{follows-step, follows-kept, place, full-at-length, full-by-number}
 use Rattle.bd_engine.proofs.live.Live.make.Goals as goal
 
 pub returns-in_default-clause-full : goal.returns-in_default-clause-full

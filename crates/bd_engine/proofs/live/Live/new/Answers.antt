@@ -1,7 +1,7 @@
 use Rattle.std.proofs.Common.{arith, refl, sym, subst}
 use Rattle.bd_space.specs.Space.{opening}
-use Rattle.bd_engine.specs.declared.tables.Tables.{Tables}
-use Rattle.bd_engine.specs.Stands.{Before}
+use Rattle.bd_step.specs.declared.tables.Tables.{Tables}
+use Rattle.bd_step.specs.Stands.{Before}
 use Rattle.bd_engine.proofs.Keeping.{follows-new}
 use Rattle.bd_engine.proofs.live.Live.new.Goals as goal
 

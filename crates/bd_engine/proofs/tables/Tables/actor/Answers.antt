@@ -1,8 +1,0 @@
-use Rattle.std.proofs.Common.{ap, sym, ◌∙◌}
-use Rattle.std.specs.Prelude.{option_and_then}
-use Rattle.bd_space.specs.Seats.{actor, actor_of}
-use Rattle.bd_engine.proofs.tables.Tables.actor.Goals as goal
-
-pub returns-in-Some-clause-found : goal.returns-in-Some-clause-found
-unfolding actor
-returns-in-Some-clause-found c = λ n s h. c.actor_of.ensures.found n s h ∙ ap (option_and_then (actor_of s)) (sym c.in-Some.is ∙ c.thread.ensures s h.calls_stand)

@@ -1,7 +1,0 @@
-use Rattle.std.specs.List.{fold}
-use Rattle.bd_space.specs.Delivery.{own_notices, withdraw_notice}
-use Rattle.bd_engine.proofs.tables.Tables.own_notices.Goals as goal
-
-pub returns-clause-stands : goal.returns-clause-stands
-unfolding own_notices
-returns-clause-stands c = λ n s h. c.add_notices.ensures.stands n (record s { todo = fold (withdraw_notice s.objects) s.todo c.args.items.now }) (c.withdraw_notices.ensures.stands n s h)

@@ -1,5 +1,0 @@
-use Rattle.bd_engine.proofs.Telling.{told-stands}
-use Rattle.bd_engine.proofs.tables.Tables.tell_caller.Goals as goal
-
-pub returns-clause-stands : goal.returns-clause-stands
-returns-clause-stands c = λ n s h. told-stands n c.args.self.now c.tell_caller.new.self s c.args.f c.args.kind h (c.tell_caller.ensures.stands s h.calls_stand h.own.steps_are)

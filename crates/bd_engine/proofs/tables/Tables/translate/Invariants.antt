@@ -1,9 +1,0 @@
-use Rattle.std.proofs.Common.{ℕ, ◌≡◌, take}
-use Rattle.std.specs.List.{fold}
-use Rattle.bd_space.specs.Space.{Space}
-use Rattle.bd_space.specs.Translation.{translate_item}
-use Rattle.bd_engine.specs.Stands.{StandsAt}
-use Rattle.bd_engine.proofs.tables.Tables.translate.Given as goal
-
-abbrev pub invariant-loop-x : goal.invariant-loop-x
-invariant-loop-x l = (n : ℕ) (s : Space) → StandsAt n l.self s → l.bytes ≡ fold (translate_item s.objects s.names l.q) l.fn.bytes (take l.x-index l.items)

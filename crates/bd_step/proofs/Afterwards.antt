@@ -1,0 +1,82 @@
+-- What follows from a transaction and from a reply: a look at the objects of the parcel does it all, but for a call that ripens
+-- and those that close.
+use Rattle.std.proofs.Common.{◌≡◌, ℕ, Bool, true, false, Option, Some, None, length, refl, ap, sym, ◌∙◌}
+use Rattle.std.specs.Prelude.{if◌then◌else◌}
+use Rattle.bd_uapi.specs.declared.command.TransactionData.{TransactionData}
+use Rattle.bd_space.specs.declared.step.ObjectId.{ObjectId}
+use Rattle.bd_space.specs.declared.space.Frame.{Frame}
+use Rattle.bd_space.specs.declared.space.Actor.{Actor}
+use Rattle.bd_space.specs.Space.{Space}
+use Rattle.bd_space.specs.Delivery.{Delivery}
+use Rattle.bd_space.specs.Outcomes.{completed}
+use Rattle.bd_space.specs.Transactions.{transacted}
+use Rattle.bd_space.specs.Replies.{replied}
+use Rattle.bd_space.specs.Local.{follow_of, ripen_of, close_up, no_name, objects_of_items}
+use Rattle.bd_laws.specs.Lists.{In, Pairs}
+use Rattle.bd_laws.specs.Objects.{Earlier}
+use Rattle.bd_laws.specs.Tidy.{IsTidy}
+use Rattle.bd_laws.proofs.Objects.{transacted-kept, replied-kept}
+use Rattle.bd_laws.proofs.Checks.{transaction-checked, reply-checked}
+use Rattle.bd_laws.proofs.Next.{calm}
+use Rattle.bd_laws.proofs.Framing.{one-each}
+use Rattle.bd_laws.proofs.Abandoned.{OneEach}
+use Rattle.bd_laws.proofs.Stacks.{replied-childless}
+use Rattle.bd_laws.proofs.Pings.{transaction-delivers}
+use Rattle.bd_laws.proofs.Sending.{one_way-local, two_way-local}
+use Rattle.bd_laws.proofs.Replying.{reply-local}
+use Rattle.bd_step.specs.Meets.{IsSending, IsServing, IsReplying}
+use Rattle.bd_step.specs.Deliveries.{SendsNew, CanCall}
+use Rattle.bd_step.specs.Freed.{ripen_next}
+use Rattle.bd_step.proofs.New.{sending-new}
+use Rattle.bd_step.proofs.Finding.{found-lives}
+use Rattle.bd_step.proofs.Stacked.{tidy-stacked}
+
+pub ripened-ordered : (target : Option ObjectId) (s : Space) → Pairs Earlier s.objects → Pairs Earlier (ripen_next target s).objects
+unfolding ripen_of
+ripened-ordered None s h = h
+ripened-ordered (Some o) s h = h
+
+-- ---- a transaction
+
+module _ (s : Space) (a : Actor) (d : TransactionData) (v : Delivery) (p : IsSending a d v s) where
+  pub sent-call : CanCall v s
+  sent-call =
+      let t = transaction-checked s a d p.checked.0 v p.checked.1 in
+      record {
+        new = sending-new s a.process.made p.tidy d p.checked.0 v.sending t.sends;
+        lives = found-lives s.processes t.owned.object.owner v.receiver t.owned.lives;
+        stacked = tidy-stacked s p.tidy;
+      }
+
+  pub sent-ordered : Pairs Earlier (transacted s a d v).objects
+  sent-ordered = (transacted-kept s a d p.checked.0 v p.tidy.before.objects p.checked.1).in_order
+
+  pub sent-followed : completed (transacted s a d v) ≡ follow_of no_name (objects_of_items v.sending.items) (ripen_next (if v.one_way then v.target else None) (transacted s a d v))
+  sent-followed = at v.one_way refl
+    where
+      at : (b : Bool) → v.one_way ≡ b
+          → completed (transacted s a d v) ≡ follow_of no_name (objects_of_items v.sending.items) (ripen_next (if b then v.target else None) (transacted s a d v))
+      at true one =
+          let t = transaction-checked s a d p.checked.0 v p.checked.1 in
+          one_way-local s a d v (calm s p.tidy.quiet) p.tidy.before.objects (transaction-delivers s a d p.checked.0 v p.tidy.before.objects p.checked.1) p.tidy.quiet.settled t.object one t.target
+          ∙ ap (λ (o : Option ObjectId). follow_of no_name (objects_of_items v.sending.items) (ripen_next o (transacted s a d v))) (sym t.target)
+      at false two = two_way-local s a d v (calm s p.tidy.quiet) p.tidy.before.objects (transaction-delivers s a d p.checked.0 v p.tidy.before.objects p.checked.1) p.tidy.quiet.settled two
+
+-- ---- a reply
+
+pub one-frame-each : (s : Space) → IsTidy s → OneEach s.frames
+one-frame-each s tidy = one-each s tidy.framed
+
+pub served-there : (s : Space) (seat : ℕ) (f : Frame) → IsServing seat f s → In f s.frames
+served-there s seat f p = (replied-childless s seat f p.tidy p.serves).0
+
+module _ (s : Space) (a : Actor) (d : TransactionData) (f : Frame) (v : Delivery) (p : IsReplying a d f v s) where
+  pub replied-new : SendsNew v s
+  replied-new = sending-new s a.process.made p.serving.tidy d p.checked.0 v.sending (reply-checked s a d p.checked.0 f v p.checked.1).sends
+
+  pub replied-ordered : Pairs Earlier (replied s a d f v).objects
+  replied-ordered = (replied-kept s a d p.checked.0 f v p.serving.tidy.before.objects p.checked.1).in_order
+
+  -- frames close from the parent of the one that ends
+  pub replied-followed : (let z = follow_of no_name (objects_of_items v.sending.items) (replied s a d f v) in completed (replied s a d f v) ≡ close_up (length z.frames) f.parent z)
+  replied-followed = reply-local s a d p.checked.0 f v p.serving.tidy p.checked.1 (one-frame-each s p.serving.tidy) (served-there s a.thread.seat f p.serving)

@@ -1,0 +1,110 @@
+-- How tables go on standing through the parts of a delivery.
+use Rattle.std.proofs.Common.{◌≡◌, ℕ, true, ◌+◌, ◌<◌, ◌≤◌, ◌&&◌, not, Bool, cond, List, ◌++◌, Option, take, drop, length, get_or, ap, sym, subst, ◌∙◌, arith, filter, map}
+use Rattle.std.proofs.lemmas.List.{take_all}
+use Rattle.std.specs.List.{fold}
+use Rattle.bd_uapi.specs.declared.command.TransactionData.{TransactionData}
+use Rattle.bd_space.specs.declared.space.Buffer.{Buffer}
+use Rattle.bd_space.specs.declared.space.Actor.{Actor}
+use Rattle.bd_space.specs.Windows.{needed}
+use Rattle.bd_step.specs.Deliveries.{OnlyWorks}
+use Rattle.std.proofs.lemmas.List.Sums.{fold_more}
+use Rattle.bd_uapi.specs.declared.object.FlatObject.{FlatObject}
+use Rattle.bd_uapi.specs.Records.{object_bytes}
+use Rattle.bd_space.specs.declared.step.ObjectId.{ObjectId}
+use Rattle.bd_space.specs.declared.space.Object.{Object}
+use Rattle.bd_space.specs.declared.space.Item.{Item}
+use Rattle.bd_space.specs.declared.space.Work.{Work}
+use Rattle.bd_space.specs.Words.{is_some_and}
+use Rattle.bd_space.specs.Space.{Space}
+use Rattle.bd_space.specs.References.{object_in}
+use Rattle.bd_space.specs.Names.{assign_numbers, names_go, has_number_past_limit}
+use Rattle.bd_uapi.specs.Kinds.{is_own, is_strong_kind}
+use Rattle.bd_space.specs.Parcels.{object_of_item}
+use Rattle.bd_space.specs.Todo.{is_notice}
+use Rattle.bd_space.specs.Delivery.{Delivery, make_objects, refer, known_by, withdraw_notice, buffer_of, add_buffer, own_notices}
+use Rattle.bd_space.specs.Translation.{translate_item, translated, translation}
+use Rattle.bd_objects.specs.declared.table.ObjectTable.{ObjectTable}
+use Rattle.bd_objects.specs.Stands as objects
+use Rattle.bd_step.specs.declared.tables.Tables.{Tables}
+use Rattle.bd_step.specs.Stands.{StandsAt, Before}
+use Rattle.bd_step.proofs.Changing.{with-objects}
+
+-- ---- notices
+
+abbrev takes_notice : List Object → Item → Bool
+takes_notice objects x = is_own x.flat.kind && is_strong_kind x.flat.kind && is_some_and (object_in objects x.object) (λ o. not o.told_strong)
+
+pub withdrawn : (objects : List Object) (todo : List Work) (x : Item) (b : Bool) → b ≡ takes_notice objects x
+    → cond b (filter (λ w. not (is_notice x.object w.kind)) todo) todo ≡ withdraw_notice objects todo x
+withdrawn objects todo x b e = ap (λ (v : Bool). cond v (filter (λ w. not (is_notice x.object w.kind)) todo) todo) e
+
+-- one item more
+pub todo-more : (n : ℕ) (t : Tables) (s : Space) (f : List Work → Item → List Work) (items : List Item) (k : ℕ) (d : Item) → k < length items
+    → StandsAt n t (record s { todo = f (fold f s.todo (take k items)) (get_or items k d) }) → StandsAt n t (record s { todo = fold f s.todo (take (k + 1) items) })
+todo-more n t s f items k d lt h = subst (λ (todo : List Work). StandsAt n t (record s { todo = todo })) (sym (fold_more f s.todo items k d lt)) h
+
+-- ---- the translation
+
+pub translated-more : (s : Space) (q : ℕ) (base bytes new : List ℕ) (items : List Item) (k : ℕ) (d : Item) (flat : FlatObject) → k < length items
+    → new ≡ take (get_or items k d).at bytes ++ object_bytes flat ++ drop ((get_or items k d).at + 24) bytes
+    → flat ≡ translated s.objects s.names q (get_or items k d)
+    → bytes ≡ fold (translate_item s.objects s.names q) base (take k items)
+    → new ≡ fold (translate_item s.objects s.names q) base (take (k + 1) items)
+translated-more s q base bytes new items k d flat lt e is so_far =
+    let x = get_or items k d in
+    e ∙ ap (λ (y : FlatObject). take x.at bytes ++ object_bytes y ++ drop (x.at + 24) bytes) is
+    ∙ ap (λ (bs : List ℕ). translate_item s.objects s.names q bs x) so_far
+    ∙ sym (fold_more (translate_item s.objects s.names q) base items k d lt)
+
+-- ---- objects, references and names
+
+abbrev delivered : Space → ℕ → List Object → List Item → Option ObjectId → Space
+delivered s q made items target = assign_numbers (refer (make_objects s made) q items target) q (map object_of_item items)
+
+known-is : (s : Space) (v : Delivery) (q : ℕ) (made : List Object) (items : List Item) (target : Option ObjectId)
+    → q ≡ v.receiver.made → made ≡ v.sending.made → items ≡ v.sending.items → target ≡ v.target → delivered s q made items target ≡ known_by s v
+unfolding known_by
+known-is s v q made items target a b c e =
+    ap (λ (x : ℕ). delivered s x made items target) a ∙ ap (λ (x : List Object). delivered s v.receiver.made x items target) b
+    ∙ ap (λ (x : List Item). delivered s v.receiver.made v.sending.made x target) c ∙ ap (delivered s v.receiver.made v.sending.made v.sending.items) e
+
+pub known-stands : (t : Tables) (os : ObjectTable) (s : Space) (v : Delivery) (q : ℕ) (made : List Object) (items : List Item) (target : Option ObjectId)
+    → q ≡ v.receiver.made → made ≡ v.sending.made → items ≡ v.sending.items → target ≡ v.target
+    → Before t s → objects.StandsFor os (delivered s q made items target) → Before (record t { objects = os }) (known_by s v)
+unfolding assign_numbers refer make_objects
+known-stands t os s v q made items target a b c e h k =
+    let P : Space → Type 0 = λ z. Before (record t { objects = os }) z in
+    subst P (known-is s v q made items target a b c e) (with-objects s.steps t s os _ _ _ s.deaths h k)
+
+pub known-full : (s : Space) (v : Delivery) (q : ℕ) (made : List Object) (items : List Item) (target : Option ObjectId)
+    → q ≡ v.receiver.made → made ≡ v.sending.made → items ≡ v.sending.items → target ≡ v.target
+    → has_number_past_limit (names_go (delivered s q made items target)).names ≡ true → has_number_past_limit (names_go (known_by s v)).names ≡ true
+known-full s v q made items target a b c e full =
+    ap (λ (z : Space). has_number_past_limit (names_go z).names) (sym (known-is s v q made items target a b c e)) ∙ full
+
+-- ---- ends of loops over items
+
+pub fold-all : {A : Type 0} (f : A → Item → A) (a : A) (items : List Item) (k : ℕ) → length items ≤ k → fold f a (take k items) ≡ fold f a items
+fold-all f a items k le = ap (fold f a) (take_all k items le)
+
+pub todo-all : (n : ℕ) (t : Tables) (s : Space) (f : List Work → Item → List Work) (items : List Item) (k : ℕ) → length items ≤ k
+    → StandsAt n t (record s { todo = fold f s.todo (take k items) }) → StandsAt n t (record s { todo = fold f s.todo items })
+todo-all n t s f items k le h = subst (λ (todo : List Work). StandsAt n t (record s { todo = todo })) (fold-all f s.todo items k le) h
+
+pub only-works : (a b c : Tables) (m n k : ℕ) → OnlyWorks a b m → OnlyWorks b c n → m + n ≡ k → OnlyWorks a c k
+only-works a b c m n k h i e = search arith
+
+-- ---- the buffer
+
+pub buffer-is : (s : Space) (a : Actor) (d : TransactionData) (v w : Delivery) (made size : ℕ) (bytes offsets : List ℕ) → w ≡ v
+    → s.steps ≡ made → size ≡ needed d.data_size d.offsets_size → bytes ≡ translation s w.receiver.made w.sending.bytes w.sending.items → offsets ≡ w.sending.offsets
+    → (let b : Buffer = record (buffer_of s a d w) { made = made; size = size; bytes = bytes; offsets = offsets } in b) ≡ buffer_of s a d v
+buffer-is s a d v w made size bytes offsets is m z b o =
+    (λ i. record (buffer_of s a d w) { made = sym m i; size = z i; bytes = b i; offsets = o i }) ∙ ap (buffer_of s a d) is
+
+-- the notices and the buffer in either order
+pub filled-is : (s : Space) (a : Actor) (d : TransactionData) (v : Delivery) (seat : ℕ) (items : List Item) (b : Buffer) → items ≡ v.sending.items → b ≡ buffer_of (own_notices s seat items) a d v
+    → add_buffer (own_notices s seat items) b ≡ own_notices (add_buffer s (buffer_of s a d v)) seat v.sending.items
+unfolding own_notices add_buffer translation
+filled-is s a d v seat items b i e =
+    ap (add_buffer (own_notices s seat items)) e ∙ ap (λ (xs : List Item). add_buffer (own_notices s seat xs) (buffer_of (own_notices s seat xs) a d v)) i

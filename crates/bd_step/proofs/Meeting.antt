@@ -1,0 +1,93 @@
+-- A step meets its definition, space by space.
+use Rattle.std.proofs.Common.{◌≡◌, Bool, true, Result, Ok, Err, refl, ap, sym, subst, ◌∙◌}
+use Rattle.bd_uapi.specs.declared.fault.Fault.{Fault}
+use Rattle.bd_uapi.specs.declared.fault.Note.{Note}
+use Rattle.bd_space.specs.declared.step.StepAnswer.{StepAnswer}
+use Rattle.bd_space.specs.declared.step.StepAnswer.TheVariants.{Noted, Refused}
+use Rattle.bd_space.specs.declared.space.Actor.{Actor}
+use Rattle.bd_space.specs.Space.{Space}
+use Rattle.bd_space.specs.Seats.{actor}
+use Rattle.bd_space.specs.Steps.{by_actor}
+use Rattle.bd_space.specs.Names.{has_number_past_limit}
+use Rattle.bd_space.specs.Outcomes.{Outcome, noted, refused}
+use Rattle.bd_step.specs.declared.tables.Tables.{Tables}
+use Rattle.bd_step.specs.declared.answer.Plain.{Plain}
+use Rattle.bd_step.specs.declared.answer.Twice.{Twice}
+use Rattle.bd_step.specs.Plain.{answer_of, both}
+use Rattle.bd_step.specs.Stands.{Before, Within}
+use Rattle.bd_step.specs.declared.why.Why.{Why}
+use Rattle.bd_step.specs.Refusals.{FullOnly}
+use Rattle.bd_step.specs.Meets.{Meets, IsRefused, IsAny, IsBy, IsStep, IsStepTwice}
+use Rattle.bd_step.proofs.Standing.{within}
+
+-- the tables stand for this outcome's space, and the answer is its answer
+pub record IsOutcome (new : Tables) (answer : StepAnswer) (o : Outcome) : Type 0 where
+  pub answered : answer ≡ o.answer
+  pub stands : Within new o.space
+
+pub meets : (old new : Tables) (P : Space → Type 0) (f : Space → Outcome) (answer : StepAnswer)
+    → ((s : Space) → Before old s → P s → IsOutcome new answer (f s)) → Meets old new P f answer
+meets old new P f answer k = record { answered = λ s h p. (k s h p).answered; stands = λ s h p. (k s h p).stands }
+
+-- a step that is taken meets no other clause
+pub taken-step : (old new : Tables) (P : Space → Type 0) (f : Space → Outcome) (x : Plain) → Meets old new P f (answer_of x) → IsStep old new P f (Ok x)
+taken-step old new P f x m = record { ok = m; err = tt; full = tt }
+
+-- steps that change nothing
+pub is-refused : (t : Tables) (s : Space) (x : Fault) → Before t s → IsOutcome t (Refused x) (refused s x)
+is-refused t s x h = record { answered = refl; stands = within t s h }
+
+pub is-noted : (t : Tables) (s : Space) (n : Note) → Before t s → IsOutcome t (Noted n) (noted s n)
+is-noted t s n h = record { answered = refl; stands = within t s h }
+
+-- what the definition does by cases, in the case that is so
+pub in-case : {B : Type 0} (new : Tables) (answer : StepAnswer) (f : B → Outcome) (x y : B) → x ≡ y → IsOutcome new answer (f y) → IsOutcome new answer (f x)
+in-case new answer f x y e k = subst (λ b. IsOutcome new answer (f b)) (sym e) k
+
+-- ---- one definition said as another
+
+module _ (old : Tables) (P Q : Space → Type 0) (f g : Space → Outcome) (same : (s : Space) → Before old s → Q s → P s × (g s ≡ f s)) where
+  as_meets : (new : Tables) (answer : StepAnswer) → Meets old new P f answer → Meets old new Q g answer
+  as_meets new answer m = record {
+    answered = λ s h q. let k = same s h q in m.answered s h k.0 ∙ ap (λ (o : Outcome). o.answer) (sym k.1);
+    stands = λ s h q. let k = same s h q in subst (λ (o : Outcome). Within new o.space) (sym k.1) (m.stands s h k.0);
+  }
+
+  as_refused : (why : Why) → IsRefused old P f why → IsRefused old Q g why
+  as_refused why m = λ s h q. let k = same s h q in subst (λ (o : Outcome). FullOnly why (has_number_past_limit o.space.names ≡ true)) (sym k.1) (m s h k.0)
+
+  pub as-step : (new : Tables) (r : Result Plain Why) → IsStep old new P f r → IsStep old new Q g r
+  as-step new (Ok x) m = record { ok = as_meets new (answer_of x) m.ok; err = tt; full = tt }
+  as-step new (Err why) m = record { ok = tt; err = m.err; full = as_refused why m.full }
+
+  pub as-step-twice : (new : Tables) (both : Bool) (r : Result Twice Why) → IsStepTwice old new both P f r → IsStepTwice old new both Q g r
+  as-step-twice new both (Ok x) m = record { ok = as_meets new x.answer m.ok; twice = m.twice; err = tt; full = tt }
+  as-step-twice new both (Err why) m = record { ok = tt; twice = λ asked. tt; err = m.err; full = as_refused why m.full }
+
+-- ---- answers twice
+
+pub twice-step : (old new : Tables) (asked : Bool) (P : Space → Type 0) (f : Space → Outcome) (r : Result Plain Why) (t : Result Twice Why) → t ≡ both r
+    → IsStep old new P f r → IsStepTwice old new asked P f t
+twice-step old new asked P f r t e m = subst (IsStepTwice old new asked P f) (sym e) (go r m)
+  where
+    go : (r : Result Plain Why) → IsStep old new P f r → IsStepTwice old new asked P f (both r)
+    go (Ok x) m = record { ok = m.ok; twice = λ a. refl; err = tt; full = tt }
+    go (Err why) m = record { ok = tt; twice = λ a. tt; err = m.err; full = m.full }
+
+-- ---- the step of a live thread, said as one of the thread's, and answered twice
+
+module _ (old : Tables) (a : Actor) (f : Space → Outcome) where
+  -- where the definition asks for no live thread
+  module _ (g : Space → Outcome) (same : (s : Space) → f s ≡ g s) where
+    pub any-step : (new : Tables) (asked : Bool) (r : Result Plain Why) (t : Result Twice Why) → t ≡ both r → IsStep old new IsAny g r → IsStepTwice old new asked (IsBy a) f t
+    any-step new asked r t e m = twice-step old new asked (IsBy a) f r t e (as-step old IsAny (IsBy a) g f (λ s h by. (by.tidy, same s)) new r m)
+
+  module _ (g : Space → Actor → Outcome) (same : (s : Space) → f s ≡ by_actor s (actor s a.thread.seat) (g s)) where
+    pub by-same : (s : Space) → Before old s → IsBy a s → IsBy a s × (f s ≡ g s a)
+    by-same s h by = (by, same s ∙ ap (λ o. by_actor s o (g s)) by.acts)
+
+    pub by-step : (new : Tables) (asked : Bool) (r : Result Plain Why) (t : Result Twice Why) → t ≡ both r → IsStep old new (IsBy a) (λ s. g s a) r → IsStepTwice old new asked (IsBy a) f t
+    by-step new asked r t e m = twice-step old new asked (IsBy a) f r t e (as-step old (IsBy a) (IsBy a) (λ s. g s a) f by-same new r m)
+
+pub answer-is : (old new : Tables) (P : Space → Type 0) (f : Space → Outcome) (a b : StepAnswer) → a ≡ b → Meets old new P f b → Meets old new P f a
+answer-is old new P f a b e m = subst (Meets old new P f) (sym e) m

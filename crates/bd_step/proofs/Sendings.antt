@@ -1,0 +1,87 @@
+-- The objects of a parcel, one resolved after the other.
+use Rattle.std.proofs.Common.{◌≡◌, ℕ, true, ◌+◌, ◌%◌, ◌<◌, ◌≤◌, List, [], ◌∷◌, ◌++◌, Option, None, Some, Result, Ok, Err, zero, suc, drop, length, length-append, get_or, refl, ap, sym, ◌∙◌, arith, add-one, drop-cons}
+use Rattle.std.proofs.Math.ListN.{drop_of_length-le}
+use Rattle.std.proofs.lemmas.List.Elements.{All-append}
+use Rattle.std.proofs.lemmas.Option.{slice_get_within, unwrap_or-slice_get}
+use Rattle.std.specs.Result.{IfOk}
+use Rattle.std.proofs.lemmas.Result.{IfOk-weaker}
+use Rattle.bd_step.specs.declared.tables.Tables.{Tables}
+use Rattle.bd_step.specs.Stands.{StandsAt}
+use Rattle.std.specs.List.{slice_get, All}
+use Rattle.std.specs.Option.{option_to_list, unwrap_or}
+use Rattle.bd_uapi.specs.declared.object.FlatObject.{FlatObject}
+use Rattle.bd_uapi.specs.declared.fault.Cause.{Cause}
+use Rattle.bd_parcel.specs.Reading.{object_at, objects_at}
+use Rattle.bd_parcel.proofs.Walks.{object_at_index}
+use Rattle.bd_space.specs.declared.space.Object.{Object}
+use Rattle.bd_space.specs.declared.space.Item.{Item}
+use Rattle.bd_space.specs.declared.space.Resolved.{Resolved}
+use Rattle.bd_space.specs.Words.{and_then}
+use Rattle.bd_space.specs.Space.{Space}
+use Rattle.bd_space.specs.declared.step.Parcel.{Parcel}
+use Rattle.bd_space.specs.Parcels.{Sending, resolve, resolve_all, resolve_walked, sending_of, is_cut}
+use Rattle.bd_uapi.specs.declared.command.TransactionData.{TransactionData}
+use Rattle.bd_parcel.specs.Parcels.{offsets_in, fault_in}
+use Rattle.std.proofs.lemmas.Bool.{eq-eqb}
+
+next : (os : List ℕ) (k start : ℕ) → slice_get os k ≡ Some start → drop k os ≡ start ∷ drop (k + 1) os
+next os k start at =
+    let lt = slice_get_within os k start at in
+    let here : get_or os k 0 ≡ start = sym (unwrap_or-slice_get os k 0) ∙ ap (λ (o : Option ℕ). unwrap_or o 0) at in
+    rw add-one (drop-cons os k 0 lt ∙ ap (λ (o : ℕ). o ∷ drop (suc k) os) here)
+
+flat_at : (bytes os : List ℕ) (k start : ℕ) (x : FlatObject) → slice_get os k ≡ Some start → slice_get (objects_at bytes os) k ≡ Some x → object_at start bytes ≡ x
+flat_at bytes os k start x at is = let there = object_at_index bytes os k start at in cc
+
+module _ (s : Space) (p : ℕ) (bytes offsets : List ℕ) where
+  one : (made : List Object) (items : List Item) (os : List ℕ) (k start : ℕ) (x : FlatObject) → slice_get os k ≡ Some start → slice_get (objects_at bytes os) k ≡ Some x
+      → resolve_all s p bytes offsets made items (drop k os)
+      ≡ and_then (resolve s p made x) (λ r. resolve_all s p bytes offsets (made ++ option_to_list r.new) (items ++ record { at = start; flat = x; object = r.object } ∷ []) (drop (k + 1) os))
+  one made items os k start x at is =
+      ap (resolve_all s p bytes offsets made items) (next os k start at)
+      ∙ ap (λ (y : FlatObject). and_then (resolve s p made y) (λ r. resolve_all s p bytes offsets (made ++ option_to_list r.new) (items ++ record { at = start; flat = y; object = r.object } ∷ []) (drop (k + 1) os))) (flat_at bytes os k start x at is)
+
+  pub resolved-more : (base : Result Sending Cause) (made made' : List Object) (items items' : List Item) (os : List ℕ) (k start : ℕ) (x : FlatObject) (r : Resolved)
+      → slice_get os k ≡ Some start → slice_get (objects_at bytes os) k ≡ Some x → Ok r ≡ resolve s p made x
+      → made' ≡ made ++ option_to_list r.new → items' ≡ items ++ record { at = start; flat = x; object = r.object } ∷ []
+      → resolve_all s p bytes offsets made items (drop k os) ≡ base → resolve_all s p bytes offsets made' items' (drop (k + 1) os) ≡ base
+  resolved-more base made made' items items' os k start x r at is found m i e =
+      ap (λ ms. resolve_all s p bytes offsets ms items' (drop (k + 1) os)) m
+      ∙ ap (λ xs. resolve_all s p bytes offsets (made ++ option_to_list r.new) xs (drop (k + 1) os)) i
+      ∙ ap (λ (v : Result Resolved Cause). and_then v (λ r. resolve_all s p bytes offsets (made ++ option_to_list r.new) (items ++ record { at = start; flat = x; object = r.object } ∷ []) (drop (k + 1) os))) found
+      ∙ sym (one made items os k start x at is) ∙ e
+
+  pub resolved-stops : (base : Result Sending Cause) (made : List Object) (items : List Item) (os : List ℕ) (k start : ℕ) (x : FlatObject) (cause : Cause)
+      → slice_get os k ≡ Some start → slice_get (objects_at bytes os) k ≡ Some x → Err cause ≡ resolve s p made x
+      → resolve_all s p bytes offsets made items (drop k os) ≡ base → Err cause ≡ base
+  resolved-stops base made items os k start x cause at is found e =
+      ap (λ (v : Result Resolved Cause). and_then v (λ r. resolve_all s p bytes offsets (made ++ option_to_list r.new) (items ++ record { at = start; flat = x; object = r.object } ∷ []) (drop (k + 1) os))) found
+      ∙ sym (one made items os k start x at is) ∙ e
+
+  pub resolved-all : (base : Result Sending Cause) (made : List Object) (items : List Item) (os : List ℕ) (k : ℕ) → length os ≤ k
+      → resolve_all s p bytes offsets made items (drop k os) ≡ base → Ok (record { bytes = bytes; offsets = offsets; made = made; items = items }) ≡ base
+  resolved-all base made items os k le e = ap (resolve_all s p bytes offsets made items) (sym (drop_of_length-le os le)) ∙ e
+
+-- one more element of which P holds
+pub All-push : {X : Type 0} (P : X → Type 0) (xs : List X) (x : X) → All P xs → P x → All P (xs ++ x ∷ [])
+All-push P xs x all here = All-append P xs (x ∷ []) all (λ k d lt. elim k as (λ (j : ℕ). j < 1 → P (get_or (x ∷ []) j d)) [ zero ↦ λ _. here | suc j ↦ λ h. absurd (omega (arith, h)) ] lt)
+
+option_short : {X : Type 0} (o : Option X) → length (option_to_list o) ≤ 1
+option_short None = omega arith
+option_short (Some x) = omega arith
+
+pub length-option : {X : Type 0} (xs ys : List X) (o : Option X) (k : ℕ) → ys ≡ xs ++ option_to_list o → length xs ≤ k → length ys ≤ k + 1
+length-option xs ys o k e le = omega (arith, ap length e, length-append xs (option_to_list o), option_short o)
+
+pub sent-walked : (s : Space) (p : ℕ) (d : TransactionData) (q : Parcel) → true ≡ is_cut d q → length q.offsets % 8 ≡ 0
+    → sending_of s p d (Some q) ≡ resolve_walked s p q (fault_in q.bytes (offsets_in q.offsets))
+unfolding sending_of
+sent-walked s p d q cut whole = rw (← cut, eq-eqb _ _ whole) refl
+
+pub sent-if : {E : Type 0} (t : Tables) (p : ℕ) (d : TransactionData) (q : Parcel) (x : Option Parcel) (r : Result (Result Sending Cause) E) → x ≡ Some q → true ≡ is_cut d q → length q.offsets % 8 ≡ 0
+    → IfOk r (λ y. (n : ℕ) (s : Space) → StandsAt n t s → y ≡ resolve_walked s p q (fault_in q.bytes (offsets_in q.offsets)))
+    → IfOk r (λ y. (n : ℕ) (s : Space) → StandsAt n t s → y ≡ sending_of s p d x)
+sent-if t p d q x r is cut whole h =
+    let P : Result Sending Cause → Type 0 = λ y. (n : ℕ) (s : Space) → StandsAt n t s → y ≡ resolve_walked s p q (fault_in q.bytes (offsets_in q.offsets)) in
+    let Q : Result Sending Cause → Type 0 = λ y. (n : ℕ) (s : Space) → StandsAt n t s → y ≡ sending_of s p d x in
+    IfOk-weaker r P Q (λ y e n s at. e n s at ∙ sym (ap (sending_of s p d) is ∙ sent-walked s p d q cut whole)) h

@@ -1,0 +1,114 @@
+-- How tables go on standing for a space.
+use Rattle.std.proofs.Common.{◌≡◌, ℕ, zero, suc, ◌+◌, ◌&&◌, ◌||◌, ◌==◌, Bool, true, [], length, Option, Some, None, refl, ap, sym, subst, ◌∙◌}
+use Rattle.std.specs.List.{find}
+use Rattle.bd_uapi.specs.declared.command.Return.TheVariants.{DeadReply}
+use Rattle.bd_space.specs.declared.space.Frame.{Frame}
+use Rattle.bd_space.specs.declared.space.WorkKind.{WorkKind}
+use Rattle.bd_space.specs.declared.space.WorkKind.TheVariants.{Verdict}
+use Rattle.bd_space.specs.declared.space.TodoList.TheVariants.{OfThread}
+use Rattle.bd_space.specs.Words.{is_some_and}
+use Rattle.bd_space.specs.Space.{Space}
+use Rattle.bd_space.specs.Frames.{closed, is_frame}
+use Rattle.bd_space.specs.Todo.{owe, tell_caller}
+use Rattle.bd_space.specs.References.{objects_go}
+use Rattle.bd_space.specs.Names.{names_go, has_number_past_limit}
+use Rattle.bd_space.specs.Turns.{ripen}
+use Rattle.bd_space.specs.Notices.{follow, notify, work_goes, deaths_go}
+use Rattle.bd_space.specs.Settle.{settle, settle_one, settle_times, is_abandoned}
+use Rattle.bd_space.specs.Outcomes.{completed}
+use Rattle.bd_space.specs.Local.{close_up, close_among}
+use Rattle.bd_processes.specs.Stands.{ProcessesAre}
+use Rattle.bd_objects.specs.Stands as objects
+use Rattle.bd_calls.specs.declared.table.CallTable.{CallTable}
+use Rattle.bd_calls.specs.Stands as calls
+use Rattle.bd_buffers.specs.WindowsStand.{WindowsOf}
+use Rattle.bd_buffers.proofs.WindowLaws.{stands_in}
+use Rattle.bd_step.specs.declared.tables.Tables.{Tables}
+use Rattle.bd_step.specs.Stands.{Before, Within}
+
+-- ---- from before a step into it
+
+pub within : (t : Tables) (s : Space) → Before t s → Within t s
+within t s h = record {
+  own = h.own;
+  objects_stand = h.objects_stand;
+  calls_stand = h.calls_stand;
+  windows_stand = stands_in t.windows s h.windows_stand;
+}
+
+-- ---- settling changes frames and work items alone
+
+rest : Space → Space
+rest s = record s { frames = []; todo = [] }
+
+told_rest : (s : Space) (made : ℕ) (caller : Option ℕ) (kind : WorkKind) → rest (elim caller as (λ (o : Option ℕ). Space) [ None ↦ closed s made | Some t ↦ owe (closed s made) (OfThread t) kind ]) ≡ rest s
+unfolding rest closed owe
+told_rest s made None kind = refl
+told_rest s made (Some t) kind = refl
+
+one_rest : (s : Space) (o : Option Frame) → rest (settle_one s o) ≡ rest s
+one_rest s None = refl
+one_rest s (Some f) = told_rest s f.made f.caller (Verdict DeadReply)
+
+times_rest : (n : ℕ) (s : Space) → rest (settle_times n s) ≡ rest s
+times_rest zero s = refl
+times_rest (suc n) s = one_rest (settle_times n s) (find (is_abandoned (settle_times n s).frames) (settle_times n s).frames) ∙ times_rest n s
+
+settle_rest : (s : Space) → rest (settle s) ≡ rest s
+unfolding settle
+settle_rest s = times_rest (length s.frames) s
+
+up_rest : (n : ℕ) (made : Option ℕ) (s : Space) → rest (close_up n made s) ≡ rest s
+up_rest zero made s = refl
+up_rest (suc n) None s = refl
+up_rest (suc n) (Some m) s = at (find (λ (f : Frame). is_frame m f && is_abandoned s.frames f) s.frames) (λ p z. up_rest n p z)
+  where
+    at : (o : Option Frame) → ((p : Option ℕ) (z : Space) → rest (close_up n p z) ≡ rest z)
+        → rest (elim o as (λ (o : Option Frame). Space) [ None ↦ s | Some f ↦ close_up n f.parent (tell_caller (closed s f.made) f (Verdict DeadReply)) ]) ≡ rest s
+    at None more = refl
+    at (Some f) more = more f.parent (tell_caller (closed s f.made) f (Verdict DeadReply)) ∙ told_rest s f.made f.caller (Verdict DeadReply)
+
+among_rest : (n : ℕ) (c : ℕ → Bool) (s : Space) → rest (close_among n c s) ≡ rest s
+among_rest zero c s = refl
+among_rest (suc n) c s = at (find (λ (f : Frame). c f.made && is_abandoned s.frames f) s.frames) (λ d z. among_rest n d z)
+  where
+    at : (o : Option Frame) → ((d : ℕ → Bool) (z : Space) → rest (close_among n d z) ≡ rest z)
+        → rest (elim o as (λ (o : Option Frame). Space) [ None ↦ s | Some f ↦ close_among n (λ m. c m || is_some_and f.parent (λ p. p == m)) (tell_caller (closed s f.made) f (Verdict DeadReply)) ]) ≡ rest s
+    at None more = refl
+    at (Some f) more = more (λ m. c m || is_some_and f.parent (λ p. p == m)) (tell_caller (closed s f.made) f (Verdict DeadReply)) ∙ told_rest s f.made f.caller (Verdict DeadReply)
+
+-- tables whose calls alone were changed
+calls_changed : (t : Tables) (cs : CallTable) (s z : Space) → rest z ≡ rest s → Within t s → calls.StandsFor cs z → Within (record t { calls = cs }) z
+unfolding rest
+calls_changed t cs s z same h k =
+    let e = sym same in
+    record {
+      own = record {
+        steps_are = subst (λ z. z.steps ≡ t.steps) e h.own.steps_are;
+        processes_are = subst (λ z. ProcessesAre t.processes z.processes) e h.own.processes_are;
+        manager_is = subst (λ z. z.manager ≡ t.manager) e h.own.manager_is;
+      };
+      objects_stand = subst (objects.StandsFor t.objects) e h.objects_stand;
+      calls_stand = k;
+      windows_stand = subst (λ z. WindowsOf t.windows (z.steps + 1) z.processes z.buffers) e h.windows_stand;
+    }
+
+pub settled-stands : (t : Tables) (cs : CallTable) (s : Space) → Within t s → calls.StandsFor cs (settle s) → Within (record t { calls = cs }) (settle s)
+settled-stands t cs s h k = calls_changed t cs s (settle s) (settle_rest s) h k
+
+pub closed-up-stands : (t : Tables) (cs : CallTable) (s : Space) (made : Option ℕ) → Within t s → calls.StandsFor cs (close_up (length s.frames) made s)
+    → Within (record t { calls = cs }) (close_up (length s.frames) made s)
+closed-up-stands t cs s made h k = calls_changed t cs s _ (up_rest (length s.frames) made s) h k
+
+pub closed-among-stands : (t : Tables) (cs : CallTable) (s : Space) (c : ℕ → Bool) → Within t s → calls.StandsFor cs (close_among (length s.frames) c s)
+    → Within (record t { calls = cs }) (close_among (length s.frames) c s)
+closed-among-stands t cs s c h k = calls_changed t cs s _ (among_rest (length s.frames) c s) h k
+
+-- ---- numbers past the limit
+
+names-completed : (s : Space) → (completed s).names ≡ (names_go s).names
+unfolding completed follow notify work_goes deaths_go objects_go names_go ripen rest
+names-completed s = ap (λ (z : Space). z.names) (settle_rest (follow (ripen s)))
+
+pub numbers-completed : (s : Space) → has_number_past_limit (names_go s).names ≡ true → has_number_past_limit (completed s).names ≡ true
+numbers-completed s e = ap has_number_past_limit (names-completed s) ∙ e

@@ -1,0 +1,225 @@
+-- The steps of BC_TRANSACTION and BC_REPLY, by what was checked.
+use Rattle.std.proofs.Common.{◌≡◌, ℕ, ◌+◌, Bool, true, false, List, Option, Some, None, Result, Ok, Err, refl, ap, sym, subst, ◌∙◌}
+use Rattle.std.specs.Prelude.{◌&&◌, IfSome, option_and_then, option_map, if◌then◌else◌}
+use Rattle.bd_uapi.specs.declared.command.TransactionData.{TransactionData}
+use Rattle.bd_uapi.specs.declared.command.Return.{Return}
+use Rattle.bd_uapi.specs.declared.fault.Cause.{Cause}
+use Rattle.bd_uapi.specs.declared.fault.Cause.TheVariants.{NoManager, DeadOwner, CallerGone}
+use Rattle.bd_uapi.specs.declared.command.Return.TheVariants.{FailedReply, TransactionComplete}
+use Rattle.bd_space.specs.declared.step.ObjectId.{ObjectId}
+use Rattle.bd_space.specs.declared.step.Parcel.{Parcel}
+use Rattle.bd_space.specs.declared.space.Process.{Process}
+use Rattle.bd_space.specs.declared.space.Frame.{Frame}
+use Rattle.bd_space.specs.declared.space.WorkKind.{WorkKind}
+use Rattle.bd_space.specs.declared.space.Callee.{Callee}
+use Rattle.bd_space.specs.declared.space.Actor.{Actor}
+use Rattle.bd_space.specs.declared.space.TodoList.TheVariants.{OfThread}
+use Rattle.bd_space.specs.declared.space.WorkKind.TheVariants.{Complete, Refusal, Reply, Verdict}
+use Rattle.bd_space.specs.Words.{found_or, unless, and_then}
+use Rattle.bd_space.specs.Space.{Space}
+use Rattle.bd_space.specs.Seats.{process_in, actor}
+use Rattle.bd_space.specs.Names.{names_go, has_number_past_limit, assign_numbers}
+use Rattle.bd_space.specs.Todo.{owe, tell_caller}
+use Rattle.bd_space.specs.Frames.{closed, served_innermost}
+use Rattle.bd_space.specs.Parcels.{sending_of}
+use Rattle.bd_space.specs.Windows.{buffers_of}
+use Rattle.bd_space.specs.Spam.{floods, is_spam}
+use Rattle.bd_space.specs.Delivery.{Delivery, delivered, known_by, own_notices, add_buffer, refer, make_objects}
+use Rattle.bd_space.specs.Translation.{translation}
+use Rattle.bd_space.specs.Outcomes.{accepted, stopped}
+use Rattle.bd_space.specs.Transactions.{is_one_way, handle_of, not_own, target_of, owner_of, with_owner, callee_of, caller_cause, sent_to, transaction_check, call_out, called, transacted, refusal, transaction_step, transaction_outcome}
+use Rattle.bd_space.specs.Replies.{caller_of, reply_sent_to, reply_check, replied, reply_refused, reply_outcome, reply_to, reply_step}
+use Rattle.bd_calls.specs.Stacked.{IsStacked}
+use Rattle.bd_step.specs.declared.tables.Tables.{Tables}
+use Rattle.bd_step.specs.Stands.{StandsAt, Within}
+use Rattle.bd_step.specs.Deliveries.{placed_for}
+use Rattle.bd_laws.proofs.Checks.{actor-acts}
+use Rattle.bd_step.proofs.Finding.{found-lives}
+
+-- ---- processes that are found live
+
+pub if-lives : (ps : List Process) (made : ℕ) (r : Option Process) → r ≡ process_in ps made → IfSome r (λ q. process_in ps q.made ≡ Some q)
+if-lives ps made None e = tt
+if-lives ps made (Some q) e = found-lives ps made q (sym e)
+
+-- ---- whom a transaction goes to
+
+abbrev callee : ObjectId → Process → Callee
+callee o q = record { object = o; process = q }
+
+pub target-manager : (s : Space) (p handle : ℕ) (o : ObjectId) → handle ≡ 0 → s.manager ≡ Some o → not_own s p o ≡ target_of s p handle
+unfolding target_of
+target-manager s p handle o e m =
+    ap (λ (x : Option ObjectId). and_then (found_or x NoManager) (not_own s p)) (sym m) ∙ rw e refl
+
+pub owner-dead : (s : Space) (p handle : ℕ) (o : ObjectId) → Ok o ≡ target_of s p handle → None ≡ owner_of s o → Err DeadOwner ≡ callee_of s p handle
+unfolding callee_of
+owner-dead s p handle o e k =
+    ap (λ (x : Option Process). found_or (option_map (λ (q : Process). callee o q) x) DeadOwner) k ∙ ap (λ (r : Result ObjectId Cause). and_then r (with_owner s)) e
+
+pub owner-lives : (s : Space) (p handle : ℕ) (o : ObjectId) (q : Process) → Ok o ≡ target_of s p handle → Some q ≡ owner_of s o → Ok (callee o q) ≡ callee_of s p handle
+unfolding callee_of
+owner-lives s p handle o q e k =
+    ap (λ (x : Option Process). found_or (option_map (λ (q : Process). callee o q) x) DeadOwner) k ∙ ap (λ (r : Result ObjectId Cause). and_then r (with_owner s)) e
+
+pub no-target : (s : Space) (p handle : ℕ) (x : Cause) → Err x ≡ target_of s p handle → Err x ≡ callee_of s p handle
+unfolding callee_of
+no-target s p handle x e = ap (λ (r : Result ObjectId Cause). and_then r (with_owner s)) e
+
+-- ---- the whole test of a transaction
+
+module _ (s : Space) (a : Actor) (d : TransactionData) (parcel : Option Parcel) (n : ℕ) (handle : n ≡ handle_of d) where
+  abbrev rest : Callee → Result Delivery Cause
+  rest c = and_then (unless (if is_one_way d then None else caller_cause s a.thread.seat) c) (sent_to s a d parcel)
+
+  pub no-callee : (x : Cause) → Err x ≡ callee_of s a.process.made n → Err x ≡ transaction_check s a d parcel
+  unfolding transaction_check
+  no-callee x e = ap (λ (r : Result Callee Cause). and_then r rest) (e ∙ ap (callee_of s a.process.made) handle)
+
+  pub may-not-call : (c : Callee) (b : Bool) (x : Cause) → Ok c ≡ callee_of s a.process.made n → b ≡ is_one_way d → Some x ≡ (if b then None else caller_cause s a.thread.seat) → Err x ≡ transaction_check s a d parcel
+  unfolding transaction_check
+  may-not-call c b x e o k =
+      ap (λ (y : Option Cause). and_then (unless y c) (sent_to s a d parcel)) (k ∙ ap (λ (v : Bool). if v then None else caller_cause s a.thread.seat) o)
+      ∙ ap (λ (r : Result Callee Cause). and_then r rest) (e ∙ ap (callee_of s a.process.made) handle)
+
+  pub may-call : (c : Callee) (b : Bool) → Ok c ≡ callee_of s a.process.made n → b ≡ is_one_way d → None ≡ (if b then None else caller_cause s a.thread.seat)
+      → and_then (sending_of s a.process.made d parcel) (placed_for s d c.process (Some c.object) b) ≡ transaction_check s a d parcel
+  unfolding transaction_check
+  may-call c b e o k =
+      ap (λ (v : Bool). and_then (sending_of s a.process.made d parcel) (placed_for s d c.process (Some c.object) v)) o
+      ∙ ap (λ (y : Option Cause). and_then (unless y c) (sent_to s a d parcel)) (k ∙ ap (λ (v : Bool). if v then None else caller_cause s a.thread.seat) o)
+      ∙ ap (λ (r : Result Callee Cause). and_then r rest) (e ∙ ap (callee_of s a.process.made) handle)
+
+-- ---- the change of a transaction
+
+called_names : (z : Space) (seat p : ℕ) (b : Bool) → (names_go (called z seat p b)).names ≡ (names_go z).names
+unfolding call_out owe names_go
+called_names z seat p true = refl
+called_names z seat p false = refl
+
+pub transacted-full : (s : Space) (a : Actor) (d : TransactionData) (v : Delivery) → has_number_past_limit (names_go (known_by s v)).names ≡ true
+    → has_number_past_limit (names_go (transacted s a d v)).names ≡ true
+unfolding transacted owe delivered own_notices add_buffer names_go
+transacted-full s a d v e =
+    let z = delivered s a d v in
+    ap has_number_past_limit (called_names (owe z (OfThread a.thread.seat) (Complete (is_spam z a v))) a.thread.seat v.receiver.made v.one_way) ∙ e
+
+-- a delivery leaves the frames as they are
+pub sent-stacked : (s : Space) (a : Actor) (d : TransactionData) (v : Delivery) → IsStacked s → IsStacked (delivered s a d v)
+unfolding delivered own_notices add_buffer known_by assign_numbers refer make_objects
+sent-stacked s a d v k = k
+
+-- nor does it change a process
+sent_processes : (s : Space) (a : Actor) (d : TransactionData) (v : Delivery) → (delivered s a d v).processes ≡ s.processes
+unfolding delivered own_notices add_buffer known_by assign_numbers refer make_objects
+sent_processes s a d v = refl
+
+called_within : (t : Tables) (z : Space) (seat p : ℕ) (b spam : Bool) → StandsAt (z.steps + 1) t (called (owe z (OfThread seat) (Complete spam)) seat p b)
+    → Within t (called (owe z (OfThread seat) (Complete spam)) seat p b)
+unfolding call_out owe
+called_within t z seat p true spam h = h
+called_within t z seat p false spam h = h
+
+module _ (s : Space) (a : Actor) (d : TransactionData) (v : Delivery) (p : ℕ) (b : Bool) (receiver : p ≡ v.receiver.made) (one_way : b ≡ v.one_way) where
+  -- what is told of the receiver that is found after the delivery is told of the delivery
+  pub spam-told : (spam : Bool) → process_in s.processes v.receiver.made ≡ Some v.receiver
+      → ((q : Process) → process_in (delivered s a d v).processes p ≡ Some q
+      → spam ≡ (a.process.spam_detection && b && floods q.window (buffers_of (delivered s a d v).buffers p) a.process.made))
+      → spam ≡ is_spam (delivered s a d v) a v
+  unfolding is_spam
+  spam-told spam lives told =
+      let z = delivered s a d v in
+      let found = ap (λ (qs : List Process). process_in qs p) (sent_processes s a d v) ∙ ap (process_in s.processes) receiver ∙ lives in
+      told v.receiver found
+      ∙ ap (λ (c : Bool). a.process.spam_detection && c && floods v.receiver.window (buffers_of z.buffers p) a.process.made) one_way
+      ∙ ap (λ (q : ℕ). a.process.spam_detection && v.one_way && floods v.receiver.window (buffers_of z.buffers q) a.process.made) receiver
+
+  pub transacted-stands : (t : Tables) (spam : Bool) → spam ≡ is_spam (delivered s a d v) a v
+      → StandsAt ((delivered s a d v).steps + 1) t (called (owe (delivered s a d v) (OfThread a.thread.seat) (Complete spam)) a.thread.seat p b) → Within t (transacted s a d v)
+  unfolding transacted
+  transacted-stands t spam is h =
+      let z = delivered s a d v in
+      let one = subst (λ (q : ℕ). StandsAt (z.steps + 1) t (called (owe z (OfThread a.thread.seat) (Complete spam)) a.thread.seat q b)) receiver h in
+      let two = subst (λ (c : Bool). StandsAt (z.steps + 1) t (called (owe z (OfThread a.thread.seat) (Complete spam)) a.thread.seat v.receiver.made c)) one_way one in
+      called_within t z a.thread.seat v.receiver.made v.one_way (is_spam z a v)
+      (subst (λ (x : Bool). StandsAt (z.steps + 1) t (called (owe z (OfThread a.thread.seat) (Complete x)) a.thread.seat v.receiver.made v.one_way)) is two)
+
+-- ---- the step of a transaction
+
+pub transaction-stops : (s : Space) (a : Actor) (d : TransactionData) (parcel : Option Parcel) (x : Cause) (told : Return) → Err x ≡ transaction_check s a d parcel → told ≡ refusal x
+    → transaction_step s a d parcel ≡ stopped x (owe s (OfThread a.thread.seat) (Refusal told))
+unfolding transaction_step
+transaction-stops s a d parcel x told e k =
+    ap (transaction_outcome s a d) (sym e) ∙ ap (λ (r : Return). stopped x (owe s (OfThread a.thread.seat) (Refusal r))) (sym k)
+
+pub transaction-sends : (s : Space) (a : Actor) (d : TransactionData) (parcel : Option Parcel) (v : Delivery) → Ok v ≡ transaction_check s a d parcel
+    → transaction_step s a d parcel ≡ accepted (transacted s a d v)
+unfolding transaction_step
+transaction-sends s a d parcel v e = ap (transaction_outcome s a d) (sym e)
+
+-- ---- whom a reply goes to
+
+pub actor-lives : (s : Space) (seat : ℕ) (r : Option Actor) → r ≡ actor s seat → IfSome r (λ c. process_in s.processes c.process.made ≡ Some c.process)
+actor-lives s seat None e = tt
+actor-lives s seat (Some c) e = (actor-acts s seat c (sym e)).found
+
+pub caller-is : (s : Space) (f : Frame) (o : Option ℕ) → f.caller ≡ o → option_and_then (actor s) o ≡ caller_of s f
+unfolding caller_of
+caller-is s f o e = ap (λ (x : Option ℕ). option_and_then (actor s) x) (sym e)
+
+module _ (s : Space) (a : Actor) (d : TransactionData) (parcel : Option Parcel) (f : Frame) where
+  pub caller-gone : None ≡ caller_of s f → Err CallerGone ≡ reply_check s a d parcel f
+  unfolding reply_check
+  caller-gone e = ap (λ (o : Option Actor). and_then (found_or o CallerGone) (reply_sent_to s a d parcel)) e
+
+  pub caller-there : (c : Actor) → Some c ≡ caller_of s f → and_then (sending_of s a.process.made d parcel) (placed_for s d c.process None false) ≡ reply_check s a d parcel f
+  unfolding reply_check
+  caller-there c e = ap (λ (o : Option Actor). and_then (found_or o CallerGone) (reply_sent_to s a d parcel)) e
+
+  pub reply-stops : (x : Cause) → Err x ≡ reply_check s a d parcel f → reply_to s a d parcel (Some f) ≡ stopped x (reply_refused s a.thread.seat f)
+  reply-stops x e = ap (reply_outcome s a d f) (sym e)
+
+  pub reply-answers : (v : Delivery) → Ok v ≡ reply_check s a d parcel f → reply_to s a d parcel (Some f) ≡ accepted (replied s a d f v)
+  reply-answers v e = ap (reply_outcome s a d f) (sym e)
+
+pub reply-by-frame : (s : Space) (a : Actor) (d : TransactionData) (parcel : Option Parcel) (o : Option Frame) → o ≡ served_innermost s a.thread.seat → reply_step s a d parcel ≡ reply_to s a d parcel o
+unfolding reply_step
+reply-by-frame s a d parcel o e = ap (reply_to s a d parcel) (sym e)
+
+-- ---- the change of a reply
+
+told_names : (z : Space) (caller : Option ℕ) (kind : WorkKind)
+    → (names_go (elim caller as (λ (o : Option ℕ). Space) [ None ↦ z | Some u ↦ owe z (OfThread u) kind ])).names ≡ (names_go z).names
+unfolding owe names_go
+told_names z None kind = refl
+told_names z (Some u) kind = refl
+
+pub replied-full : (s : Space) (a : Actor) (d : TransactionData) (f : Frame) (v : Delivery) → has_number_past_limit (names_go (known_by s v)).names ≡ true
+    → has_number_past_limit (names_go (replied s a d f v)).names ≡ true
+unfolding replied owe closed delivered known_by assign_numbers refer make_objects own_notices add_buffer names_go
+replied-full s a d f v e =
+    ap has_number_past_limit (told_names (owe (delivered (closed s f.made) a d v) (OfThread a.thread.seat) (Complete false)) f.caller (Reply s.steps)) ∙ e
+
+told_at : (n : ℕ) (t : Tables) (z : Space) (caller : Option ℕ) (kind : WorkKind) → n ≡ z.steps + 1
+    → StandsAt n t (elim caller as (λ (o : Option ℕ). Space) [ None ↦ z | Some u ↦ owe z (OfThread u) kind ])
+    → Within t (elim caller as (λ (o : Option ℕ). Space) [ None ↦ z | Some u ↦ owe z (OfThread u) kind ])
+unfolding owe
+told_at n t z None kind e h = subst (λ (m : ℕ). StandsAt m t z) e h
+told_at n t z (Some u) kind e h = subst (λ (m : ℕ). StandsAt m t (owe z (OfThread u) kind)) e h
+
+-- a frame closes before or after a delivery
+closed_first : (s : Space) (a : Actor) (d : TransactionData) (made : ℕ) (v : Delivery) → closed (delivered s a d v) made ≡ delivered (closed s made) a d v
+unfolding closed delivered known_by assign_numbers refer make_objects own_notices add_buffer translation
+closed_first s a d made v = refl
+
+pub replied-stands : (t : Tables) (s : Space) (a : Actor) (d : TransactionData) (f : Frame) (v : Delivery)
+    → StandsAt ((delivered s a d v).steps + 1) t (tell_caller (owe (closed (delivered s a d v) f.made) (OfThread a.thread.seat) (Complete false)) f (Reply (delivered s a d v).steps))
+    → Within t (replied s a d f v)
+unfolding replied owe closed delivered known_by assign_numbers refer make_objects own_notices add_buffer translation
+replied-stands t s a d f v h =
+    told_at _ t (owe (closed (delivered s a d v) f.made) (OfThread a.thread.seat) (Complete false)) f.caller (Reply s.steps) refl h
+
+pub refused-stands : (t : Tables) (s : Space) (seat : ℕ) (f : Frame) → StandsAt (s.steps + 1) t (reply_refused s seat f) → Within t (reply_refused s seat f)
+unfolding reply_refused owe closed
+refused-stands t s seat f h =
+    told_at (s.steps + 1) t (closed (owe s (OfThread seat) (Refusal TransactionComplete)) f.made) f.caller (Verdict FailedReply) refl h

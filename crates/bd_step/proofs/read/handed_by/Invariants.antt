@@ -1,0 +1,8 @@
+use Rattle.std.proofs.Common.{◌≡◌, map, drop}
+use Rattle.bd_space.specs.declared.space.Work.{Work}
+use Rattle.bd_space.specs.Words.{first_of}
+use Rattle.bd_space.specs.Todo.{hands_out}
+use Rattle.bd_step.proofs.read.handed_by.Given as goal
+
+abbrev pub invariant-loop-work : goal.invariant-loop-work
+invariant-loop-work l = first_of (map (λ (w : Work). hands_out w.kind) l.works) ≡ first_of (map (λ (w : Work). hands_out w.kind) (drop l.work-index l.works))

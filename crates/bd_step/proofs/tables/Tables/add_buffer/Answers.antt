@@ -1,0 +1,11 @@
+use Rattle.bd_space.specs.Delivery.{add_buffer}
+use Rattle.bd_step.proofs.tables.Tables.add_buffer.Goals as goal
+
+pub returns-clause-stands : goal.returns-clause-stands
+unfolding add_buffer
+returns-clause-stands c = λ s h m. record {
+  own = h.own;
+  objects_stand = h.objects_stand;
+  calls_stand = c.add_turn.ensures.stands s c.args.buffer h.calls_stand c.turn_of.ensures;
+  windows_stand = c.add.ensures s h.windows_stand m;
+}

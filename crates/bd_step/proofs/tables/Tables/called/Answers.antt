@@ -1,0 +1,18 @@
+use Rattle.std.proofs.Common.{Bool, subst, sym}
+use Rattle.bd_space.specs.declared.space.TodoList.TheVariants.{OfThread}
+use Rattle.bd_space.specs.declared.space.WorkKind.TheVariants.{Complete}
+use Rattle.bd_space.specs.Todo.{owe}
+use Rattle.bd_space.specs.Transactions.{called}
+use Rattle.bd_step.specs.Stands.{StandsAt}
+use Rattle.bd_step.proofs.tables.Tables.called.Goals as goal
+
+pub returns-then-not-one_way-clause-stands : goal.returns-then-not-one_way-clause-stands
+unfolding owe
+returns-then-not-one_way-clause-stands c = λ n s h k.
+    let z = owe s (OfThread c.args.seat) (Complete c.args.spam) in
+    subst (λ (b : Bool). StandsAt n c.call_out.new.self (called z c.args.seat c.args.receiver b)) (sym c.if-not-one_way.true) (c.call_out.ensures.stands n z (c.owe.ensures.stands n s h) k)
+
+pub returns-else-not-one_way-clause-stands : goal.returns-else-not-one_way-clause-stands
+returns-else-not-one_way-clause-stands c = λ n s h k.
+    let z = owe s (OfThread c.args.seat) (Complete c.args.spam) in
+    subst (λ (b : Bool). StandsAt n c.owe.new.self (called z c.args.seat c.args.receiver b)) (sym c.if-not-one_way.false) (c.owe.ensures.stands n s h)

@@ -1,0 +1,73 @@
+use Rattle.std.proofs.Common.{◌≡◌, ℕ, Bool, true, false, Option, Some, None, Result, Ok, Err, refl, sym, subst, ap, ◌∙◌}
+use Rattle.std.specs.Prelude.{if◌then◌else◌}
+use Rattle.bd_uapi.specs.declared.fault.Note.{Note}
+use Rattle.bd_uapi.specs.declared.fault.Note.TheVariants.{NotHandedOut}
+use Rattle.bd_space.specs.declared.space.Buffer.{Buffer}
+use Rattle.bd_space.specs.Space.{Space}
+use Rattle.bd_space.specs.Outcomes.{Outcome, accepted, noted}
+use Rattle.bd_space.specs.Freeing.{free_step, free_outcome, without_buffer, buffer_at_pointer}
+use Rattle.bd_buffers.specs.Buffer.{freed_buffer}
+use Rattle.bd_space.specs.Local.{is_among}
+use Rattle.bd_laws.specs.Lists.{Pairs}
+use Rattle.bd_laws.specs.Objects.{NotLater}
+use Rattle.bd_step.specs.Stands.{Within}
+use Rattle.bd_step.specs.Freed.{referred}
+use Rattle.bd_step.specs.Following.{AreTouched}
+use Rattle.bd_step.proofs.Standing.{within}
+use Rattle.bd_step.proofs.Meeting.{taken-step, meets}
+use Rattle.bd_step.proofs.Freeing.{freed-buffer}
+use Rattle.bd_step.proofs.Acting.{process-of}
+use Rattle.bd_step.proofs.Accepting.{notes}
+use Rattle.bd_step.proofs.tables.Tables.free.Goals as goal
+
+-- the outcome by what the check answers
+abbrev freed_outcome : Space → Result ℕ Note → Outcome
+freed_outcome s (Err n) = noted s n
+freed_outcome s (Ok made) = accepted (without_buffer s made)
+
+pub lose_buffer-requires-clause-in_order : goal.lose_buffer-requires-clause-in_order
+lose_buffer-requires-clause-in_order c = subst (Pairs NotLater) (sym c.as_slice.ensures.value) c.in-Ok-ready_to_free.ensures.in_order
+
+if_handed : (s : Space) (made : ℕ) (handed : Bool)
+    → freed_outcome s (if handed then Ok made else Err NotHandedOut) ≡ (if handed then accepted (without_buffer s made) else noted s NotHandedOut)
+if_handed s made true = refl
+if_handed s made false = refl
+
+by_check : (s : Space) (b : Option Buffer) → freed_outcome s (freed_buffer b) ≡ free_outcome s b
+by_check s None = refl
+by_check s (Some b) = if_handed s b.made b.handed
+
+pub returns-in-Err : goal.returns-in-Err
+unfolding free_step
+returns-in-Err c = taken-step _ _ _ _ _ (
+    notes _ _ _ _ (λ s h by.
+    let p = c.args.a.process.made in
+    let checked = c.in-Err.ensures s c.args.a.process (within c.args.self.now s h) (process-of s c.args.a.thread.seat c.args.a by.acts) in
+    sym (ap (freed_outcome s) checked ∙ by_check s (buffer_at_pointer s p c.args.pointer))))
+
+pub returns : goal.returns
+unfolding free_step
+returns c =
+    let p = c.args.a.process.made in
+    let made = c.in-Ok.made in
+    record {
+      ok =
+          meets _ _ _ _ _ (λ s h by.
+          let checked = c.in-Ok.ensures s c.args.a.process (within c.args.self.now s h) (process-of s c.args.a.thread.seat c.args.a by.acts) in
+          let is = ap (freed_outcome s) checked ∙ by_check s (buffer_at_pointer s p c.args.pointer) in
+          let b = freed-buffer s p c.args.pointer made checked in
+          record {
+            answered = ap (λ (o : Outcome). o.answer) is;
+            stands = subst (λ (o : Outcome). Within c.lose_buffer.new.self o.space) is
+                (c.lose_buffer.ensures s (within _ s (c.in-Ok-ready_to_free.ensures.stands s h)) (record {
+                  tidy = by.tidy;
+                  buffer = b.0;
+                  here = b.1;
+                  made_there = b.2;
+                  is_its = b.3;
+                  touches = subst (AreTouched (is_among (referred s made))) (sym c.as_slice.ensures.value) (c.in-Ok-ready_to_free.ensures.touched s h);
+                }));
+          });
+      err = tt;
+      full = tt;
+    }

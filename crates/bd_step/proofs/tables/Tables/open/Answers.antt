@@ -1,0 +1,24 @@
+use Rattle.std.proofs.Common.{◌+◌, refl, sym, subst, ◌∙◌}
+use Rattle.bd_space.specs.Steps.{open_step, open_outcome, with_thread, with_process}
+use Rattle.bd_step.specs.Stands.{StandsAt}
+use Rattle.bd_step.proofs.Meeting.{taken-step, meets, in-case, is-refused}
+use Rattle.bd_step.proofs.New.{new-pid}
+use Rattle.bd_step.proofs.tables.Tables.open.Goals as goal
+
+pub returns-in-Some : goal.returns-in-Some
+unfolding open_step
+returns-in-Some c = taken-step _ _ _ _ _ (
+    meets _ _ _ _ _ (λ s h by.
+    in-case _ _ (open_outcome s c.args.seat c.args.pid c.args.euid c.args.size) _ _ (sym (c.open_fault.ensures.fault s h) ∙ c.in-Some.is)
+    (is-refused _ s c.in-Some.fault h)))
+
+pub returns : goal.returns
+unfolding open_step with_process with_thread
+returns c = taken-step _ _ _ _ _ (
+    meets _ _ _ _ _ (λ s h by.
+    let none = sym (c.open_fault.ensures.fault s h) ∙ c.in_default.is in
+    let free = new-pid s c.args.seat c.args.pid c.args.size none in
+    let opened = c.with_process.ensures.stands s (c.reserve_process.ensures.stands s h) free c.in-Ok.ensures.window in
+    let both = c.with_thread.ensures.stands (s.steps + 1) _ opened in
+    in-case _ _ (open_outcome s c.args.seat c.args.pid c.args.euid c.args.size) _ _ none
+    (record { answered = refl; stands = subst (λ p. StandsAt (s.steps + 1) c.with_thread.new.self (with_thread (with_process s c.args.pid c.args.euid c.args.size) c.args.seat p)) (sym opened.own.steps_are) both })))

@@ -1,0 +1,24 @@
+use Rattle.std.proofs.Common.{◌+◌, List, take, take_all, subst, arith, rules}
+use Rattle.bd_space.specs.declared.space.DeathNotification.{DeathNotification}
+use Rattle.bd_space.specs.Todo.{owe}
+use Rattle.bd_step.specs.Stands.{Within}
+use Rattle.bd_step.specs.Telling.{owed}
+use Rattle.bd_step.proofs.Changing.{with-calls}
+use Rattle.bd_step.proofs.Owing.{owed-more}
+use Rattle.bd_step.proofs.tables.Tables.owe_deaths.Goals as goal
+
+pub loop-x-preserved : goal.loop-x-preserved
+unfolding owe
+loop-x-preserved c = record {
+  stands = λ s h.
+      let told = owed s (take c.loop-x.x-index c.args.due.now) in
+      let stood = c.loop-x.invariant.stands s h in
+      owed-more (s.steps + 1) _ s c.args.due.now c.loop-x.x-index _ (omega arith)
+      (with-calls (s.steps + 1) c.loop-x.self told _ _ _ _ stood (c.owe.ensures.stands told stood.calls_stand stood.own.steps_are));
+  uses = search rules;
+}
+
+pub returns-clause-stands : goal.returns-clause-stands
+returns-clause-stands c = λ s h.
+    let all = take_all c.loop-x.x-index c.args.due.now (omega (arith, c.loop-x-test.false)) in
+    subst (λ (xs : List DeathNotification). Within c.loop-x.self (owed s xs)) all (c.loop-x.invariant.stands s h)

@@ -1,0 +1,26 @@
+use Rattle.std.proofs.Common.{◌≡◌, ◌∙◌, Result, Some, None, false}
+use Rattle.std.proofs.lemmas.Result.{IfOk-weaker}
+use Rattle.bd_uapi.specs.declared.fault.Cause.{Cause}
+use Rattle.bd_space.specs.Space.{Space}
+use Rattle.bd_space.specs.Words.{and_then}
+use Rattle.bd_space.specs.Seats.{process_in}
+use Rattle.bd_space.specs.Parcels.{sending_of}
+use Rattle.bd_space.specs.Delivery.{Delivery}
+use Rattle.bd_space.specs.Replies.{reply_check}
+use Rattle.bd_step.specs.Stands.{Before}
+use Rattle.bd_step.specs.Deliveries.{placed_for}
+use Rattle.bd_step.proofs.Stepping.{caller-gone, caller-there}
+use Rattle.bd_step.proofs.tables.Tables.reply_check.Goals as goal
+
+pub returns-in-None-clause-computed : goal.returns-in-None-clause-computed
+returns-in-None-clause-computed c = λ s h. caller-gone s c.args.a c.args.d.now c.args.parcel.now c.args.f.now (c.in-None.ensures.caller s.steps s h)
+
+pub returns-in-Some-clause-computed : goal.returns-in-Some-clause-computed
+returns-in-Some-clause-computed c =
+    let q = c.in-Some.caller.process in
+    let there = λ (s : Space). and_then (sending_of s c.args.a.process.made c.args.d.now c.args.parcel.now) (placed_for s c.args.d.now q None false) in
+    let P : Result Delivery Cause → Type 0 = λ r. (s : Space) → Before c.args.self.now s → process_in s.processes q.made ≡ Some q → r ≡ there s in
+    let Q : Result Delivery Cause → Type 0 = λ r. (s : Space) → Before c.args.self.now s → r ≡ reply_check s c.args.a c.args.d.now c.args.parcel.now c.args.f.now in
+    IfOk-weaker c.sent_to.result P Q
+    (λ r f s h. f s h (c.in-Some.ensures.lives s.steps s h) ∙ caller-there s c.args.a c.args.d.now c.args.parcel.now c.args.f.now _ (c.in-Some.ensures.caller s.steps s h))
+    c.sent_to.ensures.computed

@@ -1,0 +1,16 @@
+use Rattle.std.proofs.Common.{ℕ, ◌≡◌, ◌≤◌, [], All, drop, length}
+use Rattle.bd_parcel.specs.Parcels.{offsets_in}
+use Rattle.bd_space.specs.Space.{Space}
+use Rattle.bd_space.specs.Parcels.{resolve_all}
+use Rattle.bd_objects.specs.Made.{made_items}
+use Rattle.bd_step.specs.Stands.{StandsAt}
+use Rattle.bd_step.specs.Deliveries.{IsInside}
+use Rattle.bd_step.proofs.tables.Tables.resolve_all.Given as goal
+
+abbrev pub invariant-loop-k : goal.invariant-loop-k
+invariant-loop-k l = record {
+  so_far : (n : ℕ) (s : Space) → StandsAt n l.self s
+      → resolve_all s l.p l.parcel.bytes l.parcel.offsets (made_items l.made) l.items.items (drop l.k (offsets_in l.parcel.offsets)) ≡ resolve_all s l.p l.parcel.bytes l.parcel.offsets [] [] (offsets_in l.parcel.offsets);
+  few : length (made_items l.made) ≤ l.k;
+  inside : All (IsInside l.parcel.bytes) l.items.items;
+}

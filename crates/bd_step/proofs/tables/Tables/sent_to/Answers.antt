@@ -1,0 +1,27 @@
+use Rattle.std.proofs.Common.{◌≡◌, ◌∙◌, sym, ap, Result, Some}
+use Rattle.std.proofs.lemmas.Result.{IfOk-weaker}
+use Rattle.bd_uapi.specs.declared.fault.Cause.{Cause}
+use Rattle.bd_space.specs.Words.{and_then}
+use Rattle.bd_space.specs.Space.{Space}
+use Rattle.bd_space.specs.Seats.{process_in}
+use Rattle.bd_space.specs.Parcels.{Sending, sending_of}
+use Rattle.bd_space.specs.Delivery.{Delivery}
+use Rattle.bd_step.specs.Stands.{Before}
+use Rattle.bd_step.specs.Deliveries.{placed_for}
+use Rattle.bd_step.proofs.tables.Tables.sent_to.Goals as goal
+
+pub returns-in-Err-clause-computed : goal.returns-in-Err-clause-computed
+returns-in-Err-clause-computed c = λ s h q.
+    ap (λ (r : Result Sending Cause). and_then r (placed_for s c.args.d.now c.args.receiver c.args.target c.args.one_way)) (sym c.in-Err.is ∙ c.in_ok-cause.ensures.computed _ s h)
+
+pub returns-in-Ok-clause-computed : goal.returns-in-Ok-clause-computed
+returns-in-Ok-clause-computed c =
+    let q = c.args.receiver in
+    let P : Result Delivery Cause → Type 0 = λ r. (s : Space) → Before c.args.self.now s → process_in s.processes q.made ≡ Some q
+    → r ≡ placed_for s c.args.d.now q c.args.target c.args.one_way c.in-Ok.sending in
+    let Q : Result Delivery Cause → Type 0 = λ r. (s : Space) → Before c.args.self.now s → process_in s.processes q.made ≡ Some q
+    → r ≡ and_then (sending_of s c.args.a.process.made c.args.d.now c.args.parcel.now) (placed_for s c.args.d.now q c.args.target c.args.one_way) in
+    IfOk-weaker c.placed_for.result P Q
+    (λ r f s h lives. f s h lives
+    ∙ ap (λ (x : Result Sending Cause). and_then x (placed_for s c.args.d.now q c.args.target c.args.one_way)) (sym c.in-Ok.is ∙ c.in_ok-cause.ensures.computed _ s h))
+    c.placed_for.ensures.computed

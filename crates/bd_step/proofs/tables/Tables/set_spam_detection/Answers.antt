@@ -1,0 +1,25 @@
+use Rattle.std.proofs.Common.{refl}
+use Rattle.bd_space.specs.Spam.{spam_step, with_spam_detection}
+use Rattle.bd_buffers.proofs.Marks.{stands_marked}
+use Rattle.bd_step.proofs.Standing.{within}
+use Rattle.bd_step.proofs.Meeting.{taken-step, meets}
+use Rattle.bd_step.proofs.tables.Tables.set_spam_detection.Goals as goal
+
+pub returns : goal.returns
+unfolding spam_step with_spam_detection
+returns c = taken-step _ _ _ _ _ (
+    meets _ _ _ _ _ (λ s h by.
+    let w = within _ s h in
+    record {
+      answered = refl;
+      stands = record {
+        own = record {
+          steps_are = w.own.steps_are;
+          processes_are = c.set_spam_detection.ensures.stands s.processes w.own.processes_are;
+          manager_is = w.own.manager_is;
+        };
+        objects_stand = w.objects_stand;
+        calls_stand = w.calls_stand;
+        windows_stand = stands_marked c.args.self.now.windows s c.args.a.process.made c.args.on w.windows_stand;
+      };
+    }))

@@ -1,0 +1,20 @@
+use Rattle.std.proofs.Common.{ℕ, ◌+◌, List, take_all, sym, subst, arith, rules}
+use Rattle.std.specs.List.{fold}
+use Rattle.std.proofs.lemmas.List.Sums.{fold_more}
+use Rattle.bd_space.specs.Space.{Space}
+use Rattle.bd_space.specs.ThreadExits.{thread_goes}
+use Rattle.bd_step.specs.Stands.{StandsAt, Within}
+use Rattle.bd_step.proofs.tables.Tables.threads_go.Goals as goal
+
+pub loop-seat-preserved : goal.loop-seat-preserved
+loop-seat-preserved c = record {
+  stands = λ s h.
+      subst (λ (z : Space). StandsAt (z.steps + 1) c.thread_goes.new.self z) (sym (fold_more thread_goes s c.args.seats.now c.loop-seat.seat-index 0 c.loop-seat-test.true))
+      (c.thread_goes.ensures.stands _ (c.loop-seat.invariant.stands s h));
+  uses = search rules;
+}
+
+pub returns-clause-stands : goal.returns-clause-stands
+returns-clause-stands c = λ s h.
+    let all = take_all c.loop-seat.seat-index c.args.seats.now (omega (arith, c.loop-seat-test.false)) in
+    subst (λ (ns : List ℕ). Within c.loop-seat.self (fold thread_goes s ns)) all (c.loop-seat.invariant.stands s h)

@@ -1,0 +1,11 @@
+use Rattle.bd_space.specs.Space.{Space}
+use Rattle.bd_step.specs.Stands.{Before}
+use Rattle.bd_step.specs.Exits.{Grows, HasThread}
+use Rattle.bd_step.proofs.Gathering.{Until}
+use Rattle.bd_step.proofs.tables.Tables.touch_threads.Given as goal
+
+abbrev pub invariant-loop-seat : goal.invariant-loop-seat
+invariant-loop-seat l = record {
+  has : (s : Space) → Before l.self s → Until (HasThread l.exit s) l.seats l.seat-index;
+  grows : (s : Space) → Before l.self s → Grows l.fn.exit l.exit;
+}

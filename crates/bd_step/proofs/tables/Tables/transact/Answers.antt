@@ -1,0 +1,36 @@
+use Rattle.std.proofs.Common.{Option, ap, sym, subst, ◌∙◌, refl}
+use Rattle.bd_space.specs.declared.step.ObjectId.{ObjectId}
+use Rattle.bd_space.specs.Transactions.{transacted}
+use Rattle.bd_space.specs.Local.{ObjectTest, follow_of, no_name, is_among, objects_of_items}
+use Rattle.bd_step.specs.Stands.{Within}
+use Rattle.bd_step.specs.Freed.{ripen_next}
+use Rattle.bd_step.proofs.Standing.{numbers-completed}
+use Rattle.bd_step.proofs.Refusals.{full-if}
+use Rattle.bd_step.proofs.Afterwards.{sent-call, sent-followed, sent-ordered, ripened-ordered}
+use Rattle.bd_step.proofs.Meeting.{taken-step}
+use Rattle.bd_step.proofs.tables.Tables.transact.Goals as goal
+
+pub returns-in-Err : goal.returns-in-Err
+returns-in-Err c = record {
+  ok = tt;
+  err = λ s h. c.in-Err.ensures.err s (c.in-Ok.ensures.stands s h);
+  full = λ s h p. full-if _ _ (numbers-completed (transacted s c.args.a c.args.d.now c.args.v) (c.in-Err.ensures.full s (c.in-Ok.ensures.stands s h)));
+}
+
+pub returns : goal.returns
+returns c = taken-step _ _ _ _ _ (
+    record {
+      answered = λ s h p. refl;
+      stands = λ s h p.
+          let z = transacted s c.args.a c.args.d.now c.args.v in
+          let target = c.one_way_target-target.result in
+          let sent = objects_of_items c.args.v.sending.items in
+          let looked = ap is_among c.as_slice.ensures.value ∙ c.in-Ok.ensures.touched.among in
+          subst (Within c.follow_objects.new.self)
+          (ap (λ (b : ObjectTest). follow_of no_name b (ripen_next target z)) looked
+          ∙ ap (λ (o : Option ObjectId). follow_of no_name sent (ripen_next o z)) c.one_way_target-target.ensures
+          ∙ sym (sent-followed s c.args.a c.args.d.now c.args.v p))
+          (c.follow_objects.ensures.stands (ripen_next target z)
+          (c.ripen_next.ensures.stands z (c.in-Ok-transacted.ensures.ok s (c.in-Ok.ensures.stands s h) (sent-call s c.args.a c.args.d.now c.args.v p)))
+          (ripened-ordered target z (sent-ordered s c.args.a c.args.d.now c.args.v p)));
+    })

@@ -1,0 +1,16 @@
+use Rattle.std.proofs.Common.{◌∙◌, ap, sym}
+use Rattle.bd_space.specs.ProcessExits.{without_process, manager_without}
+use Rattle.bd_step.proofs.tables.Tables.without_process.Goals as goal
+
+pub returns-clause-stands : goal.returns-clause-stands
+unfolding without_process
+returns-clause-stands c = λ s h. record {
+  own = record {
+    steps_are = h.own.steps_are;
+    processes_are = c.remove.ensures.stands s.processes h.own.processes_are;
+    manager_is = ap (manager_without s.objects c.args.p) h.own.manager_is ∙ sym (c.manager_without-self.ensures s h.objects_stand);
+  };
+  objects_stand = c.without_process.ensures.stands s h.objects_stand;
+  calls_stand = c.process_goes.ensures.stands s h.calls_stand;
+  windows_stand = c.close.ensures s h.windows_stand;
+}

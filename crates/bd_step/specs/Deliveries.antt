@@ -1,0 +1,95 @@
+-- What is so of a sending that was read, and of a delivery that its receiver's window can take.
+use Rattle.std.specs.Prelude.{ℕ, ◌≡◌, ◌+◌, ◌*◌, ◌≤◌, Bool, List, Option, Some, Result, Ok, All, length}
+use Rattle.bd_uapi.specs.declared.command.TransactionData.{TransactionData}
+use Rattle.bd_uapi.specs.declared.fault.Cause.{Cause}
+use Rattle.bd_space.specs.declared.step.ObjectId.{ObjectId}
+use Rattle.bd_space.specs.declared.step.Parcel.{Parcel}
+use Rattle.bd_space.specs.declared.space.Process.{Process}
+use Rattle.bd_space.specs.declared.space.Object.{Object}
+use Rattle.bd_space.specs.declared.space.Item.{Item}
+use Rattle.bd_space.specs.Words.{and_then}
+use Rattle.bd_space.specs.Space.{Space}
+use Rattle.bd_space.specs.Seats.{process_in}
+use Rattle.bd_space.specs.Windows.{needed, buffers_of, start_for}
+use Rattle.bd_space.specs.Parcels.{Sending}
+use Rattle.bd_space.specs.Delivery.{Delivery}
+use Rattle.bd_space.specs.Tables as tables
+use Rattle.bd_nodes.specs.New.{AreNewIn}
+use Rattle.bd_objects.specs.Room as object_rooms
+use Rattle.bd_calls.specs.Room as call_rooms
+use Rattle.bd_calls.specs.Stacked.{IsStacked}
+use Rattle.bd_buffers.specs.WindowsStand.{CanAdd, buffer_room}
+use Rattle.bd_step.specs.declared.tables.Tables.{Tables}
+use Rattle.bd_step.specs.Stands.{Before, Within, HasRoom}
+
+abbrev pub sending : Parcel → List Object → List Item → Sending
+sending q made items = record { bytes = q.bytes; offsets = q.offsets; made = made; items = items }
+
+-- the item's 24 bytes lie inside the data
+abbrev pub IsInside : List ℕ → Item → Type 0
+IsInside bytes x = x.at + 24 ≤ length bytes
+
+-- the sizes are those of the record, and each object lies inside the data
+pub record IsSound (d : TransactionData) (x : Sending) : Type 0 where
+  pub bytes_sized : length x.bytes ≡ d.data_size
+  pub offsets_sized : length x.offsets ≡ d.offsets_size
+  pub inside : All (IsInside x.bytes) x.items
+
+-- the room that its buffer takes
+abbrev pub size_of : TransactionData → ℕ
+size_of d = needed d.data_size d.offsets_size
+
+-- the receiver's window can take it now
+pub record IsDeliverable (t : Tables) (d : TransactionData) (v : Delivery) : Type 0 where
+  pub sound : IsSound d v.sending
+  pub can_add : CanAdd t.windows v.receiver.made v.one_way (size_of d) v.start
+  pub fits : size_of d ≤ 4194304
+
+-- what is delivered to this process, on this object, where its window has a place
+abbrev pub placed_for : Space → TransactionData → Process → Option ObjectId → Bool → Sending → Result Delivery Cause
+placed_for s d receiver target one_way x =
+    and_then (start_for receiver.window (buffers_of s.buffers receiver.made) one_way (size_of d))
+    (λ start. Ok (record { receiver = receiver; target = target; one_way = one_way; sending = x; start = start }))
+
+-- memory for all that a delivery and what follows from it take
+pub record IsReady (t : Tables) (v : Delivery) : Type 0 where
+  pub room : HasRoom t (object_rooms.delivery_room v.sending.made v.sending.items) (2 * length v.sending.items + 3)
+  pub buffer : 1 ≤ buffer_room t.windows v.receiver.made
+
+-- what it makes is new
+abbrev pub SendsNew : Delivery → Space → Type 0
+SendsNew v s = AreNewIn s.objects v.sending.made
+
+-- from before a step to within it a delivery makes what f makes of each space in which what it makes is new
+abbrev pub Delivers : Tables → Tables → Delivery → (Space → Space) → Type 0
+Delivers old new v f = tables.MakesWhere (Before old) (SendsNew v) (Within new) f
+
+-- the space of a call: what it makes is new, its receiver lives there, and a thread's innermost frame is its newest
+pub record CanCall (v : Delivery) (s : Space) : Type 0 where
+  pub new : SendsNew v s
+  pub lives : process_in s.processes v.receiver.made ≡ Some v.receiver
+  pub stacked : IsStacked s
+
+-- the same of a call's delivery
+abbrev pub DeliversCall : Tables → Tables → Delivery → (Space → Space) → Type 0
+DeliversCall old new v f = tables.MakesWhere (Before old) (CanCall v) (Within new) f
+
+-- a change takes room for so many frames, one-way calls and work items, and adds at most so many objects
+pub record Spends (old new : Tables) (objects frames turns works : ℕ) : Type 0 where
+  pub calls : call_rooms.Uses old.calls new.calls (record call_rooms.nothing { frames = frames; turns = turns; works = works })
+  pub objects_count : object_rooms.object_count new.objects ≤ object_rooms.object_count old.objects + objects
+
+abbrev pub SpendsNothing : Tables → Tables → Type 0
+SpendsNothing old new = Spends old new 0 0 0 0
+
+-- a change of work items alone takes room for at most so many
+pub record OnlyWorks (old new : Tables) (works : ℕ) : Type 0 where
+  pub calls : call_rooms.Uses old.calls new.calls (record call_rooms.nothing { works = works })
+  pub objects_are : new.objects ≡ old.objects
+  pub windows_are : new.windows ≡ old.windows
+
+-- a change of objects, references and names alone adds at most so many objects
+pub record OnlyObjects (old new : Tables) (objects : ℕ) : Type 0 where
+  pub count : object_rooms.object_count new.objects ≤ object_rooms.object_count old.objects + objects
+  pub calls_are : new.calls ≡ old.calls
+  pub windows_are : new.windows ≡ old.windows

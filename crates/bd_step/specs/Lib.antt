@@ -1,0 +1,13 @@
+pub mod Stands
+pub mod Refusals
+pub mod Meets
+pub mod Plain
+pub mod Ending
+pub mod Telling
+pub mod Taking
+pub mod Deliveries
+pub mod Looks
+pub mod Freed
+pub mod Following
+pub mod Exits
+pub mod Handed

@@ -1,0 +1,82 @@
+-- What a step of the tables meets: the definition, on every space that they stand for.
+use Rattle.std.specs.Prelude.{ℕ, ◌≡◌, Bool, true, Option, Some, None, Result, Ok, IfOk, IfErr, IsTrue, OnErr}
+use Rattle.bd_uapi.specs.declared.command.TransactionData.{TransactionData}
+use Rattle.bd_space.specs.declared.step.Parcel.{Parcel}
+use Rattle.bd_space.specs.declared.step.StepAnswer.{StepAnswer}
+use Rattle.bd_space.specs.declared.space.Actor.{Actor}
+use Rattle.bd_space.specs.Space.{Space}
+use Rattle.bd_space.specs.Seats.{actor}
+use Rattle.bd_space.specs.Names.{has_number_past_limit}
+use Rattle.bd_space.specs.Outcomes.{Outcome}
+use Rattle.bd_space.specs.Delivery.{Delivery}
+use Rattle.bd_space.specs.declared.space.Frame.{Frame}
+use Rattle.bd_space.specs.Frames.{served_innermost}
+use Rattle.bd_space.specs.Transactions.{transaction_check}
+use Rattle.bd_space.specs.Replies.{reply_check}
+use Rattle.bd_laws.specs.Tidy.{IsTidy}
+use Rattle.bd_step.specs.declared.tables.Tables.{Tables}
+use Rattle.bd_step.specs.declared.why.Why.{Why}
+use Rattle.bd_step.specs.declared.answer.Plain.{Plain}
+use Rattle.bd_step.specs.declared.answer.Twice.{Twice}
+use Rattle.bd_step.specs.Plain.{answer_of}
+use Rattle.bd_step.specs.Refusals.{FullOnly}
+use Rattle.bd_step.specs.Stands.{Before, Within}
+
+-- ---- what a step asks of the space before it: who makes it, and what holds between any two steps
+
+-- the step's maker is this live thread, with its process
+pub record IsBy (a : Actor) (s : Space) : Type 0 where
+  pub acts : actor s a.thread.seat ≡ Some a
+  pub tidy : IsTidy s
+
+-- it is a seat without a live thread
+pub record IsNobody (seat : ℕ) (s : Space) : Type 0 where
+  pub nobody : actor s seat ≡ None
+  pub tidy : IsTidy s
+
+-- it may be anybody's
+abbrev pub IsAny : Space → Type 0
+IsAny s = IsTidy s
+
+-- it is a transaction of this actor, by some parcel, that nothing stands against
+pub record IsSending (a : Actor) (d : TransactionData) (v : Delivery) (s : Space) : Type 0 where
+  pub tidy : IsTidy s
+  pub checked : (parcel : Option Parcel) × (transaction_check s a d parcel ≡ Ok v)
+
+-- the thread of the seat serves this frame innermost
+pub record IsServing (seat : ℕ) (f : Frame) (s : Space) : Type 0 where
+  pub tidy : IsTidy s
+  pub serves : served_innermost s seat ≡ Some f
+
+-- and this is a reply of it, by some parcel, that nothing stands against
+pub record IsReplying (a : Actor) (d : TransactionData) (f : Frame) (v : Delivery) (s : Space) : Type 0 where
+  pub serving : IsServing a.thread.seat f s
+  pub checked : (parcel : Option Parcel) × (reply_check s a d parcel f ≡ Ok v)
+
+-- ---- how it ends
+
+-- the step was taken: its answer and the space after it are those of the definition
+pub record Meets (old new : Tables) (P : Space → Type 0) (f : Space → Outcome) (answer : StepAnswer) : Type 0 where
+  pub answered : (s : Space) → Before old s → P s → answer ≡ (f s).answer
+  pub stands : (s : Space) → Before old s → P s → Within new (f s).space
+
+-- the step was not taken: a full history is the reason only where it would need a number past the limit
+abbrev pub IsRefused : Tables → (Space → Type 0) → (Space → Outcome) → Why → Type 0
+IsRefused old P f why = (s : Space) → Before old s → P s → FullOnly why (has_number_past_limit (f s).space.names ≡ true)
+
+-- it left all as it was
+abbrev pub IsKept : Tables → Tables → Type 0
+IsKept old new = (s : Space) → Before old s → Before new s
+
+-- how a step of the definition f ends for such a maker: taken; or not taken, and then all is as it was
+pub record IsStep (old new : Tables) (P : Space → Type 0) (f : Space → Outcome) (r : Result Plain Why) : Type 0 where
+  pub ok : IfOk r (λ x. Meets old new P f (answer_of x))
+  pub err : OnErr r (IsKept old new)
+  pub full : IfErr r (IsRefused old P f)
+
+-- the same, answered twice where both are asked for
+pub record IsStepTwice (old new : Tables) (both : Bool) (P : Space → Type 0) (f : Space → Outcome) (r : Result Twice Why) : Type 0 where
+  pub ok : IfOk r (λ x. Meets old new P f x.answer)
+  pub twice : IsTrue both → IfOk r (λ x. x.again ≡ x.answer)
+  pub err : OnErr r (IsKept old new)
+  pub full : IfErr r (IsRefused old P f)

@@ -1,0 +1,168 @@
+//! Buffers: a delivery's bytes as the receiver sees them, and the step of `BC_FREE_BUFFER`.
+
+ghost use Rattle.std.specs.{Prelude.{◌≡◌, ◌+◌, ◌≤◌, All, IfOk, length, Some}, Option.{option_copied}};
+ghost use Rattle.bd_space.specs.{Space.{Space}, Seats.{process_in}};
+ghost use Rattle.bd_space.specs.Windows as room;
+ghost use Rattle.bd_space.specs.Turns as turns;
+ghost use Rattle.bd_space.specs.Delivery as delivery;
+ghost use Rattle.bd_space.specs.Translation as translations;
+ghost use Rattle.bd_space.specs.declared.space.Process.{Process};
+ghost use Rattle.bd_space.specs.Freeing as freeing;
+ghost use Rattle.bd_space.specs.{Outcomes.{completed}, Local.{is_among}};
+ghost use Rattle.bd_laws.specs.{Lists.{Pairs}, Objects.{NotLater}};
+ghost use Rattle.bd_calls.specs.Room as call_rooms;
+ghost use Rattle.bd_buffers.specs.{WindowsStand.{CanAdd, buffer_room}, Buffer.{freed_buffer}};
+ghost use Rattle.bd_step.specs.Freed as freed;
+ghost use Rattle.bd_step.specs.Stands.{Before, Within, Tells, TellsWithin, CanFollow, MakesWithin, UsesNothing};
+ghost use Rattle.bd_step.specs.{Following.{AreTouched}, Meets.{IsBy, IsKept, IsStep}, Deliveries.{IsInside, Spends}};
+
+use crate::answer::Plain;
+use crate::tables::{NOTHING, Tables};
+use crate::touched::in_order;
+use crate::why::Why;
+use bd_parcel::put_object;
+use bd_space::{Actor, Buffer, Bytes, Item, ObjectId, Process, Turn};
+use bd_uapi::Note;
+use std::alloc::AllocError;
+
+// A one-way call, by its buffer.
+fn turn_of(b: &Buffer) -> Option<Turn>
+    ensures { result ≡ turns.turn_of b.now }
+{
+    if !b.one_way {
+        return None;
+    }
+    let target = b.target?;
+    Some(Turn {
+        made: b.made,
+        receiver: b.receiver,
+        target,
+        handed: b.handed,
+    })
+}
+
+// The object on which a buffer is a one-way call.
+fn turn_target(buffer: Option<&Buffer>) -> Option<ObjectId>
+    ensures { result ≡ freed.turn_target (option_copied buffer.entry) }
+{
+    match buffer {
+        Some(b) => turn_of(b).map(|t| t.target),
+        None => None,
+    }
+}
+
+impl Tables {
+    // The items' objects as the process is to see them, written over the data.
+    fn translate(&self, q: u32, bytes: &mut [u8], items: &[Item])
+        requires { All (IsInside bytes.old) items.now }
+        ensures { Tells self.now bytes.new (λ s. translations.translation s q bytes.old items.now) }
+    {
+        for x in items {
+            let flat = self.objects.translated(q, x);
+            put_object(bytes, x.at as usize, &flat);
+        }
+    }
+
+    // The data as the process is to see it.
+    pub(crate) fn translation(&self, q: u32, bytes: Bytes, items: &[Item]) -> Bytes
+        requires { All (IsInside bytes) items.now }
+        ensures translated { Tells self.now result (λ s. translations.translation s q bytes items.now) }
+        ensures len { length result ≡ length bytes }
+    {
+        let mut bytes = bytes.into_vec();
+        self.translate(q, bytes.as_mut_slice(), items);
+        Bytes::new(bytes)
+    }
+
+    // The buffer comes in, and a one-way call with it.
+    pub(crate) fn add_buffer(&mut self, buffer: Buffer)
+        requires turns { 1 ≤ call_rooms.turn_room self.old.calls }
+        requires room { 1 ≤ buffer_room self.old.windows buffer.receiver }
+        requires sized { buffer.size ≡ room.needed (length buffer.bytes) (length buffer.offsets) }
+        requires can_add { CanAdd self.old.windows buffer.receiver buffer.one_way buffer.size buffer.start }
+        ensures stands { (s : Space) → Before self.old s → s.steps ≡ buffer.made
+            → Within self.new (delivery.add_buffer s buffer) }
+        ensures spends { Spends self.old self.new 0 0 1 0 }
+    {
+        self.calls.add_turn(turn_of(&buffer));
+        self.windows.add(buffer);
+    }
+
+    // The buffer that the process may free by this pointer.
+    fn free_check(&self, p: u32, pointer: u64) -> Result<u32, Note>
+        ensures { (s : Space) (q : Process) → Within self.now s → process_in s.processes p ≡ Some q
+            → result ≡ freed_buffer (freeing.buffer_at_pointer s p pointer) }
+    {
+        match self.windows.at_pointer(p, pointer) {
+            None => Err(Note::NoSuchBuffer),
+            Some(b) => {
+                if b.handed {
+                    Ok(b.made)
+                } else {
+                    Err(Note::NotHandedOut)
+                }
+            }
+        }
+    }
+
+    // The buffer goes, with the references that it held and its turn.
+    fn drop_buffer(&mut self, made: u32)
+        ensures stands { MakesWithin self.old self.new (λ s. freeing.without_buffer s made) }
+        ensures uses { UsesNothing self.old self.new }
+    {
+        self.windows.free(made);
+        self.objects.without_buffer(made);
+        self.calls.drop_turn(made);
+    }
+
+    // The object on which the buffer made there is a one-way call.
+    fn turn_target_at(&self, made: u32) -> Option<ObjectId>
+        ensures { TellsWithin self.now result (λ s. freed.turn_target_at s made) }
+    {
+        turn_target(self.windows.buffer(made))
+    }
+
+    // The objects that the buffer refers to in the order in which they were made, and room for what follows at them.
+    fn ready_to_free(&mut self, made: u32) -> Result<Vec<ObjectId>, AllocError>
+        ensures stands { IsKept self.old self.new }
+        ensures in_order { IfOk result (λ os. Pairs NotLater os.items) }
+        ensures touched { IfOk result
+            (λ os. (s : Space) → Before self.old s → AreTouched (is_among (freed.referred s made)) os.items) }
+        ensures room { IfOk result (λ os. CanFollow self.new (length os.items + 2)) }
+    {
+        let mut touched = Vec::new(self.alloc);
+        self.objects.referred(made, &mut touched)?;
+        let touched = in_order(touched);
+        self.reserve(NOTHING, touched.len())?;
+        Ok(touched)
+    }
+
+    // The process's buffer goes, and what follows from that: a call may ripen on its target, and the process's names go, and
+    // the objects, that it alone kept. No call is abandoned by it.
+    fn lose_buffer(&mut self, p: u32, made: u32, touched: &[ObjectId])
+        requires in_order { Pairs NotLater touched.now }
+        requires room { CanFollow self.old (length touched.now + 2) }
+        ensures { (s : Space) → Within self.old s → freed.IsFreeing p made touched.now s
+            → Within self.new (completed (freeing.without_buffer s made)) }
+    {
+        let target = self.turn_target_at(made);
+        self.drop_buffer(made);
+        self.ripen_next(target);
+        self.follow_among(p, touched);
+    }
+
+    /// The step by which a process frees a buffer that was handed out to it.
+    pub(crate) fn free(&mut self, a: Actor, pointer: u64) -> Result<Plain, Why>
+        ensures { IsStep self.old self.new (IsBy a) (λ s. freeing.free_step s a.process.made pointer) result }
+    {
+        let made = match self.free_check(a.process.made, pointer) {
+            Ok(made) => made,
+            Err(note) => return Ok(Plain::Noted(note)),
+        };
+        let Ok(touched) = self.ready_to_free(made) else {
+            return Err(Why::NoMemory);
+        };
+        self.lose_buffer(a.process.made, made, touched.as_slice());
+        Ok(Plain::Accepted)
+    }
+}

@@ -1,0 +1,353 @@
+//! Delivery: the objects, references and names of a parcel, its buffer with the translated data, and the notices of its
+//! sender's own objects.
+
+ghost use Rattle.std.specs.Prelude.{◌≡◌, ◌+◌, ◌≤◌, IfOk, OnOk, OnErr, length, Some, None, map, fold, not, ◌&&◌, if◌then◌else◌};
+ghost use Rattle.bd_uapi.specs.Kinds as kinds;
+ghost use Rattle.bd_space.specs.{References.{object_in}, Space.{Space}, Seats.{process_in}};
+ghost use Rattle.bd_space.specs.Windows as room;
+ghost use Rattle.bd_space.specs.Words as words;
+ghost use Rattle.bd_space.specs.Parcels as parcels;
+ghost use Rattle.bd_space.specs.Names.{names_go};
+ghost use Rattle.bd_space.specs.Delivery as spec;
+ghost use Rattle.bd_space.specs.Translation as translations;
+ghost use Rattle.bd_space.specs.{Local.{objects_of_items}, Tables.{MakesWhere}};
+ghost use Rattle.bd_objects.specs.Room as object_rooms;
+ghost use Rattle.bd_calls.specs.Room as call_rooms;
+ghost use Rattle.bd_buffers.specs.WindowsStand.{CanAdd, buffer_room};
+ghost use Rattle.bd_step.specs.{Stands.{Before, Tells, Makes, Begins, PassesLimit}, Meets.{IsKept}};
+ghost use Rattle.bd_step.specs.Following.{AreTouched};
+ghost use Rattle.bd_step.specs.Deliveries.{IsSound, IsDeliverable, IsReady, SendsNew, Delivers, Spends, OnlyWorks, OnlyObjects, placed_for, sending};
+
+use crate::sending::Sending;
+use crate::tables::Tables;
+use crate::touched::in_order;
+use bd_buffers::needed;
+use bd_objects::{NumbersFull, Room};
+use bd_space::{Actor, Buffer, Item, Object, ObjectId, Parcel, Process, TodoList};
+use bd_uapi::{Cause, TransactionData};
+use std::alloc::{AllocError, Global};
+use std::marker::Model;
+
+/// What is delivered: to which process, on which object, whether one-way, what, and where in the receiver's window.
+#[derive(Drop)]
+pub(crate) struct Delivery {
+    receiver: Process,
+    target: Option<ObjectId>,
+    one_way: bool,
+    parcel: Parcel,
+    made: Vec<Object>,
+    items: Vec<Item>,
+    start: u32,
+}
+
+impl Model for Delivery {
+    ghost Value = { spec.Delivery };
+
+    ghost view = { λ v. record {
+      receiver = v.receiver;
+      target = v.target;
+      one_way = v.one_way;
+      sending = sending v.parcel v.made.items v.items.items;
+      start = v.start;
+    } };
+}
+
+impl Delivery {
+    /// To which process.
+    pub(crate) fn receiver(&self) -> u32
+        ensures { result ≡ self.now.receiver.made }
+    {
+        self.receiver.made
+    }
+
+    /// On which object.
+    pub(crate) fn target(&self) -> Option<ObjectId>
+        ensures { result ≡ self.now.target }
+    {
+        self.target
+    }
+
+    /// The object that it calls one-way.
+    pub(crate) fn one_way_target(&self) -> Option<ObjectId>
+        ensures { result ≡ (if self.now.one_way then self.now.target else None) }
+    {
+        if self.one_way { self.target } else { None }
+    }
+
+    /// Whether one-way.
+    pub(crate) fn is_one_way(&self) -> bool
+        ensures { result ≡ self.now.one_way }
+    {
+        self.one_way
+    }
+
+    /// The objects that the sender makes.
+    pub(crate) fn made(&self) -> &[Object]
+        ensures { result.now ≡ self.now.sending.made }
+    {
+        self.made.as_slice()
+    }
+
+    /// All its objects.
+    pub(crate) fn items(&self) -> &[Item]
+        ensures { result.now ≡ self.now.sending.items }
+    {
+        self.items.as_slice()
+    }
+}
+
+fn objects_of(alloc: Global, items: &[Item]) -> Result<Vec<ObjectId>, AllocError>
+    ensures { IfOk result (λ os. os.items ≡ map parcels.object_of_item items.now) }
+{
+    items.iter().map(|x| x.object).collect(alloc)
+}
+
+impl Tables {
+    // Where the sending goes in its receiver's window. Its parcel is copied only where there is a place for it.
+    fn placed_for(
+        &self,
+        d: &TransactionData,
+        receiver: Process,
+        target: Option<ObjectId>,
+        one_way: bool,
+        sending: Sending<'_>,
+    ) -> Result<Result<Delivery, Cause>, AllocError>
+        requires { IsSound d.now sending }
+        ensures computed { IfOk result
+            (λ r. (s : Space) → Before self.now s → process_in s.processes receiver.made ≡ Some receiver
+            → r ≡ placed_for s d.now receiver target one_way sending.entry) }
+        ensures deliverable { IfOk result (λ r. IfOk r (IsDeliverable self.now d.now)) }
+    {
+        match self
+            .windows
+            .place(receiver.made, one_way, d.data_size, d.offsets_size)
+        {
+            Err(cause) => Ok(Err(cause)),
+            Ok(start) => {
+                let (parcel, made, items) = sending.into_parts()?;
+                Ok(Ok(Delivery {
+                    receiver,
+                    target,
+                    one_way,
+                    parcel,
+                    made,
+                    items,
+                    start,
+                }))
+            }
+        }
+    }
+
+    /// What the actor sends to the receiver by this parcel, or the first cause against it.
+    pub(crate) fn sent_to(
+        &self,
+        a: Actor,
+        d: &TransactionData,
+        parcel: &Option<Parcel>,
+        receiver: Process,
+        target: Option<ObjectId>,
+        one_way: bool,
+    ) -> Result<Result<Delivery, Cause>, AllocError>
+        ensures computed { IfOk result
+            (λ r. (s : Space) → Before self.now s → process_in s.processes receiver.made ≡ Some receiver
+            → r ≡ words.and_then (parcels.sending_of s a.process.made d.now parcel.now)
+            (placed_for s d.now receiver target one_way)) }
+        ensures deliverable { IfOk result (λ r. IfOk r (IsDeliverable self.now d.now)) }
+    {
+        match self.sending_of(a.process.made, d, parcel)? {
+            Err(cause) => Ok(Err(cause)),
+            Ok(sending) => self.placed_for(d, receiver, target, one_way, sending),
+        }
+    }
+
+    /// Makes room for a delivery and for what follows from it, and tells at which objects, in the order in which they were
+    /// made. Changes nothing else, also where memory is refused.
+    pub(crate) fn make_ready(&mut self, v: &Delivery) -> Result<Vec<ObjectId>, AllocError>
+        ensures stands { IsKept self.old self.new }
+        ensures deliverable { (d : TransactionData) → IsDeliverable self.old d v.now → IsDeliverable self.new d v.now }
+        ensures ready { OnOk result (IsReady self.new v.now) }
+        ensures touched { IfOk result (λ os. AreTouched (objects_of_items v.now.sending.items) os.items) }
+        ensures len { IfOk result (λ os. length os.items ≡ length v.now.sending.items) }
+    {
+        let items = v.items().len();
+        let references = items.checked_add(1).ok_or(AllocError)?;
+        let works = items
+            .checked_mul(2)
+            .and_then(|n| n.checked_add(3))
+            .ok_or(AllocError)?;
+        let touched = in_order(objects_of(self.alloc, v.items())?);
+        self.windows.reserve_buffer(v.receiver())?;
+        let room = Room {
+            objects: v.made().len(),
+            references,
+            names: items,
+            deaths: 0,
+        };
+        self.reserve(room, works)?;
+        Ok(touched)
+    }
+
+    // The buffer of a delivery.
+    fn buffer_of(&self, a: Actor, d: &TransactionData, v: Delivery) -> Buffer
+        requires { IsDeliverable self.now d.now v }
+        ensures buffer { Tells self.now result (λ s. spec.buffer_of s a d.now v) }
+        ensures receiver { result.receiver ≡ v.receiver.made }
+        ensures sized { result.size ≡ room.needed (length result.bytes) (length result.offsets) }
+        ensures can_add { CanAdd self.now.windows result.receiver result.one_way result.size result.start }
+    {
+        let Delivery {
+            receiver,
+            target,
+            one_way,
+            parcel,
+            made: _,
+            items,
+            start,
+        } = v;
+        let Parcel { bytes, offsets } = parcel;
+        Buffer {
+            made: self.steps,
+            receiver: receiver.made,
+            sender: a.process.made,
+            start,
+            size: needed(d.data_size, d.offsets_size),
+            one_way,
+            handed: false,
+            target,
+            code: d.code,
+            flags: d.flags,
+            euid: a.process.euid,
+            bytes: self.translation(receiver.made, bytes, items.as_slice()),
+            offsets,
+        }
+    }
+
+    // Sending an object strongly that its owner isn't told strong takes a standing notice away.
+    fn takes_notice(&self, x: &Item) -> bool
+        ensures { Tells self.now result
+            (λ s. kinds.is_own x.now.flat.kind && kinds.is_strong_kind x.now.flat.kind && words.is_some_and
+            (object_in s.objects x.now.object) (λ o. not o.told_strong)) }
+    {
+        x.flat.kind.is_own()
+            && x.flat.kind.is_strong()
+            && self
+                .objects
+                .object(x.object)
+                .is_some_and(|o| !o.told_strong)
+    }
+
+    fn withdraw_notice(&mut self, x: &Item)
+        ensures stands { Makes self.old self.new
+            (λ s. record s { todo = spec.withdraw_notice s.objects s.todo x.now }) }
+        ensures works { OnlyWorks self.old self.new 0 }
+    {
+        if self.takes_notice(x) {
+            self.calls.withdraw_notice(x.object);
+        }
+    }
+
+    fn withdraw_notices(&mut self, items: &[Item])
+        ensures stands { Makes self.old self.new
+            (λ s. record s { todo = fold (spec.withdraw_notice s.objects) s.todo items.now }) }
+        ensures works { OnlyWorks self.old self.new 0 }
+    {
+        for x in items {
+            self.withdraw_notice(x);
+        }
+    }
+
+    // A notice that is missing is made on the sending thread's list.
+    fn add_notice(&mut self, seat: u32, x: &Item)
+        requires { 1 ≤ call_rooms.work_room self.old.calls }
+        ensures stands { Makes self.old self.new (λ s. record s { todo = spec.add_notice s seat s.todo x.now }) }
+        ensures works { OnlyWorks self.old self.new 1 }
+    {
+        if !x.flat.kind.is_own() {
+            return;
+        }
+        if let Some(o) = self.objects.object(x.object) {
+            let wanted = self.objects.wants_notice(&self.processes, &o);
+            let list = TodoList::OfThread(seat);
+            self.calls.add_notice(self.steps, list, o.id, wanted);
+        }
+    }
+
+    fn add_notices(&mut self, seat: u32, items: &[Item])
+        requires { length items.now ≤ call_rooms.work_room self.old.calls }
+        ensures stands { Makes self.old self.new
+            (λ s. record s { todo = fold (spec.add_notice s seat) s.todo items.now }) }
+        ensures works { OnlyWorks self.old self.new (length items.now) }
+    {
+        for x in items {
+            self.add_notice(seat, x);
+        }
+    }
+
+    // All standing ones first, and then the new ones in the order of the parcel.
+    fn own_notices(&mut self, seat: u32, items: &[Item])
+        requires { length items.now ≤ call_rooms.work_room self.old.calls }
+        ensures stands { Makes self.old self.new (λ s. spec.own_notices s seat items.now) }
+        ensures works { OnlyWorks self.old self.new (length items.now) }
+    {
+        self.withdraw_notices(items);
+        self.add_notices(seat, items);
+    }
+
+    // The objects, the references and the names.
+    fn known_by(&mut self, v: &Delivery) -> Result<(), NumbersFull>
+        requires { object_rooms.HasRoom self.old.objects
+            (object_rooms.delivery_room v.now.sending.made v.now.sending.items) }
+        ensures ok { OnOk result (MakesWhere (Before self.old) (SendsNew v.now) (Before self.new)
+            (λ s. spec.known_by s v.now)) }
+        ensures err { OnErr result (IsKept self.old self.new) }
+        ensures full { OnErr result (PassesLimit self.old (λ s. names_go (spec.known_by s v.now))) }
+        ensures objects { OnlyObjects self.old self.new (length v.now.sending.made) }
+    {
+        self.objects.deliver(
+            self.steps,
+            self.manager,
+            v.receiver(),
+            v.made(),
+            v.items(),
+            v.target(),
+        )
+    }
+
+    // The notices and the buffer, where the names are known.
+    fn fill(&mut self, a: Actor, d: &TransactionData, v: Delivery)
+        requires deliverable { IsDeliverable self.old d.now v }
+        requires turns { 1 ≤ call_rooms.turn_room self.old.calls }
+        requires works { length v.sending.items ≤ call_rooms.work_room self.old.calls }
+        requires room { 1 ≤ buffer_room self.old.windows v.receiver.made }
+        ensures stands { Begins self.old self.new
+            (λ s. spec.own_notices (spec.add_buffer s (spec.buffer_of s a d.now v)) a.thread.seat v.sending.items) }
+        ensures spends { Spends self.old self.new 0 0 1 (length v.sending.items) }
+    {
+        self.own_notices(a.thread.seat, v.items());
+        let buffer = self.buffer_of(a, d, v);
+        self.add_buffer(buffer);
+    }
+
+    /// The whole delivery; nothing where a number past the limit would be needed. Takes no memory.
+    pub(crate) fn delivered(
+        &mut self,
+        a: Actor,
+        d: &TransactionData,
+        v: Delivery,
+    ) -> Result<(), NumbersFull>
+        requires deliverable { IsDeliverable self.old d.now v }
+        requires ready { IsReady self.old v }
+        ensures ok { OnOk result (Delivers self.old self.new v (λ s. spec.delivered s a d.now v)) }
+        ensures err { OnErr result (IsKept self.old self.new) }
+        ensures full { OnErr result (PassesLimit self.old (λ s. names_go (spec.known_by s v))) }
+        ensures spends { OnOk result (Spends self.old self.new (length v.sending.made) 0 1 (length v.sending.items)) }
+    {
+        match self.known_by(&v) {
+            Err(full) => Err(full),
+            Ok(()) => {
+                self.fill(a, d, v);
+                Ok(())
+            }
+        }
+    }
+}

@@ -1,0 +1,31 @@
+//! The step of the object space, over the tables that it is kept in.
+#![tactic(auto)]
+
+mod answer;
+mod buffer;
+mod consequences;
+mod death_notification;
+mod delivery;
+mod ended;
+mod exit;
+mod frame;
+mod looks;
+mod manager;
+mod process;
+mod read;
+mod reference;
+mod reply;
+mod sending;
+mod spam;
+mod step;
+mod tables;
+mod thread;
+mod todo_list;
+mod touched;
+mod transaction;
+mod why;
+mod work;
+
+pub use answer::Twice;
+pub use tables::Tables;
+pub use why::Why;

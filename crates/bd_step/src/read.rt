@@ -1,0 +1,280 @@
+//! The step that reads.
+
+ghost use Rattle.std.specs.Prelude.{◌≡◌, ◌+◌, ◌-◌, ◌*◌, ◌≤◌, ◌++◌, ◌∷◌, [], map, false, None, Some, length, option_map, IfOk, IfSome, IsTrue, OnOk, OnErr, nat_lt};
+ghost use Rattle.std.specs.{Option.{option_copied}, List.{filter_map}};
+ghost use Rattle.bd_uapi.specs.declared.command.Return.TheVariants.{Noop};
+ghost use Rattle.bd_codec.specs.Spelling.{return_bytes};
+ghost use Rattle.bd_space.specs.{Space.{Space}, Words.{first_of}};
+ghost use Rattle.bd_space.specs.Todo as todo;
+ghost use Rattle.bd_space.specs.Reading as spec;
+ghost use Rattle.bd_space.specs.ReadItems as read_items;
+ghost use Rattle.bd_space.specs.Returns as returns;
+ghost use Rattle.bd_buffers.specs.WindowsStand.{made_of_buffer};
+ghost use Rattle.bd_objects.specs.Room.{reference_room};
+ghost use Rattle.bd_calls.specs.Room.{work_room};
+ghost use Rattle.bd_step.specs.Stands.{Before, Within, TellsBefore, TellsWithin, UsesNothing};
+ghost use Rattle.bd_step.specs.{Meets.{Meets, IsBy, IsKept, IsStepTwice}, Taking.{AreTaken, IsReading}};
+
+use crate::answer::{Plain, Twice};
+use crate::tables::{NOTHING, Tables};
+use crate::touched::in_order;
+use crate::why::Why;
+use bd_codec::write_return;
+use bd_objects::Room;
+use bd_space::{Actor, Buffer, Bytes, ObjectId, StepAnswer, Thread, TodoList, Work, WorkKind};
+use bd_uapi::{Fault, Return};
+use std::alloc::{AllocError, Global};
+
+// What a read takes: the work items, and the bytes of their returns after those of a BR_NOOP.
+#[derive(Drop)]
+struct Taking {
+    works: Vec<Work>,
+    stream: Vec<u8>,
+}
+
+// Nothing is read after it.
+fn ends_read(kind: WorkKind) -> bool
+    ensures { result ≡ read_items.ends_read kind }
+{
+    matches!(
+        kind,
+        WorkKind::Call(_) | WorkKind::Reply(_) | WorkKind::Death(_)
+    )
+}
+
+fn hands_out(kind: WorkKind) -> Option<u32>
+    ensures { result ≡ todo.hands_out kind }
+{
+    match kind {
+        WorkKind::Call(buffer) | WorkKind::Reply(buffer) => Some(buffer),
+        _ => None,
+    }
+}
+
+// The buffer that is handed over by reading these.
+fn handed_by(works: &[Work]) -> Option<u32>
+    ensures { result ≡ first_of (map (λ w. todo.hands_out w.kind) works.now) }
+{
+    for work in works {
+        let buffer = hands_out(work.kind);
+        if buffer.is_some() {
+            return buffer;
+        }
+    }
+    None
+}
+
+fn notice_of(kind: WorkKind) -> Option<ObjectId>
+    ensures { result ≡ todo.notice_of kind }
+{
+    match kind {
+        WorkKind::Notice(o) => Some(o),
+        _ => None,
+    }
+}
+
+// The objects of whose notices these are.
+fn noticed(alloc: Global, works: &[Work]) -> Result<Vec<ObjectId>, AllocError>
+    ensures { IfOk result (λ os. os.items ≡ filter_map (λ w. todo.notice_of w.kind) works.now) }
+{
+    works
+        .iter()
+        .filter_map(|w| notice_of(w.kind))
+        .collect(alloc)
+}
+
+// Where the buffer was made.
+fn made_of(buffer: Option<&Buffer>) -> Option<u32>
+    ensures { result ≡ option_map made_of_buffer (option_copied buffer.entry) }
+{
+    match buffer {
+        Some(b) => Some(b.made),
+        None => None,
+    }
+}
+
+// The answer of a read: the bytes, and copies of the data and offsets that are handed over.
+fn got(alloc: Global, buffer: Option<&Buffer>, stream: Vec<u8>) -> Result<StepAnswer, AllocError>
+    ensures { IfOk result (λ answer. answer ≡ spec.got stream.items (option_copied buffer.entry)) }
+{
+    match buffer {
+        Some(b) => Ok(StepAnswer::Got {
+            stream: Bytes::new(stream),
+            bytes: b.bytes.copied()?,
+            offsets: b.offsets.copied()?,
+        }),
+        None => Ok(StepAnswer::Got {
+            stream: Bytes::new(stream),
+            bytes: Bytes::new(Vec::new(alloc)),
+            offsets: Bytes::new(Vec::new(alloc)),
+        }),
+    }
+}
+
+// The answer again, where it is asked for. Else it takes no memory, and is any answer.
+fn again_if(asked: bool, answer: &StepAnswer) -> Result<StepAnswer, AllocError>
+    ensures { IsTrue asked → IfOk result (λ x. x ≡ answer.now) }
+{
+    if asked {
+        answer.copied()
+    } else {
+        Ok(StepAnswer::Exited)
+    }
+}
+
+// What a reading of one work item mostly has: the Noop and the longest return.
+const LONGEST_OF_ONE: usize = 4 + 68;
+
+// Nothing is taken yet.
+fn begin(alloc: Global) -> Result<Taking, AllocError>
+    ensures works { IfOk result (λ t. t.works.items ≡ []) }
+    ensures stream { IfOk result (λ t. t.stream.items ≡ return_bytes Noop) }
+{
+    let mut stream = Vec::with_capacity(alloc, LONGEST_OF_ONE)?;
+    if write_return(&Return::Noop, &mut stream).is_err() {
+        return Err(AllocError);
+    }
+    Ok(Taking {
+        works: Vec::new(alloc),
+        stream,
+    })
+}
+
+impl Taking {
+    // Fewer bytes are left than the longest return has.
+    fn is_full(&self, limit: u32) -> bool
+        ensures { result ≡ nat_lt (limit - length self.now.stream.items) 68 }
+    {
+        (limit as usize).saturating_sub(self.stream.len()) < 68
+    }
+}
+
+impl Tables {
+    // The list that a thread reads, if anything is on it.
+    fn list_to_read(&self, thread: &Thread) -> Option<TodoList>
+        ensures some { IfSome result
+            (λ list. (s : Space) → Before self.now s
+            → todo.list_to_read s thread.now ≡ todo.work_on s.todo (Some list)) }
+        ensures filled { IfSome result
+            (λ list. (s : Space) → Before self.now s → spec.is_empty (todo.list_to_read s thread.now) ≡ false) }
+        ensures none { result ≡ None → (s : Space) → Before self.now s → todo.list_to_read s thread.now ≡ [] }
+    {
+        match self.calls.reads(thread) {
+            Some(list) => match self.calls.work_at(list, 0) {
+                Some(_) => Some(list),
+                None => None,
+            },
+            None => None,
+        }
+    }
+
+    // One work item more is taken.
+    fn take_one(&self, work: Work, taking: &mut Taking) -> Result<(), AllocError>
+        ensures works { OnOk result (taking.new.works.items ≡ taking.old.works.items ++ work ∷ []) }
+        ensures stream { OnOk result
+            (TellsBefore self.now taking.new.stream.items (λ s. taking.old.stream.items ++ returns.bytes_read s work)) }
+    {
+        self.append_work(work.kind, &mut taking.stream)?;
+        taking.works.push(work)?;
+        Ok(())
+    }
+
+    // What a read takes off a list: item after item, while at least 68 bytes are left and none ends the read.
+    fn take(&self, list: TodoList, limit: u32) -> Result<Taking, AllocError>
+        ensures { IfOk result
+            (λ t. (s : Space) → Before self.now s
+            → AreTaken s limit (todo.work_on s.todo (Some list)) t.works.items t.stream.items) }
+    {
+        let mut taking = begin(self.alloc)?;
+        for work in self.calls.works_on(list) {
+            if taking.is_full(limit) {
+                return Ok(taking);
+            }
+            self.take_one(work, &mut taking)?;
+            if ends_read(work.kind) {
+                return Ok(taking);
+            }
+        }
+        Ok(taking)
+    }
+
+    // The buffer that is handed over by reading these.
+    fn buffer_taken(&self, works: &[Work]) -> Option<&Buffer>
+        ensures { TellsWithin self.now (option_copied result) (λ s. read_items.buffer_taken s works.now) }
+    {
+        match handed_by(works) {
+            Some(made) => self.windows.buffer(made),
+            None => None,
+        }
+    }
+
+    // Makes room for the reading of so many work items, and for what follows at so many objects.
+    fn reserve_read(&mut self, works: usize, touched: usize) -> Result<(), AllocError>
+        ensures stands { IsKept self.old self.new }
+        ensures references { OnOk result (2 * works ≤ reference_room self.new.objects) }
+        ensures works { OnOk result (touched ≤ work_room self.new.calls) }
+    {
+        let references = works.checked_mul(2).ok_or(AllocError)?;
+        self.reserve(
+            Room {
+                references,
+                ..NOTHING
+            },
+            touched,
+        )
+    }
+
+    // The thread of a seat has read these work items, by which the buffer made there is handed over.
+    fn read_by(&mut self, seat: u32, works: &[Work], made: Option<u32>)
+        requires { 2 * length works.now ≤ reference_room self.old.objects }
+        ensures stands { (s : Space) → Within self.old s → made ≡ option_map made_of_buffer (read_items.buffer_taken s works.now)
+            → Within self.new (read_items.read_by s seat works.now) }
+        ensures uses { UsesNothing self.old self.new }
+    {
+        self.objects.read_by(self.steps, works);
+        self.calls.read_by(seat, works);
+        self.windows.hand_out(made);
+    }
+
+    // A thread reads the list that is its to read. The answer is copied only where both are asked for.
+    fn read_list(
+        &mut self,
+        thread: &Thread,
+        list: TodoList,
+        limit: u32,
+        both: bool,
+    ) -> Result<Twice, AllocError>
+        ensures ok { IfOk result
+            (λ x. Meets self.old self.new (IsReading thread.now list)
+            (λ s. spec.read_taking s thread.now.seat (read_items.taken s (limit - 4) (todo.work_on s.todo (Some list)))) x.answer) }
+        ensures twice { IsTrue both → IfOk result (λ x. x.again ≡ x.answer) }
+        ensures err { OnErr result (IsKept self.old self.new) }
+    {
+        let Taking { works, stream } = self.take(list, limit)?;
+        let buffer = self.buffer_taken(works.as_slice());
+        let made = made_of(buffer);
+        let answer = got(self.alloc, buffer, stream)?;
+        let again = again_if(both, &answer)?;
+        let touched = in_order(noticed(self.alloc, works.as_slice())?);
+        self.reserve_read(works.len(), touched.len())?;
+        self.read_by(thread.seat, works.as_slice(), made);
+        self.follow_objects(touched.as_slice());
+        Ok(Twice { answer, again })
+    }
+
+    /// The step that reads.
+    pub(crate) fn read(&mut self, a: Actor, limit: u32, both: bool) -> Result<Twice, Why>
+        ensures { IsStepTwice self.old self.new both (IsBy a) (λ s. spec.read_step s a limit) result }
+    {
+        if limit < 72 {
+            return Ok(Plain::Refused(Fault::ReadTooSmall).twice());
+        }
+        let Some(list) = self.list_to_read(&a.thread) else {
+            return Ok(Plain::Refused(Fault::Again).twice());
+        };
+        match self.read_list(&a.thread, list, limit, both) {
+            Ok(taken) => Ok(taken),
+            Err(AllocError) => Err(Why::NoMemory),
+        }
+    }
+}

@@ -1,0 +1,118 @@
+//! References that are asked for and acknowledged: the steps of `BC_INCREFS`, `BC_ACQUIRE`, `BC_RELEASE`, `BC_DECREFS`,
+//! `BC_INCREFS_DONE` and `BC_ACQUIRE_DONE`.
+
+ghost use Rattle.std.specs.Prelude.{◌≡◌, ◌≤◌, IfErr, OnOk, OnErr};
+ghost use Rattle.bd_space.specs.Names.{has_number_past_limit};
+ghost use Rattle.bd_space.specs.Asking as asking;
+ghost use Rattle.bd_space.specs.Outcomes.{completed};
+ghost use Rattle.bd_objects.specs.Room.{reference_room, name_room};
+ghost use Rattle.bd_calls.specs.Room.{work_room};
+ghost use Rattle.bd_step.specs.{Stands.{MakesOfTidy, PassesLimit}, Meets.{IsBy, IsKept, IsStep}};
+
+use crate::answer::Plain;
+use crate::tables::{NOTHING, Tables};
+use crate::why::Why;
+use bd_objects::{NumbersFull, Room};
+use bd_space::{Actor, ObjectId};
+
+impl Tables {
+    // The reference comes in that the process asks for, and a name with it, and what follows at the object; or nothing,
+    // where a number past the limit would be needed.
+    fn add_asked(&mut self, p: u32, n: u32, o: ObjectId, strong: bool) -> Result<(), Why>
+        requires references { 1 ≤ reference_room self.old.objects }
+        requires names { 1 ≤ name_room self.old.objects }
+        requires works { 1 ≤ work_room self.old.calls }
+        ensures stands { OnOk result (MakesOfTidy self.old self.new (λ s. completed (asking.ask s p o strong))) }
+        ensures kept { OnErr result (IsKept self.old self.new) }
+        ensures full { OnErr result (PassesLimit self.old (λ s. completed (asking.ask s p o strong))) }
+        // There is room by then, so that nothing else is a reason.
+        ensures limit { IfErr result (λ why. why ≡ Why.HistoryFull) }
+    {
+        match self.objects.ask(self.steps, self.manager, p, n, o, strong) {
+            Ok(()) => {
+                self.follow_objects(&[o]);
+                Ok(())
+            }
+            Err(NumbersFull) => Err(Why::HistoryFull),
+        }
+    }
+
+    /// The step by which a process asks for an object, weakly or strongly.
+    pub(crate) fn ask(&mut self, a: Actor, n: u32, strong: bool) -> Result<Plain, Why>
+        ensures { IsStep self.old self.new (IsBy a) (λ s. asking.ask_step s a.process.made n strong) result }
+    {
+        let o = match self
+            .objects
+            .ask_check(self.manager, a.process.made, n, strong)
+        {
+            Ok(o) => o,
+            Err(note) => return Ok(Plain::Noted(note)),
+        };
+        let room = Room {
+            references: 1,
+            names: 1,
+            ..NOTHING
+        };
+        if self.reserve(room, 0).is_err() {
+            return Err(Why::NoMemory);
+        }
+        match self.add_asked(a.process.made, n, o, strong) {
+            Ok(()) => Ok(Plain::Accepted),
+            Err(why) => Err(why),
+        }
+    }
+
+    // The reference goes that the process asked for, and what follows at its name and at the object.
+    fn lose_asked(&mut self, p: u32, o: ObjectId, strong: bool)
+        requires { 1 ≤ work_room self.old.calls }
+        ensures stands { MakesOfTidy self.old self.new (λ s. completed (asking.drop_asked s p o strong)) }
+    {
+        self.objects.drop_asked(p, o, strong);
+        self.follow_among(p, &[o]);
+    }
+
+    /// The step by which a process drops a reference that it asked for.
+    pub(crate) fn drop_asked(&mut self, a: Actor, n: u32, strong: bool) -> Result<Plain, Why>
+        ensures { IsStep self.old self.new (IsBy a) (λ s. asking.drop_step s a.process.made n strong) result }
+    {
+        let o = match self.objects.drop_check(a.process.made, n, strong) {
+            Ok(o) => o,
+            Err(note) => return Ok(Plain::Noted(note)),
+        };
+        if self.reserve(NOTHING, 0).is_err() {
+            return Err(Why::NoMemory);
+        }
+        self.lose_asked(a.process.made, o, strong);
+        Ok(Plain::Accepted)
+    }
+
+    // The reference goes that stood for an acknowledgement, and what follows at the object.
+    fn lose_handshake(&mut self, o: ObjectId, strong: bool)
+        requires { 1 ≤ work_room self.old.calls }
+        ensures stands { MakesOfTidy self.old self.new (λ s. completed (asking.acknowledge s o strong)) }
+    {
+        self.objects.acknowledge(o, strong);
+        self.follow_objects(&[o]);
+    }
+
+    /// The step by which a process acknowledges what it was told of an own object.
+    pub(crate) fn acknowledge(
+        &mut self,
+        a: Actor,
+        ptr: u64,
+        cookie: u64,
+        strong: bool,
+    ) -> Result<Plain, Why>
+        ensures { IsStep self.old self.new (IsBy a) (λ s. asking.done_step s a.process.made ptr cookie strong) result }
+    {
+        let x = match self.objects.done_check(a.process.made, ptr, cookie, strong) {
+            Ok(x) => x,
+            Err(note) => return Ok(Plain::Noted(note)),
+        };
+        if self.reserve(NOTHING, 0).is_err() {
+            return Err(Why::NoMemory);
+        }
+        self.lose_handshake(x.id, strong);
+        Ok(Plain::Accepted)
+    }
+}

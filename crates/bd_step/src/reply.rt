@@ -1,0 +1,161 @@
+//! The step of BC_REPLY.
+
+ghost use Rattle.std.specs.Prelude.{false, ◌≡◌, ◌≤◌, length, Some, IfOk, IfErr, OnOk, OnErr};
+ghost use Rattle.bd_space.specs.declared.space.TodoList.TheVariants.{OfThread};
+ghost use Rattle.bd_space.specs.declared.space.WorkKind.TheVariants as kinds;
+ghost use Rattle.bd_space.specs.Todo as todo;
+ghost use Rattle.bd_space.specs.Frames as frames;
+ghost use Rattle.bd_space.specs.Names.{names_go};
+ghost use Rattle.bd_space.specs.Outcomes as outcomes;
+ghost use Rattle.bd_space.specs.Replies as spec;
+ghost use Rattle.bd_calls.specs.Room.{work_room};
+ghost use Rattle.bd_step.specs.Stands.{CanFollow, TellsBefore, Makes, PassesLimit};
+ghost use Rattle.bd_step.specs.Meets.{IsBy, IsServing, IsReplying, IsKept, IsStep};
+ghost use Rattle.bd_step.specs.Deliveries.{IsDeliverable, IsReady, Delivers, Spends};
+
+use crate::answer::Plain;
+use crate::delivery::Delivery;
+use crate::tables::{NOTHING, Tables};
+use crate::why::Why;
+use bd_objects::NumbersFull;
+use bd_space::{Actor, Frame, Parcel, WorkKind};
+use bd_uapi::{Cause, Return, TransactionData};
+use std::alloc::AllocError;
+
+impl Tables {
+    // What is to be delivered to the caller of the frame, or the first cause against it.
+    fn reply_check(
+        &self,
+        a: Actor,
+        d: &TransactionData,
+        parcel: &Option<Parcel>,
+        f: &Frame,
+    ) -> Result<Result<Delivery, Cause>, AllocError>
+        ensures computed { IfOk result
+            (λ r. TellsBefore self.now r (λ s. spec.reply_check s a d.now parcel.now f.now)) }
+        ensures deliverable { IfOk result (λ r. IfOk r (IsDeliverable self.now d.now)) }
+    {
+        match self.caller_of(f) {
+            None => Ok(Err(Cause::CallerGone)),
+            Some(caller) => self.sent_to(a, d, parcel, caller.process, None, false),
+        }
+    }
+
+    // The frame closes, the thread reads that its reply was taken, and the caller has a reply to read.
+    fn answered(&mut self, seat: u32, f: Frame)
+        requires { 2 ≤ work_room self.old.calls }
+        ensures stands { Makes self.old self.new
+            (λ s. todo.tell_caller (todo.owe (frames.closed s f.made) (OfThread seat) (kinds.Complete false)) f
+            (kinds.Reply s.steps)) }
+        ensures spends { Spends self.old self.new 0 0 0 2 }
+    {
+        self.close(f.made);
+        self.owe(seat, WorkKind::Complete { spam: false });
+        self.tell_caller(f, WorkKind::Reply(self.steps));
+    }
+
+    // All that changes.
+    fn replied(&mut self, a: Actor, d: &TransactionData, f: Frame, v: Delivery) -> Result<(), Why>
+        requires deliverable { IsDeliverable self.old d.now v }
+        requires ready { IsReady self.old v }
+        ensures ok { OnOk result (Delivers self.old self.new v (λ s. spec.replied s a d.now f v)) }
+        ensures err { OnErr result (IsKept self.old self.new) }
+        ensures full { OnErr result (PassesLimit self.old (λ s. names_go (spec.replied s a d.now f v))) }
+        ensures follow { OnOk result (CanFollow self.new (length v.sending.items)) }
+        // There is room by then, so that nothing else is a reason.
+        ensures limit { IfErr result (λ why. why ≡ Why.HistoryFull) }
+    {
+        match self.delivered(a, d, v) {
+            Err(NumbersFull) => Err(Why::HistoryFull),
+            Ok(()) => {
+                self.answered(a.thread.seat, f);
+                Ok(())
+            }
+        }
+    }
+
+    // The step of a reply that nothing stands against. All that may follow is what follows at the objects of its parcel, and
+    // that calls close, from the one in which the answered call was made upwards.
+    pub(crate) fn answer(
+        &mut self,
+        a: Actor,
+        d: &TransactionData,
+        f: Frame,
+        v: Delivery,
+    ) -> Result<Plain, Why>
+        requires { IsDeliverable self.old d.now v }
+        ensures { IsStep self.old self.new (IsReplying a d.now f v)
+            (λ s. outcomes.accepted (spec.replied s a d.now f v)) result }
+    {
+        let parent = f.parent;
+        let Ok(touched) = self.make_ready(&v) else {
+            return Err(Why::NoMemory);
+        };
+        match self.replied(a, d, f, v) {
+            Err(why) => Err(why),
+            Ok(()) => {
+                self.follow_objects(touched.as_slice());
+                self.close_up(parent);
+                Ok(Plain::Accepted)
+            }
+        }
+    }
+
+    // A refused reply closes the frame too, and a caller that lives is told.
+    fn refuse_reply(&mut self, seat: u32, f: Frame)
+        requires { 2 ≤ work_room self.old.calls }
+        ensures stands { Makes self.old self.new (λ s. spec.reply_refused s seat f) }
+        ensures spends { Spends self.old self.new 0 0 0 2 }
+    {
+        self.owe(seat, WorkKind::Refusal(Return::TransactionComplete));
+        self.close(f.made);
+        self.tell_caller(f, WorkKind::Verdict(Return::FailedReply));
+    }
+
+    // The step of a reply that this cause stands against.
+    fn stop_reply(&mut self, seat: u32, cause: Cause, f: Frame) -> Result<Plain, Why>
+        ensures step { IsStep self.old self.new (IsServing seat f)
+            (λ s. outcomes.stopped cause (spec.reply_refused s seat f)) result }
+        ensures memory { IfErr result (λ why. why ≡ Why.NoMemory) }
+    {
+        if self.reserve(NOTHING, 2).is_err() {
+            return Err(Why::NoMemory);
+        }
+        self.refuse_reply(seat, f);
+        self.close_up(f.parent);
+        Ok(Plain::Stopped(cause))
+    }
+
+    // The step of a reply to this frame.
+    fn reply_to(
+        &mut self,
+        a: Actor,
+        d: &TransactionData,
+        parcel: &Option<Parcel>,
+        f: Frame,
+    ) -> Result<Plain, Why>
+        ensures { IsStep self.old self.new (IsServing a.thread.seat f)
+            (λ s. spec.reply_to s a d.now parcel.now (Some f)) result }
+    {
+        match self.reply_check(a, d, parcel, &f) {
+            Err(_) => Err(Why::NoMemory),
+            Ok(Err(cause)) => self.stop_reply(a.thread.seat, cause, f),
+            Ok(Ok(v)) => self.answer(a, d, f, v),
+        }
+    }
+
+    /// The step of BC_REPLY.
+    pub(crate) fn reply(
+        &mut self,
+        a: Actor,
+        d: &TransactionData,
+        parcel: &Option<Parcel>,
+    ) -> Result<Plain, Why>
+        ensures { IsStep self.old self.new (IsBy a) (λ s. spec.reply_step s a d.now parcel.now) result }
+    {
+        match self.calls.served_innermost(a.thread.seat) {
+            None => self.stop(a.thread.seat, Cause::NoCall, Return::FailedReply),
+            Some(f) => self.reply_to(a, d, parcel, f),
+        }
+    }
+}

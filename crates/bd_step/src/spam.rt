@@ -1,0 +1,31 @@
+//! Reports of one-way flooding: who asked for them, and of which calls they are made.
+
+ghost use Rattle.std.specs.Prelude.{◌≡◌, ◌&&◌, Some, Ok};
+ghost use Rattle.bd_space.specs.{Space.{Space}, Seats.{process_in}, Windows.{buffers_of}};
+ghost use Rattle.bd_space.specs.Spam as spec;
+ghost use Rattle.bd_space.specs.declared.space.Process.{Process};
+ghost use Rattle.bd_step.specs.{Stands.{Within}, Meets.{IsBy, IsStep}};
+
+use crate::answer::Plain;
+use crate::tables::Tables;
+use bd_space::Actor;
+
+impl Tables {
+    /// The step by which a process asks for reports of its own flooding, or no longer. Nothing follows from it, and it
+    /// takes no memory.
+    pub(crate) fn set_spam_detection(&mut self, a: Actor, on: bool) -> Plain
+        ensures { IsStep self.old self.new (IsBy a) (λ s. spec.spam_step s on a) (Ok result) }
+    {
+        self.processes.set_spam_detection(a.process.made, on);
+        Plain::Set
+    }
+
+    /// Whether a call that was just delivered to this process is reported to its sender as flooding.
+    pub(crate) fn is_spam(&self, a: Actor, receiver: u32, one_way: bool) -> bool
+        ensures { (s : Space) (q : Process) → Within self.now s → process_in s.processes receiver ≡ Some q
+            → result ≡ (a.process.spam_detection && one_way
+            && spec.floods q.window (buffers_of s.buffers receiver) a.process.made) }
+    {
+        a.process.spam_detection && one_way && self.windows.floods(receiver, a.process.made)
+    }
+}

@@ -1,0 +1,84 @@
+//! The tables that a space is kept in, and room in them.
+
+ghost use Rattle.std.specs.Prelude.{◌≡◌, ◌≤◌, OnOk};
+
+use bd_buffers::Windows;
+use bd_calls::CallTable;
+use bd_objects::{ObjectTable, Room};
+use bd_processes::ProcessTable;
+use bd_space::ObjectId;
+use std::alloc::{AllocError, Global};
+
+/// For a step that makes nothing among the objects.
+pub(crate) const NOTHING: Room = Room {
+    objects: 0,
+    references: 0,
+    names: 0,
+    deaths: 0,
+};
+
+/// The tables of an engine.
+pub struct Tables {
+    /// How many steps there were: the place of the next. A step leaves it as it is; who keeps the tables counts.
+    pub steps: u32,
+    /// The live processes.
+    pub processes: ProcessTable,
+    /// The context manager's object.
+    pub manager: Option<ObjectId>,
+    /// Objects, and what refers to them.
+    pub objects: ObjectTable,
+    /// Threads, and what they do and have to read.
+    pub calls: CallTable,
+    /// What processes receive into.
+    pub windows: Windows,
+    /// What their memory comes from.
+    pub alloc: Global,
+}
+
+// Written out: one that is derived would be proved again, with that of each table, in every crate that holds tables.
+impl Drop for Tables {
+    fn drop(self) {
+        let Tables {
+            steps: _,
+            processes: _,
+            manager: _,
+            objects: _,
+            calls: _,
+            windows: _,
+            alloc: _,
+        } = self;
+    }
+}
+
+impl Tables {
+    ghost use Rattle.bd_space.specs.Space.{Space, opening};
+    ghost use Rattle.bd_objects.specs.Room as object_rooms;
+    ghost use Rattle.bd_step.specs.{Stands.{Before, HasRoom}, Meets.{IsKept}};
+
+    /// The tables of a new engine. Takes no memory.
+    pub fn new(alloc: Global) -> Tables
+        ensures { Before result opening }
+    {
+        Tables {
+            steps: 0,
+            processes: ProcessTable::new(alloc),
+            manager: None,
+            objects: ObjectTable::new(alloc),
+            calls: CallTable::new(alloc),
+            windows: Windows::new(alloc),
+            alloc,
+        }
+    }
+
+    /// Makes room for a step: this among the objects, for so many work items, and for the calls that may ripen or close.
+    /// Changes nothing else, also where memory is refused.
+    pub(crate) fn reserve(&mut self, room: Room, works: usize) -> Result<(), AllocError>
+        ensures stands { IsKept self.old self.new }
+        ensures room { OnOk result (HasRoom self.new room works) }
+        ensures windows { self.new.windows ≡ self.old.windows }
+        ensures count { object_rooms.object_count self.new.objects ≤ object_rooms.object_count self.old.objects }
+    {
+        self.objects.reserve(room)?;
+        self.calls.reserve(works)
+    }
+}

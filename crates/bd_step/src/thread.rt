@@ -1,0 +1,157 @@
+//! Threads: whose seat it is, which are ready, and how they attach, enter the loop, leave it and end.
+
+ghost use Rattle.std.specs.Prelude.{true, ◌≡◌, Ok, IfSome, ◌≤◌, ◌<◌, ◌^◌, if◌then◌else◌};
+ghost use Rattle.bd_uapi.specs.Limits.{most_seats};
+ghost use Rattle.bd_space.specs.Seats as seats;
+ghost use Rattle.bd_space.specs.{Steps.{is_pid}, Histories.{is_ready, ready_below}};
+ghost use Rattle.bd_space.specs.Steps as steps;
+ghost use Rattle.bd_space.specs.Commands as commands;
+ghost use Rattle.bd_space.specs.Outcomes.{accepted};
+ghost use Rattle.bd_space.specs.ThreadExits as exits;
+ghost use Rattle.bd_space.specs.Tables.{Makes as Changes};
+ghost use Rattle.bd_objects.specs.Room as object_rooms;
+ghost use Rattle.bd_objects.specs.Stands.{StandsFor};
+ghost use Rattle.bd_buffers.specs.WindowsStand.{StandsIn};
+ghost use Rattle.bd_calls.specs.Room.{thread_room};
+ghost use Rattle.bd_step.specs.{Stands.{Tells, Makes, MakesWithin, UsesNothing}, Meets.{IsAny, IsBy, IsStep}};
+ghost use Rattle.bd_step.specs.Handed.{without_handed, without_all_handed};
+
+use crate::answer::Plain;
+use crate::tables::{NOTHING, Tables};
+use crate::why::Why;
+use bd_buffers::Windows;
+use bd_links::{Works, hands_out};
+use bd_objects::ObjectTable;
+use bd_space::{Actor, Thread, TodoList, WorkKind};
+use bd_uapi::Fault;
+
+// The buffer goes that reading a work item of this kind would have handed out, with the references that it holds.
+fn end_buffer_of(objects: &mut ObjectTable, windows: &mut Windows, kind: WorkKind)
+    ensures objects { Changes (StandsFor objects.old) (StandsFor objects.new) (λ s. without_handed s kind) }
+    ensures windows { Changes (StandsIn windows.old) (StandsIn windows.new) (λ s. without_handed s kind) }
+    ensures uses { object_rooms.UsesNothing objects.old objects.new }
+{
+    if let Some(made) = hands_out(kind) {
+        objects.without_buffer(made);
+        windows.free(made);
+    }
+}
+
+// The buffers go that reading these work items would have handed out, with the references that they hold.
+fn end_handed(objects: &mut ObjectTable, windows: &mut Windows, works: Works<'_>)
+    ensures objects { Changes (StandsFor objects.old) (StandsFor objects.new) (λ s. without_all_handed s works.entry) }
+    ensures windows { Changes (StandsIn windows.old) (StandsIn windows.new) (λ s. without_all_handed s works.entry) }
+    ensures uses { object_rooms.UsesNothing objects.old objects.new }
+{
+    for work in works {
+        end_buffer_of(objects, windows, work.kind);
+    }
+}
+
+impl Tables {
+    // The thread with its process.
+    fn actor_of(&self, thread: Thread) -> Option<Actor>
+        ensures found { Tells self.now result (λ s. seats.actor_of s thread) }
+        ensures pid { IfSome result (λ a. is_pid a.process.pid ≡ true) }
+    {
+        match self.process(thread.process) {
+            Some(process) => Some(Actor { thread, process }),
+            None => None,
+        }
+    }
+
+    /// The live thread of a seat, with its process.
+    #[tactic(auto, unfolding(bd_space::specs::Seats::actor))]
+    pub(crate) fn actor(&self, seat: u32) -> Option<Actor>
+        ensures found { Tells self.now result (λ s. seats.actor s seat) }
+        ensures pid { IfSome result (λ a. is_pid a.process.pid ≡ true) }
+    {
+        match self.calls.thread(seat) {
+            None => None,
+            Some(thread) => self.actor_of(thread),
+        }
+    }
+
+    // The bit of a seat that is ready, or 0.
+    fn bit_of(&self, seat: u32, bit: u32) -> u32
+        ensures ready { Tells self.now result (λ s. if is_ready s seat then bit else 0) }
+        ensures within { result ≤ bit }
+    {
+        if self.calls.is_ready(seat) { bit } else { 0 }
+    }
+
+    /// The ready seats below this one, bit i for seat i.
+    pub fn ready_below(&self, seats: u32) -> u32
+        requires { seats ≤ most_seats }
+        ensures ready { Tells self.now result (λ s. ready_below s seats) }
+        ensures bits { result < 2 ^ most_seats }
+    {
+        let mut ready = 0;
+        let mut bit = 1;
+        for seat in 0..seats {
+            ready += self.bit_of(seat, bit);
+            bit *= 2;
+        }
+        ready
+    }
+
+    // A thread comes in.
+    pub(crate) fn with_thread(&mut self, seat: u32, process: u32)
+        requires { 1 ≤ thread_room self.old.calls }
+        ensures stands { Makes self.old self.new (λ s. steps.with_thread s seat process) }
+    {
+        self.calls.add_thread(self.steps, seat, process);
+    }
+
+    /// The step that makes the seat a further thread of a live process.
+    pub(crate) fn attach(&mut self, seat: u32, pid: u32) -> Result<Plain, Why>
+        ensures { IsStep self.old self.new IsAny (λ s. steps.attach_step s seat pid) result }
+    {
+        if self.calls.thread(seat).is_some() {
+            return Ok(Plain::Refused(Fault::HasProcess));
+        }
+        let Some(process) = self.process_with_pid(pid) else {
+            return Ok(Plain::Refused(Fault::NoSuchPid));
+        };
+        if self.reserve(NOTHING, 0).is_err() {
+            return Err(Why::NoMemory);
+        }
+        self.with_thread(seat, process.made);
+        Ok(Plain::Opened)
+    }
+
+    /// The step by which a thread enters the loop, or leaves it. Nothing follows from it, and it takes no memory.
+    pub(crate) fn set_looping(&mut self, a: Actor, looping: bool) -> Plain
+        ensures { IsStep self.old self.new (IsBy a)
+            (λ s. accepted (commands.with_looping s a.thread.seat looping)) (Ok result) }
+    {
+        self.calls.set_looping(a.thread.seat, looping);
+        Plain::Accepted
+    }
+
+    // The thread of a seat ends; what is lost with its list is told by the list, which goes last.
+    pub(crate) fn thread_goes(&mut self, seat: u32)
+        ensures stands { MakesWithin self.old self.new (λ s. exits.thread_goes s seat) }
+        ensures uses { UsesNothing self.old self.new }
+    {
+        let list = TodoList::OfThread(seat);
+        let works = self.calls.works_on(list);
+        end_handed(&mut self.objects, &mut self.windows, works);
+        self.calls.thread_goes(seat);
+    }
+
+    /// The step that ends a thread. What it touches is gathered before anything changes.
+    pub(crate) fn exit_thread(&mut self, a: Actor) -> Result<Plain, Why>
+        ensures { IsStep self.old self.new (IsBy a) (λ s. exits.exit_thread_step s a) result }
+    {
+        let seat = a.thread.seat;
+        let Ok(exit) = self.begin_thread_exit(seat) else {
+            return Err(Why::NoMemory);
+        };
+        self.thread_goes(seat);
+        self.follow_among(a.thread.process, exit.objects());
+        let mut frames = exit.into_frames();
+        self.close_among(frames.as_mut_slice());
+        Ok(Plain::Exited)
+    }
+}

@@ -1,0 +1,151 @@
+//! What follows from a change at some names and objects: nothing else is looked at.
+
+ghost use Rattle.std.specs.Prelude.{◌≡◌, ◌≤◌, [], ◌∷◌, length};
+ghost use Rattle.bd_space.specs.{Space.{Space}, References.{object_in}};
+ghost use Rattle.bd_space.specs.Local.{follow_of, at_name, at_object, no_name, is_among, names_among};
+ghost use Rattle.bd_laws.specs.{Lists.{Pairs}, Objects.{NotLater}};
+ghost use Rattle.bd_objects.specs.Telling.{owner_due};
+ghost use Rattle.bd_calls.specs.Room.{work_room};
+ghost use Rattle.bd_step.specs.Stands.{Within, Uses, MakesWithin, TellsWithin, UsesNothing};
+ghost use Rattle.bd_step.specs.Following.{deaths_followed, deaths_withdrawn, followed_at, names_followed, shed_of, told_of, AreTouched, MakesOfOrdered};
+
+use crate::tables::Tables;
+use bd_space::{ObjectId, TodoList};
+
+/// The objects in the order in which they were made.
+pub(crate) fn in_order(mut objects: Vec<ObjectId>) -> Vec<ObjectId>
+    ensures touched { AreTouched (is_among objects.items) result.items }
+    ensures len { length result.items ≡ length objects.items }
+{
+    objects.sort_unstable_by_key(|o| (o.place, o.index));
+    objects
+}
+
+impl Tables {
+    // The work items go of the death notifications that go with the process's name of the object, which is gone: where just
+    // one does, no other item is looked at.
+    fn withdraw_deaths(&mut self, p: u32, o: ObjectId)
+        ensures stands { MakesWithin self.old self.new (deaths_withdrawn (at_name p o)) }
+        ensures uses { UsesNothing self.old self.new }
+    {
+        match self.objects.only_lost_death(p, o) {
+            Some(made) => self.calls.withdraw_death(made),
+            None => {
+                let objects = &self.objects;
+                self.calls
+                    .retain_work(|kind| objects.still_due_at(p, o, &kind));
+            }
+        }
+    }
+
+    // The death notifications go whose name of the object is gone, and their work items.
+    fn follow_deaths(&mut self, p: u32, o: ObjectId)
+        ensures stands { MakesWithin self.old self.new (deaths_followed (at_name p o)) }
+        ensures uses { UsesNothing self.old self.new }
+    {
+        if !self.objects.has_lost_death(p, o) {
+            return;
+        }
+        self.withdraw_deaths(p, o);
+        self.objects.deaths_go_with(p, o);
+    }
+
+    // The process's name of the object goes with the references that it rests on, and its death notifications with it.
+    fn follow_name(&mut self, p: u32, o: ObjectId)
+        ensures stands { MakesWithin self.old self.new (names_followed (at_name p o)) }
+        ensures uses { UsesNothing self.old self.new }
+    {
+        self.objects.name_goes(p, o);
+        self.follow_deaths(p, o);
+    }
+
+    // This object goes if nothing keeps it, and its notice if that has nothing left to say. Returns the live owner that is
+    // then to be told of it.
+    fn shed_object(&mut self, o: ObjectId) -> Option<u32>
+        ensures stands { MakesWithin self.old self.new (shed_of (at_object o)) }
+        ensures owner { TellsWithin self.old result
+            (λ s. owner_due s (object_in (shed_of (at_object o) s).objects o)) }
+        ensures uses { UsesNothing self.old self.new }
+    {
+        let owner = self.objects.object_goes(&self.processes, o);
+        if owner.is_none() {
+            self.calls.withdraw_notice(o);
+        }
+        owner
+    }
+
+    // The owner, if there is one to be told of the object, gets its notice, if that is missing.
+    fn tell_owner(&mut self, owner: Option<u32>, o: ObjectId)
+        requires { 1 ≤ work_room self.old.calls }
+        ensures stands { (s : Space) → owner ≡ owner_due s (object_in s.objects o) → Within self.old s
+            → Within self.new (told_of (o ∷ []) s) }
+        ensures uses { Uses self.old self.new 0 0 0 1 }
+    {
+        if let Some(p) = owner {
+            let list = TodoList::OfProcess(p);
+            self.calls.add_notice(self.steps, list, o, true);
+        }
+    }
+
+    // Of these objects those go that nothing keeps, and the notices that have nothing left to say.
+    fn shed_objects(&mut self, touched: &[ObjectId])
+        ensures stands { MakesWithin self.old self.new (shed_of (is_among touched.now)) }
+        ensures uses { UsesNothing self.old self.new }
+    {
+        for o in touched {
+            self.shed_object(*o);
+        }
+    }
+
+    // The notices that are missing are made on their owners' lists, in this order of the objects.
+    fn notify_objects(&mut self, touched: &[ObjectId])
+        requires { length touched.now ≤ work_room self.old.calls }
+        ensures stands { MakesWithin self.old self.new (told_of touched.now) }
+        ensures uses { Uses self.old self.new 0 0 0 (length touched.now) }
+    {
+        for o in touched {
+            let owner = self.objects.owner_to_tell(&self.processes, *o);
+            self.tell_owner(owner, *o);
+        }
+    }
+
+    // The object is shed, and its owner told of it if it stays.
+    fn follow_object(&mut self, o: ObjectId)
+        requires { 1 ≤ work_room self.old.calls }
+        ensures stands { MakesWithin self.old self.new (followed_at o) }
+        ensures uses { Uses self.old self.new 0 0 0 1 }
+    {
+        let owner = self.shed_object(o);
+        self.tell_owner(owner, o);
+    }
+
+    /// What follows at these objects, given in the order in which they were made.
+    pub(crate) fn follow_objects(&mut self, touched: &[ObjectId])
+        requires in_order { Pairs NotLater touched.now }
+        requires room { length touched.now ≤ work_room self.old.calls }
+        ensures stands { MakesOfOrdered self.old self.new (follow_of no_name (is_among touched.now)) }
+        ensures uses { Uses self.old self.new 0 0 0 (length touched.now) }
+    {
+        // Most steps touch one object, which is then looked for once.
+        if touched.len() == 1 {
+            self.follow_object(touched[0]);
+        } else {
+            self.shed_objects(touched);
+            self.notify_objects(touched);
+        }
+    }
+
+    /// What follows at the process's names of these objects, given in the order in which they were made, and then at the
+    /// objects themselves.
+    pub(crate) fn follow_among(&mut self, p: u32, touched: &[ObjectId])
+        requires in_order { Pairs NotLater touched.now }
+        requires room { length touched.now ≤ work_room self.old.calls }
+        ensures stands { MakesOfOrdered self.old self.new (follow_of (names_among p touched.now) (is_among touched.now)) }
+        ensures uses { Uses self.old self.new 0 0 0 (length touched.now) }
+    {
+        for o in touched {
+            self.follow_name(p, *o);
+        }
+        self.follow_objects(touched);
+    }
+}

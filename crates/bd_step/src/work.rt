@@ -1,0 +1,186 @@
+//! What a work item gives to be read: its returns, and their bytes.
+
+ghost use Rattle.std.specs.Prelude.{pos, true, ◌≡◌, ◌+◌, ◌≤◌, ◌++◌, if◌then◌else◌, find, map, length, option_and_then, option_map, unwrap_or, IfSome, OnOk};
+ghost use Rattle.std.specs.List.{flat_map, concat};
+ghost use Rattle.bd_uapi.specs.declared.command.Return.TheVariants as br;
+ghost use Rattle.bd_codec.specs.Spelling.{return_bytes};
+ghost use Rattle.bd_space.specs.Words.{round_up as rounded};
+ghost use Rattle.bd_space.specs.Seats as seats;
+ghost use Rattle.bd_space.specs.{Frames.{is_frame}, Freeing.{pointer}};
+ghost use Rattle.bd_space.specs.Returns as spec;
+ghost use Rattle.bd_space.specs.Steps.{is_pid};
+ghost use Rattle.bd_space.specs.declared.space.WorkKind.TheVariants as work;
+ghost use Rattle.bd_buffers.specs.WindowsStand.{IsInWindow};
+ghost use Rattle.bd_step.specs.Stands.{TellsBefore};
+
+use crate::tables::Tables;
+use bd_buffers::pointer_of;
+use bd_codec::write_return;
+use bd_space::{Actor, Buffer, Object, WorkKind};
+use bd_uapi::{Return, TransactionData};
+use std::alloc::AllocError;
+
+// One return, if there is one.
+fn alone(r: Option<Return>) -> [Option<Return>; 4]
+    ensures { flat_map spec.one result ≡ spec.one r }
+{
+    [r, None, None, None]
+}
+
+// What is read of a transaction or reply that was accepted.
+fn completion(spam: bool) -> Return
+    ensures { result ≡ (if spam then br.OnewaySpamSuspect else br.TransactionComplete) }
+{
+    if spam {
+        Return::OnewaySpamSuspect
+    } else {
+        Return::TransactionComplete
+    }
+}
+
+// Appends the spelling of a return, if there is one.
+fn append_one(r: &Option<Return>, out: &mut Vec<u8>) -> Result<(), AllocError>
+    ensures { OnOk result (out.new.items ≡ out.old.items ++ concat (map return_bytes (spec.one r.now))) }
+{
+    match r {
+        Some(r) => match write_return(r, out) {
+            Ok(()) => Ok(()),
+            Err(_) => Err(AllocError),
+        },
+        None => Ok(()),
+    }
+}
+
+/// Appends the spelling of returns.
+pub(crate) fn append_returns(rs: &[Option<Return>], out: &mut Vec<u8>) -> Result<(), AllocError>
+    ensures { OnOk result (out.new.items ≡ out.old.items ++ concat (map return_bytes (flat_map spec.one rs.now))) }
+{
+    for r in rs {
+        append_one(r, out)?;
+    }
+    Ok(())
+}
+
+// A pid as it is read.
+fn signed(pid: u32) -> i32
+    requires { pid ≤ 2147483647 }
+    ensures { result ≡ pos pid }
+{
+    pid as i32
+}
+
+// Where its offsets begin.
+fn offsets_start(b: &Buffer) -> u64
+    requires { IsInWindow b.now }
+    ensures { result ≡ pointer b.now + rounded (length b.now.bytes) }
+{
+    pointer_of(b) + 8 * ((b.bytes.len() as u64 + 7) / 8)
+}
+
+impl Tables {
+    // That thread, with its process.
+    fn waiting_actor(&self, made: u32) -> Option<Actor>
+        ensures found { TellsBefore self.now result
+            (λ s. option_and_then (seats.actor s) (option_and_then (λ f. f.caller) (find (is_frame made) s.frames))) }
+        ensures pid { IfSome result (λ a. is_pid a.process.pid ≡ true) }
+    {
+        match self.waiting_seat(made) {
+            Some(seat) => self.actor(seat),
+            None => None,
+        }
+    }
+
+    // Its pid, else 0.
+    #[tactic(auto, unfolding(bd_space::specs::Returns::sender_pid))]
+    fn sender_pid(&self, made: u32) -> u32
+        ensures found { TellsBefore self.now result (λ s. spec.sender_pid s made) }
+        ensures fits { result ≤ 2147483647 }
+    {
+        match self.waiting_actor(made) {
+            Some(a) => a.process.pid,
+            None => 0,
+        }
+    }
+
+    // The object that a call is on, if it is one.
+    fn called_object(&self, b: &Buffer) -> Option<Object>
+        ensures { TellsBefore self.now result (λ s. spec.target_in s.objects b.now) }
+    {
+        match b.target {
+            Some(o) => self.objects.object(o),
+            None => None,
+        }
+    }
+
+    // The ptr and the cookie of that object, else 0.
+    fn called_words(&self, b: &Buffer) -> (u64, u64)
+        ensures target { TellsBefore self.now result.0
+            (λ s. unwrap_or (option_map (λ o. o.ptr) (spec.target_in s.objects b.now)) 0) }
+        ensures cookie { TellsBefore self.now result.1
+            (λ s. unwrap_or (option_map (λ o. o.cookie) (spec.target_in s.objects b.now)) 0) }
+    {
+        match self.called_object(b) {
+            Some(o) => (o.ptr, o.cookie),
+            None => (0, 0),
+        }
+    }
+
+    // What the receiver of a buffer reads of it.
+    #[tactic(auto, unfolding(bd_space::specs::Returns::data_of))]
+    fn data_of(&self, b: &Buffer) -> TransactionData
+        requires { IsInWindow b.now }
+        ensures { TellsBefore self.now result (λ s. spec.data_of s b.now) }
+    {
+        let (target, cookie) = self.called_words(b);
+        TransactionData {
+            target,
+            cookie,
+            code: b.code,
+            flags: b.flags,
+            sender_pid: signed(self.sender_pid(b.made)),
+            sender_euid: b.euid,
+            data_size: b.bytes.len() as u64,
+            offsets_size: b.offsets.len() as u64,
+            buffer: pointer_of(b),
+            offsets: offsets_start(b),
+        }
+    }
+
+    // The record of the buffer made there, if it lives.
+    fn record_at(&self, made: u32) -> Option<TransactionData>
+        ensures { TellsBefore self.now result (λ s. option_map (spec.data_of s) (spec.buffer_in s.buffers made)) }
+    {
+        match self.windows.buffer(made) {
+            Some(b) => Some(self.data_of(b)),
+            None => None,
+        }
+    }
+
+    // The returns that a work item gives.
+    #[tactic(auto, unfolding(bd_space::specs::Returns::returns_of))]
+    fn returns_of(&self, kind: WorkKind) -> [Option<Return>; 4]
+        ensures { TellsBefore self.now (flat_map spec.one result) (λ s. spec.returns_of s kind) }
+    {
+        match kind {
+            WorkKind::Notice(o) => self.objects.notice_returns(o),
+            WorkKind::Complete { spam } => alone(Some(completion(spam))),
+            WorkKind::Refusal(r) => alone(Some(r)),
+            WorkKind::Verdict(r) => alone(Some(r)),
+            WorkKind::Call(b) => alone(self.record_at(b).map(Return::Transaction)),
+            WorkKind::Reply(b) => alone(self.record_at(b).map(Return::Reply)),
+            WorkKind::Death(n) => alone(
+                self.objects.death(n).map(|x| Return::DeadBinder(x.cookie)),
+            ),
+            WorkKind::Cleared(cookie) => alone(Some(Return::ClearDeathNotificationDone(cookie))),
+        }
+    }
+
+    /// Appends the bytes of the returns that a work item gives.
+    pub(crate) fn append_work(&self, kind: WorkKind, out: &mut Vec<u8>) -> Result<(), AllocError>
+        ensures { OnOk result
+            (TellsBefore self.now out.new.items
+            (λ s. out.old.items ++ concat (map return_bytes (spec.returns_of s kind)))) }
+    {
+        append_returns(&self.returns_of(kind), out)
+    }
+}
