@@ -73,6 +73,13 @@ enum page_state {
     PAGE_ANSWERED, /* by the daemon */
 };
 
+/* Why a request that waits is to be answered at once. */
+enum page_cancel {
+    CANCEL_NOT = 0,
+    CANCEL_INTERRUPTED, /* a signal came: EINTR */
+    CANCEL_RETURN,      /* a read is to come back, with BR_NOOP if there is nothing else */
+};
+
 /* Flags of PAGE_WRITE_READ. */
 #define PAGE_NONBLOCK 1u /* the file is O_NONBLOCK */
 
@@ -106,7 +113,7 @@ struct page_answer {
 
 struct page {
     _Atomic uint32_t state;
-    _Atomic uint32_t cancel; /* the client's thread was interrupted: it wants its answer now */
+    _Atomic uint32_t cancel; /* why the client's thread wants its answer now: enum page_cancel */
     _Atomic uint32_t ended;   /* by the daemon: nobody answers here any more */
     _Atomic uint32_t freed;   /* by the client: how many buffers it has given back so far; wraps */
     _Atomic uint32_t taken;   /* by the daemon: how many of these it has seen to */

@@ -79,6 +79,12 @@ void page_refuse(struct thread *thread, int error)
     page_interrupt(thread, error);
 }
 
+/* Whether the thread's read is to come back at once. */
+static bool is_to_return(struct thread *thread)
+{
+    return atomic_load(&thread->page->cancel) == CANCEL_RETURN;
+}
+
 /* Runs the write half, and begins the read half. */
 static int write_read(struct thread *thread, const struct page_request *request)
 {
@@ -97,7 +103,7 @@ static int write_read(struct thread *thread, const struct page_request *request)
         thread->is_waiting = true;
         thread->room = request->room;
         thread->defers = thread->calling > calling && !thread->answer.refused && !thread->pending_size && !thread->is_prompt
-                         && !(request->flags & PAGE_NONBLOCK);
+                         && !(request->flags & PAGE_NONBLOCK) && !is_to_return(thread);
     }
     return error;
 }
@@ -181,20 +187,35 @@ static void answer_request(struct thread *thread, const struct page_request *req
     settle(thread->process->engine, thread);
     if (!reads)
         answer_error(thread, error);
+    else if (thread->is_waiting && is_to_return(thread))
+        returns_deliver(thread);
     else if (thread->is_waiting && request->flags & PAGE_NONBLOCK)
         page_interrupt(thread, EAGAIN);
     else if (thread->is_waiting && atomic_load(&thread->page->cancel))
         page_interrupt(thread, EINTR); /* its ring may have been one with that for the request */
 }
 
-/* A thread that was interrupted while its request waits gets its answer. */
+/* A read comes back with what there is, which may be the completion of a call whose reply it waits for. */
+static void come_back(struct thread *thread)
+{
+    struct engine *engine = thread->process->engine;
+    int error = hullpippin_live_ready(&engine->live, thread->seat) ? returns_fetch(thread) : 0;
+    if (error)
+        page_interrupt(thread, error);
+    else
+        returns_deliver(thread);
+    settle(engine, NULL);
+}
+
+/* A thread that was interrupted while its request waits gets its answer. One that is to come back and has no seat yet waits for that. */
 static void cancel(struct thread *thread)
 {
-    if (!atomic_load(&thread->page->cancel))
-        return;
-    if (thread->is_waiting)
+    uint32_t why = atomic_load(&thread->page->cancel);
+    if (why == CANCEL_RETURN && thread->is_waiting)
+        come_back(thread);
+    else if (why == CANCEL_INTERRUPTED && thread->is_waiting)
         page_interrupt(thread, EINTR);
-    else
+    else if (why == CANCEL_INTERRUPTED)
         page_refuse(thread, EINTR);
 }
 

@@ -27,7 +27,7 @@ static void link_free(struct link *link)
     if (link->doorbell >= 0)
         epolls_forget(device, link->doorbell);
     pthread_mutex_unlock(&devices_lock);
-    munmap(link->page, sizeof *link->page);
+    real()->munmap(link->page, sizeof *link->page);
     real()->close(link->socket);
     real()->close(link->bell);
     if (link->doorbell >= 0)
@@ -40,6 +40,7 @@ static void link_free(struct link *link)
 static void thread_ends(void *unused)
 {
     (void)unused;
+    devices_notice_fork();
     while (links) {
         struct link *link = links;
         links = link->next_of_thread;
@@ -57,16 +58,14 @@ static void in_parent(void)
     pthread_mutex_unlock(&devices_lock);
 }
 
-static void in_child(void)
+void links_forked(void)
 {
-    devices_forked();
     links = NULL;
-    pthread_mutex_init(&devices_lock, NULL);
 }
 
 __attribute__((constructor)) static void begin(void)
 {
-    if (pthread_key_create(&ends, thread_ends) || pthread_atfork(before_fork, in_parent, in_child)) {
+    if (pthread_key_create(&ends, thread_ends) || pthread_atfork(before_fork, in_parent, devices_forked)) {
         complain("there is no memory to begin");
         abort();
     }
@@ -106,12 +105,13 @@ static struct link *new_link(struct device *device, const int fds[3])
     if (!link || page == MAP_FAILED || pthread_setspecific(ends, &links)) {
         free(link);
         if (page != MAP_FAILED)
-            munmap(page, sizeof *page);
+            real()->munmap(page, sizeof *page);
         real()->close(fds[0]);
         real()->close(fds[2]);
         return errno = ENOMEM, NULL;
     }
-    *link = (struct link){.device = device, .page = page, .socket = fds[0], .bell = fds[2], .doorbell = -1, .next_of_thread = links};
+    *link = (struct link){.device = device, .page = page, .socket = fds[0], .bell = fds[2], .doorbell = -1, .next_of_thread = links,
+                          .is_to_return = true}; /* a thread's first read does */
     links = link;
     pthread_mutex_lock(&devices_lock);
     device->references++;
@@ -121,7 +121,7 @@ static struct link *new_link(struct device *device, const int fds[3])
     return link;
 }
 
-struct link *link_of(struct device *device, int fd)
+struct link *link_of(struct device *device)
 {
     struct control_request request = {.op = CONTROL_THREAD};
     struct control_answer answer;
@@ -129,7 +129,7 @@ struct link *link_of(struct device *device, int fd)
     int fds[3];
     if (link)
         return link;
-    int error = device_ask(device, fd, &request, &answer, fds, 3);
+    int error = device_ask(device, &request, &answer, fds, 3);
     if (error)
         return errno = error, NULL;
     return new_link(device, fds);
@@ -162,7 +162,7 @@ static int await(struct link *link, struct page_answer *answer)
         if (syscall(SYS_futex, &page->state, FUTEX_WAIT, PAGE_ASKED, &patience, NULL, 0) == 0)
             continue;
         if (errno == EINTR) {
-            atomic_store(&page->cancel, 1);
+            atomic_store(&page->cancel, CANCEL_INTERRUPTED);
             ring(link);
         } else if (errno == ETIMEDOUT && daemon_has_gone(link)
                    && atomic_load_explicit(&page->state, memory_order_acquire) == PAGE_ASKED) {
@@ -179,10 +179,23 @@ int link_ask(struct link *link, const struct page_request *request, struct page_
 {
     struct page *page = link->page;
     page->request = *request;
-    atomic_store_explicit(&page->cancel, 0, memory_order_relaxed);
-    atomic_store(&page->state, PAGE_ASKED); /* before it is looked whether this is the end */
+    atomic_store_explicit(&page->cancel, CANCEL_NOT, memory_order_relaxed);
+    atomic_store(&page->state, PAGE_ASKED); /* before it is looked whether this is the end, or whether a read is to return */
+    if (request->room && atomic_load(&link->is_to_return))
+        atomic_store(&page->cancel, CANCEL_RETURN);
     ring(link);
     return await(link, answer);
+}
+
+/* It is first said and then looked whether the thread has asked; there it's the other way round, so that one of the two sees the other. */
+void link_return(struct link *link)
+{
+    struct page *page = link->page;
+    atomic_store(&link->is_to_return, true);
+    if (atomic_load(&page->state) != PAGE_ASKED)
+        return;
+    atomic_store(&page->cancel, CANCEL_RETURN);
+    ring(link);
 }
 
 bool link_free_buffers(struct link *link, const uint64_t *buffers, uint32_t count)

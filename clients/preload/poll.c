@@ -14,7 +14,7 @@ static int doorbell_of(int fd)
 {
     int before = cancel_never();
     struct device *device = device_hold(fd);
-    struct link *link = device ? link_of(device, fd) : NULL;
+    struct link *link = device ? link_of(device) : NULL;
     int doorbell = link ? link_doorbell(link) : -1;
     if (device)
         device_release(device);

@@ -1,8 +1,9 @@
 /*
  * preload.h: what the files of the preloaded library share.
  *
- * The library stands between a program and libc. An open binder file is a `device`, whose descriptor is the control
- * socket to the daemon; each thread that uses it has a `link` of its own: a page, a bell, a socket (protocol.h).
+ * The library stands between a program and libc. An open binder file is a `device`, which has a control socket to the daemon; each
+ * thread that uses it has a `link` of its own: a page, a bell, a socket (protocol.h). What the program has for a descriptor is an epoll
+ * of nothing: to the kernel that is a file which nobody can read or write, as a binder file is.
  */
 #ifndef HULLPIPPIN_PRELOAD_H
 #define HULLPIPPIN_PRELOAD_H
@@ -19,9 +20,11 @@
 #include <stdbool.h>
 #include <stddef.h>
 #include <stdint.h>
+#include <stdio.h>
 #include <sys/epoll.h>
 #include <sys/mman.h>
 #include <sys/select.h>
+#include <sys/stat.h>
 #include <time.h>
 #include <unistd.h>
 
@@ -39,6 +42,18 @@ struct real {
     int (*fcntl)(int fd, int command, ...);
     int (*ioctl)(int fd, unsigned long request, ...);
     void *(*mmap)(void *at, size_t size, int protection, int flags, int fd, off_t offset);
+    int (*munmap)(void *at, size_t size);
+    int (*stat)(const char *path, struct stat *to);
+    int (*lstat)(const char *path, struct stat *to);
+    int (*fstat)(int fd, struct stat *to);
+    int (*fstatat)(int folder, const char *path, struct stat *to, int flags);
+    int (*statx)(int folder, const char *path, int flags, unsigned mask, struct statx *to);
+    int (*access)(const char *path, int mode);
+    int (*eaccess)(const char *path, int mode);
+    int (*faccessat)(int folder, const char *path, int mode, int flags);
+    ssize_t (*readlink)(const char *path, char *to, size_t room);
+    ssize_t (*readlinkat)(int folder, const char *path, char *to, size_t room);
+    FILE *(*fopen)(const char *path, const char *mode);
     int (*poll)(struct pollfd *files, nfds_t count, int timeout);
     int (*ppoll)(struct pollfd *files, nfds_t count, const struct timespec *timeout, const sigset_t *mask);
     int (*select)(int count, fd_set *reads, fd_set *writes, fd_set *errors, struct timeval *timeout);
@@ -84,11 +99,15 @@ void arrays_end(struct device *device);
 #define EPOLLS_MAX 8
 
 struct device {
-    uint32_t references; /* descriptors and links */
+    uint32_t references; /* descriptors, links, the window */
     uint32_t descriptors;
-    _Atomic bool is_closed;
+    int control; /* the socket, whose end is the process's */
+    char name[DEVICE_NAME_ROOM];
+    uint8_t *window, *window_end; /* what is still mapped; both NULL: nothing is */
+    struct device *next_mapped;
+    _Atomic bool is_closed; /* there is neither a descriptor nor a window any more */
     _Atomic bool is_nonblocking;
-    pthread_mutex_t control; /* a request over the control socket is made by one thread at a time */
+    pthread_mutex_t control_lock; /* a request over the control socket is made by one thread at a time */
     struct arrays arrays;
     struct link *links;
     struct {
@@ -96,10 +115,10 @@ struct device {
     } epolls[EPOLLS_MAX];
 };
 
-/* Whether a path names what the daemon may have. */
-bool device_is_path(const char *path);
 /* A descriptor, or -1 and errno. */
-int device_open(const char *path, int flags);
+int device_open(const char *name, int flags);
+/* Whether the daemon has a device of that name: 0, or an errno. */
+int device_look(const char *name);
 /* Whether a descriptor is an open binder file. */
 bool device_is(int fd);
 /* The device of a descriptor with a reference to it, or NULL and errno. */
@@ -110,14 +129,18 @@ void device_forget(int fd);
 /* A copy of a descriptor was made. */
 void device_copied(int fd, int copy);
 /* One request over the control socket and its answer: 0, or an errno. */
-int device_ask(struct device *device, int fd, struct control_request *request, struct control_answer *answer, int *fds,
-               uint32_t room);
+int device_ask(struct device *device, struct control_request *request, struct control_answer *answer, int *fds, uint32_t room);
 void *device_map(int fd, void *at, size_t size, int protection, int flags);
 int device_ioctl(int fd, unsigned long request, void *argument);
+/* Whether there is a window, and what to tell where something was unmapped that may have been one. */
+bool devices_are_mapped(void);
+void device_unmapped(const void *at, size_t size);
 /* The lock of all devices' references, links and epolls. */
 extern pthread_mutex_t devices_lock;
 /* Child of a fork: no device is usable, and nothing of the parent's stays open. */
 void devices_forked(void);
+/* Sees whether this is the child of a fork that hasn't told so, as by _Fork or the bare system call: then it is told now. */
+void devices_notice_fork(void);
 
 /* --- link.c: a thread's way to the daemon. --- */
 
@@ -127,18 +150,23 @@ struct link {
     struct page *page;
     int socket, bell;
     int doorbell; /* -1: none yet */
+    _Atomic bool is_to_return; /* its next read comes back at once */
 };
 
 /* The calling thread's link to a device, or NULL and errno. */
-struct link *link_of(struct device *device, int fd);
+struct link *link_of(struct device *device);
 /* Puts a request to the daemon, and waits for its answer: 0 or an errno. */
 int link_ask(struct link *link, const struct page_request *request, struct page_answer *answer);
 /* Gives buffers back without waiting; false where so many can't be now. */
 bool link_free_buffers(struct link *link, const uint64_t *buffers, uint32_t count);
 /* The descriptor that is readable while a read would find something, or -1 and errno. */
 int link_doorbell(struct link *link);
+/* Has a thread's read come back, or else its next one. With the devices' lock. */
+void link_return(struct link *link);
 /* Child of a fork: closes a link that was the parent's. */
 void link_forked(struct link *link);
+/* The same for all that this thread has. */
+void links_forked(void);
 
 /* --- write_read.c, parcels.c --- */
 
@@ -159,6 +187,11 @@ struct packing {
 /* Puts the parcel of a transaction or reply into the page, whose record lies in the page's stream. False where there
    is no room left beside what is there already. */
 bool parcel_pack(struct packing *packing, struct binder_transaction_data_sg *record, bool is_first);
+
+/* --- paths.c --- */
+
+/* Whether a path names what the daemon may have, and by which name. */
+bool path_is_device(int folder, const char *path, char name[DEVICE_NAME_ROOM]);
 
 /* --- poll.c --- */
 

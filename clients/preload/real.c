@@ -34,6 +34,18 @@ static void look_up_all(void)
     look_up(&functions.fcntl, "fcntl");
     look_up(&functions.ioctl, "ioctl");
     look_up(&functions.mmap, "mmap");
+    look_up(&functions.munmap, "munmap");
+    look_up(&functions.stat, "stat");
+    look_up(&functions.lstat, "lstat");
+    look_up(&functions.fstat, "fstat");
+    look_up(&functions.fstatat, "fstatat");
+    look_up(&functions.statx, "statx");
+    look_up(&functions.access, "access");
+    look_up(&functions.eaccess, "eaccess");
+    look_up(&functions.faccessat, "faccessat");
+    look_up(&functions.readlink, "readlink");
+    look_up(&functions.readlinkat, "readlinkat");
+    look_up(&functions.fopen, "fopen");
     look_up(&functions.poll, "poll");
     look_up(&functions.ppoll, "ppoll");
     look_up(&functions.select, "select");

@@ -1,60 +1,10 @@
-/* wrappers.c: what programs call: the functions of libc that may get a binder file's path or descriptor. */
+/* wrappers.c: what programs call: the functions of libc that may get a binder file's descriptor. */
 #include "preload.h"
 
 #include <limits.h>
 #include <stdarg.h>
-#include <stdlib.h>
 
 #define EXPORT __attribute__((visibility("default")))
-
-/* A mode is given with these flags only. */
-static mode_t mode_of(int flags, va_list rest)
-{
-    return flags & O_CREAT || (flags & O_TMPFILE) == O_TMPFILE ? (mode_t)va_arg(rest, int) : 0;
-}
-
-static int open_device(const char *path, int flags)
-{
-    int before = cancel_never(), fd = device_open(path, flags);
-    cancel_again(before);
-    return fd;
-}
-
-EXPORT int open(const char *path, int flags, ...)
-{
-    va_list rest;
-    va_start(rest, flags);
-    mode_t mode = mode_of(flags, rest);
-    va_end(rest);
-    return device_is_path(path) ? open_device(path, flags) : real()->open(path, flags, mode);
-}
-
-EXPORT int openat(int folder, const char *path, int flags, ...)
-{
-    va_list rest;
-    va_start(rest, flags);
-    mode_t mode = mode_of(flags, rest);
-    va_end(rest);
-    return device_is_path(path) ? open_device(path, flags) : real()->openat(folder, path, flags, mode);
-}
-
-/* The names of these where files may be large, which all are on a machine of 64 bits. */
-EXPORT int open64(const char *path, int flags, ...) __attribute__((alias("open")));
-EXPORT int openat64(int folder, const char *path, int flags, ...) __attribute__((alias("openat")));
-
-/* What programs call that were built with _FORTIFY_SOURCE, where no mode is given. */
-EXPORT int __open_2(const char *path, int flags)
-{
-    return open(path, flags);
-}
-
-EXPORT int __openat_2(int folder, const char *path, int flags)
-{
-    return openat(folder, path, flags);
-}
-
-EXPORT int __open64_2(const char *path, int flags) __attribute__((alias("__open_2")));
-EXPORT int __openat64_2(int folder, const char *path, int flags) __attribute__((alias("__openat_2")));
 
 EXPORT int close(int fd)
 {
@@ -166,14 +116,31 @@ EXPORT int ioctl(int fd, unsigned long request, ...)
     return result;
 }
 
+/* What is mapped there may be a window, or a part of one. */
+static void unmapped(void *at, size_t size)
+{
+    if (devices_are_mapped())
+        device_unmapped(at, size);
+}
+
+EXPORT int munmap(void *at, size_t size)
+{
+    int before = cancel_never(), result = real()->munmap(at, size);
+    if (!result)
+        unmapped(at, size);
+    cancel_again(before);
+    return result;
+}
+
 EXPORT void *mmap(void *at, size_t size, int protection, int flags, int fd, off_t offset)
 {
-    if (!device_is(fd))
-        return real()->mmap(at, size, protection, flags, fd, offset);
     int before = cancel_never();
-    void *window = device_map(fd, at, size, protection, flags);
+    bool is_device = device_is(fd) && !(flags & MAP_ANONYMOUS);
+    if (flags & MAP_FIXED)
+        unmapped(at, size);
+    void *memory = is_device ? device_map(fd, at, size, protection, flags) : real()->mmap(at, size, protection, flags, fd, offset);
     cancel_again(before);
-    return window;
+    return memory;
 }
 
 EXPORT void *mmap64(void *at, size_t size, int protection, int flags, int fd, off_t offset) __attribute__((alias("mmap")));

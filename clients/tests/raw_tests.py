@@ -29,12 +29,18 @@ def plays(name, *words, title=None):
         return f"{told}; lawful, {stage.entries} steps"
 
 
-for name in ("nested", "oneway", "deaths", "parcels", "pool", "two_opens", "refusals", "files", "seats", "leftovers", "cancelled"):
+for name in ("nested", "oneway", "deaths", "parcels", "pool", "two_opens", "refusals", "files", "seats", "leftovers", "cancelled", "lives"):
     plays(name)
 plays("descriptors", "10000")
 plays("arrays", "1000")
 for word in ("asked", "unasked"):
     plays("flooding", word, title=f"flooding {word}")
+
+
+@test("raw paths")
+def paths(build):
+    with Stage(build) as stage:
+        return stage.run([build.raw("paths")])
 
 
 @test("raw callers")

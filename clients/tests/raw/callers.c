@@ -5,16 +5,14 @@
  */
 #include "raw.h"
 
-#include <errno.h>
 #include <pthread.h>
-#include <signal.h>
 #include <stdio.h>
 #include <string.h>
 #include <sys/syscall.h>
 #include <unistd.h>
 
 /* TELL is 1 elsewhere too (fuzz/impostor.c). */
-enum { TELL = 1, TELL_OF_OBJECT, HEAR, TELL_HEARD, BECOME };
+enum { TELL = 1, TELL_OF_OBJECT, HEAR, TELL_HEARD, BECOME, QUIT };
 
 #define NOBODY 65534
 #define SOMEBODY 1000
@@ -29,6 +27,8 @@ static void serve(struct looper *looper, const struct binder_transaction_data *c
         CHECK(!call->data_size || !memcmp(raw_data(call), words, sizeof words), "other words came");
     if (call->code == HEAR)
         heard = call->sender_euid;
+    if (call->code == QUIT)
+        _exit(0);
     if (call->code == BECOME)
         CHECK(!seteuid(raw_number(call)), "can't become another user");
     if (!(call->flags & TF_ONE_WAY))
@@ -129,6 +129,7 @@ int main(int argc, char **argv)
     CHECK(!setresuid(SOMEBODY, SOMEBODY, SOMEBODY), "can't become another user for good");
     are_told(&client, SOMEBODY);
     printf("root's calls are told as root's, and as another's once it is another\n");
-    CHECK(!kill(manager, 0) || errno == EPERM, "the manager has ended");
+    CHECK(raw_call(&client.looper, (struct call){.code = QUIT}, &(struct binder_transaction_data){0}) == BR_DEAD_REPLY, "who ends answers");
+    raw_join(manager); /* it is root's, and can't be ended otherwise by who isn't any more */
     return 0;
 }
