@@ -1,8 +1,6 @@
 -- In which order the calls of a thread end.
 use Rattle.std.specs.Prelude.{ℕ, ◌≡◌, true, false, ◌&&◌, Some}
-use Rattle.std.specs.List.{list_any}
-use Rattle.bd_space.specs.declared.step.Entry.{Entry}
-use Rattle.bd_space.specs.Space.{Space}
+use Rattle.bd_ways.specs.Words.{list_any, Entry, Space}
 use Rattle.bd_space.specs.Frames.{calls, is_frame}
 use Rattle.bd_space.specs.Histories.{History, IsHistory, next}
 use Rattle.bd_audit.specs.Replies.{thread_made, At}

@@ -1,11 +1,7 @@
 -- The gifts by which names begin, as the search for a gift chain finds them.
-use Rattle.std.specs.Prelude.{ℕ, ◌+◌, ◌≡◌, ◌<◌, ◌⊎◌, Bool, true, false, not, ◌&&◌, List, [], ◌∷◌, ◌++◌, length, take, get_or, Option, Some, None, option_map, option_and_then, IfSome, IsSomeAnd}
-use Rattle.bd_space.specs.declared.step.ObjectId.{ObjectId}
-use Rattle.bd_space.specs.declared.step.Entry.{Entry}
-use Rattle.bd_space.specs.declared.space.Process.{Process}
-use Rattle.bd_space.specs.declared.space.Buffer.{Buffer}
-use Rattle.bd_space.specs.Words.{when}
-use Rattle.bd_space.specs.Space.{Space, opening}
+use Rattle.std.specs.Prelude.{ℕ, ◌+◌, ◌≡◌, ◌<◌, ◌⊎◌, Bool, true, false, not, ◌&&◌, List, [], ◌∷◌, ◌++◌, length, take, Option, Some, None, option_map, option_and_then, get_or, IfSome, IsSomeAnd}
+use Rattle.bd_ways.specs.Words.{ObjectId, Entry, Process, Buffer, when, Space}
+use Rattle.bd_space.specs.Space.{opening}
 use Rattle.bd_space.specs.Seats.{process_with_pid}
 use Rattle.bd_space.specs.Names.{named}
 use Rattle.bd_space.specs.Returns.{buffer_in}

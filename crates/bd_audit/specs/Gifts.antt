@@ -1,17 +1,10 @@
 -- Gifts of objects from process to process, and chains of them.
 use Rattle.std.specs.Prelude.{ℕ, ◌+◌, ◌≡◌, ◌≤◌, ◌⊎◌, ◌==◌, Bool, true, false, ◌&&◌, ◌||◌, List, [], ◌∷◌, ◌++◌, length, Some, is_some}
-use Rattle.std.specs.List.{list_any}
+use Rattle.bd_ways.specs.Words.{list_any, ObjectId, Entry, Step, Process, Holder, Carried, same, is_some_and, Space}
 use Rattle.bd_uapi.specs.declared.command.Command.TheVariants.{Increfs, Acquire}
-use Rattle.bd_space.specs.declared.step.ObjectId.{ObjectId}
-use Rattle.bd_space.specs.declared.step.Entry.{Entry}
-use Rattle.bd_space.specs.declared.step.Step.{Step}
 use Rattle.bd_space.specs.declared.step.Step.TheVariants.{Command}
 use Rattle.bd_space.specs.declared.step.StepAnswer.TheVariants.{Accepted}
-use Rattle.bd_space.specs.declared.space.Process.{Process}
-use Rattle.bd_space.specs.declared.space.Holder.{Holder}
-use Rattle.bd_space.specs.declared.space.Holder.TheVariants.{Carried}
-use Rattle.bd_space.specs.Words.{same, is_some_and}
-use Rattle.bd_space.specs.Space.{Space, opening}
+use Rattle.bd_space.specs.Space.{opening}
 use Rattle.bd_space.specs.Seats.{actor, process_with_pid}
 use Rattle.bd_space.specs.References.{owned_in}
 use Rattle.bd_space.specs.Names.{number_in, named}

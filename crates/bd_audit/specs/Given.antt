@@ -1,7 +1,7 @@
 -- What the rules give for an entry.
 use Rattle.std.specs.Prelude.{ℕ, ◌<◌, ◌≡◌, true, Some, IfSome}
+use Rattle.bd_ways.specs.Words.{Entry}
 use Rattle.std.specs.List.{slice_get}
-use Rattle.bd_space.specs.declared.step.Entry.{Entry}
 use Rattle.bd_space.specs.Histories.{History, space_after, is_at_limit}
 use Rattle.bd_space.specs.Steps.{step}
 use Rattle.bd_audit.specs.Replays.{beginning}

@@ -1,11 +1,8 @@
 -- The replies that readings hand out, among the bytes of their answers.
 use Rattle.std.specs.Prelude.{ℕ, ◌≡◌, Bool, true, false, List, is_some}
-use Rattle.std.specs.List.{list_any}
-use Rattle.bd_uapi.specs.declared.command.Return.{Return}
+use Rattle.bd_ways.specs.Words.{list_any, Return, Entry, Space}
 use Rattle.bd_uapi.specs.declared.command.Return.TheVariants as br
-use Rattle.bd_space.specs.declared.step.Entry.{Entry}
 use Rattle.bd_space.specs.declared.step.StepAnswer.TheVariants.{Got}
-use Rattle.bd_space.specs.Space.{Space}
 use Rattle.bd_space.specs.Histories.{History, IsHistory}
 use Rattle.bd_audit.specs.Replies.{reply_taken, At}
 use Rattle.bd_audit.specs.Streams.{SpellsItems, returns_given}

@@ -1,21 +1,12 @@
 -- What an owner hears of one of its objects, and what it acknowledges.
-use Rattle.std.specs.Prelude.{ℕ, zero, suc, ◌-◌, ◌≡◌, ◌≤◌, ◌⊎◌, Bool, true, false, List, [], ◌∷◌, ◌++◌, Option, Some, None, length, find, filter, filter_map, if◌then◌else◌}
-use Rattle.std.specs.List.{list_any, list_all}
-use mathlib.Core.Bool.{beq}
+use Rattle.std.specs.Prelude.{ℕ, zero, suc, ◌-◌, ◌≡◌, ◌≤◌, ◌⊎◌, Bool, true, false, List, [], ◌∷◌, ◌++◌, Option, Some, None, length, find, filter, if◌then◌else◌, filter_map}
+use Rattle.bd_ways.specs.Words.{list_any, list_all, beq, Return, ObjectId, Entry, Step, StepAnswer, Actor, Work, same, is_some_and, Space}
 use Rattle.bd_uapi.specs.declared.command.Command as command
 use Rattle.bd_uapi.specs.declared.command.Command.TheVariants as bc
-use Rattle.bd_uapi.specs.declared.command.Return.{Return}
 use Rattle.bd_uapi.specs.declared.command.Return.TheVariants as br
-use Rattle.bd_space.specs.declared.step.ObjectId.{ObjectId}
-use Rattle.bd_space.specs.declared.step.Entry.{Entry}
-use Rattle.bd_space.specs.declared.step.Step.{Step}
 use Rattle.bd_space.specs.declared.step.Step.TheVariants.{Command, Read}
-use Rattle.bd_space.specs.declared.step.StepAnswer.{StepAnswer}
 use Rattle.bd_space.specs.declared.step.StepAnswer.TheVariants.{Accepted, Got}
-use Rattle.bd_space.specs.declared.space.Actor.{Actor}
-use Rattle.bd_space.specs.declared.space.Work.{Work}
-use Rattle.bd_space.specs.Words.{same, is_some_and}
-use Rattle.bd_space.specs.Space.{Space, opening}
+use Rattle.bd_space.specs.Space.{opening}
 use Rattle.bd_space.specs.Seats.{actor}
 use Rattle.bd_space.specs.References.{owned_in}
 use Rattle.bd_space.specs.Todo.{is_notice, list_to_read}

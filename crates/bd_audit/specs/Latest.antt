@@ -1,11 +1,7 @@
 -- Which call a reply answers: the latest of the calls of the thread that reads it whose answer isn't read yet.
 use Rattle.std.specs.Prelude.{ℕ, ◌≡◌, ◌<◌, ◌==◌, ◌⊎◌, Bool, true, false, not, ◌&&◌, ◌||◌, nat_le, List, [], ◌∷◌, Some, is_none, if◌then◌else◌}
-use Rattle.std.specs.List.{list_any, list_all}
-use Rattle.bd_space.specs.declared.step.Entry.{Entry}
-use Rattle.bd_space.specs.declared.space.Work.{Work}
-use Rattle.bd_space.specs.declared.space.WorkKind.{WorkKind}
+use Rattle.bd_ways.specs.Words.{list_any, list_all, Entry, Work, WorkKind, Space}
 use Rattle.bd_space.specs.declared.space.WorkKind.TheVariants as work
-use Rattle.bd_space.specs.Space.{Space}
 use Rattle.bd_space.specs.Frames.{calls, is_frame}
 use Rattle.bd_space.specs.Histories.{History, IsHistory, next}
 use Rattle.bd_links.specs.TodoList.{reply_of}

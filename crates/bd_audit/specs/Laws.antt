@@ -1,12 +1,7 @@
 -- The laws of every history.
 use Rattle.std.specs.Prelude.{ℕ, ◌+◌, ◌≡◌, ◌<◌, ◌≤◌, Bool, true, false, not, ◌||◌, List, length, is_some}
-use Rattle.std.specs.List.{list_all, AllPairs}
-use Rattle.bd_space.specs.declared.step.ObjectId.{ObjectId}
-use Rattle.bd_space.specs.declared.space.Turn.{Turn}
-use Rattle.bd_space.specs.declared.space.Work.{Work}
-use Rattle.bd_space.specs.declared.space.TodoList.TheVariants.{OfProcess}
-use Rattle.bd_space.specs.Words.{same}
-use Rattle.bd_space.specs.Space.{Space}
+use Rattle.bd_ways.specs.Words.{list_all, ObjectId, Turn, Work, OfProcess, same, Space}
+use Rattle.std.specs.List.{AllPairs}
 use Rattle.bd_space.specs.Todo.{is_call, same_list}
 use Rattle.bd_space.specs.Turns.{turns_of}
 use Rattle.bd_space.specs.References.{object_in, held_in}

@@ -1,7 +1,6 @@
 -- Open calls lie on paths.
 use Rattle.std.specs.Prelude.{ℕ, ◌≡◌, ◌≤◌, Bool, true, not, ◌&&◌, ◌||◌, List, length, reverse, filter, Some}
-use Rattle.std.specs.List.{list_any, list_all}
-use Rattle.bd_space.specs.declared.space.Frame.{Frame}
+use Rattle.bd_ways.specs.Words.{list_any, list_all, Frame}
 use Rattle.bd_space.specs.Frames.{ancestry, takes_part, is_child_of, is_frame}
 use Rattle.bd_space.specs.Histories.{History, IsHistory}
 use Rattle.bd_audit.specs.Laws.{space_at}

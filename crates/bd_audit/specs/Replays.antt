@@ -1,7 +1,7 @@
 -- Where a record stops being a history.
 use Rattle.std.specs.Prelude.{ℕ, ◌+◌, ◌<◌, ◌≡◌, [], ◌∷◌, ◌++◌, length, take, Some}
+use Rattle.bd_ways.specs.Words.{Entry}
 use Rattle.std.specs.List.{slice_get}
-use Rattle.bd_space.specs.declared.step.Entry.{Entry}
 use Rattle.bd_space.specs.Histories.{History, IsHistory, history_of, BeginsWith}
 use Rattle.bd_engine.specs.Why.{Why}
 use Rattle.bd_engine.specs.Why.TheVariants as why

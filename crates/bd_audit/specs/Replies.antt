@@ -1,18 +1,11 @@
 -- Replies, and the calls that they answer.
 use Rattle.std.specs.Prelude.{ℕ, ◌-◌, ◌≡◌, ◌<◌, true, false, List, [], Option, Some, None, option_map, option_and_then}
-use Rattle.std.specs.List.{list_any, slice_get}
+use Rattle.bd_ways.specs.Words.{list_any, TransactionData, Fault, Step, Parcel, Entry, Work, Actor, Thread, Space}
+use Rattle.std.specs.List.{slice_get}
 use Rattle.bd_uapi.specs.declared.command.Command.TheVariants.{Transaction, Reply}
-use Rattle.bd_uapi.specs.declared.command.TransactionData.{TransactionData}
-use Rattle.bd_uapi.specs.declared.fault.Fault.{Fault}
-use Rattle.bd_space.specs.declared.step.Step.{Step}
 use Rattle.bd_space.specs.declared.step.Step.TheVariants.{Command, Read}
 use Rattle.bd_space.specs.declared.step.StepAnswer.TheVariants.{Accepted}
-use Rattle.bd_space.specs.declared.step.Parcel.{Parcel}
-use Rattle.bd_space.specs.declared.step.Entry.{Entry}
-use Rattle.bd_space.specs.declared.space.Work.{Work}
-use Rattle.bd_space.specs.declared.space.Actor.{Actor}
-use Rattle.bd_space.specs.declared.space.Thread.{Thread}
-use Rattle.bd_space.specs.Space.{Space, opening}
+use Rattle.bd_space.specs.Space.{opening}
 use Rattle.bd_space.specs.Seats.{actor, thread_in}
 use Rattle.bd_space.specs.Frames.{innermost, made_of, is_frame}
 use Rattle.bd_space.specs.Todo.{list_to_read, is_call}

@@ -1,12 +1,9 @@
 -- What the bytes of a reading spell.
 use Rattle.std.specs.Prelude.{ℕ, ◌≡◌, List, ◌∷◌, map}
-use Rattle.std.specs.List.{concat, flat_map}
-use Rattle.bd_uapi.specs.declared.command.Return.{Return}
+use Rattle.bd_ways.specs.Words.{concat, flat_map, Return, Entry, Space}
 use Rattle.bd_uapi.specs.declared.command.Return.TheVariants.{Noop}
 use Rattle.bd_codec.specs.Spelling.{return_bytes}
-use Rattle.bd_space.specs.declared.step.Entry.{Entry}
 use Rattle.bd_space.specs.declared.step.StepAnswer.TheVariants.{Got}
-use Rattle.bd_space.specs.Space.{Space}
 use Rattle.bd_space.specs.Returns.{returns_of}
 use Rattle.bd_space.specs.Histories.{History, IsHistory}
 use Rattle.bd_audit.specs.Replies.{items_taken, At}

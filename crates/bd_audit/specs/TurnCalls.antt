@@ -1,16 +1,12 @@
 -- The turns of an object: its one-way calls, by the places where they were made, each with the reading to which it was
 -- handed out and the step that took its buffer.
 use Rattle.std.specs.Prelude.{ℕ, ◌≡◌, ◌<◌, ◌==◌, Bool, true, false, List, Option, Some, None, Ok}
-use Rattle.std.specs.List.{list_any, slice_get, AllPairs}
+use Rattle.bd_ways.specs.Words.{list_any, TransactionData, ObjectId, Parcel, Entry, Actor, Space}
+use Rattle.std.specs.List.{slice_get, AllPairs}
 use Rattle.bd_uapi.specs.declared.command.Command.TheVariants.{Transaction}
-use Rattle.bd_uapi.specs.declared.command.TransactionData.{TransactionData}
-use Rattle.bd_space.specs.declared.step.ObjectId.{ObjectId}
 use Rattle.bd_space.specs.declared.step.Step.TheVariants.{Command}
 use Rattle.bd_space.specs.declared.step.StepAnswer.TheVariants.{Accepted}
-use Rattle.bd_space.specs.declared.step.Parcel.{Parcel}
-use Rattle.bd_space.specs.declared.step.Entry.{Entry}
-use Rattle.bd_space.specs.declared.space.Actor.{Actor}
-use Rattle.bd_space.specs.Space.{Space, opening}
+use Rattle.bd_space.specs.Space.{opening}
 use Rattle.bd_space.specs.Seats.{actor}
 use Rattle.bd_space.specs.Transactions.{is_one_way, handle_of, target_of}
 use Rattle.bd_space.specs.Freeing.{is_made_at}

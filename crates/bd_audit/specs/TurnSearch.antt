@@ -1,11 +1,7 @@
 -- The turns of an object as a search notes them, step by step.
 use Rattle.std.specs.Prelude.{ℕ, ◌≡◌, Bool, true, false, not, ◌&&◌, List, [], ◌∷◌, ◌++◌, take, Option, Some, None, is_some, map}
-use Rattle.std.specs.List.{list_any, list_all, filter_map}
-use Rattle.bd_space.specs.declared.step.ObjectId.{ObjectId}
-use Rattle.bd_space.specs.declared.step.Entry.{Entry}
-use Rattle.bd_space.specs.declared.space.Buffer.{Buffer}
-use Rattle.bd_space.specs.Words.{when, is_some_and, same}
-use Rattle.bd_space.specs.Space.{Space, opening}
+use Rattle.bd_ways.specs.Words.{list_any, list_all, filter_map, ObjectId, Entry, Buffer, when, is_some_and, same, Space}
+use Rattle.bd_space.specs.Space.{opening}
 use Rattle.bd_space.specs.Freeing.{is_made_at}
 use Rattle.bd_space.specs.Histories.{History, next}
 use Rattle.bd_audit.specs.declared.turns.Turn.{Turn}

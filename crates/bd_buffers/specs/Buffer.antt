@@ -1,9 +1,7 @@
 -- A buffer: where it lies, the pointer by which its receiver knows it, and whether it may be freed.
 use Rattle.std.specs.Prelude.{ℕ, ◌≡◌, ◌+◌, ◌%◌, ◌≤◌, ◌==◌, ◌&&◌, ◌⊎◌, Bool, Option, Some, None, Result, Ok, Err, length, if◌then◌else◌}
-use Rattle.bd_uapi.specs.declared.fault.Note.{Note}
+use Rattle.bd_ways.specs.Words.{Note, Buffer, round_up}
 use Rattle.bd_uapi.specs.declared.fault.Note.TheVariants.{NoSuchBuffer, NotHandedOut}
-use Rattle.bd_space.specs.declared.space.Buffer.{Buffer}
-use Rattle.bd_space.specs.Words.{round_up}
 use Rattle.bd_space.specs.Windows.{needed}
 use Rattle.bd_space.specs.Freeing.{pointer}
 

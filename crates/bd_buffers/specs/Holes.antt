@@ -1,6 +1,6 @@
 -- The free space of a window: holes between its buffers, in order of place, and the tail past the last buffer.
-use Rattle.std.specs.Prelude.{ℕ, ◌≡◌, ◌+◌, ◌%◌, ◌<◌, ◌≤◌, ◌==◌, ◌⊎◌, Bool, List, [], ◌∷◌, Option, Some, None, All, find, nat_le, nat_lt, if◌then◌else◌}
-use Rattle.bd_space.specs.declared.space.Buffer.{Buffer}
+use Rattle.std.specs.Prelude.{ℕ, ◌≡◌, ◌+◌, ◌%◌, ◌<◌, ◌≤◌, ◌==◌, ◌⊎◌, Bool, List, [], ◌∷◌, Option, Some, None, find, nat_le, nat_lt, if◌then◌else◌, All}
+use Rattle.bd_ways.specs.Words.{Buffer}
 use Rattle.bd_buffers.specs.declared.hole.Hole.{Hole}
 
 -- a byte is in a hole, or in the tail

@@ -1,7 +1,6 @@
 -- Whose window a buffer is in, by where it was made.
-use Rattle.std.specs.Prelude.{ℕ, ◌≡◌, List, None, option_map, if◌then◌else◌}
-use Rattle.std.specs.Option.{is_some}
-use Rattle.bd_space.specs.declared.space.Buffer.{Buffer}
+use Rattle.std.specs.Prelude.{ℕ, ◌≡◌, List, None, option_map, if◌then◌else◌, is_some}
+use Rattle.bd_ways.specs.Words.{Buffer}
 use Rattle.bd_space.specs.Returns.{buffer_in}
 use Rattle.bd_words.specs.declared.key.WordKey.{WordKey}
 use Rattle.bd_words.specs.declared.map.WordMap.{WordMap}

@@ -1,8 +1,7 @@
 -- Buffers in rows, in the order in which they were made. A row whose buffer ended is empty.
-use Rattle.std.specs.Prelude.{ℕ, zero, suc, ◌≡◌, ◌-◌, ◌<◌, Bool, false, not, List, [], ◌∷◌, ◌++◌, Option, Some, None, All, AllPairs, length, remove, slice_index_or, option_map, unwrap_or}
-use Rattle.std.specs.List.{filter_map, slice_get}
-use Rattle.std.specs.Option.{is_some}
-use Rattle.bd_space.specs.declared.space.Buffer.{Buffer}
+use Rattle.std.specs.Prelude.{ℕ, zero, suc, ◌≡◌, ◌-◌, ◌<◌, Bool, false, not, List, [], ◌∷◌, ◌++◌, Option, Some, None, length, option_map, unwrap_or, is_some, All, AllPairs, remove, slice_index_or}
+use Rattle.bd_ways.specs.Words.{filter_map, Buffer}
+use Rattle.std.specs.List.{slice_get}
 use Rattle.bd_buffers.specs.declared.rows.Row.{Row}
 
 -- the live buffers

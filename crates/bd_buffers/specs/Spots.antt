@@ -1,6 +1,6 @@
 -- The live buffers of a window by their pointers.
 use Rattle.std.specs.Prelude.{ℕ, ◌≡◌, List, find, option_map}
-use Rattle.bd_space.specs.declared.space.Buffer.{Buffer}
+use Rattle.bd_ways.specs.Words.{Buffer}
 use Rattle.bd_words.specs.declared.key.WordKey.{WordKey}
 use Rattle.bd_words.specs.declared.map.WordMap.{WordMap}
 use Rattle.bd_words.specs.Look.{look}

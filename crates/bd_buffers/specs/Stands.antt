@@ -1,6 +1,6 @@
 -- What a window stands for.
 use Rattle.std.specs.Prelude.{ℕ, ◌≡◌, ◌+◌, ◌≤◌, Bool, List, Ok}
-use Rattle.bd_space.specs.declared.space.Buffer.{Buffer}
+use Rattle.bd_ways.specs.Words.{Buffer}
 use Rattle.bd_space.specs.Windows.{start_for}
 use Rattle.bd_buffers.specs.declared.window.Window.{Window}
 

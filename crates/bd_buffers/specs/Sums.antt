@@ -1,6 +1,6 @@
 -- How much of a window the one-way buffers of each sender take.
 use Rattle.std.specs.Prelude.{ℕ, ◌≡◌, ◌==◌, List, Option, Some, None, unwrap_or, if◌then◌else◌}
-use Rattle.bd_space.specs.declared.space.Buffer.{Buffer}
+use Rattle.bd_ways.specs.Words.{Buffer}
 use Rattle.bd_space.specs.Spam.{one_way_from}
 use Rattle.bd_words.specs.declared.key.WordKey.{WordKey}
 use Rattle.bd_words.specs.declared.map.WordMap.{WordMap}

@@ -1,8 +1,7 @@
 -- A window: room for a buffer, the budget of one-way buffers, and what is so of every window.
-use Rattle.std.specs.Prelude.{ℕ, ◌≡◌, ◌+◌, ◌-◌, min, length, vec_len, vec_capacity, ◌*◌, ◌%◌, ◌<◌, ◌≤◌, Bool, IsTrue, List, All, AllPairs, filter, sum_by, true, if◌then◌else◌}
-use Rattle.bd_uapi.specs.declared.fault.Cause.{Cause}
+use Rattle.std.specs.Prelude.{ℕ, ◌≡◌, ◌+◌, ◌-◌, length, ◌*◌, ◌%◌, ◌<◌, ◌≤◌, Bool, List, filter, sum_by, true, if◌then◌else◌, min, vec_len, vec_capacity, IsTrue, All, AllPairs}
+use Rattle.bd_ways.specs.Words.{Cause, Buffer}
 use Rattle.bd_uapi.specs.declared.fault.Cause.TheVariants.{NoRoom, OverBudget}
-use Rattle.bd_space.specs.declared.space.Buffer.{Buffer}
 use Rattle.bd_buffers.specs.Buffer.{IsApart, IsPlaced}
 use Rattle.bd_buffers.specs.declared.hole.Hole.{Hole}
 use Rattle.bd_buffers.specs.declared.rows.Rows.{Rows}

@@ -1,8 +1,6 @@
 -- What the windows of all live processes stand for.
 use Rattle.std.specs.Prelude.{ℕ, ◌≡◌, ◌+◌, ◌<◌, ◌==◌, Bool, true, List, [], map, find, Option, Some, None, Ok, All, AllPairs, min}
-use Rattle.bd_space.specs.declared.space.Process.{Process}
-use Rattle.bd_space.specs.declared.space.Buffer.{Buffer}
-use Rattle.bd_space.specs.Space.{Space}
+use Rattle.bd_ways.specs.Words.{Process, Buffer, Space}
 use Rattle.bd_space.specs.Seats.{lives_in}
 use Rattle.bd_space.specs.Windows.{buffers_of, start_for}
 use Rattle.bd_buffers.specs.declared.owned.OwnedWindow.{OwnedWindow}

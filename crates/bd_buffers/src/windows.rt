@@ -7,7 +7,8 @@ ghost use Rattle.bd_space.specs.{declared.space.Process.{Process}, declared.spac
 ghost use Rattle.bd_space.specs.{Seats.{process_in}, Windows.{needed, start_for, buffers_of}, Delivery.{add_buffer}};
 ghost use Rattle.bd_space.specs.{Freeing.{without_buffer, buffer_at_pointer}, Returns.{buffer_in}, Spam.{floods}};
 ghost use Rattle.bd_space.specs.{ReadItems.{buffer_taken, read_by}, Steps.{with_process}};
-ghost use Rattle.bd_space.specs.{ProcessExits.{without_process}, Tables.{Tells, Makes}};
+ghost use Rattle.bd_space.specs.ProcessExits.{without_process};
+ghost use Rattle.bd_ways.specs.Tables.{Tells, Makes};
 ghost use Rattle.bd_buffers.specs.WindowsStand.{StandsFor, StandsIn, Stands, window_room, buffer_room, made_of_buffer, is_owned_by, CanAdd, IsInWindow};
 
 use crate::home::home_key;

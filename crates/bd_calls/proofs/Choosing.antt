@@ -12,7 +12,7 @@ use Rattle.bd_space.specs.Space.{Space}
 use Rattle.bd_space.specs.Frames.{is_frame, closed}
 use Rattle.bd_space.specs.Settle.{is_abandoned, settle_one}
 use Rattle.bd_space.specs.Todo.{owe}
-use Rattle.bd_space.specs.Local.{close_among}
+use Rattle.bd_ways.specs.Local.{close_among}
 use Rattle.bd_calls.specs.declared.table.CallTable.{CallTable}
 use Rattle.bd_calls.specs.Stands.{StandsFor}
 use Rattle.bd_calls.specs.Closing.{is_place_among, chosen_after, IsAmongAt}

@@ -5,8 +5,8 @@ use Rattle.bd_space.specs.declared.space.Frame.{Frame}
 use Rattle.bd_space.specs.Space.{Space}
 use Rattle.bd_space.specs.Frames.{is_frame}
 use Rattle.bd_space.specs.Settle.{is_abandoned}
-use Rattle.bd_space.specs.Local.{close_up}
-use Rattle.bd_space.specs.Tables.{Tells, MakesAt}
+use Rattle.bd_ways.specs.Local.{close_up}
+use Rattle.bd_ways.specs.Tables.{Tells, MakesAt}
 use Rattle.bd_frames.specs.Words.{abandoned_in}
 use Rattle.bd_calls.specs.declared.table.CallTable.{CallTable}
 use Rattle.bd_calls.specs.Stands.{StandsFor}

@@ -11,8 +11,8 @@ use Rattle.bd_space.specs.Words.{is_some_and}
 use Rattle.bd_space.specs.Space.{Space}
 use Rattle.bd_space.specs.Frames.{is_frame, is_child_of, is_gone}
 use Rattle.bd_space.specs.Settle.{is_abandoned}
-use Rattle.bd_space.specs.Local.{close_up, close_among}
-use Rattle.bd_space.specs.Tables.{MakesAt}
+use Rattle.bd_ways.specs.Local.{close_up, close_among}
+use Rattle.bd_ways.specs.Tables.{MakesAt}
 use Rattle.bd_frames.specs.Places.{IsRising}
 use Rattle.bd_calls.specs.declared.table.CallTable.{CallTable}
 use Rattle.bd_calls.specs.Stands.{StandsFor}

@@ -1,7 +1,7 @@
 -- Calls that close one after the other: the oldest of those that are chosen.
 use Rattle.std.specs.Prelude.{ℕ, ◌≡◌, ◌==◌, List, if◌then◌else◌}
-use Rattle.bd_space.specs.Space.{Space}
-use Rattle.bd_space.specs.Local.{close_among}
+use Rattle.bd_ways.specs.Words.{Space}
+use Rattle.bd_ways.specs.Local.{close_among}
 pub use Rattle.bd_frames.specs.Words.{is_place_among}
 use Rattle.bd_calls.specs.declared.table.CallTable.{CallTable}
 use Rattle.bd_calls.specs.Stands.{StandsFor}

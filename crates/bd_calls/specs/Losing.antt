@@ -1,9 +1,6 @@
 -- Frames whose calls nobody is left to read.
 use Rattle.std.specs.Prelude.{List}
-use Rattle.std.specs.List.{list_any}
-use Rattle.bd_space.specs.declared.space.Frame.{Frame}
-use Rattle.bd_space.specs.declared.space.Work.{Work}
-use Rattle.bd_space.specs.Words.{changed}
+use Rattle.bd_ways.specs.Words.{list_any, Frame, Work, changed}
 use Rattle.bd_space.specs.Todo.{is_call}
 use Rattle.bd_frames.specs.Words.{lost_frame}
 

@@ -1,11 +1,6 @@
 -- What is kept of the seats from step to step.
-use Rattle.std.specs.Prelude.{ℕ, ◌≡◌, ◌==◌, Bool, true, false, ◌||◌, List, get_or, Option, Some, None, IfSome, if◌then◌else◌}
-use Rattle.std.specs.List.{list_any}
-use Rattle.bd_space.specs.declared.space.Thread.{Thread}
-use Rattle.bd_space.specs.declared.space.Work.{Work}
-use Rattle.bd_space.specs.declared.space.TodoList.{TodoList}
-use Rattle.bd_space.specs.declared.space.TodoList.TheVariants.{OfThread, OfProcess}
-use Rattle.bd_space.specs.Words.{is_some_and}
+use Rattle.std.specs.Prelude.{ℕ, ◌≡◌, ◌==◌, Bool, true, false, ◌||◌, List, Option, Some, None, if◌then◌else◌, get_or, IfSome}
+use Rattle.bd_ways.specs.Words.{list_any, Thread, Work, TodoList, OfThread, OfProcess, is_some_and}
 use Rattle.bd_space.specs.Seats.{thread_in}
 use Rattle.bd_space.specs.Todo.{has_work_in, same_list}
 use Rattle.bd_calls.specs.declared.ready.Seen.{Seen}

@@ -1,8 +1,8 @@
 -- Frames as stacks: what a thread came into last it is in innermost.
 use Rattle.std.specs.Prelude.{ℕ, ◌≡◌}
+use Rattle.bd_ways.specs.Words.{Space}
 use Rattle.bd_space.specs.Frames.{innermost_in}
-use Rattle.bd_space.specs.Space.{Space}
-use Rattle.bd_space.specs.Tables as tables
+use Rattle.bd_ways.specs.Tables as tables
 pub use Rattle.bd_frames.specs.Words.{newest_in}
 use Rattle.bd_calls.specs.declared.table.CallTable.{CallTable}
 use Rattle.bd_calls.specs.Stands.{StandsFor}

@@ -1,11 +1,7 @@
 -- What a call table stands for: the threads, frames, work items and one-way calls of the object space,
 -- and what is kept of the seats is so.
 use Rattle.std.specs.Prelude.{◌≡◌, List}
-use Rattle.bd_space.specs.declared.space.Thread.{Thread}
-use Rattle.bd_space.specs.declared.space.Frame.{Frame}
-use Rattle.bd_space.specs.declared.space.Work.{Work}
-use Rattle.bd_space.specs.declared.space.Turn.{Turn}
-use Rattle.bd_space.specs.Space.{Space}
+use Rattle.bd_ways.specs.Words.{Thread, Frame, Work, Turn, Space}
 use Rattle.bd_space.specs.Turns.{turns_of}
 use Rattle.bd_frames.specs.Stands.{FramesAre}
 use Rattle.bd_links.specs.Stands.{WorksAre}

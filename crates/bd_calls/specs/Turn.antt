@@ -1,8 +1,6 @@
 -- One-way calls that are handed out, or were to be.
 use Rattle.std.specs.Prelude.{ℕ, ◌==◌, Bool, not, List, Option, Some, None}
-use Rattle.bd_space.specs.declared.space.Turn.{Turn}
-use Rattle.bd_space.specs.declared.space.WorkKind.{WorkKind}
-use Rattle.bd_space.specs.Words.{changed, is_some_and}
+use Rattle.bd_ways.specs.Words.{Turn, WorkKind, changed, is_some_and}
 use Rattle.bd_space.specs.Todo.{hands_out}
 use Rattle.bd_turns.specs.Turn.{hand_turn}
 

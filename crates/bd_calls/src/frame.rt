@@ -7,7 +7,7 @@ ghost use Rattle.bd_space.specs.declared.space.Work as declared;
 ghost use Rattle.bd_space.specs.Words.{changed};
 ghost use Rattle.bd_space.specs.Frames as spec;
 ghost use Rattle.bd_space.specs.Settle as settling;
-ghost use Rattle.bd_space.specs.Local as local;
+ghost use Rattle.bd_ways.specs.Local as local;
 ghost use Rattle.bd_space.specs.ThreadExits as exits;
 ghost use Rattle.bd_space.specs.ReadItems as reading;
 ghost use Rattle.bd_space.specs.Todo as works;
@@ -161,7 +161,7 @@ pub(crate) fn leave_frames(frames: &mut FrameTable, todo: &WorkTable, seat: u32)
 
 impl CallTable {
     ghost use Rattle.bd_space.specs.{Space.{Space}, Transactions.{call_out}};
-    ghost use Rattle.bd_space.specs.Tables.{IsAt, Tells, Makes, MakesAt, MakesWhere};
+    ghost use Rattle.bd_ways.specs.Tables.{IsAt, Tells, Makes, MakesAt, MakesWhere};
     ghost use Rattle.bd_calls.specs.{Stands.{Stands, StandsFor}, Stacked.{TellsOfStacked, MakesOfStackedAt}};
     ghost use Rattle.bd_calls.specs.Room.{Uses, UsesNothing, nothing, frame_room, work_room, frame_count};
     ghost use Rattle.bd_calls.specs.Closing.{IsAmongAt};

@@ -28,7 +28,7 @@ impl CallTable {
     ghost use Rattle.bd_space.specs.ProcessExits as exits;
     ghost use Rattle.bd_space.specs.ThreadExits as thread_exits;
     ghost use Rattle.bd_space.specs.ReadItems as reading;
-    ghost use Rattle.bd_space.specs.Tables.{Tells, Makes, MakesAt};
+    ghost use Rattle.bd_ways.specs.Tables.{Tells, Makes, MakesAt};
     ghost use Rattle.bd_calls.specs.Stands.{Stands, StandsFor};
     ghost use Rattle.bd_calls.specs.Room.{Uses, UsesNothing, nothing, HasRoom, frame_count};
 

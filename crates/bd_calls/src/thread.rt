@@ -10,7 +10,7 @@ use std::alloc::{AllocError, Global};
 
 impl CallTable {
     ghost use Rattle.bd_space.specs.{Space.{Space}, Steps.{with_thread}, Commands.{with_looping}};
-    ghost use Rattle.bd_space.specs.Tables.{Tells, Makes, MakesAt};
+    ghost use Rattle.bd_ways.specs.Tables.{Tells, Makes, MakesAt};
     ghost use Rattle.bd_calls.specs.{Stands.{StandsFor}, Room.{Uses, UsesNothing, nothing, thread_room}};
 
     /// The live thread of a seat.

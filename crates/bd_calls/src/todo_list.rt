@@ -43,7 +43,7 @@ fn reads_in(frames: &FrameTable, todo: &WorkTable, thread: &Thread) -> Option<To
 
 impl CallTable {
     ghost use Rattle.bd_space.specs.{declared.space.Object.{Object}, Space.{Space}, Histories.{is_ready}};
-    ghost use Rattle.bd_space.specs.Tables.{Tells, Makes, MakesAt};
+    ghost use Rattle.bd_ways.specs.Tables.{Tells, Makes, MakesAt};
     ghost use Rattle.bd_calls.specs.{Ready.{IsSeen}, Stands.{Stands, StandsFor}};
     ghost use Rattle.bd_calls.specs.Room.{Uses, UsesNothing, nothing, work_room};
 

@@ -1,5 +1,5 @@
 //! One-way calls: of one object's, one is due or handed out at a time, in the order in which they were made.
-#![tactic(auto, unfolding(bd_space::specs::Turns::ripen, bd_space::specs::Local::ripen_of, crate::specs::Room::rooms))]
+#![tactic(auto, unfolding(bd_space::specs::Turns::ripen, bd_ways::specs::Local::ripen_of, crate::specs::Room::rooms))]
 
 ghost use Rattle.std.specs.Prelude.{ℕ, Bool, List, ◌≡◌, ◌==◌, ◌||◌, ◌&&◌, ◌+◌, ◌<◌, ◌≤◌, ◌^◌, ◌++◌, ◌∷◌, [], false, not, nat_le, map, filter, find, reverse, length, count_by, Option, Some, None, option_map, IfOk, OnOk, OnErr, vec_len, vec_capacity};
 ghost use Rattle.std.specs.{Option.{option_to_list}, List.{list_any}};
@@ -7,7 +7,7 @@ ghost use Rattle.bd_space.specs.Words.{first_of, is_some_and};
 ghost use Rattle.bd_space.specs.Todo as works;
 ghost use Rattle.bd_space.specs.ThreadExits as exits;
 ghost use Rattle.bd_space.specs.Turns as spec;
-ghost use Rattle.bd_space.specs.Local as local;
+ghost use Rattle.bd_ways.specs.Local as local;
 ghost use Rattle.bd_space.specs.declared.space.Work as declared;
 ghost use Rattle.bd_links.specs.Stands as links;
 ghost use Rattle.bd_turns.specs.Stands as turn_table;
@@ -103,7 +103,8 @@ pub(crate) fn lose_turns(turns: &mut TurnTable, todo: &WorkTable, list: TodoList
 
 impl CallTable {
     ghost use Rattle.bd_space.specs.{declared.space.Buffer.{Buffer}, Space.{Space}, Delivery.{add_buffer}};
-    ghost use Rattle.bd_space.specs.{Freeing.{without_buffer}, Tables.{Tells, Makes, MakesAt}};
+    ghost use Rattle.bd_space.specs.Freeing.{without_buffer};
+    ghost use Rattle.bd_ways.specs.Tables.{Tells, Makes, MakesAt};
     ghost use Rattle.bd_calls.specs.Stands.{Stands, StandsFor};
     ghost use Rattle.bd_calls.specs.Room.{Uses, UsesNothing, nothing, turn_room, work_room, turn_count};
 

@@ -14,10 +14,10 @@ use Rattle.bd_space.specs.Deaths.{is_notification}
 use Rattle.bd_deaths.specs.Due.{is_due, is_due_of, is_due_at, due_in, due_of, has_place}
 use Rattle.bd_deaths.specs.declared.slot.Slot.{Slot}
 use Rattle.bd_deaths.specs.Slots.{lives, on}
-use Rattle.bd_space.specs.Ranges.{IsPartOf}
+use Rattle.bd_ways.specs.Ranges.{IsPartOf}
 use Rattle.bd_deaths.specs.Stands.{IsRising}
 use Rattle.bd_deaths.proofs.Lives.{any-lives}
-use Rattle.bd_space.proofs.Ranges.{same-filter, filter-of}
+use Rattle.bd_ways.proofs.Ranges.{same-filter, filter-of}
 use Rattle.bd_words.proofs.Lists.{eqb-turned}
 
 -- ---- places sorted, each once

@@ -18,7 +18,7 @@ use Rattle.bd_deaths.specs.Listed.{IsListed}
 use Rattle.bd_deaths.specs.Due.{has_place, is_own_at}
 use Rattle.bd_deaths.proofs.Changes.{All-changed}
 use Rattle.bd_words.proofs.Lists.{eqb-turned}
-use Rattle.bd_space.proofs.Ranges.{all-stay, same-filter}
+use Rattle.bd_ways.proofs.Ranges.{all-stay, same-filter}
 use Rattle.bd_deaths.proofs.Kept.{Alike}
 
 pub place-in : (m : ℕ) (ms : List ℕ) → IsIn m ms → has_place ms m ≡ true

@@ -12,8 +12,8 @@ use Rattle.bd_deaths.specs.declared.slot.Slot.{Slot}
 use Rattle.bd_deaths.specs.declared.list.DeathList.{DeathList}
 use Rattle.bd_deaths.specs.Slots.{lives, of, on, gone, with}
 use Rattle.bd_deaths.specs.Stands.{AreIn}
-use Rattle.bd_space.specs.Ranges.{IsWithin, IsPartOf}
-use Rattle.bd_space.proofs.Ranges.{within-fewer, implies-all, find-of}
+use Rattle.bd_ways.specs.Ranges.{IsWithin, IsPartOf}
+use Rattle.bd_ways.proofs.Ranges.{within-fewer, implies-all, find-of}
 
 -- ---- a look at those that haven't gone
 

@@ -9,8 +9,8 @@ use Rattle.bd_space.specs.declared.space.DeathNotification.{DeathNotification}
 use Rattle.bd_space.specs.declared.step.ObjectId.{ObjectId}
 use Rattle.bd_space.specs.Words.{same}
 use Rattle.bd_space.specs.Deaths.{is_notification, is_uncleared_on}
-use Rattle.bd_space.specs.Ranges.{IsPartOf}
-use Rattle.bd_space.proofs.Ranges.{Implies, implies-all, within-fewer, no-head, find-of, last-two}
+use Rattle.bd_ways.specs.Ranges.{IsPartOf}
+use Rattle.bd_ways.proofs.Ranges.{Implies, implies-all, within-fewer, no-head, find-of, last-two}
 use Rattle.bd_deaths.specs.declared.key.Key.{Key}
 use Rattle.bd_deaths.specs.Keys.{has, name_key}
 use Rattle.bd_deaths.proofs.Places.{nothing-implies}

@@ -8,8 +8,8 @@ use Rattle.std.proofs.lemmas.Bool.{eq-eqb, ne_eqb, ltb-true, ltb-false, lt-ltb}
 use Rattle.bd_space.specs.declared.space.DeathNotification.{DeathNotification}
 use Rattle.bd_space.specs.Words.{changed}
 use Rattle.bd_space.specs.Deaths.{is_notification}
-use Rattle.bd_space.specs.Ranges.{IsWithin}
-use Rattle.bd_space.proofs.Ranges.{none-before, none-after, Implies, no-head, within-fewer}
+use Rattle.bd_ways.specs.Ranges.{IsWithin}
+use Rattle.bd_ways.proofs.Ranges.{none-before, none-after, Implies, no-head, within-fewer}
 use Rattle.bd_deaths.specs.declared.key.Group.{Group}
 use Rattle.bd_deaths.specs.Keys.{group}
 use Rattle.bd_deaths.specs.declared.slot.Slot.{Slot}

@@ -10,8 +10,8 @@ use Rattle.bd_space.specs.declared.space.DeathNotification.{DeathNotification}
 use Rattle.bd_space.specs.declared.space.Phase.TheVariants.{Queued}
 use Rattle.bd_space.specs.Words.{changed}
 use Rattle.bd_space.specs.Deaths.{is_notification}
-use Rattle.bd_space.specs.Ranges.{IsPartOf}
-use Rattle.bd_space.proofs.Ranges.{any-of}
+use Rattle.bd_ways.specs.Ranges.{IsPartOf}
+use Rattle.bd_ways.proofs.Ranges.{any-of}
 use Rattle.bd_deaths.specs.Due.{is_due, is_due_of, is_due_at, queued_at, has_place}
 use Rattle.bd_deaths.proofs.Changes.{none, same_tests, twice, guarded}
 use Rattle.bd_words.proofs.Lists.{eqb-turned}

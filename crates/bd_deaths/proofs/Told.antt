@@ -12,8 +12,8 @@ use Rattle.bd_space.specs.declared.space.DeathNotification.{DeathNotification}
 use Rattle.bd_space.specs.declared.space.Phase.{Phase}
 use Rattle.bd_deaths.specs.declared.slot.Slot.{Slot}
 use Rattle.bd_deaths.specs.Slots.{on, gone, with, was_told, NoneTold}
-use Rattle.bd_space.specs.Ranges.{IsWithin}
-use Rattle.bd_space.proofs.Ranges.{no-head, none-after}
+use Rattle.bd_ways.specs.Ranges.{IsWithin}
+use Rattle.bd_ways.proofs.Ranges.{no-head, none-after}
 use Rattle.bd_deaths.proofs.Lives.{within-on}
 
 none-set : {A : Type 0} (p : A → Bool) (n : ℕ) (xs : List A) (i : ℕ) (y : A) → p y ≡ false → list_any p (take n xs) ≡ false → list_any p (take n (set xs i y)) ≡ false

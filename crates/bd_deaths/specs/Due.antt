@@ -1,10 +1,6 @@
 -- The death notifications by which the end of a process is told, and its own.
 use Rattle.std.specs.Prelude.{ℕ, ◌≡◌, ◌==◌, ◌&&◌, not, Bool, true, List, filter, Option, Some, None}
-use Rattle.std.specs.List.{list_any}
-use Rattle.bd_space.specs.declared.space.Object.{Object}
-use Rattle.bd_space.specs.declared.space.DeathNotification.{DeathNotification}
-use Rattle.bd_space.specs.declared.space.Phase.TheVariants.{Queued}
-use Rattle.bd_space.specs.Words.{changed}
+use Rattle.bd_ways.specs.Words.{list_any, Object, DeathNotification, Queued, changed}
 use Rattle.bd_space.specs.Deaths.{is_notification}
 use Rattle.bd_space.specs.References.{owned_in}
 use Rattle.bd_space.specs.ProcessExits.{is_armed}

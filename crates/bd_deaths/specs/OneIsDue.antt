@@ -1,8 +1,6 @@
 -- Whether the end of a process is to be told at all.
 use Rattle.std.specs.Prelude.{ℕ, ◌≡◌, true, List}
-use Rattle.std.specs.List.{list_any}
-use Rattle.bd_space.specs.declared.space.Object.{Object}
-use Rattle.bd_space.specs.declared.space.DeathNotification.{DeathNotification}
+use Rattle.bd_ways.specs.Words.{list_any, Object, DeathNotification}
 use Rattle.bd_nodes.specs.declared.table.NodeTable.{NodeTable}
 use Rattle.bd_nodes.specs.Stands.{NodesAre}
 use Rattle.bd_deaths.specs.declared.list.DeathList.{DeathList}

@@ -1,7 +1,6 @@
 -- The only notification on a name.
 use Rattle.std.specs.Prelude.{ℕ, ◌==◌, if◌then◌else◌, List, Option, None, count_by}
-use Rattle.bd_space.specs.declared.step.ObjectId.{ObjectId}
-use Rattle.bd_space.specs.declared.space.DeathNotification.{DeathNotification}
+use Rattle.bd_ways.specs.Words.{ObjectId, DeathNotification}
 use Rattle.bd_space.specs.Deaths.{is_uncleared_on, uncleared_in}
 
 -- the only uncleared one on p's name of o, where there is just one

@@ -1,8 +1,8 @@
 -- What is kept of those with a key, in the maps by name and by cookie, and the maps' room.
-use Rattle.std.specs.Prelude.{ℕ, ◌≡◌, ◌<◌, ◌^◌, min, List, All, Option, filter}
+use Rattle.std.specs.Prelude.{ℕ, ◌≡◌, ◌<◌, ◌^◌, List, Option, filter, min, All}
+use Rattle.bd_ways.specs.Words.{DeathNotification}
 use Rattle.std.specs.HashMap.{get, spare}
 use Rattle.bd_words.specs.Look.{look, word_room}
-use Rattle.bd_space.specs.declared.space.DeathNotification.{DeathNotification}
 use Rattle.bd_deaths.specs.declared.key.Key.{Key}
 use Rattle.bd_deaths.specs.declared.key.Key.TheVariants.{Name, Cookie}
 use Rattle.bd_deaths.specs.declared.key.Group.{Group}

@@ -1,7 +1,6 @@
 -- Slots in the order in which their notifications were made. One that goes leaves its slot.
 use Rattle.std.specs.Prelude.{ℕ, ◌≡◌, ◌≤◌, Bool, false, ◌&&◌, List, [], ◌∷◌, map, take, length, if◌then◌else◌}
-use Rattle.std.specs.List.{list_any}
-use Rattle.bd_space.specs.declared.space.DeathNotification.{DeathNotification}
+use Rattle.bd_ways.specs.Words.{list_any, DeathNotification}
 use Rattle.bd_space.specs.Clearing.{is_told}
 use Rattle.bd_deaths.specs.declared.slot.Slot.{Slot}
 

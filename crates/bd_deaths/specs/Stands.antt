@@ -1,6 +1,6 @@
 -- What a table of death notifications stands for: those of a space, in their order.
-use Rattle.std.specs.Prelude.{ℕ, suc, ◌≡◌, ◌≤◌, true, List, All, [], ◌∷◌}
-use Rattle.bd_space.specs.declared.space.DeathNotification.{DeathNotification}
+use Rattle.std.specs.Prelude.{ℕ, suc, ◌≡◌, ◌≤◌, true, List, [], ◌∷◌, All}
+use Rattle.bd_ways.specs.Words.{DeathNotification}
 use Rattle.bd_deaths.specs.declared.list.DeathList.{DeathList}
 use Rattle.bd_deaths.specs.declared.table.DeathTable.{DeathTable}
 use Rattle.bd_deaths.specs.SharedAt.{AreShared}

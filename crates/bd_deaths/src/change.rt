@@ -8,7 +8,7 @@ ghost use Rattle.bd_space.specs.Todo.{death_of};
 ghost use Rattle.bd_space.specs.ReadItems as reading;
 ghost use Rattle.bd_space.specs.declared.space.Phase.TheVariants.{Told};
 ghost use Rattle.bd_space.specs.declared.space.DeathNotification as declared;
-ghost use Rattle.bd_space.specs.Ranges.{IsWithin};
+ghost use Rattle.bd_ways.specs.Ranges.{IsWithin};
 ghost use Rattle.bd_deaths.specs.Slots as spec;
 
 use crate::list::DeathList;

@@ -3,7 +3,7 @@
 ghost use Rattle.std.specs.Prelude.{◌≡◌, ◌≤◌, ◌<◌, ◌++◌, ◌∷◌, [], Bool, true, not, filter, set, List, OnOk, OnErr, vec_len, slice_index_or};
 ghost use Rattle.bd_words.specs.Tables.{AnswersBy};
 ghost use Rattle.bd_space.specs.declared.space.DeathNotification as declared;
-ghost use Rattle.bd_space.specs.Ranges.{IsWithin};
+ghost use Rattle.bd_ways.specs.Ranges.{IsWithin};
 ghost use Rattle.bd_deaths.specs.declared.slot.Slot.{Slot};
 ghost use Rattle.bd_deaths.specs.Slots as spec;
 

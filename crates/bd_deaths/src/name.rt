@@ -2,7 +2,7 @@
 
 ghost use Rattle.std.specs.{Prelude.{◌≡◌, ◌==◌, ◌&&◌, ◌||◌, not, filter, List}, List.{list_any}};
 ghost use Rattle.bd_space.specs.Deaths as deaths_of;
-ghost use Rattle.bd_space.specs.Local as local;
+ghost use Rattle.bd_ways.specs.Local as local;
 ghost use Rattle.bd_space.specs.declared.space.DeathNotification as declared;
 ghost use Rattle.bd_deaths.specs.Slots as spec;
 

@@ -1,7 +1,6 @@
 -- The readiness of seats, as noted.
 use Rattle.std.specs.Prelude.{ℕ, ◌≡◌, ◌==◌, ◌<◌, Bool, true, false, not, List, length, get_or}
-use Rattle.std.specs.List.{list_any}
-use Rattle.bd_space.specs.Space.{Space}
+use Rattle.bd_ways.specs.Words.{list_any, Space}
 use Rattle.bd_space.specs.Histories.{is_ready}
 
 abbrev pub has_seat : List ℕ → ℕ → Bool

@@ -1,7 +1,7 @@
 -- Why an engine, a step or a run is refused.
 use Rattle.std.specs.Prelude.{ℕ, ◌≤◌}
+use Rattle.bd_ways.specs.Words.{Fault}
 use Rattle.bd_uapi.specs.Limits.{IsSeats}
-use Rattle.bd_uapi.specs.declared.fault.Fault.{Fault}
 use Rattle.bd_uapi.specs.declared.fault.Fault.TheVariants as fault
 pub use Rattle.bd_step.specs.Refusals.{FullOnly, MemoryOnly}
 

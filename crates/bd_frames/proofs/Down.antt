@@ -13,7 +13,7 @@ use Rattle.bd_frames.specs.declared.walk.Way.{Way}
 use Rattle.bd_frames.specs.Children.{kept_at}
 use Rattle.bd_frames.specs.Places.{IsRising}
 use Rattle.bd_frames.specs.Linked.{below_of, with_frame, tops_of, no_tops, Linked, AreStacks, IsNext, IsStep, IsWay}
-use Rattle.bd_space.proofs.Ranges.{no-head}
+use Rattle.bd_ways.proofs.Ranges.{no-head}
 use Rattle.bd_frames.proofs.Linking.{Tops, linked-long, top-here, link-got}
 
 -- what stands where a list has ended

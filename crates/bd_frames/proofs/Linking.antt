@@ -11,7 +11,7 @@ use Rattle.bd_frames.specs.declared.stacks.Below.{Below}
 use Rattle.bd_frames.specs.Places.{IsRising}
 use Rattle.bd_frames.specs.Words.{left_frame, lost_frame, is_pending}
 use Rattle.bd_frames.specs.Linked.{below_of, with_frame, tops_after, LeadsTo, Linked}
-use Rattle.bd_space.proofs.Ranges.{no-head, changed-none}
+use Rattle.bd_ways.proofs.Ranges.{no-head, changed-none}
 use Rattle.bd_frames.proofs.Places.{rising-above}
 use Rattle.bd_frames.proofs.Alike.{or-left, left-takes, left-calls, left-gone, lost-takes, served-takes}
 

@@ -5,8 +5,8 @@ use Rattle.std.proofs.lemmas.Slice.{between_is}
 use Rattle.std.proofs.lemmas.List.{get_or-drop, get_or-take}
 use Rattle.bd_space.specs.declared.space.Frame.{Frame}
 use Rattle.bd_space.specs.Frames.{is_frame}
-use Rattle.bd_space.specs.Ranges.{IsWithin}
-use Rattle.bd_space.proofs.Ranges.{no-head, any-between}
+use Rattle.bd_ways.specs.Ranges.{IsWithin}
+use Rattle.bd_ways.proofs.Ranges.{no-head, any-between}
 use Rattle.bd_frames.specs.Places.{IsNewestAt}
 
 nil-dropped : {A : Type 0} (n : ℕ) → drop {A = A} n [] ≡ []

@@ -6,8 +6,8 @@ use Rattle.std.proofs.lemmas.Bool.{ne_eqb, ltb-true, ltb-false, lt-ltb}
 use Rattle.bd_space.specs.declared.space.Frame.{Frame}
 use Rattle.bd_space.specs.Words.{changed}
 use Rattle.bd_space.specs.Frames.{is_frame}
-use Rattle.bd_space.specs.Ranges.{IsWithin}
-use Rattle.bd_space.proofs.Ranges.{none-before, none-after}
+use Rattle.bd_ways.specs.Ranges.{IsWithin}
+use Rattle.bd_ways.proofs.Ranges.{none-before, none-after}
 use Rattle.bd_frames.specs.Places.{IsRising, IsAfter}
 
 -- ---- in the order of their places

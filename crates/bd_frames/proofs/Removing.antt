@@ -5,7 +5,7 @@ use Rattle.bd_words.proofs.Lists.{filter-remove}
 use Rattle.bd_space.specs.declared.space.Frame.{Frame}
 use Rattle.bd_frames.specs.declared.table.FrameTable.{FrameTable}
 use Rattle.bd_frames.specs.Stands.{FramesAre}
-use Rattle.bd_space.proofs.Ranges.{filter-none}
+use Rattle.bd_ways.proofs.Ranges.{filter-none}
 
 -- the table stands for its own notifications, of which those that don't pass are those of the list
 pub record Removes (q : Frame → Bool) (t : FrameTable) (l : List Frame) : Type 0 where

@@ -9,7 +9,7 @@ use Rattle.bd_space.specs.Frames.{takes_part, is_frame, made_of}
 use Rattle.bd_frames.specs.Places.{IsRising}
 use Rattle.bd_frames.specs.Words.{newest_in}
 use Rattle.bd_frames.specs.Linked.{with_frame, tops_after, tops_of, no_tops}
-use Rattle.bd_space.proofs.Ranges.{find-none}
+use Rattle.bd_ways.proofs.Ranges.{find-none}
 use Rattle.bd_frames.proofs.Linking.{Tops}
 
 -- the last that passes, or else this one

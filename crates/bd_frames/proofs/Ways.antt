@@ -6,7 +6,7 @@ use Rattle.std.proofs.lemmas.Grind.{reverse_onto}
 use Rattle.bd_space.specs.declared.space.Frame.{Frame}
 use Rattle.bd_space.specs.Frames.{ancestry, is_frame}
 use Rattle.bd_frames.specs.Places.{IsNewestAt}
-use Rattle.bd_space.proofs.Ranges.{no-head}
+use Rattle.bd_ways.proofs.Ranges.{no-head}
 
 pub way-ended : (from : Option ℕ) (fs : List Frame) → is_none from ≡ true → ancestry from fs ≡ []
 way-ended (Some m) fs h = absurd (cc)

@@ -1,9 +1,8 @@
 -- How many children the calls have, kept by where these were made.
 use Rattle.std.specs.Prelude.{ℕ, zero, suc, ◌≡◌, ◌==◌, ◌&&◌, Bool, List, Option, Some, None, unwrap_or}
+use Rattle.bd_ways.specs.Words.{Frame, is_some_and}
 use Rattle.std.specs.List.{count_by}
 use Rattle.std.specs.HashMap.{HashMap, get_by}
-use Rattle.bd_space.specs.declared.space.Frame.{Frame}
-use Rattle.bd_space.specs.Words.{is_some_and}
 use Rattle.bd_space.specs.Frames.{is_gone}
 
 -- what is kept at a place

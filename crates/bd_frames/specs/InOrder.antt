@@ -1,6 +1,6 @@
 -- Frames in order: each was made after the one before it, and after its parent.
 use Rattle.std.specs.Prelude.{ℕ, ◌≡◌, ◌<◌, Bool, true, List, [], ◌∷◌, Option, Some, None}
-use Rattle.bd_space.specs.declared.space.Frame.{Frame}
+use Rattle.bd_ways.specs.Words.{Frame}
 use Rattle.bd_frames.specs.Places.{IsRising}
 
 -- the parent, if there is one, was made before

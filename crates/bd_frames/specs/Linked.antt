@@ -1,7 +1,6 @@
 -- Each thread's frames as a stack: where its innermost one was made, and from each the next older one.
 use Rattle.std.specs.Prelude.{ℕ, suc, ◌≡◌, ◌<◌, true, false, List, [], ◌∷◌, Option, Some, None, length, take, drop, if◌then◌else◌}
-use Rattle.std.specs.List.{list_any}
-use Rattle.bd_space.specs.declared.space.Frame.{Frame}
+use Rattle.bd_ways.specs.Words.{list_any, Frame}
 use Rattle.bd_space.specs.Frames.{calls, takes_part}
 use Rattle.bd_frames.specs.declared.stacks.Below.{Below}
 use Rattle.bd_frames.specs.declared.stacks.Stacks.{Stacks}

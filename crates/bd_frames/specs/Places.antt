@@ -1,8 +1,7 @@
 -- Frames in the order of their places, and the newest of a place.
 use Rattle.std.specs.Prelude.{ℕ, suc, ◌+◌, ◌≡◌, ◌≤◌, Bool, true, false, List, [], ◌∷◌, Option, Some, None, drop, get_or}
-use Rattle.std.specs.List.{list_any}
+use Rattle.bd_ways.specs.Words.{list_any, Frame}
 use Rattle.std.specs.Coded.{×_prop, →_prop, Unit-prop, le_prop}
-use Rattle.bd_space.specs.declared.space.Frame.{Frame}
 use Rattle.bd_space.specs.Frames.{is_frame}
 
 -- each was made after the one before, from one place on

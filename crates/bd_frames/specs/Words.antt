@@ -1,9 +1,6 @@
 -- Words on frames in the order in which they came in.
 use Rattle.std.specs.Prelude.{ℕ, ◌==◌, ◌&&◌, Bool, true, false, List, Option, Some, None, find, reverse}
-use Rattle.std.specs.List.{list_any}
-use Rattle.bd_space.specs.declared.space.Frame.{Frame}
-use Rattle.bd_space.specs.declared.space.Server.{Server}
-use Rattle.bd_space.specs.declared.space.Server.TheVariants.{Pending, Serving, Gone}
+use Rattle.bd_ways.specs.Words.{list_any, Frame, Server, Pending, Serving, Gone}
 use Rattle.bd_space.specs.Frames.{takes_part, is_frame}
 use Rattle.bd_space.specs.Settle.{is_abandoned}
 use Rattle.bd_space.specs.ThreadExits.{gone_caller, gone_server}

@@ -5,7 +5,8 @@ ghost use Rattle.bd_words.specs.Tables.{AnswersBy};
 ghost use Rattle.bd_space.specs.declared.space.Frame as declared;
 ghost use Rattle.bd_space.specs.Frames as spec;
 ghost use Rattle.bd_space.specs.ReadItems as reading;
-ghost use Rattle.bd_space.specs.{Words.{changed}, Ranges.{IsWithin}};
+ghost use Rattle.bd_space.specs.Words.{changed};
+ghost use Rattle.bd_ways.specs.Ranges.{IsWithin};
 ghost use Rattle.bd_frames.specs.Words.{lost_frame, left_frame};
 
 use crate::server::{gone_caller, gone_server, lost_server};

@@ -2,7 +2,7 @@
 
 ghost use Rattle.std.specs.Prelude.{ℕ, Bool, ◌≤◌, ◌<◌, ◌+◌, IfSome, length};
 ghost use Rattle.bd_space.specs.Frames as spec;
-ghost use Rattle.bd_space.specs.Ranges.{IsWithin};
+ghost use Rattle.bd_ways.specs.Ranges.{IsWithin};
 ghost use Rattle.bd_frames.specs.Places.{IsRising, RiseIf, IsNewestAt};
 
 use bd_space::Frame;

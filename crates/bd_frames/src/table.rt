@@ -6,7 +6,8 @@ ghost use Rattle.std.specs.List.{list_any, remove as list_remove};
 ghost use Rattle.bd_space.specs.declared.space.Frame as declared;
 ghost use Rattle.bd_space.specs.Frames as spec;
 ghost use Rattle.bd_space.specs.ReadItems as reading;
-ghost use Rattle.bd_space.specs.{Words.{changed}, Ranges.{IsPartOf}};
+ghost use Rattle.bd_space.specs.Words.{changed};
+ghost use Rattle.bd_ways.specs.Ranges.{IsPartOf};
 ghost use Rattle.bd_frames.specs.{Places.{RiseIf, RiseIf-prop}, InOrder.{IsInOrder}};
 ghost use Rattle.bd_frames.specs.Words.{newest_in, abandoned_in, oldest_in, lost_frame, left_frame};
 

@@ -4,7 +4,7 @@ use Rattle.bd_laws.proofs.words.Logic.{arith, ◌≡◌, ℕ, ◌==◌, Bool, tr
 use Rattle.bd_laws.proofs.words.Types.{TransactionData, FlatObject, ObjectId, Parcel, Object, DeathNotification, Item, Resolved, Actor, WorkKind}
 use Rattle.bd_laws.proofs.words.Space.{Space, strongly_named, Sending, resolve, new_object, sending_of, Delivery, transaction_check, target_of, ObjectTest, no_name, objects_of_items, is_touched, names_go_of, objects_go_of, deaths_go_of, work_goes_of, notify_of, follow_of}
 use Rattle.bd_space.specs.declared.space.WorkKind.TheVariants as work
-use Rattle.bd_space.proofs.Ranges.{all-stay}
+use Rattle.bd_ways.proofs.Ranges.{all-stay}
 use Rattle.bd_laws.proofs.words.Laws.{In, KeptBefore}
 use Rattle.bd_laws.proofs.Lists.{in-last, in-push, in-append, any-found, any-in}
 use Rattle.bd_laws.proofs.Tests.{and-both, eq-same, and_then-ok, found-ok, unless-ok}

@@ -1,12 +1,7 @@
 -- Open calls between two steps: paths of frames.
 use Rattle.std.specs.Prelude.{◌<◌, ◌≡◌, List, Some, ℕ, ◌⊎◌, None, ◌≤◌, true}
-use Rattle.bd_space.specs.declared.space.Frame.{Frame}
-use Rattle.bd_space.specs.declared.space.Server.TheVariants.{Serving, Gone}
-use Rattle.bd_space.specs.declared.space.Buffer.{Buffer}
-use Rattle.bd_space.specs.declared.space.Work.{Work}
-use Rattle.bd_space.specs.declared.space.TodoList.TheVariants.{OfThread}
+use Rattle.bd_ways.specs.Words.{Frame, Serving, Gone, Buffer, Work, OfThread, Space}
 use Rattle.bd_space.specs.declared.space.WorkKind.TheVariants as work
-use Rattle.bd_space.specs.Space.{Space}
 use Rattle.bd_laws.specs.Lists.{In, Pairs}
 
 -- made before

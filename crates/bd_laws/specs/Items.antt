@@ -1,17 +1,8 @@
 -- Work items between two steps: what tells them apart, and where they stand.
 use Rattle.std.specs.Prelude.{◌≡◌, true, List, ℕ, ◌<◌, Some}
-use Rattle.bd_space.specs.declared.step.ObjectId.{ObjectId}
-use Rattle.bd_space.specs.declared.space.Work.{Work}
-use Rattle.bd_space.specs.declared.space.Thread.{Thread}
-use Rattle.bd_space.specs.declared.space.Reference.{Reference}
-use Rattle.bd_space.specs.declared.space.Buffer.{Buffer}
-use Rattle.bd_space.specs.declared.space.Holder.TheVariants.{Carried}
-use Rattle.bd_space.specs.declared.space.TodoList.TheVariants.{OfThread, OfProcess}
+use Rattle.bd_ways.specs.Words.{ObjectId, Work, Thread, Reference, Buffer, Carried, OfThread, OfProcess, DeathNotification, Queued, Space}
 use Rattle.bd_space.specs.declared.space.WorkKind.TheVariants as work
-use Rattle.bd_space.specs.declared.space.DeathNotification.{DeathNotification}
-use Rattle.bd_space.specs.declared.space.Phase.TheVariants.{Queued}
 use Rattle.bd_space.specs.Todo.{is_item, hands_out, notice_of}
-use Rattle.bd_space.specs.Space.{Space}
 use Rattle.bd_laws.specs.Lists.{In, Pairs}
 
 -- no two items of one list have one identity

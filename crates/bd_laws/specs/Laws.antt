@@ -1,17 +1,12 @@
 -- The laws of every history that the engine rests on.
 use Rattle.std.specs.Prelude.{ℕ, ◌≡◌, ◌&&◌, ◌||◌, Bool, List, filter}
-use Rattle.std.specs.List.{list_any}
-use Rattle.bd_space.specs.declared.step.ObjectId.{ObjectId}
-use Rattle.bd_space.specs.declared.space.Turn.{Turn}
-use Rattle.bd_space.specs.declared.space.Work.{Work}
-use Rattle.bd_space.specs.Words.{same}
-use Rattle.bd_space.specs.Space.{Space}
+use Rattle.bd_ways.specs.Words.{list_any, ObjectId, Turn, Work, same, Space}
 use Rattle.bd_space.specs.Frames.{innermost_in}
 use Rattle.bd_space.specs.Todo.{is_call}
 use Rattle.bd_space.specs.Turns.{turns_of}
 use Rattle.bd_space.specs.Notices.{follow}
 use Rattle.bd_space.specs.Histories.{History, space_after}
-use Rattle.bd_space.specs.Local.{NameTest, ObjectTest, follow_of}
+use Rattle.bd_ways.specs.Local.{NameTest, ObjectTest, follow_of}
 use Rattle.bd_laws.specs.Items.{Distinct}
 use Rattle.bd_laws.specs.Stacks.{AreStacks, frames_with, last_of}
 use Rattle.bd_laws.specs.Quiet.{Elsewhere, IsQuiet}

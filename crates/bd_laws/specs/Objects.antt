@@ -1,11 +1,6 @@
 -- Objects, and what refers to them, between two steps.
 use Rattle.std.specs.Prelude.{◌≡◌, List, ℕ, ◌<◌, ◌==◌, Bool, true, false, ◌&&◌, ◌||◌, nat_lt, Option, Some}
-use Rattle.bd_space.specs.declared.step.ObjectId.{ObjectId}
-use Rattle.bd_space.specs.declared.space.Object.{Object}
-use Rattle.bd_space.specs.declared.space.Reference.{Reference}
-use Rattle.bd_space.specs.declared.space.Holder.TheVariants.{Manager}
-use Rattle.bd_space.specs.declared.space.Name.{Name}
-use Rattle.bd_space.specs.Space.{Space}
+use Rattle.bd_ways.specs.Words.{ObjectId, Object, Reference, Manager, Name, Space}
 use Rattle.bd_laws.specs.Lists.{In, Pairs}
 
 -- an object of this identity is there

@@ -1,16 +1,8 @@
 -- One-way calls between two steps: whose turn it is, and on which list a call stands.
 use Rattle.std.specs.Prelude.{◌≡◌, true, Some, ℕ, List, ◌⊎◌, ◌<◌}
-use Rattle.bd_space.specs.declared.step.ObjectId.{ObjectId}
-use Rattle.bd_space.specs.declared.space.Buffer.{Buffer}
-use Rattle.bd_space.specs.declared.space.Work.{Work}
-use Rattle.bd_space.specs.declared.space.Turn.{Turn}
-use Rattle.bd_space.specs.declared.space.TodoList.TheVariants.{OfProcess}
-use Rattle.bd_space.specs.declared.space.Process.{Process}
-use Rattle.bd_space.specs.declared.space.Object.{Object}
+use Rattle.bd_ways.specs.Words.{ObjectId, Buffer, Work, Turn, OfProcess, Process, Object, same, Space}
 use Rattle.bd_space.specs.Todo.{hands_out}
-use Rattle.bd_space.specs.Words.{same}
 use Rattle.bd_space.specs.Turns.{turn_of}
-use Rattle.bd_space.specs.Space.{Space}
 use Rattle.bd_laws.specs.Lists.{In, Pairs}
 
 -- the buffer is a one-way call's on the object

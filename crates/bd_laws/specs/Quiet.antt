@@ -1,22 +1,13 @@
 -- Nothing is pending: what follows a change has nothing left to do.
 use Rattle.std.specs.Prelude.{◌≡◌, ℕ, ◌==◌, true, false, ◌||◌, List, [], ◌∷◌, ◌++◌, None, find}
-use Rattle.std.specs.List.{list_any}
-use Rattle.bd_space.specs.declared.step.ObjectId.{ObjectId}
-use Rattle.bd_space.specs.declared.space.Object.{Object}
-use Rattle.bd_space.specs.declared.space.Name.{Name}
-use Rattle.bd_space.specs.declared.space.DeathNotification.{DeathNotification}
-use Rattle.bd_space.specs.declared.space.Work.{Work}
+use Rattle.bd_ways.specs.Words.{list_any, ObjectId, Object, Name, DeathNotification, Work, Turn, Frame, is_some_and, Space}
 use Rattle.bd_space.specs.declared.space.WorkKind.TheVariants as work
-use Rattle.bd_space.specs.declared.space.Turn.{Turn}
-use Rattle.bd_space.specs.declared.space.Frame.{Frame}
-use Rattle.bd_space.specs.Words.{is_some_and}
-use Rattle.bd_space.specs.Space.{Space}
 use Rattle.bd_space.specs.References.{object_in, stays_in}
 use Rattle.bd_space.specs.Names.{is_named_in}
 use Rattle.bd_space.specs.Notices.{wants_notice, has_notice_in, is_name_of}
 use Rattle.bd_space.specs.Turns.{is_ripe, turns_of}
 use Rattle.bd_space.specs.Settle.{is_abandoned}
-use Rattle.bd_space.specs.Local.{NameTest, ObjectTest}
+use Rattle.bd_ways.specs.Local.{NameTest, ObjectTest}
 use Rattle.bd_laws.specs.Lists.{In, Pairs}
 use Rattle.bd_laws.specs.Objects.{Differ}
 

@@ -1,6 +1,6 @@
 -- The frames of a thread are a stack: the later one was made, the deeper it lies.
 use Rattle.std.specs.Prelude.{◌≡◌, ◌⊎◌, ℕ, ◌<◌, List, [], ◌∷◌, filter, Option, Some, None}
-use Rattle.bd_space.specs.declared.space.Frame.{Frame}
+use Rattle.bd_ways.specs.Words.{Frame}
 use Rattle.bd_space.specs.Frames.{takes_part, depth_in}
 
 -- x is one of these

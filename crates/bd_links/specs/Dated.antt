@@ -1,6 +1,6 @@
 -- The latest place of a work item, and how many items were made there.
 use Rattle.std.specs.Prelude.{◌≡◌, ℕ, ◌==◌, ◌≤◌, List, count_by}
-use Rattle.bd_space.specs.declared.space.Work.{Work}
+use Rattle.bd_ways.specs.Words.{Work}
 use Rattle.bd_links.specs.Each.{Each}
 
 -- none of them was made later

@@ -1,8 +1,6 @@
 -- The first work item of a list, called by its identity.
 use Rattle.std.specs.Prelude.{Bool, true, false, not, ◌&&◌, List, [], ◌∷◌}
-use Rattle.bd_space.specs.declared.space.Identity.{Identity}
-use Rattle.bd_space.specs.declared.space.Work.{Work}
-use Rattle.bd_space.specs.Words.{same_identity}
+use Rattle.bd_ways.specs.Words.{Identity, Work, same_identity}
 
 -- the first is called so, where it is still to come, and no other is
 abbrev pub is_front : Identity → Bool → List Work → Bool

@@ -1,9 +1,8 @@
 -- The heads of the lists' rings, by list.
-use Rattle.std.specs.Prelude.{ℕ, nat_lt, Bool, cond, List, length, get_or, Option, Some, None}
+use Rattle.std.specs.Prelude.{ℕ, nat_lt, Bool, List, length, Option, Some, None, cond, get_or}
+use Rattle.bd_ways.specs.Words.{TodoList, OfThread, OfProcess}
 use Rattle.std.specs.HashMap.{HashMap, get_by}
 use Rattle.bd_words.specs.Numbers.{pair}
-use Rattle.bd_space.specs.declared.space.TodoList.{TodoList}
-use Rattle.bd_space.specs.declared.space.TodoList.TheVariants.{OfThread, OfProcess}
 use Rattle.bd_links.specs.declared.heads.ListKey.{ListKey}
 use Rattle.bd_links.specs.declared.heads.Heads.{Heads}
 use Rattle.bd_links.specs.declared.heads.ListKey.TheVariants.{Thread, Process}

@@ -1,6 +1,6 @@
 -- The columns of a vector of nodes.
 use Rattle.std.specs.Prelude.{ℕ, List, map}
-use Rattle.bd_space.specs.declared.space.Work.{Work}
+use Rattle.bd_ways.specs.Words.{Work}
 use Rattle.bd_links.specs.declared.links.Node.{Node}
 use Rattle.bd_links.specs.Rings.{Rings}
 

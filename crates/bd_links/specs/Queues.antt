@@ -1,8 +1,6 @@
 -- What a vector of nodes stands for: work items, each list of them a ring.
 use Rattle.std.specs.Prelude.{◌≡◌, ℕ, ◌==◌, Bool, true, false, not, List, ◌∷◌, length, map, filter, Option, Some, get_or}
-use Rattle.bd_space.specs.declared.space.Work.{Work}
-use Rattle.bd_space.specs.declared.space.TodoList.{TodoList}
-use Rattle.bd_space.specs.declared.space.TodoList.TheVariants.{OfThread}
+use Rattle.bd_ways.specs.Words.{Work, TodoList, OfThread}
 use Rattle.bd_space.specs.declared.space.WorkKind.TheVariants.{Complete}
 use Rattle.bd_links.specs.Rings.{In, Rings}
 

@@ -1,10 +1,8 @@
 -- What the queues stand for: the work items of the space, in its order.
-use Rattle.std.specs.Prelude.{◌≡◌, ◌⊎◌, ℕ, ◌/◌, min, List, [], map, Some, None}
+use Rattle.std.specs.Prelude.{◌≡◌, ◌⊎◌, ℕ, ◌/◌, List, [], map, Some, None, min}
+use Rattle.bd_ways.specs.Words.{Work, TodoList, without_first}
 use Rattle.std.specs.HashMap.{spare}
 use Rattle.std.specs.List.{slice_get}
-use Rattle.bd_space.specs.declared.space.Work.{Work}
-use Rattle.bd_space.specs.declared.space.TodoList.{TodoList}
-use Rattle.bd_space.specs.Words.{without_first}
 use Rattle.bd_space.specs.Todo.{is_on, work_on}
 use Rattle.bd_links.specs.declared.queues.Queues.{Queues}
 use Rattle.bd_links.specs.Rings.{In, without}

@@ -1,7 +1,7 @@
 -- What a register says of all work items.
 use Rattle.std.specs.Prelude.{ℕ, ◌≡◌, true, List, length, min}
+use Rattle.bd_ways.specs.Words.{Work}
 use Rattle.std.specs.HashMap.{spare}
-use Rattle.bd_space.specs.declared.space.Work.{Work}
 use Rattle.bd_links.specs.declared.register.Register.{Register}
 use Rattle.bd_links.specs.Dated.{Dated}
 use Rattle.bd_links.specs.Rising.{RisesTo}

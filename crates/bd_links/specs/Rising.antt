@@ -1,7 +1,6 @@
 -- Identities that rise along a list of work items.
 use Rattle.std.specs.Prelude.{ℕ, ◌+◌, ◌*◌, ◌<◌, ◌≤◌, List}
-use Rattle.bd_space.specs.declared.space.Identity.{Identity}
-use Rattle.bd_space.specs.declared.space.Work.{Work}
+use Rattle.bd_ways.specs.Words.{Identity, Work}
 use Rattle.bd_links.specs.Each.{Each, EachPair}
 
 -- by the place first

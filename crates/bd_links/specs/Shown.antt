@@ -1,7 +1,6 @@
 -- An order of the nodes shows the work items.
 use Rattle.std.specs.Prelude.{ℕ, ◌≡◌, ◌≤◌, true, List, length, Option}
-use Rattle.bd_space.specs.declared.space.Work.{Work}
-use Rattle.bd_space.specs.declared.space.TodoList.{TodoList}
+use Rattle.bd_ways.specs.Words.{Work, TodoList}
 use Rattle.bd_links.specs.Rings.{In, ring}
 use Rattle.bd_links.specs.Queues.{is_used, Queued}
 

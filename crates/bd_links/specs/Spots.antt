@@ -1,10 +1,8 @@
 -- What work items are looked up by, and how many are looked up so.
 use Rattle.std.specs.Prelude.{ℕ, ◌≡◌, Bool, List, count_by, Option, Some, None, option_map, unwrap_or, if◌then◌else◌}
+use Rattle.bd_ways.specs.Words.{is_some_and, Work, WorkKind}
 use Rattle.std.specs.HashMap.{get_by}
-use Rattle.bd_space.specs.Words.{is_some_and}
 use Rattle.bd_space.specs.Todo.{keeps_from_calling}
-use Rattle.bd_space.specs.declared.space.Work.{Work}
-use Rattle.bd_space.specs.declared.space.WorkKind.{WorkKind}
 use Rattle.bd_space.specs.declared.space.WorkKind.TheVariants as work
 use Rattle.bd_words.specs.Numbers.{pair, wide}
 use Rattle.bd_links.specs.Heads.{list_key}

@@ -1,7 +1,7 @@
 -- What a table of work items stands for: the work items of the space, in its order.
 use Rattle.std.specs.Prelude.{ℕ, List, min}
+use Rattle.bd_ways.specs.Words.{Work}
 use Rattle.bd_words.specs.Tables as tables
-use Rattle.bd_space.specs.declared.space.Work.{Work}
 use Rattle.bd_links.specs.declared.table.WorkTable.{WorkTable}
 use Rattle.bd_links.specs.Registered.{Registered, register_room}
 use Rattle.bd_links.specs.QueuesStand as queues

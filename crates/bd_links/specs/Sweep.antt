@@ -1,6 +1,6 @@
 -- A walk over all nodes, up to one of them.
 use Rattle.std.specs.Prelude.{ℕ, ◌≡◌, nat_lt, Bool, not, ◌||◌, ◌&&◌, List, map, filter}
-use Rattle.bd_space.specs.declared.space.Work.{Work}
+use Rattle.bd_ways.specs.Words.{Work}
 use Rattle.bd_links.specs.declared.table.WorkTable.{WorkTable}
 use Rattle.bd_links.specs.Nodes.{rows, works}
 use Rattle.bd_links.specs.Queues.{work_in, used}

@@ -1,9 +1,7 @@
 -- The replies among the work items of a list.
 use Rattle.std.specs.Prelude.{ℕ, List, map, Option, Some, None}
-use Rattle.bd_space.specs.declared.space.Work.{Work}
-use Rattle.bd_space.specs.declared.space.WorkKind.{WorkKind}
+use Rattle.bd_ways.specs.Words.{Work, WorkKind, first_of}
 use Rattle.bd_space.specs.declared.space.WorkKind.TheVariants.{Reply}
-use Rattle.bd_space.specs.Words.{first_of}
 
 -- where a reply was made
 abbrev pub reply_of : WorkKind → Option ℕ

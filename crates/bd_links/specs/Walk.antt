@@ -1,6 +1,6 @@
 -- A ring walked from a node on, by what comes next.
-use Rattle.std.specs.Prelude.{ℕ, zero, suc, ◌==◌, nat_lt, List, [], ◌∷◌, length, get_or, map, if◌then◌else◌}
-use Rattle.bd_space.specs.declared.space.Work.{Work}
+use Rattle.std.specs.Prelude.{ℕ, zero, suc, ◌==◌, nat_lt, List, [], ◌∷◌, length, map, if◌then◌else◌, get_or}
+use Rattle.bd_ways.specs.Words.{Work}
 use Rattle.bd_links.specs.declared.links.Node.{Node}
 use Rattle.bd_links.specs.Nodes.{nexts, works}
 use Rattle.bd_links.specs.Queues.{work_in}

@@ -1,8 +1,7 @@
 -- The keys of a process's numbers and objects, and what the maps of names say of them.
 use Rattle.std.specs.Prelude.{ℕ, ◌==◌, ◌&&◌, Bool, Option}
+use Rattle.bd_ways.specs.Words.{ObjectId, same}
 use Rattle.std.specs.HashMap.{HashMap, get_by}
-use Rattle.bd_space.specs.declared.step.ObjectId.{ObjectId}
-use Rattle.bd_space.specs.Words.{same}
 use Rattle.bd_names.specs.declared.keys.NumberKey.{NumberKey}
 use Rattle.bd_names.specs.declared.keys.ObjectKey.{ObjectKey}
 

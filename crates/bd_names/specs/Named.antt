@@ -1,12 +1,11 @@
 -- What the pages and numbers of names stand for.
-use Rattle.std.specs.Prelude.{ℕ, ◌≡◌, ◌<◌, ◌-◌, ◌^◌, ◌==◌, List, false, min, if◌then◌else◌}
+use Rattle.std.specs.Prelude.{ℕ, ◌≡◌, ◌<◌, ◌-◌, ◌^◌, ◌==◌, List, false, if◌then◌else◌, min}
+use Rattle.bd_ways.specs.Words.{ObjectId, Name}
 use Rattle.std.specs.HashMap.{spare}
 use Rattle.std.specs.List.{All}
 use Rattle.bd_groups.specs.declared.groups.Groups.{Groups}
 use Rattle.bd_groups.specs.declared.group.Group.TheVariants.{Process}
 use Rattle.bd_groups.specs.Members.{IsIn, HasMember}
-use Rattle.bd_space.specs.declared.step.ObjectId.{ObjectId}
-use Rattle.bd_space.specs.declared.space.Name.{Name}
 use Rattle.bd_space.specs.Names.{named_in, number_in, has_number_past_limit}
 use Rattle.bd_names.specs.declared.names.Names.{Names}
 use Rattle.bd_names.specs.Keys.{number_at}

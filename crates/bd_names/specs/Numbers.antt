@@ -1,9 +1,6 @@
 -- The numbers (handles) that new names get, and their limit.
 use Rattle.std.specs.Prelude.{ℕ, suc, ◌≡◌, ◌==◌, ◌<◌, ◌&&◌, Bool, not, List, [], ◌∷◌, ◌++◌, length, None, is_some, unwrap_or, if◌then◌else◌}
-use Rattle.std.specs.List.{list_any}
-use Rattle.bd_space.specs.declared.step.ObjectId.{ObjectId}
-use Rattle.bd_space.specs.declared.space.Name.{Name}
-use Rattle.bd_space.specs.Words.{least}
+use Rattle.bd_ways.specs.Words.{list_any, ObjectId, Name, least}
 use Rattle.bd_space.specs.Names.{number_in}
 
 -- p has a name with this number

@@ -1,8 +1,8 @@
 -- What pages name, and which of them are full.
-use Rattle.std.specs.Prelude.{ℕ, ◌≡◌, ◌/◌, ◌%◌, ◌-◌, ◌^◌, ◌==◌, Option, Some, None, unwrap_or, option_map, option_and_then, min, if◌then◌else◌, get_or}
+use Rattle.std.specs.Prelude.{ℕ, ◌≡◌, ◌/◌, ◌%◌, ◌-◌, ◌^◌, ◌==◌, Option, Some, None, unwrap_or, option_map, option_and_then, if◌then◌else◌, min, get_or}
+use Rattle.bd_ways.specs.Words.{ObjectId}
 use Rattle.std.specs.HashMap.{HashMap, get_by, spare}
 use Rattle.std.specs.Int.{bit_at}
-use Rattle.bd_space.specs.declared.step.ObjectId.{ObjectId}
 use Rattle.bd_names.specs.declared.keys.NumberKey.{NumberKey}
 use Rattle.bd_names.specs.declared.page.Page.{Page}
 use Rattle.bd_names.specs.declared.pages.Pages.{Pages}

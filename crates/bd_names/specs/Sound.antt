@@ -1,9 +1,7 @@
 -- No two names of a process are alike.
 use Rattle.std.specs.Prelude.{ℕ, ◌≤◌, ◌==◌, ◌&&◌, Bool, List}
+use Rattle.bd_ways.specs.Words.{ObjectId, Name, same}
 use Rattle.std.specs.List.{count_by}
-use Rattle.bd_space.specs.declared.step.ObjectId.{ObjectId}
-use Rattle.bd_space.specs.declared.space.Name.{Name}
-use Rattle.bd_space.specs.Words.{same}
 
 abbrev pub has_number : ℕ → ℕ → Name → Bool
 has_number p n m = (m.process == p) && (m.number == n)

@@ -1,7 +1,7 @@
 -- What a table of names stands for: the names of a space, and those when it was last settled.
 use Rattle.std.specs.Prelude.{ℕ, ◌≡◌, ◌+◌, ◌-◌, ◌≤◌, List, ◌++◌, min, vec_len, vec_capacity}
+use Rattle.bd_ways.specs.Words.{Name}
 use Rattle.bd_groups.specs.Members.{group_room}
-use Rattle.bd_space.specs.declared.space.Name.{Name}
 use Rattle.bd_names.specs.declared.table.NameTable.{NameTable}
 use Rattle.bd_names.specs.Named.{Named, Listed, index_room}
 

@@ -12,13 +12,13 @@ use Rattle.bd_groups.specs.Members.{IsIn, members}
 use Rattle.bd_space.specs.declared.step.ObjectId.{ObjectId}
 use Rattle.bd_space.specs.declared.space.Object.{Object}
 use Rattle.bd_space.specs.Words.{same}
-use Rattle.bd_space.specs.Local.{is_among}
+use Rattle.bd_ways.specs.Local.{is_among}
 use Rattle.bd_space.specs.References.{owned_in}
 use Rattle.bd_nodes.specs.declared.table.NodeTable.{NodeTable}
 use Rattle.bd_nodes.specs.Keys.{id_key, owner_group}
 use Rattle.bd_nodes.specs.Stands.{NodesAre, IsListed, Lists}
 use Rattle.bd_space.proofs.Identities.{same-eq, same-self, same-turned}
-use Rattle.bd_space.proofs.Ranges.{any-some}
+use Rattle.bd_ways.proofs.Ranges.{any-some}
 use Rattle.bd_nodes.proofs.Found.{found-own}
 use Rattle.bd_nodes.proofs.Maps.{Puts}
 

@@ -1,10 +1,9 @@
 -- By what an object is found: its identity, or its owner and the ptr by which that knows it.
-use Rattle.std.specs.Prelude.{ℕ, Bool, cond, Option, Some, None}
+use Rattle.std.specs.Prelude.{ℕ, Bool, Option, Some, None, cond}
+use Rattle.bd_ways.specs.Words.{ObjectId, Object}
 use Rattle.bd_words.specs.declared.key.WordKey.{WordKey}
 use Rattle.bd_groups.specs.declared.group.Group.{Group}
 use Rattle.bd_groups.specs.declared.group.Group.TheVariants as groups
-use Rattle.bd_space.specs.declared.step.ObjectId.{ObjectId}
-use Rattle.bd_space.specs.declared.space.Object.{Object}
 
 abbrev pub id_key : Object → ObjectId
 id_key x = x.id

@@ -1,9 +1,8 @@
 -- Objects that are new.
 use Rattle.std.specs.Prelude.{◌≡◌, true, List, [], ◌∷◌, ◌++◌, None}
-use Rattle.bd_space.specs.declared.step.ObjectId.{ObjectId}
-use Rattle.bd_space.specs.declared.space.Object.{Object}
+use Rattle.bd_ways.specs.Words.{ObjectId, Object}
 use Rattle.bd_space.specs.References.{object_in, own_in}
-use Rattle.bd_space.specs.Local.{is_among}
+use Rattle.bd_ways.specs.Local.{is_among}
 
 -- no object has its identity, and its owner has none with its ptr
 abbrev pub IsNewIn : List Object → Object → Type 0

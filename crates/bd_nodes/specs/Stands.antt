@@ -1,14 +1,13 @@
 -- What a table of objects stands for: the list of the objects of a space.
-use Rattle.std.specs.Prelude.{◌≡◌, Bool, List, [], ◌∷◌, Option, None, find, length}
+use Rattle.std.specs.Prelude.{◌≡◌, Bool, List, [], ◌∷◌, Option, None, find, length, option_map}
+use Rattle.bd_ways.specs.Words.{ObjectId, Object}
 use Rattle.std.specs.HashMap.{HashMap, get, hash_map_len}
-use Rattle.std.specs.Option.{option_map, IfSome}
+use Rattle.std.specs.Option.{IfSome}
 use Rattle.bd_words.specs.Keys.{same_word}
 use Rattle.bd_words.specs.Look.{look}
 use Rattle.bd_groups.specs.declared.groups.Groups.{Groups}
 use Rattle.bd_groups.specs.Members.{HasMember}
-use Rattle.bd_space.specs.declared.step.ObjectId.{ObjectId}
-use Rattle.bd_space.specs.declared.space.Object.{Object}
-use Rattle.bd_space.specs.Identities.{same_id}
+use Rattle.bd_ways.specs.Identities.{same_id}
 use Rattle.bd_nodes.specs.Keys.{id_key, own_key, owner_group}
 use Rattle.bd_nodes.specs.declared.table.NodeTable.{NodeTable}
 

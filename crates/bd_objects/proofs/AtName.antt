@@ -9,7 +9,7 @@ use Rattle.bd_space.specs.declared.space.Name.{Name}
 use Rattle.bd_space.specs.declared.space.DeathNotification.{DeathNotification}
 use Rattle.bd_space.specs.Names.{is_named_in}
 use Rattle.bd_space.specs.Notices.{is_name_of}
-use Rattle.bd_space.specs.Local.{at_name}
+use Rattle.bd_ways.specs.Local.{at_name}
 use Rattle.bd_space.proofs.Identities.{same-eq}
 use Rattle.bd_objects.specs.Deaths.{is_lost}
 

@@ -16,11 +16,11 @@ use Rattle.bd_space.specs.Todo.{death_of}
 use Rattle.bd_space.specs.Space.{Space}
 use Rattle.bd_space.specs.Notices.{still_due, is_name_of}
 use Rattle.bd_space.specs.Deaths.{is_uncleared_on, is_notification, uncleared_in}
-use Rattle.bd_space.specs.Local.{at_name, is_touched, deaths_go_of}
+use Rattle.bd_ways.specs.Local.{at_name, is_touched, deaths_go_of}
 use Rattle.bd_objects.specs.Deaths.{only_lost}
 use Rattle.bd_objects.proofs.AtName.{filtered-at}
 use Rattle.bd_deaths.specs.Only.{only_uncleared_in}
-use Rattle.bd_space.proofs.Ranges.{Implies}
+use Rattle.bd_ways.proofs.Ranges.{Implies}
 use Rattle.bd_deaths.proofs.Staying.{any-filtered}
 use Rattle.bd_deaths.proofs.Only.{only-implies}
 

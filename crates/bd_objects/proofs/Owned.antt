@@ -5,7 +5,7 @@ use Rattle.bd_space.specs.declared.step.ObjectId.{ObjectId}
 use Rattle.bd_space.specs.declared.space.Object.{Object}
 use Rattle.bd_space.specs.declared.space.Reference.{Reference}
 use Rattle.bd_space.specs.Words.{same}
-use Rattle.bd_space.specs.Local.{is_among}
+use Rattle.bd_ways.specs.Local.{is_among}
 use Rattle.bd_space.specs.References.{owned_in, is_asked_by, is_in_window, is_of_owner}
 use Rattle.bd_space.specs.ProcessExits.{is_dropped_with}
 use Rattle.bd_space.proofs.Identities.{same-eq}

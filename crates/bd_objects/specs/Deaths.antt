@@ -1,13 +1,8 @@
 -- The death notifications that go with a name.
 use Rattle.std.specs.Prelude.{ℕ, ◌&&◌, ◌==◌, not, if◌then◌else◌, Bool, List, Option, None, option_and_then}
-use Rattle.std.specs.List.{list_any}
-use Rattle.bd_space.specs.declared.step.ObjectId.{ObjectId}
-use Rattle.bd_space.specs.declared.space.Name.{Name}
-use Rattle.bd_space.specs.declared.space.DeathNotification.{DeathNotification}
-use Rattle.bd_space.specs.Words.{when}
-use Rattle.bd_space.specs.Space.{Space}
+use Rattle.bd_ways.specs.Words.{list_any, ObjectId, Name, DeathNotification, when, Space}
 use Rattle.bd_space.specs.Notices.{is_name_of}
-use Rattle.bd_space.specs.Local.{at_name, deaths_go_of}
+use Rattle.bd_ways.specs.Local.{at_name, deaths_go_of}
 use Rattle.bd_deaths.specs.Only.{only_uncleared_in}
 
 -- it is on p's name of o, uncleared, and the name is gone

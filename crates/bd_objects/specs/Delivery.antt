@@ -1,9 +1,6 @@
 -- The objects, references and names of a delivery.
 use Rattle.std.specs.Prelude.{ℕ, List, Option, map}
-use Rattle.bd_space.specs.declared.step.ObjectId.{ObjectId}
-use Rattle.bd_space.specs.declared.space.Item.{Item}
-use Rattle.bd_space.specs.declared.space.Object.{Object}
-use Rattle.bd_space.specs.Space.{Space}
+use Rattle.bd_ways.specs.Words.{ObjectId, Item, Object, Space}
 use Rattle.bd_space.specs.Names.{assign_numbers}
 use Rattle.bd_space.specs.Parcels.{object_of_item}
 use Rattle.bd_space.specs.Delivery.{make_objects, refer}

@@ -1,6 +1,6 @@
 -- The objects that a parcel makes after the first few: found by owner and ptr.
 use Rattle.std.specs.Prelude.{ℕ, ◌≡◌, List, Option, drop}
-use Rattle.bd_space.specs.declared.space.Object.{Object}
+use Rattle.bd_ways.specs.Words.{Object}
 use Rattle.bd_space.specs.References.{own_in}
 use Rattle.bd_words.specs.declared.key.WordKey.{WordKey}
 use Rattle.bd_words.specs.declared.map.WordMap.{WordMap}

@@ -1,11 +1,6 @@
 -- The names that come with references: of each object that a process comes to refer to, unless it is its own.
 use Rattle.std.specs.Prelude.{ℕ, ◌≡◌, true, Bool, List, [], ◌∷◌, Option, ◌&&◌, if◌then◌else◌}
-use Rattle.std.specs.List.{list_any}
-use Rattle.bd_space.specs.declared.step.ObjectId.{ObjectId}
-use Rattle.bd_space.specs.declared.space.Object.{Object}
-use Rattle.bd_space.specs.declared.space.Reference.{Reference}
-use Rattle.bd_space.specs.declared.space.Name.{Name}
-use Rattle.bd_space.specs.Words.{same}
+use Rattle.bd_ways.specs.Words.{list_any, ObjectId, Object, Reference, Name, same}
 use Rattle.bd_space.specs.References.{owned_in, names_for}
 use Rattle.bd_space.specs.Names.{is_object}
 use Rattle.bd_names.specs.Numbers.{with_number}

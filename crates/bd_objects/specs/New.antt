@@ -1,9 +1,7 @@
 -- What a caller says of what a table takes in: that it is new.
 use Rattle.std.specs.Prelude.{ℕ, ◌≡◌, List, Option, None, find}
-use Rattle.bd_space.specs.declared.step.ObjectId.{ObjectId}
-use Rattle.bd_space.specs.declared.space.Object.{Object}
-use Rattle.bd_space.specs.Space.{Space}
-use Rattle.bd_space.specs.Tables.{IsAt}
+use Rattle.bd_ways.specs.Words.{ObjectId, Object, Space}
+use Rattle.bd_ways.specs.Tables.{IsAt}
 use Rattle.bd_space.specs.References.{object_in, own_in}
 use Rattle.bd_space.specs.Deaths.{is_notification, uncleared_in}
 use Rattle.bd_nodes.specs.New.{AreNewIn}

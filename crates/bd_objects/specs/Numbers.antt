@@ -1,9 +1,6 @@
 -- The limit of the numbers (handles) that new names get.
 use Rattle.std.specs.Prelude.{◌≡◌, true, List, filter}
-use Rattle.bd_space.specs.declared.space.Object.{Object}
-use Rattle.bd_space.specs.declared.space.Reference.{Reference}
-use Rattle.bd_space.specs.declared.space.Name.{Name}
-use Rattle.bd_space.specs.Space.{Space}
+use Rattle.bd_ways.specs.Words.{Object, Reference, Name, Space}
 use Rattle.bd_space.specs.Names.{is_named_in, names_go, has_number_past_limit}
 
 -- of the names that stay one has a number past the limit

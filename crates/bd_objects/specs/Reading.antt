@@ -1,7 +1,6 @@
 -- What an owner owes once it has read what it is to be told.
 use Rattle.std.specs.Prelude.{◌≡◌, Bool, true, false, List, [], ◌∷◌, ◌++◌, if◌then◌else◌}
-use Rattle.bd_space.specs.declared.step.ObjectId.{ObjectId}
-use Rattle.bd_space.specs.declared.space.Reference.{Reference}
+use Rattle.bd_ways.specs.Words.{ObjectId, Reference}
 use Rattle.bd_space.specs.References.{held_in, strong_in}
 
 -- the strengths of the acknowledgements: a weak one, and a strong one

@@ -1,7 +1,6 @@
 -- How many members a table may still take without memory, and what a change takes of that.
 use Rattle.std.specs.Prelude.{ℕ, ◌+◌, ◌≤◌, List, length}
-use Rattle.bd_space.specs.declared.space.Item.{Item}
-use Rattle.bd_space.specs.declared.space.Object.{Object}
+use Rattle.bd_ways.specs.Words.{Item, Object}
 use Rattle.bd_nodes.specs.Room.{node_room, node_count}
 use Rattle.bd_references.specs.Room.{reference_room as reference_room_of}
 use Rattle.bd_names.specs.Stands.{name_room as name_room_of}

@@ -1,13 +1,8 @@
 -- What an object table stands for: the objects of a space, with the references to them, their names and death
 -- notifications, each in a table of its own.
 use Rattle.std.specs.Prelude.{ℕ, ◌≡◌, List, Option}
-use Rattle.bd_space.specs.declared.step.ObjectId.{ObjectId}
-use Rattle.bd_space.specs.declared.space.Object.{Object}
-use Rattle.bd_space.specs.declared.space.Reference.{Reference}
-use Rattle.bd_space.specs.declared.space.Name.{Name}
-use Rattle.bd_space.specs.declared.space.DeathNotification.{DeathNotification}
-use Rattle.bd_space.specs.Space.{Space}
-use Rattle.bd_space.specs.Tables.{IsAt}
+use Rattle.bd_ways.specs.Words.{ObjectId, Object, Reference, Name, DeathNotification, Space}
+use Rattle.bd_ways.specs.Tables.{IsAt}
 use Rattle.bd_processes.specs.declared.table.ProcessTable.{ProcessTable}
 use Rattle.bd_processes.specs.Stands.{ProcessesAre}
 use Rattle.bd_nodes.specs.Stands.{NodesAre}

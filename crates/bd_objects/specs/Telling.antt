@@ -1,9 +1,6 @@
 -- What an owner is to be told of its object.
 use Rattle.std.specs.Prelude.{ℕ, Bool, not, ◌||◌, Option, option_and_then}
-use Rattle.std.specs.Bool.{beq}
-use Rattle.bd_space.specs.declared.space.Object.{Object}
-use Rattle.bd_space.specs.Words.{when}
-use Rattle.bd_space.specs.Space.{Space}
+use Rattle.bd_ways.specs.Words.{beq, Object, when, Space}
 use Rattle.bd_space.specs.Notices.{wants_notice}
 
 -- what it was told isn't what is so: whether it is held, and held strongly

@@ -25,7 +25,7 @@ fn asked_in(manager: Option<ObjectId>, names: &NameTable, p: u32, n: u32) -> Opt
 }
 
 impl ObjectTable {
-    ghost use Rattle.bd_space.specs.Tables.{Tells, Makes, TellsWhere, MakesWhere};
+    ghost use Rattle.bd_ways.specs.Tables.{Tells, Makes, TellsWhere, MakesWhere};
     ghost use Rattle.bd_objects.specs.{Stands.{StandsFor, IsKept, HasManager, IsAtWith}, Numbers.{SpaceIsPastLimit}};
     ghost use Rattle.bd_objects.specs.Room.{Uses, UsesNothing, nothing, reference_room, name_room};
 

@@ -13,7 +13,7 @@ use bd_uapi::Note;
 use std::alloc::{AllocError, Global};
 
 impl ObjectTable {
-    ghost use Rattle.bd_space.specs.Tables.{Tells, Makes, MakesWhere};
+    ghost use Rattle.bd_ways.specs.Tables.{Tells, Makes, MakesWhere};
     ghost use Rattle.bd_objects.specs.{New.{IsNewDeath}, Stands.{StandsFor}};
     ghost use Rattle.bd_objects.specs.Room.{Uses, UsesNothing, nothing, death_room};
 

@@ -116,7 +116,7 @@ fn add_references(
 }
 
 impl ObjectTable {
-    ghost use Rattle.bd_space.specs.Tables.{Tells, MakesWhere};
+    ghost use Rattle.bd_ways.specs.Tables.{Tells, MakesWhere};
     ghost use Rattle.bd_objects.specs.{Stands.{StandsFor, IsKept, IsAtWith}, Delivery.{delivered}, New.{MakesNew}};
     ghost use Rattle.bd_objects.specs.Numbers.{SpaceIsPastLimit};
     ghost use Rattle.bd_objects.specs.Room.{Uses, delivery_room, object_room, reference_room, name_room};

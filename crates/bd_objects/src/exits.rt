@@ -39,7 +39,8 @@ fn drop_of_owned(references: &mut ReferenceTable, nodes: &NodeTable, p: u32)
 }
 
 impl ObjectTable {
-    ghost use Rattle.bd_space.specs.{Space.{Space}, Tables.{Makes}};
+    ghost use Rattle.bd_space.specs.Space.{Space};
+    ghost use Rattle.bd_ways.specs.Tables.{Makes};
     ghost use Rattle.bd_nodes.specs.New.{HasAll};
     ghost use Rattle.bd_objects.specs.{Stands.{StandsFor}, Room.{UsesNothing}};
 

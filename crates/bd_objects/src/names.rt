@@ -6,7 +6,7 @@ use crate::table::ObjectTable;
 use bd_space::ObjectId;
 
 impl ObjectTable {
-    ghost use Rattle.bd_space.specs.Tables.{Tells};
+    ghost use Rattle.bd_ways.specs.Tables.{Tells};
     ghost use Rattle.bd_objects.specs.Stands.{StandsFor};
 
     /// The object that the number names for the process.

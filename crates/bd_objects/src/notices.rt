@@ -37,7 +37,7 @@ pub(crate) fn owner_to_tell(hold: Hold, lives: bool, x: &Object) -> Option<u32>
 
 impl ObjectTable {
     ghost use Rattle.bd_objects.specs.Stands.{StandsFor, HasProcesses};
-    ghost use Rattle.bd_space.specs.Tables.{TellsWhere};
+    ghost use Rattle.bd_ways.specs.Tables.{TellsWhere};
 
     /// Whether the owner of this object lives and is to be told. Takes the live processes.
     pub fn wants_notice(&self, processes: &ProcessTable, x: &Object) -> bool

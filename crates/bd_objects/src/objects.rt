@@ -17,7 +17,7 @@ fn managed(place: u32) -> ObjectId
 impl ObjectTable {
     ghost use Rattle.bd_space.specs.Deaths as deaths_of;
     ghost use Rattle.bd_space.specs.Steps as steps;
-    ghost use Rattle.bd_space.specs.Tables.{Tells, TellsWhere, MakesWhere};
+    ghost use Rattle.bd_ways.specs.Tables.{Tells, TellsWhere, MakesWhere};
     ghost use Rattle.bd_objects.specs.{Stands.{StandsFor, HasProcesses}, New.{IsNewManager}};
     ghost use Rattle.bd_objects.specs.Room.{Uses, nothing, object_room, reference_room};
 

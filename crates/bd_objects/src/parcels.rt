@@ -59,7 +59,7 @@ fn resolve_handle(o: Option<ObjectId>) -> Result<Resolved, Cause>
 
 impl ObjectTable {
     ghost use Rattle.bd_objects.specs.Stands.{StandsFor};
-    ghost use Rattle.bd_space.specs.Tables.{TellsWhere, IsAt};
+    ghost use Rattle.bd_ways.specs.Tables.{TellsWhere, IsAt};
 
     /// The object that the process sends by this flat object, where the step of this place has made these already: an
     /// own object is known by its ptr or made, a handle names another's. Errors: a known ptr with another cookie, or a

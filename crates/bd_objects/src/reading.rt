@@ -6,7 +6,8 @@ ghost use Rattle.bd_space.specs.{Words.{changed, when, is_some_and, same as same
 ghost use Rattle.bd_space.specs.References as refer;
 ghost use Rattle.bd_space.specs.ReadItems as reading;
 ghost use Rattle.bd_space.specs.Returns as returns;
-ghost use Rattle.bd_space.specs.{Space.{Space}, Tables.{IsAt}, declared.space.Object.{Object}};
+ghost use Rattle.bd_space.specs.{Space.{Space}, declared.space.Object.{Object}};
+ghost use Rattle.bd_ways.specs.Tables.{IsAt};
 ghost use Rattle.bd_space.specs.{declared.space.Reference.{Reference}, declared.space.Holder.TheVariants.{Handshake}};
 ghost use Rattle.bd_nodes.specs.Stands.{NodesAre};
 ghost use Rattle.bd_nodes.specs.Room as node_rooms;
@@ -181,7 +182,7 @@ fn add_handshakes(references: &mut ReferenceTable, nodes: &NodeTable, place: u32
 }
 
 impl ObjectTable {
-    ghost use Rattle.bd_space.specs.Tables.{Tells, MakesWhere};
+    ghost use Rattle.bd_ways.specs.Tables.{Tells, MakesWhere};
     ghost use Rattle.bd_objects.specs.{Stands.{StandsFor}, Room.{Uses, nothing, reference_room}};
 
     /// What the owner of the object is told: `BR_INCREFS`, `BR_ACQUIRE`, `BR_RELEASE` and `BR_DECREFS`, each if it is

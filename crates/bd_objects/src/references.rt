@@ -10,7 +10,7 @@ use std::alloc::AllocError;
 
 impl ObjectTable {
     ghost use Rattle.bd_space.specs.Freeing as freeing;
-    ghost use Rattle.bd_space.specs.Tables.{Tells, Makes};
+    ghost use Rattle.bd_ways.specs.Tables.{Tells, Makes};
     ghost use Rattle.bd_references.specs.Carried.{carried_in};
     ghost use Rattle.bd_objects.specs.{Stands.{StandsFor}, Room.{UsesNothing}};
 

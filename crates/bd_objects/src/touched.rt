@@ -5,7 +5,7 @@ ghost use Rattle.bd_space.specs.{Words.{is_some_and}, References.{object_in}};
 ghost use Rattle.bd_space.specs.declared.space.WorkKind as declared;
 ghost use Rattle.bd_space.specs.Todo as todo;
 ghost use Rattle.bd_space.specs.Notices as notices;
-ghost use Rattle.bd_space.specs.Local as local;
+ghost use Rattle.bd_ways.specs.Local as local;
 ghost use Rattle.bd_objects.specs.{Deaths.{is_lost, only_lost}, Telling.{owner_due}};
 
 use crate::notices::{owner_to_tell, stays};
@@ -14,11 +14,11 @@ use bd_processes::ProcessTable;
 use bd_space::{ObjectId, WorkKind};
 
 impl ObjectTable {
-    ghost use Rattle.bd_space.specs.Tables.{Tells, Makes, TellsWhere, MakesWhere};
+    ghost use Rattle.bd_ways.specs.Tables.{Tells, Makes, TellsWhere, MakesWhere};
     ghost use Rattle.bd_objects.specs.{Stands.{StandsFor, HasProcesses}, Room.{UsesNothing}};
 
     /// The process's name of the object goes, if no reference carries it any more.
-    #[tactic(auto, unfolding(bd_space::specs::Local::names_go_of, crate::specs::Room::rooms))]
+    #[tactic(auto, unfolding(bd_ways::specs::Local::names_go_of, crate::specs::Room::rooms))]
     pub fn name_goes(&mut self, p: u32, o: ObjectId)
         ensures stands { Makes (StandsFor self.old) (StandsFor self.new) (local.names_go_of (local.at_name p o)) }
         ensures uses { UsesNothing self.old self.new }
@@ -29,7 +29,7 @@ impl ObjectTable {
     }
 
     /// The object goes, if nothing keeps it. Returns the live owner that is then to be told of it. Takes the live processes.
-    #[tactic(auto, unfolding(bd_space::specs::Local::objects_go_of, crate::specs::Room::rooms))]
+    #[tactic(auto, unfolding(bd_ways::specs::Local::objects_go_of, crate::specs::Room::rooms))]
     pub fn object_goes(&mut self, processes: &ProcessTable, o: ObjectId) -> Option<u32>
         ensures stands { MakesWhere (StandsFor self.old) (HasProcesses processes.now) (StandsFor self.new)
             (local.objects_go_of (local.at_object o)) }
@@ -60,7 +60,7 @@ impl ObjectTable {
 
     /// The notification that goes with the process's name of the object, which is gone, where just one does: no other
     /// work item than its own goes with the name. To be asked before the notification goes.
-    #[tactic(auto, unfolding(bd_space::specs::Local::deaths_go_of))]
+    #[tactic(auto, unfolding(bd_ways::specs::Local::deaths_go_of))]
     pub fn only_lost_death(&self, p: u32, o: ObjectId) -> Option<u32>
         ensures found { Tells (StandsFor self.now) result (λ s. only_lost s p o) }
         ensures goes { (kind : declared.WorkKind) → IfSome result (λ m. Tells (StandsFor self.now)
@@ -82,7 +82,7 @@ impl ObjectTable {
     }
 
     /// The process's uncleared notifications on its name of the object go, if that is gone.
-    #[tactic(auto, unfolding(bd_space::specs::Local::deaths_go_of, crate::specs::Room::rooms))]
+    #[tactic(auto, unfolding(bd_ways::specs::Local::deaths_go_of, crate::specs::Room::rooms))]
     pub fn deaths_go_with(&mut self, p: u32, o: ObjectId)
         ensures stands { Makes (StandsFor self.old) (StandsFor self.new) (local.deaths_go_of (local.at_name p o)) }
         ensures uses { UsesNothing self.old self.new }
@@ -92,7 +92,7 @@ impl ObjectTable {
 
     /// Whether a work item of this kind stays: a death's item goes with its notification, if that is on the process's
     /// name of the object and goes with the name. To be asked before the notifications go.
-    #[tactic(auto, unfolding(bd_space::specs::Local::deaths_go_of))]
+    #[tactic(auto, unfolding(bd_ways::specs::Local::deaths_go_of))]
     pub fn still_due_at(&self, p: u32, o: ObjectId, kind: &WorkKind) -> bool
         ensures { Tells (StandsFor self.now) result
             (λ s. not (local.is_touched (local.at_name p o) (λ i. false) s.deaths kind.now)

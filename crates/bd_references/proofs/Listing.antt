@@ -14,7 +14,7 @@ use Rattle.bd_space.specs.declared.space.Reference.{Reference}
 use Rattle.bd_space.specs.declared.space.Holder.{Holder}
 use Rattle.bd_space.specs.declared.space.Holder.TheVariants as holders
 use Rattle.bd_space.specs.Words.{same}
-use Rattle.bd_space.specs.Local.{is_among}
+use Rattle.bd_ways.specs.Local.{is_among}
 use Rattle.bd_space.specs.References.{is_asked_by, is_in_window}
 use Rattle.bd_references.specs.declared.count.Count.{Count}
 use Rattle.bd_references.specs.declared.keys.UseKey.{UseKey}

@@ -1,9 +1,6 @@
 -- The objects that a buffer carries.
 use Rattle.std.specs.Prelude.{ℕ, ◌==◌, Bool, false, List, map, filter}
-use Rattle.bd_space.specs.declared.step.ObjectId.{ObjectId}
-use Rattle.bd_space.specs.declared.space.Reference.{Reference}
-use Rattle.bd_space.specs.declared.space.Holder.{Holder}
-use Rattle.bd_space.specs.declared.space.Holder.TheVariants.{Carried}
+use Rattle.bd_ways.specs.Words.{ObjectId, Reference, Holder, Carried}
 
 -- the buffer made there carries the object
 abbrev pub is_carried_by : ℕ → Holder → Bool

@@ -1,8 +1,8 @@
 -- What counters say.
 use Rattle.std.specs.Prelude.{ℕ, ◌≡◌, ◌-◌, not, Bool, List, unwrap_or}
+use Rattle.bd_ways.specs.Words.{Reference}
 use Rattle.std.specs.List.{count_by}
 use Rattle.std.specs.HashMap.{get}
-use Rattle.bd_space.specs.declared.space.Reference.{Reference}
 use Rattle.bd_references.specs.declared.count.Count.{Count}
 use Rattle.bd_references.specs.declared.keys.UseKey.{UseKey}
 use Rattle.bd_references.specs.declared.keys.CountKey.{CountKey}

@@ -1,7 +1,7 @@
 -- What there is by buffer and index.
 use Rattle.std.specs.Prelude.{ℕ, zero, suc, ◌+◌, Bool, true, false, List, [], ◌∷◌, Option, Some, None, ◌==◌, unwrap_or}
+use Rattle.bd_ways.specs.Words.{Reference}
 use Rattle.std.specs.HashMap.{HashMap, get, get_by}
-use Rattle.bd_space.specs.declared.space.Reference.{Reference}
 use Rattle.bd_references.specs.declared.keys.ItemKey.{ItemKey}
 use Rattle.bd_references.specs.Keys.{same_item}
 

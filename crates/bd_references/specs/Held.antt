@@ -1,8 +1,8 @@
 -- What buffers hold.
 use Rattle.std.specs.Prelude.{ℕ, List, min}
+use Rattle.bd_ways.specs.Words.{Reference}
 use Rattle.std.specs.HashMap.{spare}
 use Rattle.bd_groups.specs.Members.{group_room}
-use Rattle.bd_space.specs.declared.space.Reference.{Reference}
 use Rattle.bd_references.specs.declared.items.Items.{Items}
 use Rattle.bd_references.specs.Gathered.{end_in, held_in}
 

@@ -1,12 +1,7 @@
 -- By what references are counted and found.
 use Rattle.std.specs.Prelude.{ℕ, ◌==◌, ◌+◌, ◌*◌, ◌^◌, Bool, ◌&&◌, ◌||◌, Option, Some, None, List}
-use Rattle.std.specs.Bool.{beq}
-use Rattle.std.specs.List.{list_any}
+use Rattle.bd_ways.specs.Words.{beq, list_any, ObjectId, Reference, Holder, is_some_and}
 use Rattle.bd_words.specs.Numbers.{pair}
-use Rattle.bd_space.specs.declared.step.ObjectId.{ObjectId}
-use Rattle.bd_space.specs.declared.space.Reference.{Reference}
-use Rattle.bd_space.specs.declared.space.Holder.{Holder}
-use Rattle.bd_space.specs.Words.{is_some_and}
 use Rattle.bd_space.specs.declared.space.Holder.TheVariants as holders
 use Rattle.bd_references.specs.declared.keys.Kind.{Kind}
 use Rattle.bd_references.specs.declared.keys.Kind.TheVariants as kinds

@@ -1,11 +1,10 @@
 -- What is listed by processes, so that it is found without a look at what is others'.
 use Rattle.std.specs.Prelude.{ℕ, ◌≡◌, ◌==◌, ◌<◌, Bool, true, Some}
-use Rattle.std.specs.List.{list_any}
+use Rattle.bd_ways.specs.Words.{list_any, Reference}
 use Rattle.std.specs.HashMap.{HashMap}
 use Rattle.bd_groups.specs.declared.groups.Groups.{Groups}
 use Rattle.bd_groups.specs.declared.group.Group.TheVariants.{Process}
 use Rattle.bd_groups.specs.Members.{members}
-use Rattle.bd_space.specs.declared.space.Reference.{Reference}
 use Rattle.bd_space.specs.References.{is_in_window}
 use Rattle.bd_references.specs.declared.keys.UseKey.{UseKey}
 use Rattle.bd_references.specs.declared.keys.CountKey.{CountKey}

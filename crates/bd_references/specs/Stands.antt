@@ -1,6 +1,6 @@
 -- What a table of references stands for: the references of a space, in their order.
 use Rattle.std.specs.Prelude.{ℕ, ◌≡◌, ◌≤◌, List, filter, length}
-use Rattle.bd_space.specs.declared.space.Reference.{Reference}
+use Rattle.bd_ways.specs.Words.{Reference}
 use Rattle.bd_space.specs.References.{is_of_buffer}
 use Rattle.bd_references.specs.declared.items.Items.{Items}
 use Rattle.bd_references.specs.declared.table.ReferenceTable.{ReferenceTable}

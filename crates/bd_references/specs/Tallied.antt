@@ -1,8 +1,8 @@
 -- What tallies stand for: how many references there are, by what they are for, and in all.
 use Rattle.std.specs.Prelude.{ℕ, List, min}
+use Rattle.bd_ways.specs.Words.{Reference}
 use Rattle.std.specs.HashMap.{spare}
 use Rattle.bd_groups.specs.Members.{group_room}
-use Rattle.bd_space.specs.declared.space.Reference.{Reference}
 use Rattle.bd_references.specs.declared.tallies.Tallies.{Tallies}
 use Rattle.bd_references.specs.Keys.{use_key, total_key}
 use Rattle.bd_references.specs.Counted.{CountBoth, Lacks}

@@ -1,4 +1,3 @@
 pub mod Changed
 pub mod Identities
-pub mod Ranges
 pub mod Keyed

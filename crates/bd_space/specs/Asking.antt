@@ -1,13 +1,6 @@
 -- The steps of BC_INCREFS, BC_ACQUIRE, BC_RELEASE, BC_DECREFS, BC_INCREFS_DONE and BC_ACQUIRE_DONE.
 use Rattle.std.specs.Prelude.{ℕ, ◌==◌, Bool, not, ◌&&◌, [], ◌∷◌, ◌++◌, Option, Result, find, if◌then◌else◌}
-use Rattle.std.specs.List.{list_any}
-use Rattle.bd_uapi.specs.declared.fault.Note.{Note}
-use Rattle.bd_uapi.specs.declared.fault.Note.TheVariants.{NoSuchNumber, NothingAsked, NotStrong, OwnManager, NoSuchObject, NoHandshake}
-use Rattle.bd_space.specs.declared.step.ObjectId.{ObjectId}
-use Rattle.bd_space.specs.declared.space.Object.{Object}
-use Rattle.bd_space.specs.declared.space.Holder.TheVariants.{Asked}
-use Rattle.bd_space.specs.Words.{when, first_of, found_or, unless, and_then, without_first}
-use Rattle.bd_space.specs.Space.{Space}
+use Rattle.bd_space.specs.Words.{list_any, Note, ObjectId, Object, Asked, when, first_of, found_or, unless, and_then, without_first, Space}
 use Rattle.bd_space.specs.References.{reference_of, strong_in, owned_in, is_asking, is_shaking}
 use Rattle.bd_space.specs.Names.{named, assign_numbers}
 use Rattle.bd_space.specs.Outcomes.{Outcome, by_check}
@@ -22,13 +15,13 @@ asked_of s p n = if n == 0 then first_of (s.manager ∷ named s p 0 ∷ []) else
 abbrev pub ask_note : Space → ℕ → Bool → ObjectId → Option Note
 ask_note s p strong o =
     first_of (
-    when (strong && not (strong_in s.references o)) NotStrong
-    ∷ when (owned_in s.objects p o) OwnManager
+    when (strong && not (strong_in s.references o)) Note.NotStrong
+    ∷ when (owned_in s.objects p o) Note.OwnManager
     ∷ [])
 
 -- the object that is asked for, or the first note against it
 unfoldable pub ask_check : Space → ℕ → ℕ → Bool → Result ObjectId Note
-ask_check s p n strong = and_then (found_or (asked_of s p n) NoSuchNumber) (λ o. unless (ask_note s p strong o) o)
+ask_check s p n strong = and_then (found_or (asked_of s p n) Note.NoSuchNumber) (λ o. unless (ask_note s p strong o) o)
 
 -- the reference comes in, and the name with it
 unfoldable pub ask : Space → ℕ → ObjectId → Bool → Space
@@ -40,10 +33,10 @@ ask_step s p n strong = by_check s (λ o. ask s p o strong) (ask_check s p n str
 -- ---- dropping
 
 abbrev pub drop_note : Space → ℕ → Bool → ObjectId → Option Note
-drop_note s p strong o = when (not (list_any (is_asking p o strong) s.references)) NothingAsked
+drop_note s p strong o = when (not (list_any (is_asking p o strong) s.references)) Note.NothingAsked
 
 unfoldable pub drop_check : Space → ℕ → ℕ → Bool → Result ObjectId Note
-drop_check s p n strong = and_then (found_or (named s p n) NoSuchNumber) (λ o. unless (drop_note s p strong o) o)
+drop_check s p n strong = and_then (found_or (named s p n) Note.NoSuchNumber) (λ o. unless (drop_note s p strong o) o)
 
 -- the least reference of that strength that the process asked for goes
 unfoldable pub drop_asked : Space → ℕ → ObjectId → Bool → Space
@@ -58,11 +51,11 @@ abbrev pub is_own_with : ℕ → ℕ → ℕ → Object → Bool
 is_own_with p ptr cookie x = (x.owner == p) && (x.ptr == ptr) && (x.cookie == cookie)
 
 abbrev pub done_note : Space → Bool → Object → Option Note
-done_note s strong x = when (not (list_any (is_shaking x.id strong) s.references)) NoHandshake
+done_note s strong x = when (not (list_any (is_shaking x.id strong) s.references)) Note.NoHandshake
 
 unfoldable pub done_check : Space → ℕ → ℕ → ℕ → Bool → Result Object Note
 done_check s p ptr cookie strong =
-    and_then (found_or (find (is_own_with p ptr cookie) s.objects) NoSuchObject) (λ x. unless (done_note s strong x) x)
+    and_then (found_or (find (is_own_with p ptr cookie) s.objects) Note.NoSuchObject) (λ x. unless (done_note s strong x) x)
 
 -- the reference that stood for the acknowledgement goes
 unfoldable pub acknowledge : Space → ObjectId → Bool → Space

@@ -1,14 +1,6 @@
 -- The steps of BC_CLEAR_DEATH_NOTIFICATION and BC_DEAD_BINDER_DONE.
 use Rattle.std.specs.Prelude.{ℕ, ◌==◌, Bool, true, false, not, ◌&&◌, Option, Some, None, Result, find, if◌then◌else◌}
-use Rattle.bd_uapi.specs.declared.fault.Note.{Note}
-use Rattle.bd_uapi.specs.declared.fault.Note.TheVariants.{NoSuchNumber, NoneAsked, NoneTold}
-use Rattle.bd_space.specs.declared.space.DeathNotification.{DeathNotification}
-use Rattle.bd_space.specs.declared.space.Phase.{Phase}
-use Rattle.bd_space.specs.declared.space.Phase.TheVariants.{Armed, Queued, Told, Done}
-use Rattle.bd_space.specs.declared.space.TodoList.TheVariants.{OfThread}
-use Rattle.bd_space.specs.declared.space.WorkKind.TheVariants.{Cleared}
-use Rattle.bd_space.specs.Words.{found_or, unless, when, and_then, changed}
-use Rattle.bd_space.specs.Space.{Space}
+use Rattle.bd_space.specs.Words.{Note, DeathNotification, Phase, Armed, Queued, Told, Done, OfThread, WorkKind, found_or, unless, when, and_then, changed, Space}
 use Rattle.bd_space.specs.Names.{named}
 use Rattle.bd_space.specs.Todo.{owe}
 use Rattle.bd_space.specs.Outcomes.{Outcome, accepted, noted, by_check}
@@ -17,13 +9,13 @@ use Rattle.bd_space.specs.Deaths.{uncleared_in, is_notification, without_death, 
 -- ---- clearing
 
 abbrev pub clear_note : ℕ → DeathNotification → Option Note
-clear_note cookie x = when (not (x.cookie == cookie)) NoneAsked
+clear_note cookie x = when (not (x.cookie == cookie)) Note.NoneAsked
 
 abbrev pub cleared_by : ℕ → Option DeathNotification → Result DeathNotification Note
-cleared_by cookie x = and_then (found_or x NoneAsked) (λ y. unless (clear_note cookie y) y)
+cleared_by cookie x = and_then (found_or x Note.NoneAsked) (λ y. unless (clear_note cookie y) y)
 
 unfoldable pub clear_check : Space → ℕ → ℕ → ℕ → Result DeathNotification Note
-clear_check s p n cookie = and_then (found_or (named s p n) NoSuchNumber) (λ o. cleared_by cookie (uncleared_in s.deaths p o))
+clear_check s p n cookie = and_then (found_or (named s p n) Note.NoSuchNumber) (λ o. cleared_by cookie (uncleared_in s.deaths p o))
 
 abbrev pub is_out : Phase → Bool
 is_out Armed = false
@@ -37,7 +29,7 @@ mark_cleared s made = record s { deaths = changed (is_notification made) (λ x. 
 
 -- it goes, and the thread is told
 unfoldable pub death_ended : Space → ℕ → DeathNotification → Space
-death_ended s seat x = owe (without_death s x.made) (OfThread seat) (Cleared x.cookie)
+death_ended s seat x = owe (without_death s x.made) (OfThread seat) (WorkKind.Cleared x.cookie)
 
 -- armed or done it goes
 unfoldable pub cleared : Space → ℕ → DeathNotification → Space
@@ -64,7 +56,7 @@ unfoldable pub death_done : Space → ℕ → DeathNotification → Space
 death_done s seat x = if x.cleared then death_ended s seat x else with_phase s x.made Done
 
 abbrev pub death_done_outcome : Space → ℕ → Option DeathNotification → Outcome
-death_done_outcome s seat None = noted s NoneTold
+death_done_outcome s seat None = noted s Note.NoneTold
 death_done_outcome s seat (Some x) = accepted (death_done s seat x)
 
 unfoldable pub death_done_step : Space → ℕ → ℕ → ℕ → Outcome

@@ -1,17 +1,6 @@
 -- Death notifications, and the step of BC_REQUEST_DEATH_NOTIFICATION.
 use Rattle.std.specs.Prelude.{ℕ, ◌==◌, Bool, false, not, ◌&&◌, List, [], ◌∷◌, ◌++◌, Option, Result, find, filter, is_some, if◌then◌else◌}
-use Rattle.bd_uapi.specs.declared.fault.Note.{Note}
-use Rattle.bd_uapi.specs.declared.fault.Note.TheVariants.{NoSuchNumber, AlreadyAsked}
-use Rattle.bd_space.specs.declared.step.ObjectId.{ObjectId}
-use Rattle.bd_space.specs.declared.space.Process.{Process}
-use Rattle.bd_space.specs.declared.space.Object.{Object}
-use Rattle.bd_space.specs.declared.space.DeathNotification.{DeathNotification}
-use Rattle.bd_space.specs.declared.space.Phase.{Phase}
-use Rattle.bd_space.specs.declared.space.Phase.TheVariants.{Armed, Queued}
-use Rattle.bd_space.specs.declared.space.TodoList.TheVariants.{OfProcess}
-use Rattle.bd_space.specs.declared.space.WorkKind.TheVariants.{Death}
-use Rattle.bd_space.specs.Words.{is_some_and, same, found_or, unless, when, and_then, changed}
-use Rattle.bd_space.specs.Space.{Space}
+use Rattle.bd_space.specs.Words.{Note, ObjectId, Process, Object, DeathNotification, Phase, Armed, Queued, OfProcess, WorkKind, is_some_and, same, found_or, unless, when, and_then, changed, Space}
 use Rattle.bd_space.specs.Seats.{lives_in}
 use Rattle.bd_space.specs.References.{object_in}
 use Rattle.bd_space.specs.Names.{named}
@@ -37,10 +26,10 @@ with_phase s made phase = record s { deaths = changed (is_notification made) (λ
 -- ---- the step
 
 abbrev pub request_note : Space → ℕ → ObjectId → Option Note
-request_note s p o = when (is_some (uncleared_in s.deaths p o)) AlreadyAsked
+request_note s p o = when (is_some (uncleared_in s.deaths p o)) Note.AlreadyAsked
 
 unfoldable pub request_check : Space → ℕ → ℕ → Result ObjectId Note
-request_check s p n = and_then (found_or (named s p n) NoSuchNumber) (λ o. unless (request_note s p o) o)
+request_check s p n = and_then (found_or (named s p n) Note.NoSuchNumber) (λ o. unless (request_note s p o) o)
 
 unfoldable pub with_death : Space → ℕ → ObjectId → ℕ → Phase → Space
 with_death s p o cookie phase =
@@ -53,7 +42,7 @@ owner_lives_in processes objects o = is_some_and (object_in objects o) (λ x. li
 unfoldable pub requested : Space → ℕ → ObjectId → ℕ → Space
 requested s p o cookie =
     if owner_lives_in s.processes s.objects o then with_death s p o cookie Armed
-    else owe (with_death s p o cookie Queued) (OfProcess p) (Death s.steps)
+    else owe (with_death s p o cookie Queued) (OfProcess p) (WorkKind.Death s.steps)
 
 unfoldable pub request_step : Space → ℕ → ℕ → ℕ → Outcome
 request_step s p n cookie = by_check s (λ o. requested s p o cookie) (request_check s p n)

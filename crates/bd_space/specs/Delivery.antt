@@ -1,24 +1,11 @@
 -- What a transaction and a reply have in common: what they deliver.
 use Rattle.std.specs.Prelude.{ℕ, ◌+◌, Bool, true, false, not, ◌&&◌, List, [], ◌∷◌, ◌++◌, map, Option, Some, None, filter, fold, if◌then◌else◌}
-use Rattle.bd_uapi.specs.declared.command.TransactionData.{TransactionData}
-use Rattle.bd_space.specs.declared.step.ObjectId.{ObjectId}
-use Rattle.bd_space.specs.declared.space.Process.{Process}
-use Rattle.bd_space.specs.declared.space.Object.{Object}
-use Rattle.bd_space.specs.declared.space.Reference.{Reference}
-use Rattle.bd_space.specs.declared.space.Buffer.{Buffer}
-use Rattle.bd_space.specs.declared.space.Work.{Work}
-use Rattle.bd_space.specs.declared.space.Holder.TheVariants.{Carried, Target}
-use Rattle.bd_space.specs.declared.space.TodoList.TheVariants.{OfThread}
-use Rattle.bd_space.specs.Words.{is_some_and}
-use Rattle.bd_space.specs.Space.{Space}
-use Rattle.bd_space.specs.declared.space.Actor.{Actor}
+use Rattle.bd_space.specs.Words.{TransactionData, ObjectId, Process, Object, Reference, Buffer, Work, Carried, Target, OfThread, is_some_and, Space, Actor, Item, is_own, is_strong_kind}
 use Rattle.bd_space.specs.References.{reference_of, object_in}
 use Rattle.bd_space.specs.Names.{assign_numbers}
 use Rattle.bd_space.specs.Windows.{needed}
 use Rattle.bd_space.specs.Todo.{is_notice}
 use Rattle.bd_space.specs.Notices.{with_notice}
-use Rattle.bd_space.specs.declared.space.Item.{Item}
-use Rattle.bd_uapi.specs.Kinds.{is_own, is_strong_kind}
 use Rattle.bd_space.specs.Parcels.{Sending, object_of_item}
 use Rattle.bd_space.specs.Translation.{translation}
 

@@ -1,14 +1,6 @@
 -- Frames: open two-way calls. Parents make a forest.
 use Rattle.std.specs.Prelude.{ℕ, ◌==◌, nat_le, Bool, true, false, not, ◌&&◌, ◌||◌, List, [], ◌∷◌, length, reverse, Option, Some, None, find, filter, option_map, option_and_then, if◌then◌else◌}
-use Rattle.std.specs.List.{list_all}
-use Rattle.bd_space.specs.declared.space.Thread.{Thread}
-use Rattle.bd_space.specs.declared.space.Frame.{Frame}
-use Rattle.bd_space.specs.declared.space.Server.{Server}
-use Rattle.bd_space.specs.declared.space.Server.TheVariants.{Pending, Serving, Gone}
-use Rattle.bd_space.specs.declared.space.TodoList.{TodoList}
-use Rattle.bd_space.specs.declared.space.TodoList.TheVariants.{OfThread, OfProcess}
-use Rattle.bd_space.specs.Words.{is_some_and}
-use Rattle.bd_space.specs.Space.{Space}
+use Rattle.bd_space.specs.Words.{list_all, Thread, Frame, Server, Pending, Serving, Gone, TodoList, OfThread, OfProcess, is_some_and, Space}
 use Rattle.bd_space.specs.Seats.{thread_in}
 
 abbrev pub serves : ℕ → Server → Bool

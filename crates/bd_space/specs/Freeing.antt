@@ -1,8 +1,6 @@
 -- The step of BC_FREE_BUFFER.
 use Rattle.std.specs.Prelude.{ℕ, ◌+◌, ◌==◌, Bool, not, ◌&&◌, Option, Some, None, find, filter, if◌then◌else◌}
-use Rattle.bd_uapi.specs.declared.fault.Note.TheVariants.{NoSuchBuffer, NotHandedOut}
-use Rattle.bd_space.specs.declared.space.Buffer.{Buffer}
-use Rattle.bd_space.specs.Space.{Space}
+use Rattle.bd_space.specs.Words.{Note, Buffer, Space}
 use Rattle.bd_space.specs.References.{is_of_buffer}
 use Rattle.bd_space.specs.Outcomes.{Outcome, accepted, noted}
 
@@ -27,8 +25,8 @@ without_buffer s made = record s {
 }
 
 abbrev pub free_outcome : Space → Option Buffer → Outcome
-free_outcome s None = noted s NoSuchBuffer
-free_outcome s (Some b) = if b.handed then accepted (without_buffer s b.made) else noted s NotHandedOut
+free_outcome s None = noted s Note.NoSuchBuffer
+free_outcome s (Some b) = if b.handed then accepted (without_buffer s b.made) else noted s Note.NotHandedOut
 
 unfoldable pub free_step : Space → ℕ → ℕ → Outcome
 free_step s p ptr = free_outcome s (buffer_at_pointer s p ptr)

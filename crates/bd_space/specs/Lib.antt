@@ -1,7 +1,5 @@
-pub mod Words
-pub mod Identities
 pub mod Space
-pub mod Tables
+pub mod Words
 pub mod Seats
 pub mod References
 pub mod Names
@@ -28,12 +26,9 @@ pub mod ReadItems
 pub mod Reading
 pub mod ThreadExits
 pub mod ProcessExits
-pub mod Local
-pub mod LocalExits
 pub mod Steps
 pub mod Histories
 pub mod Streams
 pub mod Writes
 pub mod Stops
 pub mod Runs
-pub mod Ranges

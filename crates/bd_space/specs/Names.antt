@@ -1,12 +1,6 @@
 -- Names: the numbers (handles) by which processes know the objects of others.
 use Rattle.std.specs.Prelude.{ℕ, suc, ◌==◌, nat_lt, Bool, not, ◌&&◌, List, [], ◌∷◌, ◌++◌, length, Option, Some, None, find, filter, fold, is_some, option_map, option_and_then, unwrap_or, if◌then◌else◌}
-use Rattle.std.specs.List.{list_any}
-use Rattle.bd_space.specs.declared.step.ObjectId.{ObjectId}
-use Rattle.bd_space.specs.declared.space.Object.{Object}
-use Rattle.bd_space.specs.declared.space.Reference.{Reference}
-use Rattle.bd_space.specs.declared.space.Name.{Name}
-use Rattle.bd_space.specs.Words.{same, is_some_and, least}
-use Rattle.bd_space.specs.Space.{Space}
+use Rattle.bd_space.specs.Words.{list_any, ObjectId, Object, Reference, Name, same, is_some_and, least, Space}
 use Rattle.bd_space.specs.References.{names_for, owned_in}
 
 -- o is another's, and p asked for it, or some buffer that p received carries it: only then p has a name for it

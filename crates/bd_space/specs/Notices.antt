@@ -1,20 +1,6 @@
 -- What owners are told of their objects: two values an object, and a notice exactly while they differ from what is so.
 use Rattle.std.specs.Prelude.{ℕ, ◌==◌, Bool, true, not, ◌&&◌, ◌||◌, List, filter, fold, if◌then◌else◌}
-use Rattle.std.specs.List.{list_any}
-use mathlib.Core.Bool.{beq}
-use Rattle.bd_space.specs.declared.step.ObjectId.{ObjectId}
-use Rattle.bd_space.specs.declared.space.Process.{Process}
-use Rattle.bd_space.specs.declared.space.Object.{Object}
-use Rattle.bd_space.specs.declared.space.Reference.{Reference}
-use Rattle.bd_space.specs.declared.space.Name.{Name}
-use Rattle.bd_space.specs.declared.space.Work.{Work}
-use Rattle.bd_space.specs.declared.space.DeathNotification.{DeathNotification}
-use Rattle.bd_space.specs.declared.space.TodoList.{TodoList}
-use Rattle.bd_space.specs.declared.space.TodoList.TheVariants.{OfProcess}
-use Rattle.bd_space.specs.declared.space.WorkKind.{WorkKind}
-use Rattle.bd_space.specs.declared.space.WorkKind.TheVariants.{Notice, Death}
-use Rattle.bd_space.specs.Words.{same, is_some_and}
-use Rattle.bd_space.specs.Space.{Space}
+use Rattle.bd_space.specs.Words.{list_any, beq, ObjectId, Process, Object, Reference, Name, Work, DeathNotification, TodoList, OfProcess, WorkKind, same, is_some_and, Space}
 use Rattle.bd_space.specs.Seats.{lives_in}
 use Rattle.bd_space.specs.References.{held_in, strong_in, object_in, objects_go}
 use Rattle.bd_space.specs.Names.{names_go}
@@ -34,7 +20,7 @@ has_notice_in todo o = list_any (λ w. is_notice o w.kind) todo
 -- a notice that is missing is made on this list
 abbrev pub with_notice : ℕ → List Process → List Reference → TodoList → List Work → Object → List Work
 with_notice place processes references list todo x =
-    if wants_notice processes references x && not (has_notice_in todo x.id) then with_work place todo list (Notice x.id) else todo
+    if wants_notice processes references x && not (has_notice_in todo x.id) then with_work place todo list (WorkKind.Notice x.id) else todo
 
 -- ---- what follows after every change: names, objects, death notifications and notices
 
@@ -47,8 +33,8 @@ deaths_go s = record s { deaths = filter (λ x. x.cleared || is_name_of s.names 
 
 -- a notice goes when nothing differs any more, a death's item with its notification
 abbrev pub still_due : List Process → List Object → List Reference → List DeathNotification → WorkKind → Bool
-still_due processes objects references deaths (Notice o) = is_some_and (object_in objects o) (wants_notice processes references)
-still_due processes objects references deaths (Death n) = list_any (λ x. x.made == n) deaths
+still_due processes objects references deaths (WorkKind.Notice o) = is_some_and (object_in objects o) (wants_notice processes references)
+still_due processes objects references deaths (WorkKind.Death n) = list_any (λ x. x.made == n) deaths
 still_due processes objects references deaths _ = true
 
 unfoldable pub work_goes : Space → Space

@@ -1,11 +1,6 @@
 -- What a step answers, and the space after it.
 use Rattle.std.specs.Prelude.{Result, Ok, Err}
-use Rattle.bd_uapi.specs.declared.fault.Note.{Note}
-use Rattle.bd_uapi.specs.declared.fault.Fault.{Fault}
-use Rattle.bd_uapi.specs.declared.fault.Cause.{Cause}
-use Rattle.bd_space.specs.declared.step.StepAnswer.{StepAnswer}
-use Rattle.bd_space.specs.declared.step.StepAnswer.TheVariants.{Accepted, Noted, Stopped, Refused}
-use Rattle.bd_space.specs.Space.{Space}
+use Rattle.bd_space.specs.Words.{Note, Fault, Cause, StepAnswer, Space}
 use Rattle.bd_space.specs.Turns.{ripen}
 use Rattle.bd_space.specs.Notices.{follow}
 use Rattle.bd_space.specs.Settle.{settle}
@@ -19,11 +14,11 @@ unfoldable pub completed : Space → Space
 completed s = settle (follow (ripen s))
 
 abbrev pub accepted : Space → Outcome
-accepted s = record { answer = Accepted; space = completed s }
+accepted s = record { answer = StepAnswer.Accepted; space = completed s }
 
 -- a note changes nothing
 abbrev pub noted : Space → Note → Outcome
-noted s n = record { answer = Noted n; space = s }
+noted s n = record { answer = StepAnswer.Noted n; space = s }
 
 -- what a check found is done; what it noted changes nothing
 abbrev pub by_check : {A : Type 0} → Space → (A → Space) → Result A Note → Outcome
@@ -32,8 +27,8 @@ by_check s f (Ok x) = accepted (f x)
 
 -- a cause leaves what it leaves
 abbrev pub stopped : Cause → Space → Outcome
-stopped x s = record { answer = Stopped x; space = settle s }
+stopped x s = record { answer = StepAnswer.Stopped x; space = settle s }
 
 -- a refused step changes nothing
 abbrev pub refused : Space → Fault → Outcome
-refused s x = record { answer = Refused x; space = s }
+refused s x = record { answer = StepAnswer.Refused x; space = s }

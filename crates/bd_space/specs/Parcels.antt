@@ -1,22 +1,6 @@
 -- What a parcel sends: its objects, each known to the sender or made by the sending, or the first cause against it.
 use Rattle.std.specs.Prelude.{ℕ, ◌%◌, ◌^◌, ◌==◌, Bool, false, not, ◌&&◌, List, [], ◌∷◌, ◌++◌, length, Option, Some, None, Result, Ok, Err, if◌then◌else◌}
-use Rattle.bd_uapi.specs.declared.command.TransactionData.{TransactionData}
-use Rattle.bd_uapi.specs.declared.object.FlatObject.{FlatObject}
-use Rattle.bd_uapi.specs.declared.object.ObjectKind.TheVariants.{Binder, WeakBinder, Handle, WeakHandle}
-use Rattle.bd_uapi.specs.declared.fault.Cause.{Cause}
-use Rattle.bd_uapi.specs.declared.fault.Cause.TheVariants.{OutsideArea, OffsetsSize, BadObject, UnsupportedObject, OtherCookie, NotHeld}
-use Rattle.bd_parcel.specs.declared.fault.WalkFault.{WalkFault}
-use Rattle.bd_parcel.specs.declared.fault.WalkFault.TheVariants.{Size, Bad, Unsupported}
-use Rattle.bd_parcel.specs.Parcels.{offsets_in, fault_in}
-use Rattle.bd_parcel.specs.Reading.{object_at}
-use Rattle.bd_space.specs.declared.step.ObjectId.{ObjectId}
-use Rattle.bd_space.specs.declared.step.Parcel.{Parcel}
-use Rattle.bd_space.specs.declared.space.Object.{Object}
-use Rattle.bd_space.specs.declared.space.Item.{Item}
-use Rattle.bd_space.specs.declared.space.Resolved.{Resolved}
-use Rattle.std.specs.Option.{option_to_list}
-use Rattle.bd_space.specs.Words.{and_then}
-use Rattle.bd_space.specs.Space.{Space}
+use Rattle.bd_space.specs.Words.{TransactionData, FlatObject, Binder, WeakBinder, Handle, WeakHandle, Cause, WalkFault, offsets_in, fault_in, object_at, ObjectId, Parcel, Object, Item, Resolved, option_to_list, and_then, Space}
 use Rattle.bd_space.specs.References.{own_in}
 use Rattle.bd_space.specs.Names.{named, strongly_named}
 
@@ -46,11 +30,11 @@ abbrev pub resolve_own : Space → ℕ → List Object → FlatObject → Result
 resolve_own s p made x =
     elim (own_in (s.objects ++ made) p x.binder) [
       | None ↦ let o = new_object s.steps p made x in Ok (record { object = o.id; new = Some o })
-      | Some o ↦ if o.cookie == x.cookie then Ok (record { object = o.id; new = None }) else Err OtherCookie
+      | Some o ↦ if o.cookie == x.cookie then Ok (record { object = o.id; new = None }) else Err Cause.OtherCookie
     ]
 
 abbrev pub resolve_handle : Option ObjectId → Result Resolved Cause
-resolve_handle None = Err NotHeld
+resolve_handle None = Err Cause.NotHeld
 resolve_handle (Some o) = Ok (record { object = o; new = None })
 
 -- the object that p sends, where it has made these already; a strong handle has to be strongly named
@@ -71,9 +55,9 @@ resolve_all s p bytes offsets made items (at ∷ ats) =
     (λ r. resolve_all s p bytes offsets (made ++ option_to_list r.new) (items ++ record { at = at; flat = object_at at bytes; object = r.object } ∷ []) ats)
 
 abbrev pub cause_of_walk : WalkFault → Cause
-cause_of_walk Size = OffsetsSize
-cause_of_walk (Bad index) = BadObject
-cause_of_walk (Unsupported index) = UnsupportedObject
+cause_of_walk WalkFault.Size = Cause.OffsetsSize
+cause_of_walk (WalkFault.Bad index) = Cause.BadObject
+cause_of_walk (WalkFault.Unsupported index) = Cause.UnsupportedObject
 
 -- the parcel has the sizes that its record says
 abbrev pub is_cut : TransactionData → Parcel → Bool
@@ -85,8 +69,8 @@ resolve_walked s p q None = resolve_all s p q.bytes q.offsets [] [] (offsets_in 
 
 -- what p sends by this parcel, or the first cause against it
 unfoldable pub sending_of : Space → ℕ → TransactionData → Option Parcel → Result Sending Cause
-sending_of s p d None = Err OutsideArea
+sending_of s p d None = Err Cause.OutsideArea
 sending_of s p d (Some q) =
-    if not (is_cut d q) then Err OutsideArea
-    else (if not (length q.offsets % 8 == 0) then Err OffsetsSize
+    if not (is_cut d q) then Err Cause.OutsideArea
+    else (if not (length q.offsets % 8 == 0) then Err Cause.OffsetsSize
     else resolve_walked s p q (fault_in q.bytes (offsets_in q.offsets)))

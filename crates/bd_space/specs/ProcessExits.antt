@@ -1,17 +1,6 @@
 -- The step that ends a process.
 use Rattle.std.specs.Prelude.{ℕ, ◌==◌, Bool, true, false, not, ◌&&◌, ◌||◌, List, map, Option, Some, None, filter, fold, if◌then◌else◌}
-use Rattle.bd_space.specs.declared.step.ObjectId.{ObjectId}
-use Rattle.bd_space.specs.declared.step.StepAnswer.TheVariants.{Exited}
-use Rattle.bd_space.specs.declared.space.Thread.{Thread}
-use Rattle.bd_space.specs.declared.space.Object.{Object}
-use Rattle.bd_space.specs.declared.space.Reference.{Reference}
-use Rattle.bd_space.specs.declared.space.DeathNotification.{DeathNotification}
-use Rattle.bd_space.specs.declared.space.TodoList.TheVariants.{OfProcess}
-use Rattle.bd_space.specs.declared.space.WorkKind.TheVariants.{Death}
-use Rattle.bd_space.specs.declared.space.Phase.{Phase}
-use Rattle.bd_space.specs.declared.space.Phase.TheVariants.{Armed, Queued}
-use Rattle.bd_space.specs.Space.{Space}
-use Rattle.bd_space.specs.declared.space.Actor.{Actor}
+use Rattle.bd_space.specs.Words.{ObjectId, StepAnswer, Thread, Object, Reference, DeathNotification, OfProcess, WorkKind, Phase, Armed, Queued, Space, Actor}
 use Rattle.bd_space.specs.References.{owned_in, is_asked_by, is_in_window, is_of_owner}
 use Rattle.bd_space.specs.Todo.{owe, is_on}
 use Rattle.bd_space.specs.Notices.{follow}
@@ -55,11 +44,11 @@ is_armed _ = false
 -- an armed notification on an object of the process is told
 abbrev pub tell_death : ℕ → Space → DeathNotification → Space
 tell_death p s x =
-    if is_armed x.phase && owned_in s.objects p x.object then owe (with_phase s x.made Queued) (OfProcess x.process) (Death x.made) else s
+    if is_armed x.phase && owned_in s.objects p x.object then owe (with_phase s x.made Queued) (OfProcess x.process) (WorkKind.Death x.made) else s
 
 unfoldable pub tell_deaths : Space → ℕ → Space
 tell_deaths s p = fold (tell_death p) s s.deaths
 
 unfoldable pub exit_process_step : Space → Actor → Outcome
 exit_process_step s a =
-    record { answer = Exited; space = settle (follow (tell_deaths (without_process (threads_go s a.process.made) a.process.made) a.process.made)) }
+    record { answer = StepAnswer.Exited; space = settle (follow (tell_deaths (without_process (threads_go s a.process.made) a.process.made) a.process.made)) }

@@ -1,22 +1,6 @@
 -- The items that a read takes, and what reading them changes.
 use Rattle.std.specs.Prelude.{ℕ, ◌+◌, ◌-◌, ◌==◌, nat_lt, Bool, true, false, List, [], ◌∷◌, ◌++◌, length, map, Option, Some, None, option_and_then, if◌then◌else◌}
-use Rattle.std.specs.List.{list_any, flat_map}
-use Rattle.bd_uapi.specs.declared.command.Return.{Return}
-use Rattle.bd_uapi.specs.declared.command.Return.TheVariants as br
-use Rattle.bd_space.specs.declared.step.ObjectId.{ObjectId}
-use Rattle.bd_space.specs.declared.space.Object.{Object}
-use Rattle.bd_space.specs.declared.space.Reference.{Reference}
-use Rattle.bd_space.specs.declared.space.Frame.{Frame}
-use Rattle.bd_space.specs.declared.space.Buffer.{Buffer}
-use Rattle.bd_space.specs.declared.space.Work.{Work}
-use Rattle.bd_space.specs.declared.space.DeathNotification.{DeathNotification}
-use Rattle.bd_space.specs.declared.space.Holder.TheVariants.{Handshake}
-use Rattle.bd_space.specs.declared.space.Server.TheVariants.{Serving}
-use Rattle.bd_space.specs.declared.space.WorkKind.{WorkKind}
-use Rattle.bd_space.specs.declared.space.WorkKind.TheVariants as work
-use Rattle.bd_space.specs.declared.space.Phase.TheVariants.{Told}
-use Rattle.bd_space.specs.Words.{first_of, is_some_and, same, changed}
-use Rattle.bd_space.specs.Space.{Space}
+use Rattle.bd_space.specs.Words.{list_any, flat_map, Return, ObjectId, Object, Reference, Frame, Buffer, Work, DeathNotification, Handshake, Serving, WorkKind, Told, first_of, is_some_and, same, changed, Space}
 use Rattle.bd_space.specs.References.{reference_of, held_in, strong_in}
 use Rattle.bd_space.specs.Todo.{notice_of, death_of, hands_out, is_call, without_taken}
 use Rattle.bd_space.specs.Freeing.{is_made_at}
@@ -26,9 +10,9 @@ use Rattle.bd_space.specs.Returns.{buffer_in, returns_of, bytes_read}
 
 -- nothing is read after a BR_TRANSACTION, BR_REPLY or BR_DEAD_BINDER
 abbrev pub ends_read : WorkKind → Bool
-ends_read (work.Call b) = true
-ends_read (work.Reply b) = true
-ends_read (work.Death n) = true
+ends_read (WorkKind.Call b) = true
+ends_read (WorkKind.Reply b) = true
+ends_read (WorkKind.Death n) = true
 ends_read _ = false
 
 -- item after item is taken while 68 bytes or more are left, up to one that ends the read
@@ -46,8 +30,8 @@ buffer_taken s ws = option_and_then (buffer_in s.buffers) (first_of (map (λ w. 
 
 -- the owner is to acknowledge a BR_INCREFS and a BR_ACQUIRE
 abbrev pub shakes : Return → List Bool
-shakes (br.Increfs ptr cookie) = false ∷ []
-shakes (br.Acquire ptr cookie) = true ∷ []
+shakes (Return.Increfs ptr cookie) = false ∷ []
+shakes (Return.Acquire ptr cookie) = true ∷ []
 shakes _ = []
 
 abbrev pub handshakes_for : ℕ → ℕ → ObjectId → List Bool → List Reference

@@ -1,14 +1,6 @@
 -- The step of a read.
 use Rattle.std.specs.Prelude.{ℕ, ◌-◌, nat_lt, Bool, true, false, List, [], ◌∷◌, Option, Some, None}
-use Rattle.bd_uapi.specs.declared.fault.Fault.{Fault}
-use Rattle.bd_uapi.specs.declared.fault.Fault.TheVariants.{ReadTooSmall, Again}
-use Rattle.bd_space.specs.declared.step.StepAnswer.{StepAnswer}
-use Rattle.bd_space.specs.declared.step.StepAnswer.TheVariants.{Got}
-use Rattle.bd_space.specs.declared.space.Buffer.{Buffer}
-use Rattle.bd_space.specs.declared.space.Work.{Work}
-use Rattle.bd_space.specs.Words.{when, first_of}
-use Rattle.bd_space.specs.Space.{Space}
-use Rattle.bd_space.specs.declared.space.Actor.{Actor}
+use Rattle.bd_space.specs.Words.{Fault, StepAnswer, Buffer, Work, when, first_of, Space, Actor}
 use Rattle.bd_space.specs.Todo.{list_to_read}
 use Rattle.bd_space.specs.Notices.{follow}
 use Rattle.bd_space.specs.Outcomes.{Outcome, refused}
@@ -16,15 +8,15 @@ use Rattle.bd_space.specs.Returns.{stream_of}
 use Rattle.bd_space.specs.ReadItems.{taken, buffer_taken, read_by}
 
 abbrev pub got : List ℕ → Option Buffer → StepAnswer
-got stream None = Got stream [] []
-got stream (Some b) = Got stream b.bytes b.offsets
+got stream None = StepAnswer.Got stream [] []
+got stream (Some b) = StepAnswer.Got stream b.bytes b.offsets
 
 abbrev pub is_empty : List Work → Bool
 is_empty [] = true
 is_empty (w ∷ ws) = false
 
 abbrev pub read_fault : ℕ → List Work → Option Fault
-read_fault limit ws = first_of (when (nat_lt limit 72) ReadTooSmall ∷ when (is_empty ws) Again ∷ [])
+read_fault limit ws = first_of (when (nat_lt limit 72) Fault.ReadTooSmall ∷ when (is_empty ws) Fault.Again ∷ [])
 
 unfoldable pub read_taking : Space → ℕ → List Work → Outcome
 read_taking s seat ws = record { answer = got (stream_of s ws) (buffer_taken s ws); space = follow (read_by s seat ws) }

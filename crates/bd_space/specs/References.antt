@@ -1,14 +1,6 @@
 -- References to objects: what each is for, and which objects they keep.
 use Rattle.std.specs.Prelude.{ℕ, ◌==◌, Bool, true, false, not, ◌&&◌, ◌||◌, List, find, filter, Option, Some, None}
-use Rattle.std.specs.List.{list_any}
-use Rattle.bd_space.specs.declared.step.ObjectId.{ObjectId}
-use Rattle.bd_space.specs.declared.space.Process.{Process}
-use Rattle.bd_space.specs.declared.space.Object.{Object}
-use Rattle.bd_space.specs.declared.space.Reference.{Reference}
-use Rattle.bd_space.specs.declared.space.Holder.{Holder}
-use Rattle.bd_space.specs.declared.space.Holder.TheVariants.{Asked, Carried, Target, Handshake, Manager}
-use Rattle.bd_space.specs.Words.{same, is_some_and}
-use Rattle.bd_space.specs.Space.{Space}
+use Rattle.bd_space.specs.Words.{list_any, ObjectId, Process, Object, Reference, Holder, Asked, Carried, Target, Handshake, Manager, same, is_some_and, Space}
 use Rattle.bd_space.specs.Seats.{lives_in}
 
 -- what the step at this place refers to is counted from 0

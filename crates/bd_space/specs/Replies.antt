@@ -1,16 +1,6 @@
 -- The step of BC_REPLY.
 use Rattle.std.specs.Prelude.{ℕ, false, Option, Some, None, Result, Ok, Err, option_and_then}
-use Rattle.bd_uapi.specs.declared.command.TransactionData.{TransactionData}
-use Rattle.bd_uapi.specs.declared.command.Return.TheVariants.{FailedReply, TransactionComplete}
-use Rattle.bd_uapi.specs.declared.fault.Cause.{Cause}
-use Rattle.bd_uapi.specs.declared.fault.Cause.TheVariants.{NoCall, CallerGone}
-use Rattle.bd_space.specs.declared.step.Parcel.{Parcel}
-use Rattle.bd_space.specs.declared.space.Frame.{Frame}
-use Rattle.bd_space.specs.declared.space.TodoList.TheVariants.{OfThread}
-use Rattle.bd_space.specs.declared.space.WorkKind.TheVariants as work
-use Rattle.bd_space.specs.Words.{found_or, and_then}
-use Rattle.bd_space.specs.Space.{Space}
-use Rattle.bd_space.specs.declared.space.Actor.{Actor}
+use Rattle.bd_space.specs.Words.{TransactionData, Return, Cause, Parcel, Frame, OfThread, WorkKind, found_or, and_then, Space, Actor}
 use Rattle.bd_space.specs.Seats.{actor}
 use Rattle.bd_space.specs.Windows.{needed, buffers_of, start_for}
 use Rattle.bd_space.specs.Frames.{served_innermost, closed}
@@ -33,16 +23,16 @@ reply_sent_to s a d parcel c = and_then (sending_of s a.process.made d parcel) (
 
 -- what is to be delivered to the caller of the frame, or the first cause against it
 unfoldable pub reply_check : Space → Actor → TransactionData → Option Parcel → Frame → Result Delivery Cause
-reply_check s a d parcel f = and_then (found_or (caller_of s f) CallerGone) (reply_sent_to s a d parcel)
+reply_check s a d parcel f = and_then (found_or (caller_of s f) Cause.CallerGone) (reply_sent_to s a d parcel)
 
 -- the frame closes, and the caller has a reply to read
 unfoldable pub replied : Space → Actor → TransactionData → Frame → Delivery → Space
 replied s a d f v =
-    tell_caller (owe (delivered (closed s f.made) a d v) (OfThread a.thread.seat) (work.Complete false)) f (work.Reply s.steps)
+    tell_caller (owe (delivered (closed s f.made) a d v) (OfThread a.thread.seat) (WorkKind.Complete false)) f (WorkKind.Reply s.steps)
 
 -- a refused reply closes the frame too, and a caller that lives is told
 unfoldable pub reply_refused : Space → ℕ → Frame → Space
-reply_refused s seat f = tell_caller (closed (owe s (OfThread seat) (work.Refusal TransactionComplete)) f.made) f (work.Verdict FailedReply)
+reply_refused s seat f = tell_caller (closed (owe s (OfThread seat) (WorkKind.Refusal Return.TransactionComplete)) f.made) f (WorkKind.Verdict Return.FailedReply)
 
 abbrev pub reply_outcome : Space → Actor → TransactionData → Frame → Result Delivery Cause → Outcome
 reply_outcome s a d f (Err x) = stopped x (reply_refused s a.thread.seat f)
@@ -50,7 +40,7 @@ reply_outcome s a d f (Ok v) = accepted (replied s a d f v)
 
 -- what is answered is the innermost call that the thread serves
 abbrev pub reply_to : Space → Actor → TransactionData → Option Parcel → Option Frame → Outcome
-reply_to s a d parcel None = stopped NoCall (owe s (OfThread a.thread.seat) (work.Refusal FailedReply))
+reply_to s a d parcel None = stopped Cause.NoCall (owe s (OfThread a.thread.seat) (WorkKind.Refusal Return.FailedReply))
 reply_to s a d parcel (Some f) = reply_outcome s a d f (reply_check s a d parcel f)
 
 unfoldable pub reply_step : Space → Actor → TransactionData → Option Parcel → Outcome

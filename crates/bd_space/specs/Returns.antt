@@ -1,18 +1,6 @@
 -- The returns that work items give, and their bytes.
 use Rattle.std.specs.Prelude.{ℕ, ◌+◌, not, ◌&&◌, List, [], ◌∷◌, ◌++◌, length, map, Option, Some, None, find, option_map, option_and_then, unwrap_or, if◌then◌else◌, pos}
-use Rattle.std.specs.List.{concat}
-use Rattle.bd_uapi.specs.declared.command.TransactionData.{TransactionData}
-use Rattle.bd_uapi.specs.declared.command.Return.{Return}
-use Rattle.bd_uapi.specs.declared.command.Return.TheVariants as br
-use Rattle.bd_codec.specs.Spelling.{return_bytes}
-use Rattle.bd_space.specs.declared.space.Object.{Object}
-use Rattle.bd_space.specs.declared.space.Reference.{Reference}
-use Rattle.bd_space.specs.declared.space.Buffer.{Buffer}
-use Rattle.bd_space.specs.declared.space.Work.{Work}
-use Rattle.bd_space.specs.declared.space.WorkKind.{WorkKind}
-use Rattle.bd_space.specs.declared.space.WorkKind.TheVariants as work
-use Rattle.bd_space.specs.Words.{round_up}
-use Rattle.bd_space.specs.Space.{Space}
+use Rattle.bd_space.specs.Words.{concat, TransactionData, Return, return_bytes, Object, Reference, Buffer, Work, WorkKind, round_up, Space}
 use Rattle.bd_space.specs.Seats.{actor}
 use Rattle.bd_space.specs.References.{held_in, strong_in, object_in}
 use Rattle.bd_space.specs.Frames.{is_frame}
@@ -48,10 +36,10 @@ data_of s b = record {
 -- what an owner is told, by the references as they stand
 abbrev pub notice_returns : List Reference → Object → List Return
 notice_returns references x =
-    (if held_in references x.id && not x.told_weak then (br.Increfs x.ptr x.cookie ∷ []) else [])
-    ++ (if strong_in references x.id && not x.told_strong then (br.Acquire x.ptr x.cookie ∷ []) else [])
-    ++ (if x.told_strong && not (strong_in references x.id) then (br.Release x.ptr x.cookie ∷ []) else [])
-    ++ (if x.told_weak && not (held_in references x.id) then (br.Decrefs x.ptr x.cookie ∷ []) else [])
+    (if held_in references x.id && not x.told_weak then (Return.Increfs x.ptr x.cookie ∷ []) else [])
+    ++ (if strong_in references x.id && not x.told_strong then (Return.Acquire x.ptr x.cookie ∷ []) else [])
+    ++ (if x.told_strong && not (strong_in references x.id) then (Return.Release x.ptr x.cookie ∷ []) else [])
+    ++ (if x.told_weak && not (held_in references x.id) then (Return.Decrefs x.ptr x.cookie ∷ []) else [])
 
 abbrev pub one : Option Return → List Return
 one None = []
@@ -62,18 +50,18 @@ returns_of_object references None = []
 returns_of_object references (Some x) = notice_returns references x
 
 unfoldable pub returns_of : Space → WorkKind → List Return
-returns_of s (work.Notice o) = returns_of_object s.references (object_in s.objects o)
-returns_of s (work.Complete spam) = (if spam then br.OnewaySpamSuspect else br.TransactionComplete) ∷ []
-returns_of s (work.Refusal r) = r ∷ []
-returns_of s (work.Call b) = one (option_map (λ x. br.Transaction (data_of s x)) (buffer_in s.buffers b))
-returns_of s (work.Reply b) = one (option_map (λ x. br.Reply (data_of s x)) (buffer_in s.buffers b))
-returns_of s (work.Verdict r) = r ∷ []
-returns_of s (work.Death n) = one (option_map (λ x. br.DeadBinder x.cookie) (find (is_notification n) s.deaths))
-returns_of s (work.Cleared cookie) = br.ClearDeathNotificationDone cookie ∷ []
+returns_of s (WorkKind.Notice o) = returns_of_object s.references (object_in s.objects o)
+returns_of s (WorkKind.Complete spam) = (if spam then Return.OnewaySpamSuspect else Return.TransactionComplete) ∷ []
+returns_of s (WorkKind.Refusal r) = r ∷ []
+returns_of s (WorkKind.Call b) = one (option_map (λ x. Return.Transaction (data_of s x)) (buffer_in s.buffers b))
+returns_of s (WorkKind.Reply b) = one (option_map (λ x. Return.Reply (data_of s x)) (buffer_in s.buffers b))
+returns_of s (WorkKind.Verdict r) = r ∷ []
+returns_of s (WorkKind.Death n) = one (option_map (λ x. Return.DeadBinder x.cookie) (find (is_notification n) s.deaths))
+returns_of s (WorkKind.Cleared cookie) = Return.ClearDeathNotificationDone cookie ∷ []
 
 abbrev pub bytes_read : Space → Work → List ℕ
 bytes_read s w = concat (map return_bytes (returns_of s w.kind))
 
 -- the bytes of a BR_NOOP, and then of the items
 unfoldable pub stream_of : Space → List Work → List ℕ
-stream_of s ws = return_bytes br.Noop ++ concat (map (bytes_read s) ws)
+stream_of s ws = return_bytes Return.Noop ++ concat (map (bytes_read s) ws)

@@ -1,15 +1,6 @@
 -- The run of a request: the entries that it makes, and its answer.
 use Rattle.std.specs.Prelude.{ℕ, ◌≡◌, ◌≢◌, ◌⊎◌, true, List, [], ◌∷◌, ◌++◌, length, Option, Some}
-use Rattle.bd_space.specs.declared.step.Step.{Step}
-use Rattle.bd_space.specs.declared.step.Step.TheVariants as step_of
-use Rattle.bd_space.specs.declared.step.StepAnswer.{StepAnswer}
-use Rattle.bd_space.specs.declared.step.StepAnswer.TheVariants as gave
-use Rattle.bd_space.specs.declared.step.Entry.{Entry}
-use Rattle.bd_space.specs.declared.step.Request.{Request}
-use Rattle.bd_space.specs.declared.step.Request.TheVariants.{Open, Attach, SetManager, SetSpam, Write, Read, ExitThread, ExitProcess}
-use Rattle.bd_space.specs.declared.step.Answer.{Answer}
-use Rattle.bd_space.specs.declared.step.Answer.TheVariants.{Opened, Set, Exited, Got, Refused}
-use Rattle.bd_space.specs.Space.{Space}
+use Rattle.bd_space.specs.Words.{Step, StepAnswer, Entry, Request, Answer, Space}
 use Rattle.bd_space.specs.Steps.{step}
 use Rattle.bd_space.specs.Histories.{History, space_after, is_at_limit}
 use Rattle.bd_space.specs.Streams.{commands_of}
@@ -20,44 +11,44 @@ use Rattle.bd_space.specs.Stops.{step_after, IsCutShort}
 
 -- the answer of a request that isn't a write
 abbrev pub answered : StepAnswer → Answer
-answered gave.Opened = Opened
-answered gave.Set = Set
-answered gave.Exited = Exited
-answered gave.Accepted = Set
-answered (gave.Noted n) = Set
-answered (gave.Stopped x) = Set
-answered (gave.Got a b c) = Got a b c
-answered (gave.Refused x) = Refused x
+answered StepAnswer.Opened = Answer.Opened
+answered StepAnswer.Set = Answer.Set
+answered StepAnswer.Exited = Answer.Exited
+answered StepAnswer.Accepted = Answer.Set
+answered (StepAnswer.Noted n) = Answer.Set
+answered (StepAnswer.Stopped x) = Answer.Set
+answered (StepAnswer.Got a b c) = Answer.Got a b c
+answered (StepAnswer.Refused x) = Answer.Refused x
 
 abbrev pub single : Space → ℕ → Step → Run
 single s seat x =
     let answer = (step s seat x).answer in record { entries = record { seat = seat; step = x; answer = answer } ∷ []; answer = answered answer }
 
 unfoldable pub run : Space → ℕ → Request → Run
-run s seat (Open pid euid window) = single s seat (step_of.Open pid euid window)
-run s seat (Attach pid) = single s seat (step_of.Attach pid)
-run s seat SetManager = single s seat step_of.SetManager
-run s seat (SetSpam on) = single s seat (step_of.SetSpam on)
-run s seat (Write stream area) = write s seat stream area
-run s seat (Read limit) = single s seat (step_of.Read limit)
-run s seat ExitThread = single s seat step_of.ExitThread
-run s seat ExitProcess = single s seat step_of.ExitProcess
+run s seat (Request.Open pid euid window) = single s seat (Step.Open pid euid window)
+run s seat (Request.Attach pid) = single s seat (Step.Attach pid)
+run s seat Request.SetManager = single s seat Step.SetManager
+run s seat (Request.SetSpam on) = single s seat (Step.SetSpam on)
+run s seat (Request.Write stream area) = write s seat stream area
+run s seat (Request.Read limit) = single s seat (Step.Read limit)
+run s seat Request.ExitThread = single s seat Step.ExitThread
+run s seat Request.ExitProcess = single s seat Step.ExitProcess
 
 -- the step that a request begins with
 abbrev pub first_step : Request → Option Step
-first_step (Open pid euid window) = Some (step_of.Open pid euid window)
-first_step (Attach pid) = Some (step_of.Attach pid)
-first_step SetManager = Some step_of.SetManager
-first_step (SetSpam on) = Some (step_of.SetSpam on)
-first_step (Write stream area) = step_after area 0 (commands_of stream).commands
-first_step (Read limit) = Some (step_of.Read limit)
-first_step ExitThread = Some step_of.ExitThread
-first_step ExitProcess = Some step_of.ExitProcess
+first_step (Request.Open pid euid window) = Some (Step.Open pid euid window)
+first_step (Request.Attach pid) = Some (Step.Attach pid)
+first_step Request.SetManager = Some Step.SetManager
+first_step (Request.SetSpam on) = Some (Step.SetSpam on)
+first_step (Request.Write stream area) = step_after area 0 (commands_of stream).commands
+first_step (Request.Read limit) = Some (Step.Read limit)
+first_step Request.ExitThread = Some Step.ExitThread
+first_step Request.ExitProcess = Some Step.ExitProcess
 
 -- ---- what a driver knows of a run
 
 abbrev pub IsCut : History → ℕ → Request → List Entry → Answer → Type 0
-IsCut h seat (Write stream area) es answer = IsCutShort h seat stream area es answer
+IsCut h seat (Request.Write stream area) es answer = IsCutShort h seat stream area es answer
 IsCut h seat _ es answer = ⊥
 
 pub record IsWhole (run : Run) (es : List Entry) (answer : Answer) : Type 0 where

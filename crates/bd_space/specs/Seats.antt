@@ -1,10 +1,6 @@
 -- Processes and threads.
 use Rattle.std.specs.Prelude.{ℕ, ◌==◌, Bool, List, Option, find, option_and_then, option_map}
-use Rattle.std.specs.List.{list_any}
-use Rattle.bd_space.specs.declared.space.Process.{Process}
-use Rattle.bd_space.specs.declared.space.Thread.{Thread}
-use Rattle.bd_space.specs.declared.space.Actor.{Actor}
-use Rattle.bd_space.specs.Space.{Space}
+use Rattle.bd_space.specs.Words.{list_any, Process, Thread, Actor, Space}
 
 -- the process lives
 abbrev pub lives_in : List Process → ℕ → Bool

@@ -1,10 +1,6 @@
 -- Abandoned calls: what follows when a server has gone.
 use Rattle.std.specs.Prelude.{ℕ, zero, suc, Bool, not, ◌&&◌, List, length, Option, Some, None, find}
-use Rattle.std.specs.List.{list_any}
-use Rattle.bd_uapi.specs.declared.command.Return.TheVariants.{DeadReply}
-use Rattle.bd_space.specs.declared.space.Frame.{Frame}
-use Rattle.bd_space.specs.declared.space.WorkKind.TheVariants.{Verdict}
-use Rattle.bd_space.specs.Space.{Space}
+use Rattle.bd_space.specs.Words.{list_any, Return, Frame, WorkKind, Space}
 use Rattle.bd_space.specs.Frames.{is_gone, is_child_of, closed}
 use Rattle.bd_space.specs.Todo.{tell_caller}
 
@@ -14,7 +10,7 @@ is_abandoned frames f = is_gone f.server && not (list_any (is_child_of f) frames
 
 abbrev pub settle_one : Space → Option Frame → Space
 settle_one s None = s
-settle_one s (Some f) = tell_caller (closed s f.made) f (Verdict DeadReply)
+settle_one s (Some f) = tell_caller (closed s f.made) f (WorkKind.Verdict Return.DeadReply)
 
 -- the oldest abandoned call closes, and a caller that lives is told
 abbrev pub settle_step : Space → Space

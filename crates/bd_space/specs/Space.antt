@@ -2,15 +2,7 @@
 -- so that the oldest stands first.
 use Rattle.std.specs.Prelude.{ℕ, List, [], Option, None}
 use Rattle.bd_space.specs.declared.step.ObjectId.{ObjectId}
-use Rattle.bd_space.specs.declared.space.Process.{Process}
-use Rattle.bd_space.specs.declared.space.Thread.{Thread}
-use Rattle.bd_space.specs.declared.space.Object.{Object}
-use Rattle.bd_space.specs.declared.space.Reference.{Reference}
-use Rattle.bd_space.specs.declared.space.Name.{Name}
-use Rattle.bd_space.specs.declared.space.Frame.{Frame}
-use Rattle.bd_space.specs.declared.space.Buffer.{Buffer}
-use Rattle.bd_space.specs.declared.space.Work.{Work}
-use Rattle.bd_space.specs.declared.space.DeathNotification.{DeathNotification}
+use Rattle.bd_space.specs.declared.space.{Process.Process, Thread.Thread, Object.Object, Reference.Reference, Name.Name, Frame.Frame, Buffer.Buffer, Work.Work, DeathNotification.DeathNotification}
 
 pub record Space : Type 0 where
   pub steps : ℕ  -- how many there were: the place of the next

@@ -1,11 +1,6 @@
 -- Reports of one-way flooding.
 use Rattle.std.specs.Prelude.{ℕ, ◌*◌, ◌==◌, nat_lt, Bool, ◌&&◌, List, filter, sum_by}
-use Rattle.bd_space.specs.declared.space.Process.{Process}
-use Rattle.bd_space.specs.declared.space.Buffer.{Buffer}
-use Rattle.bd_space.specs.declared.space.Actor.{Actor}
-use Rattle.bd_space.specs.declared.step.StepAnswer.TheVariants.{Set}
-use Rattle.bd_space.specs.Words.{changed}
-use Rattle.bd_space.specs.Space.{Space}
+use Rattle.bd_space.specs.Words.{Process, Buffer, Actor, StepAnswer, changed, Space}
 use Rattle.bd_space.specs.Windows.{buffers_of}
 use Rattle.bd_space.specs.Delivery.{Delivery}
 use Rattle.bd_space.specs.Outcomes.{Outcome}
@@ -20,7 +15,7 @@ unfoldable pub with_spam_detection : Space → ℕ → Bool → Space
 with_spam_detection s p on = record s { processes = changed (λ q. q.made == p) (detecting on) s.processes }
 
 unfoldable pub spam_step : Space → Bool → Actor → Outcome
-spam_step s on a = record { answer = Set; space = with_spam_detection s a.process.made on }
+spam_step s on a = record { answer = StepAnswer.Set; space = with_spam_detection s a.process.made on }
 
 -- ---- of what
 

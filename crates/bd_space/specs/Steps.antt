@@ -1,16 +1,6 @@
 -- Every step of a space.
 use Rattle.std.specs.Prelude.{ℕ, suc, ◌%◌, ◌==◌, nat_le, Bool, true, false, not, ◌&&◌, ◌||◌, [], ◌∷◌, ◌++◌, Option, Some, None, is_some}
-use Rattle.bd_uapi.specs.declared.fault.Fault.{Fault}
-use Rattle.bd_uapi.specs.declared.fault.Fault.TheVariants.{NoProcess, HasProcess, PidTaken, PidRange, WindowSize, NoSuchPid, ManagerBusy}
-use Rattle.bd_space.specs.declared.step.ObjectId.{ObjectId}
-use Rattle.bd_space.specs.declared.step.Step.{Step}
-use Rattle.bd_space.specs.declared.step.Step.TheVariants.{Open, Attach, SetManager, SetSpam, Command, Read, ExitThread, ExitProcess}
-use Rattle.bd_space.specs.declared.step.StepAnswer.TheVariants.{Opened, Set}
-use Rattle.bd_space.specs.declared.space.Process.{Process}
-use Rattle.bd_space.specs.declared.space.Holder.TheVariants.{Manager}
-use Rattle.bd_space.specs.Words.{when, first_of}
-use Rattle.bd_space.specs.Space.{Space}
-use Rattle.bd_space.specs.declared.space.Actor.{Actor}
+use Rattle.bd_space.specs.Words.{Fault, ObjectId, Step, StepAnswer, Process, Manager, when, first_of, Space, Actor}
 use Rattle.bd_space.specs.Seats.{actor, thread_in, process_with_pid}
 use Rattle.bd_space.specs.References.{reference_of, own_in}
 use Rattle.bd_space.specs.Spam.{spam_step}
@@ -31,10 +21,10 @@ is_window n = (n % 4096 == 0) && nat_le 4096 n && nat_le n 4194304
 abbrev pub open_fault : Space → ℕ → ℕ → ℕ → Option Fault
 open_fault s seat pid window =
     first_of (
-    when (not (is_pid pid)) PidRange
-    ∷ when (not (is_window window)) WindowSize
-    ∷ when (is_some (thread_in s.threads seat)) HasProcess
-    ∷ when (is_some (process_with_pid s.processes pid)) PidTaken
+    when (not (is_pid pid)) Fault.PidRange
+    ∷ when (not (is_window window)) Fault.WindowSize
+    ∷ when (is_some (thread_in s.threads seat)) Fault.HasProcess
+    ∷ when (is_some (process_with_pid s.processes pid)) Fault.PidTaken
     ∷ [])
 
 unfoldable pub with_thread : Space → ℕ → ℕ → Space
@@ -46,7 +36,7 @@ with_process s pid euid window =
 
 abbrev pub open_outcome : Space → ℕ → ℕ → ℕ → ℕ → Option Fault → Outcome
 open_outcome s seat pid euid window (Some x) = refused s x
-open_outcome s seat pid euid window None = record { answer = Opened; space = with_thread (with_process s pid euid window) seat s.steps }
+open_outcome s seat pid euid window None = record { answer = StepAnswer.Opened; space = with_thread (with_process s pid euid window) seat s.steps }
 
 unfoldable pub open_step : Space → ℕ → ℕ → ℕ → ℕ → Outcome
 open_step s seat pid euid window = open_outcome s seat pid euid window (open_fault s seat pid window)
@@ -54,9 +44,9 @@ open_step s seat pid euid window = open_outcome s seat pid euid window (open_fau
 -- ---- attaching
 
 abbrev pub attach_outcome : Space → ℕ → Option Process → Bool → Outcome
-attach_outcome s seat q true = refused s HasProcess
-attach_outcome s seat None false = refused s NoSuchPid
-attach_outcome s seat (Some q) false = record { answer = Opened; space = with_thread s seat q.made }
+attach_outcome s seat q true = refused s Fault.HasProcess
+attach_outcome s seat None false = refused s Fault.NoSuchPid
+attach_outcome s seat (Some q) false = record { answer = StepAnswer.Opened; space = with_thread s seat q.made }
 
 unfoldable pub attach_step : Space → ℕ → ℕ → Outcome
 attach_step s seat pid = attach_outcome s seat (process_with_pid s.processes pid) (is_some (thread_in s.threads seat))
@@ -78,8 +68,8 @@ with_manager s p =
     }
 
 abbrev pub manager_outcome : Space → ℕ → Bool → Outcome
-manager_outcome s p true = refused s ManagerBusy
-manager_outcome s p false = record { answer = Set; space = with_manager s p }
+manager_outcome s p true = refused s Fault.ManagerBusy
+manager_outcome s p false = record { answer = StepAnswer.Set; space = with_manager s p }
 
 unfoldable pub manager_step : Space → Actor → Outcome
 manager_step s a = manager_outcome s a.process.made (is_manager_busy s a.process.made)
@@ -88,18 +78,18 @@ manager_step s a = manager_outcome s a.process.made (is_manager_busy s a.process
 
 -- the step of a live thread; a seat without one is refused
 abbrev pub by_actor : Space → Option Actor → (Actor → Outcome) → Outcome
-by_actor s None f = refused s NoProcess
+by_actor s None f = refused s Fault.NoProcess
 by_actor s (Some a) f = f a
 
 unfoldable pub change : Space → ℕ → Step → Outcome
-change s seat (Open pid euid window) = open_step s seat pid euid window
-change s seat (Attach pid) = attach_step s seat pid
-change s seat SetManager = by_actor s (actor s seat) (manager_step s)
-change s seat (SetSpam on) = by_actor s (actor s seat) (spam_step s on)
-change s seat (Command c parcel) = by_actor s (actor s seat) (λ a. command_step s a c parcel)
-change s seat (Read limit) = by_actor s (actor s seat) (λ a. read_step s a limit)
-change s seat ExitThread = by_actor s (actor s seat) (exit_thread_step s)
-change s seat ExitProcess = by_actor s (actor s seat) (exit_process_step s)
+change s seat (Step.Open pid euid window) = open_step s seat pid euid window
+change s seat (Step.Attach pid) = attach_step s seat pid
+change s seat Step.SetManager = by_actor s (actor s seat) (manager_step s)
+change s seat (Step.SetSpam on) = by_actor s (actor s seat) (spam_step s on)
+change s seat (Step.Command c parcel) = by_actor s (actor s seat) (λ a. command_step s a c parcel)
+change s seat (Step.Read limit) = by_actor s (actor s seat) (λ a. read_step s a limit)
+change s seat Step.ExitThread = by_actor s (actor s seat) (exit_thread_step s)
+change s seat Step.ExitProcess = by_actor s (actor s seat) (exit_process_step s)
 
 unfoldable pub counted : Space → Space
 counted s = record s { steps = suc s.steps }

@@ -1,12 +1,6 @@
 -- A write that memory or the full history stops after some of its commands.
 use Rattle.std.specs.Prelude.{ℕ, zero, suc, ◌≡◌, ◌<◌, true, List, [], ◌∷◌, ◌++◌, length, take, Option, Some, None}
-use Rattle.bd_uapi.specs.declared.command.Command.{Command}
-use Rattle.bd_uapi.specs.declared.fault.Fault.{Fault}
-use Rattle.bd_uapi.specs.declared.fault.Fault.TheVariants.{NoMemory, HistoryFull}
-use Rattle.bd_space.specs.declared.step.Step.{Step}
-use Rattle.bd_space.specs.declared.step.Entry.{Entry}
-use Rattle.bd_space.specs.declared.step.Answer.{Answer}
-use Rattle.bd_space.specs.Space.{Space}
+use Rattle.bd_space.specs.Words.{Command, Fault, Step, Entry, Answer, Space}
 use Rattle.bd_space.specs.Histories.{History, history_of, space_after, HasPlace, is_at_limit}
 use Rattle.bd_space.specs.Streams.{commands_of, step_of_command}
 use Rattle.bd_space.specs.Writes.{written, Run, run_of_written, write}
@@ -23,8 +17,8 @@ step_after area (suc n) (c ∷ cs) = step_after area n cs
 
 -- memory may stop it where the history has a place left, the history only where it has reached its limits
 abbrev pub MayStop : Fault → History → ℕ → Option Step → Type 0
-MayStop NoMemory h seat x = HasPlace h
-MayStop HistoryFull h seat x = is_at_limit h seat x ≡ true
+MayStop Fault.NoMemory h seat x = HasPlace h
+MayStop Fault.HistoryFull h seat x = is_at_limit h seat x ≡ true
 MayStop _ h seat x = ⊥
 
 pub record IsCutShort (h : History) (seat : ℕ) (stream area : List ℕ) (es : List Entry) (answer : Answer) : Type 0 where

@@ -1,13 +1,6 @@
 -- The commands of a write: read from its stream, with their parcels cut from its area.
 use Rattle.std.specs.Prelude.{ℕ, zero, suc, ◌+◌, nat_le, ◌&&◌, List, [], ◌∷◌, length, take, drop, Option, Some, None, Ok, Err, if◌then◌else◌}
-use Rattle.bd_uapi.specs.declared.command.TransactionData.{TransactionData}
-use Rattle.bd_uapi.specs.declared.command.Command.{Command}
-use Rattle.bd_uapi.specs.declared.command.Command.TheVariants as bc
-use Rattle.bd_uapi.specs.declared.fault.Fault.{Fault}
-use Rattle.bd_codec.specs.Reading.{command_at}
-use Rattle.bd_space.specs.declared.step.Parcel.{Parcel}
-use Rattle.bd_space.specs.declared.step.Step.{Step}
-use Rattle.bd_space.specs.declared.step.Step.TheVariants as step_of
+use Rattle.bd_space.specs.Words.{TransactionData, Command, Fault, command_at, Parcel, Step}
 
 -- the parcel cut from the area, if it lies inside
 abbrev pub parcel_of : List ℕ → TransactionData → Option Parcel
@@ -17,8 +10,8 @@ parcel_of area d =
     else None
 
 unfoldable pub parcel_for : List ℕ → Command → Option Parcel
-parcel_for area (bc.Transaction d) = parcel_of area d
-parcel_for area (bc.Reply d) = parcel_of area d
+parcel_for area (Command.Transaction d) = parcel_of area d
+parcel_for area (Command.Reply d) = parcel_of area d
 parcel_for area _ = None
 
 -- what is read from a stream's beginning: commands with their lengths, and the fault that the reading ended in, if in one
@@ -40,4 +33,4 @@ unfoldable pub commands_of : List ℕ → Readable
 commands_of stream = readable (length stream) stream
 
 abbrev pub step_of_command : List ℕ → Command → Step
-step_of_command area c = step_of.Command c (parcel_for area c)
+step_of_command area c = Step.Command c (parcel_for area c)

@@ -1,17 +1,6 @@
 -- The step that ends a thread.
 use Rattle.std.specs.Prelude.{ℕ, ◌==◌, Bool, not, ◌&&◌, List, map, Option, Some, None, filter, if◌then◌else◌}
-use Rattle.std.specs.List.{list_any}
-use Rattle.bd_space.specs.declared.step.StepAnswer.TheVariants.{Exited}
-use Rattle.bd_space.specs.declared.space.Reference.{Reference}
-use Rattle.bd_space.specs.declared.space.Frame.{Frame}
-use Rattle.bd_space.specs.declared.space.Work.{Work}
-use Rattle.bd_space.specs.declared.space.Server.{Server}
-use Rattle.bd_space.specs.declared.space.Server.TheVariants.{Pending, Serving, Gone}
-use Rattle.bd_space.specs.declared.space.TodoList.{TodoList}
-use Rattle.bd_space.specs.declared.space.TodoList.TheVariants.{OfThread}
-use Rattle.bd_space.specs.Words.{is_some_and}
-use Rattle.bd_space.specs.Space.{Space}
-use Rattle.bd_space.specs.declared.space.Actor.{Actor}
+use Rattle.bd_space.specs.Words.{list_any, StepAnswer, Reference, Frame, Work, Server, Pending, Serving, Gone, TodoList, OfThread, is_some_and, Space, Actor}
 use Rattle.bd_space.specs.References.{buffer_of_holder}
 use Rattle.bd_space.specs.Todo.{is_on, is_call, hands_out}
 use Rattle.bd_space.specs.Notices.{follow}
@@ -68,4 +57,4 @@ thread_goes s seat = record s {
 }
 
 unfoldable pub exit_thread_step : Space → Actor → Outcome
-exit_thread_step s a = record { answer = Exited; space = settle (follow (thread_goes s a.thread.seat)) }
+exit_thread_step s a = record { answer = StepAnswer.Exited; space = settle (follow (thread_goes s a.thread.seat)) }

@@ -1,16 +1,6 @@
 -- Work items: what is still to be read, and by whom.
 use Rattle.std.specs.Prelude.{ℕ, ◌==◌, Bool, true, false, not, ◌&&◌, List, [], ◌∷◌, ◌++◌, Option, Some, None, filter, count_by, is_none, if◌then◌else◌}
-use Rattle.std.specs.List.{list_any}
-use Rattle.bd_space.specs.declared.step.ObjectId.{ObjectId}
-use Rattle.bd_space.specs.declared.space.Thread.{Thread}
-use Rattle.bd_space.specs.declared.space.Frame.{Frame}
-use Rattle.bd_space.specs.declared.space.Work.{Work}
-use Rattle.bd_space.specs.declared.space.TodoList.{TodoList}
-use Rattle.bd_space.specs.declared.space.TodoList.TheVariants.{OfThread, OfProcess}
-use Rattle.bd_space.specs.declared.space.WorkKind.{WorkKind}
-use Rattle.bd_space.specs.declared.space.WorkKind.TheVariants as work
-use Rattle.bd_space.specs.Words.{same, same_identity}
-use Rattle.bd_space.specs.Space.{Space}
+use Rattle.bd_space.specs.Words.{list_any, ObjectId, Thread, Frame, Work, TodoList, OfThread, OfProcess, WorkKind, same, same_identity, Space}
 use Rattle.bd_space.specs.Frames.{innermost_in}
 
 -- one work item more: its identity is the step's place and the count of items that the step has made before it
@@ -53,34 +43,34 @@ list_to_read s t = work_on s.todo (reads_in s.frames s.todo t)
 
 -- a call, a reply or a verdict on its own list keeps a thread from calling
 abbrev pub keeps_from_calling : WorkKind → Bool
-keeps_from_calling (work.Call b) = true
-keeps_from_calling (work.Reply b) = true
-keeps_from_calling (work.Verdict r) = true
+keeps_from_calling (WorkKind.Call b) = true
+keeps_from_calling (WorkKind.Reply b) = true
+keeps_from_calling (WorkKind.Verdict r) = true
 keeps_from_calling _ = false
 
 unfoldable pub has_unread : Space → ℕ → Bool
 has_unread s seat = list_any (λ w. is_on (OfThread seat) w && keeps_from_calling w.kind) s.todo
 
 abbrev pub is_call : ℕ → WorkKind → Bool
-is_call b (work.Call c) = c == b
+is_call b (WorkKind.Call c) = c == b
 is_call b _ = false
 
 abbrev pub is_notice : ObjectId → WorkKind → Bool
-is_notice o (work.Notice p) = same p o
+is_notice o (WorkKind.Notice p) = same p o
 is_notice o _ = false
 
 abbrev pub notice_of : WorkKind → Option ObjectId
-notice_of (work.Notice o) = Some o
+notice_of (WorkKind.Notice o) = Some o
 notice_of _ = None
 
 abbrev pub death_of : WorkKind → Option ℕ
-death_of (work.Death n) = Some n
+death_of (WorkKind.Death n) = Some n
 death_of _ = None
 
 -- the buffer that is handed over by reading it
 abbrev pub hands_out : WorkKind → Option ℕ
-hands_out (work.Call b) = Some b
-hands_out (work.Reply b) = Some b
+hands_out (WorkKind.Call b) = Some b
+hands_out (WorkKind.Reply b) = Some b
 hands_out _ = None
 
 -- one item: an item is told by its list and its identity

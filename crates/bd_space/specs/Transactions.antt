@@ -1,20 +1,6 @@
 -- The step of BC_TRANSACTION.
 use Rattle.std.specs.Prelude.{ℕ, ◌%◌, ◌^◌, ◌==◌, Bool, true, false, ◌&&◌, [], ◌∷◌, ◌++◌, Option, Some, None, Result, Ok, Err, is_some, is_none, option_map, option_and_then, if◌then◌else◌}
-use Rattle.bd_uapi.specs.declared.command.TransactionData.{TransactionData}
-use Rattle.bd_uapi.specs.declared.command.Return.{Return}
-use Rattle.bd_uapi.specs.declared.command.Return.TheVariants.{DeadReply, FailedReply}
-use Rattle.bd_uapi.specs.declared.fault.Cause.{Cause}
-use Rattle.bd_uapi.specs.declared.fault.Cause.TheVariants.{NotStronglyNamed, NoManager, OwnManager, DeadOwner, NotServing, Unread}
-use Rattle.bd_space.specs.declared.step.ObjectId.{ObjectId}
-use Rattle.bd_space.specs.declared.step.Parcel.{Parcel}
-use Rattle.bd_space.specs.declared.space.Process.{Process}
-use Rattle.bd_space.specs.declared.space.Callee.{Callee}
-use Rattle.bd_space.specs.declared.space.Server.TheVariants.{Pending}
-use Rattle.bd_space.specs.declared.space.TodoList.TheVariants.{OfThread}
-use Rattle.bd_space.specs.declared.space.WorkKind.TheVariants.{Complete, Refusal, Call}
-use Rattle.bd_space.specs.Words.{when, first_of, found_or, unless, and_then}
-use Rattle.bd_space.specs.Space.{Space}
-use Rattle.bd_space.specs.declared.space.Actor.{Actor}
+use Rattle.bd_space.specs.Words.{TransactionData, Return, Cause, ObjectId, Parcel, Process, Callee, Pending, OfThread, WorkKind, when, first_of, found_or, unless, and_then, Space, Actor}
 use Rattle.bd_space.specs.Seats.{process_in}
 use Rattle.bd_space.specs.References.{object_in, owned_in}
 use Rattle.bd_space.specs.Names.{strongly_named}
@@ -37,17 +23,17 @@ handle_of d = d.target % 2 ^ 32
 
 -- 0 is the context manager's object, which its own process may not call; else the handle has to be strongly named
 abbrev pub not_own : Space → ℕ → ObjectId → Result ObjectId Cause
-not_own s p o = unless (when (owned_in s.objects p o) OwnManager) o
+not_own s p o = unless (when (owned_in s.objects p o) Cause.OwnManager) o
 
 unfoldable pub target_of : Space → ℕ → ℕ → Result ObjectId Cause
 target_of s p handle =
-    if handle == 0 then and_then (found_or s.manager NoManager) (not_own s p) else found_or (strongly_named s p handle) NotStronglyNamed
+    if handle == 0 then and_then (found_or s.manager Cause.NoManager) (not_own s p) else found_or (strongly_named s p handle) Cause.NotStronglyNamed
 
 unfoldable pub owner_of : Space → ObjectId → Option Process
 owner_of s o = option_and_then (λ x. process_in s.processes x.owner) (object_in s.objects o)
 
 abbrev pub with_owner : Space → ObjectId → Result Callee Cause
-with_owner s o = found_or (option_map (λ q. record { object = o; process = q }) (owner_of s o)) DeadOwner
+with_owner s o = found_or (option_map (λ q. record { object = o; process = q }) (owner_of s o)) Cause.DeadOwner
 
 unfoldable pub callee_of : Space → ℕ → ℕ → Result Callee Cause
 callee_of s p handle = and_then (target_of s p handle) (with_owner s)
@@ -57,8 +43,8 @@ callee_of s p handle = and_then (target_of s p handle) (with_owner s)
 unfoldable pub caller_cause : Space → ℕ → Option Cause
 caller_cause s seat =
     first_of (
-    when (is_some (innermost s seat) && is_none (served_innermost s seat)) NotServing
-    ∷ when (has_unread s seat) Unread
+    when (is_some (innermost s seat) && is_none (served_innermost s seat)) Cause.NotServing
+    ∷ when (has_unread s seat) Cause.Unread
     ∷ [])
 
 -- ---- the whole test: what is to be delivered, or the first cause against it
@@ -81,7 +67,7 @@ transaction_check s a d parcel =
 -- a two-way call makes a frame and is due at once
 unfoldable pub call_out : Space → ℕ → ℕ → Space
 call_out s seat p =
-    record (owe s (goes_to s seat p) (Call s.steps)) {
+    record (owe s (goes_to s seat p) (WorkKind.Call s.steps)) {
       frames = s.frames ++ record { made = s.steps; caller = Some seat; server = Pending; parent = option_map made_of (innermost s seat) } ∷ [];
     }
 
@@ -93,16 +79,16 @@ called s seat p false = call_out s seat p
 unfoldable pub transacted : Space → Actor → TransactionData → Delivery → Space
 transacted s a d v =
     let z = delivered s a d v in
-    called (owe z (OfThread a.thread.seat) (Complete (is_spam z a v))) a.thread.seat v.receiver.made v.one_way
+    called (owe z (OfThread a.thread.seat) (WorkKind.Complete (is_spam z a v))) a.thread.seat v.receiver.made v.one_way
 
 -- what is left for the writer of a refused transaction
 abbrev pub refusal : Cause → Return
-refusal NoManager = DeadReply
-refusal DeadOwner = DeadReply
-refusal _ = FailedReply
+refusal Cause.NoManager = Return.DeadReply
+refusal Cause.DeadOwner = Return.DeadReply
+refusal _ = Return.FailedReply
 
 abbrev pub transaction_outcome : Space → Actor → TransactionData → Result Delivery Cause → Outcome
-transaction_outcome s a d (Err x) = stopped x (owe s (OfThread a.thread.seat) (Refusal (refusal x)))
+transaction_outcome s a d (Err x) = stopped x (owe s (OfThread a.thread.seat) (WorkKind.Refusal (refusal x)))
 transaction_outcome s a d (Ok v) = accepted (transacted s a d v)
 
 unfoldable pub transaction_step : Space → Actor → TransactionData → Option Parcel → Outcome

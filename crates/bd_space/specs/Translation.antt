@@ -1,15 +1,7 @@
 -- Translation: the objects of a parcel as its receiver is to see them.
 use Rattle.std.specs.Prelude.{ℕ, ◌==◌, ◌&&◌, List, Some, None, find, fold, unwrap_or, if◌then◌else◌}
-use Rattle.bd_uapi.specs.declared.object.FlatObject.{FlatObject}
-use Rattle.bd_uapi.specs.declared.object.ObjectKind.TheVariants.{Binder, WeakBinder, Handle, WeakHandle}
-use Rattle.bd_uapi.specs.Kinds.{is_strong_kind}
-use Rattle.bd_uapi.specs.Records.{object_bytes}
-use Rattle.bd_space.specs.declared.space.Object.{Object}
-use Rattle.bd_space.specs.declared.space.Name.{Name}
-use Rattle.bd_space.specs.Words.{same, overwritten}
-use Rattle.bd_space.specs.Space.{Space}
+use Rattle.bd_space.specs.Words.{FlatObject, Binder, WeakBinder, Handle, WeakHandle, is_strong_kind, object_bytes, Object, Name, same, overwritten, Space, Item}
 use Rattle.bd_space.specs.Names.{number_in}
-use Rattle.bd_space.specs.declared.space.Item.{Item}
 
 -- the receiver's own object, and anybody else's
 abbrev pub as_own : FlatObject → Object → FlatObject

@@ -1,13 +1,6 @@
 -- One-way calls: of one object's, one is due or handed out at a time, in the order in which they were made.
 use Rattle.std.specs.Prelude.{ℕ, Bool, not, ◌&&◌, List, [], ◌∷◌, ◌++◌, Option, None, option_map, if◌then◌else◌}
-use Rattle.std.specs.List.{list_any, filter_map}
-use Rattle.bd_space.specs.declared.space.Buffer.{Buffer}
-use Rattle.bd_space.specs.declared.space.Turn.{Turn}
-use Rattle.bd_space.specs.declared.space.Work.{Work}
-use Rattle.bd_space.specs.declared.space.TodoList.TheVariants.{OfProcess}
-use Rattle.bd_space.specs.declared.space.WorkKind.TheVariants.{Call}
-use Rattle.bd_space.specs.Words.{same}
-use Rattle.bd_space.specs.Space.{Space}
+use Rattle.bd_space.specs.Words.{list_any, filter_map, Buffer, Turn, Work, OfProcess, WorkKind, same, Space}
 use Rattle.bd_space.specs.Todo.{with_work, is_call}
 
 -- the one-way calls whose buffers live, oldest first
@@ -29,7 +22,7 @@ is_ripe todo older t =
 abbrev pub ripened : ℕ → List Turn → List Work → List Turn → List Work
 ripened place older todo [] = todo
 ripened place older todo (t ∷ ts) =
-    ripened place (older ++ t ∷ []) (if is_ripe todo older t then with_work place todo (OfProcess t.receiver) (Call t.made) else todo) ts
+    ripened place (older ++ t ∷ []) (if is_ripe todo older t then with_work place todo (OfProcess t.receiver) (WorkKind.Call t.made) else todo) ts
 
 unfoldable pub ripen : Space → Space
 ripen s = record s { todo = ripened s.steps [] s.todo (turns_of s.buffers) }

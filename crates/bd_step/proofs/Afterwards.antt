@@ -11,7 +11,7 @@ use Rattle.bd_space.specs.Delivery.{Delivery}
 use Rattle.bd_space.specs.Outcomes.{completed}
 use Rattle.bd_space.specs.Transactions.{transacted}
 use Rattle.bd_space.specs.Replies.{replied}
-use Rattle.bd_space.specs.Local.{follow_of, ripen_of, close_up, no_name, objects_of_items}
+use Rattle.bd_ways.specs.Local.{follow_of, ripen_of, close_up, no_name, objects_of_items}
 use Rattle.bd_laws.specs.Lists.{In, Pairs}
 use Rattle.bd_laws.specs.Objects.{Earlier}
 use Rattle.bd_laws.specs.Tidy.{IsTidy}

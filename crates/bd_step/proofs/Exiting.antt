@@ -10,8 +10,8 @@ use Rattle.bd_space.specs.Notices.{follow}
 use Rattle.bd_space.specs.Settle.{settle}
 use Rattle.bd_space.specs.ThreadExits.{thread_goes}
 use Rattle.bd_space.specs.ProcessExits.{threads_go, without_process, tell_deaths}
-use Rattle.bd_space.specs.Local.{NameTest, at_name, no_name, is_among, names_among, follow_of, close_among}
-use Rattle.bd_space.specs.LocalExits.{seats_in}
+use Rattle.bd_ways.specs.Local.{NameTest, at_name, no_name, is_among, names_among, follow_of, close_among}
+use Rattle.bd_ways.specs.LocalExits.{seats_in}
 use Rattle.bd_laws.specs.Lists.{Pairs}
 use Rattle.bd_laws.specs.Objects.{Earlier}
 use Rattle.bd_laws.specs.Tidy.{IsTidy}

@@ -18,7 +18,7 @@ use Rattle.bd_space.specs.Space.{Space}
 use Rattle.bd_space.specs.References.{stays_in}
 use Rattle.bd_space.specs.Names.{is_named_in}
 use Rattle.bd_space.specs.Notices.{with_notice, is_name_of, still_due}
-use Rattle.bd_space.specs.Local.{NameTest, ObjectTest, names_go_of, objects_go_of, deaths_go_of, is_touched, work_goes_of, notify_of, follow_of, at_name, no_name, names_among}
+use Rattle.bd_ways.specs.Local.{NameTest, ObjectTest, names_go_of, objects_go_of, deaths_go_of, is_touched, work_goes_of, notify_of, follow_of, at_name, no_name, names_among}
 use Rattle.bd_objects.specs.Deaths.{is_lost}
 use Rattle.bd_laws.specs.Lists.{In}
 use Rattle.bd_laws.proofs.Lists.{in-filter, filter-in, any-found, any-in}

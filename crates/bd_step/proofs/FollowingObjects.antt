@@ -23,7 +23,7 @@ use Rattle.bd_space.specs.Parcels.{object_of_item}
 use Rattle.bd_space.specs.ReadItems.{is_told_by}
 use Rattle.bd_space.specs.Todo.{notice_of, with_work, is_notice}
 use Rattle.bd_space.specs.Notices.{wants_notice, has_notice_in, with_notice, still_due}
-use Rattle.bd_space.specs.Local.{ObjectTest, names_go_of, objects_go_of, deaths_go_of, is_touched, work_goes_of, notify_of, follow_of, no_name, at_object, is_among, objects_of_items}
+use Rattle.bd_ways.specs.Local.{ObjectTest, names_go_of, objects_go_of, deaths_go_of, is_touched, work_goes_of, notify_of, follow_of, no_name, at_object, is_among, objects_of_items}
 use Rattle.bd_laws.specs.Lists.{In, Pairs}
 use Rattle.bd_laws.specs.Objects.{is_earlier, Earlier, NotLater}
 use Rattle.bd_laws.proofs.Lists.{in-last, in-filter, any-found, any-in, pairs-filter}

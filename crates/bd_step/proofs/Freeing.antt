@@ -19,7 +19,7 @@ use Rattle.bd_space.specs.Freeing.{without_buffer, is_made_at, is_buffer_at, buf
 use Rattle.bd_space.specs.Turns.{turn_of}
 use Rattle.bd_space.specs.Notices.{follow}
 use Rattle.bd_space.specs.Outcomes.{completed}
-use Rattle.bd_space.specs.Local.{NameTest, ObjectTest, names_of_references, objects_of_references, at_name, at_object, is_among, names_among, follow_of, ripen_of}
+use Rattle.bd_ways.specs.Local.{NameTest, ObjectTest, names_of_references, objects_of_references, at_name, at_object, is_among, names_among, follow_of, ripen_of}
 use Rattle.bd_buffers.specs.Buffer.{freed_buffer}
 use Rattle.bd_laws.specs.Lists.{In, Pairs}
 use Rattle.bd_laws.specs.Objects.{Earlier}

@@ -21,8 +21,8 @@ use Rattle.bd_space.specs.Frames.{is_frame, serves}
 use Rattle.bd_space.specs.Todo.{is_on, is_call, is_notice, hands_out}
 use Rattle.bd_space.specs.ThreadExits.{is_lost_with, is_lost_reference, is_unread_on}
 use Rattle.bd_space.specs.ProcessExits.{is_dropped_with}
-use Rattle.bd_space.specs.Local.{is_among}
-use Rattle.bd_space.specs.LocalExits.{is_left_frame, left_frames, left_objects, objects_left, frames_left, seats_in, lists_in, lost_with_process, objects_ended, frames_ended}
+use Rattle.bd_ways.specs.Local.{is_among}
+use Rattle.bd_ways.specs.LocalExits.{is_left_frame, left_frames, left_objects, objects_left, frames_left, seats_in, lists_in, lost_with_process, objects_ended, frames_ended}
 use Rattle.bd_laws.specs.Lists.{In}
 use Rattle.bd_laws.proofs.Lists.{filter-in, in-map, map-in, any-found, any-in}
 use Rattle.bd_laws.proofs.Tests.{both, same-eq, eq-same}

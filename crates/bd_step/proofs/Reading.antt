@@ -8,7 +8,7 @@ use Rattle.bd_space.specs.Space.{Space}
 use Rattle.bd_space.specs.Todo.{work_on}
 use Rattle.bd_space.specs.Notices.{follow}
 use Rattle.bd_space.specs.ReadItems.{read_by, taken, is_told_by}
-use Rattle.bd_space.specs.Local.{ObjectTest, follow_of, no_name, is_among}
+use Rattle.bd_ways.specs.Local.{ObjectTest, follow_of, no_name, is_among}
 use Rattle.bd_laws.specs.Lists.{Pairs}
 use Rattle.bd_laws.specs.Objects.{Earlier}
 use Rattle.bd_laws.specs.Tidy.{IsTidy}

@@ -16,7 +16,7 @@ use Rattle.bd_space.specs.Turns.{ripen}
 use Rattle.bd_space.specs.Notices.{follow, notify, work_goes, deaths_go}
 use Rattle.bd_space.specs.Settle.{settle, settle_one, settle_times, is_abandoned}
 use Rattle.bd_space.specs.Outcomes.{completed}
-use Rattle.bd_space.specs.Local.{close_up, close_among}
+use Rattle.bd_ways.specs.Local.{close_up, close_among}
 use Rattle.bd_processes.specs.Stands.{ProcessesAre}
 use Rattle.bd_objects.specs.Stands as objects
 use Rattle.bd_calls.specs.declared.table.CallTable.{CallTable}

@@ -1,19 +1,11 @@
 -- What is so of a sending that was read, and of a delivery that its receiver's window can take.
-use Rattle.std.specs.Prelude.{ℕ, ◌≡◌, ◌+◌, ◌*◌, ◌≤◌, Bool, List, Option, Some, Result, Ok, All, length}
-use Rattle.bd_uapi.specs.declared.command.TransactionData.{TransactionData}
-use Rattle.bd_uapi.specs.declared.fault.Cause.{Cause}
-use Rattle.bd_space.specs.declared.step.ObjectId.{ObjectId}
-use Rattle.bd_space.specs.declared.step.Parcel.{Parcel}
-use Rattle.bd_space.specs.declared.space.Process.{Process}
-use Rattle.bd_space.specs.declared.space.Object.{Object}
-use Rattle.bd_space.specs.declared.space.Item.{Item}
-use Rattle.bd_space.specs.Words.{and_then}
-use Rattle.bd_space.specs.Space.{Space}
+use Rattle.std.specs.Prelude.{ℕ, ◌≡◌, ◌+◌, ◌*◌, ◌≤◌, Bool, List, Option, Some, Result, Ok, length, All}
+use Rattle.bd_ways.specs.Words.{TransactionData, Cause, ObjectId, Parcel, Process, Object, Item, and_then, Space}
 use Rattle.bd_space.specs.Seats.{process_in}
 use Rattle.bd_space.specs.Windows.{needed, buffers_of, start_for}
 use Rattle.bd_space.specs.Parcels.{Sending}
 use Rattle.bd_space.specs.Delivery.{Delivery}
-use Rattle.bd_space.specs.Tables as tables
+use Rattle.bd_ways.specs.Tables as tables
 use Rattle.bd_nodes.specs.New.{AreNewIn}
 use Rattle.bd_objects.specs.Room as object_rooms
 use Rattle.bd_calls.specs.Room as call_rooms

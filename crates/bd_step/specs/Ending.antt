@@ -1,7 +1,6 @@
 -- Buffers that end by a step.
 use Rattle.std.specs.Prelude.{ℕ, ◌≡◌, Bool, List, map, filter, is_none}
-use Rattle.bd_space.specs.declared.space.Buffer.{Buffer}
-use Rattle.bd_space.specs.Space.{Space}
+use Rattle.bd_ways.specs.Words.{Buffer, Space}
 use Rattle.bd_space.specs.Returns.{buffer_in}
 use Rattle.bd_buffers.specs.WindowsStand.{made_of_buffer}
 

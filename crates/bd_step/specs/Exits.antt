@@ -1,19 +1,11 @@
 -- What is gathered before an exit, so that all that it touches is among it.
 use Rattle.std.specs.Prelude.{ℕ, ◌≡◌, ◌==◌, true, List, Some}
-use Rattle.bd_space.specs.declared.step.ObjectId.{ObjectId}
-use Rattle.bd_space.specs.declared.space.Object.{Object}
-use Rattle.bd_space.specs.declared.space.Reference.{Reference}
-use Rattle.bd_space.specs.declared.space.Frame.{Frame}
-use Rattle.bd_space.specs.declared.space.Work.{Work}
-use Rattle.bd_space.specs.declared.space.WorkKind.{WorkKind}
-use Rattle.bd_space.specs.declared.space.TodoList.{TodoList}
-use Rattle.bd_space.specs.declared.space.TodoList.TheVariants.{OfThread, OfProcess}
-use Rattle.bd_space.specs.Space.{Space}
+use Rattle.bd_ways.specs.Words.{ObjectId, Object, Reference, Frame, Work, WorkKind, TodoList, OfThread, OfProcess, Space}
 use Rattle.bd_space.specs.References.{is_of_buffer}
 use Rattle.bd_space.specs.Frames.{serves}
 use Rattle.bd_space.specs.Todo.{work_on, hands_out, is_call, is_notice}
 use Rattle.bd_space.specs.ProcessExits.{is_dropped_with}
-use Rattle.bd_space.specs.Local.{is_among}
+use Rattle.bd_ways.specs.Local.{is_among}
 use Rattle.bd_laws.specs.Lists.{In}
 use Rattle.bd_nodes.specs.New.{HasAll}
 use Rattle.bd_calls.specs.Closing.{is_place_among}

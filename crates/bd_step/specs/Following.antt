@@ -1,15 +1,10 @@
 -- What follows from a change at chosen names and objects alone.
 use Rattle.std.specs.Prelude.{◌≡◌, false, true, Bool, not, ◌||◌, List, [], ◌∷◌, filter, fold, None, Some}
-use Rattle.bd_space.specs.declared.step.ObjectId.{ObjectId}
-use Rattle.bd_space.specs.declared.space.Work.{Work}
-use Rattle.bd_space.specs.declared.space.WorkKind.{WorkKind}
+use Rattle.bd_ways.specs.Words.{ObjectId, Work, WorkKind, OfProcess, is_some_and, Space}
 use Rattle.bd_space.specs.declared.space.WorkKind.TheVariants as work
-use Rattle.bd_space.specs.declared.space.TodoList.TheVariants.{OfProcess}
-use Rattle.bd_space.specs.Words.{is_some_and}
-use Rattle.bd_space.specs.Space.{Space}
 use Rattle.bd_space.specs.References.{object_in}
 use Rattle.bd_space.specs.Notices.{wants_notice, with_notice}
-use Rattle.bd_space.specs.Local.{NameTest, ObjectTest, names_go_of, objects_go_of, deaths_go_of, work_goes_of, at_object, is_among}
+use Rattle.bd_ways.specs.Local.{NameTest, ObjectTest, names_go_of, objects_go_of, deaths_go_of, work_goes_of, at_object, is_among}
 use Rattle.bd_laws.specs.Lists.{Pairs}
 use Rattle.bd_laws.specs.Objects.{Earlier, NotLater}
 use Rattle.bd_step.specs.declared.tables.Tables.{Tables}

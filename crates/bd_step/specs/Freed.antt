@@ -1,12 +1,10 @@
 -- What follows when a buffer is freed.
 use Rattle.std.specs.Prelude.{ℕ, ◌≡◌, List, Option, Some, None, map, filter, option_map, option_and_then}
-use Rattle.bd_space.specs.declared.step.ObjectId.{ObjectId}
-use Rattle.bd_space.specs.declared.space.Buffer.{Buffer}
-use Rattle.bd_space.specs.Space.{Space}
+use Rattle.bd_ways.specs.Words.{ObjectId, Buffer, Space}
 use Rattle.bd_space.specs.References.{is_of_buffer}
 use Rattle.bd_space.specs.Returns.{buffer_in}
 use Rattle.bd_space.specs.Turns.{turn_of}
-use Rattle.bd_space.specs.Local.{ripen_of, is_among}
+use Rattle.bd_ways.specs.Local.{ripen_of, is_among}
 use Rattle.bd_laws.specs.Lists.{In}
 use Rattle.bd_laws.specs.Tidy.{IsTidy}
 use Rattle.bd_step.specs.Following.{AreTouched}

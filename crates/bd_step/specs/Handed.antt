@@ -1,9 +1,7 @@
 -- Buffers that go before they are handed out.
 use Rattle.std.specs.Prelude.{ℕ, List, Option, Some, None}
+use Rattle.bd_ways.specs.Words.{Work, WorkKind, Space}
 use Rattle.std.specs.List.{fold}
-use Rattle.bd_space.specs.declared.space.Work.{Work}
-use Rattle.bd_space.specs.declared.space.WorkKind.{WorkKind}
-use Rattle.bd_space.specs.Space.{Space}
 use Rattle.bd_space.specs.Todo.{hands_out}
 use Rattle.bd_space.specs.Freeing.{without_buffer}
 

@@ -1,10 +1,6 @@
 -- What the calls that read an engine answer of the space of its history.
 use Rattle.std.specs.Prelude.{ℕ, Bool, List, Option, Some, is_some, option_map, option_and_then}
-use Rattle.std.specs.List.{list_any}
-use Rattle.bd_space.specs.declared.step.ObjectId.{ObjectId}
-use Rattle.bd_space.specs.declared.space.TodoList.TheVariants.{OfThread}
-use Rattle.bd_space.specs.Words.{is_some_and}
-use Rattle.bd_space.specs.Space.{Space}
+use Rattle.bd_ways.specs.Words.{list_any, ObjectId, OfThread, is_some_and, Space}
 use Rattle.bd_space.specs.Seats.{thread_in, process_with_pid}
 use Rattle.bd_space.specs.References.{object_in, is_asking}
 use Rattle.bd_space.specs.Names.{named, number_in}

@@ -1,15 +1,10 @@
 -- What a step of the tables meets: the definition, on every space that they stand for.
 use Rattle.std.specs.Prelude.{ℕ, ◌≡◌, Bool, true, Option, Some, None, Result, Ok, IfOk, IfErr, IsTrue, OnErr}
-use Rattle.bd_uapi.specs.declared.command.TransactionData.{TransactionData}
-use Rattle.bd_space.specs.declared.step.Parcel.{Parcel}
-use Rattle.bd_space.specs.declared.step.StepAnswer.{StepAnswer}
-use Rattle.bd_space.specs.declared.space.Actor.{Actor}
-use Rattle.bd_space.specs.Space.{Space}
+use Rattle.bd_ways.specs.Words.{TransactionData, Parcel, StepAnswer, Actor, Space, Frame}
 use Rattle.bd_space.specs.Seats.{actor}
 use Rattle.bd_space.specs.Names.{has_number_past_limit}
 use Rattle.bd_space.specs.Outcomes.{Outcome}
 use Rattle.bd_space.specs.Delivery.{Delivery}
-use Rattle.bd_space.specs.declared.space.Frame.{Frame}
 use Rattle.bd_space.specs.Frames.{served_innermost}
 use Rattle.bd_space.specs.Transactions.{transaction_check}
 use Rattle.bd_space.specs.Replies.{reply_check}

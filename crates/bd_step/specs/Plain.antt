@@ -1,6 +1,6 @@
 -- Answers that take no memory, and answers twice.
 use Rattle.std.specs.Prelude.{Result, Ok, Err}
-use Rattle.bd_space.specs.declared.step.StepAnswer.{StepAnswer}
+use Rattle.bd_ways.specs.Words.{StepAnswer}
 use Rattle.bd_space.specs.declared.step.StepAnswer.TheVariants as gave
 use Rattle.bd_step.specs.declared.answer.Plain.{Plain}
 use Rattle.bd_step.specs.declared.answer.Twice.{Twice}

@@ -1,10 +1,8 @@
 -- What the tables of an engine stand for: a space.
 use Rattle.std.specs.Prelude.{ℕ, ◌≡◌, ◌+◌, ◌≤◌, true, List, Option}
-use Rattle.bd_space.specs.declared.step.ObjectId.{ObjectId}
-use Rattle.bd_space.specs.declared.space.Process.{Process}
-use Rattle.bd_space.specs.Space.{Space}
+use Rattle.bd_ways.specs.Words.{ObjectId, Process, Space}
 use Rattle.bd_space.specs.Names.{has_number_past_limit}
-use Rattle.bd_space.specs.Tables as tables
+use Rattle.bd_ways.specs.Tables as tables
 use Rattle.bd_laws.specs.Tidy.{IsTidy}
 use Rattle.bd_processes.specs.declared.table.ProcessTable.{ProcessTable}
 use Rattle.bd_processes.specs.Stands.{ProcessesAre}

@@ -1,9 +1,6 @@
 -- How a read takes work items off a list.
 use Rattle.std.specs.Prelude.{ℕ, ◌≡◌, ◌-◌, List, Some}
-use Rattle.bd_space.specs.declared.space.Thread.{Thread}
-use Rattle.bd_space.specs.declared.space.TodoList.{TodoList}
-use Rattle.bd_space.specs.declared.space.Work.{Work}
-use Rattle.bd_space.specs.Space.{Space}
+use Rattle.bd_ways.specs.Words.{Thread, TodoList, Work, Space}
 use Rattle.bd_space.specs.Todo.{list_to_read, work_on}
 use Rattle.bd_space.specs.ReadItems.{taken}
 use Rattle.bd_space.specs.Returns.{stream_of}

@@ -1,10 +1,7 @@
 -- What is told of a process's end, as the work items alone.
 use Rattle.std.specs.Prelude.{ℕ, List, fold}
-use Rattle.bd_space.specs.declared.space.Work.{Work}
-use Rattle.bd_space.specs.declared.space.DeathNotification.{DeathNotification}
-use Rattle.bd_space.specs.declared.space.TodoList.TheVariants.{OfProcess}
+use Rattle.bd_ways.specs.Words.{Work, DeathNotification, OfProcess, Space}
 use Rattle.bd_space.specs.declared.space.WorkKind.TheVariants.{Death}
-use Rattle.bd_space.specs.Space.{Space}
 use Rattle.bd_space.specs.Todo.{with_work}
 
 -- a notification makes a work item of the step at this place

@@ -1,7 +1,7 @@
 //! What follows from a change besides names and objects: a one-way call becomes due, calls close.
 
 ghost use Rattle.std.specs.Prelude.{◌≤◌, length};
-ghost use Rattle.bd_space.specs.Local.{close_up, close_among};
+ghost use Rattle.bd_ways.specs.Local.{close_up, close_among};
 ghost use Rattle.bd_calls.specs.{Closing.{is_place_among}, Room.{work_room, frame_count}};
 ghost use Rattle.bd_step.specs.{Stands.{Uses, MakesWithin}, Freed.{ripen_next}};
 

@@ -10,7 +10,7 @@ ghost use Rattle.bd_space.specs.Deaths as deaths;
 ghost use Rattle.bd_space.specs.Clearing as clearing;
 ghost use Rattle.bd_space.specs.Space.{Space};
 ghost use Rattle.bd_space.specs.ProcessExits as exits;
-ghost use Rattle.bd_space.specs.Tables.{MakesWhere};
+ghost use Rattle.bd_ways.specs.Tables.{MakesWhere};
 ghost use Rattle.bd_deaths.specs.Due.{is_due};
 ghost use Rattle.bd_objects.specs.{Room.{death_room}, New.{IsNewDeath}};
 ghost use Rattle.bd_calls.specs.Room.{work_room};

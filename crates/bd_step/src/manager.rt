@@ -2,7 +2,7 @@
 
 ghost use Rattle.std.specs.Prelude.{◌≤◌};
 ghost use Rattle.bd_space.specs.Steps as steps;
-ghost use Rattle.bd_space.specs.Tables.{MakesWhere};
+ghost use Rattle.bd_ways.specs.Tables.{MakesWhere};
 ghost use Rattle.bd_objects.specs.{Room.{object_room, reference_room}, New.{IsNewManager}};
 ghost use Rattle.bd_step.specs.{Stands.{TellsBefore, Within}, Meets.{IsBy, IsStep}};
 

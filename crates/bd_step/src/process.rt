@@ -6,7 +6,7 @@ ghost use Rattle.bd_space.specs.Space.{Space};
 ghost use Rattle.bd_space.specs.Steps as steps;
 ghost use Rattle.bd_space.specs.ProcessExits as exits;
 ghost use Rattle.bd_space.specs.ThreadExits as thread_exits;
-ghost use Rattle.bd_space.specs.LocalExits.{seats_in};
+ghost use Rattle.bd_ways.specs.LocalExits.{seats_in};
 ghost use Rattle.bd_laws.specs.{Lists.{Pairs}, Objects.{NotLater}};
 ghost use Rattle.bd_processes.specs.Room.{process_room};
 ghost use Rattle.bd_deaths.specs.Due.{due_in};

@@ -8,7 +8,7 @@ ghost use Rattle.bd_space.specs.Steps as steps;
 ghost use Rattle.bd_space.specs.Commands as commands;
 ghost use Rattle.bd_space.specs.Outcomes.{accepted};
 ghost use Rattle.bd_space.specs.ThreadExits as exits;
-ghost use Rattle.bd_space.specs.Tables.{Makes as Changes};
+ghost use Rattle.bd_ways.specs.Tables.{Makes as Changes};
 ghost use Rattle.bd_objects.specs.Room as object_rooms;
 ghost use Rattle.bd_objects.specs.Stands.{StandsFor};
 ghost use Rattle.bd_buffers.specs.WindowsStand.{StandsIn};

@@ -2,7 +2,7 @@
 
 ghost use Rattle.std.specs.Prelude.{◌≡◌, ◌≤◌, [], ◌∷◌, length};
 ghost use Rattle.bd_space.specs.{Space.{Space}, References.{object_in}};
-ghost use Rattle.bd_space.specs.Local.{follow_of, at_name, at_object, no_name, is_among, names_among};
+ghost use Rattle.bd_ways.specs.Local.{follow_of, at_name, at_object, no_name, is_among, names_among};
 ghost use Rattle.bd_laws.specs.{Lists.{Pairs}, Objects.{NotLater}};
 ghost use Rattle.bd_objects.specs.Telling.{owner_due};
 ghost use Rattle.bd_calls.specs.Room.{work_room};

@@ -1,8 +1,8 @@
 -- The two ends of each object's chain.
 use Rattle.std.specs.Prelude.{List, Option, option_map}
+use Rattle.bd_ways.specs.Words.{ObjectId}
 use Rattle.std.specs.HashMap.{HashMap, get}
-use Rattle.bd_space.specs.declared.step.ObjectId.{ObjectId}
-use Rattle.bd_space.specs.Identities.{same_id}
+use Rattle.bd_ways.specs.Identities.{same_id}
 use Rattle.bd_turns.specs.declared.slots.Entry.{Entry}
 use Rattle.bd_turns.specs.declared.ends.Ends.{Ends}
 use Rattle.bd_turns.specs.Slots.{is_on, is_live_on, position, last_position}

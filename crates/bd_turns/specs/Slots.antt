@@ -1,10 +1,8 @@
 -- Slots in the order in which their calls came in. Those of one object are a chain; a call that goes leaves its slot.
-use Rattle.std.specs.Prelude.{ℕ, zero, suc, ◌≡◌, ◌<◌, Bool, false, ◌&&◌, List, [], ◌∷◌, map, get_or, Option, Some, None, option_map, if◌then◌else◌}
+use Rattle.std.specs.Prelude.{ℕ, zero, suc, ◌≡◌, ◌<◌, Bool, false, ◌&&◌, List, [], ◌∷◌, map, Option, Some, None, option_map, if◌then◌else◌, get_or}
+use Rattle.bd_ways.specs.Words.{ObjectId, Turn, same, is_some_and}
 use Rattle.std.specs.Option.{option_or}
 use Rattle.std.specs.List.{slice_get}
-use Rattle.bd_space.specs.declared.step.ObjectId.{ObjectId}
-use Rattle.bd_space.specs.declared.space.Turn.{Turn}
-use Rattle.bd_space.specs.Words.{same, is_some_and}
 use Rattle.bd_turns.specs.declared.ends.Ends.{Ends}
 use Rattle.bd_turns.specs.declared.slots.Entry.{Entry}
 use Rattle.bd_turns.specs.declared.slots.Slot.{Slot}

@@ -1,7 +1,7 @@
 -- A walk over the slots, from one place up to another.
 use Rattle.std.specs.Prelude.{ℕ, zero, suc, ◌≡◌, ◌==◌, ◌≤◌, ◌<◌, Bool, true, not, List, [], ◌∷◌, Some, if◌then◌else◌}
+use Rattle.bd_ways.specs.Words.{Turn}
 use Rattle.std.specs.List.{slice_get}
-use Rattle.bd_space.specs.declared.space.Turn.{Turn}
 use Rattle.bd_turns.specs.declared.slots.Entry.{Entry}
 use Rattle.bd_turns.specs.Slots.{changed_at, gone, handed}
 

@@ -4,7 +4,7 @@ use Rattle.bd_laws.proofs.words.Logic.{◌≡◌, ℕ, ◌+◌, ◌<◌, Bool, f
 use Rattle.bd_laws.proofs.words.Types.{ObjectId, Entry, Buffer}
 use Rattle.bd_laws.proofs.words.Space.{is_some_and, Space, is_made_at, buffer_in, History, after, next, space_after}
 use Rattle.bd_laws.proofs.words.Laws.{In, Pairs, Waits}
-use Rattle.bd_space.proofs.Ranges.{any-some}
+use Rattle.bd_ways.proofs.Ranges.{any-some}
 use Rattle.bd_laws.proofs.Lists.{pairs-map, any-found}
 use Rattle.bd_laws.proofs.Tests.{both, not-eq}
 use Rattle.bd_laws.proofs.Always.{always-tidy}

@@ -14,9 +14,9 @@ unfoldable pub use Rattle.bd_space.specs.Freeing.{buffer_at_pointer, free_step, 
 pub use Rattle.bd_space.specs.Freeing.{free_outcome, is_buffer_at, is_made_at}
 unfoldable pub use Rattle.bd_space.specs.Histories.{is_at_limit, space_after}
 pub use Rattle.bd_space.specs.Histories.{EntryFollows, Follows, History, IsHistory, after, history_of, next}
-unfoldable pub use Rattle.bd_space.specs.Local.{deaths_go_of, follow_of, names_go_of, notify_of, objects_go_of, ripen_of, work_goes_of}
-pub use Rattle.bd_space.specs.Local.{NameTest, ObjectTest, at_name, at_object, close_among, close_up, first_due, is_touched, names_of_references, no_name, objects_of_items, objects_of_references}
-pub use Rattle.bd_space.specs.LocalExits.{frames_ended, frames_left, is_left_frame, left_frames, left_objects, lists_in, lost_with_process, lost_with_thread, names_left, objects_ended, objects_left, seats_in}
+unfoldable pub use Rattle.bd_ways.specs.Local.{deaths_go_of, follow_of, names_go_of, notify_of, objects_go_of, ripen_of, work_goes_of}
+pub use Rattle.bd_ways.specs.Local.{NameTest, ObjectTest, at_name, at_object, close_among, close_up, first_due, is_touched, names_of_references, no_name, objects_of_items, objects_of_references}
+pub use Rattle.bd_ways.specs.LocalExits.{frames_ended, frames_left, is_left_frame, left_frames, left_objects, lists_in, lost_with_process, lost_with_thread, names_left, objects_ended, objects_left, seats_in}
 unfoldable pub use Rattle.bd_space.specs.Names.{assign_numbers, named, names_go, strongly_named}
 pub use Rattle.bd_space.specs.Names.{free_number, if_strongly_named, is_named_in, is_strongly_named_in, named_in, number_in, with_name, with_names}
 unfoldable pub use Rattle.bd_space.specs.Notices.{deaths_go, follow, notify, work_goes}

@@ -4,7 +4,7 @@ use Rattle.bd_space.specs.Words.{changed}
 use Rattle.bd_space.specs.declared.space.DeathNotification.{DeathNotification}
 use Rattle.bd_space.specs.Deaths.{is_notification}
 use Rattle.bd_deaths.specs.Slots.{of, with}
-use Rattle.bd_space.proofs.Ranges.{changed-first, changed-last, changed-written, changed-left}
+use Rattle.bd_ways.proofs.Ranges.{changed-first, changed-last, changed-written, changed-left}
 use Rattle.bd_deaths.proofs.change.change_in.Goals as goal
 use Rattle.bd_deaths.proofs.change.change_in.Goals.{then-slot-made, else-slot-made}
 

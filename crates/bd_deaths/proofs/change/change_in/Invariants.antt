@@ -4,7 +4,7 @@ use Rattle.bd_space.specs.Words.{changed}
 use Rattle.bd_space.specs.declared.space.DeathNotification.{DeathNotification}
 use Rattle.bd_space.specs.Deaths.{is_notification}
 use Rattle.bd_deaths.specs.Slots.{of, with}
-use Rattle.bd_space.specs.Ranges.{IsWithin}
+use Rattle.bd_ways.specs.Ranges.{IsWithin}
 use Rattle.bd_deaths.proofs.change.change_in.Given as goal
 
 abbrev pub invariant-loop-i : goal.invariant-loop-i

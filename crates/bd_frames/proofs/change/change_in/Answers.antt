@@ -2,7 +2,7 @@ use Rattle.std.proofs.Common.{◌≡◌, ◌++◌, ◌<◌, length, refl, set, t
 use Rattle.std.proofs.lemmas.Bool.{eq-eqb, ne_eqb}
 use Rattle.bd_space.specs.Words.{changed}
 use Rattle.bd_space.specs.Frames.{is_frame}
-use Rattle.bd_space.proofs.Ranges.{changed-first, changed-last, changed-written, changed-left}
+use Rattle.bd_ways.proofs.Ranges.{changed-first, changed-last, changed-written, changed-left}
 use Rattle.bd_frames.proofs.change.change_in.Goals as goal
 use Rattle.bd_frames.proofs.change.change_in.Goals.{then-frame-made, else-frame-made}
 

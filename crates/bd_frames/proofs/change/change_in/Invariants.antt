@@ -3,7 +3,7 @@ use Rattle.bd_words.specs.Tables.{AnswersBy}
 use Rattle.bd_space.specs.declared.space.Frame.{Frame}
 use Rattle.bd_space.specs.Words.{changed}
 use Rattle.bd_space.specs.Frames.{is_frame}
-use Rattle.bd_space.specs.Ranges.{IsWithin}
+use Rattle.bd_ways.specs.Ranges.{IsWithin}
 use Rattle.bd_frames.proofs.change.change_in.Given as goal
 
 abbrev pub invariant-loop-i : goal.invariant-loop-i

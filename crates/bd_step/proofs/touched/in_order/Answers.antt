@@ -1,7 +1,7 @@
 use Rattle.std.proofs.Common.{rules, ◌+◌, get_or, sym, ◌∙◌}
 use Rattle.std.proofs.Math.Path.{fun_ext}
 use Rattle.std.proofs.lemmas.List.Sorted.{answers_always, list_any-IsPermutation}
-use Rattle.bd_space.specs.Local.{at_object}
+use Rattle.bd_ways.specs.Local.{at_object}
 use Rattle.bd_laws.proofs.Earlier.{earlier-cmp, sorted-in_order}
 use Rattle.bd_step.proofs.touched.in_order.Goals as goal
 

@@ -1,5 +1,5 @@
 use Rattle.std.proofs.Common.{◌≡◌, ◌-◌, ◌+◌, length, refl, arith, rules}
-use Rattle.bd_space.specs.Local.{close_among}
+use Rattle.bd_ways.specs.Local.{close_among}
 use Rattle.bd_calls.specs.Closing.{is_place_among}
 use Rattle.bd_calls.proofs.Rooms.{uses-both}
 use Rattle.bd_calls.proofs.Closing.{closing-begins, closing-left, closing-over}

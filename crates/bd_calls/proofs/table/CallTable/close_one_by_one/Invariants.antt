@@ -1,4 +1,4 @@
-use Rattle.bd_space.specs.Local.{close_among}
+use Rattle.bd_ways.specs.Local.{close_among}
 use Rattle.bd_calls.specs.Room.{Uses, nothing}
 use Rattle.bd_calls.specs.Closing.{is_place_among}
 use Rattle.bd_calls.proofs.Closing.{IsClosing}

@@ -1,5 +1,5 @@
 use Rattle.std.proofs.Common.{◌≡◌, ◌-◌, ◌+◌, suc, subst, sym, arith, rules}
-use Rattle.bd_space.specs.Local.{close_up}
+use Rattle.bd_ways.specs.Local.{close_up}
 use Rattle.bd_calls.specs.declared.table.CallTable.{CallTable}
 use Rattle.bd_calls.specs.Stands.{StandsFor}
 use Rattle.bd_calls.proofs.Rooms.{uses-both}

@@ -1,6 +1,6 @@
 use Rattle.std.proofs.Common.{◌≡◌, ◌-◌, length}
 use Rattle.bd_space.specs.Space.{Space}
-use Rattle.bd_space.specs.Local.{close_up}
+use Rattle.bd_ways.specs.Local.{close_up}
 use Rattle.bd_calls.specs.Stands.{StandsFor}
 use Rattle.bd_calls.specs.Room.{Uses, nothing}
 use Rattle.bd_calls.proofs.Closing.{IsUpAt}

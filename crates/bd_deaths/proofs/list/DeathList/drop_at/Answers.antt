@@ -2,7 +2,7 @@ use Rattle.std.proofs.Common.{rules, tests, ◌==◌}
 use Rattle.bd_space.specs.Deaths.{is_notification}
 use Rattle.bd_deaths.specs.Due.{is_own_at}
 use Rattle.bd_deaths.proofs.Lives.{live-within, within-on}
-use Rattle.bd_space.proofs.Ranges.{first-of-both}
+use Rattle.bd_ways.proofs.Ranges.{first-of-both}
 use Rattle.bd_deaths.proofs.list.DeathList.drop_at.Goals as goal
 
 pub returns-clause-stands : goal.returns-clause-stands

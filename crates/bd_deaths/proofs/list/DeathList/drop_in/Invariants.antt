@@ -4,7 +4,7 @@ use Rattle.bd_space.specs.Words.{changed}
 use Rattle.bd_space.specs.declared.space.DeathNotification.{DeathNotification}
 use Rattle.bd_deaths.specs.Room.{ListUses}
 use Rattle.bd_deaths.specs.Slots.{lives, on, gone}
-use Rattle.bd_space.specs.Ranges.{IsWithin}
+use Rattle.bd_ways.specs.Ranges.{IsWithin}
 use Rattle.bd_deaths.specs.Stands.{AreIn}
 use Rattle.bd_deaths.proofs.list.DeathList.drop_in.Given as goal
 

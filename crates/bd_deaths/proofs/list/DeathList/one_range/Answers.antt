@@ -1,7 +1,7 @@
 use Rattle.std.proofs.Common.{sym, subst, ◌∙◌}
 use Rattle.bd_space.specs.Deaths.{is_notification}
 use Rattle.bd_deaths.specs.Keys.{has}
-use Rattle.bd_space.specs.Ranges.{IsWithin}
+use Rattle.bd_ways.specs.Ranges.{IsWithin}
 use Rattle.bd_deaths.proofs.Places.{within-none, within-one}
 use Rattle.bd_deaths.proofs.Lives.{rank, live-within, within-lives, within-slots}
 use Rattle.bd_deaths.proofs.list.DeathList.one_range.Goals as goal

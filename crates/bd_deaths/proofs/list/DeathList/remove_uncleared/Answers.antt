@@ -4,9 +4,9 @@ use Rattle.bd_space.specs.Deaths.{is_uncleared_on}
 use Rattle.bd_deaths.specs.declared.key.Key.{Key}
 use Rattle.bd_deaths.specs.Keys.{has, name_key}
 use Rattle.bd_deaths.specs.Slots.{on}
-use Rattle.bd_space.specs.Ranges.{IsWithin}
+use Rattle.bd_ways.specs.Ranges.{IsWithin}
 use Rattle.bd_deaths.proofs.Lives.{within-on}
-use Rattle.bd_space.proofs.Ranges.{last-two}
+use Rattle.bd_ways.proofs.Ranges.{last-two}
 use Rattle.bd_deaths.proofs.list.DeathList.remove_uncleared.Goals as goal
 
 pub returns-clause-stands : goal.returns-clause-stands

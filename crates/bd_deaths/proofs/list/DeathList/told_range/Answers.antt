@@ -3,9 +3,9 @@ use Rattle.bd_space.specs.Clearing.{is_told, is_told_with}
 use Rattle.bd_deaths.specs.declared.key.Key.{Key}
 use Rattle.bd_deaths.specs.Keys.{has, cookie_key}
 use Rattle.bd_deaths.specs.Slots.{on}
-use Rattle.bd_space.specs.Ranges.{IsWithin}
+use Rattle.bd_ways.specs.Ranges.{IsWithin}
 use Rattle.bd_deaths.proofs.Lives.{within-on}
-use Rattle.bd_space.proofs.Ranges.{last-two}
+use Rattle.bd_ways.proofs.Ranges.{last-two}
 use Rattle.bd_deaths.proofs.Told.{told-within}
 use Rattle.bd_deaths.proofs.list.DeathList.told_range.Goals as goal
 

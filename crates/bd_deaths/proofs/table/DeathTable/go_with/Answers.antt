@@ -3,10 +3,10 @@ use Rattle.std.proofs.lemmas.List.Elements.{All-filter}
 use Rattle.bd_space.specs.declared.space.DeathNotification.{DeathNotification}
 use Rattle.bd_space.specs.Words.{same}
 use Rattle.bd_space.specs.Deaths.{is_uncleared_on}
-use Rattle.bd_space.specs.Local.{at_name}
+use Rattle.bd_ways.specs.Local.{at_name}
 use Rattle.bd_deaths.specs.Listed.{IsListed}
 use Rattle.bd_deaths.specs.Stands.{AreIn, DeathsAre}
-use Rattle.bd_space.proofs.Ranges.{all-stay, same-filter}
+use Rattle.bd_ways.proofs.Ranges.{all-stay, same-filter}
 use Rattle.bd_deaths.proofs.Staying.{uncleared-stays, all-named}
 use Rattle.bd_deaths.proofs.table.DeathTable.go_with.Goals as goal
 

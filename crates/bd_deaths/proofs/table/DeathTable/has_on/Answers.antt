@@ -1,7 +1,7 @@
 use Rattle.std.proofs.Common.{refl, ap, ◌∙◌}
 use Rattle.std.specs.List.{list_any}
-use Rattle.bd_space.specs.Local.{at_name}
-use Rattle.bd_space.proofs.Ranges.{same-any}
+use Rattle.bd_ways.specs.Local.{at_name}
+use Rattle.bd_ways.proofs.Ranges.{same-any}
 use Rattle.bd_deaths.specs.Keys.{has, name_key}
 use Rattle.bd_deaths.proofs.table.DeathTable.has_on.Goals as goal
 

@@ -1,8 +1,8 @@
 use Rattle.std.proofs.Common.{◌≡◌, ◌==◌, ◌&&◌, not, Bool, true, false, is_some, refl, ap, sym, ◌∙◌}
 use Rattle.bd_space.specs.Words.{same}
 use Rattle.bd_space.specs.Deaths.{is_uncleared_on}
-use Rattle.bd_space.specs.Local.{at_name}
-use Rattle.bd_space.proofs.Ranges.{any-some, same-any}
+use Rattle.bd_ways.specs.Local.{at_name}
+use Rattle.bd_ways.proofs.Ranges.{any-some, same-any}
 use Rattle.bd_deaths.proofs.table.DeathTable.has_uncleared.Goals as goal
 
 turned : (a b c : Bool) → ((not c && a) && b) ≡ ((a && b) && not c)

@@ -1,10 +1,10 @@
 use Rattle.std.proofs.Common.{◌∙◌, ◌==◌, ◌&&◌, sym}
 use Rattle.bd_space.specs.Deaths.{is_notification}
-use Rattle.bd_space.specs.Local.{at_name}
+use Rattle.bd_ways.specs.Local.{at_name}
 use Rattle.bd_space.specs.declared.space.DeathNotification.{DeathNotification}
 use Rattle.bd_deaths.specs.Slots.{lives}
 use Rattle.bd_deaths.proofs.Lives.{any-lives}
-use Rattle.bd_space.proofs.Ranges.{any-of, first-of-both}
+use Rattle.bd_ways.proofs.Ranges.{any-of, first-of-both}
 use Rattle.bd_deaths.proofs.table.DeathTable.is_on.Goals as goal
 
 pub returns : goal.returns

@@ -3,7 +3,7 @@ use Rattle.bd_space.specs.Frames.{is_frame}
 use Rattle.bd_space.specs.ReadItems.{serve}
 use Rattle.bd_frames.specs.Places.{IsNewestAt}
 use Rattle.bd_frames.specs.Linked.{AreStacks}
-use Rattle.bd_space.proofs.Ranges.{changed-none}
+use Rattle.bd_ways.proofs.Ranges.{changed-none}
 use Rattle.bd_frames.proofs.stacks.Stacks.hand_out.Goals as goal
 
 pub returns-in_default-clause-stands : goal.returns-in_default-clause-stands

@@ -2,7 +2,7 @@ use Rattle.std.proofs.Common.{◌∙◌, ◌&&◌, Bool, ap, find}
 use Rattle.bd_space.specs.declared.space.Frame.{Frame}
 use Rattle.bd_space.specs.Frames.{is_frame}
 use Rattle.bd_space.specs.Settle.{is_abandoned}
-use Rattle.bd_space.proofs.Ranges.{find-of, first-of-both}
+use Rattle.bd_ways.proofs.Ranges.{find-of, first-of-both}
 use Rattle.bd_frames.proofs.Counting.{left-alone}
 use Rattle.bd_frames.proofs.table.FrameTable.abandoned_at.Goals as goal
 

@@ -1,6 +1,6 @@
 use Rattle.std.proofs.Common.{◌∙◌}
 use Rattle.bd_space.specs.Frames.{is_frame}
-use Rattle.bd_space.proofs.Ranges.{find-of}
+use Rattle.bd_ways.proofs.Ranges.{find-of}
 use Rattle.bd_frames.proofs.table.FrameTable.frame.Goals as goal
 
 pub returns : goal.returns

@@ -2,7 +2,7 @@ use Rattle.std.proofs.Common.{ap, refl, rules, sym, subst, ◌∙◌}
 use Rattle.bd_space.specs.Words.{changed}
 use Rattle.bd_space.specs.Frames.{is_frame}
 use Rattle.bd_frames.specs.Words.{lost_frame}
-use Rattle.bd_space.specs.Ranges.{IsWithin}
+use Rattle.bd_ways.specs.Ranges.{IsWithin}
 use Rattle.bd_frames.specs.Places.{RiseIf, IsRising}
 use Rattle.bd_frames.proofs.Places.{rising-changed}
 use Rattle.bd_frames.proofs.InOrder.{older-changed}

@@ -1,7 +1,7 @@
 use Rattle.std.proofs.Common.{ap, ◌∙◌, subst}
 use Rattle.std.specs.List.{between}
 use Rattle.bd_space.specs.Frames.{is_frame}
-use Rattle.bd_space.specs.Ranges.{IsWithin}
+use Rattle.bd_ways.specs.Ranges.{IsWithin}
 use Rattle.bd_frames.specs.Places.{RiseIf}
 use Rattle.bd_frames.proofs.table.FrameTable.made_part.Goals as goal
 

@@ -1,7 +1,7 @@
 use Rattle.std.proofs.Common.{◌∙◌, ap, sym}
 use Rattle.bd_groups.specs.declared.group.Group.{Group}
 use Rattle.bd_groups.specs.Members.{members}
-use Rattle.bd_space.specs.Local.{is_among}
+use Rattle.bd_ways.specs.Local.{is_among}
 use Rattle.bd_nodes.proofs.Listed.{owned-among, owned-is-listed}
 use Rattle.bd_nodes.proofs.table.NodeTable.listed.Goals as goal
 

@@ -2,7 +2,7 @@ use Rattle.std.proofs.Common.{◌≡◌, ◌++◌, ◌==◌, ◌∙◌, map, fil
 use Rattle.std.proofs.lemmas.List.{append-nil}
 use Rattle.bd_space.specs.declared.step.ObjectId.{ObjectId}
 use Rattle.bd_space.specs.declared.space.Object.{Object}
-use Rattle.bd_space.specs.Local.{is_among}
+use Rattle.bd_ways.specs.Local.{is_among}
 use Rattle.bd_space.specs.References.{owned_in}
 use Rattle.bd_nodes.specs.Stands.{NodesAre}
 use Rattle.bd_nodes.proofs.Listed.{owned-among, owned-listed, owns-one}

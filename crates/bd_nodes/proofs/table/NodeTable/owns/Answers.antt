@@ -1,7 +1,7 @@
 use Rattle.std.proofs.Common.{◌==◌, ◌&&◌, ◌∙◌, ap, sym, is_some}
 use Rattle.bd_space.specs.declared.space.Object.{Object}
 use Rattle.bd_space.specs.Words.{same}
-use Rattle.bd_space.proofs.Ranges.{any-some}
+use Rattle.bd_ways.proofs.Ranges.{any-some}
 use Rattle.bd_nodes.proofs.table.NodeTable.owns.Goals as goal
 
 pub returns : goal.returns

@@ -1,5 +1,5 @@
 use Rattle.std.proofs.Common.{sym, subst}
-use Rattle.bd_space.specs.Local.{deaths_go_of}
+use Rattle.bd_ways.specs.Local.{deaths_go_of}
 use Rattle.bd_deaths.specs.Stands.{DeathsAre}
 use Rattle.bd_objects.proofs.AtName.{filtered-at}
 use Rattle.bd_objects.proofs.table.ObjectTable.deaths_go_with.Goals as goal

@@ -3,7 +3,7 @@ use Rattle.bd_space.specs.declared.step.ObjectId.{ObjectId}
 use Rattle.bd_space.specs.declared.space.Object.{Object}
 use Rattle.bd_space.specs.Words.{same}
 use Rattle.bd_space.specs.References.{object_in, stays_in}
-use Rattle.bd_space.specs.Local.{objects_go_of}
+use Rattle.bd_ways.specs.Local.{objects_go_of}
 use Rattle.bd_nodes.specs.Stands.{NodesAre}
 use Rattle.bd_nodes.proofs.Apart.{apart-some, apart-none}
 use Rattle.bd_objects.specs.Telling.{owner_due}

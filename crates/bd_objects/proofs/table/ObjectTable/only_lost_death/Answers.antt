@@ -1,5 +1,5 @@
 use Rattle.std.proofs.Common.{◌∙◌, false, sym}
-use Rattle.bd_space.specs.Local.{deaths_go_of, at_name}
+use Rattle.bd_ways.specs.Local.{deaths_go_of, at_name}
 use Rattle.bd_objects.proofs.AtName.{filtered-at}
 use Rattle.bd_objects.proofs.Lost.{none-named, none-only, stays-made, none-kept, some-lost, item-stays}
 use Rattle.bd_objects.proofs.table.ObjectTable.only_lost_death.Goals as goal

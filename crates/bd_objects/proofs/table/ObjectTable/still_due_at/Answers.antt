@@ -2,7 +2,7 @@ use Rattle.std.proofs.Common.{◌≡◌, ◌==◌, ◌∙◌, ◌&&◌, ◌||◌
 use Rattle.std.specs.List.{list_any}
 use Rattle.bd_space.specs.declared.space.DeathNotification.{DeathNotification}
 use Rattle.bd_space.specs.Notices.{still_due, is_name_of}
-use Rattle.bd_space.specs.Local.{deaths_go_of, at_name, is_touched}
+use Rattle.bd_ways.specs.Local.{deaths_go_of, at_name, is_touched}
 use Rattle.bd_objects.proofs.AtName.{filtered-at}
 use Rattle.bd_objects.proofs.table.ObjectTable.still_due_at.Goals as goal
 

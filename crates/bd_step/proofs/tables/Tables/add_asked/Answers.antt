@@ -1,7 +1,7 @@
 use Rattle.std.proofs.Common.{◌+◌, ◌∙◌, ap, sym, subst}
 use Rattle.bd_space.specs.Asking.{ask}
 use Rattle.bd_space.specs.Names.{assign_numbers}
-use Rattle.bd_space.specs.Local.{follow_of, no_name}
+use Rattle.bd_ways.specs.Local.{follow_of, no_name}
 use Rattle.bd_laws.proofs.Others.{ask-local}
 use Rattle.bd_step.specs.Stands.{Within}
 use Rattle.bd_step.proofs.Standing.{numbers-completed}

@@ -1,6 +1,6 @@
 use Rattle.std.proofs.Common.{rules, take, sym, subst}
 use Rattle.std.proofs.lemmas.List.{take_all}
-use Rattle.bd_space.specs.Local.{names_among, is_among}
+use Rattle.bd_ways.specs.Local.{names_among, is_among}
 use Rattle.bd_laws.specs.Lists.{Pairs}
 use Rattle.bd_laws.specs.Objects.{Earlier}
 use Rattle.bd_step.specs.Stands.{Within}

@@ -1,5 +1,5 @@
 use Rattle.std.proofs.Common.{take}
-use Rattle.bd_space.specs.Local.{names_among}
+use Rattle.bd_ways.specs.Local.{names_among}
 use Rattle.bd_step.specs.Stands.{MakesWithin, UsesNothing}
 use Rattle.bd_step.specs.Following.{names_followed}
 use Rattle.bd_step.proofs.tables.Tables.follow_among.Given as goal

@@ -1,5 +1,5 @@
 use Rattle.std.proofs.Common.{sym, subst, ◌∙◌}
-use Rattle.bd_space.specs.Local.{at_name, deaths_go_of, work_goes_of}
+use Rattle.bd_ways.specs.Local.{at_name, deaths_go_of, work_goes_of}
 use Rattle.bd_step.specs.Stands.{Within}
 use Rattle.bd_step.specs.Following.{deaths_followed, deaths_withdrawn}
 use Rattle.bd_step.proofs.Following.{none-lost}

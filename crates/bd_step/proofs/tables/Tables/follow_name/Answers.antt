@@ -1,5 +1,5 @@
 use Rattle.std.proofs.Common.{◌+◌}
-use Rattle.bd_space.specs.Local.{at_name, names_go_of}
+use Rattle.bd_ways.specs.Local.{at_name, names_go_of}
 use Rattle.bd_step.specs.Following.{names_followed}
 use Rattle.bd_step.proofs.Changing.{with-objects}
 use Rattle.bd_step.proofs.tables.Tables.follow_name.Goals as goal

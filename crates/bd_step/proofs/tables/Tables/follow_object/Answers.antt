@@ -1,4 +1,4 @@
-use Rattle.bd_space.specs.Local.{at_object, objects_go_of}
+use Rattle.bd_ways.specs.Local.{at_object, objects_go_of}
 use Rattle.bd_step.specs.Following.{shed_of}
 use Rattle.bd_step.proofs.tables.Tables.follow_object.Goals as goal
 

@@ -1,5 +1,5 @@
 use Rattle.std.proofs.Common.{subst, ◌∙◌}
-use Rattle.bd_space.specs.Local.{is_among}
+use Rattle.bd_ways.specs.Local.{is_among}
 use Rattle.bd_step.specs.Stands.{Within}
 use Rattle.bd_step.specs.Following.{shed_of}
 use Rattle.bd_step.proofs.FollowingObjects.{objects-followed, one-followed}

@@ -7,7 +7,7 @@ use Rattle.bd_space.specs.Space.{Space}
 use Rattle.bd_space.specs.Outcomes.{Outcome, accepted, noted}
 use Rattle.bd_space.specs.Freeing.{free_step, free_outcome, without_buffer, buffer_at_pointer}
 use Rattle.bd_buffers.specs.Buffer.{freed_buffer}
-use Rattle.bd_space.specs.Local.{is_among}
+use Rattle.bd_ways.specs.Local.{is_among}
 use Rattle.bd_laws.specs.Lists.{Pairs}
 use Rattle.bd_laws.specs.Objects.{NotLater}
 use Rattle.bd_step.specs.Stands.{Within}

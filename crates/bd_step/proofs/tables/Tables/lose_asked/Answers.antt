@@ -1,6 +1,6 @@
 use Rattle.std.proofs.Common.{◌+◌, ◌∷◌, [], ◌∙◌, ap, sym, subst}
 use Rattle.bd_space.specs.Asking.{drop_asked}
-use Rattle.bd_space.specs.Local.{follow_of, at_name, is_among}
+use Rattle.bd_ways.specs.Local.{follow_of, at_name, is_among}
 use Rattle.bd_laws.proofs.Fewer.{dropped-local}
 use Rattle.bd_step.specs.Stands.{Within}
 use Rattle.bd_step.proofs.Changing.{with-objects}

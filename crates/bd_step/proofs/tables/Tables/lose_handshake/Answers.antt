@@ -1,6 +1,6 @@
 use Rattle.std.proofs.Common.{◌+◌, ◌∙◌, ap, sym, subst}
 use Rattle.bd_space.specs.Asking.{acknowledge}
-use Rattle.bd_space.specs.Local.{follow_of, no_name}
+use Rattle.bd_ways.specs.Local.{follow_of, no_name}
 use Rattle.bd_laws.proofs.Fewer.{acknowledged-local}
 use Rattle.bd_step.specs.Stands.{Within}
 use Rattle.bd_step.proofs.Changing.{with-objects}

@@ -1,5 +1,5 @@
 use Rattle.std.proofs.Common.{ap, ◌∙◌}
-use Rattle.bd_space.specs.Local.{is_among, objects_of_items}
+use Rattle.bd_ways.specs.Local.{is_among, objects_of_items}
 use Rattle.bd_step.proofs.FollowingObjects.{among-items}
 use Rattle.bd_step.proofs.tables.Tables.make_ready.Goals as goal
 

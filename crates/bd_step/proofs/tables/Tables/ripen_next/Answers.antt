@@ -1,5 +1,5 @@
 use Rattle.std.proofs.Common.{◌+◌}
-use Rattle.bd_space.specs.Local.{ripen_of}
+use Rattle.bd_ways.specs.Local.{ripen_of}
 use Rattle.bd_step.proofs.Changing.{with-calls}
 use Rattle.bd_step.proofs.tables.Tables.ripen_next.Goals as goal
 

@@ -5,7 +5,7 @@ use Rattle.bd_space.specs.Words.{is_some_and}
 use Rattle.bd_space.specs.Space.{Space}
 use Rattle.bd_space.specs.References.{object_in}
 use Rattle.bd_space.specs.Notices.{wants_notice}
-use Rattle.bd_space.specs.Local.{at_object, objects_go_of}
+use Rattle.bd_ways.specs.Local.{at_object, objects_go_of}
 use Rattle.bd_objects.specs.declared.table.ObjectTable.{ObjectTable}
 use Rattle.bd_objects.specs.Stands as objects
 use Rattle.bd_objects.specs.Telling.{owner_due}

@@ -1,6 +1,6 @@
 use Rattle.std.proofs.Common.{rules, arith, List, take, take_all, sym, subst}
 use Rattle.bd_space.specs.declared.step.ObjectId.{ObjectId}
-use Rattle.bd_space.specs.Local.{is_among}
+use Rattle.bd_ways.specs.Local.{is_among}
 use Rattle.bd_step.specs.Stands.{Within}
 use Rattle.bd_step.specs.Following.{shed_of}
 use Rattle.bd_step.proofs.FollowingObjects.{shed-none, shed-next}

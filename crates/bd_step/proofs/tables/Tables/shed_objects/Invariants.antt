@@ -1,5 +1,5 @@
 use Rattle.std.proofs.Common.{take}
-use Rattle.bd_space.specs.Local.{is_among}
+use Rattle.bd_ways.specs.Local.{is_among}
 use Rattle.bd_step.specs.Stands.{MakesWithin, UsesNothing}
 use Rattle.bd_step.specs.Following.{shed_of}
 use Rattle.bd_step.proofs.tables.Tables.shed_objects.Given as goal

@@ -2,9 +2,9 @@ use Rattle.std.proofs.Common.{rules, not, ◌+◌, ◌||◌, ◌==◌, false, su
 use Rattle.std.proofs.lemmas.List.Elements.{filter_agree}
 use Rattle.bd_space.specs.declared.space.Work.{Work}
 use Rattle.bd_space.specs.Words.{is_some_and}
-use Rattle.bd_space.specs.Tables.{Tells}
+use Rattle.bd_ways.specs.Tables.{Tells}
 use Rattle.bd_space.specs.Todo.{death_of}
-use Rattle.bd_space.specs.Local.{at_name, is_touched, deaths_go_of, work_goes_of}
+use Rattle.bd_ways.specs.Local.{at_name, is_touched, deaths_go_of, work_goes_of}
 use Rattle.bd_space.specs.Notices.{still_due}
 use Rattle.bd_objects.specs.Stands as objects
 use Rattle.bd_calls.specs.Stands as calls

@@ -1,19 +1,12 @@
 -- What an exit has to look at: names, objects and frames, as the space before tells.
 use Rattle.std.specs.Prelude.{ℕ, ◌==◌, Bool, ◌&&◌, ◌||◌, List, [], ◌∷◌, map, filter}
-use Rattle.std.specs.List.{list_any}
-use Rattle.bd_space.specs.declared.space.Work.{Work}
-use Rattle.bd_space.specs.declared.space.TodoList.{TodoList}
-use Rattle.bd_space.specs.declared.space.TodoList.TheVariants.{OfProcess, OfThread}
-use Rattle.bd_space.specs.declared.space.Frame.{Frame}
-use Rattle.bd_space.specs.Words.{same}
+use Rattle.bd_ways.specs.Words.{list_any, Work, TodoList, OfProcess, OfThread, Frame, same, Space, Reference}
 use Rattle.bd_space.specs.Frames.{is_frame, serves}
-use Rattle.bd_space.specs.Space.{Space}
-use Rattle.bd_space.specs.declared.space.Reference.{Reference}
 use Rattle.bd_space.specs.References.{owned_in}
 use Rattle.bd_space.specs.ThreadExits.{is_unread_on, is_lost_reference}
 use Rattle.bd_space.specs.ProcessExits.{is_dropped_with, seat_of}
 use Rattle.bd_space.specs.Todo.{is_notice, is_on}
-use Rattle.bd_space.specs.Local.{NameTest, ObjectTest, names_of_references}
+use Rattle.bd_ways.specs.Local.{NameTest, ObjectTest, names_of_references}
 
 -- one of these threads serves the frame, or finds its call on one of these lists
 abbrev pub is_left_frame : List ℕ → List TodoList → List Work → Frame → Bool

@@ -1,6 +1,6 @@
 -- The test of a map's keys where they are objects' identities. It is `same` of Words, as the impl has it.
 use Rattle.std.specs.Prelude.{Bool}
-use Rattle.bd_space.specs.declared.step.ObjectId.{ObjectId}
+use Rattle.bd_ways.specs.Words.{ObjectId}
 use Rattle.bd_space.specs.contracts.step.ObjectIdPartialEq.TheImpl as ids
 
 abbrev pub same_id : ObjectId → ObjectId → Bool

@@ -4,7 +4,7 @@ use Rattle.std.specs.List.{list_any, between}
 use Rattle.std.proofs.lemmas.Slice.{between_is}
 use Rattle.std.proofs.lemmas.List.{take-append-drop, get_or_default, set-get_or}
 use Rattle.bd_space.specs.Words.{changed}
-use Rattle.bd_space.specs.Ranges.{IsWithin, IsPartOf}
+use Rattle.bd_ways.specs.Ranges.{IsWithin, IsPartOf}
 use Rattle.bd_space.proofs.Changed.{changed-then, changed-else}
 
 pub none-before : {A : Type 0} (q : A → Bool) (xs : List A) (i : ℕ) → ((k : ℕ) (d : A) → k < i → k < length xs → q (get_or xs k d) ≡ false) → list_any q (take i xs) ≡ false

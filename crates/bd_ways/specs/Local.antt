@@ -1,22 +1,10 @@
 -- The consequences of a change, worked out at chosen names, objects and frames alone.
 use Rattle.std.specs.Prelude.{ℕ, zero, suc, ◌==◌, Bool, false, not, ◌&&◌, ◌||◌, List, filter, fold, Option, None, Some, find, if◌then◌else◌}
-use Rattle.std.specs.List.{list_any}
-use Rattle.bd_space.specs.declared.step.ObjectId.{ObjectId}
-use Rattle.bd_space.specs.declared.space.Work.{Work}
-use Rattle.bd_space.specs.declared.space.DeathNotification.{DeathNotification}
-use Rattle.bd_space.specs.declared.space.TodoList.TheVariants.{OfProcess}
-use Rattle.bd_space.specs.declared.space.WorkKind.{WorkKind}
-use Rattle.bd_space.specs.declared.space.WorkKind.TheVariants as work
-use Rattle.bd_uapi.specs.declared.command.Return.TheVariants.{DeadReply}
-use Rattle.bd_space.specs.Words.{same, is_some_and}
+use Rattle.bd_ways.specs.Words.{list_any, ObjectId, Work, DeathNotification, OfProcess, WorkKind, Return, same, is_some_and, Space, Reference, Item, Turn}
 use Rattle.bd_space.specs.Frames.{is_frame, closed}
 use Rattle.bd_space.specs.Settle.{is_abandoned}
-use Rattle.bd_space.specs.Space.{Space}
-use Rattle.bd_space.specs.declared.space.Reference.{Reference}
-use Rattle.bd_space.specs.declared.space.Item.{Item}
 use Rattle.bd_space.specs.References.{stays_in, names_for}
 use Rattle.bd_space.specs.Names.{is_named_in}
-use Rattle.bd_space.specs.declared.space.Turn.{Turn}
 use Rattle.bd_space.specs.Todo.{with_work, is_call, tell_caller}
 use Rattle.bd_space.specs.Turns.{turns_of}
 use Rattle.bd_space.specs.Notices.{is_name_of, still_due, with_notice}
@@ -39,8 +27,8 @@ deaths_go_of a s = record s { deaths = filter (λ x. not (a x.process x.object) 
 
 -- an item to look at: a chosen object's Notice, or a chosen notification's Death
 abbrev pub is_touched : NameTest → ObjectTest → List DeathNotification → WorkKind → Bool
-is_touched a b deaths (work.Notice o) = b o
-is_touched a b deaths (work.Death n) = list_any (λ x. (x.made == n) && a x.process x.object) deaths
+is_touched a b deaths (WorkKind.Notice o) = b o
+is_touched a b deaths (WorkKind.Death n) = list_any (λ x. (x.made == n) && a x.process x.object) deaths
 is_touched a b deaths _ = false
 
 unfoldable pub work_goes_of : NameTest → ObjectTest → List DeathNotification → Space → Space
@@ -60,7 +48,7 @@ follow_of a b s = notify_of b (work_goes_of a b s.deaths (deaths_go_of a (object
 abbrev pub first_due : ℕ → List Work → Option Turn → List Work
 first_due place todo None = todo
 first_due place todo (Some t) =
-    if not t.handed && not (list_any (λ w. is_call t.made w.kind) todo) then with_work place todo (OfProcess t.receiver) (work.Call t.made) else todo
+    if not t.handed && not (list_any (λ w. is_call t.made w.kind) todo) then with_work place todo (OfProcess t.receiver) (WorkKind.Call t.made) else todo
 
 unfoldable pub ripen_of : ObjectId → Space → Space
 ripen_of o s = record s { todo = first_due s.steps s.todo (find (λ t. same t.target o) (turns_of s.buffers)) }
@@ -103,7 +91,7 @@ close_up (suc n) None s = s
 close_up (suc n) (Some m) s =
     elim (find (λ f. is_frame m f && is_abandoned s.frames f) s.frames) [
       | None ↦ s
-      | Some f ↦ close_up n f.parent (tell_caller (closed s f.made) f (work.Verdict DeadReply))
+      | Some f ↦ close_up n f.parent (tell_caller (closed s f.made) f (WorkKind.Verdict Return.DeadReply))
     ]
 
 -- ---- settling among chosen frames: closes the oldest abandoned one and adds its parent to the choice, n times at most
@@ -113,5 +101,5 @@ close_among zero c s = s
 close_among (suc n) c s =
     elim (find (λ f. c f.made && is_abandoned s.frames f) s.frames) [
       | None ↦ s
-      | Some f ↦ close_among n (λ m. c m || is_some_and f.parent (λ p. p == m)) (tell_caller (closed s f.made) f (work.Verdict DeadReply))
+      | Some f ↦ close_among n (λ m. c m || is_some_and f.parent (λ p. p == m)) (tell_caller (closed s f.made) f (WorkKind.Verdict Return.DeadReply))
     ]
