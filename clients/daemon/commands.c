@@ -47,6 +47,13 @@ static void note_call(struct thread *thread, bool is_reply, bool is_one_way, con
     }
 }
 
+/* As the kernel's driver has it, nobody calls the context manager through another file that its own process has opened. */
+static bool calls_own_manager(const struct run *run, const struct binder_transaction_data *data)
+{
+    const struct process *manager = run->engine->manager, *process = run->thread->process;
+    return data->target.handle == 0 && manager && manager != process && manager->pid == process->pid;
+}
+
 static int run_call(struct run *run, uint32_t code, const uint8_t *payload)
 {
     static struct parcel parcel;
@@ -61,6 +68,8 @@ static int run_call(struct run *run, uint32_t code, const uint8_t *payload)
     parcel_fetch(&parcel, run->thread->page, &record, run->fds, run->fd_count);
 
     struct call_command command = {is_reply ? BC_REPLY : BC_TRANSACTION, record.transaction_data};
+    if (!is_reply && calls_own_manager(run, &record.transaction_data))
+        command.data.target.handle = NO_HANDLE;
     if (!parcel.is_lost) {
         command.data.data_size = parcel.data_size;
         command.data.offsets_size = parcel.offsets_size;

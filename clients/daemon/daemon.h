@@ -28,6 +28,9 @@
 #define READ_LEAST 72u
 #define READ_LONGEST 68u
 
+/* A handle that nobody has. */
+#define NO_HANDLE UINT32_MAX
+
 /* A flag that no binder header has: the parcel ends with a `struct trailer` (parcels.c). The daemon takes it off what
    clients write. */
 #define FLAG_TRAILER 0x80000000u
@@ -140,6 +143,10 @@ struct engine {
     uint32_t *lost_seats;     /* a stack: no memory was there to end the engine's thread with that seat */
     uint32_t lost_count;
     struct list seatless;     /* threads whose request waits for a seat */
+
+    const struct process *manager; /* NULL: there is no context manager */
+    uid_t manager_euid;            /* of the first, and so of all .. */
+    bool has_had_manager;          /* .. once there was one */
 
     struct list processes;
     struct list by_pid[256];  /* processes by the pid that they have in the engine */

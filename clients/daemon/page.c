@@ -108,15 +108,25 @@ static int write_read(struct thread *thread, const struct page_request *request)
     return error;
 }
 
+/* As with the kernel's driver, all context managers of a device are of one user: the first one's. */
 static int set_manager(struct thread *thread)
 {
-    struct engine *engine = thread->process->engine;
+    struct process *process = thread->process;
+    struct engine *engine = process->engine;
+    uid_t euid;
+    bool may = caller_euid(&process->caller, &euid) && (!engine->has_had_manager || euid == engine->manager_euid);
+    if (!may && !engine->manager)
+        return EPERM;
     int error = engine_set_manager(engine, thread->seat);
     if (!error && engine->answer.kind != HULLPIPPIN_SET)
         return EBUSY;
-    if (!error)
-        log_event("process %d is the context manager of %s", thread->process->pid, engine->device);
-    return error;
+    if (error)
+        return error;
+    engine->manager = process;
+    engine->manager_euid = euid;
+    engine->has_had_manager = true;
+    log_event("process %d is the context manager of %s", process->pid, engine->device);
+    return 0;
 }
 
 static void exit_thread(struct thread *thread)

@@ -259,6 +259,8 @@ void process_end(struct process *process)
     struct engine *engine = process->engine;
     if (process->engine_pid)
         exit_in_engine(process);
+    if (engine && engine->manager == process)
+        engine->manager = NULL;
     while (!list_is_empty(&process->threads))
         thread_free(container_of(process->threads.next, struct thread, in_process));
     list_remove(&process->in_engine);

@@ -1,14 +1,18 @@
 /*
  * two_opens: a process that opens the device twice is two processes to the driver. One of its threads serves through
- * the one and others call through the other; after the one is closed, the other goes on.
+ * the one and others call through the other; after the one is closed, the other goes on. Only the context manager can't be called
+ * through another file of its own process, and all managers have to be of one user, as Linux's driver has it.
  */
 #include "raw.h"
 
 #include <errno.h>
 #include <pthread.h>
 #include <stdio.h>
+#include <unistd.h>
 
 #define CALLS 200
+
+enum { KEEP = 1, HAND, QUIT };
 
 static struct client one, other;
 
@@ -28,25 +32,50 @@ static void *serve(void *with)
     raw_fail(__FILE__, __LINE__, "the device failed");
 }
 
+/* The manager keeps one object, and hands it to who asks. */
+static void keep(struct looper *looper, const struct binder_transaction_data *call)
+{
+    static uint32_t kept;
+    struct writer writer = {0};
+    if (call->code == QUIT)
+        _exit(0);
+    if (call->code == KEEP)
+        kept = raw_keep(looper, call);
+    if (call->code == HAND)
+        write_strong_handle(&writer, kept);
+    struct binder_transaction_data answer = record_of(&writer);
+    CHECK(looper_answer(looper, &answer, 0), "can't answer");
+    writer_free(&writer);
+}
+
+/* The handle of the object that the manager keeps. */
+static uint32_t fetch(struct client *client)
+{
+    struct binder_transaction_data reply;
+    CHECK(raw_call(&client->looper, (struct call){.code = HAND}, &reply) == BR_REPLY, "the manager hands nothing over");
+    uint32_t handle = raw_keep(&client->looper, &reply);
+    looper_free(&client->looper, &reply);
+    return handle;
+}
+
 static void call_often(struct client *through)
 {
+    uint32_t handle = fetch(through);
     for (uint32_t i = 0; i < CALLS; i++) {
-        uint32_t answer = raw_ask(&through->looper, (struct call){.bytes = &i, .size = sizeof i});
+        uint32_t answer = raw_ask(&through->looper, (struct call){.handle = handle, .bytes = &i, .size = sizeof i});
         CHECK(answer == 2 * i, "the answer to %u was %u", i, answer);
     }
 }
 
-int main(void)
+static void call_each_other(void)
 {
     pthread_t thread;
     struct client third;
     struct binder_transaction_data reply;
-    raw_begin(30);
     raw_open(&one, WINDOW, double_it);
     raw_open(&other, WINDOW / 2, NULL);
     CHECK(one.binder.fd != other.binder.fd && one.binder.window != other.binder.window, "both opens are the same");
-    CHECK(binder_become_manager(&one.binder), "can't be the context manager");
-    CHECK(!binder_become_manager(&other.binder) && errno == EBUSY, "there are two context managers");
+    raw_give(&one, KEEP);
     CHECK(!pthread_create(&thread, NULL, serve, NULL), "no thread");
     call_often(&other);
     raw_open(&third, WINDOW, NULL);
@@ -55,6 +84,33 @@ int main(void)
     binder_close(&other.binder);
     call_often(&third);
     CHECK(raw_call(&third.looper, (struct call){.handle = 7}, &reply) == BR_FAILED_REPLY, "there is a handle that nobody gave");
-    printf("%u calls within one process\n", 3 * CALLS);
+}
+
+/* The file of the first manager stays open; another one takes its place. */
+static void manage(void)
+{
+    struct client manager, third;
+    struct binder_transaction_data reply;
+    raw_open(&manager, WINDOW, NULL);
+    raw_open(&third, WINDOW, NULL);
+    CHECK(raw_call(&third.looper, (struct call){.code = QUIT}, &reply) == BR_DEAD_REPLY, "who ends answers");
+    if (!geteuid()) {
+        CHECK(!seteuid(1000) && !binder_become_manager(&manager.binder) && errno == EPERM, "another user's is the context manager");
+        CHECK(!seteuid(0), "can't be root again");
+    }
+    CHECK(binder_become_manager(&manager.binder), "can't be the context manager");
+    CHECK(!binder_become_manager(&third.binder) && errno == EBUSY, "there are two context managers");
+    CHECK(raw_call(&third.looper, (struct call){0}, &reply) == BR_FAILED_REPLY, "a process calls its own manager");
+    CHECK(raw_call(&manager.looper, (struct call){0}, &reply) == BR_FAILED_REPLY, "the manager calls itself");
+}
+
+int main(void)
+{
+    raw_begin(30);
+    pid_t manager = raw_start_manager(keep);
+    call_each_other();
+    manage();
+    raw_join(manager);
+    printf("%u calls within one process, and none of its own manager\n", 3 * CALLS);
     return 0;
 }
