@@ -23,11 +23,19 @@ static bool is_plain_manager(const struct flat_binder_object *object)
     return !(object->flags & FLAT_BINDER_FLAG_TXN_SECURITY_CTX) && !object->binder && !object->cookie;
 }
 
+/* Whether the argument is there that a request has: its number says how large it is, and who reads or writes it. Of what has none,
+   and what is no request, nothing is looked at. */
+static bool has_argument(unsigned long request, const void *argument)
+{
+    bool has_none = request == BINDER_SET_CONTEXT_MGR || request == BINDER_THREAD_EXIT || _IOC_TYPE(request) != 'b';
+    uint64_t size = _IOC_SIZE(request);
+    return has_none || (_IOC_DIR(request) & _IOC_READ ? memory_can_be_written(argument, size) : memory_can_be_read(argument, size));
+}
+
 /* 0, or an errno. What the kernel has besides these is told to be unknown, as an older kernel would. */
 static int do_ioctl(struct device *device, struct link *link, unsigned long request, void *argument)
 {
-    bool wants_argument = request != BINDER_SET_CONTEXT_MGR && request != BINDER_THREAD_EXIT;
-    if (wants_argument && !argument)
+    if (!has_argument(request, argument))
         return EFAULT;
     switch (request) {
     case BINDER_WRITE_READ:

@@ -62,12 +62,12 @@ static void put_part(uint8_t *to, uint64_t from, uint64_t size)
     memset(to + size, 0, round8(size) - size);
 }
 
-/* A buffer that doesn't fit is left where it is: that is no place, and the daemon refuses the parcel. */
+/* A buffer that doesn't fit, or isn't there, is left where it is: that is no place, and the daemon refuses the parcel. */
 static void pack_buffer(struct copy *copy, uint8_t *at)
 {
     struct binder_buffer_object object;
     memcpy(&object, at, sizeof object);
-    if (object.length > copy->extra_size - copy->used) {
+    if (object.length > copy->extra_size - copy->used || !memory_can_be_read((const void *)(uintptr_t)object.buffer, object.length)) {
         object.buffer = PAGE_NOWHERE;
     } else {
         put_part(copy->extra + copy->used, object.buffer, object.length);
@@ -134,12 +134,18 @@ static void copy_parcel(struct packing *packing, struct binder_transaction_data_
     packing->area_size += round8(data->data_size) + round8(data->offsets_size) + round8(record->buffers_size);
 }
 
+static bool is_there(const struct binder_transaction_data *data)
+{
+    return memory_can_be_read((const void *)(uintptr_t)data->data.ptr.buffer, data->data_size)
+           && memory_can_be_read((const void *)(uintptr_t)data->data.ptr.offsets, data->offsets_size);
+}
+
 bool parcel_pack(struct packing *packing, struct binder_transaction_data_sg *record, bool is_first)
 {
     struct binder_transaction_data *data = &record->transaction_data;
     bool is_small = data->data_size <= PAGE_AREA && data->offsets_size <= PAGE_AREA && record->buffers_size <= PAGE_AREA;
     uint64_t size = is_small ? round8(data->data_size) + round8(data->offsets_size) + round8(record->buffers_size) : UINT64_MAX;
-    if (size > PAGE_AREA) { /* no window has room for it: it is told without its bytes, and refused */
+    if (size > PAGE_AREA || !is_there(data)) { /* no window has room for it, or nobody has it: it is told without its bytes, and refused */
         data->data.ptr.buffer = data->data.ptr.offsets = PAGE_NOWHERE;
         return true;
     }

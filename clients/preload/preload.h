@@ -43,6 +43,8 @@ struct real {
     int (*ioctl)(int fd, unsigned long request, ...);
     void *(*mmap)(void *at, size_t size, int protection, int flags, int fd, off_t offset);
     int (*munmap)(void *at, size_t size);
+    int (*mprotect)(void *at, size_t size, int protection);
+    void *(*mremap)(void *at, size_t size, size_t new_size, int flags, ...);
     int (*stat)(const char *path, struct stat *to);
     int (*lstat)(const char *path, struct stat *to);
     int (*fstat)(int fd, struct stat *to);
@@ -73,6 +75,13 @@ void cancel_again(int before);
 void say(const char *format, ...) __attribute__((format(printf, 1, 2)));
 /* The same unless HULLPIPPIN_LOG is 0. */
 void complain(const char *format, ...) __attribute__((format(printf, 1, 2)));
+
+/* --- memory.c: whether the program's pointers lead anywhere. errno stays as it is. --- */
+
+bool memory_can_be_read(const void *at, uint64_t size);
+bool memory_can_be_written(const void *at, uint64_t size);
+/* The program has unmapped or protected something. */
+void memory_changed(void);
 
 /* --- arrays.c: descriptors of FDA objects. --- */
 
@@ -178,6 +187,7 @@ struct packing {
     struct page *page;
     uint32_t stream_size;
     bool is_over; /* its last command is cut short: what follows is none */
+    bool is_lost; /* the program's memory ends before the next command does */
     uint64_t area_size;
     uint32_t fd_count;
     int fds[DESCRIPTORS_MAX];

@@ -35,6 +35,8 @@ static void look_up_all(void)
     look_up(&functions.ioctl, "ioctl");
     look_up(&functions.mmap, "mmap");
     look_up(&functions.munmap, "munmap");
+    look_up(&functions.mprotect, "mprotect");
+    look_up(&functions.mremap, "mremap");
     look_up(&functions.stat, "stat");
     look_up(&functions.lstat, "lstat");
     look_up(&functions.fstat, "fstat");

@@ -119,6 +119,7 @@ EXPORT int ioctl(int fd, unsigned long request, ...)
 /* What is mapped there may be a window, or a part of one. */
 static void unmapped(void *at, size_t size)
 {
+    memory_changed();
     if (devices_are_mapped())
         device_unmapped(at, size);
 }
@@ -129,6 +130,25 @@ EXPORT int munmap(void *at, size_t size)
     if (!result)
         unmapped(at, size);
     cancel_again(before);
+    return result;
+}
+
+EXPORT int mprotect(void *at, size_t size, int protection)
+{
+    int result = real()->mprotect(at, size, protection);
+    memory_changed();
+    return result;
+}
+
+/* A window isn't moved: no program does that, and what is left of one that is would count as mapped. */
+EXPORT void *mremap(void *at, size_t size, size_t new_size, int flags, ...)
+{
+    va_list rest;
+    va_start(rest, flags);
+    void *to = flags & MREMAP_FIXED ? va_arg(rest, void *) : NULL;
+    va_end(rest);
+    void *result = real()->mremap(at, size, new_size, flags, to);
+    memory_changed();
     return result;
 }
 

@@ -35,17 +35,23 @@ static void take_arrays(struct device *device, const uint8_t *free_command, stru
 
 /* Puts one command at the end of the stream: its size, or 0 where it has to wait for the next stream. A command that
    is cut short, or longer than any, is the last, and goes without its payload: the daemon says what the kernel would. What
-   follows is no command, and may be anything. */
+   follows is no command, and may be anything. One whose bytes aren't there isn't put anywhere. */
 static uint32_t pack_command(struct packing *packing, const uint8_t *command, uint64_t left)
 {
     uint8_t *to = packing->page->stream + packing->stream_size;
     uint32_t code = 0, room = PAGE_STREAM - packing->stream_size;
+    packing->is_lost = !memory_can_be_read(command, left < sizeof code ? left : sizeof code);
+    if (packing->is_lost)
+        return 0;
     memcpy(&code, command, left < sizeof code ? left : sizeof code);
     uint64_t size = left < sizeof code ? left : sizeof code + _IOC_SIZE(code);
     bool is_whole = left >= sizeof code && size <= left && size <= PAGE_STREAM;
     if (!is_whole)
         size = left < sizeof code ? left : sizeof code;
     if (size > room)
+        return 0;
+    packing->is_lost = !memory_can_be_read(command, size);
+    if (packing->is_lost)
         return 0;
     packing->is_over = !is_whole;
     memcpy(to, command, size);
@@ -90,6 +96,11 @@ static int place_descriptors(struct link *link, uint32_t wanted)
     return link_ask(link, &request, &answer);
 }
 
+static void *place_of_returns(const struct binder_write_read *what)
+{
+    return (uint8_t *)(uintptr_t)what->read_buffer + what->read_consumed;
+}
+
 /* Makes one request of what was packed, and takes its answer. */
 static int exchange(struct link *link, const struct packing *packing, uint32_t room, struct binder_write_read *what,
                     struct page_answer *answer)
@@ -105,9 +116,13 @@ static int exchange(struct link *link, const struct packing *packing, uint32_t r
     what->write_consumed += answer->consumed;
     if (error || !answer->returns_size || answer->returns_size > room)
         return error;
-    memcpy((uint8_t *)(uintptr_t)what->read_buffer + what->read_consumed, link->page->returns, answer->returns_size);
-    what->read_consumed += answer->returns_size;
-    return answer->descriptors ? place_descriptors(link, answer->descriptors) : 0;
+    bool is_there = memory_can_be_written(place_of_returns(what), answer->returns_size);
+    if (is_there) {
+        memcpy(place_of_returns(what), link->page->returns, answer->returns_size);
+        what->read_consumed += answer->returns_size;
+    }
+    error = answer->descriptors ? place_descriptors(link, answer->descriptors) : 0;
+    return is_there ? error : EFAULT;
 }
 
 static uint32_t room_for_returns(const struct binder_write_read *what)
@@ -123,7 +138,8 @@ static bool free_buffers(struct link *link, struct binder_write_read *what)
     const uint8_t *commands = (const uint8_t *)(uintptr_t)what->write_buffer + what->write_consumed;
     uint64_t size = what->write_size - what->write_consumed, each = sizeof(uint32_t) + _IOC_SIZE(BC_FREE_BUFFER);
     uint64_t buffers[PAGE_FREES];
-    if (room_for_returns(what) || what->write_size <= what->write_consumed || size % each || size / each > PAGE_FREES)
+    if (room_for_returns(what) || what->write_size <= what->write_consumed || size % each || size / each > PAGE_FREES
+        || !memory_can_be_read(commands, size))
         return false;
     for (uint64_t i = 0; i < size / each; i++) {
         uint32_t code;
@@ -142,27 +158,32 @@ static bool free_buffers(struct link *link, struct binder_write_read *what)
     return true;
 }
 
-/* A refused command ends the write, not the read. */
+/* Whether there is a place for the first return, so that no read waits for what nobody gets. */
+static bool is_place(const struct binder_write_read *what, uint32_t room)
+{
+    return memory_can_be_written(place_of_returns(what), room < sizeof(uint32_t) ? room : sizeof(uint32_t));
+}
+
+/* A refused command ends the write, not the read. Memory that isn't there ends both, once what comes before it is done. */
 int write_read(struct link *link, struct binder_write_read *what)
 {
-    bool is_last = false, is_refused = false;
-    if (free_buffers(link, what))
-        return 0;
-    while (!is_last) {
+    bool is_end = free_buffers(link, what), is_refused = false;
+    while (!is_end) {
         struct packing packing = {.device = link->device, .page = link->page};
         struct page_answer answer;
         uint64_t left = what->write_size > what->write_consumed && !is_refused ? what->write_size - what->write_consumed : 0;
         uint64_t packed = pack_stream(&packing, (const uint8_t *)(uintptr_t)what->write_buffer + what->write_consumed, left);
-        is_last = packed == left || packing.is_over;
-        uint32_t room = is_last ? room_for_returns(what) : 0;
-        if (!packing.stream_size && !room)
-            break;
-        int error = exchange(link, &packing, room, what, &answer);
+        is_end = packed == left || packing.is_over;
+        uint32_t room = is_end ? room_for_returns(what) : 0;
+        bool has_place = is_place(what, room);
+        if (!packing.stream_size && !(room && has_place))
+            return packing.is_lost || !has_place ? EFAULT : 0;
+        int error = exchange(link, &packing, has_place ? room : 0, what, &answer);
         if (packing.area_size > LARGE_AREA)
             madvise(link->page->area, packing.area_size, MADV_REMOVE);
-        if (error)
-            return error;
-        is_refused = answer.refused;
+        is_refused = !error && answer.refused;
+        if (error || !has_place || (packing.is_lost && !is_refused))
+            return error ? error : EFAULT;
     }
     return 0;
 }
