@@ -1,6 +1,6 @@
 -- A process that is new.
-use Rattle.std.specs.Prelude.{◌≡◌, ◌<◌, List, None, All}
-use Rattle.bd_ways.specs.Words.{Process}
+use Rattle.std.specs.Prelude.{◌≡◌, ◌<◌, List, All, None}
+use Rattle.bd_space.specs.declared.space.Process.{Process}
 use Rattle.bd_space.specs.Seats.{process_with_pid}
 
 -- it was opened after all of these, and none of them has its pid

@@ -1,6 +1,6 @@
 -- The order in which processes were opened.
 use Rattle.std.specs.Prelude.{◌<◌, List, AllPairs}
-use Rattle.bd_ways.specs.Words.{Process}
+use Rattle.bd_space.specs.declared.space.Process.{Process}
 
 -- each was opened after those before it
 abbrev pub IsRising : List Process → Type 0

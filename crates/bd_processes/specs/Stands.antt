@@ -1,6 +1,6 @@
 -- What a table of processes stands for: the list of the live processes of a space.
-use Rattle.std.specs.Prelude.{ℕ, ◌≡◌, List, option_map, AllPairs}
-use Rattle.bd_ways.specs.Words.{Process}
+use Rattle.std.specs.Prelude.{ℕ, ◌≡◌, List, AllPairs, option_map}
+use Rattle.bd_space.specs.declared.space.Process.{Process}
 use Rattle.bd_space.specs.Seats.{process_with_pid}
 use Rattle.bd_words.specs.Look.{look}
 use Rattle.bd_processes.specs.declared.table.ProcessTable.{ProcessTable}
