@@ -2,6 +2,7 @@
 use crate::engines::{Engine, Told};
 use crate::sharing::Hand;
 use crate::steps::Ask;
+use std::ffi::c_void;
 
 /// Whether there is one.
 pub const IS_THERE: bool = false;
@@ -13,6 +14,16 @@ pub struct ByRequests;
 
 /// Nobody.
 pub type BySteps = ByRequests;
+
+/// Nobody.
+pub type Kept = ByRequests;
+
+/// Nobody's requests.
+pub const ASKS: &str = NOBODY;
+
+pub fn asks() -> *const c_void {
+    std::ptr::null()
+}
 
 /// Nobody's seat.
 pub struct ByMutex;

@@ -7,6 +7,7 @@ use baseline::engine::{self, replay};
 use baseline::hist::VecHist;
 use baseline::types::{self, Answer, Got, RunAnswer, Step};
 use baseline::{journal, types::Wrote};
+use std::ffi::c_void;
 use std::marker::PhantomData;
 use std::sync::atomic::{AtomicU32, Ordering};
 use std::sync::{Arc, Mutex};
@@ -130,6 +131,57 @@ impl Asking for Steps {
     #[inline]
     fn ask(engine: &mut Inner, seat: u32, step: &Option<Step>, buffer: u64) -> Told {
         told_of_step(&engine.step(seat, step.clone().unwrap_or(Step::Free(buffer))))
+    }
+}
+
+/// The engine as ours is behind its header: what a request answered is kept until the next one, and the page beside it.
+pub struct Kept {
+    engine: Inner,
+    latest: Option<RunAnswer>,
+    page: (u32, u32),
+}
+
+/// The name under which a tool finds `Kept`'s requests.
+pub const ASKS: &str = "bench_asks_beside";
+
+pub fn asks() -> *const c_void {
+    kept as *const c_void
+}
+
+/// One request, whose bytes are copied, with the page behind it.
+#[unsafe(export_name = "bench_asks_beside")]
+#[inline(never)]
+fn kept(it: &mut Kept, seat: u32, ask: &Ask, buffer: u64) {
+    it.latest = Some(it.engine.run(seat, asked(ask, buffer)).0);
+    it.page = (it.engine.len(), it.engine.ready());
+}
+
+impl Engine for Kept {
+    type Form = Ask;
+
+    fn new(seats: u32) -> Kept {
+        Kept { engine: Inner::new(seats).expect("1 to 16 seats"), latest: None, page: (0, 0) }
+    }
+
+    fn form(ask: &Ask) -> Ask {
+        ask.clone()
+    }
+
+    fn ask(&mut self, seat: u32, ask: &Ask, buffer: u64) -> Told {
+        kept(self, seat, ask, buffer);
+        self.latest.as_ref().map_or_else(|| Told::Otherwise("nothing".into()), told)
+    }
+
+    fn is_ready(&mut self, seat: u32) -> bool {
+        self.page.1 >> seat & 1 == 1
+    }
+
+    fn steps(&mut self) -> u32 {
+        self.page.0
+    }
+
+    fn journal(self) -> Vec<u8> {
+        Beside(self.engine, PhantomData::<Requests>).journal()
     }
 }
 

@@ -4,6 +4,7 @@
 mod beside;
 mod clock;
 mod commands;
+mod counted;
 mod engines;
 mod expected;
 mod growth;
@@ -37,7 +38,11 @@ fn main() -> ExitCode {
         eprintln!("{}", settings::USAGE);
         return ExitCode::from(2);
     };
-    match checked().and_then(|count| measured(&settings, count)) {
+    let done = match &settings.counted {
+        Some(words) => counted::play(words),
+        None => checked().and_then(|count| measured(&settings, count)),
+    };
+    match done {
         Ok(()) => ExitCode::SUCCESS,
         Err(why) => {
             eprintln!("bench: {why}");

@@ -33,8 +33,8 @@ fn used() -> usize {
 /// What is in use is looked at so often on the way, since vectors grow by doubling.
 const LOOKS: usize = 16;
 
-// The bytes an entry at each look, malloc's own among them.
-fn of<E: Engine>(workload: &Workload, entries: usize) -> Vec<f64> {
+/// The bytes an entry at each look, malloc's own among them.
+pub fn of<E: Engine>(workload: &Workload, entries: usize) -> Vec<f64> {
     let (setup, body) = (engines::formed::<E>(&workload.setup.0), engines::formed::<E>(&workload.body.0));
     let mut slots = engines::slots([&workload.setup.0[..], &workload.body.0]);
     let mut figures = Vec::with_capacity(LOOKS);

@@ -4,7 +4,8 @@ use std::process::Command;
 use std::thread;
 use std::time::Duration;
 
-pub const USAGE: &str = "bench [--quick] [--runs N] [--only WORD] [--check] [--picture FILE]";
+pub const USAGE: &str =
+    "bench [--quick] [--runs N] [--only WORD] [--check] [--picture FILE], or bench --counted ENGINE WORKLOAD ROUNDS";
 
 /// What is to be measured.
 pub struct Settings {
@@ -15,12 +16,35 @@ pub struct Settings {
     /// Only the journals are looked at.
     pub check: bool,
     pub picture: Option<String>,
+    /// One workload is played, to be counted from outside, and nothing else is done.
+    pub counted: Option<Counted>,
+}
+
+/// What is played to be counted.
+pub struct Counted {
+    /// The engine beside, and not ours.
+    pub beside: bool,
+    /// The name of the workload's journal.
+    pub workload: String,
+    pub rounds: usize,
+}
+
+impl Counted {
+    fn read(words: &mut impl Iterator<Item = String>) -> Option<Counted> {
+        let beside = match words.next()?.as_str() {
+            "ours" => false,
+            "beside" => true,
+            _ => return None,
+        };
+        Some(Counted { beside, workload: words.next()?, rounds: words.next()?.parse().ok()? })
+    }
 }
 
 impl Settings {
     /// None where a word isn't known.
     pub fn read(mut words: impl Iterator<Item = String>) -> Option<Settings> {
-        let mut found = Settings { quick: false, runs: 0, only: String::new(), check: false, picture: None };
+        let only = String::new();
+        let mut found = Settings { quick: false, runs: 0, only, check: false, picture: None, counted: None };
         while let Some(word) = words.next() {
             match word.as_str() {
                 "--quick" => found.quick = true,
@@ -28,6 +52,7 @@ impl Settings {
                 "--runs" => found.runs = words.next()?.parse().ok().filter(|runs| *runs > 0)?,
                 "--only" => found.only = words.next()?,
                 "--picture" => found.picture = Some(words.next()?),
+                "--counted" => found.counted = Some(Counted::read(&mut words)?),
                 _ => return None,
             }
         }

@@ -24,7 +24,7 @@ pub struct Workload {
     pub body: Steps,
 }
 
-/// All of them.
+/// All of them that are measured by time.
 pub fn all() -> [Workload; 6] {
     [ping(), call_and_reply(), object_first(), object_again(), chain(), callbacks()]
 }
@@ -61,6 +61,16 @@ pub fn object_again() -> Workload {
     let mut setup = two_processes(SMALL_WINDOW);
     setup.objects(1, true);
     workload("object, again", "w3b", setup, |steps| steps.object_again(Object::number(1), 1))
+}
+
+/// A name that gets an asked reference and gives it back.
+pub fn acquire_and_release() -> Workload {
+    let mut setup = two_processes(SMALL_WINDOW);
+    setup.objects(1, true);
+    workload("acquire and release", "held", setup, |steps| {
+        steps.acquire(0, 1);
+        steps.release(0, 1);
+    })
 }
 
 fn chain() -> Workload {

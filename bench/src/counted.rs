@@ -1,0 +1,80 @@
+//! One workload played so often by one engine, and nothing else, so that bench/count can count from outside what the
+//! engine takes for it.
+use crate::beside::{self, Kept};
+use crate::engines::{self, Engine, Library};
+use crate::memory;
+use crate::settings::Counted;
+use crate::workloads::{self, Workload};
+use std::ffi::c_void;
+
+/// Entries that the bytes of a history are looked at over.
+const ENTRIES: usize = 32_768;
+
+/// The functions of the header that make the workloads' requests.
+mod c {
+    use std::ffi::c_void;
+
+    unsafe extern "C" {
+        pub fn hullpippin_open(seat: *mut c_void, pid: u32, euid: u32, window: u32, answer: *mut c_void) -> u32;
+        pub fn hullpippin_manager(seat: *mut c_void, answer: *mut c_void) -> u32;
+        pub fn hullpippin_write(
+            seat: *mut c_void,
+            stream: *const u8,
+            stream_size: usize,
+            area: *const u8,
+            area_size: usize,
+            answer: *mut c_void,
+        ) -> u32;
+        pub fn hullpippin_read(seat: *mut c_void, limit: u32, answer: *mut c_void) -> u32;
+    }
+}
+
+/// What is counted, by the names that a tool finds it under: all of a request, and not how the bench looks at its answer.
+fn functions(beside: bool) -> Vec<(&'static str, *const c_void)> {
+    if beside {
+        return vec![(beside::ASKS, beside::asks())];
+    }
+    vec![
+        ("hullpippin_open", c::hullpippin_open as *const c_void),
+        ("hullpippin_manager", c::hullpippin_manager as *const c_void),
+        ("hullpippin_write", c::hullpippin_write as *const c_void),
+        ("hullpippin_read", c::hullpippin_read as *const c_void),
+    ]
+}
+
+/// The workloads that are counted.
+fn all() -> Vec<Workload> {
+    let mut all = Vec::from(workloads::all());
+    all.insert(4, workloads::acquire_and_release());
+    all
+}
+
+/// Says what is counted and where it lies, and plays the workload; without rounds, says what there is and what an entry
+/// of the history takes.
+pub fn play(words: &Counted) -> Result<(), String> {
+    let found = all().into_iter().find(|it| it.journal == words.workload);
+    match (found, words.beside) {
+        (None, _) => {
+            all().iter().for_each(|it| println!("{}\t{}\t{}", it.journal, it.name, it.body.0.len()));
+            Ok(())
+        }
+        (Some(_), true) if !beside::IS_THERE => Err("there is no engine beside".into()),
+        (Some(workload), true) => played::<Kept>(&workload, words),
+        (Some(workload), false) => played::<Library>(&workload, words),
+    }
+}
+
+fn played<E: Engine>(workload: &Workload, words: &Counted) -> Result<(), String> {
+    if words.rounds == 0 {
+        let figures = memory::of::<E>(workload, ENTRIES);
+        println!("{}", figures.iter().sum::<f64>() / figures.len() as f64);
+        return Ok(());
+    }
+    functions(words.beside).into_iter().for_each(|(name, at)| println!("{name}\t{at:p}"));
+    let mut engine = E::new(workload.seats);
+    let mut slots = engines::slots([&workload.setup.0[..], &workload.body.0]);
+    engines::play(&mut engine, &engines::formed::<E>(&workload.setup.0), &mut slots);
+    let body = engines::formed::<E>(&workload.body.0);
+    (0..words.rounds).for_each(|_| engines::play(&mut engine, &body, &mut slots));
+    Ok(())
+}
