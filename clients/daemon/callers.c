@@ -1,5 +1,5 @@
 /*
- * callers.c: whose call it is. As Linux's driver does, the daemon asks at each call for the effective uid that the main thread of the
+ * callers.c: whose call it is, and by which pid its receiver knows the caller. As Linux's driver does, the daemon asks at each call for the effective uid that the main thread of the
  * caller's process has then. What it was when the process opened the device, or what a client says of it, counts for nothing.
  *
  * It is the owner of the process's folder in /proc, which is kept open: to ask for that takes the twentieth part of what reading
@@ -12,8 +12,11 @@
 #include <errno.h>
 #include <fcntl.h>
 #include <linux/capability.h>
+#include <linux/nsfs.h>
 #include <signal.h>
+#include <stdlib.h>
 #include <string.h>
+#include <sys/ioctl.h>
 #include <sys/socket.h>
 #include <sys/stat.h>
 #include <sys/syscall.h>
@@ -38,6 +41,44 @@ static bool find_number(const char *status, const char *line, const char *format
     return found && sscanf(found + strlen(line), format, number) == 1;
 }
 
+/* Its pids from the daemon's namespace down to its own. One that is too deep is known by the daemon's alone. */
+static void read_pids(const char *status, struct caller *caller)
+{
+    const char *at = strstr(status, "\nNSpid:");
+    uint32_t count = 0;
+    for (at = at ? at + strlen("\nNSpid:") : "\n"; *at == '\t' && count < NAMESPACES_MAX; count++) {
+        char *end;
+        caller->pids[count] = (pid_t)strtol(at, &end, 10);
+        at = end;
+    }
+    caller->depth = count ? count - 1 : 0;
+    if (*at == '\t')
+        memset(caller->pids + 1, 0, sizeof caller->pids - sizeof *caller->pids);
+}
+
+/* The namespaces, from its own up to the first below the daemon's. Those of another user's process may be kept from a daemon that isn't
+   root's. */
+static void look_at_namespaces(struct caller *caller)
+{
+    int fd = caller->depth ? openat(caller->folder, "ns/pid", O_RDONLY | O_CLOEXEC) : -1;
+    for (uint32_t depth = caller->depth; fd >= 0 && depth > 0; depth--) {
+        struct stat stat;
+        int parent = ioctl(fd, NS_GET_PARENT);
+        caller->spaces[depth] = fstat(fd, &stat) == 0 ? stat.st_ino : 0;
+        close(fd);
+        fd = parent;
+    }
+    if (fd >= 0)
+        close(fd);
+}
+
+pid_t caller_pid_for(const struct caller *caller, const struct caller *other)
+{
+    uint32_t depth = other->depth;
+    bool is_there = !depth || (caller->depth >= depth && other->spaces[depth] && caller->spaces[depth] == other->spaces[depth]);
+    return is_there ? caller->pids[depth] : 0;
+}
+
 static bool read_status(const struct caller *caller, struct caller *now)
 {
     char status[8192];
@@ -55,6 +96,7 @@ static bool read_status(const struct caller *caller, struct caller *now)
         || !find_number(status, "\nUid:", "%*u%*u%u", &now->saved) || !find_number(status, "\nCapPrm:", "%llx", &capabilities))
         return false;
     now->may_be_anybody = capabilities >> CAP_SETUID & 1;
+    read_pids(status, now);
     return true;
 }
 
@@ -71,13 +113,22 @@ static bool is_of(const struct caller *caller, int socket, uid_t euid)
     return is_there;
 }
 
+/* Whether the numbers in /proc are those of our own namespace: else it may have been mounted for another one. */
+static bool has_own_proc(void)
+{
+    char link[16] = "";
+    return readlink("/proc/self", link, sizeof link - 1) > 0 && atoi(link) == getpid();
+}
+
 bool caller_begin(struct caller *caller, int socket, const struct ucred *peer)
 {
     char name[32];
     snprintf(name, sizeof name, "/proc/%d", peer->pid);
-    caller->folder = peer->pid > 0 ? open(name, O_RDONLY | O_DIRECTORY | O_CLOEXEC) : -1;
-    if (caller->folder >= 0 && read_status(caller, caller) && is_of(caller, socket, peer->uid))
+    caller->folder = peer->pid > 0 && has_own_proc() ? open(name, O_RDONLY | O_DIRECTORY | O_CLOEXEC) : -1;
+    if (caller->folder >= 0 && read_status(caller, caller) && is_of(caller, socket, peer->uid)) {
+        look_at_namespaces(caller);
         return true;
+    }
     log_line("process %d (euid %u) is sent away: /proc doesn't tell who it is", peer->pid, peer->uid);
     caller_end(caller);
     return false;

@@ -217,11 +217,17 @@ void descriptor_end(int *fd);
 
 /* --- callers.c: whose call it is. --- */
 
+/* So many pid namespaces, one in the other, are told apart. */
+#define NAMESPACES_MAX 8
+
 /* The main thread of a client's process, as the kernel tells of it. */
 struct caller {
     int folder;                    /* in /proc */
     uid_t real, effective, saved;  /* when its effective uid was last seen to be another one */
     bool may_be_anybody;
+    uint32_t depth;                /* how many pid namespaces it is below the daemon's */
+    pid_t pids[NAMESPACES_MAX];    /* its pid in the daemon's, and in each on the way to its own */
+    ino_t spaces[NAMESPACES_MAX];  /* these namespaces; 0: the daemon's, or one that isn't known */
 };
 
 /* What the process is that has connected; false where that can't be told. */
@@ -229,6 +235,8 @@ bool caller_begin(struct caller *caller, int socket, const struct ucred *peer);
 /* Its effective uid at this moment. False where it has gone, or is another program by now that has more rights. */
 bool caller_euid(struct caller *caller, uid_t *euid);
 void caller_end(struct caller *caller);
+/* The pid that a caller has for another one: 0 where it has none in that one's namespace. */
+pid_t caller_pid_for(const struct caller *caller, const struct caller *other);
 
 /* --- processes.c: an open file is a process. --- */
 

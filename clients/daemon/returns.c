@@ -25,7 +25,7 @@ static void take_call(struct thread *thread, uint8_t *bytes, bool is_reply)
     struct binder_transaction_data record;
     memcpy(&record, bytes, sizeof record);
     struct process *sender = record.sender_pid ? process_of(thread->process->engine, (uint32_t)record.sender_pid) : NULL;
-    record.sender_pid = sender ? sender->pid : 0;
+    record.sender_pid = sender ? caller_pid_for(&sender->caller, &thread->process->caller) : 0;
     parcel_deliver(thread, &record);
     memcpy(bytes, &record, sizeof record);
     if (!is_reply && !(record.flags & TF_ONE_WAY))
