@@ -54,9 +54,20 @@ static bool calls_own_manager(const struct run *run, const struct binder_transac
     return data->target.handle == 0 && manager && manager != process && manager->pid == process->pid;
 }
 
+/* Whether the receiver's window may have room for so much. What it surely hasn't isn't copied: the engine refuses it by its size. */
+static bool may_fit(const struct thread *thread, const struct binder_transaction_data_sg *record, bool is_reply)
+{
+    const struct binder_transaction_data *data = &record->transaction_data;
+    uint64_t room = reach_window(thread, is_reply, data->target.handle);
+    if (!is_reply && data->flags & TF_ONE_WAY)
+        room /= 2;
+    return data->data_size <= room && data->offsets_size <= room && record->buffers_size <= room
+           && round8(data->data_size) + round8(data->offsets_size) + round8(record->buffers_size) <= room;
+}
+
 static int run_call(struct run *run, uint32_t code, const uint8_t *payload)
 {
-    static struct parcel parcel;
+    static _Thread_local struct parcel parcel;
     bool is_reply = code == BC_REPLY || code == BC_REPLY_SG;
     struct binder_transaction_data_sg record = {0};
     struct process *process = run->thread->process;
@@ -65,7 +76,11 @@ static int run_call(struct run *run, uint32_t code, const uint8_t *payload)
     parcel.tells_euid = parcel.euid != process->euid;
     memcpy(&record, payload, _IOC_SIZE(code));
     record.transaction_data.flags &= ~FLAG_TRAILER;
-    parcel_fetch(&parcel, run->thread->page, &record, run->fds, run->fd_count);
+    if (may_fit(run->thread, &record, is_reply))
+        parcel_fetch(&parcel, run->thread->page, &record, run->fds, run->fd_count);
+    else
+        parcel = (struct parcel){.is_lost = true};
+    run->engine->copied += parcel.data_size + parcel.offsets_size;
 
     struct call_command command = {is_reply ? BC_REPLY : BC_TRANSACTION, record.transaction_data};
     if (!is_reply && calls_own_manager(run, &record.transaction_data))
@@ -94,9 +109,11 @@ int command_free(struct thread *thread, uint64_t pointer)
     struct process *process = thread->process;
     uint64_t place = pointer - process->window.base;
     struct free_command command = {BC_FREE_BUFFER, place + WINDOW_BASE};
+    if (process_handed(process, place) == NOT_HANDED)
+        return engine_pass(process->engine);
     int error = engine_command(process->engine, thread->seat, &command, sizeof command);
-    if (!error && !process->engine->answer.notes)
-        process_note_handed(process, place, false);
+    if (!error)
+        process_note_handed(process, place, NOT_HANDED);
     return error;
 }
 
@@ -163,11 +180,14 @@ int commands_run(struct thread *thread, const uint8_t *stream, uint32_t size, in
         if (error)
             return error;
         answer->consumed += sizeof code + _IOC_SIZE(code);
+        bool is_over = turns_is_over(&run.engine->loop.turns);
         if (run.engine->answer.kind == HULLPIPPIN_WROTE && run.engine->answer.stop == HULLPIPPIN_AT_CAUSE) {
             log_event("process %d: command %08x is refused by X%u", thread->process->pid, code, run.engine->answer.number);
             answer->refused = 1;
             return 0;
         }
+        if (is_over)
+            return 0;
     }
     return 0;
 }

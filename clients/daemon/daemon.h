@@ -1,9 +1,9 @@
 /*
  * daemon.h: what the files of the daemon share.
  *
- * The daemon has one thread. It waits for all of its descriptors at once (loop.c), and nothing that it does waits for
- * a client. An engine stands behind each device name (engine.c); an open file is a process of it (processes.c), a
- * client's thread one of its seats (threads.c, seats.c).
+ * The daemon has a thread that takes connections, and one for each device (handover.c). Each waits for all of its descriptors at
+ * once (loop.c), and nothing that it does waits for a client. An engine stands behind each device name (engine.c); an open file is a
+ * process of it (processes.c), a client's thread one of its seats (threads.c, seats.c).
  */
 #ifndef HULLPIPPIN_DAEMON_H
 #define HULLPIPPIN_DAEMON_H
@@ -13,6 +13,7 @@
 #include "../protocol.h"
 
 #include <linux/android/binder.h>
+#include <pthread.h>
 #include <stdbool.h>
 #include <stddef.h>
 #include <stdint.h>
@@ -72,29 +73,132 @@ static inline void list_remove(struct list *entry)
     list_begin(entry);
 }
 
+/* --- turns.c: whose turn it is. --- */
+
+/* By users, then by their processes, in the order in which they want one: who had a turn comes last. */
+struct queuer {
+    struct list in_ring;
+    uint64_t owed;  /* nanoseconds that it had beyond its turns: as many turns pass it over */
+    uint64_t since; /* when it last wanted no more */
+    uint64_t from;  /* how many turns there were when it began to want this one, or was passed over last */
+};
+
+struct user {
+    struct queuer queuer;
+    struct list in_bucket;
+    struct list clients; /* a ring: those that want a turn */
+    uid_t uid;
+    uint32_t references;
+};
+
+/* A process of the system, with all of its open files. */
+struct client {
+    struct queuer queuer;
+    struct list in_bucket;
+    struct list watches; /* that want a turn */
+    struct user *user;
+    pid_t pid;
+    uint32_t references;
+};
+
+#define TURNS_BUCKETS 256
+
+struct turns {
+    struct list users; /* a ring: those that want a turn */
+    struct list by_uid[TURNS_BUCKETS], by_pid[TURNS_BUCKETS];
+    struct client *latest;   /* who had the latest turn, and isn't in the ring again; NULL: nobody */
+    struct client *ending;   /* whose turns those are by which the daemon sees to ends */
+    uint64_t now, began;     /* nanoseconds: when events were last fetched, and when this turn began */
+    uint32_t steps;          /* that were made in this turn */
+    uint64_t count;          /* of the turns that were given */
+    uint64_t longest_wait;   /* .. of them to others while one client wanted its own */
+    uint32_t longest_turn;   /* in steps */
+};
+
+struct watch;
+
+bool turns_begin(struct turns *turns);
+void turns_end(struct turns *turns);
+/* The client of a user's process, which is the caller's until it is let go of. NULL where there is no memory. */
+struct client *client_hold(struct turns *turns, uid_t uid, pid_t pid);
+void client_release(struct client *client);
+/* The watch gets a turn. */
+void turns_want(struct turns *turns, struct watch *watch);
+/* It gets none. */
+void turns_want_none(struct watch *watch);
+/* The watch gets its turns among those for ends from now on: however many end at once, others wait for one at a time. */
+void turns_want_end(struct turns *turns, struct watch *watch);
+bool turns_are_ending(const struct turns *turns, const struct watch *watch);
+bool turns_are_wanted(const struct turns *turns);
+/* Gives the next turn; there has to be one that wants it. */
+void turns_give(struct turns *turns);
+/* A step was made in this turn. */
+static inline void turns_count_step(struct turns *turns)
+{
+    turns->steps++;
+}
+/* Whether this turn has had its time: what isn't done by then goes on with the next one. */
+bool turns_is_over(const struct turns *turns);
+uint64_t nanoseconds(void);
+
 /* --- loop.c: one wait for all descriptors. --- */
 
-/* A descriptor that is waited for. `ready` may drop and free any watch, its own too: events are fetched one at a
-   time. */
+/* A descriptor that is waited for. A client's is seen to by turns, and `ready` may drop and free any watch then, its own too; what
+   is nobody's is seen to at once, and may drop none. A client's events are told once, when they come. */
 struct watch {
     int fd; /* -1: it isn't waited for */
-    void (*ready)(struct watch *watch, uint32_t events);
+    void (*ready)(struct watch *watch);
+    struct client *client;  /* NULL: it is nobody's */
+    struct list in_watches; /* of its client */
+    uint32_t waits_for;
+    bool is_deaf; /* until its turn: it was heard again while it wanted one already */
 };
 
 struct loop {
     int epoll;
     bool is_stopped;
+    struct turns turns;
+    /* What is to be done between two turns, a little each time: false where there is no more. */
+    bool (*between)(void *context);
+    /* Nothing has come for a second. Whether it wants to be called again after another one; else nothing is done until something
+       comes. */
+    bool (*idle)(void *context);
+    void *context;
 };
 
 bool loop_begin(struct loop *loop);
 void loop_end(struct loop *loop);
 bool loop_add(struct loop *loop, struct watch *watch, uint32_t events);
+/* The same of a client's, which it stays until it is dropped. */
+bool loop_add_client(struct loop *loop, struct watch *watch, struct client *client, uint32_t events);
+/* It isn't waited for any more, here. */
+void loop_leave(struct loop *loop, struct watch *watch);
 /* It is waited for other events from now on: with 0 for none but errors. */
 void loop_change(struct loop *loop, struct watch *watch, uint32_t events);
+/* A client's, at its turn: it is heard again. */
+void loop_listen(struct loop *loop, struct watch *watch);
 /* Closes the descriptor. */
 void loop_drop(struct loop *loop, struct watch *watch);
-/* Runs until it is stopped, or can't wait: then false. `idle` is called where nothing has come for a second. */
-bool loop_run(struct loop *loop, void (*idle)(void *context), void *context);
+/* Runs until it is stopped, or can't wait: then false. */
+bool loop_run(struct loop *loop);
+
+/* --- shares.c: how much of what all share one user and one process may have. --- */
+
+enum shared { SHARED_DESCRIPTORS, SHARED_THREADS, SHARED_WINDOWS /* bytes of memory */, SHARED_KINDS };
+
+/* What a connection, a thread and a doorbell have of the daemon's descriptors. */
+enum { CONNECTION_DESCRIPTORS = 2, THREAD_DESCRIPTORS = 2, DOORBELL_DESCRIPTORS = 2 };
+
+struct account;
+
+/* So many seats are there for threads. */
+void shares_begin(uint32_t seats);
+/* The account of a user's process, which is the caller's until it is let go of. NULL where there is no memory. */
+struct account *account_hold(uid_t uid, pid_t pid);
+void account_release(struct account *account);
+/* Takes so much, or nothing and answers false where that would be over the share. */
+bool account_take(struct account *account, enum shared what, uint64_t amount);
+void account_give(struct account *account, enum shared what, uint64_t amount);
 
 /* --- log.c --- */
 
@@ -127,14 +231,35 @@ void journal_close(struct journal *journal, hullpippin_live *live);
 
 struct daemon;
 
+/* How clients come to an engine's thread. */
+struct inbox {
+    pthread_mutex_t lock;
+    struct watch bell;
+    struct list processes;
+    bool is_closed, is_to_stop;
+};
+
 struct engine {
     struct daemon *daemon;
     char device[DEVICE_NAME_ROOM];
     hullpippin_live live;
     struct journal journal;
     hullpippin_answer answer; /* of the latest step */
-    bool has_stepped;         /* since others were last looked at (settle.c) */
-    bool has_reached_callers; /* .. by a step that may have brought something to threads that wait for a reply */
+    struct loop loop;
+    pthread_t thread;
+    bool has_thread;
+    struct inbox inbox;
+    uint8_t *parcel_bytes;    /* objects.h */
+    bool is_over;             /* it makes no step any more: its history is full, or it can't go on without memory */
+    uint32_t warnings;        /* of a history that gets full, how many were told */
+
+    /* Whom the steps since then may have made ready (reach.c). */
+    struct list reached;      /* processes that are to be looked at */
+    struct list resting;      /* all processes with threads that wait for whatever comes to the process */
+    struct list looked_at;    /* all threads that are looked at one by one (settle.c) */
+    uint32_t resting_count, looked_at_count;
+    uint32_t resting_left, looked_at_left; /* how many of these are still to be looked at, from the first on */
+    uint64_t steps, looks, copied; /* bytes of parcels */
 
     uint32_t seats;           /* seat 0 is the daemon's own, by which processes begin and end */
     struct thread **lent;     /* by seat: whose it is, or NULL */
@@ -144,19 +269,38 @@ struct engine {
     uint32_t lost_count;
     struct list seatless;     /* threads whose request waits for a seat */
 
-    const struct process *manager; /* NULL: there is no context manager */
+    struct process *manager; /* NULL: there is no context manager */
     uid_t manager_euid;            /* of the first, and so of all .. */
     bool has_had_manager;          /* .. once there was one */
 
     struct list processes;
     struct list by_pid[256];  /* processes by the pid that they have in the engine */
     uint32_t last_pid;        /* of those that are given where a process's own is taken */
-    struct list looked_at;    /* threads that are looked at one by one (settle.c) */
-    struct list resting;      /* processes with threads that wait for whatever comes to the process */
 };
+
+/* How many steps a history can have. */
+extern uint64_t history_most;
+
+/* Memory of the engine whose thread this is, for one parcel: one at a time is looked at (objects.h). */
+extern _Thread_local uint8_t *parcel_bytes;
 
 struct engine *engine_new(struct daemon *daemon, const char *device, uint32_t seats, const char *journal);
 void engine_free(struct engine *engine);
+/* The last of its thread: puts the journal right, and tells what was done. */
+void engine_conclude(struct engine *engine);
+
+/* --- handover.c: an engine's thread. --- */
+
+bool engine_start(struct engine *engine);
+/* Ends its clients and its thread, if it has one. */
+void engine_stop(struct engine *engine);
+/* The process is that thread's from now on; false where the device is over. */
+bool engine_hand_over(struct engine *engine, struct process *process);
+
+/* --- engine.c --- */
+
+/* The device can't go on: it ends with all its clients, and the others go on. */
+void engine_end(struct engine *engine, const char *why);
 
 /* Each makes a step, and answers 0 where the engine has run it; engine->answer has what came of it. Else an errno. */
 int engine_open(struct engine *engine, uint32_t seat, uint32_t pid, uint32_t euid, uint32_t window);
@@ -167,6 +311,8 @@ int engine_exit_thread(struct engine *engine, uint32_t seat);
 int engine_exit_process(struct engine *engine, uint32_t seat);
 int engine_read(struct engine *engine, uint32_t seat, uint32_t limit);
 int engine_command(struct engine *engine, uint32_t seat, const void *command, size_t size);
+/* No step, for a command of which it is known that it changes nothing: the answer is one that says so. */
+int engine_pass(struct engine *engine);
 /* A transaction or reply, with its parcel. */
 int engine_call(struct engine *engine, uint32_t seat, const void *command, size_t size, const uint8_t *data, size_t data_size,
                 const uint8_t *offsets, size_t offsets_size);
@@ -244,9 +390,18 @@ struct process {
     struct watch control;
     struct engine *engine; /* NULL: its device isn't known yet */
     struct daemon *daemon;
+    struct loop *loop;
+    struct client *client;
+    struct account *account;
+    uint64_t came;        /* nanoseconds: when it connected */
+    bool is_refused;      /* its user or process has its share of descriptors already, and it is told so */
     struct list in_engine, in_bucket;
     struct list threads;
-    struct list idle, in_resting; /* settle.c */
+    struct list idle, callers, polling; /* some of its threads (settle.c) */
+    struct list in_resting, in_reached;
+    bool callers_are_reached; /* they are to be looked at too */
+    bool is_ending;           /* it has no place in the engine any more, and its threads are let go of */
+    struct owner *owners;     /* reach.c; NULL: nothing is known yet */
     pid_t pid;
     uid_t euid;           /* of the opening */
     struct caller caller;
@@ -255,14 +410,23 @@ struct process {
     uint32_t thread_count;
     uint32_t max_threads, requested, started; /* BR_SPAWN_LOOPER */
     bool detects_spam;    /* it is told of its own one-way flooding; before its mmap: will be */
-    uint64_t *handed;     /* a bit for each 8 bytes of the window: a one-way buffer that the client has begins there */
+    uint64_t *handed;     /* two bits for each 8 bytes of the window: a buffer that the client has begins there; it has objects */
 };
 
 void process_accept(struct daemon *daemon, int fd);
+/* It has come to its device's thread, where it is told that the device is open. */
+void process_arrive(struct process *process);
+/* Ends the first that has opened nothing, once it had some seconds for it. */
+enum strangers { NO_STRANGERS, STRANGERS_WAIT, STRANGERS_END };
+enum strangers process_end_stranger(struct daemon *daemon);
+/* Ends it in the engine, and lets go of its threads and of itself, as much as a turn has time for; else it goes on with the next. */
 void process_end(struct process *process);
 /* The process that has this pid in the engine, or NULL. */
 struct process *process_of(const struct engine *engine, uint32_t engine_pid);
-void process_note_handed(struct process *process, uint64_t place, bool handed);
+/* The client has a buffer that begins there, from now on or no longer. */
+enum { NOT_HANDED = 0, HANDED = 1, HANDED_WITH_OBJECTS = 3 };
+void process_note_handed(struct process *process, uint64_t place, unsigned handed);
+unsigned process_handed(const struct process *process, uint64_t place);
 
 /* --- threads.c: a thread of a client. --- */
 
@@ -275,16 +439,30 @@ struct landing {
     bool is_wide[DESCRIPTORS_MAX]; /* the number fills 8 bytes: an FD object's, not an FDA object's */
 };
 
+/* A write that takes more than one turn. */
+struct writing {
+    struct page_request request;
+    uint32_t calling; /* how many calls the thread waited for before it */
+    uint32_t fd_count;
+    int fds[DESCRIPTORS_MAX];
+    uint8_t stream[PAGE_STREAM];
+};
+
+/* Of so many calls that a thread serves it is known who waits for the answer. */
+#define CALLERS_KNOWN 32
+
 struct thread {
     struct watch link, bell;
     struct process *process;
-    struct list in_process, in_watch, in_seatless;
+    struct list in_process, in_watch, in_callers, in_polling, in_seatless;
     struct page *page;
     uint32_t freed;            /* how many of the page's frees were seen to */
     uint32_t seat;
 
     bool is_looper;            /* in the loop */
     uint32_t serving, calling; /* open frames: calls that it has to answer, calls that it waits for */
+    uint32_t callers[CALLERS_KNOWN]; /* pids that the processes have in the engine which wait for the first of those answers */
+    struct writing *writing;   /* NULL: none */
     uint32_t refusals;         /* refused commands whose BR_FAILED_REPLY or BR_DEAD_REPLY isn't read yet */
 
     bool is_waiting;           /* in a read */
@@ -315,7 +493,10 @@ struct landing *thread_landing(struct thread *thread);
 
 /* --- page.c: requests in pages, and their answers. --- */
 
+/* Does what its client asks for, as much as a turn has time for; else it goes on with the next. */
 void page_rung(struct thread *thread);
+/* Lets go of a write that isn't done. */
+void page_forget(struct thread *thread);
 /* Answers the thread's request. */
 void page_answer(struct thread *thread, const uint8_t *returns, uint32_t size);
 /* Answers a request with an errno. */
@@ -369,14 +550,36 @@ int returns_fetch(struct thread *thread);
 /* Answers the thread's read with what is there. */
 void returns_deliver(struct thread *thread);
 
-/* --- settle.c: whom a step makes ready. --- */
+/* --- reach.c: whom the engine's steps have reached. --- */
+
+/* These follow the steps of that name. */
+void reach_after_command(struct engine *engine, uint32_t seat, const void *command);
+void reach_after_call(struct engine *engine, uint32_t seat, const void *command, bool has_objects);
+void reach_after_read(struct engine *engine, uint32_t seat);
+void reach_after_end(struct engine *engine, uint32_t seat);
+/* The process, and its threads that wait for a reply. */
+void reach_process(struct process *process, bool callers);
+/* The size of the window that the thread's next call or reply goes to: the largest where that isn't known. */
+uint64_t reach_window(const struct thread *thread, bool is_reply, uint32_t handle);
+/* The thread serves one call more; its caller is a process, or isn't known. */
+void reach_note_caller(struct thread *thread, const struct process *caller);
+
+/* --- settle.c: answers whom a step has made ready. --- */
 
 /* Puts the thread where it belongs by what it waits for; follows each change of that. */
 void settle_watch(struct thread *thread);
 void settle_forget(struct thread *thread);
+/* Nobody waits for what comes to the process any more. */
+void settle_end(struct process *process);
 /* Answers the reads that can be answered, and puts all doorbells right. Follows each request that makes steps; the
    thread that has made them, if there is one, comes last. */
 void settle(struct engine *engine, struct thread *acting);
+/* Looks at some of those that all have to be looked at: false where none are left. */
+bool settle_some(struct engine *engine);
+/* Whether something has come to a process some thread of which waits for that. */
+bool settle_is_ready(struct process *process);
+/* A thread of the process that waits in a read for what comes to the process, and isn't this one; NULL where there is none. */
+struct thread *settle_waiting_one(struct process *process, const struct thread *but);
 /* Puts a thread's doorbell right. */
 void settle_doorbell(struct thread *thread);
 /* The same for all threads of a process. */
@@ -444,8 +647,8 @@ bool device_is_there(struct daemon *daemon, const char *name);
 struct engine *device_engine(struct daemon *daemon, const char *name);
 bool devices_begin(struct daemon *daemon);
 void devices_end(struct daemon *daemon);
-/* Nothing has happened for a second. */
-void devices_idle(struct daemon *daemon);
+/* Ends who has opened no device, one at a time; false where there is no more. */
+bool strangers_end_some(void *daemon);
 
 /* --- main.c --- */
 
@@ -453,11 +656,14 @@ struct daemon {
     struct loop loop;
     struct listener listener;
     struct watch signals;
+    struct watch patience; /* a timer: strangers are to be looked at */
+    bool strangers_are_timed;
+    uint32_t refused_count; /* connections that are there only to be told so */
     struct device devices[DEVICES_MAX];
     uint32_t device_count;
     uint32_t seats;
     struct list strangers; /* processes whose device isn't known yet */
-    bool has_failed;       /* a history is full */
+    _Atomic bool has_failed; /* a device is over */
 };
 
 #endif

@@ -19,14 +19,14 @@
 #define PLACES (1u << PLACE_BITS)
 #define TURNS ((1u << (32 - PLACE_BITS)) - 1)
 
-static struct {
+static _Thread_local struct {
     int fd;
     uint32_t turn;
     bool is_used;
 } places[PLACES];
 
-static uint32_t next;
-static uint32_t used;
+static _Thread_local uint32_t next;
+static _Thread_local uint32_t used;
 
 /* The next free place; where there is none, the one that was used longest ago. */
 static uint32_t free_place(void)
@@ -174,7 +174,7 @@ void descriptors_close(int *fds, uint32_t count)
 /* Takes out what lies unread in a socket that gets no more. With its sender's credentials, an empty packet isn't the end. */
 static void empty(int socket)
 {
-    static char bytes[4096];
+    char bytes[4096];
     _Alignas(struct cmsghdr) char control[CMSG_SPACE(sizeof(struct ucred)) + CMSG_SPACE(sizeof(int) * DESCRIPTORS_MAX)];
     struct iovec vector = {bytes, sizeof bytes};
     struct msghdr message;

@@ -9,6 +9,10 @@
 #include <string.h>
 #include <sys/file.h>
 #include <sys/stat.h>
+#include <sys/timerfd.h>
+
+/* How often it is looked who has opened nothing, while there are such. */
+#define STRANGERS_SECONDS 1
 
 /* As many as a journal may have. */
 #define JOURNAL_SEATS 31u
@@ -129,16 +133,15 @@ struct engine *device_engine(struct daemon *daemon, const char *name)
     return device->engine;
 }
 
-void devices_idle(struct daemon *daemon)
+/* Who opens nothing goes. Whether one has gone, and the next may have to. */
+bool strangers_end_some(void *context)
 {
-    for (uint32_t i = 0; i < daemon->device_count; i++) {
-        struct engine *engine = daemon->devices[i].engine;
-        if (!engine)
-            continue;
-        seats_regain(engine);
-        journal_flush(&engine->journal);
-        seats_refuse(engine);
-    }
+    struct daemon *daemon = context;
+    const struct itimerspec time = {.it_value.tv_sec = STRANGERS_SECONDS};
+    enum strangers strangers = process_end_stranger(daemon);
+    if (strangers == STRANGERS_WAIT && !daemon->strangers_are_timed)
+        daemon->strangers_are_timed = timerfd_settime(daemon->patience.fd, 0, &time, NULL) == 0;
+    return strangers == STRANGERS_END;
 }
 
 static void end_all(struct list *processes)
@@ -152,11 +155,9 @@ void devices_end(struct daemon *daemon)
     end_all(&daemon->strangers);
     for (uint32_t i = 0; i < daemon->device_count; i++) {
         struct device *device = &daemon->devices[i];
-        if (device->engine) {
-            end_all(&device->engine->processes);
+        if (device->engine)
             engine_free(device->engine);
-            device->engine = NULL;
-        }
+        device->engine = NULL;
         descriptor_close(&device->journal_lock);
     }
 }

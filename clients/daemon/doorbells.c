@@ -15,11 +15,16 @@ bool doorbell_make(struct thread *thread)
     int ends[2];
     if (thread->doorbell >= 0)
         return true;
-    if (socketpair(AF_UNIX, SOCK_STREAM | SOCK_CLOEXEC, 0, ends))
+    if (!account_take(thread->process->account, SHARED_DESCRIPTORS, DOORBELL_DESCRIPTORS))
         return false;
+    if (socketpair(AF_UNIX, SOCK_STREAM | SOCK_CLOEXEC, 0, ends)) {
+        account_give(thread->process->account, SHARED_DESCRIPTORS, DOORBELL_DESCRIPTORS);
+        return false;
+    }
     thread->doorbell = ends[0];
     thread->doorbell_end = ends[1];
     thread->is_rung = false;
+    list_append(&thread->process->polling, &thread->in_polling);
     return true;
 }
 
@@ -37,6 +42,8 @@ void doorbell_set(struct thread *thread, bool rings)
 
 void doorbell_free(struct thread *thread)
 {
+    if (thread->doorbell >= 0)
+        account_give(thread->process->account, SHARED_DESCRIPTORS, DOORBELL_DESCRIPTORS);
     descriptor_end(&thread->doorbell);
     descriptor_end(&thread->doorbell_end);
 }

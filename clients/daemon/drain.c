@@ -33,7 +33,7 @@ static void run_looper(struct engine *engine, uint32_t seat, uint32_t code)
 /* Reads once, and closes the descriptors of what was read. Tells the pointer of its parcel, if it has one. */
 static enum found read_away(struct engine *engine, uint32_t seat, uint64_t *pointer)
 {
-    static uint8_t stream[PAGE_RETURNS];
+    static _Thread_local uint8_t stream[PAGE_RETURNS];
     if (engine_read(engine, seat, sizeof stream) || engine->answer.kind != HULLPIPPIN_GOT)
         return NOTHING;
     size_t size = hullpippin_live_bytes(&engine->live, HULLPIPPIN_STREAM, stream, sizeof stream);
@@ -98,11 +98,11 @@ void drain_process(struct process *process)
         return;
     run_looper(engine, OWN_SEAT, BC_ENTER_LOOPER);
     read_list(process, &steps);
-    if (!process->handed || !descriptors_are_held())
+    if (!descriptors_are_held())
         return;
-    for (uint64_t word = 0; word < process->window.size / 8 / 64 && steps < STEPS_MAX; word++) {
-        for (uint64_t bits = process->handed[word]; bits; bits &= bits - 1, steps++)
-            free_buffer(engine, OWN_SEAT, WINDOW_BASE + 8 * (64 * word + (uint64_t)__builtin_ctzll(bits)));
+    for (uint64_t word = 0; word < process->window.size / 8 / 32 && steps < STEPS_MAX; word++) {
+        for (uint64_t bits = process->handed[word] & UINT64_C(0x5555555555555555); bits; bits &= bits - 1, steps++)
+            free_buffer(engine, OWN_SEAT, WINDOW_BASE + 8 * (32 * word + (uint64_t)__builtin_ctzll(bits) / 2));
     }
     read_list(process, &steps);
 }

@@ -1,8 +1,8 @@
 /*
  * engine.c: the engine of one device name. All steps are made here: each goes to the journal, and a history that can
- * take no more ends the daemon.
+ * take no more ends the device.
  */
-#include "daemon.h"
+#include "objects.h"
 
 #include <errno.h>
 #include <stdlib.h>
@@ -27,31 +27,73 @@ struct engine *engine_new(struct daemon *daemon, const char *device, uint32_t se
     if (!engine)
         return NULL;
     engine->daemon = daemon;
+    engine->inbox.bell.fd = engine->loop.epoll = -1;
+    engine->parcel_bytes = malloc(PARCEL_ROOM);
     snprintf(engine->device, sizeof engine->device, "%s", device);
     list_begin(&engine->processes);
     list_begin(&engine->looked_at);
     list_begin(&engine->seatless);
     list_begin(&engine->resting);
+    list_begin(&engine->reached);
     for (size_t i = 0; i < sizeof engine->by_pid / sizeof *engine->by_pid; i++)
         list_begin(&engine->by_pid[i]);
-    if (make_seats(engine, seats) && hullpippin_live_new(seats, &engine->live) == HULLPIPPIN_DONE
-        && (!journal || journal_open(&engine->journal, journal, &engine->live)))
+    if (engine->parcel_bytes && make_seats(engine, seats) && hullpippin_live_new(seats, &engine->live) == HULLPIPPIN_DONE
+        && (!journal || journal_open(&engine->journal, journal, &engine->live)) && engine_start(engine))
         return engine;
     engine_free(engine);
     return NULL;
 }
 
+/* What the tests judge where they have no clock. */
+static void tell_counts(struct engine *engine)
+{
+    const struct turns *turns = &engine->loop.turns;
+    log_line("%s: %u steps", engine->device, hullpippin_live_len(&engine->live));
+    log_line("%s: turns %llu, longest %u steps, waited %llu turns, looks %llu, copied %llu", engine->device,
+             (unsigned long long)turns->count, turns->longest_turn, (unsigned long long)turns->longest_wait,
+             (unsigned long long)engine->looks, (unsigned long long)engine->copied);
+}
+
+void engine_conclude(struct engine *engine)
+{
+    journal_close(&engine->journal, &engine->live);
+    tell_counts(engine);
+    hullpippin_free_live(&engine->live);
+}
+
 void engine_free(struct engine *engine)
 {
-    if (engine->live.at) {
-        journal_close(&engine->journal, &engine->live);
-        log_line("%s: %u steps", engine->device, hullpippin_live_len(&engine->live));
-        hullpippin_free_live(&engine->live);
-    }
+    engine_stop(engine);
+    if (engine->live.at)
+        engine_conclude(engine);
+    free(engine->parcel_bytes);
     free(engine->lent);
     free(engine->free_seats);
     free(engine->lost_seats);
     free(engine);
+}
+
+uint64_t history_most = UINT32_MAX;
+
+_Thread_local uint8_t *parcel_bytes;
+
+/* Told when so many of a hundred steps that a history can have are made. */
+static const uint32_t warnings[] = {50, 90, 99};
+
+void engine_end(struct engine *engine, const char *why)
+{
+    if (!engine->is_over)
+        log_line("%s: %s, the device ends", engine->device, why);
+    engine->is_over = engine->daemon->has_failed = true;
+}
+
+static void count_step(struct engine *engine)
+{
+    engine->steps++;
+    turns_count_step(&engine->loop.turns);
+    if (engine->warnings < sizeof warnings / sizeof *warnings && engine->steps * 100 >= history_most * warnings[engine->warnings])
+        log_line("%s: %u %% of the steps that a history can have are made; then the device ends", engine->device,
+                 warnings[engine->warnings++]);
 }
 
 /* What a step's status is for the client; a step that was made goes to the journal. */
@@ -59,15 +101,13 @@ static int stepped(struct engine *engine, uint32_t status)
 {
     switch (status) {
     case HULLPIPPIN_DONE:
-        engine->has_stepped = true;
+        count_step(engine);
         journal_append(&engine->journal, &engine->live);
         return 0;
     case HULLPIPPIN_NO_MEMORY:
         return ENOMEM;
     case HULLPIPPIN_HISTORY_FULL:
-        if (!engine->daemon->has_failed)
-            log_line("%s: the history is full, the daemon ends", engine->device);
-        engine->daemon->has_failed = engine->daemon->loop.is_stopped = true;
+        engine_end(engine, "the history is full");
         return ENODEV;
     default:
         return EINVAL; /* NO_COMMAND */
@@ -84,6 +124,12 @@ int engine_attach(struct engine *engine, uint32_t seat, uint32_t pid)
     return stepped(engine, hullpippin_live_attach(&engine->live, seat, pid, &engine->answer));
 }
 
+int engine_pass(struct engine *engine)
+{
+    engine->answer = (hullpippin_answer){.kind = HULLPIPPIN_WROTE};
+    return 0;
+}
+
 int engine_set_manager(struct engine *engine, uint32_t seat)
 {
     return stepped(engine, hullpippin_live_manager(&engine->live, seat, &engine->answer));
@@ -96,32 +142,44 @@ int engine_set_spam(struct engine *engine, uint32_t seat, bool on)
 
 int engine_exit_thread(struct engine *engine, uint32_t seat)
 {
-    engine->has_reached_callers = true;
-    return stepped(engine, hullpippin_live_exit_thread(&engine->live, seat, &engine->answer));
+    int error = stepped(engine, hullpippin_live_exit_thread(&engine->live, seat, &engine->answer));
+    if (!error)
+        reach_after_end(engine, seat);
+    return error;
 }
 
 int engine_exit_process(struct engine *engine, uint32_t seat)
 {
-    engine->has_reached_callers = true;
-    return stepped(engine, hullpippin_live_exit_process(&engine->live, seat, &engine->answer));
+    int error = stepped(engine, hullpippin_live_exit_process(&engine->live, seat, &engine->answer));
+    if (!error)
+        reach_after_end(engine, seat);
+    return error;
 }
 
 int engine_read(struct engine *engine, uint32_t seat, uint32_t limit)
 {
-    return stepped(engine, hullpippin_live_read(&engine->live, seat, limit, &engine->answer));
+    int error = stepped(engine, hullpippin_live_read(&engine->live, seat, limit, &engine->answer));
+    if (!error)
+        reach_after_read(engine, seat);
+    return error;
 }
 
 int engine_command(struct engine *engine, uint32_t seat, const void *command, size_t size)
 {
-    return stepped(engine, hullpippin_live_command(&engine->live, seat, command, size, HULLPIPPIN_NOWHERE, 0, HULLPIPPIN_NOWHERE,
-                                                   0, &engine->answer));
+    int error = stepped(engine, hullpippin_live_command(&engine->live, seat, command, size, HULLPIPPIN_NOWHERE, 0,
+                                                        HULLPIPPIN_NOWHERE, 0, &engine->answer));
+    if (!error)
+        reach_after_command(engine, seat, command);
+    return error;
 }
 
 int engine_call(struct engine *engine, uint32_t seat, const void *command, size_t size, const uint8_t *data, size_t data_size,
                 const uint8_t *offsets, size_t offsets_size)
 {
-    engine->has_reached_callers = true;
-    return stepped(engine, hullpippin_live_command(&engine->live, seat, command, size, data_size ? data : HULLPIPPIN_NOWHERE,
-                                                   data_size, offsets_size ? offsets : HULLPIPPIN_NOWHERE, offsets_size,
-                                                   &engine->answer));
+    int error = stepped(engine, hullpippin_live_command(&engine->live, seat, command, size, data_size ? data : HULLPIPPIN_NOWHERE,
+                                                        data_size, offsets_size ? offsets : HULLPIPPIN_NOWHERE, offsets_size,
+                                                        &engine->answer));
+    if (!error)
+        reach_after_call(engine, seat, command, offsets_size > 0);
+    return error;
 }

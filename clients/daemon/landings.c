@@ -147,8 +147,7 @@ void parcel_deliver(struct thread *thread, struct binder_transaction_data *recor
         thread_landing(thread);
     record->data.ptr.buffer = process->window.base + place;
     record->data.ptr.offsets = process->window.base + offsets_place;
-    if (record->flags & TF_ONE_WAY)
-        process_note_handed(process, place, true);
+    process_note_handed(process, place, process->engine->answer.offsets || record->flags & FLAG_TRAILER ? HANDED_WITH_OBJECTS : HANDED);
     if (record->flags & FLAG_TRAILER)
         deliver_wrapped(thread, record, place);
     else

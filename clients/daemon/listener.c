@@ -44,19 +44,17 @@ static void rest(struct daemon *daemon, int error)
         loop_change(&daemon->loop, &daemon->listener.watch, 0);
 }
 
-static void rest_ready(struct watch *watch, uint32_t events)
+static void rest_ready(struct watch *watch)
 {
     struct daemon *daemon = container_of(watch, struct daemon, listener.rest);
     uint64_t times;
-    (void)events;
     if (read(watch->fd, &times, sizeof times) == sizeof times)
         loop_change(&daemon->loop, &daemon->listener.watch, EPOLLIN);
 }
 
-static void listener_ready(struct watch *watch, uint32_t events)
+static void listener_ready(struct watch *watch)
 {
     struct daemon *daemon = container_of(watch, struct daemon, listener.watch);
-    (void)events;
     int fd = accept4(watch->fd, NULL, NULL, SOCK_CLOEXEC);
     if (fd >= 0) {
         process_accept(daemon, fd);

@@ -4,6 +4,9 @@
 #include <stdarg.h>
 #include <time.h>
 
+/* A line goes out at once, whichever thread tells it. */
+#define LINE_ROOM 1024
+
 static FILE *file; /* NULL: standard error */
 static bool is_verbose;
 
@@ -28,11 +31,11 @@ void log_close(void)
 static void write_line(const char *format, va_list rest)
 {
     FILE *out = file ? file : stderr;
+    char line[LINE_ROOM];
     struct timespec now;
     clock_gettime(CLOCK_MONOTONIC, &now);
-    fprintf(out, "hullpippind: %lld.%06ld ", (long long)now.tv_sec, now.tv_nsec / 1000);
-    vfprintf(out, format, rest);
-    fputc('\n', out);
+    vsnprintf(line, sizeof line, format, rest);
+    fprintf(out, "hullpippind: %lld.%06ld %s\n", (long long)now.tv_sec, now.tv_nsec / 1000, line);
 }
 
 void log_event(const char *format, ...)

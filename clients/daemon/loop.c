@@ -1,4 +1,4 @@
-/* loop.c: one wait for all descriptors. */
+/* loop.c: one wait for all descriptors. What comes of clients only marks that they want a turn (turns.c). */
 #include "daemon.h"
 
 #include <errno.h>
@@ -8,22 +8,34 @@
 
 #define IDLE_MILLISECONDS 1000
 
+/* Events of one fetch, and how many fetches there are between two turns at most. */
+#define EVENTS 64
+#define FETCHES 32
+
 bool loop_begin(struct loop *loop)
 {
-    loop->is_stopped = false;
-    loop->epoll = epoll_create1(EPOLL_CLOEXEC);
-    return loop->epoll >= 0;
+    *loop = (struct loop){.epoll = epoll_create1(EPOLL_CLOEXEC)};
+    return turns_begin(&loop->turns) && loop->epoll >= 0;
 }
 
 void loop_end(struct loop *loop)
 {
-    close(loop->epoll);
+    turns_end(&loop->turns);
+    descriptor_close(&loop->epoll);
 }
 
 bool loop_add(struct loop *loop, struct watch *watch, uint32_t events)
 {
     struct epoll_event event = {.events = events, .data.ptr = watch};
+    watch->waits_for = events;
     return epoll_ctl(loop->epoll, EPOLL_CTL_ADD, watch->fd, &event) == 0;
+}
+
+bool loop_add_client(struct loop *loop, struct watch *watch, struct client *client, uint32_t events)
+{
+    watch->client = client;
+    list_begin(&watch->in_watches);
+    return loop_add(loop, watch, events | EPOLLET);
 }
 
 void loop_change(struct loop *loop, struct watch *watch, uint32_t events)
@@ -32,30 +44,79 @@ void loop_change(struct loop *loop, struct watch *watch, uint32_t events)
     epoll_ctl(loop->epoll, EPOLL_CTL_MOD, watch->fd, &event);
 }
 
+void loop_listen(struct loop *loop, struct watch *watch)
+{
+    if (watch->is_deaf)
+        loop_change(loop, watch, watch->waits_for);
+    watch->is_deaf = false;
+}
+
+void loop_leave(struct loop *loop, struct watch *watch)
+{
+    turns_want_none(watch);
+    epoll_ctl(loop->epoll, EPOLL_CTL_DEL, watch->fd, NULL);
+    watch->is_deaf = false;
+}
+
 /* A bell's description is the client's too, so closing it here wouldn't end its events. */
 void loop_drop(struct loop *loop, struct watch *watch)
 {
     if (watch->fd < 0)
         return;
+    if (watch->client)
+        turns_want_none(watch);
     epoll_ctl(loop->epoll, EPOLL_CTL_DEL, watch->fd, NULL);
     descriptor_end(&watch->fd);
 }
 
-bool loop_run(struct loop *loop, void (*idle)(void *context), void *context)
+/* Who rings and rings costs no more than two events a turn. */
+static void note_event(struct loop *loop, struct watch *watch)
 {
+    if (!watch->client) {
+        watch->ready(watch);
+    } else if (list_is_empty(&watch->in_watches)) {
+        turns_want(&loop->turns, watch);
+    } else if (!watch->is_deaf) {
+        watch->is_deaf = true;
+        loop_change(loop, watch, EPOLLET);
+    }
+}
+
+/* Fetches all events that are there; how many these were, or -1. */
+static int fetch(struct loop *loop, int milliseconds)
+{
+    struct epoll_event events[EVENTS];
+    int total = 0, count = EVENTS;
+    for (int i = 0; i < FETCHES && count == EVENTS; i++) {
+        count = epoll_wait(loop->epoll, events, EVENTS, i ? 0 : milliseconds);
+        if (count < 0)
+            return errno == EINTR ? total + 1 : -1;
+        loop->turns.now = nanoseconds();
+        total += count;
+        for (int j = 0; j < count; j++)
+            note_event(loop, events[j].data.ptr);
+    }
+    return total;
+}
+
+bool loop_run(struct loop *loop)
+{
+    bool is_rested = false, has_more = false;
     while (!loop->is_stopped) {
-        struct epoll_event event;
-        int count = epoll_wait(loop->epoll, &event, 1, IDLE_MILLISECONDS);
-        if (count < 0 && errno != EINTR) {
+        bool is_busy = has_more || turns_are_wanted(&loop->turns);
+        int count = fetch(loop, is_busy ? 0 : is_rested ? -1 : IDLE_MILLISECONDS);
+        if (count < 0) {
             log_line("waiting: %s", strerror(errno));
             return false;
         }
-        if (count == 1) {
-            struct watch *watch = event.data.ptr;
-            watch->ready(watch, event.events);
-        } else if (count == 0) {
-            idle(context);
+        if (count == 0 && !is_busy) {
+            is_rested = !loop->idle(loop->context);
+        } else {
+            is_rested = false;
         }
+        if (turns_are_wanted(&loop->turns))
+            turns_give(&loop->turns);
+        has_more = loop->between && loop->between(loop->context);
     }
     return true;
 }

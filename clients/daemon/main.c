@@ -10,6 +10,7 @@
 #include <sys/epoll.h>
 #include <sys/resource.h>
 #include <sys/signalfd.h>
+#include <sys/timerfd.h>
 #include <unistd.h>
 
 #define DEFAULT_DEVICES "/dev/binder,/dev/hwbinder,/dev/vndbinder"
@@ -93,10 +94,16 @@ static bool read_options(struct daemon *daemon, struct options *options, int cou
     return is_good;
 }
 
-static void signal_ready(struct watch *watch, uint32_t events)
+static void signal_ready(struct watch *watch)
 {
-    (void)events;
     container_of(watch, struct daemon, signals)->loop.is_stopped = true;
+}
+
+/* The first thread has nothing to do then. */
+static bool has_rested(void *daemon)
+{
+    (void)daemon;
+    return false;
 }
 
 static bool watch_signals(struct daemon *daemon)
@@ -110,6 +117,21 @@ static bool watch_signals(struct daemon *daemon)
         return false;
     daemon->signals = (struct watch){.fd = signalfd(-1, &set, SFD_CLOEXEC | SFD_NONBLOCK), .ready = signal_ready};
     return daemon->signals.fd >= 0 && loop_add(&daemon->loop, &daemon->signals, EPOLLIN);
+}
+
+static void patience_is_over(struct watch *watch)
+{
+    struct daemon *daemon = container_of(watch, struct daemon, patience);
+    uint64_t times;
+    if (read(watch->fd, &times, sizeof times) == sizeof times)
+        daemon->strangers_are_timed = false;
+}
+
+/* The timer runs while somebody has opened nothing yet (devices_between). */
+static bool watch_strangers(struct daemon *daemon)
+{
+    daemon->patience = (struct watch){.fd = timerfd_create(CLOCK_MONOTONIC, TFD_CLOEXEC | TFD_NONBLOCK), .ready = patience_is_over};
+    return daemon->patience.fd >= 0 && loop_add(&daemon->loop, &daemon->patience, EPOLLIN);
 }
 
 /* A client's thread takes two descriptors to four. */
@@ -159,11 +181,6 @@ static void tell_status(int fd, unsigned char status)
         log_line("the standard files stay open");
 }
 
-static void when_idle(void *context)
-{
-    devices_idle(context);
-}
-
 static int run(struct daemon *daemon, const struct options *options, int told)
 {
     int status = listener_lock(daemon, options->socket);
@@ -173,20 +190,21 @@ static int run(struct daemon *daemon, const struct options *options, int told)
         return status;
     }
     /* Old journals are written anew once the address is ours. A client that comes before waits until the loop runs. */
-    bool is_begun = watch_signals(daemon) && descriptors_begin() && listener_begin(daemon) && devices_begin(daemon);
+    bool is_begun = watch_signals(daemon) && watch_strangers(daemon) && descriptors_begin() && listener_begin(daemon) && devices_begin(daemon);
     status = is_begun ? 0 : STATUS_FAILED;
     tell_status(told, (unsigned char)status);
-    if (!status && !loop_run(&daemon->loop, when_idle, daemon))
+    if (!status && !loop_run(&daemon->loop))
         status = STATUS_FAILED;
     devices_end(daemon);
     listener_end(daemon);
     loop_drop(&daemon->loop, &daemon->signals);
+    loop_drop(&daemon->loop, &daemon->patience);
     return daemon->has_failed ? STATUS_FAILED : status;
 }
 
 int main(int count, char **words)
 {
-    static struct daemon daemon = {.seats = DEFAULT_SEATS, .signals.fd = -1, 
+    static struct daemon daemon = {.seats = DEFAULT_SEATS, .signals.fd = -1, .patience.fd = -1,
                                    .listener = {.watch.fd = -1, .rest.fd = -1, .lock = -1, .spare = -1, .mode = NO_MODE, .group = NO_GROUP}};
     struct options options = {0};
     list_begin(&daemon.strangers);
@@ -202,8 +220,12 @@ int main(int count, char **words)
     if (options.is_background && told < 0)
         return perror("hullpippind"), STATUS_FAILED;
     raise_limits();
+    shares_begin(daemon.seats);
     if (!log_open(options.log, options.is_verbose) || !loop_begin(&daemon.loop))
         return perror("hullpippind"), STATUS_FAILED;
+    daemon.loop.between = strangers_end_some;
+    daemon.loop.idle = has_rested;
+    daemon.loop.context = &daemon;
     int status = run(&daemon, &options, told);
     loop_end(&daemon.loop);
     log_close();

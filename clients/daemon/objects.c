@@ -3,8 +3,6 @@
 
 #include <string.h>
 
-_Alignas(8) uint8_t parcel_bytes[PARCEL_ROOM];
-
 uint8_t *objects_offsets(const struct objects *objects)
 {
     return objects->bytes + round8(objects->data_size);

@@ -14,9 +14,6 @@ struct trailer {
 
 #define PARCEL_ROOM (PAGE_AREA + sizeof(uint64_t) * DESCRIPTORS_MAX + sizeof(struct trailer))
 
-/* Memory for one parcel: one at a time is looked at. */
-extern uint8_t parcel_bytes[PARCEL_ROOM];
-
 struct objects {
     uint8_t *bytes;
     uint64_t data_size, offsets_size, extra_size;

@@ -7,6 +7,7 @@
 
 #include <errno.h>
 #include <linux/futex.h>
+#include <stdlib.h>
 #include <string.h>
 #include <sys/syscall.h>
 #include <unistd.h>
@@ -85,27 +86,60 @@ static bool is_to_return(struct thread *thread)
     return atomic_load(&thread->page->cancel) == CANCEL_RETURN;
 }
 
-/* Runs the write half, and begins the read half. */
-static int write_read(struct thread *thread, const struct page_request *request)
+/* What no errno is: the request isn't done in this turn. */
+enum { UNDONE = -1 };
+
+/* The write goes on with the thread's next turn. */
+static int put_off(struct thread *thread, struct writing *writing)
 {
-    static uint8_t stream[PAGE_STREAM];
-    int fds[DESCRIPTORS_MAX];
-    uint32_t fd_count, calling = thread->calling;
-    if (request->stream_size > PAGE_STREAM || request->room > PAGE_RETURNS)
-        return EINVAL;
-    int error = fetch_descriptors(thread, request->descriptors, fds, &fd_count);
-    if (error)
-        return error;
-    page_copy(stream, thread->page->stream, request->stream_size);
-    error = commands_run(thread, stream, request->stream_size, fds, fd_count);
-    descriptors_close(fds, fd_count);
+    if (!thread->writing) {
+        thread->writing = malloc(sizeof *writing);
+        if (!thread->writing) {
+            descriptors_close(writing->fds, writing->fd_count);
+            return ENOMEM;
+        }
+        *thread->writing = *writing;
+    }
+    return UNDONE;
+}
+
+void page_forget(struct thread *thread)
+{
+    if (thread->writing)
+        descriptors_close(thread->writing->fds, thread->writing->fd_count);
+    free(thread->writing);
+    thread->writing = NULL;
+}
+
+/* Runs the write half, or what is left of it, and begins the read half. */
+static int write_on(struct thread *thread, struct writing *writing)
+{
+    const struct page_request *request = &writing->request;
+    int error = commands_run(thread, writing->stream, request->stream_size, writing->fds, writing->fd_count);
+    if (!error && !thread->answer.refused && thread->answer.consumed < request->stream_size)
+        return put_off(thread, writing);
+    descriptors_close(writing->fds, writing->fd_count);
     if (!error && request->room) {
         thread->is_waiting = true;
         thread->room = request->room;
-        thread->defers = thread->calling > calling && !thread->answer.refused && !thread->pending_size && !thread->is_prompt
+        thread->defers = thread->calling > writing->calling && !thread->answer.refused && !thread->pending_size && !thread->is_prompt
                          && !(request->flags & PAGE_NONBLOCK) && !is_to_return(thread);
     }
     return error;
+}
+
+static int write_read(struct thread *thread, const struct page_request *request)
+{
+    struct writing writing;
+    if (request->stream_size > PAGE_STREAM || request->room > PAGE_RETURNS)
+        return EINVAL;
+    writing.request = *request;
+    writing.calling = thread->calling;
+    int error = fetch_descriptors(thread, request->descriptors, writing.fds, &writing.fd_count);
+    if (error)
+        return error;
+    page_copy(writing.stream, thread->page->stream, request->stream_size);
+    return write_on(thread, &writing);
 }
 
 /* As with the kernel's driver, all context managers of a device are of one user: the first one's. */
@@ -171,38 +205,54 @@ static int do_request(struct thread *thread, const struct page_request *request)
     }
 }
 
-/* Frees what the client gives back without waiting. What no memory is there for is tried again. */
-static void free_buffers(struct thread *thread, uint32_t freed)
+/* Frees what the client gives back without waiting, as much as a turn has time for. What no memory is there for is tried again.
+   Whether all are seen to. */
+static bool free_buffers(struct thread *thread, uint32_t freed)
 {
     struct page *page = thread->page;
+    int error = 0;
+    bool is_over = false;
     if (freed - thread->freed > PAGE_FREES) /* a lie */
         thread->freed = freed;
-    for (; thread->freed != freed; thread->freed++) {
+    while (thread->freed != freed && !error && !is_over) {
         uint64_t pointer;
         page_copy(&pointer, &page->frees[thread->freed % PAGE_FREES], sizeof pointer);
-        if (command_free(thread, pointer))
-            break;
+        error = command_free(thread, pointer);
+        thread->freed += !error;
+        is_over = turns_is_over(&thread->process->engine->loop.turns);
     }
     atomic_store_explicit(&page->taken, thread->freed, memory_order_release);
+    return thread->freed == freed || error;
 }
 
-/* Answers the request, if there is one. All that its steps bring about for others comes before. A read that waits is
+/* Answers a request that has come to this. All that its steps bring about for others comes before. A read that waits is
    answered by what makes it ready. */
-static void answer_request(struct thread *thread, const struct page_request *request)
+static void answer_request(struct thread *thread, int error, uint32_t flags)
 {
-    thread->answer = (struct page_answer){0};
-    int error = do_request(thread, request);
     bool reads = thread->is_waiting;
     settle_watch(thread);
     settle(thread->process->engine, thread);
-    if (!reads)
+    if (error == UNDONE)
+        turns_want(&thread->process->engine->loop.turns, &thread->bell);
+    else if (!reads)
         answer_error(thread, error);
     else if (thread->is_waiting && is_to_return(thread))
         returns_deliver(thread);
-    else if (thread->is_waiting && request->flags & PAGE_NONBLOCK)
+    else if (thread->is_waiting && flags & PAGE_NONBLOCK)
         page_interrupt(thread, EAGAIN);
     else if (thread->is_waiting && atomic_load(&thread->page->cancel))
         page_interrupt(thread, EINTR); /* its ring may have been one with that for the request */
+}
+
+static void go_on_writing(struct thread *thread)
+{
+    uint32_t flags = thread->writing->request.flags;
+    int error = write_on(thread, thread->writing);
+    if (error != UNDONE) {
+        free(thread->writing);
+        thread->writing = NULL;
+    }
+    answer_request(thread, error, flags);
 }
 
 /* A read comes back with what there is, which may be the completion of a call whose reply it waits for. */
@@ -229,10 +279,22 @@ static void cancel(struct thread *thread)
         page_refuse(thread, EINTR);
 }
 
+/* What is asked for, once the thread has a seat and has given back what it wanted to. */
+static void run_asked(struct thread *thread, const struct page_request *request)
+{
+    thread->answer = (struct page_answer){0};
+    int error = do_request(thread, request);
+    answer_request(thread, error, request->flags);
+}
+
 void page_rung(struct thread *thread)
 {
     struct page *page = thread->page;
     struct page_request request;
+    if (thread->writing) {
+        go_on_writing(thread);
+        return;
+    }
     if (thread->is_waiting || !list_is_empty(&thread->in_seatless)) {
         cancel(thread);
         return;
@@ -250,10 +312,14 @@ void page_rung(struct thread *thread)
             seat_await(thread);
             return;
         }
-        free_buffers(thread, freed);
+        if (!free_buffers(thread, freed)) {
+            settle(thread->process->engine, NULL);
+            turns_want(&thread->process->engine->loop.turns, &thread->bell);
+            return;
+        }
     }
     if (is_asked)
-        answer_request(thread, &request);
+        run_asked(thread, &request);
     else
         settle(thread->process->engine, NULL);
 }

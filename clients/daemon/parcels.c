@@ -14,7 +14,7 @@
 /* A parcel with more objects is refused: it would keep all other clients waiting. */
 #define OBJECTS_MAX 8192u
 
-static uint64_t known[OBJECTS_MAX]; /* offsets of the objects that the engine knows */
+static _Thread_local uint64_t known[OBJECTS_MAX]; /* offsets of the objects that the engine knows */
 
 /* A walk over the objects of a parcel that a client sends. */
 struct walk {

@@ -19,6 +19,12 @@
 /* The daemon's own seat. */
 #define OWN_SEAT 0u
 
+/* How long a connection may open nothing. */
+#define PATIENCE_NANOSECONDS UINT64_C(5000000000)
+
+/* So many connections at a time are there only to be told that they are too many. */
+#define REFUSED_MOST 64u
+
 /* How often a step that has to be made is tried where there is no memory. */
 #define TRIES 100
 
@@ -49,37 +55,79 @@ static uint32_t free_pid(struct engine *engine, pid_t pid)
     return engine->last_pid;
 }
 
-void process_note_handed(struct process *process, uint64_t place, bool handed)
+/* Two bits for each 8 bytes. */
+#define PLACES_OF_WORD 32
+
+void process_note_handed(struct process *process, uint64_t place, unsigned handed)
 {
-    if (place >= process->window.size || (!process->handed && !handed))
+    if (place >= process->window.size)
         return;
-    if (!process->handed)
-        process->handed = calloc(process->window.size / 8 / 64, sizeof *process->handed);
-    if (!process->handed)
-        return; /* only what is unread at its end may keep descriptors then, until others need their places */
-    uint64_t bit = UINT64_C(1) << place / 8 % 64, *word = &process->handed[place / 8 / 64];
-    *word = handed ? *word | bit : *word & ~bit;
+    uint64_t *word = &process->handed[place / 8 / PLACES_OF_WORD];
+    uint64_t shift = 2 * (place / 8 % PLACES_OF_WORD);
+    *word = (*word & ~(UINT64_C(3) << shift)) | (uint64_t)handed << shift;
+}
+
+unsigned process_handed(const struct process *process, uint64_t place)
+{
+    if (place % 8 || place >= process->window.size)
+        return NOT_HANDED;
+    return process->handed[place / 8 / PLACES_OF_WORD] >> 2 * (place / 8 % PLACES_OF_WORD) & 3;
+}
+
+/* What is no errno: the process is no longer here, but its device's, whose thread answers. */
+enum { HANDED_OVER = -1 };
+
+static void leave_strangers(struct process *process)
+{
+    loop_leave(process->loop, &process->control);
+    client_release(process->client);
+    process->client = NULL;
+    process->control.client = NULL;
+    list_remove(&process->in_engine);
+}
+
+static bool join_loop(struct process *process, struct loop *loop)
+{
+    process->loop = loop;
+    process->client = client_hold(&loop->turns, process->euid, process->pid);
+    return process->client && loop_add_client(loop, &process->control, process->client, EPOLLIN | EPOLLRDHUP);
 }
 
 static int open_device(struct process *process, const struct control_request *request)
 {
     if (process->engine || !memchr(request->device, 0, sizeof request->device))
         return EINVAL;
-    process->engine = device_engine(process->daemon, request->device);
-    if (!process->engine)
+    if (process->is_refused)
+        return EMFILE;
+    struct engine *engine = device_engine(process->daemon, request->device);
+    if (!engine)
         return errno;
-    list_remove(&process->in_engine);
-    list_append(&process->engine->processes, &process->in_engine);
-    log_event("process %d (euid %u) opens %s", process->pid, process->euid, process->engine->device);
-    return 0;
+    leave_strangers(process);
+    process->engine = engine;
+    if (engine_hand_over(engine, process))
+        return HANDED_OVER;
+    process->engine = NULL;
+    list_append(&process->daemon->strangers, &process->in_engine);
+    if (join_loop(process, &process->daemon->loop))
+        return ENODEV;
+    process_end(process);
+    return HANDED_OVER;
 }
 
-/* Without its own seat the daemon can't go on. */
+void process_arrive(struct process *process)
+{
+    struct engine *engine = process->engine;
+    const struct control_answer answer = {0};
+    list_append(&engine->processes, &process->in_engine);
+    log_event("process %d (euid %u) opens %s", process->pid, process->euid, engine->device);
+    if (!join_loop(process, &engine->loop) || !packet_send(process->control.fd, &answer, sizeof answer, NULL, 0, MSG_DONTWAIT))
+        process_end(process);
+}
+
+/* Without the daemon's own seat a device can't go on. */
 static void give_up(struct engine *engine)
 {
-    if (!engine->daemon->has_failed)
-        log_line("%s: there is no memory for processes to come or go, the daemon ends", engine->device);
-    engine->daemon->has_failed = engine->daemon->loop.is_stopped = true;
+    engine_end(engine, "there is no memory for processes to come or go");
 }
 
 /* The daemon's own seat leaves the process that it has opened. */
@@ -133,11 +181,16 @@ static int map_window(struct process *process, const struct control_request *req
         return EINVAL;
     if (process->window.at)
         return EBUSY;
-    if (!window_make(&process->window, size, request->base))
+    if (!account_take(process->account, SHARED_WINDOWS, size))
         return ENOMEM;
-    int error = open_in_engine(process);
+    process->handed = calloc(size / 8 / PLACES_OF_WORD, sizeof *process->handed);
+    bool is_made = process->handed && window_make(&process->window, size, request->base);
+    int error = is_made ? open_in_engine(process) : ENOMEM;
     if (error) {
+        free(process->handed);
+        process->handed = NULL;
         window_free(&process->window);
+        account_give(process->account, SHARED_WINDOWS, size);
         return error;
     }
     log_event("process %d is %u of %s, with a window of %llu", process->pid, process->engine_pid, process->engine->device,
@@ -162,16 +215,21 @@ static int set_spam(struct process *process, bool on)
     return error;
 }
 
-/* Does what a packet asks for. False where there is nothing to be said to such a client. */
-static bool answer_control(struct process *process, const struct control_request *request)
+/* What came of a packet: there is nothing to be said to such a client; it was answered; or another thread has it. */
+enum answered { UNANSWERED, ANSWERED, GONE };
+
+/* Does what a packet asks for. */
+static enum answered answer_control(struct process *process, const struct control_request *request)
 {
     struct control_answer answer = {0};
     int fds[3] = {-1, -1, -1};
     if (request->version != PROTOCOL_VERSION)
-        return false;
+        return UNANSWERED;
     switch (request->op) {
     case CONTROL_OPEN:
         answer.error = open_device(process, request);
+        if (answer.error == HANDED_OVER)
+            return GONE;
         break;
     case CONTROL_LOOK:
         answer.error = !memchr(request->device, 0, sizeof request->device) || !device_is_there(process->daemon, request->device) ? ENOENT : 0;
@@ -193,25 +251,76 @@ static bool answer_control(struct process *process, const struct control_request
         answer.descriptors = answer.error ? 0 : 3;
         break;
     default:
-        return false;
+        return UNANSWERED;
     }
     bool is_sent = packet_send(process->control.fd, &answer, sizeof answer, fds, answer.descriptors, MSG_DONTWAIT);
     if (request->op == CONTROL_MAP)
         process->window.fd = -1;
     for (uint32_t i = 0; i < answer.descriptors && i < 2; i++)
         descriptor_close(&fds[i]); /* the third is a bell, which stays with its watch */
-    return is_sent;
+    return is_sent ? ANSWERED : UNANSWERED;
 }
 
-static void control_ready(struct watch *watch, uint32_t events)
+/* One packet a turn. Where there was one, there may be more. */
+static void control_ready(struct watch *watch)
 {
     struct process *process = container_of(watch, struct process, control);
     struct control_request request;
     uint32_t count;
-    int received = packet_receive(watch->fd, &request, sizeof request, NULL, 0, &count, MSG_DONTWAIT);
-    if (received < 0 || (received == 0 && events & (EPOLLHUP | EPOLLERR | EPOLLRDHUP))
-        || (received == 1 && !answer_control(process, &request)))
+    struct turns *turns = &process->loop->turns;
+    if (turns_are_ending(turns, watch)) {
         process_end(process);
+        return;
+    }
+    loop_listen(process->loop, watch);
+    int received = packet_receive(watch->fd, &request, sizeof request, NULL, 0, &count, MSG_DONTWAIT);
+    enum answered answered = received < 0 ? UNANSWERED : received ? answer_control(process, &request) : GONE;
+    if (answered == UNANSWERED)
+        turns_want_end(turns, watch);
+    else if (answered == ANSWERED)
+        turns_want(turns, watch);
+}
+
+/* Who is over the share is taken all the same, a few at a time, to be told so. */
+static bool take_descriptors(struct daemon *daemon, struct process *process, const struct ucred *peer)
+{
+    process->daemon = daemon;
+    process->account = account_hold(peer->uid, peer->pid);
+    if (!process->account)
+        return false;
+    process->is_refused = !account_take(process->account, SHARED_DESCRIPTORS, CONNECTION_DESCRIPTORS);
+    if (!process->is_refused)
+        return true;
+    log_event("process %d of user %u has its share of descriptors", peer->pid, peer->uid);
+    if (daemon->refused_count < REFUSED_MOST) {
+        daemon->refused_count++;
+        return true;
+    }
+    account_release(process->account);
+    return false;
+}
+
+static void give_share(struct process *process)
+{
+    caller_end(&process->caller);
+    if (process->window.size)
+        account_give(process->account, SHARED_WINDOWS, process->window.size);
+    if (process->is_refused)
+        process->daemon->refused_count--;
+    else
+        account_give(process->account, SHARED_DESCRIPTORS, CONNECTION_DESCRIPTORS);
+    account_release(process->account);
+}
+
+static bool take_share(struct daemon *daemon, struct process *process, int fd, const struct ucred *peer)
+{
+    process->caller.folder = -1;
+    if (!take_descriptors(daemon, process, peer))
+        return false;
+    if (caller_begin(&process->caller, fd, peer))
+        return true;
+    give_share(process);
+    return false;
 }
 
 void process_accept(struct daemon *daemon, int fd)
@@ -219,13 +328,13 @@ void process_accept(struct daemon *daemon, int fd)
     struct ucred peer;
     socklen_t size = sizeof peer;
     struct process *process = calloc(1, sizeof *process);
-    if (!process || getsockopt(fd, SOL_SOCKET, SO_PEERCRED, &peer, &size) || !caller_begin(&process->caller, fd, &peer)) {
+    if (!process || getsockopt(fd, SOL_SOCKET, SO_PEERCRED, &peer, &size) || !take_share(daemon, process, fd, &peer)) {
         free(process);
         descriptor_end(&fd);
         return;
     }
     process->control = (struct watch){.fd = fd, .ready = control_ready};
-    process->daemon = daemon;
+    process->came = nanoseconds();
     process->pid = peer.pid;
     process->euid = peer.uid;
     process->window.fd = -1;
@@ -233,46 +342,88 @@ void process_accept(struct daemon *daemon, int fd)
     list_begin(&process->in_bucket);
     list_begin(&process->threads);
     list_begin(&process->idle);
+    list_begin(&process->callers);
+    list_begin(&process->polling);
     list_begin(&process->in_resting);
-    if (!loop_add(&daemon->loop, &process->control, EPOLLIN | EPOLLRDHUP)) {
-        list_remove(&process->in_engine);
-        caller_end(&process->caller);
-        descriptor_end(&fd);
-        free(process);
-    }
+    list_begin(&process->in_reached);
+    if (join_loop(process, &daemon->loop))
+        return;
+    if (process->client)
+        client_release(process->client);
+    list_remove(&process->in_engine);
+    give_share(process);
+    descriptor_end(&fd);
+    free(process);
+}
+
+enum strangers process_end_stranger(struct daemon *daemon)
+{
+    if (list_is_empty(&daemon->strangers))
+        return NO_STRANGERS;
+    struct process *first = container_of(daemon->strangers.next, struct process, in_engine);
+    if (nanoseconds() - first->came < PATIENCE_NANOSECONDS)
+        return STRANGERS_WAIT;
+    log_event("process %d has opened nothing", first->pid);
+    process_end(first);
+    return STRANGERS_END;
 }
 
 /* Ends the process in the engine. Its seats are free there from then on. */
 static void exit_in_engine(struct process *process)
 {
     struct engine *engine = process->engine;
-    for (struct list *entry = process->threads.next; entry != &process->threads; entry = entry->next)
-        drain_thread(container_of(entry, struct thread, in_process));
-    if (engine_attach(engine, OWN_SEAT, process->engine_pid) == 0 && engine->answer.kind == HULLPIPPIN_OPENED)
-        drain_process(process);
-    if (exit_by_own_seat(engine, process->engine_pid))
-        log_event("process %d, %u of %s, has ended", process->pid, process->engine_pid, engine->device);
+    if (!engine->is_over) {
+        for (struct list *entry = process->threads.next; entry != &process->threads; entry = entry->next)
+            drain_thread(container_of(entry, struct thread, in_process));
+        if (engine_attach(engine, OWN_SEAT, process->engine_pid) == 0 && engine->answer.kind == HULLPIPPIN_OPENED)
+            drain_process(process);
+        if (exit_by_own_seat(engine, process->engine_pid))
+            log_event("process %d, %u of %s, has ended", process->pid, process->engine_pid, engine->device);
+    }
+    if (engine->manager == process)
+        engine->manager = NULL;
+    list_remove(&process->in_bucket);
+}
+
+static void let_go(struct process *process)
+{
+    list_remove(&process->in_engine);
+    loop_drop(process->loop, &process->control);
+    if (process->client)
+        client_release(process->client);
+    give_share(process);
+    window_free(&process->window);
+    free(process->handed);
+    free(process->owners);
+    free(process);
+}
+
+/* Whether all threads are let go of: of many threads some have to wait for another turn. */
+static bool free_threads(struct process *process)
+{
+    while (!list_is_empty(&process->threads)) {
+        thread_free(container_of(process->threads.next, struct thread, in_process));
+        if (turns_is_over(&process->loop->turns))
+            break;
+    }
+    return list_is_empty(&process->threads);
 }
 
 void process_end(struct process *process)
 {
     struct engine *engine = process->engine;
-    if (process->engine_pid)
+    bool was_open = process->engine_pid && !process->is_ending;
+    if (was_open)
         exit_in_engine(process);
-    if (engine && engine->manager == process)
-        engine->manager = NULL;
-    while (!list_is_empty(&process->threads))
-        thread_free(container_of(process->threads.next, struct thread, in_process));
-    list_remove(&process->in_engine);
-    list_remove(&process->in_bucket);
-    loop_drop(&process->daemon->loop, &process->control);
-    window_free(&process->window);
-    caller_end(&process->caller);
-    free(process->handed);
-    bool was_open = process->engine_pid != 0;
-    free(process);
-    if (was_open) {
+    process->is_ending = true;
+    if (engine)
+        settle_end(process);
+    if (free_threads(process))
+        let_go(process);
+    else
+        turns_want_end(&process->loop->turns, &process->control);
+    if (was_open)
         settle(engine, NULL);
+    if (engine)
         seats_retry(engine);
-    }
 }

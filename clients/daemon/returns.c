@@ -28,8 +28,10 @@ static void take_call(struct thread *thread, uint8_t *bytes, bool is_reply)
     record.sender_pid = sender ? caller_pid_for(&sender->caller, &thread->process->caller) : 0;
     parcel_deliver(thread, &record);
     memcpy(bytes, &record, sizeof record);
-    if (!is_reply && !(record.flags & TF_ONE_WAY))
+    if (!is_reply && !(record.flags & TF_ONE_WAY)) {
         thread->serving++;
+        reach_note_caller(thread, sender);
+    }
     if (is_reply && thread->calling)
         thread->calling--;
 }
@@ -60,7 +62,7 @@ static void take_return(struct thread *thread, uint8_t *bytes, uint32_t size)
 
 int returns_fetch(struct thread *thread)
 {
-    static uint8_t stream[PAGE_RETURNS];
+    static _Thread_local uint8_t stream[PAGE_RETURNS];
     struct engine *engine = thread->process->engine;
     uint32_t limit = thread->room > thread->pending_size + READ_LEAST ? thread->room - thread->pending_size : READ_LEAST;
     if (thread->pending_size + limit > sizeof thread->pending)
@@ -83,13 +85,8 @@ int returns_fetch(struct thread *thread)
 static bool wants_looper(const struct thread *thread)
 {
     struct process *process = thread->process;
-    if (!thread->is_looper || process->requested || process->started >= process->max_threads)
+    if (!thread->is_looper || process->requested || process->started >= process->max_threads || settle_waiting_one(process, thread))
         return false;
-    for (struct list *entry = process->threads.next; entry != &process->threads; entry = entry->next) {
-        const struct thread *other = container_of(entry, struct thread, in_process);
-        if (other != thread && other->is_waiting && other->is_looper && !other->serving && !other->calling)
-            return false;
-    }
     process->requested++;
     return true;
 }

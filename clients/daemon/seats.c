@@ -34,7 +34,7 @@ static void lose(struct engine *engine, uint32_t seat)
 static bool is_idle(struct engine *engine, const struct thread *thread)
 {
     return !thread->is_looper && !thread->serving && !thread->calling && !thread->is_waiting && thread->doorbell < 0
-           && !thread->pending_size && !hullpippin_live_ready(&engine->live, thread->seat);
+           && !thread->pending_size && !thread->writing && !hullpippin_live_ready(&engine->live, thread->seat);
 }
 
 /* Takes the seat of an idle thread back. False where there is none, or it is lost. */
@@ -87,9 +87,9 @@ static struct thread *first_seatless(struct engine *engine)
 void seats_retry(struct engine *engine)
 {
     struct thread *thread;
-    while ((thread = first_seatless(engine)) && seat_lend(thread)) {
+    while ((thread = first_seatless(engine)) && (thread->process->is_ending || seat_lend(thread))) {
         list_remove(&thread->in_seatless);
-        page_rung(thread);
+        turns_want(&engine->loop.turns, &thread->bell);
     }
 }
 

@@ -1,42 +1,91 @@
 /*
- * settle.c: whom a step makes ready. The engine doesn't tell, so those are asked for that may be.
+ * settle.c: answers whom a step has made ready (reach.c).
  *
  * A thread that is in no call of its own gets nothing on its own list by what others do (docs/RULES.md, "Work items
  * and reading"). If it is in the loop and serves nothing, it waits for its process's list, and one such thread of a
  * process is asked for in place of them all. A thread that waits for a reply, or whose doorbell rings, is asked for
- * itself. Who waits for a reply reads the own list alone, to which others add by transactions, replies and exits; so it is
- * asked for after these. The completion of its call thus stays unread until the reply is there.
+ * itself. The completion of its call stays unread until the reply is there.
  */
 #include "daemon.h"
 
+/* Who waits for a reply is looked for among so many of a process at once, and of those that all have to be looked at these are so many
+   between two turns. */
+#define LOOKS_AT_ONCE 64
+
 static bool is_ready(const struct thread *thread)
 {
-    return hullpippin_live_ready(&thread->process->engine->live, thread->seat);
+    struct engine *engine = thread->process->engine;
+    engine->looks++;
+    return hullpippin_live_ready(&engine->live, thread->seat);
+}
+
+/* --- The lists of those that wait. --- */
+
+static void rest(struct process *process)
+{
+    if (!list_is_empty(&process->in_resting) || process->is_ending)
+        return;
+    list_append(&process->engine->resting, &process->in_resting);
+    process->engine->resting_count++;
+}
+
+static void rest_no_more(struct process *process)
+{
+    if (list_is_empty(&process->in_resting))
+        return;
+    list_remove(&process->in_resting);
+    process->engine->resting_count--;
+}
+
+static bool is_looked_at(const struct thread *thread)
+{
+    return thread->calling || thread->is_rung;
+}
+
+/* Out of the list that it is in. */
+static void leave(struct thread *thread)
+{
+    struct process *process = thread->process;
+    if (!list_is_empty(&thread->in_callers))
+        process->engine->looked_at_count--;
+    list_remove(&thread->in_callers);
+    list_remove(&thread->in_watch);
 }
 
 void settle_forget(struct thread *thread)
 {
-    struct process *process = thread->process;
-    list_remove(&thread->in_watch);
-    if (list_is_empty(&process->idle))
-        list_remove(&process->in_resting);
+    leave(thread);
+    list_remove(&thread->in_polling);
+    if (list_is_empty(&thread->process->idle))
+        rest_no_more(thread->process);
 }
 
+/* The last to call is the first to be looked for. */
 void settle_watch(struct thread *thread)
 {
     struct process *process = thread->process;
-    list_remove(&thread->in_watch);
-    if (thread->seat != NO_SEAT && (thread->is_waiting || thread->doorbell >= 0)) {
-        if (thread->calling || thread->is_rung)
-            list_append(&process->engine->looked_at, &thread->in_watch);
-        else if (thread->is_looper && !thread->serving)
-            list_append(&process->idle, &thread->in_watch);
+    bool waits = thread->seat != NO_SEAT && (thread->is_waiting || thread->doorbell >= 0);
+    leave(thread);
+    if (waits && is_looked_at(thread)) {
+        list_append(&process->engine->looked_at, &thread->in_watch);
+        list_append(process->callers.next, &thread->in_callers);
+        process->engine->looked_at_count++;
+    } else if (waits && thread->is_looper && !thread->serving) {
+        list_append(&process->idle, &thread->in_watch);
     }
     if (list_is_empty(&process->idle))
-        list_remove(&process->in_resting);
-    else if (list_is_empty(&process->in_resting))
-        list_append(&process->engine->resting, &process->in_resting);
+        rest_no_more(process);
+    else
+        rest(process);
 }
+
+void settle_end(struct process *process)
+{
+    rest_no_more(process);
+    list_remove(&process->in_reached);
+}
+
+/* --- Doorbells. --- */
 
 void settle_doorbell(struct thread *thread)
 {
@@ -50,12 +99,13 @@ void settle_doorbell(struct thread *thread)
 
 void settle_doorbells(struct process *process)
 {
-    for (struct list *entry = process->threads.next; entry != &process->threads; entry = entry->next)
-        settle_doorbell(container_of(entry, struct thread, in_process));
+    for (struct list *entry = process->polling.next; entry != &process->polling; entry = entry->next)
+        settle_doorbell(container_of(entry, struct thread, in_polling));
 }
 
-/* Looks at one thread. Whether that has changed more than its doorbell: then others may be ready that weren't, or not
-   be any more. */
+/* --- Looking at those that wait. --- */
+
+/* Looks at one thread. Whether that has changed more than its doorbell. */
 static bool look(struct thread *thread)
 {
     if (!thread->is_waiting) {
@@ -71,59 +121,128 @@ static bool look(struct thread *thread)
     return reads || !thread->is_waiting;
 }
 
-/* One of the process's idle threads that waits in a read, or NULL. */
-static struct thread *waiting_one(struct process *process)
+struct thread *settle_waiting_one(struct process *process, const struct thread *but)
 {
     for (struct list *entry = process->idle.next; entry != &process->idle; entry = entry->next) {
         struct thread *thread = container_of(entry, struct thread, in_watch);
-        if (thread->is_waiting)
+        if (thread->is_waiting && thread != but)
             return thread;
     }
     return NULL;
 }
 
-/* Looks at the idle threads of a process: one that waits reads; where none does, all their doorbells ring. */
+bool settle_is_ready(struct process *process)
+{
+    return !list_is_empty(&process->idle) && is_ready(container_of(process->idle.next, struct thread, in_watch));
+}
+
+/* Looks at the idle threads of a process: one that waits reads; where none does, all their doorbells ring. Whether one has read, and
+   there may be more. */
 static bool look_at_idle(struct process *process)
 {
-    if (!is_ready(container_of(process->idle.next, struct thread, in_watch)))
+    if (!settle_is_ready(process))
         return false;
-    struct thread *thread = waiting_one(process);
+    struct thread *thread = settle_waiting_one(process, NULL);
     if (thread)
         return look(thread);
-    for (struct list *entry = process->idle.next, *next; entry != &process->idle; entry = next) {
-        next = entry->next;
-        settle_doorbell(container_of(entry, struct thread, in_watch));
-    }
+    settle_doorbells(process);
     return false;
 }
 
-/* Looks at all but one until something was changed. A look that changes nothing moves no other thread than that which
-   it looks at. */
-static bool look_at_others(struct engine *engine, const struct thread *acting)
+/* Looks at those of a process that wait for replies until one has it. */
+static void look_at_callers(struct process *process, const struct thread *acting)
 {
-    for (struct list *entry = engine->looked_at.next, *next; entry != &engine->looked_at; entry = next) {
-        struct thread *thread = container_of(entry, struct thread, in_watch);
+    struct engine *engine = process->engine;
+    uint32_t looks = 0;
+    for (struct list *entry = process->callers.next, *next; entry != &process->callers; entry = next) {
+        struct thread *thread = container_of(entry, struct thread, in_callers);
         next = entry->next;
-        bool may_be_ready = engine->has_reached_callers || !(thread->is_waiting && thread->calling);
-        if (thread != acting && may_be_ready && look(thread))
-            return true;
+        if (thread == acting)
+            continue;
+        if (looks++ == LOOKS_AT_ONCE) {
+            engine->looked_at_left = engine->looked_at_count;
+            return;
+        }
+        bool waited = thread->is_waiting;
+        look(thread);
+        if (waited && !thread->is_waiting && !engine->looked_at_left)
+            return;
     }
-    for (struct list *entry = engine->resting.next, *next; entry != &engine->resting; entry = next) {
-        next = entry->next;
-        if (look_at_idle(container_of(entry, struct process, in_resting)))
-            return true;
-    }
-    return false;
 }
 
-/* Where no step was made, others are as they were. The completion of a call is left unread until a step of others may
-   have brought the reply. */
+static void look_at_process(struct process *process, const struct thread *acting)
+{
+    bool callers = process->callers_are_reached;
+    list_remove(&process->in_reached);
+    process->callers_are_reached = false;
+    if (callers)
+        look_at_callers(process, acting);
+    settle_doorbells(process);
+    while (look_at_idle(process))
+        ;
+}
+
+/* --- Those that all have to be looked at, some at a time: the first is looked at and goes last. --- */
+
+static bool look_at_next_thread(struct engine *engine, const struct thread *acting)
+{
+    struct thread *thread = container_of(engine->looked_at.next, struct thread, in_watch);
+    engine->looked_at_left--;
+    list_remove(&thread->in_watch);
+    list_append(&engine->looked_at, &thread->in_watch);
+    return thread != acting && look(thread);
+}
+
+static bool look_at_next_process(struct engine *engine)
+{
+    struct process *process = container_of(engine->resting.next, struct process, in_resting);
+    engine->resting_left--;
+    list_remove(&process->in_resting);
+    list_append(&engine->resting, &process->in_resting);
+    return look_at_idle(process);
+}
+
+static void look_at_reached(struct engine *engine, const struct thread *acting)
+{
+    while (!list_is_empty(&engine->reached))
+        look_at_process(container_of(engine->reached.next, struct process, in_reached), acting);
+}
+
+/* Some of them, and whom these reach. What each read takes is told by the clock of the turn. */
+static void look_at_some(struct engine *engine, const struct thread *acting)
+{
+    for (int looks = 0; looks < LOOKS_AT_ONCE; looks++) {
+        bool has_changed = false;
+        if (engine->looked_at_left && !list_is_empty(&engine->looked_at))
+            has_changed = look_at_next_thread(engine, acting);
+        else if (engine->resting_left && !list_is_empty(&engine->resting))
+            has_changed = look_at_next_process(engine);
+        else
+            break;
+        look_at_reached(engine, acting);
+        if (has_changed && turns_is_over(&engine->loop.turns))
+            return;
+    }
+    if (list_is_empty(&engine->looked_at))
+        engine->looked_at_left = 0;
+    if (list_is_empty(&engine->resting))
+        engine->resting_left = 0;
+}
+
+bool settle_some(struct engine *engine)
+{
+    if (engine->looked_at_left || engine->resting_left)
+        look_at_some(engine, NULL);
+    return engine->looked_at_left || engine->resting_left;
+}
+
+/* The completion of a call is left unread until a step of others may have brought the reply. */
 void settle(struct engine *engine, struct thread *acting)
 {
     bool looks = acting && acting->seat != NO_SEAT && !(acting->is_waiting && acting->defers);
     do {
-        while (engine->has_stepped && look_at_others(engine, acting))
-            ;
-        engine->has_stepped = engine->has_reached_callers = false;
+        look_at_reached(engine, acting);
+        if (engine->looked_at_left || engine->resting_left)
+            look_at_some(engine, acting);
     } while (looks && look(acting));
 }

@@ -20,23 +20,35 @@ struct parts {
     struct page *page;
 };
 
-static void link_ready(struct watch *watch, uint32_t events)
+/* It is only waited for its end. The thread may have asked for something without waiting for it. */
+static void link_ready(struct watch *watch)
 {
-    (void)events; /* it is only waited for its end */
     struct thread *thread = container_of(watch, struct thread, link);
     struct engine *engine = thread->process->engine;
-    page_rung(thread); /* it may have asked for something without waiting for it */
+    if (!turns_are_ending(&engine->loop.turns, watch)) {
+        turns_want_end(&engine->loop.turns, watch);
+        return;
+    }
+    if (!thread->process->is_ending)
+        page_rung(thread);
+    if (thread->writing) {
+        turns_want(&engine->loop.turns, watch);
+        return;
+    }
     thread_end(thread);
     settle(engine, NULL);
     seats_retry(engine);
 }
 
-static void bell_ready(struct watch *watch, uint32_t events)
+static void bell_ready(struct watch *watch)
 {
     struct thread *thread = container_of(watch, struct thread, bell);
-    (void)events;
+    struct engine *engine = thread->process->engine;
+    loop_listen(&engine->loop, watch);
+    if (thread->process->is_ending)
+        return;
     page_rung(thread);
-    seats_retry(thread->process->engine);
+    seats_retry(engine);
 }
 
 /* The page's size is sealed: no access of the daemon's can go past its end. */
@@ -83,9 +95,27 @@ static struct thread *new_thread(struct process *process, const struct parts *pa
     thread->doorbell = thread->doorbell_end = -1;
     list_append(&process->threads, &thread->in_process);
     list_begin(&thread->in_watch);
+    list_begin(&thread->in_callers);
+    list_begin(&thread->in_polling);
     list_begin(&thread->in_seatless);
     process->thread_count++;
     return thread;
+}
+
+static void give_share(struct account *account)
+{
+    account_give(account, SHARED_THREADS, 1);
+    account_give(account, SHARED_DESCRIPTORS, THREAD_DESCRIPTORS);
+}
+
+static bool take_share(struct account *account)
+{
+    if (!account_take(account, SHARED_DESCRIPTORS, THREAD_DESCRIPTORS))
+        return false;
+    if (account_take(account, SHARED_THREADS, 1))
+        return true;
+    account_give(account, SHARED_DESCRIPTORS, THREAD_DESCRIPTORS);
+    return false;
 }
 
 int thread_join(struct process *process, int fds[3])
@@ -93,16 +123,18 @@ int thread_join(struct process *process, int fds[3])
     struct parts parts;
     if (!process->engine)
         return EINVAL;
-    if (process->thread_count >= THREADS_MAX)
+    if (process->thread_count >= THREADS_MAX || !take_share(process->account))
         return EMFILE;
     struct thread *thread = make_parts(&parts) ? new_thread(process, &parts) : NULL;
     if (!thread) {
         free_parts(&parts);
+        give_share(process->account);
         return ENOMEM;
     }
-    struct loop *loop = &process->daemon->loop;
+    struct loop *loop = process->loop;
+    struct client *client = process->client;
     /* A bell is never emptied: each time it is rung there is an event. Of the link only its end makes one. */
-    if (!loop_add(loop, &thread->link, EPOLLRDHUP) || !loop_add(loop, &thread->bell, EPOLLIN | EPOLLET)) {
+    if (!loop_add_client(loop, &thread->link, client, EPOLLRDHUP) || !loop_add_client(loop, &thread->bell, client, EPOLLIN)) {
         descriptor_close(&parts.link[1]);
         descriptor_close(&parts.memory);
         thread_free(thread);
@@ -127,8 +159,10 @@ struct landing *thread_landing(struct thread *thread)
 
 void thread_end(struct thread *thread)
 {
-    drain_thread(thread);
-    seat_return(thread);
+    if (!thread->process->is_ending) {
+        drain_thread(thread);
+        seat_return(thread);
+    }
     thread_free(thread);
 }
 
@@ -145,7 +179,8 @@ static void tell_end(struct thread *thread)
 
 void thread_free(struct thread *thread)
 {
-    struct loop *loop = &thread->process->daemon->loop;
+    struct loop *loop = thread->process->loop;
+    page_forget(thread);
     tell_end(thread);
     seat_forget(thread);
     doorbell_free(thread);
@@ -158,6 +193,7 @@ void thread_free(struct thread *thread)
     settle_forget(thread);
     list_remove(&thread->in_seatless);
     list_remove(&thread->in_process);
+    give_share(thread->process->account);
     thread->process->thread_count--;
     free(thread);
 }

@@ -1,6 +1,8 @@
 """Tests with our own clients alone, which need nothing but the kernel's header."""
 import os
+import re
 import shutil
+import signal
 import subprocess
 import tempfile
 import time
@@ -18,6 +20,15 @@ ROUNDS, MOST_ROUNDS = 12, 40
 FUZZ_KIB = 65536
 
 DEVICE = "/dev/binder"
+
+
+def counts(stage, device=DEVICE):
+    """Ends the daemon: what it tells that it has done for a device."""
+    stage.end()
+    lines = re.findall(rf"{device}: (\d+) steps\n.*{device}: (turns .*)", stage.daemon.printed())
+    expect(len(lines) == 1, f"the daemon tells no counts of {device}")
+    steps, rest = lines[0]
+    return {"steps": int(steps), **{word: int(number) for word, number in re.findall(r"(\w+) (\d+)", rest)}}
 
 
 def plays(name, *words, title=None):
@@ -144,13 +155,37 @@ def end(build):
 
 @test("raw full")
 def full(build):
-    """A history that can take no more ends the daemon in order, and its clients are told."""
+    """A history that can take no more ends its device in order, after warnings, and its clients are told; other devices go on."""
+    other = {"RAW_DEVICE": "/dev/hwbinder"}
     with Stage(build, journal=DEVICE, daemon=build.short) as stage:
+        waiting = stage.start([build.manager("hwservicemanager"), "-v"]).wait_for("ready on")
         said = stage.start([build.raw("oneway")]).finish(statuses=(1,))
         expect("No such device" in said, f"oneway: {said}")
+        again = stage.start([build.raw("nested")]).finish(statuses=(1,))
+        expect("No such device" in again, f"nested, afterwards: {again}")
+        expect(waiting.runs(), f"another device's manager: {waiting.printed()}")
+        waiting.kill()
+        stage.run([build.raw("nested")], environment=other)
+        os.kill(stage.daemon.pid, signal.SIGTERM)
         stage.see_end(1)
-        expect(stage.daemon.printed().count("the history is full, the daemon ends") == 1, f"the daemon: {stage.daemon.printed()}")
-    return f"the daemon ended in order; lawful, {stage.entries} steps"
+        printed = stage.daemon.printed()
+        expect(printed.count("the history is full, the device ends") == 1, f"the daemon: {printed}")
+        for part in (50, 90, 99):
+            expect(printed.count(f"{DEVICE}: {part} % of the steps") == 1, f"the daemon hasn't told of {part} %: {printed}")
+    return f"the device ended in order, the other went on; lawful, {stage.entries} steps"
+
+
+@test("raw frees of nothing")
+def frees_of_nothing(build):
+    """Who gives back what was never handed out makes no step of the history."""
+    with Stage(build) as stage:
+        stage.manage()
+        stage.start([build.fuzz("rings"), "frees", "4", DEVICE], client=False).wait_for("ready")
+        time.sleep(1)
+        found = counts(stage)
+    expect(found["turns"] > 1000, f"there were only {found['turns']} turns")
+    expect(found["steps"] < 200, f"{found['steps']} steps were made")
+    return f"{found['turns']} turns, {found['steps']} steps"
 
 
 @test("raw short of memory")
@@ -197,6 +232,7 @@ def fuzz(build):
     """Hostile clients for a minute; an honest pair calls meanwhile, and others are served afterwards."""
     with Stage(build) as stage:
         alone = figures(stage.run([build.fuzz("witness"), "2"]))
+        stage.run([build.fuzz("witness"), "1"], environment={"RAW_DEVICE": "/dev/vndbinder"})  # each device has descriptors of its own
         before, files = resident(stage.daemon.pid), open_files(stage.daemon.pid)
         witness = stage.start([build.fuzz("witness"), str(build.fuzz_seconds)]).wait_for("ready")
         attacks = stage.run([build.fuzz("fuzz"), str(build.fuzz_seconds), str(build.seed)], build.fuzz_seconds + 30, client=False)

@@ -5,6 +5,7 @@ All processes are started in sessions of their own, and are ended with the stage
 import os
 import shutil
 import signal
+import socket
 import subprocess
 import tempfile
 import time
@@ -134,13 +135,18 @@ class Stage:
     def __enter__(self):
         try:
             end = time.monotonic() + 10
-            while not os.path.exists(self.socket):
+            while not (os.path.exists(self.socket) if self.is_bare else self.listens()):
                 expect(self.daemon.runs() and time.monotonic() < end, f"no daemon: {tail(self.daemon.printed())}")
                 time.sleep(0.005)
         except BaseException:
             self.clear()
             raise
         return self
+
+    def listens(self):
+        """Whether a client may come: from when there is a socket it takes a moment."""
+        with socket.socket(socket.AF_UNIX, socket.SOCK_SEQPACKET) as client:
+            return client.connect_ex(self.socket) == 0
 
     def __exit__(self, kind, error, trace):
         try:

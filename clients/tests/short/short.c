@@ -1,6 +1,6 @@
 /*
  * short.c: goes into a daemon of the tests, whose histories can take no more after so many steps: what the engine answers
- * after 4294967295. The linker has the daemon call these in the library's place. With SHORT_OF_MEMORY in its environment the
+ * after 4294967295, which the daemon knows too. The linker has the daemon call these in the library's place. With SHORT_OF_MEMORY in its environment the
  * kernel has no memory for its clients in the first seconds, and the engine none to end the first threads.
  */
 #include <errno.h>
@@ -13,6 +13,13 @@
 #define STEPS 4000
 #define SECONDS 3
 #define THREADS 29
+
+extern uint64_t history_most;
+
+__attribute__((constructor)) static void shorten(void)
+{
+    history_most = STEPS;
+}
 
 /* The library's function of this name, and what the daemon calls. */
 #define SHORT(name, parameters, ...) \

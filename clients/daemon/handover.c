@@ -1,0 +1,146 @@
+/*
+ * handover.c: the thread of a device, and how clients come to it. The daemon's first thread takes connections; once one says which
+ * device it opens, it goes to that one's thread, which has all of it from then on. Devices share nothing but what is counted in
+ * shares.c.
+ */
+#include "daemon.h"
+
+#include <errno.h>
+#include <stdlib.h>
+#include <sys/epoll.h>
+#include <sys/eventfd.h>
+#include <unistd.h>
+
+/* Thread-local memory and what a turn needs are small; most of this is never touched. */
+#define STACK_BYTES ((size_t)1 << 20)
+
+static void ring(struct engine *engine)
+{
+    const uint64_t one = 1;
+    if (write(engine->inbox.bell.fd, &one, sizeof one) != sizeof one)
+        log_event("%s: the bell is full", engine->device); /* then it rings already */
+}
+
+static bool is_asked_to_stop(struct engine *engine)
+{
+    pthread_mutex_lock(&engine->inbox.lock);
+    bool stops = engine->inbox.is_to_stop;
+    pthread_mutex_unlock(&engine->inbox.lock);
+    return stops;
+}
+
+static struct process *next_handed_over(struct engine *engine)
+{
+    struct process *process = NULL;
+    pthread_mutex_lock(&engine->inbox.lock);
+    if (!list_is_empty(&engine->inbox.processes)) {
+        process = container_of(engine->inbox.processes.next, struct process, in_engine);
+        list_remove(&process->in_engine);
+    }
+    pthread_mutex_unlock(&engine->inbox.lock);
+    return process;
+}
+
+static void inbox_ready(struct watch *watch)
+{
+    struct engine *engine = container_of(watch, struct engine, inbox.bell);
+    struct process *process;
+    uint64_t times;
+    if (read(watch->fd, &times, sizeof times) != sizeof times)
+        return;
+    while ((process = next_handed_over(engine)))
+        process_arrive(process);
+    if (is_asked_to_stop(engine))
+        engine->loop.is_stopped = true;
+}
+
+/* Between two turns: what is to be looked at; or of a device that is over the end of its clients. */
+static bool between(void *context)
+{
+    struct engine *engine = context;
+    if (!engine->is_over)
+        return settle_some(engine);
+    if (list_is_empty(&engine->processes))
+        engine->loop.is_stopped = true;
+    else
+        process_end(container_of(engine->processes.next, struct process, in_engine));
+    return true;
+}
+
+static bool idle(void *context)
+{
+    struct engine *engine = context;
+    seats_regain(engine);
+    journal_flush(&engine->journal);
+    seats_refuse(engine);
+    return engine->lost_count > 0;
+}
+
+/* Nobody comes any more; who has come meanwhile is told by the end of the connection. */
+static void close_inbox(struct engine *engine)
+{
+    pthread_mutex_lock(&engine->inbox.lock);
+    engine->inbox.is_closed = true;
+    pthread_mutex_unlock(&engine->inbox.lock);
+    struct process *process;
+    while ((process = next_handed_over(engine)))
+        process_arrive(process);
+}
+
+static void *run(void *with)
+{
+    struct engine *engine = with;
+    parcel_bytes = engine->parcel_bytes;
+    if (!loop_run(&engine->loop))
+        engine_end(engine, "it can't wait");
+    close_inbox(engine);
+    while (!list_is_empty(&engine->processes))
+        process_end(container_of(engine->processes.next, struct process, in_engine));
+    engine_conclude(engine);
+    return NULL;
+}
+
+bool engine_start(struct engine *engine)
+{
+    struct inbox *inbox = &engine->inbox;
+    pthread_attr_t attributes;
+    list_begin(&inbox->processes);
+    pthread_mutex_init(&inbox->lock, NULL);
+    inbox->bell = (struct watch){.fd = eventfd(0, EFD_CLOEXEC | EFD_NONBLOCK), .ready = inbox_ready};
+    if (!loop_begin(&engine->loop) || inbox->bell.fd < 0 || !loop_add(&engine->loop, &inbox->bell, EPOLLIN))
+        return false;
+    engine->loop.between = between;
+    engine->loop.idle = idle;
+    engine->loop.context = engine;
+    pthread_attr_init(&attributes);
+    pthread_attr_setstacksize(&attributes, STACK_BYTES);
+    engine->has_thread = pthread_create(&engine->thread, &attributes, run, engine) == 0;
+    pthread_attr_destroy(&attributes);
+    return engine->has_thread;
+}
+
+void engine_stop(struct engine *engine)
+{
+    if (engine->has_thread) {
+        pthread_mutex_lock(&engine->inbox.lock);
+        engine->inbox.is_to_stop = true;
+        pthread_mutex_unlock(&engine->inbox.lock);
+        ring(engine);
+        pthread_join(engine->thread, NULL);
+    }
+    if (engine->inbox.bell.fd >= 0)
+        loop_drop(&engine->loop, &engine->inbox.bell);
+    loop_end(&engine->loop);
+}
+
+bool engine_hand_over(struct engine *engine, struct process *process)
+{
+    pthread_mutex_lock(&engine->inbox.lock);
+    bool is_open = !engine->inbox.is_closed;
+    if (is_open)
+        list_append(&engine->inbox.processes, &process->in_engine);
+    pthread_mutex_unlock(&engine->inbox.lock);
+    if (is_open)
+        ring(engine);
+    return is_open;
+}

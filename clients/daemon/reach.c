@@ -1,0 +1,229 @@
+/*
+ * reach.c: whom the engine's steps have reached. The engine doesn't tell, but it is proved of it that of all seats but the acting
+ * one those alone become ready, or aren't any more, whose own list or whose process's list a step fills or empties, and
+ * docs/RULES.md says which lists a step touches:
+ *
+ *  - a call without objects the receiver's, or one of its threads that waits in the same chain of calls;
+ *  - a reply without objects, also a refused one, that of a thread which waits for it;
+ *  - commands on references the list of the object's owner;
+ *  - what carries objects, or gives back a buffer that does, those of all the objects' owners;
+ *  - an end those of all who called, were called or asked to be told;
+ *  - everything else those of the acting thread and of its process.
+ *
+ * Who owns an object isn't told either. Where everybody who was ready has been looked at, the one process that is found ready after a
+ * call is its receiver; that is kept by the handle, until a command of its process may give the number to another object. Where it
+ * isn't known whom a step has reached, all are looked at.
+ */
+#include "daemon.h"
+
+#include <stdlib.h>
+#include <string.h>
+
+/* Of a process's handles as many as this are known, each at a place of its own. */
+#define OWNERS 512u
+
+/* More processes than this aren't looked through for a receiver at once. */
+#define MOST_ASKED 4096u
+
+struct owner {
+    uint32_t handle;
+    uint32_t pid; /* that the process has in the engine; 0: none is known here */
+};
+
+void reach_process(struct process *process, bool callers)
+{
+    if (process->is_ending)
+        return;
+    if (list_is_empty(&process->in_reached))
+        list_append(&process->engine->reached, &process->in_reached);
+    process->callers_are_reached = process->callers_are_reached || callers;
+}
+
+/* Everybody who waits for what comes to a process; and with `callers`, who waits for a reply. */
+static void reach_all(struct engine *engine, bool callers)
+{
+    engine->resting_left = engine->resting_count;
+    if (callers)
+        engine->looked_at_left = engine->looked_at_count;
+}
+
+static bool all_were_looked_at(const struct engine *engine)
+{
+    return list_is_empty(&engine->reached) && !engine->resting_left && !engine->looked_at_left;
+}
+
+static struct owner *owner_at(const struct process *process, uint32_t handle)
+{
+    return process->owners ? &process->owners[handle % OWNERS] : NULL;
+}
+
+/* The process of the object that a handle names. NULL where it isn't known; what has ended owns nothing. */
+static struct process *find_owner(const struct process *process, uint32_t handle)
+{
+    struct owner *owner = owner_at(process, handle);
+    if (!handle)
+        return process->engine->manager;
+    return owner && owner->pid && owner->handle == handle ? process_of(process->engine, owner->pid) : NULL;
+}
+
+static void keep_owner(struct process *process, uint32_t handle, const struct process *receiver)
+{
+    if (!process->owners)
+        process->owners = calloc(OWNERS, sizeof *process->owners);
+    if (process->owners)
+        *owner_at(process, handle) = (struct owner){handle, receiver->engine_pid};
+}
+
+static void forget_owner(struct process *process, uint32_t handle)
+{
+    struct owner *owner = owner_at(process, handle);
+    if (owner && owner->handle == handle)
+        owner->pid = 0;
+}
+
+static void forget_owners(struct process *process)
+{
+    if (process->owners)
+        memset(process->owners, 0, OWNERS * sizeof *process->owners);
+}
+
+/* Looks through those that wait for the one that has become ready. */
+static struct process *find_ready(struct engine *engine)
+{
+    uint32_t asked = 0;
+    for (struct list *entry = engine->resting.next; entry != &engine->resting && asked < MOST_ASKED; entry = entry->next, asked++) {
+        struct process *process = container_of(entry, struct process, in_resting);
+        if (settle_is_ready(process))
+            return process;
+    }
+    return NULL;
+}
+
+static void reach_receiver(struct thread *thread, uint32_t handle)
+{
+    struct engine *engine = thread->process->engine;
+    struct process *receiver = find_owner(thread->process, handle);
+    bool is_known = receiver != NULL, is_nested = thread->serving > 0;
+    if (!is_known && all_were_looked_at(engine) && engine->resting_count <= MOST_ASKED) {
+        receiver = find_ready(engine);
+        if (receiver)
+            keep_owner(thread->process, handle, receiver);
+        is_known = !is_nested; /* else a thread that waits for a reply may have it */
+    }
+    if (receiver)
+        reach_process(receiver, is_nested);
+    else if (!is_known)
+        reach_all(engine, is_nested);
+}
+
+static void reach_caller(struct thread *thread, bool is_refused)
+{
+    struct engine *engine = thread->process->engine;
+    uint32_t pid = thread->serving && thread->serving <= CALLERS_KNOWN ? thread->callers[thread->serving - 1] : 0;
+    struct process *caller = pid ? process_of(engine, pid) : NULL;
+    if (caller)
+        reach_process(caller, true);
+    /* A refused reply may come to who waits for the caller. */
+    if (!pid || is_refused)
+        reach_all(engine, true);
+}
+
+uint64_t reach_window(const struct thread *thread, bool is_reply, uint32_t handle)
+{
+    struct engine *engine = thread->process->engine;
+    uint32_t pid = thread->serving && thread->serving <= CALLERS_KNOWN ? thread->callers[thread->serving - 1] : 0;
+    struct process *receiver = !is_reply ? find_owner(thread->process, handle) : pid ? process_of(engine, pid) : NULL;
+    if (!receiver && !is_reply && !handle)
+        return 0; /* there is no context manager, which the engine says before it asks for a parcel */
+    return receiver ? receiver->window.size : WINDOW_MAX;
+}
+
+void reach_note_caller(struct thread *thread, const struct process *caller)
+{
+    if (thread->serving <= CALLERS_KNOWN && thread->serving)
+        thread->callers[thread->serving - 1] = caller ? caller->engine_pid : 0;
+}
+
+void reach_after_call(struct engine *engine, uint32_t seat, const void *command, bool has_objects)
+{
+    struct {
+        uint32_t code;
+        struct binder_transaction_data data;
+    } __attribute__((packed)) call;
+    struct thread *thread = engine->lent[seat];
+    bool is_refused = engine->answer.stop == HULLPIPPIN_AT_CAUSE;
+    memcpy(&call, command, sizeof call);
+    if (!thread || has_objects)
+        reach_all(engine, true);
+    else if (call.code == BC_REPLY)
+        reach_caller(thread, is_refused);
+    else if (!is_refused)
+        reach_receiver(thread, call.data.target.handle);
+    if (thread)
+        reach_process(thread->process, false);
+}
+
+/* The handle that a command on references names. */
+static void reach_reference(struct thread *thread, uint32_t code, const uint8_t *payload)
+{
+    uint32_t handle;
+    memcpy(&handle, payload, sizeof handle);
+    struct process *owner = find_owner(thread->process, handle);
+    if (owner)
+        reach_process(owner, false);
+    else
+        reach_all(thread->process->engine, false);
+    if (code == BC_RELEASE || code == BC_DECREFS)
+        forget_owner(thread->process, handle);
+}
+
+static void reach_freed(struct thread *thread, const uint8_t *payload)
+{
+    uint64_t pointer;
+    memcpy(&pointer, payload, sizeof pointer);
+    if (process_handed(thread->process, pointer - WINDOW_BASE) != HANDED_WITH_OBJECTS)
+        return;
+    forget_owners(thread->process);
+    reach_all(thread->process->engine, false);
+}
+
+void reach_after_command(struct engine *engine, uint32_t seat, const void *command)
+{
+    struct thread *thread = engine->lent[seat];
+    const uint8_t *payload = (const uint8_t *)command + sizeof(uint32_t);
+    uint32_t code;
+    memcpy(&code, command, sizeof code);
+    if (!thread) {
+        reach_all(engine, true);
+        return;
+    }
+    switch (code) {
+    case BC_INCREFS:
+    case BC_ACQUIRE:
+    case BC_RELEASE:
+    case BC_DECREFS:
+        reach_reference(thread, code, payload);
+        break;
+    case BC_FREE_BUFFER:
+        reach_freed(thread, payload);
+        break;
+    default:
+        break;
+    }
+    reach_process(thread->process, false);
+}
+
+void reach_after_read(struct engine *engine, uint32_t seat)
+{
+    struct thread *thread = engine->lent[seat];
+    if (thread)
+        reach_process(thread->process, false);
+}
+
+/* With what a thread leaves unread, handles of its process may go. */
+void reach_after_end(struct engine *engine, uint32_t seat)
+{
+    if (engine->lent[seat])
+        forget_owners(engine->lent[seat]->process);
+    reach_all(engine, true);
+}

@@ -1,0 +1,158 @@
+/*
+ * beside idle|callers COUNT [CALLS]: what a call takes beside so many others who do nothing: processes whose looper waits, or threads
+ * of one process that wait for the reply of a call which nobody answers. Prints medians alone and beside them, and the longest of the
+ * calls while all of them end, in microseconds.
+ */
+#include "raw.h"
+
+#include <pthread.h>
+#include <signal.h>
+#include <stdio.h>
+#include <stdlib.h>
+#include <string.h>
+#include <unistd.h>
+
+enum { PLAIN, TAKE, GIVE };
+
+/* How long calls are made while the others end, in microseconds. */
+#define ENDING 1.5e6
+
+#define STACK ((size_t)128 << 10)
+
+static uint32_t taken; /* the manager's handle of the object that nobody serves */
+
+static void give(struct looper *looper)
+{
+    struct writer object = {0};
+    write_strong_handle(&object, taken);
+    CHECK(!object.failed, "no memory");
+    struct binder_transaction_data answer = record_of(&object);
+    CHECK(looper_answer(looper, &answer, 0), "can't answer");
+    writer_free(&object);
+}
+
+static void serve(struct looper *looper, const struct binder_transaction_data *call)
+{
+    if (call->code == GIVE) {
+        give(looper);
+        return;
+    }
+    if (call->code == TAKE)
+        taken = raw_keep(looper, call);
+    raw_answer(looper, NULL, 0);
+}
+
+/* It is in the loop, and never reads again. */
+static void own_object(void *with)
+{
+    struct client client;
+    (void)with;
+    raw_open(&client, WINDOW, NULL);
+    raw_give(&client, TAKE);
+    raw_ready();
+    pause();
+}
+
+static void wait_idle(void *with)
+{
+    struct client client;
+    (void)with;
+    raw_open(&client, WINDOW, NULL);
+    put_code(&client.looper.commands, BC_ENTER_LOOPER);
+    CHECK(looper_flush(&client.looper), "can't enter the loop");
+    raw_ready();
+    looper_run(&client.looper);
+}
+
+struct crowd {
+    struct client client;
+    uint32_t handle;
+};
+
+static void *call_for_ever(void *with)
+{
+    struct crowd *crowd = with;
+    struct looper looper;
+    struct binder_transaction_data reply;
+    raw_looper(&looper, &crowd->client, NULL);
+    raw_call(&looper, (struct call){.handle = crowd->handle}, &reply);
+    return NULL;
+}
+
+static void be_callers(void *with)
+{
+    size_t count = *(size_t *)with;
+    struct crowd crowd;
+    struct binder_transaction_data reply;
+    pthread_attr_t attributes;
+    pthread_t thread;
+    raw_open(&crowd.client, WINDOW, NULL);
+    CHECK(raw_call(&crowd.client.looper, (struct call){.code = GIVE}, &reply) == BR_REPLY, "no object came");
+    crowd.handle = raw_keep(&crowd.client.looper, &reply);
+    looper_free(&crowd.client.looper, &reply);
+    CHECK(looper_flush(&crowd.client.looper), "can't keep the object");
+    pthread_attr_init(&attributes);
+    pthread_attr_setstacksize(&attributes, STACK);
+    for (size_t i = 0; i < count; i++)
+        CHECK(!pthread_create(&thread, &attributes, call_for_ever, &crowd), "thread %zu", i);
+    usleep(500000); /* until all have called */
+    raw_ready();
+    pause();
+}
+
+static double call_once(struct client *client)
+{
+    struct binder_transaction_data reply;
+    double start = raw_now();
+    CHECK(raw_call(&client->looper, (struct call){.code = PLAIN}, &reply) == BR_REPLY, "a call failed");
+    double took = raw_now() - start;
+    looper_free(&client->looper, &reply);
+    return took;
+}
+
+static double median(struct client *client, double *times, size_t calls)
+{
+    for (size_t i = 0; i < calls; i++)
+        times[i] = call_once(client);
+    return raw_spread(times, calls).median;
+}
+
+static double longest_while(struct client *client, const pid_t *pids, size_t count)
+{
+    double longest = 0, end = raw_now() + ENDING;
+    for (size_t i = 0; i < count; i++)
+        CHECK(!kill(pids[i], SIGKILL), "can't kill");
+    while (raw_now() < end) {
+        double took = call_once(client);
+        longest = took > longest ? took : longest;
+    }
+    return longest;
+}
+
+int main(int argc, char **argv)
+{
+    CHECK(argc >= 3, "beside idle|callers COUNT [CALLS]");
+    size_t count = strtoul(argv[2], NULL, 10), calls = argc > 3 ? strtoul(argv[3], NULL, 10) : 2000, started = 0;
+    bool is_idle = !strcmp(argv[1], "idle");
+    pid_t *pids = calloc(count + 1, sizeof *pids);
+    double *times = calloc(calls + 1, sizeof *times);
+    struct client client;
+    CHECK(pids && times && calls && count, "nothing to be measured");
+    raw_begin(150);
+    pid_t manager = raw_start_manager(serve);
+    pid_t owner = raw_start(own_object, NULL);
+    raw_open(&client, WINDOW, NULL);
+    median(&client, times, 100); /* nothing is mapped yet */
+    double alone = median(&client, times, calls);
+    if (is_idle)
+        for (; started < count; started++)
+            pids[started] = raw_start(wait_idle, NULL);
+    else
+        pids[started++] = raw_start(be_callers, &count);
+    double beside = median(&client, times, calls);
+    double ending = longest_while(&client, pids, started);
+    printf("alone %.1f beside %.1f ending %.1f with %zu %s\n", alone, beside, ending, count, is_idle ? "idle" : "callers");
+    raw_kill(owner);
+    raw_kill(manager);
+    return 0;
+}
