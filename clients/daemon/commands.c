@@ -164,6 +164,16 @@ static int run_command(struct run *run, uint32_t code, const uint8_t *command)
     }
 }
 
+/* Whether what is left of the stream waits for another turn. Buffers that are given back right behind a reply are so before anybody has
+   that: who has it may call again, and need their room. */
+static bool is_to_stop(const struct run *run, const uint8_t *rest, uint32_t left)
+{
+    const struct turns *turns = &run->engine->loop.turns;
+    uint32_t code = 0;
+    memcpy(&code, rest, left < sizeof code ? 0 : sizeof code);
+    return turns_is_over(turns) && (code != BC_FREE_BUFFER || turns_has_made_steps(turns));
+}
+
 int commands_run(struct thread *thread, const uint8_t *stream, uint32_t size, int *fds, uint32_t fd_count)
 {
     struct run run = {thread, thread->process->engine, fds, fd_count};
@@ -180,7 +190,7 @@ int commands_run(struct thread *thread, const uint8_t *stream, uint32_t size, in
         if (error)
             return error;
         answer->consumed += sizeof code + _IOC_SIZE(code);
-        bool is_over = turns_is_over(&run.engine->loop.turns);
+        bool is_over = is_to_stop(&run, stream + answer->consumed, size - answer->consumed);
         if (run.engine->answer.kind == HULLPIPPIN_WROTE && run.engine->answer.stop == HULLPIPPIN_AT_CAUSE) {
             log_event("process %d: command %08x is refused by X%u", thread->process->pid, code, run.engine->answer.number);
             answer->refused = 1;

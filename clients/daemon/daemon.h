@@ -139,6 +139,8 @@ static inline void turns_count_step(struct turns *turns)
 }
 /* Whether this turn has had its time: what isn't done by then goes on with the next one. */
 bool turns_is_over(const struct turns *turns);
+/* Whether it has made all the steps that it may, whatever time they took. */
+bool turns_has_made_steps(const struct turns *turns);
 uint64_t nanoseconds(void);
 
 /* --- loop.c: one wait for all descriptors. --- */
@@ -259,7 +261,8 @@ struct engine {
     struct list looked_at;    /* all threads that are looked at one by one (settle.c) */
     uint32_t resting_count, looked_at_count;
     uint32_t resting_left, looked_at_left; /* how many of these are still to be looked at, from the first on */
-    uint64_t steps, looks, copied; /* bytes of parcels */
+    uint64_t steps, looks;
+    uint64_t copied, trimmed; /* bytes of parcels: all, and those after which memory was last given back */
 
     uint32_t seats;           /* seat 0 is the daemon's own, by which processes begin and end */
     struct thread **lent;     /* by seat: whose it is, or NULL */

@@ -7,6 +7,7 @@
 #include <errno.h>
 #include <stdlib.h>
 #include <string.h>
+#include <sys/mman.h>
 
 static bool make_seats(struct engine *engine, uint32_t seats)
 {
@@ -28,7 +29,8 @@ struct engine *engine_new(struct daemon *daemon, const char *device, uint32_t se
         return NULL;
     engine->daemon = daemon;
     engine->inbox.bell.fd = engine->loop.epoll = -1;
-    engine->parcel_bytes = malloc(PARCEL_ROOM);
+    void *bytes = mmap(NULL, PARCEL_ROOM, PROT_READ | PROT_WRITE, MAP_PRIVATE | MAP_ANONYMOUS | MAP_NORESERVE, -1, 0);
+    engine->parcel_bytes = bytes == MAP_FAILED ? NULL : bytes;
     snprintf(engine->device, sizeof engine->device, "%s", device);
     list_begin(&engine->processes);
     list_begin(&engine->looked_at);
@@ -66,7 +68,8 @@ void engine_free(struct engine *engine)
     engine_stop(engine);
     if (engine->live.at)
         engine_conclude(engine);
-    free(engine->parcel_bytes);
+    if (engine->parcel_bytes)
+        munmap(engine->parcel_bytes, PARCEL_ROOM);
     free(engine->lent);
     free(engine->free_seats);
     free(engine->lost_seats);

@@ -3,16 +3,19 @@
  * device it opens, it goes to that one's thread, which has all of it from then on. Devices share nothing but what is counted in
  * shares.c.
  */
-#include "daemon.h"
+#include "objects.h"
 
-#include <errno.h>
-#include <stdlib.h>
+#include <malloc.h>
 #include <sys/epoll.h>
 #include <sys/eventfd.h>
+#include <sys/mman.h>
 #include <unistd.h>
 
 /* Thread-local memory and what a turn needs are small; most of this is never touched. */
 #define STACK_BYTES ((size_t)1 << 20)
+
+/* After so many bytes of parcels there may be memory that is worth to be given back. */
+#define LARGE_BYTES (1u << 20)
 
 static void ring(struct engine *engine)
 {
@@ -67,12 +70,22 @@ static bool between(void *context)
     return true;
 }
 
+static void give_memory_back(struct engine *engine)
+{
+    if (engine->copied - engine->trimmed > LARGE_BYTES) {
+        malloc_trim(0);
+        madvise(engine->parcel_bytes, PARCEL_ROOM, MADV_DONTNEED);
+    }
+    engine->trimmed = engine->copied;
+}
+
 static bool idle(void *context)
 {
     struct engine *engine = context;
     seats_regain(engine);
     journal_flush(&engine->journal);
     seats_refuse(engine);
+    give_memory_back(engine);
     return engine->lost_count > 0;
 }
 

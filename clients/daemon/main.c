@@ -4,6 +4,7 @@
 #include <errno.h>
 #include <getopt.h>
 #include <limits.h>
+#include <malloc.h>
 #include <signal.h>
 #include <stdlib.h>
 #include <string.h>
@@ -16,6 +17,9 @@
 #define DEFAULT_DEVICES "/dev/binder,/dev/hwbinder,/dev/vndbinder"
 #define DEFAULT_SEATS 16384u
 #define SEATS_MOST 65536u
+
+/* What is kept of freed memory while there is no rest: the most that the C library takes here. */
+#define KEPT_BYTES (32 << 20)
 
 /* Statuses besides 0. */
 enum { STATUS_FAILED = 1, STATUS_USAGE = 2, STATUS_BUSY = 3 };
@@ -144,6 +148,17 @@ static void raise_limits(void)
     }
 }
 
+/* Memory of parcels is used again, and goes back to the system after a second of rest (handover.c), unless who starts the daemon has
+   said how the C library is to do that. What is at the end of an arena goes back of the first alone, so that is the only one. */
+static void keep_memory(void)
+{
+    if (getenv("GLIBC_TUNABLES"))
+        return;
+    mallopt(M_ARENA_MAX, 1);
+    mallopt(M_MMAP_THRESHOLD, KEPT_BYTES);
+    mallopt(M_TRIM_THRESHOLD, KEPT_BYTES);
+}
+
 /* The first process waits until the second tells that clients may come, and ends with its status. What the second
    gets is where it tells that; -1 where it can't be. */
 static int go_to_background(void)
@@ -220,6 +235,7 @@ int main(int count, char **words)
     if (options.is_background && told < 0)
         return perror("hullpippind"), STATUS_FAILED;
     raise_limits();
+    keep_memory();
     shares_begin(daemon.seats);
     if (!log_open(options.log, options.is_verbose) || !loop_begin(&daemon.loop))
         return perror("hullpippind"), STATUS_FAILED;

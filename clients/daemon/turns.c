@@ -256,7 +256,12 @@ void turns_give(struct turns *turns)
     end_turn(turns, client);
 }
 
+bool turns_has_made_steps(const struct turns *turns)
+{
+    return turns->steps >= TURN_STEPS;
+}
+
 bool turns_is_over(const struct turns *turns)
 {
-    return turns->steps >= TURN_STEPS || nanoseconds() - turns->began >= TURN_NANOSECONDS;
+    return turns_has_made_steps(turns) || nanoseconds() - turns->began >= TURN_NANOSECONDS;
 }

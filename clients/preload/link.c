@@ -8,6 +8,7 @@
 #include <stdlib.h>
 #include <string.h>
 #include <sys/syscall.h>
+#include <time.h>
 
 /* How long a thread waits before it looks whether the daemon is still there. */
 #define LOOK_SECONDS 2
@@ -142,8 +143,44 @@ static void ring(struct link *link)
         ;
 }
 
-static bool daemon_has_gone(struct link *link)
+/* What less than this leaves is little. */
+#define LARGE_AREA (256u << 10)
+
+static time_t seconds(void)
 {
+    struct timespec now;
+    clock_gettime(CLOCK_MONOTONIC_COARSE, &now);
+    return now.tv_sec;
+}
+
+static void give_area_back(struct link *link)
+{
+    if (link->kept_area && !link->used_area)
+        madvise(link->page->area, link->kept_area, MADV_REMOVE);
+    if (!link->used_area)
+        link->kept_area = 0;
+}
+
+void link_use_area(struct link *link, uint64_t size)
+{
+    link->used_area = size;
+}
+
+void link_keep_area(struct link *link, uint64_t size)
+{
+    link->used_area = 0;
+    if (size > LARGE_AREA) {
+        link->kept_area = size > link->kept_area ? size : link->kept_area;
+        link->kept_since = seconds();
+    } else if (link->kept_area && seconds() - link->kept_since > 1) {
+        give_area_back(link);
+    }
+}
+
+/* A wait is long. Whether the daemon has gone. */
+static bool rest(struct link *link)
+{
+    give_area_back(link);
     struct pollfd file = {.fd = link->socket};
     return real()->poll(&file, 1, 0) == 1 && file.revents & (POLLHUP | POLLERR);
 }
@@ -164,7 +201,7 @@ static int await(struct link *link, struct page_answer *answer)
         if (errno == EINTR) {
             atomic_store(&page->cancel, CANCEL_INTERRUPTED);
             ring(link);
-        } else if (errno == ETIMEDOUT && daemon_has_gone(link)
+        } else if (errno == ETIMEDOUT && rest(link)
                    && atomic_load_explicit(&page->state, memory_order_acquire) == PAGE_ASKED) {
             *answer = (struct page_answer){.error = ENODEV};
             return ENODEV;

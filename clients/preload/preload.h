@@ -159,6 +159,8 @@ struct link {
     struct page *page;
     int socket, bell;
     int doorbell; /* -1: none yet */
+    uint64_t used_area, kept_area; /* bytes of the page's area that hold the parcel of a request; memory that large ones have left */
+    time_t kept_since;
     _Atomic bool is_to_return; /* its next read comes back at once */
 };
 
@@ -166,6 +168,10 @@ struct link {
 struct link *link_of(struct device *device);
 /* Puts a request to the daemon, and waits for its answer: 0 or an errno. */
 int link_ask(struct link *link, const struct page_request *request, struct page_answer *answer);
+/* A request uses so much of the page's area, until it is answered; what large parcels have left there is given back after a second
+   without one. */
+void link_use_area(struct link *link, uint64_t size);
+void link_keep_area(struct link *link, uint64_t size);
 /* Gives buffers back without waiting; false where so many can't be now. */
 bool link_free_buffers(struct link *link, const uint64_t *buffers, uint32_t count);
 /* The descriptor that is readable while a read would find something, or -1 and errno. */

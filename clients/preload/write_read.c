@@ -6,9 +6,6 @@
 
 #include <string.h>
 
-/* What a large parcel took of the page is given back. */
-#define LARGE_AREA (256u << 10)
-
 static bool is_call(uint32_t code)
 {
     return code == BC_TRANSACTION || code == BC_REPLY || code == BC_TRANSACTION_SG || code == BC_REPLY_SG;
@@ -112,7 +109,9 @@ static int exchange(struct link *link, const struct packing *packing, uint32_t r
     arrays_close(packing->taken); /* after those that a call sends on have gone, before a read waits */
     if (!is_sent)
         return errno;
+    link_use_area(link, packing->area_size);
     int error = link_ask(link, &request, answer);
+    link_keep_area(link, packing->area_size);
     what->write_consumed += answer->consumed;
     if (error || !answer->returns_size || answer->returns_size > room)
         return error;
@@ -179,8 +178,6 @@ int write_read(struct link *link, struct binder_write_read *what)
         if (!packing.stream_size && !(room && has_place))
             return packing.is_lost || !has_place ? EFAULT : 0;
         int error = exchange(link, &packing, has_place ? room : 0, what, &answer);
-        if (packing.area_size > LARGE_AREA)
-            madvise(link->page->area, packing.area_size, MADV_REMOVE);
         is_refused = !error && answer.refused;
         if (error || !has_place || (packing.is_lost && !is_refused))
             return error ? error : EFAULT;

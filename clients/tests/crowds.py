@@ -3,7 +3,7 @@ import os
 import time
 
 from raw_tests import DEVICE, counts
-from stage import Stage, expect, open_files
+from stage import Stage, expect, open_files, resident
 from suite import figures, test
 
 OTHER_DEVICE = "/dev/hwbinder"
@@ -19,6 +19,8 @@ MOST_LOOKS = 6
 # the longest that a call may take while a thousand callers end, in microseconds
 MOST_ENDING = 20e3
 ROUNDS = 5
+# so much more memory than before may the daemon have after a rest
+REST_KIB = 512
 
 
 def let_others_in(stage):
@@ -112,6 +114,22 @@ def idle_processes(build):
 @test("raw blocked callers", plain_only=True, timed=True)
 def blocked_callers(build):
     return beside(build, ["callers", "1000", "2000"], MOST_ENDING)
+
+
+@test("raw rest", plain_only=True)
+def rest(build):
+    """The daemon gives memory of large parcels back after a second of rest."""
+    with Stage(build) as stage:
+        stage.run([build.raw("latency"), "100"])
+        time.sleep(1.5)
+        before = resident(stage.daemon.pid)
+        stage.run([build.raw("latency"), "100", "900000"])
+        most, end = resident(stage.daemon.pid), time.monotonic() + 5
+        while resident(stage.daemon.pid) > before + REST_KIB and time.monotonic() < end:
+            time.sleep(0.05)
+        left = resident(stage.daemon.pid)
+    expect(left <= before + REST_KIB, f"the daemon keeps {left} KiB after {before}")
+    return f"{before} KiB, {most} with large parcels, {left} after a second"
 
 
 def hoarders(stage, build, *words):
