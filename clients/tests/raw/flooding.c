@@ -14,6 +14,7 @@
 
 #define QUARTER (WINDOW / 4)
 #define LITTLE 8
+#define HANDLE 1 /* of the server, for each client */
 
 static struct client server;
 static uint32_t sent, come;
@@ -30,6 +31,12 @@ static void ask(int fd, uint32_t on)
     CHECK(!ioctl(fd, BINDER_ENABLE_ONEWAY_SPAM_DETECTION, &on), "can't ask for reports: %u", on);
 }
 
+/* The manager is another process, since nobody can call one of its own process. */
+static void find_server(struct client *client)
+{
+    CHECK(raw_fetch(client) == HANDLE && looper_flush(&client->looper), "the server has another handle");
+}
+
 /* Asks between its open and its mmap, as Android's own library does; so often. */
 static void open_asking(struct client *client, const uint32_t *on, size_t times)
 {
@@ -41,13 +48,21 @@ static void open_asking(struct client *client, const uint32_t *on, size_t times)
     CHECK(window != MAP_FAILED, "no window");
     client->binder = (struct binder){.fd = fd, .window = window, .size = WINDOW};
     raw_looper(&client->looper, client, NULL);
+    find_server(client);
+}
+
+static void open_unasking(struct client *client)
+{
+    raw_open(client, WINDOW, NULL);
+    find_server(client);
 }
 
 /* A one-way call, and what is told of it. */
 static void sends(struct client *client, size_t size, uint32_t wanted)
 {
     struct binder_transaction_data none;
-    uint32_t told = raw_call(&client->looper, (struct call){.flags = TF_ONE_WAY, .bytes = bytes, .size = size}, &none);
+    struct call call = {.handle = HANDLE, .flags = TF_ONE_WAY, .bytes = bytes, .size = size};
+    uint32_t told = raw_call(&client->looper, call, &none);
     CHECK(told == wanted, "one-way call %u of %zu bytes ended as %x, not as %x", sent, size, told, wanted);
     sent += told != BR_FAILED_REPLY;
 }
@@ -66,7 +81,7 @@ static void play_asked(void)
 {
     struct client client, other;
     open_asking(&client, (const uint32_t[]){1}, 1);
-    raw_open(&other, WINDOW, NULL);
+    open_unasking(&other);
     CHECK(ioctl(client.binder.fd, BINDER_ENABLE_ONEWAY_SPAM_DETECTION, NULL) < 0 && errno == EFAULT, "nothing was asked, and taken");
     errno = 0;
     sends(&other, QUARTER - 1024, BR_TRANSACTION_COMPLETE);
@@ -98,13 +113,13 @@ static void floods_untold(struct client *client)
 static void play_unasked(void)
 {
     struct client never, withdrawn, gone, heir;
-    raw_open(&never, WINDOW, NULL);
+    open_unasking(&never);
     floods_untold(&never);
     open_asking(&withdrawn, (const uint32_t[]){1, 0}, 2);
     floods_untold(&withdrawn);
     open_asking(&gone, (const uint32_t[]){1}, 1);
     binder_close(&gone.binder);
-    raw_open(&heir, WINDOW, NULL);
+    open_unasking(&heir);
     floods_untold(&heir);
 }
 
@@ -113,13 +128,15 @@ int main(int argc, char **argv)
     bool is_asked = argc == 2 && !strcmp(argv[1], "asked");
     CHECK(is_asked || (argc == 2 && !strcmp(argv[1], "unasked")), "usage: flooding asked|unasked");
     raw_begin(30);
+    pid_t manager = raw_start_keeper();
     raw_open(&server, WINDOW, count);
-    CHECK(binder_become_manager(&server.binder), "can't be the context manager");
+    raw_give(&server, RAW_KEEP);
     put_code(&server.looper.commands, BC_ENTER_LOOPER);
     if (is_asked)
         play_asked();
     else
         play_unasked();
     printf("%u one-way calls, told as they should be\n", sent);
+    raw_kill(manager);
     return 0;
 }

@@ -168,6 +168,35 @@ pid_t raw_start_manager(serve_function *serve)
     return raw_start(manage, &serve);
 }
 
+static void keep(struct looper *looper, const struct binder_transaction_data *call)
+{
+    static uint32_t kept;
+    struct writer writer = {0};
+    if (call->code == RAW_QUIT)
+        _exit(0);
+    if (call->code == RAW_KEEP)
+        kept = raw_keep(looper, call);
+    if (call->code == RAW_HAND)
+        write_strong_handle(&writer, kept);
+    struct binder_transaction_data answer = record_of(&writer);
+    CHECK(looper_answer(looper, &answer, 0), "can't answer");
+    writer_free(&writer);
+}
+
+pid_t raw_start_keeper(void)
+{
+    return raw_start_manager(keep);
+}
+
+uint32_t raw_fetch(struct client *client)
+{
+    struct binder_transaction_data reply;
+    CHECK(raw_call(&client->looper, (struct call){.code = RAW_HAND}, &reply) == BR_REPLY, "the manager hands nothing over");
+    uint32_t handle = raw_keep(&client->looper, &reply);
+    looper_free(&client->looper, &reply);
+    return handle;
+}
+
 void raw_kill(pid_t pid)
 {
     kill(pid, SIGKILL);

@@ -61,6 +61,11 @@ pid_t raw_start(void (*body)(void *with), void *with);
 void raw_ready(void);
 /* Starts one that is the context manager and serves. */
 pid_t raw_start_manager(serve_function *serve);
+/* Starts one that keeps the object that it is given, and hands it over: nobody can call a manager of its own process. */
+enum { RAW_KEEP = 1, RAW_HAND, RAW_QUIT };
+pid_t raw_start_keeper(void);
+/* The handle of the object that it keeps. */
+uint32_t raw_fetch(struct client *client);
 /* Ends a process that raw_start started, by SIGKILL, and waits until it is gone. */
 void raw_kill(pid_t pid);
 /* Waits for one that ends by itself, which has to be with 0. */

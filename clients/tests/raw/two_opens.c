@@ -12,8 +12,6 @@
 
 #define CALLS 200
 
-enum { KEEP = 1, HAND, QUIT };
-
 static struct client one, other;
 
 static void double_it(struct looper *looper, const struct binder_transaction_data *call)
@@ -32,35 +30,9 @@ static void *serve(void *with)
     raw_fail(__FILE__, __LINE__, "the device failed");
 }
 
-/* The manager keeps one object, and hands it to who asks. */
-static void keep(struct looper *looper, const struct binder_transaction_data *call)
-{
-    static uint32_t kept;
-    struct writer writer = {0};
-    if (call->code == QUIT)
-        _exit(0);
-    if (call->code == KEEP)
-        kept = raw_keep(looper, call);
-    if (call->code == HAND)
-        write_strong_handle(&writer, kept);
-    struct binder_transaction_data answer = record_of(&writer);
-    CHECK(looper_answer(looper, &answer, 0), "can't answer");
-    writer_free(&writer);
-}
-
-/* The handle of the object that the manager keeps. */
-static uint32_t fetch(struct client *client)
-{
-    struct binder_transaction_data reply;
-    CHECK(raw_call(&client->looper, (struct call){.code = HAND}, &reply) == BR_REPLY, "the manager hands nothing over");
-    uint32_t handle = raw_keep(&client->looper, &reply);
-    looper_free(&client->looper, &reply);
-    return handle;
-}
-
 static void call_often(struct client *through)
 {
-    uint32_t handle = fetch(through);
+    uint32_t handle = raw_fetch(through);
     for (uint32_t i = 0; i < CALLS; i++) {
         uint32_t answer = raw_ask(&through->looper, (struct call){.handle = handle, .bytes = &i, .size = sizeof i});
         CHECK(answer == 2 * i, "the answer to %u was %u", i, answer);
@@ -75,7 +47,7 @@ static void call_each_other(void)
     raw_open(&one, WINDOW, double_it);
     raw_open(&other, WINDOW / 2, NULL);
     CHECK(one.binder.fd != other.binder.fd && one.binder.window != other.binder.window, "both opens are the same");
-    raw_give(&one, KEEP);
+    raw_give(&one, RAW_KEEP);
     CHECK(!pthread_create(&thread, NULL, serve, NULL), "no thread");
     call_often(&other);
     raw_open(&third, WINDOW, NULL);
@@ -93,7 +65,7 @@ static void manage(void)
     struct binder_transaction_data reply;
     raw_open(&manager, WINDOW, NULL);
     raw_open(&third, WINDOW, NULL);
-    CHECK(raw_call(&third.looper, (struct call){.code = QUIT}, &reply) == BR_DEAD_REPLY, "who ends answers");
+    CHECK(raw_call(&third.looper, (struct call){.code = RAW_QUIT}, &reply) == BR_DEAD_REPLY, "who ends answers");
     if (!geteuid()) {
         CHECK(!seteuid(1000) && !binder_become_manager(&manager.binder) && errno == EPERM, "another user's is the context manager");
         CHECK(!seteuid(0), "can't be root again");
@@ -107,7 +79,7 @@ static void manage(void)
 int main(void)
 {
     raw_begin(30);
-    pid_t manager = raw_start_manager(keep);
+    pid_t manager = raw_start_keeper();
     call_each_other();
     manage();
     raw_join(manager);
