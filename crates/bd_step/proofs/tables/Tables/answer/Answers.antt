@@ -4,7 +4,7 @@ use Rattle.bd_space.specs.Replies.{replied}
 use Rattle.bd_ways.specs.Local.{ObjectTest, follow_of, close_up, no_name, is_among}
 use Rattle.bd_step.specs.Stands.{Within}
 use Rattle.bd_step.proofs.Standing.{numbers-completed}
-use Rattle.bd_step.proofs.Keeping.{full-if}
+use Rattle.bd_step.proofs.Refusals.{full-if}
 use Rattle.bd_step.proofs.Afterwards.{replied-new, replied-followed, replied-ordered}
 use Rattle.bd_step.proofs.Meeting.{taken-step}
 use Rattle.bd_step.proofs.tables.Tables.answer.Goals as goal

@@ -5,7 +5,7 @@ use Rattle.bd_ways.specs.Local.{ObjectTest, follow_of, no_name, is_among, object
 use Rattle.bd_step.specs.Stands.{Within}
 use Rattle.bd_step.specs.Freed.{ripen_next}
 use Rattle.bd_step.proofs.Standing.{numbers-completed}
-use Rattle.bd_step.proofs.Keeping.{full-if}
+use Rattle.bd_step.proofs.Refusals.{full-if}
 use Rattle.bd_step.proofs.Afterwards.{sent-call, sent-followed, sent-ordered, ripened-ordered}
 use Rattle.bd_step.proofs.Meeting.{taken-step}
 use Rattle.bd_step.proofs.tables.Tables.transact.Goals as goal
