@@ -47,13 +47,14 @@ def mirror():
 class Apt:
     """apt-get with lists, cache and state of its own, so that nothing of the machine is looked at or changed."""
 
-    def __init__(self, folder):
+    def __init__(self, folder, suites=((None, SUITE),)):
+        """Each suite with its mirror, or None for this machine's."""
         self.folder = folder
         for name in ("lists/partial", "cache/archives/partial"):
             os.makedirs(os.path.join(folder, name), exist_ok=True)
         signed = f"[signed-by={KEYRING}] " if os.path.exists(KEYRING) else ""
         with open(f"{folder}/sources.list", "w", encoding="utf-8") as file:
-            file.write(f"deb {signed}{mirror()} {SUITE} main\n")
+            file.writelines(f"deb {signed}{where or mirror()} {suite} main\n" for where, suite in suites)
         open(f"{folder}/status", "w", encoding="utf-8").close()
         settings = {"Dir::Etc::sourcelist": f"{folder}/sources.list", "Dir::Etc::sourceparts": "/nonexistent",
                     "Dir::State": folder, "Dir::State::lists": f"{folder}/lists", "Dir::State::status": f"{folder}/status",

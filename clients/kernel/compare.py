@@ -1,0 +1,169 @@
+#!/usr/bin/env python3
+"""Plays scripts on Linux's own driver, on the engine, and on the model that stands between them, and tells where they agree.
+
+    clients/check kernel [--scripts N] [--long N] [--seed N] [--bplay PROGRAM] [--kernel FOLDER] [--seconds N] [--document]
+
+Of random scripts N have 60 lines (500), and N have 200 (100); besides them the worked examples are played that a real program can play,
+and the scripts in `kinds/`, each of which has to show its difference. The model with all switches off has to answer as the player does,
+line by line, and with all on as the driver does. The last line is `kernel: N agree, D differ in named ways, 0 unknown`: in how many
+scripts the driver answers as the rules have it, in how many otherwise as the named differences have it, and in how many neither. The
+kernel is fetched into FOLDER (clients/out/kernel). --document writes what was seen into docs/KERNEL.md.
+"""
+import argparse
+import glob
+import os
+import sys
+import time
+
+sys.dont_write_bytecode = True
+HERE = os.path.dirname(os.path.abspath(__file__))
+ROOT = os.path.dirname(os.path.dirname(HERE))
+sys.path.insert(0, HERE)
+
+import document  # noqa: E402
+import driver  # noqa: E402
+import engine  # noqa: E402
+from differences import DIFFERENCES  # noqa: E402
+from fetch import Kernel, Missing, default_folder  # noqa: E402
+from machine import NotRun  # noqa: E402
+from play import played, with_keys  # noqa: E402
+from random_scripts import made  # noqa: E402
+from scripts import Script  # noqa: E402
+
+LINES, LONG = 60, 200
+
+
+class Case:
+    """A script with what the rules and the driver's model answer, and then what the driver did."""
+
+    def __init__(self, name, text):
+        self.name, self.text = name, text
+        self.rules, self.plain = played(self.script())
+        self.expected, _ = played(self.script(), DIFFERENCES)
+        self.answers = None
+
+    def script(self):
+        return with_keys(Script(self.text))
+
+    def lowered(self):
+        return [f"{it.number} {it.lowered}" for it in self.expected if it.lowered]
+
+    def differs_from(self, lines):
+        """The first line that the driver answers otherwise than these lines have it, or None."""
+        return next((it for it in lines if it.lowered and self.answers.lines.get(it.number) != it.answers), None)
+
+    def unknown(self):
+        """Where the driver doesn't answer as its model: the line, or None."""
+        if not self.answers or not self.answers.is_whole:
+            return self.expected[-1]
+        return self.differs_from(self.expected)
+
+    def agrees(self):
+        """Whether the driver answers as the rules have it, in all lines that it can play."""
+        return self.differs_from([rule for rule, it in zip(self.rules, self.expected) if it.lowered]) is None
+
+    def differences(self):
+        """The differences without which the driver's model would answer otherwise here; all that are named if it takes several."""
+        def answers(ways):
+            return [it.answers for it in played(self.script(), ways)[0]]
+        whole = [it.answers for it in self.expected]
+        return [name for name in DIFFERENCES if answers(DIFFERENCES.keys() - {name}) != whole]
+
+
+def texts_of(pattern, kind):
+    found = {}
+    for path in sorted(glob.glob(pattern)):
+        with open(path, encoding="ascii") as file:
+            found[f"{kind} {os.path.basename(path)[:-len('.script')]}"] = file.read()
+    return found
+
+
+def cases(given):
+    texts = {f"script {given.seed + it}": made(given.seed + it, LINES) for it in range(given.scripts)}
+    texts |= {f"long script {given.seed + it}": made(given.seed + it, LONG) for it in range(given.long)}
+    texts |= texts_of(f"{ROOT}/examples/*.script", "example")
+    texts |= texts_of(f"{HERE}/kinds/*.script", "kind")
+    return [Case(name, text) for name, text in texts.items() if Script(text).is_playable()]
+
+
+def judge_model(all_cases, program):
+    """The model without any difference has to answer as the player: in how many scripts it doesn't."""
+    wrong = 0
+    for case in all_cases:
+        found = engine.first_difference(program, case.plain)
+        if found:
+            wrong += 1
+            print(f"FAIL {case.name}: the model isn't the player: {found[0][:160]}\n  model  {found[1][:300]}\n  player {found[2][:300]}")
+    lines = sum(len(it.rules) for it in all_cases)
+    print(f"the model with all switches off answers as the player in {len(all_cases) - wrong} of {len(all_cases)} scripts, {lines} lines")
+    return wrong
+
+
+def tell_unknown(case, line):
+    its = case.answers.lines.get(line.number) if case.answers else "nothing"
+    print(f"FAIL {case.name}, line {line.number}: {line.words[:200]}\n  expected {str(line.answers)[:400]}\n  driver   {str(its)[:400]}")
+
+
+def judge_driver(all_cases):
+    """How many scripts agree, differ in named ways, are unknown; and how often each difference was met, in which script first."""
+    agree, unknown, met = 0, 0, {name: [] for name in DIFFERENCES}
+    for case in all_cases:
+        line = case.unknown()
+        if line:
+            unknown += 1
+            tell_unknown(case, line)
+            continue
+        if case.agrees():
+            agree += 1
+            continue
+        for name in case.differences():
+            met[name].append(case)
+    return agree, len(all_cases) - agree - unknown, unknown, met
+
+
+def unseen(met):
+    """Differences that their own script doesn't show."""
+    return [name for name, found in met.items() if f"kind {name}" not in [it.name for it in found]]
+
+
+def arguments():
+    parser = argparse.ArgumentParser(usage=__doc__)
+    parser.add_argument("--scripts", type=int, default=500)
+    parser.add_argument("--long", type=int, default=100)
+    parser.add_argument("--seed", type=int, default=int(time.time()))
+    parser.add_argument("--bplay", default=engine.PLAYER)
+    parser.add_argument("--kernel", default=default_folder())
+    parser.add_argument("--seconds", type=int, default=7200)
+    parser.add_argument("--document", action="store_true")
+    return parser.parse_args()
+
+
+def main():
+    given = arguments()
+    if not os.path.exists(given.bplay):
+        print(f"kernel: {given.bplay} isn't built: cd crates/bd_play && rt run < stdin", file=sys.stderr)
+        return 1
+    all_cases = cases(given)
+    wrong = judge_model(all_cases, given.bplay)
+    try:
+        kernel = Kernel(os.path.abspath(given.kernel))
+        found = driver.play(kernel, {it.name: it.lowered() for it in all_cases}, given.seconds)
+    except (Missing, NotRun, OSError) as why:
+        print(f"kernel: the driver can't be played: {why}", file=sys.stderr)
+        return 1
+    for case in all_cases:
+        case.answers = found.get(case.name)
+    agree, differ, unknown, met = judge_driver(all_cases)
+    for name in unseen(met):
+        unknown += 1
+        print(f"FAIL {name}: kinds/{name}.script doesn't show it")
+    for name, those in met.items():
+        print(f"{len(those):5}  {name}: {DIFFERENCES[name].driver}")
+    if given.document and not unknown and not wrong:
+        document.write(ROOT, document.Run(kernel.version, given, all_cases, met, agree, differ))
+    print(f"kernel: {agree} agree, {differ} differ in named ways, {unknown + wrong} unknown")
+    return 1 if unknown or wrong else 0
+
+
+if __name__ == "__main__":
+    sys.exit(main())

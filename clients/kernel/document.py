@@ -1,0 +1,71 @@
+"""Writes what a run has seen into docs/KERNEL.md, between its two marks."""
+from collections import namedtuple
+
+from differences import DIFFERENCES
+from wire import Record, read_returns
+
+BEGIN, END = "<!-- the run: begin -->", "<!-- the run: end -->"
+
+Run = namedtuple("Run", "version given cases met agree differ")
+
+SHORT = {"BR_TRANSACTION_COMPLETE": "COMPLETE", "BR_CLEAR_DEATH_NOTIFICATION_DONE": "CLEARED", "BR_ONEWAY_SPAM_SUSPECT": "SPAM_SUSPECT"}
+
+
+def shown(answer):
+    """An answer in few words: the returns of a stream by their names."""
+    if answer is None or not answer.startswith("got "):
+        return answer
+    names = [SHORT.get(name, name.removeprefix("BR_")) for name, _ in read_returns(bytes.fromhex(answer.split()[1]))]
+    return " ".join(["got", *names])
+
+
+def fields_apart(first, second):
+    """Of two answers with the same returns, which fields of a call or reply differ."""
+    one, other = (read_returns(bytes.fromhex(it.split()[1])) for it in (first, second))
+    found = {name for (kind, a), (_, b) in zip(one, other) if kind in ("BR_TRANSACTION", "BR_REPLY")
+             for name, x, y in zip(Record._fields, a, b) if x != y}
+    return sorted(found) or ["data"]
+
+
+def shown_all(answers, own):
+    return ", ".join(shown(its) if seat == own else f"{shown(its)} (seat {seat})" for seat, its in answers or [])
+
+
+def first_shown(case):
+    """The first line of a script that the driver answers otherwise than the rules: its words, and both answers."""
+    for rule, line in zip(case.rules, case.expected):
+        its = case.answers.lines.get(line.number)
+        if line.lowered and rule.answers != its:
+            words = line.words if len(line.words) <= 40 else f"{line.words[:36]} .."
+            own = its[0][0]
+            return words, shown_all(its, own), shown_all(rule.answers, own)
+    return "", "", ""
+
+
+def rows(run):
+    by_name = {case.name: case for case in run.cases}
+    for name, it in DIFFERENCES.items():
+        words, driver, rules = first_shown(by_name[f"kind {name}"])
+        yield (f"| [{name}](../clients/kernel/kinds/{name}.script) | {it.driver} ({it.lines}) | {it.rules} | {it.purpose} | {it.noticed} "
+               f"| `{words}`: {driver}; by the rules {rules} | {len(run.met[name])} |")
+
+
+def text_of(run):
+    given, lines = run.given, sum(len(it.rules) for it in run.cases)
+    waits = sum(it.script().waits() for it in run.cases)
+    head = [f"Seen on {run.version}, by `clients/check kernel --scripts {given.scripts} --long {given.long} --seed {given.seed}`: of "
+            f"{len(run.cases)} scripts with {lines} lines, {waits} of them with threads that wait in a read, the driver answers {run.agree} "
+            f"as the rules have it, {run.differ} as the differences below have it, and none otherwise. The last column says in how many "
+            f"scripts a difference was needed.", "",
+            "| Name and script | What the driver does | What the rules have | On purpose? | Who notices | What its script shows | Scripts |",
+            "|---|---|---|---|---|---|---|"]
+    return "\n".join([*head, *rows(run)])
+
+
+def write(root, run):
+    path = f"{root}/docs/KERNEL.md"
+    with open(path, encoding="utf-8") as file:
+        before, _, rest = file.read().partition(BEGIN)
+    after = rest.partition(END)[2]
+    with open(path, "w", encoding="utf-8") as file:
+        file.write(f"{before}{BEGIN}\n{text_of(run)}\n{END}{after}")

@@ -1,0 +1,99 @@
+"""A virtual machine with Linux's own Binder driver, in which a script is run.
+
+    machine.py FOLDER [--seconds N] [--host] [--kernel FOLDER]   runs FOLDER/run there, with FOLDER as its working folder
+
+The machine is emulated, with one processor, and needs no privilege. What the script prints comes to FOLDER/output. Its clock counts
+instructions, a nanosecond each, whatever its host is busy with: a run is the same each time, however slow, and no interrupt of a clock
+takes the time that a busy host leaves it. With --host it sees the host's /usr, for programs that aren't static.
+"""
+import argparse
+import os
+import subprocess
+import sys
+import time
+
+from fetch import Kernel, Missing, default_folder
+
+# seconds until the kernel has to have come up, by an emulation that four others slow down
+TO_COME_UP = 600
+
+
+class NotRun(Exception):
+    """The machine didn't run its script to the end: why."""
+
+
+def words(kernel, folder, host):
+    """qemu's command line."""
+    shares = [(folder, "work", "")] + ([("/usr", "usr", ",readonly=on")] if host else [])
+    found = [*kernel.qemu, "-nodefaults", "-no-user-config", "-display", "none", "-no-reboot", "-nic", "none", "-m", "768", "-smp", "1",
+             "-accel", "tcg", "-icount", "shift=0,sleep=off", "-kernel", kernel.image, "-initrd", kernel.first_files, "-serial", f"file:{folder}/console",
+             "-append", "console=ttyS0 quiet panic=-1 no_timer_check tsc=reliable mitigations=off log_buf_len=1M"]
+    for path, tag, more in shares:
+        found += ["-virtfs", f"local,path={path},mount_tag={tag},security_model=none,id={tag},multidevs=remap{more}"]
+    return found
+
+
+def forget(folder, *names):
+    for name in names:
+        if os.path.exists(f"{folder}/{name}"):
+            os.remove(f"{folder}/{name}")
+
+
+def text_of(path):
+    try:
+        with open(path, encoding="utf-8", errors="replace") as file:
+            return file.read()
+    except FileNotFoundError:
+        return ""
+
+
+def wait_for_end(machine, folder, seconds):
+    begin = time.monotonic()
+    while machine.poll() is None and not os.path.exists(f"{folder}/done"):
+        took = time.monotonic() - begin
+        if took > TO_COME_UP and not os.path.exists(f"{folder}/up"):
+            raise NotRun(f"no kernel has come up in {TO_COME_UP} s: {text_of(f'{folder}/console')[-600:]}")
+        if took > seconds:
+            raise NotRun(f"its script wasn't done in {seconds} s: {text_of(f'{folder}/output')[-600:]}")
+        time.sleep(0.05)
+
+
+def run(kernel, folder, seconds=600, host=False):
+    """Runs folder/run; its status, and what it printed."""
+    folder = os.path.abspath(folder)
+    forget(folder, "up", "output", "status", "console", "complaints", "done")
+    machine = subprocess.Popen(["nice", "-n", "10", *words(kernel, folder, host)], env=kernel.environment,
+                               stdin=subprocess.DEVNULL, stdout=subprocess.DEVNULL, stderr=subprocess.PIPE)
+    try:
+        wait_for_end(machine, folder, seconds)
+    finally:
+        machine.kill()
+        said = machine.stderr.read().decode(errors="replace")
+        machine.wait()
+    status = text_of(f"{folder}/status").strip()
+    if not status:
+        raise NotRun(f"it ended before its script: {said}{text_of(f'{folder}/console')[-600:]}")
+    complaints = text_of(f"{folder}/complaints")
+    if complaints:
+        raise NotRun(f"its kernel complains: {complaints}")
+    return int(status), text_of(f"{folder}/output")
+
+
+def main():
+    parser = argparse.ArgumentParser(usage=__doc__)
+    parser.add_argument("folder")
+    parser.add_argument("--seconds", type=int, default=600)
+    parser.add_argument("--host", action="store_true")
+    parser.add_argument("--kernel", default=default_folder())
+    given = parser.parse_args()
+    try:
+        status, output = run(Kernel(os.path.abspath(given.kernel)), given.folder, given.seconds, given.host)
+    except (Missing, NotRun, OSError) as why:
+        print(f"machine: {why}", file=sys.stderr)
+        return 1
+    sys.stdout.write(output)
+    return status
+
+
+if __name__ == "__main__":
+    sys.exit(main())

@@ -1,0 +1,84 @@
+"""Scripts in the player's language (docs/FORMATS.md), with one verb more: `wait LIMIT` is a read that waits until there is something.
+
+A line becomes a seat and a request as space.py takes it. Lines that only the engine's own player can play, as `look` and `post`, become
+a request of one word.
+"""
+import re
+import struct
+
+from wire import Record, command, padded
+
+WRITES = {"enter": "BC_ENTER_LOOPER", "exitloop": "BC_EXIT_LOOPER", "free": "BC_FREE_BUFFER", "increfs": "BC_INCREFS",
+          "acquire": "BC_ACQUIRE", "release": "BC_RELEASE", "decrefs": "BC_DECREFS", "increfsdone": "BC_INCREFS_DONE",
+          "acquiredone": "BC_ACQUIRE_DONE", "askdeath": "BC_REQUEST_DEATH_NOTIFICATION",
+          "cleardeath": "BC_CLEAR_DEATH_NOTIFICATION", "deaddone": "BC_DEAD_BINDER_DONE"}
+VERBS = {"manager": "set_manager", "spam": "set_spam", "exitthread": "exit_thread", "exitprocess": "exit_process"}
+ENGINES_OWN = ("look", "await", "post", "serve", "collect", "withdraw")
+
+
+def unhex(word):
+    return b"" if word == "-" else bytes.fromhex(word)
+
+
+def tohex(data):
+    return data.hex() or "-"
+
+
+def sent(verb, words):
+    """The stream and the area of `tx` and `reply`."""
+    target = int(words.pop(0)) if verb == "tx" else 0
+    code, flags, data = int(words[0]), int(words[1]), unhex(words[2])
+    offsets = [] if words[3] == "-" else [int(it) for it in words[3].split(",")]
+    area = data + bytes(padded(len(data)) - len(data)) + b"".join(struct.pack("<Q", it) for it in offsets)
+    record = Record(target, 0, code, flags, 0, 0, len(data), 8 * len(offsets), 0, padded(len(data)))
+    return command("BC_TRANSACTION" if verb == "tx" else "BC_REPLY", *record), area
+
+
+def request_of(words):
+    verb, *rest = words
+    if verb in ENGINES_OWN:
+        return ("engine",)
+    if verb in ("tx", "reply"):
+        return "write", *sent(verb, rest)
+    if verb in WRITES:
+        return "write", command(WRITES[verb], *map(int, rest)), b""
+    if verb == "write":
+        return "write", unhex(rest[0]), unhex(rest[1])
+    return VERBS.get(verb, verb), *map(int, rest)
+
+
+class Script:
+    """Its number of seats, and its lines: their numbers, seats, requests and words."""
+
+    def __init__(self, text):
+        self.seats, self.lines = 0, []
+        for number, line in enumerate(text.split("\n"), 1):
+            words = line.split()
+            if not words or line.startswith("#"):
+                continue
+            if words[0] == "seats":
+                self.seats = int(words[1])
+            else:
+                self.lines.append((number, int(words[0]), request_of(words[1:]), re.sub(" +", " ", line)))
+
+    def waits(self):
+        return any(request[0] == "wait" for _, _, request, _ in self.lines)
+
+    def is_playable(self):
+        """Whether a real program can play it: all but what belongs to the engine's own driver."""
+        return not any(request[0] == "engine" for _, _, request, _ in self.lines)
+
+
+def printed(answer, begin, end):
+    """An answer as the player prints it."""
+    kind, *rest = answer
+    if kind == "got":
+        told = " ".join(["got", *map(tohex, rest)])
+    elif kind == "wrote":
+        consumed, notes, stop = rest
+        told = f"wrote {consumed}"
+        after = "".join(f" {index}:{note}" for index, note in notes) + (f" stop {stop}" if stop else "")
+        return f"{told} {begin} {end}{after}"
+    else:
+        told = " ".join(map(str, answer))
+    return f"{told} {begin} {end}"
