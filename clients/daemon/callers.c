@@ -120,6 +120,17 @@ static bool has_own_proc(void)
     return readlink("/proc/self", link, sizeof link - 1) > 0 && atoi(link) == getpid();
 }
 
+/* Once for all to see, since who isn't let in may come again and again. */
+static void tell_unknown(const struct ucred *peer)
+{
+    static atomic_flag is_told = ATOMIC_FLAG_INIT;
+    const char *format = "process %d (euid %u) is sent away: /proc doesn't tell who it is";
+    if (!atomic_flag_test_and_set(&is_told))
+        log_line(format, peer->pid, peer->uid);
+    else
+        log_event(format, peer->pid, peer->uid);
+}
+
 bool caller_begin(struct caller *caller, int socket, const struct ucred *peer)
 {
     char name[32];
@@ -129,7 +140,7 @@ bool caller_begin(struct caller *caller, int socket, const struct ucred *peer)
         look_at_namespaces(caller);
         return true;
     }
-    log_line("process %d (euid %u) is sent away: /proc doesn't tell who it is", peer->pid, peer->uid);
+    tell_unknown(peer);
     caller_end(caller);
     return false;
 }

@@ -98,7 +98,11 @@ EXPORT int fcntl(int fd, int command, ...)
     va_start(rest, command);
     long argument = va_arg(rest, long);
     va_end(rest);
-    return device_is(fd) ? device_fcntl(fd, command, argument) : real()->fcntl(fd, command, argument);
+    if (!device_is(fd))
+        return real()->fcntl(fd, command, argument);
+    int before = cancel_never(), result = device_fcntl(fd, command, argument);
+    cancel_again(before);
+    return result;
 }
 
 EXPORT int fcntl64(int fd, int command, ...) __attribute__((alias("fcntl")));
