@@ -5,7 +5,13 @@
 #include "daemon.h"
 
 #include <errno.h>
+#include <stdlib.h>
 #include <string.h>
+
+#define OWN_SEAT 0u
+
+/* A process that reads of no death notification that it has taken back can't take back more than these. */
+#define CLEARED_MOST 65536u
 
 /* A transaction or reply, as the engine reads it. */
 struct call_command {
@@ -67,7 +73,7 @@ static bool may_fit(const struct thread *thread, const struct binder_transaction
 
 static int run_call(struct run *run, uint32_t code, const uint8_t *payload)
 {
-    static _Thread_local struct parcel parcel;
+    struct parcel parcel;
     bool is_reply = code == BC_REPLY || code == BC_REPLY_SG;
     struct binder_transaction_data_sg record = {0};
     struct process *process = run->thread->process;
@@ -75,9 +81,8 @@ static int run_call(struct run *run, uint32_t code, const uint8_t *payload)
         return EPERM;
     parcel.tells_euid = parcel.euid != process->euid;
     memcpy(&record, payload, _IOC_SIZE(code));
-    record.transaction_data.flags &= ~FLAG_TRAILER;
     if (may_fit(run->thread, &record, is_reply))
-        parcel_fetch(&parcel, run->thread->page, &record, run->fds, run->fd_count);
+        parcel_fetch(&parcel, run->thread, &record, run->fds, run->fd_count);
     else
         parcel = (struct parcel){.is_lost = true};
     run->engine->copied += parcel.data_size + parcel.offsets_size;
@@ -89,8 +94,6 @@ static int run_call(struct run *run, uint32_t code, const uint8_t *payload)
         command.data.data_size = parcel.data_size;
         command.data.offsets_size = parcel.offsets_size;
     }
-    if (parcel.is_wrapped)
-        command.data.flags |= FLAG_TRAILER;
     command.data.data.ptr.buffer = 0;
     command.data.data.ptr.offsets = round8(command.data.data_size);
     int error = engine_call(run->engine, run->thread->seat, &command, sizeof command, parcel.data, parcel.data_size,
@@ -98,6 +101,8 @@ static int run_call(struct run *run, uint32_t code, const uint8_t *payload)
     bool is_accepted = !error && run->engine->answer.stop == HULLPIPPIN_AT_END;
     if (!is_accepted)
         parcel_refuse(&parcel);
+    else if (parcel.ticket)
+        ticket_keep(&run->engine->tickets, parcel.ticket);
     if (!error)
         note_call(run->thread, is_reply, record.transaction_data.flags & TF_ONE_WAY, &run->engine->answer);
     return error;
@@ -133,6 +138,7 @@ static int run_looper(struct run *run, uint32_t code)
     if (error)
         return error;
     run->thread->is_looper = command == BC_ENTER_LOOPER;
+    run->thread->has_looped = run->thread->has_looped || run->thread->is_looper;
     if (code == BC_REGISTER_LOOPER && process->requested) {
         process->requested--;
         process->started++;
@@ -140,9 +146,60 @@ static int run_looper(struct run *run, uint32_t code)
     return 0;
 }
 
+static bool has_room(struct cleared *cleared)
+{
+    if (cleared->count < cleared->room)
+        return true;
+    uint32_t room = cleared->room ? 2 * cleared->room : 16;
+    binder_uintptr_t *cookies = room <= CLEARED_MOST ? realloc(cleared->cookies, room * sizeof *cookies) : NULL;
+    if (!cookies)
+        return false;
+    *cleared = (struct cleared){cookies, cleared->count, room};
+    return true;
+}
+
+/*
+ * The engine tells the thread that takes a death notification back that this is done. As in the kernel one that never was in the
+ * loop isn't told, but whoever of its process reads next there. So the daemon's own seat does it for the process, and what it
+ * would read is known: the cookie that the command ends with.
+ */
+static int clear_for_process(struct run *run, const uint8_t *command, uint32_t size)
+{
+    struct process *process = run->thread->process;
+    binder_uintptr_t cookie;
+    memcpy(&cookie, command + size - sizeof cookie, sizeof cookie);
+    int error = has_room(&process->cleared) ? process_enter(process) : ENOMEM;
+    if (error)
+        return error;
+    error = engine_command(run->engine, OWN_SEAT, command, size);
+    bool is_told = !error && hullpippin_live_ready(&run->engine->live, OWN_SEAT);
+    int left = process_leave(process);
+    if (is_told)
+        returns_clear(process, cookie);
+    return error ? error : left;
+}
+
+static int run_clearing(struct run *run, const uint8_t *command, uint32_t size)
+{
+    if (!run->thread->has_looped)
+        return clear_for_process(run, command, size);
+    run->thread->is_prompt = true; /* BR_CLEAR_DEATH_NOTIFICATION_DONE doesn't wait for a reply */
+    return engine_command(run->engine, run->thread->seat, command, size);
+}
+
+/* The kernel doesn't let the manager have references on itself. */
+static int run_reference(struct run *run, const uint8_t *command, uint32_t size)
+{
+    enum { OWN_MANAGER = 4 }; /* N4 */
+    int error = engine_command(run->engine, run->thread->seat, command, size);
+    bool is_own = !error && run->engine->answer.notes && run->engine->answer.number == OWN_MANAGER;
+    return is_own ? EINVAL : error;
+}
+
 static int run_command(struct run *run, uint32_t code, const uint8_t *command)
 {
     const uint8_t *payload = command + sizeof code;
+    uint32_t size = sizeof code + _IOC_SIZE(code);
     switch (code) {
     case BC_TRANSACTION:
     case BC_REPLY:
@@ -157,10 +214,12 @@ static int run_command(struct run *run, uint32_t code, const uint8_t *command)
         return run_looper(run, code);
     case BC_CLEAR_DEATH_NOTIFICATION:
     case BC_DEAD_BINDER_DONE:
-        run->thread->is_prompt = true; /* BR_CLEAR_DEATH_NOTIFICATION_DONE doesn't wait for a reply */
-        return engine_command(run->engine, run->thread->seat, command, sizeof code + _IOC_SIZE(code));
+        return run_clearing(run, command, size);
+    case BC_INCREFS:
+    case BC_ACQUIRE:
+        return run_reference(run, command, size);
     default:
-        return engine_command(run->engine, run->thread->seat, command, sizeof code + _IOC_SIZE(code));
+        return engine_command(run->engine, run->thread->seat, command, size);
     }
 }
 

@@ -25,19 +25,21 @@
 /* The engine's pointers begin here, at a window's first byte (docs/RULES.md, "Buffers and windows"). */
 #define WINDOW_BASE UINT64_C(65536)
 
-/* The least limit of a read: BR_NOOP, and the longest return. */
+/* The least limit of the engine's read: BR_NOOP, and the longest return. */
 #define READ_LEAST 72u
-#define READ_LONGEST 68u
+/* A read of a client's hands over one return more while so many bytes are left, as in the kernel: there is a longer one there,
+   BR_TRANSACTION_SEC_CTX. */
+#define RETURN_ROOM 76u
 
 /* A handle that nobody has. */
 #define NO_HANDLE UINT32_MAX
 
-/* A flag that no binder header has: the parcel ends with a `struct trailer` (parcels.c). The daemon takes it off what
-   clients write. */
-#define FLAG_TRAILER 0x80000000u
-
 /* No seat is lent. */
 #define NO_SEAT UINT32_MAX
+
+/* Known further down. */
+struct process;
+struct thread;
 
 #define container_of(pointer, type, member) ((type *)(void *)((char *)(pointer) - offsetof(type, member)))
 
@@ -189,7 +191,7 @@ bool loop_run(struct loop *loop);
 enum shared { SHARED_DESCRIPTORS, SHARED_THREADS, SHARED_WINDOWS /* bytes of memory */, SHARED_KINDS };
 
 /* What a connection, a thread and a doorbell have of the daemon's descriptors. */
-enum { CONNECTION_DESCRIPTORS = 2, THREAD_DESCRIPTORS = 2, DOORBELL_DESCRIPTORS = 2 };
+enum { CONNECTION_DESCRIPTORS = 3, THREAD_DESCRIPTORS = 2, DOORBELL_DESCRIPTORS = 2 };
 
 struct account;
 
@@ -229,6 +231,40 @@ void journal_flush(struct journal *journal);
 /* Puts the number of entries right, and closes the file. */
 void journal_close(struct journal *journal, hullpippin_live *live);
 
+/* --- tickets.c: descriptors of parcels that nobody has read yet. --- */
+
+#define TICKET_LISTS 1024
+
+/* What goes with a parcel that has a trailer. */
+struct ticket {
+    struct list in_list;
+    struct account *account; /* the sender's, also once it has ended */
+    uint32_t step;           /* the place in the history of the step that sends the parcel */
+    uint32_t count;
+    int fds[];
+};
+
+/* Those of the parcels that are on their way. */
+struct tickets {
+    struct list lists[TICKET_LISTS]; /* by step */
+    uint32_t count;
+    uint32_t *ended; /* room for the buffers that a step ends */
+};
+
+bool tickets_begin(struct tickets *tickets);
+void tickets_end(struct tickets *tickets);
+/* A ticket for a parcel of the engine's next step. It takes the descriptors over; NULL where there is no memory, or they are over the
+   sender's share. */
+struct ticket *ticket_new(struct process *process, const int *fds, uint32_t count);
+/* Closes the descriptors. Nothing may be given to it. */
+void ticket_free(struct ticket *ticket);
+/* The step was made. */
+void ticket_keep(struct tickets *tickets, struct ticket *ticket);
+/* The ticket of a step, which is the caller's from then on, or NULL. */
+struct ticket *ticket_take(struct tickets *tickets, uint32_t step);
+/* Frees those whose buffers have ended by the latest step. */
+void tickets_see_ended(struct tickets *tickets, hullpippin_live *live);
+
 /* --- engine.c: the engine of one device name. --- */
 
 struct daemon;
@@ -251,7 +287,8 @@ struct engine {
     pthread_t thread;
     bool has_thread;
     struct inbox inbox;
-    uint8_t *parcel_bytes;    /* objects.h */
+    struct tickets tickets;
+    struct workbench *bench;  /* objects.h */
     bool is_over;             /* it makes no step any more: its history is full, or it can't go on without memory */
     uint32_t warnings;        /* of a history that gets full, how many were told */
 
@@ -283,9 +320,6 @@ struct engine {
 
 /* How many steps a history can have. */
 extern uint64_t history_most;
-
-/* Memory of the engine whose thread this is, for one parcel: one at a time is looked at (objects.h). */
-extern _Thread_local uint8_t *parcel_bytes;
 
 struct engine *engine_new(struct daemon *daemon, const char *device, uint32_t seats, const char *journal);
 void engine_free(struct engine *engine);
@@ -349,14 +383,8 @@ struct window {
 bool window_make(struct window *window, uint64_t size, uint64_t base);
 void window_free(struct window *window);
 
-/* --- descriptors.c: descriptors of parcels that nobody has read yet. --- */
+/* --- descriptors.c: closing (packets.h has `descriptors_close`). --- */
 
-/* Takes a descriptor over. Answers what `descriptor_take` knows it by; where all places are used, the oldest is
-   closed. */
-uint32_t descriptor_hold(int fd);
-/* The descriptor, which is the caller's then, or -1 where it is no longer there. */
-int descriptor_take(uint32_t held);
-bool descriptors_are_held(void);
 /* Begins the thread that closes them; signals have to be blocked by now. */
 bool descriptors_begin(void);
 /* Closes one of the daemon's own. */
@@ -389,8 +417,15 @@ pid_t caller_pid_for(const struct caller *caller, const struct caller *other);
 
 /* --- processes.c: an open file is a process. --- */
 
+/* Cookies of death notifications that were taken back, of which whoever of the process reads next in the loop is told. */
+struct cleared {
+    binder_uintptr_t *cookies;
+    uint32_t count, room;
+};
+
 struct process {
     struct watch control;
+    struct watch end;      /* a pidfd */
     struct engine *engine; /* NULL: its device isn't known yet */
     struct daemon *daemon;
     struct loop *loop;
@@ -412,6 +447,7 @@ struct process {
     struct window window;
     uint32_t thread_count;
     uint32_t max_threads, requested, started; /* BR_SPAWN_LOOPER */
+    struct cleared cleared;
     bool detects_spam;    /* it is told of its own one-way flooding; before its mmap: will be */
     uint64_t *handed;     /* two bits for each 8 bytes of the window: a buffer that the client has begins there; it has objects */
 };
@@ -431,13 +467,17 @@ enum { NOT_HANDED = 0, HANDED = 1, HANDED_WITH_OBJECTS = 3 };
 void process_note_handed(struct process *process, uint64_t place, unsigned handed);
 unsigned process_handed(const struct process *process, uint64_t place);
 
+/* The daemon's own seat has a thread of the process from the one to the other: 0 or an errno. */
+int process_enter(struct process *process);
+int process_leave(struct process *process);
+
 /* --- threads.c: a thread of a client. --- */
 
 /* Descriptors of the latest parcel that the thread has read, and where their numbers go in the window. */
 struct landing {
-    uint64_t parcel; /* where the client sees it */
+    struct ticket *ticket; /* NULL: they have gone to the client, or there are none */
+    uint64_t parcel;       /* where the client sees it */
     uint32_t count;
-    int fds[DESCRIPTORS_MAX];
     uint64_t places[DESCRIPTORS_MAX];
     bool is_wide[DESCRIPTORS_MAX]; /* the number fills 8 bytes: an FD object's, not an FDA object's */
 };
@@ -463,12 +503,14 @@ struct thread {
     uint32_t seat;
 
     bool is_looper;            /* in the loop */
+    bool has_looped;           /* .. or was there before */
     uint32_t serving, calling; /* open frames: calls that it has to answer, calls that it waits for */
     uint32_t callers[CALLERS_KNOWN]; /* pids that the processes have in the engine which wait for the first of those answers */
     struct writing *writing;   /* NULL: none */
     uint32_t refusals;         /* refused commands whose BR_FAILED_REPLY or BR_DEAD_REPLY isn't read yet */
 
     bool is_waiting;           /* in a read */
+    bool has_no_room;          /* .. in which no return finds room, and there is one */
     bool defers;               /* .. after a call, of which only the completion can be there yet */
     uint32_t room;             /* of that read */
     struct page_answer answer; /* what its request has come to so far */
@@ -518,31 +560,29 @@ int commands_run(struct thread *thread, const uint8_t *stream, uint32_t size, in
 /* BC_FREE_BUFFER with a client's pointer. */
 int command_free(struct thread *thread, uint64_t pointer);
 
-/* --- parcels.c: PTR, FD and FDA objects, of which the engine knows nothing. --- */
+/* --- parcels.c, landings.c: PTR, FD and FDA objects, of which the engine knows nothing. --- */
 
 /* A transaction's or reply's parcel, as the engine gets it. */
 struct parcel {
-    bool is_lost;    /* it couldn't be had */
-    bool is_wrapped; /* it ends with a trailer */
+    bool is_lost; /* it couldn't be had */
     const uint8_t *data, *offsets;
     uint64_t data_size, offsets_size;
     uid_t euid;      /* the caller's; it is the first to be set */
     bool tells_euid; /* .. which isn't what the engine tells */
-    uint32_t held_count; /* of descriptors.c */
-    uint32_t held[DESCRIPTORS_MAX];
+    struct ticket *ticket; /* NULL: it has no trailer */
+    uint32_t fd_count;     /* of a bad one, which has no ticket */
+    int fds[DESCRIPTORS_MAX];
 };
 
 /* Fetches a parcel from the page; descriptors that it has are taken from `fds`. */
-void parcel_fetch(struct parcel *parcel, const struct page *page, const struct binder_transaction_data_sg *record, int *fds,
+void parcel_fetch(struct parcel *parcel, struct thread *thread, const struct binder_transaction_data_sg *record, int *fds,
                   uint32_t fd_count);
-/* Closes what a parcel held that the engine has refused. */
-void parcel_refuse(const struct parcel *parcel);
+/* Closes the descriptors of one that the engine has refused. */
+void parcel_refuse(struct parcel *parcel);
 /* Brings the parcel that the engine's latest read got into the window, and its record to how the client sees it. */
 void parcel_deliver(struct thread *thread, struct binder_transaction_data *record);
 /* Writes the numbers that the landing's descriptors have for the client. */
 void parcel_place(struct thread *thread, uint32_t count);
-/* Closes the descriptors of the parcel that the engine's latest read got, and that nobody gets. */
-void parcel_discard(struct engine *engine, const struct binder_transaction_data *record);
 
 /* --- returns.c: the read of a BINDER_WRITE_READ. --- */
 
@@ -552,6 +592,8 @@ bool returns_are_there(const struct thread *thread);
 int returns_fetch(struct thread *thread);
 /* Answers the thread's read with what is there. */
 void returns_deliver(struct thread *thread);
+/* The process is to be told of one death notification more; there is room. */
+void returns_clear(struct process *process, binder_uintptr_t cookie);
 
 /* --- reach.c: whom the engine's steps have reached. --- */
 
@@ -587,13 +629,6 @@ struct thread *settle_waiting_one(struct process *process, const struct thread *
 void settle_doorbell(struct thread *thread);
 /* The same for all threads of a process. */
 void settle_doorbells(struct process *process);
-
-/* --- drain.c: what is unread where a thread or a process ends. --- */
-
-/* Reads it, if it may have descriptors, and closes these. */
-void drain_thread(struct thread *thread);
-/* The same for the process, in which the daemon's own seat has a thread. */
-void drain_process(struct process *process);
 
 /* --- doorbells.c --- */
 

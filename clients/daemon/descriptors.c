@@ -1,86 +1,46 @@
 /*
- * descriptors.c: descriptors of parcels that nobody has read yet. The parcel has a number in the place of each, which
- * only the daemon writes: it names a place here, and how often that place was used before.
- *
- * What is unread when its receiver ends is read by the daemon (returns.c), so that nothing stays here for good.
- * Should that not be enough, as with very many unread parcels, the oldest descriptor goes once all places are used.
+ * descriptors.c: how descriptors are closed: one's end may take its time, and nobody waits for that.
  */
 #include "daemon.h"
 
 #include <fcntl.h>
 #include <pthread.h>
+#include <signal.h>
 #include <stdlib.h>
 #include <sys/mman.h>
 #include <sys/socket.h>
 #include <sys/stat.h>
+#include <time.h>
 #include <unistd.h>
-
-#define PLACE_BITS 12
-#define PLACES (1u << PLACE_BITS)
-#define TURNS ((1u << (32 - PLACE_BITS)) - 1)
-
-static _Thread_local struct {
-    int fd;
-    uint32_t turn;
-    bool is_used;
-} places[PLACES];
-
-static _Thread_local uint32_t next;
-static _Thread_local uint32_t used;
-
-/* The next free place; where there is none, the one that was used longest ago. */
-static uint32_t free_place(void)
-{
-    uint32_t place = next;
-    if (used < PLACES)
-        while (places[place].is_used)
-            place = (place + 1) % PLACES;
-    next = (place + 1) % PLACES;
-    return place;
-}
-
-uint32_t descriptor_hold(int fd)
-{
-    uint32_t place = free_place();
-    if (places[place].is_used) {
-        log_event("a descriptor that nobody has fetched is closed, %u are held", used);
-        descriptors_close(&places[place].fd, 1);
-        used--;
-    }
-    places[place].fd = fd;
-    places[place].is_used = true;
-    places[place].turn = (places[place].turn + 1) & TURNS;
-    used++;
-    return places[place].turn << PLACE_BITS | place;
-}
-
-int descriptor_take(uint32_t held)
-{
-    uint32_t place = held % PLACES;
-    if (!places[place].is_used || places[place].turn != held >> PLACE_BITS)
-        return -1;
-    places[place].is_used = false;
-    used--;
-    return places[place].fd;
-}
-
-bool descriptors_are_held(void)
-{
-    return used > 0;
-}
 
 /*
  * A client's descriptor may be one whose end takes its time, as a socket's that lingers, or a file's behind a
  * network; or a local socket in which such a one lies unread. Pipes, memory and other sockets are closed at once. The rest
- * is closed by a thread of its own, last come first served. What lies unread in one of the daemon's own sockets is taken out
+ * is closed by threads of its own, last come first served. What lies unread in one of the daemon's own sockets is taken out
  * before that is closed.
+ *
+ * One such thread is enough for honest clients. While others wait, a close that takes too long is interrupted: that ends a linger, whose
+ * bytes the kernel sends all the same. For what a signal doesn't end there are more threads, up to a bound.
  */
+#define PATIENCE_MILLISECONDS 100
+#define CLOSERS_MOST 16
+#define INTERRUPTION SIGUSR1
+
+struct closer {
+    pthread_t thread;
+    uint64_t since; /* milliseconds; 0: it closes nothing */
+};
+
 static struct {
     pthread_mutex_t lock;
-    pthread_cond_t has_more;
+    pthread_cond_t has_more; /* closers wait for it .. */
+    pthread_cond_t is_asked; /* .. and who oversees them */
     int *fds;
     size_t count, room;
-} closing = {.lock = PTHREAD_MUTEX_INITIALIZER, .has_more = PTHREAD_COND_INITIALIZER};
+    struct closer closers[CLOSERS_MOST];
+    uint32_t closer_count;
+    bool has_told;
+} closing = {.lock = PTHREAD_MUTEX_INITIALIZER, .has_more = PTHREAD_COND_INITIALIZER, .is_asked = PTHREAD_COND_INITIALIZER};
 
 /* The device that memory files are on: that of all that memfd_create makes. */
 static uint32_t memory_major, memory_minor;
@@ -111,21 +71,77 @@ static bool closes_at_once(int fd)
            || (S_ISREG(stat.stx_mode) && stat.stx_dev_major == memory_major && stat.stx_dev_minor == memory_minor);
 }
 
-static _Noreturn void *close_all(void *unused)
+static uint64_t now(void)
 {
-    (void)unused;
+    struct timespec time;
+    clock_gettime(CLOCK_MONOTONIC, &time);
+    return (uint64_t)time.tv_sec * 1000 + (uint64_t)time.tv_nsec / 1000000;
+}
+
+static _Noreturn void *close_all(void *with)
+{
+    struct closer *closer = with;
+    sigset_t set;
+    sigemptyset(&set);
+    sigaddset(&set, INTERRUPTION);
+    pthread_sigmask(SIG_UNBLOCK, &set, NULL);
     pthread_mutex_lock(&closing.lock);
     for (;;) {
         while (!closing.count)
             pthread_cond_wait(&closing.has_more, &closing.lock);
         int fd = closing.fds[--closing.count];
+        closer->since = now();
         pthread_mutex_unlock(&closing.lock);
         close(fd);
         pthread_mutex_lock(&closing.lock);
+        closer->since = 0;
     }
 }
 
-/* Leaves a descriptor to that thread. False where there is no memory for that. */
+static bool add_closer(void)
+{
+    struct closer *closer = &closing.closers[closing.closer_count];
+    bool is_there = pthread_create(&closer->thread, NULL, close_all, closer) == 0;
+    closing.closer_count += is_there;
+    return is_there && pthread_detach(closer->thread) == 0;
+}
+
+/* Interrupts those that have closed one descriptor for too long, and tells whether that is all of them. */
+static bool interrupt_slow(void)
+{
+    bool are_all = true;
+    for (uint32_t i = 0; i < closing.closer_count; i++) {
+        const struct closer *closer = &closing.closers[i];
+        bool is_slow = closer->since && now() - closer->since >= PATIENCE_MILLISECONDS;
+        if (is_slow)
+            pthread_kill(closer->thread, INTERRUPTION);
+        are_all = are_all && is_slow;
+    }
+    return are_all;
+}
+
+/* Looks after the closers while descriptors wait for them. */
+static _Noreturn void *oversee(void *unused)
+{
+    (void)unused;
+    pthread_mutex_lock(&closing.lock);
+    for (;;) {
+        while (!closing.count)
+            pthread_cond_wait(&closing.is_asked, &closing.lock);
+        pthread_mutex_unlock(&closing.lock);
+        usleep(1000 * PATIENCE_MILLISECONDS);
+        pthread_mutex_lock(&closing.lock);
+        if (!closing.count || !interrupt_slow())
+            continue;
+        if (closing.closer_count < CLOSERS_MOST && add_closer())
+            log_line("closing takes long: %u threads do it", closing.closer_count);
+        else if (!closing.has_told)
+            log_line("closing takes long: %zu descriptors wait for %u threads", closing.count, closing.closer_count);
+        closing.has_told = closing.has_told || closing.closer_count == CLOSERS_MOST;
+    }
+}
+
+/* Leaves a descriptor to these threads. False where there is no memory for that. */
 static bool leave(int fd)
 {
     pthread_mutex_lock(&closing.lock);
@@ -140,6 +156,7 @@ static bool leave(int fd)
         closing.fds[closing.count++] = fd;
     pthread_mutex_unlock(&closing.lock);
     pthread_cond_signal(&closing.has_more);
+    pthread_cond_signal(&closing.is_asked);
     return has_room;
 }
 
@@ -156,10 +173,26 @@ static bool find_memory_device(void)
     return is_found;
 }
 
+static void ignore(int number)
+{
+    (void)number;
+}
+
+/* The signal is for closers alone, which take it. */
+static bool ignore_interruptions(void)
+{
+    const struct sigaction action = {.sa_handler = ignore};
+    sigset_t set;
+    sigemptyset(&set);
+    sigaddset(&set, INTERRUPTION);
+    return sigaction(INTERRUPTION, &action, NULL) == 0 && pthread_sigmask(SIG_BLOCK, &set, NULL) == 0;
+}
+
 bool descriptors_begin(void)
 {
     pthread_t thread;
-    return find_memory_device() && pthread_create(&thread, NULL, close_all, NULL) == 0 && pthread_detach(thread) == 0;
+    return find_memory_device() && ignore_interruptions() && add_closer() && pthread_create(&thread, NULL, oversee, NULL) == 0
+           && pthread_detach(thread) == 0;
 }
 
 void descriptors_close(int *fds, uint32_t count)

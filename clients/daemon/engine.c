@@ -29,8 +29,8 @@ struct engine *engine_new(struct daemon *daemon, const char *device, uint32_t se
         return NULL;
     engine->daemon = daemon;
     engine->inbox.bell.fd = engine->loop.epoll = -1;
-    void *bytes = mmap(NULL, PARCEL_ROOM, PROT_READ | PROT_WRITE, MAP_PRIVATE | MAP_ANONYMOUS | MAP_NORESERVE, -1, 0);
-    engine->parcel_bytes = bytes == MAP_FAILED ? NULL : bytes;
+    void *bytes = mmap(NULL, sizeof(struct workbench), PROT_READ | PROT_WRITE, MAP_PRIVATE | MAP_ANONYMOUS | MAP_NORESERVE, -1, 0);
+    engine->bench = bytes == MAP_FAILED ? NULL : bytes;
     snprintf(engine->device, sizeof engine->device, "%s", device);
     list_begin(&engine->processes);
     list_begin(&engine->looked_at);
@@ -39,8 +39,8 @@ struct engine *engine_new(struct daemon *daemon, const char *device, uint32_t se
     list_begin(&engine->reached);
     for (size_t i = 0; i < sizeof engine->by_pid / sizeof *engine->by_pid; i++)
         list_begin(&engine->by_pid[i]);
-    if (engine->parcel_bytes && make_seats(engine, seats) && hullpippin_live_new(seats, &engine->live) == HULLPIPPIN_DONE
-        && (!journal || journal_open(&engine->journal, journal, &engine->live)) && engine_start(engine))
+    if (engine->bench && tickets_begin(&engine->tickets) && make_seats(engine, seats)
+        && hullpippin_live_new(seats, &engine->live) == HULLPIPPIN_DONE && (!journal || journal_open(&engine->journal, journal, &engine->live)) && engine_start(engine))
         return engine;
     engine_free(engine);
     return NULL;
@@ -68,8 +68,9 @@ void engine_free(struct engine *engine)
     engine_stop(engine);
     if (engine->live.at)
         engine_conclude(engine);
-    if (engine->parcel_bytes)
-        munmap(engine->parcel_bytes, PARCEL_ROOM);
+    tickets_end(&engine->tickets);
+    if (engine->bench)
+        munmap(engine->bench, sizeof *engine->bench);
     free(engine->lent);
     free(engine->free_seats);
     free(engine->lost_seats);
@@ -78,7 +79,6 @@ void engine_free(struct engine *engine)
 
 uint64_t history_most = UINT32_MAX;
 
-_Thread_local uint8_t *parcel_bytes;
 
 /* Told when so many of a hundred steps that a history can have are made. */
 static const uint32_t warnings[] = {50, 90, 99};
@@ -106,6 +106,7 @@ static int stepped(struct engine *engine, uint32_t status)
     case HULLPIPPIN_DONE:
         count_step(engine);
         journal_append(&engine->journal, &engine->live);
+        tickets_see_ended(&engine->tickets, &engine->live);
         return 0;
     case HULLPIPPIN_NO_MEMORY:
         return ENOMEM;

@@ -74,7 +74,7 @@ static void give_memory_back(struct engine *engine)
 {
     if (engine->copied - engine->trimmed > LARGE_BYTES) {
         malloc_trim(0);
-        madvise(engine->parcel_bytes, PARCEL_ROOM, MADV_DONTNEED);
+        madvise(engine->bench, sizeof *engine->bench, MADV_DONTNEED);
     }
     engine->trimmed = engine->copied;
 }
@@ -103,7 +103,6 @@ static void close_inbox(struct engine *engine)
 static void *run(void *with)
 {
     struct engine *engine = with;
-    parcel_bytes = engine->parcel_bytes;
     if (!loop_run(&engine->loop))
         engine_end(engine, "it can't wait");
     close_inbox(engine);

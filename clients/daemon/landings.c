@@ -6,35 +6,28 @@
 
 #include <string.h>
 
-static const uint64_t trailer_size = sizeof(struct trailer);
-
-/* The parcel that the engine's latest read got, with its trailer: false where it has none. */
+/* The parcel that the engine's latest read got, on the engine's bench: false where it has no trailer. Without a ticket no parcel on its
+   way has one, so that large ones needn't come there. */
 static bool unwrap(struct engine *engine, struct objects *objects, struct trailer *trailer)
 {
-    uint64_t size = engine->answer.data;
-    if (size < trailer_size || size > PARCEL_ROOM)
+    uint64_t size = engine->answer.data, offsets_size = engine->answer.offsets;
+    struct workbench *bench = engine->bench;
+    if (!engine->tickets.count || size > sizeof bench->bytes || offsets_size > sizeof bench->known)
         return false;
-    hullpippin_live_bytes(&engine->live, HULLPIPPIN_DATA, parcel_bytes, size);
-    memcpy(trailer, parcel_bytes + size - trailer_size, trailer_size);
-    *objects = (struct objects){parcel_bytes, trailer->data_size, trailer->offsets_size, trailer->extra_size};
+    hullpippin_live_bytes(&engine->live, HULLPIPPIN_DATA, bench->bytes, size);
+    hullpippin_live_bytes(&engine->live, HULLPIPPIN_OFFSETS, (uint8_t *)bench->known, offsets_size);
+    if (!objects_trailer(bench->bytes, size, (const uint8_t *)bench->known, offsets_size, trailer))
+        return false;
+    *objects = (struct objects){bench->bytes, trailer->data_size, trailer->offsets_size, trailer->extra_size};
     return true;
-}
-
-/* The number that the descriptor with this index in the parcel is held by. */
-static uint32_t held_at(const struct objects *objects, uint64_t index)
-{
-    uint64_t held;
-    memcpy(&held, objects_extra(objects) + round8(objects->extra_size) + index * sizeof held, sizeof held);
-    return (uint32_t)held;
 }
 
 /* A parcel on its way. */
 struct arrival {
     struct objects objects;
-    struct landing *landing; /* NULL: there was no memory, and its descriptors are closed */
+    struct landing *landing; /* NULL: it has no descriptors, or there was no memory, and they are closed */
     uint64_t place;          /* of the parcel in the window */
     uint64_t base;           /* where the client sees the window */
-    uint64_t held_count;
 };
 
 /* Where the client sees these bytes of the parcel. */
@@ -46,15 +39,11 @@ static uint64_t address_of(const struct arrival *arrival, const uint8_t *bytes)
 /* Puts the next descriptor on the landing. Until the client has told its number there, none is there. */
 static void land(struct arrival *arrival, uint8_t *bytes, bool is_wide)
 {
-    int fd = descriptor_take(held_at(&arrival->objects, arrival->held_count++));
     struct landing *landing = arrival->landing;
     uint64_t none = is_wide ? UINT32_MAX : UINT64_MAX; /* as a number of 32 bits: -1 */
     memcpy(bytes, &none, is_wide ? sizeof(uint64_t) : sizeof(uint32_t));
-    if (!landing || landing->count == DESCRIPTORS_MAX || fd < 0) {
-        descriptors_close(&fd, 1);
+    if (!landing || landing->count == landing->ticket->count)
         return;
-    }
-    landing->fds[landing->count] = fd;
     landing->is_wide[landing->count] = is_wide;
     landing->places[landing->count++] = arrival->place + (uint64_t)(bytes - arrival->objects.bytes);
 }
@@ -118,38 +107,42 @@ static void deliver_plain(struct thread *thread, uint64_t place, uint64_t offset
         hullpippin_live_bytes(&engine->live, HULLPIPPIN_OFFSETS, at + offsets_place, engine->answer.offsets);
 }
 
-static void deliver_wrapped(struct thread *thread, struct binder_transaction_data *record, uint64_t place)
+/* Of the others what the client sent goes there, and zeros between its parts. */
+static void deliver_wrapped(struct thread *thread, struct binder_transaction_data *record, uint64_t place, const struct objects *objects,
+                            const struct trailer *trailer)
 {
     struct engine *engine = thread->process->engine;
     struct window *window = &thread->process->window;
-    struct trailer trailer;
-    struct arrival arrival = {.place = place, .base = window->base};
-    record->flags &= ~FLAG_TRAILER;
-    if (!unwrap(engine, &arrival.objects, &trailer))
-        return;
-    record->sender_euid = (uid_t)trailer.euid;
-    if (trailer.held_count)
+    struct ticket *ticket = ticket_take(&engine->tickets, trailer->step);
+    struct arrival arrival = {.objects = *objects, .place = place, .base = window->base};
+    record->sender_euid = trailer->euid;
+    if (ticket && ticket->count)
         arrival.landing = thread_landing(thread);
     if (arrival.landing)
-        arrival.landing->parcel = record->data.ptr.buffer;
+        *arrival.landing = (struct landing){.ticket = ticket, .parcel = record->data.ptr.buffer};
+    else
+        ticket_free(ticket);
     put_right(&arrival);
-    memcpy(window->at + place, parcel_bytes, engine->answer.data);
-    record->data_size = trailer.data_size;
-    record->offsets_size = trailer.offsets_size;
-    record->data.ptr.offsets = address_of(&arrival, objects_offsets(&arrival.objects));
+    memcpy(window->at + place, objects->bytes, engine->answer.data - sizeof *trailer);
+    record->data_size = trailer->data_size;
+    record->offsets_size = trailer->offsets_size;
+    record->data.ptr.offsets = address_of(&arrival, objects_offsets(objects));
 }
 
 void parcel_deliver(struct thread *thread, struct binder_transaction_data *record)
 {
     struct process *process = thread->process;
     uint64_t place = record->data.ptr.buffer - WINDOW_BASE, offsets_place = record->data.ptr.offsets - WINDOW_BASE;
+    struct objects objects;
+    struct trailer trailer;
     if (thread->landing)
         thread_landing(thread);
     record->data.ptr.buffer = process->window.base + place;
     record->data.ptr.offsets = process->window.base + offsets_place;
-    process_note_handed(process, place, process->engine->answer.offsets || record->flags & FLAG_TRAILER ? HANDED_WITH_OBJECTS : HANDED);
-    if (record->flags & FLAG_TRAILER)
-        deliver_wrapped(thread, record, place);
+    bool is_wrapped = unwrap(process->engine, &objects, &trailer);
+    process_note_handed(process, place, is_wrapped || process->engine->answer.offsets ? HANDED_WITH_OBJECTS : HANDED);
+    if (is_wrapped)
+        deliver_wrapped(thread, record, place, &objects, &trailer);
     else
         deliver_plain(thread, place, offsets_place);
 }
@@ -164,17 +157,5 @@ void parcel_place(struct thread *thread, uint32_t count)
     for (uint32_t i = 0; i < count; i++) {
         uint64_t number = (uint32_t)numbers[i];
         memcpy(thread->process->window.at + landing->places[i], &number, landing->is_wide[i] ? sizeof number : sizeof(uint32_t));
-    }
-}
-
-void parcel_discard(struct engine *engine, const struct binder_transaction_data *record)
-{
-    struct objects objects;
-    struct trailer trailer;
-    if (!(record->flags & FLAG_TRAILER) || !unwrap(engine, &objects, &trailer))
-        return;
-    for (uint64_t i = 0; i < trailer.held_count; i++) {
-        int fd = descriptor_take(held_at(&objects, i));
-        descriptors_close(&fd, 1);
     }
 }

@@ -50,3 +50,22 @@ bool objects_buffer(const struct objects *objects, uint64_t index, uint64_t befo
     memcpy(buffer, objects->bytes + offset, sizeof *buffer);
     return true;
 }
+
+/*
+ * The engine changes the objects that it knows, and nothing else of the data. So what lies behind the last of these is
+ * as it was sent, and no receiver's cookie can make a trailer of it.
+ */
+bool objects_trailer(const uint8_t *data, uint64_t size, const uint8_t *offsets, uint64_t offsets_size, struct trailer *trailer)
+{
+    uint64_t last;
+    if (size < sizeof *trailer)
+        return false;
+    uint64_t end = size - sizeof *trailer;
+    memcpy(trailer, data + end, sizeof *trailer);
+    if (memcmp(trailer->mark, TRAILER_MARK, sizeof trailer->mark))
+        return false;
+    if (offsets_size < sizeof last)
+        return true;
+    memcpy(&last, offsets + (offsets_size / sizeof last - 1) * sizeof last, sizeof last);
+    return last <= end && end - last >= sizeof(struct flat_binder_object);
+}

@@ -1,18 +1,40 @@
 /*
  * objects.h: a parcel with its objects, as it lies in the daemon's memory: data, offsets, buffers, each up to a
- * multiple of 8; and behind these, where the parcel is wrapped, the numbers that its descriptors are held by (8 bytes
- * each), and a trailer.
+ * multiple of 8; and behind these, where the parcel is wrapped, a trailer.
  */
 #ifndef HULLPIPPIN_OBJECTS_H
 #define HULLPIPPIN_OBJECTS_H
 
 #include "daemon.h"
 
+/* A parcel with more objects is refused: it would keep all other clients waiting. */
+#define OBJECTS_MAX 8192u
+
+/* What a wrapped parcel's data ends with, as bytes with the final 0. */
+#define TRAILER_MARK "trailer"
+
 struct trailer {
-    uint64_t data_size, offsets_size, extra_size, held_count, euid;
+    uint64_t data_size, offsets_size, extra_size; /* of the client's parcel */
+    uint32_t step;             /* the place in the history of the step that sends it: its ticket's name */
+    uint32_t descriptor_count;
+    uint32_t euid, nothing;    /* the caller's, and zeros */
+    char mark[8];              /* TRAILER_MARK */
 };
 
-#define PARCEL_ROOM (PAGE_AREA + sizeof(uint64_t) * DESCRIPTORS_MAX + sizeof(struct trailer))
+#define PARCEL_ROOM (PAGE_AREA + sizeof(struct trailer))
+
+/* A buffer into which pointers and descriptors may still be put: the last one, and those that it hangs on, outermost first. */
+struct open_buffer {
+    uint64_t index, length;
+    uint64_t least; /* behind all that was put there */
+};
+
+/* An engine's memory for looking at a parcel: one at a time. */
+struct workbench {
+    _Alignas(8) uint8_t bytes[PARCEL_ROOM];
+    uint64_t known[OBJECTS_MAX]; /* offsets of the objects that the engine knows */
+    struct open_buffer open[OBJECTS_MAX];
+};
 
 struct objects {
     uint8_t *bytes;
@@ -29,5 +51,7 @@ uint32_t objects_type(const struct objects *objects, uint64_t offset);
 uint64_t object_size(uint32_t type);
 /* The PTR object with this index; false where there is none below `before`. */
 bool objects_buffer(const struct objects *objects, uint64_t index, uint64_t before, struct binder_buffer_object *buffer);
+/* Tells the trailer of data, as the engine has it, with the offsets of its objects; false where it has none. */
+bool objects_trailer(const uint8_t *data, uint64_t size, const uint8_t *offsets, uint64_t offsets_size, struct trailer *trailer);
 
 #endif

@@ -165,10 +165,9 @@ static int set_manager(struct thread *thread)
 
 static void exit_thread(struct thread *thread)
 {
-    drain_thread(thread);
     seat_return(thread);
     thread->pending_size = 0;
-    thread->is_prompt = false;
+    thread->is_prompt = thread->has_looped = false;
 }
 
 static int give_doorbell(struct thread *thread)

@@ -3,24 +3,24 @@
  * descriptors.
  *
  * A parcel with such objects goes through the engine as one with more data: behind its own data are all its offsets,
- * the buffers, the numbers that its descriptors are held by, and a trailer that says how much each is. Only the
- * objects that the engine knows are told to it. The receiver sees the data and all offsets; landings.c puts pointers
+ * the buffers, and a trailer that says how much each is. Only the objects that the engine knows are told to it. Its
+ * descriptors wait beside the engine (tickets.c). The receiver sees the data and all offsets; landings.c puts pointers
  * and descriptors right on their way.
+ *
+ * A trailer is known by its mark. A client's own parcel that ends as if it had one gets one as well.
  */
 #include "objects.h"
 
 #include <string.h>
 
-/* A parcel with more objects is refused: it would keep all other clients waiting. */
-#define OBJECTS_MAX 8192u
-
-static _Thread_local uint64_t known[OBJECTS_MAX]; /* offsets of the objects that the engine knows */
-
 /* A walk over the objects of a parcel that a client sends. */
 struct walk {
     struct objects objects;
+    struct workbench *bench;
     uint64_t end;         /* of the object before */
     uint64_t known_count;
+    uint64_t open_count;
+    uint64_t used;        /* of the buffers' room: the next one's place */
     struct parcel *parcel;
     int *fds;
     uint32_t fd_count;
@@ -30,9 +30,9 @@ struct walk {
 static bool hold(struct walk *walk, uint32_t index)
 {
     struct parcel *parcel = walk->parcel;
-    if (index >= walk->fd_count || walk->fds[index] < 0 || parcel->held_count == DESCRIPTORS_MAX)
+    if (index >= walk->fd_count || walk->fds[index] < 0 || parcel->fd_count == DESCRIPTORS_MAX)
         return false;
-    parcel->held[parcel->held_count++] = descriptor_hold(walk->fds[index]);
+    parcel->fds[parcel->fd_count++] = walk->fds[index];
     walk->fds[index] = -1;
     return true;
 }
@@ -44,17 +44,43 @@ static bool check_descriptor(struct walk *walk, uint64_t offset)
     return hold(walk, object.fd);
 }
 
-/* The buffer lies among the parcel's, and so does the place in its parent that will have the pointer. */
-static bool check_buffer(const struct walk *walk, uint64_t offset, uint64_t index)
+/*
+ * Whether so many bytes may be put into a parent, which is opened for that: as in the kernel into none but the last
+ * buffer, or one that it hangs on, and behind all that was put there before. So nothing is put over anything else, and
+ * what a receiver finds where a pointer belongs is one.
+ */
+static bool fix(struct walk *walk, uint64_t parent, uint64_t offset, uint64_t size)
 {
-    struct binder_buffer_object object, parent;
+    struct open_buffer *open = walk->bench->open;
+    while (walk->open_count && open[walk->open_count - 1].index != parent)
+        walk->open_count--;
+    if (!walk->open_count || offset % sizeof(uint32_t))
+        return false;
+    struct open_buffer *buffer = &open[walk->open_count - 1];
+    if (offset < buffer->least || buffer->length < size || buffer->length - size < offset)
+        return false;
+    buffer->least = offset + size;
+    return true;
+}
+
+/* A buffer follows the one before, and what pads it is zeros, whatever lies there in the client's page. The kernel takes an object
+   at the front of the data for none where it looks for the last one, so nothing can be put into its buffer. */
+static bool check_buffer(struct walk *walk, uint64_t offset, uint64_t index)
+{
+    uint64_t left = walk->objects.extra_size - walk->used;
+    struct binder_buffer_object object;
     memcpy(&object, walk->objects.bytes + offset, sizeof object);
-    if (object.buffer > walk->objects.extra_size || object.length > walk->objects.extra_size - object.buffer)
+    if (object.buffer != walk->used || object.length > left)
         return false;
     if (!(object.flags & BINDER_BUFFER_FLAG_HAS_PARENT))
-        return true;
-    return objects_buffer(&walk->objects, object.parent, index, &parent) && parent.length >= sizeof(binder_uintptr_t)
-           && object.parent_offset <= parent.length - sizeof(binder_uintptr_t);
+        walk->open_count = 0;
+    else if (!fix(walk, object.parent, object.parent_offset, sizeof(binder_uintptr_t)))
+        return false;
+    memset(objects_extra(&walk->objects) + walk->used + object.length, 0, round8(object.length) - object.length);
+    walk->used += round8(object.length);
+    if (offset)
+        walk->bench->open[walk->open_count++] = (struct open_buffer){.index = index, .length = object.length};
+    return true;
 }
 
 static bool check_descriptors(struct walk *walk, uint64_t offset, uint64_t index)
@@ -63,7 +89,7 @@ static bool check_descriptors(struct walk *walk, uint64_t offset, uint64_t index
     struct binder_buffer_object parent;
     memcpy(&object, walk->objects.bytes + offset, sizeof object);
     if (!objects_buffer(&walk->objects, object.parent, index, &parent) || object.num_fds > DESCRIPTORS_MAX
-        || object.parent_offset > parent.length || object.num_fds * sizeof(uint32_t) > parent.length - object.parent_offset)
+        || !fix(walk, object.parent, object.parent_offset, object.num_fds * sizeof(uint32_t)))
         return false;
     const uint8_t *numbers = objects_extra(&walk->objects) + parent.buffer + object.parent_offset;
     for (uint64_t i = 0; i < object.num_fds; i++) {
@@ -91,7 +117,7 @@ static bool check_object(struct walk *walk, uint64_t index)
     case BINDER_TYPE_FDA:
         return check_descriptors(walk, offset, index);
     default: /* the engine judges those that it knows, and those that nobody knows */
-        known[walk->known_count++] = offset;
+        walk->bench->known[walk->known_count++] = offset;
         return true;
     }
 }
@@ -104,13 +130,6 @@ static bool check_objects(struct walk *walk)
     return true;
 }
 
-/* The engine gets none of it, and refuses it. */
-static void lose(struct parcel *parcel)
-{
-    parcel->is_lost = true;
-    parcel->data_size = parcel->offsets_size = 0;
-}
-
 static bool has_other_objects(const struct objects *objects)
 {
     for (uint64_t i = 0; i < objects->offsets_size / 8; i++) {
@@ -121,21 +140,25 @@ static bool has_other_objects(const struct objects *objects)
     return false;
 }
 
-/* Puts the held numbers and the trailer behind the buffers. */
+static bool needs_trailer(const struct objects *objects)
+{
+    struct trailer trailer;
+    return has_other_objects(objects)
+           || objects_trailer(objects->bytes, objects->data_size, objects_offsets(objects), objects->offsets_size, &trailer);
+}
+
+/* Puts zeros into what is left of the buffers' room, and the trailer behind it. */
 static void wrap(struct walk *walk)
 {
     struct parcel *parcel = walk->parcel;
     const struct objects *objects = &walk->objects;
-    struct trailer trailer = {objects->data_size, objects->offsets_size, objects->extra_size, parcel->held_count, parcel->euid};
-    uint8_t *end = objects_extra(objects) + round8(objects->extra_size);
-    for (uint32_t i = 0; i < parcel->held_count; i++, end += sizeof(uint64_t)) {
-        uint64_t held = parcel->held[i];
-        memcpy(end, &held, sizeof held);
-    }
+    struct trailer trailer = {objects->data_size, objects->offsets_size, objects->extra_size, parcel->ticket->step, parcel->ticket->count,
+                              parcel->euid, 0, TRAILER_MARK};
+    uint8_t *end = objects_extra(objects) + objects->extra_size;
+    memset(objects_extra(objects) + walk->used, 0, objects->extra_size - walk->used);
     memcpy(end, &trailer, sizeof trailer);
-    parcel->is_wrapped = true;
     parcel->data_size = (uint64_t)(end + sizeof trailer - objects->bytes);
-    parcel->offsets = (const uint8_t *)known;
+    parcel->offsets = (const uint8_t *)walk->bench->known;
     parcel->offsets_size = 8 * walk->known_count;
 }
 
@@ -151,16 +174,16 @@ static bool is_inside(uint64_t place, uint64_t size)
     return size <= PAGE_AREA && place <= PAGE_AREA - size;
 }
 
-/* Copies the parcel from the page to the daemon's memory. False where it isn't all inside of the area, or has too
-   many objects. */
+/* Copies the parcel from the page to the daemon's memory. False where it isn't all inside of the area, has too many objects, or a
+   room for buffers that isn't a multiple of 8. */
 static bool copy_in(const struct objects *objects, const struct page *page, const struct binder_transaction_data *record)
 {
     uint64_t data = record->data.ptr.buffer, offsets = record->data.ptr.offsets;
     if (objects->offsets_size > 8 * OBJECTS_MAX || !is_inside(data, objects->data_size) || !is_inside(offsets, objects->offsets_size))
         return false;
     uint64_t extra = round8(offsets + objects->offsets_size);
-    if (!is_inside(extra, objects->extra_size)
-        || round8(objects->data_size) + round8(objects->offsets_size) + round8(objects->extra_size) > PAGE_AREA)
+    if (objects->extra_size % 8 || !is_inside(extra, objects->extra_size)
+        || round8(objects->data_size) + round8(objects->offsets_size) + objects->extra_size > PAGE_AREA)
         return false;
     copy_part(objects->bytes, page, data, objects->data_size);
     copy_part(objects_offsets(objects), page, offsets, objects->offsets_size);
@@ -168,39 +191,46 @@ static bool copy_in(const struct objects *objects, const struct page *page, cons
     return true;
 }
 
+/* The engine gets nothing of it, for which it refuses the command. */
+static void lose(struct parcel *parcel)
+{
+    parcel->is_lost = true;
+    parcel->data_size = parcel->offsets_size = 0;
+}
+
 /*
- * A parcel that can't be had is given to the engine as none, for which it refuses the command. One with a bad object
- * is given as it is: the engine refuses it as well, since it knows no PTR, FD or FDA object. But where it would tell whose call it
- * is, none goes without that.
+ * A parcel that can't be had is given to the engine as none, and so is one whose descriptors the process has no places for. One with
+ * a bad object is given as it is: the engine refuses it as well, since it knows no PTR, FD or FDA object. But where it would tell
+ * whose call it is, none goes without that.
  */
-void parcel_fetch(struct parcel *parcel, const struct page *page, const struct binder_transaction_data_sg *record, int *fds,
+void parcel_fetch(struct parcel *parcel, struct thread *thread, const struct binder_transaction_data_sg *record, int *fds,
                   uint32_t fd_count)
 {
     const struct binder_transaction_data *data = &record->transaction_data;
-    struct walk walk = {.objects = {parcel_bytes, data->data_size, data->offsets_size, record->buffers_size},
-                        .parcel = parcel, .fds = fds, .fd_count = fd_count};
-    parcel->is_wrapped = false;
-    parcel->held_count = 0;
-    parcel->data_size = parcel->offsets_size = 0;
-    parcel->is_lost = !copy_in(&walk.objects, page, data);
-    if (parcel->is_lost)
+    struct engine *engine = thread->process->engine;
+    struct walk walk = {.objects = {engine->bench->bytes, data->data_size, data->offsets_size, record->buffers_size},
+                        .bench = engine->bench, .parcel = parcel, .fds = fds, .fd_count = fd_count};
+    *parcel = (struct parcel){.euid = parcel->euid, .tells_euid = parcel->tells_euid, .data = walk.objects.bytes,
+                              .offsets = objects_offsets(&walk.objects), .data_size = data->data_size,
+                              .offsets_size = data->offsets_size};
+    if (!copy_in(&walk.objects, thread->page, data))
+        return lose(parcel);
+    if (!parcel->tells_euid && (data->offsets_size % 8 || !needs_trailer(&walk.objects)))
         return;
-    parcel->data = parcel_bytes;
-    parcel->data_size = data->data_size;
-    parcel->offsets = objects_offsets(&walk.objects);
-    parcel->offsets_size = data->offsets_size;
-    if (!parcel->tells_euid && (data->offsets_size % 8 || !has_other_objects(&walk.objects)))
+    if (data->offsets_size % 8 || !check_objects(&walk)) {
+        if (parcel->tells_euid)
+            lose(parcel);
         return;
-    if (data->offsets_size % 8 == 0 && check_objects(&walk))
-        wrap(&walk);
-    else if (parcel->tells_euid)
-        lose(parcel);
+    }
+    parcel->ticket = ticket_new(thread->process, parcel->fds, parcel->fd_count);
+    if (!parcel->ticket)
+        return lose(parcel);
+    parcel->fd_count = 0;
+    wrap(&walk);
 }
 
-void parcel_refuse(const struct parcel *parcel)
+void parcel_refuse(struct parcel *parcel)
 {
-    for (uint32_t i = 0; i < parcel->held_count; i++) {
-        int fd = descriptor_take(parcel->held[i]);
-        descriptors_close(&fd, 1);
-    }
+    descriptors_close(parcel->fds, parcel->fd_count);
+    ticket_free(parcel->ticket);
 }

@@ -1,6 +1,7 @@
 /*
  * processes.c: an open file is a process of its device's engine, from its mmap on: before that it has no window. The
- * end of its control socket is its exit.
+ * end of its control socket is its exit, and so is the end of the process that has opened it: who has the socket then may be
+ * the daemon itself, in a parcel that nobody reads any more.
  */
 #include "daemon.h"
 
@@ -9,6 +10,12 @@
 #include <string.h>
 #include <sys/epoll.h>
 #include <sys/socket.h>
+#include <sys/syscall.h>
+#include <unistd.h>
+
+#ifndef SO_PEERPIDFD
+#define SO_PEERPIDFD 77
+#endif
 
 #define PAGE_BYTES 4096u
 
@@ -80,9 +87,11 @@ enum { HANDED_OVER = -1 };
 static void leave_strangers(struct process *process)
 {
     loop_leave(process->loop, &process->control);
+    if (process->end.fd >= 0)
+        loop_leave(process->loop, &process->end);
     client_release(process->client);
     process->client = NULL;
-    process->control.client = NULL;
+    process->control.client = process->end.client = NULL;
     list_remove(&process->in_engine);
 }
 
@@ -90,7 +99,8 @@ static bool join_loop(struct process *process, struct loop *loop)
 {
     process->loop = loop;
     process->client = client_hold(&loop->turns, process->euid, process->pid);
-    return process->client && loop_add_client(loop, &process->control, process->client, EPOLLIN | EPOLLRDHUP);
+    return process->client && loop_add_client(loop, &process->control, process->client, EPOLLIN | EPOLLRDHUP)
+           && (process->end.fd < 0 || loop_add_client(loop, &process->end, process->client, EPOLLIN));
 }
 
 static int open_device(struct process *process, const struct control_request *request)
@@ -152,6 +162,18 @@ static bool exit_by_own_seat(struct engine *engine, uint32_t engine_pid)
     return false;
 }
 
+int process_enter(struct process *process)
+{
+    struct engine *engine = process->engine;
+    int error = engine_attach(engine, OWN_SEAT, process->engine_pid);
+    return error ? error : engine->answer.kind == HULLPIPPIN_OPENED ? 0 : ENOMEM;
+}
+
+int process_leave(struct process *process)
+{
+    return leave(process->engine) ? 0 : ENODEV;
+}
+
 /* Opens the process in the engine, where it lives on without the thread that has opened it. */
 static int open_in_engine(struct process *process)
 {
@@ -204,11 +226,11 @@ static int set_spam(struct process *process, bool on)
     struct engine *engine = process->engine;
     int error = 0;
     if (process->engine_pid && process->detects_spam != on) {
-        error = engine_attach(engine, OWN_SEAT, process->engine_pid);
-        if (error || engine->answer.kind != HULLPIPPIN_OPENED)
-            return error ? error : ENOMEM;
+        error = process_enter(process);
+        if (error)
+            return error;
         error = engine_set_spam(engine, OWN_SEAT, on);
-        leave(engine);
+        process_leave(process);
     }
     if (!error)
         process->detects_spam = on;
@@ -323,6 +345,34 @@ static bool take_share(struct daemon *daemon, struct process *process, int fd, c
     return false;
 }
 
+static void end_ready(struct watch *watch)
+{
+    struct process *process = container_of(watch, struct process, end);
+    log_event("process %d has ended, and its file hasn't", process->pid);
+    turns_want_end(&process->loop->turns, &process->control);
+}
+
+/* Kernels before 6.5 know the process by its number alone, and those before 5.3 don't tell of ends. */
+static int open_pidfd(int socket, pid_t pid)
+{
+    int fd = -1;
+    socklen_t size = sizeof fd;
+    if (getsockopt(socket, SOL_SOCKET, SO_PEERPIDFD, &fd, &size) == 0)
+        return fd;
+    return errno == ENOPROTOOPT && pid > 0 ? (int)syscall(SYS_pidfd_open, pid, 0) : -1;
+}
+
+/* For the end of the process that has connected. False where it has come already, or can't be waited for. */
+static bool open_end(struct process *process)
+{
+    errno = 0;
+    process->end = (struct watch){.fd = open_pidfd(process->control.fd, process->pid), .ready = end_ready};
+    if (process->end.fd >= 0)
+        return true;
+    log_event("the end of process %d can't be seen: %s", process->pid, strerror(errno));
+    return errno != ESRCH && errno != EMFILE && errno != ENFILE;
+}
+
 void process_accept(struct daemon *daemon, int fd)
 {
     struct ucred peer;
@@ -346,12 +396,13 @@ void process_accept(struct daemon *daemon, int fd)
     list_begin(&process->polling);
     list_begin(&process->in_resting);
     list_begin(&process->in_reached);
-    if (join_loop(process, &daemon->loop))
+    if (open_end(process) && join_loop(process, &daemon->loop))
         return;
     if (process->client)
         client_release(process->client);
     list_remove(&process->in_engine);
     give_share(process);
+    descriptor_close(&process->end.fd);
     descriptor_end(&fd);
     free(process);
 }
@@ -373,10 +424,7 @@ static void exit_in_engine(struct process *process)
 {
     struct engine *engine = process->engine;
     if (!engine->is_over) {
-        for (struct list *entry = process->threads.next; entry != &process->threads; entry = entry->next)
-            drain_thread(container_of(entry, struct thread, in_process));
-        if (engine_attach(engine, OWN_SEAT, process->engine_pid) == 0 && engine->answer.kind == HULLPIPPIN_OPENED)
-            drain_process(process);
+        engine_attach(engine, OWN_SEAT, process->engine_pid);
         if (exit_by_own_seat(engine, process->engine_pid))
             log_event("process %d, %u of %s, has ended", process->pid, process->engine_pid, engine->device);
     }
@@ -389,11 +437,13 @@ static void let_go(struct process *process)
 {
     list_remove(&process->in_engine);
     loop_drop(process->loop, &process->control);
+    loop_drop(process->loop, &process->end);
     if (process->client)
         client_release(process->client);
     give_share(process);
     window_free(&process->window);
     free(process->handed);
+    free(process->cleared.cookies);
     free(process->owners);
     free(process);
 }

@@ -7,9 +7,16 @@
 #include <errno.h>
 #include <string.h>
 
+/* Whether it gets what comes to its process. */
+static bool reads_for_process(const struct thread *thread)
+{
+    return thread->is_looper && !thread->serving && !thread->calling;
+}
+
 bool returns_are_there(const struct thread *thread)
 {
-    return thread->pending_size && thread->is_prompt;
+    return (thread->pending_size && thread->is_prompt) || thread->has_no_room
+           || (thread->process->cleared.count && reads_for_process(thread));
 }
 
 /* Appends a return to the pending ones. There is room: it was left by the limit of the read. */
@@ -45,6 +52,13 @@ static void take_failure(struct thread *thread)
         thread->calling--;
 }
 
+/* As in the kernel a two-way call's completion, and what its owner is to be told of the objects that it carries, are read along with
+   what comes next. */
+static bool waits_for_reply(const struct thread *thread, uint32_t code)
+{
+    return code == BR_TRANSACTION_COMPLETE || (thread->calling && (code == BR_INCREFS || code == BR_ACQUIRE));
+}
+
 static void take_return(struct thread *thread, uint8_t *bytes, uint32_t size)
 {
     uint32_t code;
@@ -55,7 +69,7 @@ static void take_return(struct thread *thread, uint8_t *bytes, uint32_t size)
         take_call(thread, bytes + sizeof code, code == BR_REPLY);
     else if (code == BR_DEAD_REPLY || code == BR_FAILED_REPLY)
         take_failure(thread);
-    if (code != BR_TRANSACTION_COMPLETE)
+    if (!waits_for_reply(thread, code))
         thread->is_prompt = true;
     append(thread, bytes, size);
 }
@@ -64,7 +78,11 @@ int returns_fetch(struct thread *thread)
 {
     static _Thread_local uint8_t stream[PAGE_RETURNS];
     struct engine *engine = thread->process->engine;
-    uint32_t limit = thread->room > thread->pending_size + READ_LEAST ? thread->room - thread->pending_size : READ_LEAST;
+    uint32_t used = thread->pending_size + RETURN_ROOM - (READ_LEAST - sizeof(uint32_t));
+    uint32_t limit = thread->room > used + READ_LEAST ? thread->room - used : READ_LEAST;
+    thread->has_no_room = thread->room < sizeof(uint32_t) + RETURN_ROOM && !thread->calling;
+    if (thread->has_no_room) /* what there is may be another's, who has room */
+        return 0;
     if (thread->pending_size + limit > sizeof thread->pending)
         return ENOBUFS;
     int error = engine_read(engine, thread->seat, limit);
@@ -95,30 +113,50 @@ static bool wants_looper(const struct thread *thread)
 static void send_landing(struct thread *thread)
 {
     struct landing *landing = thread->landing;
-    if (!landing || !landing->count)
+    if (!landing || !landing->ticket)
         return;
     thread->page->parcel = landing->parcel;
     for (uint32_t i = 0; i < landing->count; i++)
         thread->page->is_of_array[i] = !landing->is_wide[i];
-    if (packet_send(thread->link.fd, &landing->count, sizeof landing->count, landing->fds, landing->count, MSG_DONTWAIT))
+    if (packet_send(thread->link.fd, &landing->count, sizeof landing->count, landing->ticket->fds, landing->count, MSG_DONTWAIT))
         thread->answer.descriptors = landing->count;
-    descriptors_close(landing->fds, landing->count); /* the places stay, for the numbers */
+    ticket_free(landing->ticket); /* the places stay, for the numbers */
+    landing->ticket = NULL;
 }
 
 /* How many bytes of the pending returns fit into so much room. */
 static uint32_t fitting(struct thread *thread, uint32_t room)
 {
     uint32_t size = 0;
-    while (size < thread->pending_size) {
+    while (size < thread->pending_size && room - size >= RETURN_ROOM) {
         uint32_t code;
         memcpy(&code, thread->pending + size, sizeof code);
-        if (size + sizeof code + _IOC_SIZE(code) > room)
-            break;
         if (code == BR_TRANSACTION || code == BR_REPLY)
             send_landing(thread);
         size += sizeof code + _IOC_SIZE(code);
     }
     return size;
+}
+
+/* What the process is to be told stands behind what the thread is. */
+static void take_cleared(struct thread *thread)
+{
+    struct cleared *cleared = &thread->process->cleared;
+    struct {
+        uint32_t code;
+        binder_uintptr_t cookie;
+    } __attribute__((packed)) done = {.code = BR_CLEAR_DEATH_NOTIFICATION_DONE};
+    uint32_t taken = 0;
+    if (!reads_for_process(thread))
+        return;
+    for (; taken < cleared->count && thread->pending_size + RETURN_ROOM <= thread->room - sizeof(uint32_t); taken++) {
+        done.cookie = cleared->cookies[taken];
+        append(thread, (const uint8_t *)&done, sizeof done);
+    }
+    if (!taken)
+        return;
+    cleared->count -= taken;
+    memmove(cleared->cookies, cleared->cookies + taken, cleared->count * sizeof *cleared->cookies);
 }
 
 /* What fits is handed over, behind BR_NOOP. The doorbells of the process, some of whose work this may have been, are
@@ -128,6 +166,7 @@ void returns_deliver(struct thread *thread)
     uint8_t returns[PAGE_RETURNS];
     uint32_t first = BR_NOOP, size = 0;
     if (thread->room >= sizeof first) {
+        take_cleared(thread);
         size = fitting(thread, thread->room - sizeof first);
         first = wants_looper(thread) ? BR_SPAWN_LOOPER : BR_NOOP;
         memcpy(returns, &first, sizeof first);
@@ -136,9 +175,23 @@ void returns_deliver(struct thread *thread)
         memmove(thread->pending, thread->pending + size, thread->pending_size);
         size += sizeof first;
     }
-    thread->is_prompt = thread->pending_size > 0;
-    thread->is_waiting = false;
+    bool has_more = thread->has_no_room || (thread->calling && hullpippin_live_ready(&thread->process->engine->live, thread->seat));
+    thread->is_prompt = thread->pending_size || (thread->is_prompt && has_more);
+    thread->is_waiting = thread->has_no_room = false;
     settle_watch(thread);
     settle_doorbells(thread->process);
     page_answer(thread, returns, size);
+}
+
+void returns_clear(struct process *process, binder_uintptr_t cookie)
+{
+    process->cleared.cookies[process->cleared.count++] = cookie;
+    for (struct list *entry = process->threads.next; entry != &process->threads; entry = entry->next) {
+        struct thread *thread = container_of(entry, struct thread, in_process);
+        if (thread->is_waiting && reads_for_process(thread)) {
+            returns_deliver(thread);
+            return;
+        }
+    }
+    settle_doorbells(process);
 }

@@ -12,7 +12,7 @@
 #include <sys/resource.h>
 #include <unistd.h>
 
-/* Descriptors that aren't shared out: the daemon's own, and those of parcels on their way. */
+/* Descriptors that aren't shared out: the daemon's own, and those that a request has just brought. */
 #define OWN_DESCRIPTORS 512u
 
 /* A process may have so many threads in any case that there is a seat for each. */

@@ -151,7 +151,8 @@ struct landing *thread_landing(struct thread *thread)
     if (!thread->landing)
         thread->landing = calloc(1, sizeof *thread->landing);
     if (thread->landing) {
-        descriptors_close(thread->landing->fds, thread->landing->count);
+        ticket_free(thread->landing->ticket);
+        thread->landing->ticket = NULL;
         thread->landing->count = 0;
     }
     return thread->landing;
@@ -159,10 +160,8 @@ struct landing *thread_landing(struct thread *thread)
 
 void thread_end(struct thread *thread)
 {
-    if (!thread->process->is_ending) {
-        drain_thread(thread);
+    if (!thread->process->is_ending)
         seat_return(thread);
-    }
     thread_free(thread);
 }
 
@@ -185,7 +184,7 @@ void thread_free(struct thread *thread)
     seat_forget(thread);
     doorbell_free(thread);
     if (thread->landing)
-        descriptors_close(thread->landing->fds, thread->landing->count);
+        ticket_free(thread->landing->ticket);
     free(thread->landing);
     loop_drop(loop, &thread->link);
     loop_drop(loop, &thread->bell);

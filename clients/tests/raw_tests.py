@@ -40,7 +40,7 @@ def plays(name, *words, title=None):
         return f"{told}; lawful, {stage.entries} steps"
 
 
-for name in ("nested", "oneway", "deaths", "parcels", "pool", "two_opens", "refusals", "files", "seats", "leftovers", "cancelled", "lives", "pointers", "namespaces"):
+for name in ("nested", "oneway", "deaths", "parcels", "pool", "two_opens", "refusals", "files", "seats", "leftovers", "cancelled", "lives", "pointers", "namespaces", "buffers", "places", "ways"):
     plays(name)
 plays("descriptors", "10000")
 plays("arrays", "1000")
@@ -256,6 +256,20 @@ def linger(build):
     """Others needn't wait while a descriptor is closed that a client has left, however long that takes."""
     with Stage(build) as stage:
         return stage.run([build.fuzz("linger")], client=False)
+
+
+@test("raw ghost")
+def ghost(build):
+    """A context manager that is dead is none, whoever has its connection."""
+    with Stage(build, journal="/dev/vndbinder") as stage:
+        return f"{stage.run([build.fuzz('ghost')], client=False)}"
+
+
+@test("raw residue")
+def residue(build):
+    """What lies about in a client's page comes into nobody's window with a parcel that it isn't part of."""
+    with Stage(build, journal="/dev/vndbinder") as stage:
+        return f"{stage.run([build.fuzz('residue')], client=False)}"
 
 
 @test("raw fuzz of managers")

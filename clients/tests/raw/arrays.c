@@ -2,7 +2,8 @@
  * arrays [TIMES]: two descriptors of an FDA object, and one of an FD object, go to the server, which sends them back, as often
  * as asked. Those of the FDA object are open until their receiver gives the buffer back, and closed then, by their numbers:
  * also where that is written along with the reply that sends them on, and with a read that waits. The other is the receiver's
- * own. What came with a buffer that is never given back goes with the file, but not by a child that closes its parent's.
+ * own. What came with a buffer that is never given back goes with the file, but not by a child that closes its parent's. (That last
+ * is the library's: Linux's driver leaves them open then.)
  */
 #include "raw.h"
 
@@ -23,8 +24,10 @@ struct three {
     int alone;
 };
 
+/* Nothing can be put into a buffer whose object stands at the very front. */
 static void write_three(struct writer *writer, const struct three *three)
 {
+    write_number(writer, 3);
     int buffer = write_buffer(writer, three->array, sizeof three->array, -1, 0);
     write_descriptors(writer, 2, buffer, 0);
     write_descriptor(writer, three->alone);
@@ -33,14 +36,15 @@ static void write_three(struct writer *writer, const struct three *three)
 static struct three received(const struct binder_transaction_data *record)
 {
     struct {
+        uint32_t count;
         struct binder_buffer_object buffer;
         struct binder_fd_array_object array;
         struct binder_fd_object alone;
-    } parcel;
+    } __attribute__((packed)) parcel;
     struct three three;
     CHECK(record->data_size == sizeof parcel, "%llu bytes in place of descriptors", (unsigned long long)record->data_size);
     memcpy(&parcel, raw_data(record), sizeof parcel);
-    CHECK(parcel.array.hdr.type == BINDER_TYPE_FDA && parcel.array.num_fds == 2, "no two descriptors in an array");
+    CHECK(parcel.array.hdr.type == BINDER_TYPE_FDA && parcel.count == 3 && parcel.array.num_fds == 2, "no two descriptors in an array");
     memcpy(three.array, (const void *)(uintptr_t)parcel.buffer.buffer, sizeof three.array);
     three.alone = (int)parcel.alone.fd;
     return three;

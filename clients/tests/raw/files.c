@@ -83,12 +83,14 @@ static void waits(struct client *client)
     }
 }
 
+/* A return is handed over where 76 bytes are left behind BR_NOOP, however short it is. */
 static void fits(struct client *client)
 {
-    uint32_t returns[4] = {0};
+    uint32_t returns[20] = {0};
     leave_unread(client);
     CHECK(read_into(client->binder.fd, returns, 6) == 4 && returns[0] == BR_NOOP, "6 bytes of room got more than BR_NOOP");
-    CHECK(read_into(client->binder.fd, returns, 8) == 8 && returns[1] == BR_TRANSACTION_COMPLETE, "8 bytes of room got no completion");
+    CHECK(read_into(client->binder.fd, returns, 79) == 4 && returns[0] == BR_NOOP, "79 bytes of room got more than BR_NOOP");
+    CHECK(read_into(client->binder.fd, returns, 80) == 8 && returns[1] == BR_TRANSACTION_COMPLETE, "80 bytes of room got no completion");
 }
 
 static void works(struct client *client)
@@ -140,7 +142,7 @@ static void is_woken(struct client *client)
     works(client);
 }
 
-/* In a child: its parent's file is none, but it may have its own. */
+/* In a child: its parent's file is none, but it may have its own. (Linux's driver lets a child use its parent's.) */
 static void be_a_child(void *with)
 {
     struct client *parents = with, own;

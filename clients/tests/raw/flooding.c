@@ -1,6 +1,7 @@
 /*
  * flooding asked|unasked: who has asked for it is told when its one-way calls take more than a quarter of a window, of each
- * call as long as they do. Who hasn't asked, or does no longer, is told of nothing.
+ * call as long as they do. Who hasn't asked, or does no longer, is told of nothing. (That is the rule of this project. Linux's driver
+ * tells once, and only where less than a tenth of the window is left for one-way calls.)
  */
 #include "raw.h"
 

@@ -1,6 +1,6 @@
 /*
  * parcels: of many sizes, there and back the same, also where they are larger than the page by which small ones go;
- * one past the receiver's window is refused, and harms none that comes after it.
+ * one past the receiver's window is refused, and harms none that comes after it. Their flags come as they were written.
  */
 #include "raw.h"
 
@@ -8,8 +8,19 @@
 #include <stdlib.h>
 #include <string.h>
 
+/* All but the two that ask for something: that the call is one-way, and another update of one. */
+#define ALL_FLAGS (UINT32_MAX & ~(uint32_t)TF_ONE_WAY & ~0x40u)
+
+enum { ECHO = 0, FLAGS = 1 };
+
 static void echo(struct looper *looper, const struct binder_transaction_data *call)
 {
+    struct binder_transaction_data empty = {.flags = ALL_FLAGS};
+    if (call->code == FLAGS) {
+        CHECK(call->flags == ALL_FLAGS, "the flags %x have come as %x", ALL_FLAGS, call->flags);
+        CHECK(looper_answer(looper, &empty, 0), "can't answer");
+        return;
+    }
     raw_answer(looper, raw_data(call), call->data_size);
 }
 
@@ -65,6 +76,14 @@ static void past_the_callers_window(void)
     free(bytes);
 }
 
+static void flags_cross(struct client *client)
+{
+    struct binder_transaction_data reply;
+    CHECK(raw_call(&client->looper, (struct call){.code = FLAGS, .flags = ALL_FLAGS}, &reply) == BR_REPLY, "the flags weren't taken");
+    CHECK(reply.flags == ALL_FLAGS, "the flags %x have come back as %x", ALL_FLAGS, reply.flags);
+    looper_free(&client->looper, &reply);
+}
+
 int main(void)
 {
     static const size_t sizes[] = {0, 1, 3, 4, 100, 4095, 4096, 32768, 65535, 65536, 65537, 100000, 600000, 1000000};
@@ -83,6 +102,7 @@ int main(void)
     }
     past_the_callers_window();
     there_and_back(&client, 600000);
+    flags_cross(&client);
     printf("up to 1000000 bytes, and none past a window\n");
     raw_kill(manager);
     return 0;

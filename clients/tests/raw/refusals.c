@@ -51,7 +51,8 @@ static void refuses_streams(struct client *client)
     works(client);
 }
 
-/* What there is of a command that is cut short looks like another one, whose parcel isn't there. The command before is run. */
+/* What there is of a command that is cut short looks like another one, whose parcel isn't there. The command before is run. (Linux's driver
+   takes the rest from whatever memory follows the write.) */
 static void refuses_cut_streams(struct client *client)
 {
     const struct {

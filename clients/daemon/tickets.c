@@ -1,0 +1,96 @@
+/*
+ * tickets.c: what goes with a parcel beside the engine: its descriptors, until it is read. A ticket is named by the step
+ * that sends the parcel, which the parcel's trailer tells who reads it. It ends when the parcel is read, or with its
+ * buffer, of which the engine tells: so nothing stays here that nobody can fetch.
+ *
+ * A descriptor on its way counts in the share of who has sent it (shares.c), also when that one has ended. Where that is used up the
+ * next parcel is refused, and nobody else notices.
+ */
+#include "daemon.h"
+
+#include <stdlib.h>
+#include <string.h>
+
+/* As many buffers as a window has room for: none takes less than 8 bytes. */
+#define ENDED_MOST (WINDOW_MAX / 8)
+
+bool tickets_begin(struct tickets *tickets)
+{
+    for (size_t i = 0; i < TICKET_LISTS; i++)
+        list_begin(&tickets->lists[i]);
+    tickets->ended = malloc(ENDED_MOST * sizeof *tickets->ended);
+    return tickets->ended != NULL;
+}
+
+static struct list *list_of(struct tickets *tickets, uint32_t step)
+{
+    return &tickets->lists[step % TICKET_LISTS];
+}
+
+struct ticket *ticket_new(struct process *process, const int *fds, uint32_t count)
+{
+    struct ticket *ticket = malloc(sizeof *ticket + count * sizeof *fds);
+    if (!ticket)
+        return NULL;
+    *ticket = (struct ticket){.account = account_hold(process->euid, process->pid), .step = hullpippin_live_len(&process->engine->live)};
+    list_begin(&ticket->in_list);
+    if (!ticket->account) {
+        free(ticket);
+        return NULL;
+    }
+    if (!account_take(ticket->account, SHARED_DESCRIPTORS, count)) {
+        log_event("process %d has its share of descriptors, and can't send %u more", process->pid, count);
+        ticket_free(ticket);
+        return NULL;
+    }
+    ticket->count = count;
+    memcpy(ticket->fds, fds, count * sizeof *fds);
+    return ticket;
+}
+
+void ticket_free(struct ticket *ticket)
+{
+    if (!ticket)
+        return;
+    descriptors_close(ticket->fds, ticket->count);
+    account_give(ticket->account, SHARED_DESCRIPTORS, ticket->count);
+    account_release(ticket->account);
+    free(ticket);
+}
+
+void ticket_keep(struct tickets *tickets, struct ticket *ticket)
+{
+    list_append(list_of(tickets, ticket->step), &ticket->in_list);
+    tickets->count++;
+}
+
+struct ticket *ticket_take(struct tickets *tickets, uint32_t step)
+{
+    struct list *list = list_of(tickets, step);
+    for (struct list *entry = list->next; entry != list; entry = entry->next) {
+        struct ticket *ticket = container_of(entry, struct ticket, in_list);
+        if (ticket->step == step) {
+            list_remove(&ticket->in_list);
+            tickets->count--;
+            return ticket;
+        }
+    }
+    return NULL;
+}
+
+void tickets_see_ended(struct tickets *tickets, hullpippin_live *live)
+{
+    if (!tickets->count)
+        return;
+    size_t count = hullpippin_live_ended(live, tickets->ended, ENDED_MOST);
+    for (size_t i = 0; i < count && tickets->count; i++)
+        ticket_free(ticket_take(tickets, tickets->ended[i]));
+}
+
+void tickets_end(struct tickets *tickets)
+{
+    for (size_t i = 0; i < TICKET_LISTS && tickets->count; i++)
+        while (!list_is_empty(&tickets->lists[i]))
+            ticket_free(ticket_take(tickets, container_of(tickets->lists[i].next, struct ticket, in_list)->step));
+    free(tickets->ended);
+}

@@ -1,0 +1,86 @@
+/*
+ * ghost: a context manager's connection is sent to the manager itself, which never reads the parcel, and is killed. So the daemon has
+ * the other end of what it waits for. The manager goes all the same, and another can be it.
+ */
+#include "../raw/raw.h"
+#include "hostile.h"
+
+#include <stdio.h>
+#include <string.h>
+#include <sys/socket.h>
+#include <unistd.h>
+
+#define DEVICE "/dev/vndbinder"
+#define SECONDS 2
+
+static bool becomes_manager(struct hostile *hostile)
+{
+    hostile->page->request = (struct page_request){.op = PAGE_SET_MANAGER};
+    bool is_answered = hostile_ask(hostile, 900);
+    for (int i = 0; i < 5000 && !is_answered; i++, usleep(1000)) /* a busy daemon takes its time */
+        is_answered = atomic_load(&hostile->page->state) == PAGE_ANSWERED;
+    return is_answered && !hostile->page->answer.error;
+}
+
+static void give(int socket, int descriptor)
+{
+    uint32_t count = 1;
+    union {
+        struct cmsghdr header;
+        char room[CMSG_SPACE(sizeof descriptor)];
+    } control = {.header = {CMSG_LEN(sizeof descriptor), SOL_SOCKET, SCM_RIGHTS}};
+    struct iovec part = {&count, sizeof count};
+    struct msghdr message = {.msg_iov = &part, .msg_iovlen = 1, .msg_control = &control, .msg_controllen = sizeof control};
+    memcpy(CMSG_DATA(&control.header), &descriptor, sizeof descriptor);
+    CHECK(sendmsg(socket, &message, MSG_NOSIGNAL) == sizeof count, "can't send a descriptor");
+}
+
+/* In a child, which has its parent's connection. */
+static void send_connection(void *with)
+{
+    const struct hostile *parents = with;
+    const struct binder_fd_object object = {.hdr.type = BINDER_TYPE_FD};
+    const uint64_t offset = 0;
+    struct hostile sender;
+    struct __attribute__((packed)) {
+        uint32_t code;
+        struct binder_transaction_data record;
+    } call = {BC_TRANSACTION, {.flags = TF_ONE_WAY, .data_size = sizeof object, .offsets_size = sizeof offset,
+                               .data.ptr.offsets = sizeof object}};
+    CHECK(hostile_begin(&sender, DEVICE), "no daemon");
+    memcpy(sender.page->area, &object, sizeof object);
+    memcpy(sender.page->area + sizeof object, &offset, sizeof offset);
+    give(sender.link, parents->control);
+    bool is_answered = hostile_write(&sender, &call, sizeof call, 256, 1);
+    for (int i = 0; i < 5000 && !is_answered; i++, usleep(1000))
+        is_answered = atomic_load(&sender.page->state) == PAGE_ANSWERED;
+    uint32_t told;
+    memcpy(&told, sender.page->returns + sizeof told, sizeof told);
+    CHECK(is_answered && told == BR_TRANSACTION_COMPLETE, "the connection wasn't taken: %x", told);
+    raw_ready();
+}
+
+static void manage(void *with)
+{
+    struct hostile hostile;
+    (void)with;
+    CHECK(hostile_begin(&hostile, DEVICE) && becomes_manager(&hostile), "can't be the context manager");
+    raw_join(raw_start(send_connection, &hostile));
+    raw_ready();
+    pause();
+}
+
+int main(void)
+{
+    struct hostile heir;
+    raw_begin(30);
+    raw_kill(raw_start(manage, NULL));
+    double start = raw_now();
+    CHECK(hostile_begin(&heir, DEVICE), "no daemon");
+    while (!becomes_manager(&heir)) {
+        CHECK(raw_now() - start < SECONDS * 1e6, "the dead one is the context manager still");
+        usleep(1000);
+    }
+    printf("another is the manager\n");
+    return 0;
+}
