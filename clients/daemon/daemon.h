@@ -298,6 +298,7 @@ struct engine {
     struct list looked_at;    /* all threads that are looked at one by one (settle.c) */
     uint32_t resting_count, looked_at_count;
     uint32_t resting_left, looked_at_left; /* how many of these are still to be looked at, from the first on */
+    bool is_learning;         /* nobody was ready before this call, so that who is now is its receiver */
     uint64_t steps, looks;
     uint64_t copied, trimmed; /* bytes of parcels: all, and those after which memory was last given back */
 
@@ -440,6 +441,8 @@ struct process {
     bool callers_are_reached; /* they are to be looked at too */
     bool is_ending;           /* it has no place in the engine any more, and its threads are let go of */
     struct owner *owners;     /* reach.c; NULL: nothing is known yet */
+    uint32_t objects_let_go;  /* how often it has let go of what may have carried objects */
+    uint32_t tries_wait, tries_apart; /* how many calls go by before it is tried again to learn a receiver, and before the one after that */
     pid_t pid;
     uid_t euid;           /* of the opening */
     struct caller caller;
@@ -597,6 +600,8 @@ void returns_clear(struct process *process, binder_uintptr_t cookie);
 
 /* --- reach.c: whom the engine's steps have reached. --- */
 
+/* Where it isn't known who is called, all who are ready are seen to before, so that the receiver can be told from them. */
+void reach_before_call(struct engine *engine, uint32_t seat, const void *command, bool has_objects);
 /* These follow the steps of that name. */
 void reach_after_command(struct engine *engine, uint32_t seat, const void *command);
 void reach_after_call(struct engine *engine, uint32_t seat, const void *command, bool has_objects);
@@ -621,6 +626,8 @@ void settle_end(struct process *process);
 void settle(struct engine *engine, struct thread *acting);
 /* Looks at some of those that all have to be looked at: false where none are left. */
 bool settle_some(struct engine *engine);
+/* The same where a thread is at work. */
+void settle_more(struct engine *engine, const struct thread *acting);
 /* Whether something has come to a process some thread of which waits for that. */
 bool settle_is_ready(struct process *process);
 /* A thread of the process that waits in a read for what comes to the process, and isn't this one; NULL where there is none. */

@@ -25,9 +25,20 @@
 /* More processes than this aren't looked through for a receiver at once. */
 #define MOST_ASKED 4096u
 
+/* So many calls go by at most between two that try in vain. */
+#define MOST_APART 127u
+
+struct call {
+    uint32_t code;
+    struct binder_transaction_data data;
+} __attribute__((packed));
+
+/* A number stays an object's while its process has asked for references, or has a buffer with that object. */
 struct owner {
     uint32_t handle;
-    uint32_t pid; /* that the process has in the engine; 0: none is known here */
+    uint32_t pid;   /* that the owner's process has in the engine; 0: none is known here */
+    uint32_t asked; /* references that the process has asked for and not let go of */
+    uint32_t until; /* where it has asked for none: how often it had let go of buffers with objects when this was found */
 };
 
 void reach_process(struct process *process, bool callers)
@@ -63,28 +74,45 @@ static struct process *find_owner(const struct process *process, uint32_t handle
     struct owner *owner = owner_at(process, handle);
     if (!handle)
         return process->engine->manager;
-    return owner && owner->pid && owner->handle == handle ? process_of(process->engine, owner->pid) : NULL;
+    bool is_known = owner && owner->pid && owner->handle == handle && (owner->asked || owner->until == process->objects_let_go);
+    return is_known ? process_of(process->engine, owner->pid) : NULL;
+}
+
+/* The place of a handle, which another one leaves to it unless references to that were asked for. NULL where there is none. */
+static struct owner *place_for(struct process *process, uint32_t handle)
+{
+    if (!process->owners)
+        process->owners = calloc(OWNERS, sizeof *process->owners);
+    struct owner *owner = owner_at(process, handle);
+    if (!owner || (owner->handle != handle && owner->asked))
+        return NULL;
+    if (owner->handle != handle)
+        *owner = (struct owner){.handle = handle};
+    return owner;
 }
 
 static void keep_owner(struct process *process, uint32_t handle, const struct process *receiver)
 {
-    if (!process->owners)
-        process->owners = calloc(OWNERS, sizeof *process->owners);
-    if (process->owners)
-        *owner_at(process, handle) = (struct owner){handle, receiver->engine_pid};
+    struct owner *owner = place_for(process, handle);
+    if (owner) {
+        owner->pid = receiver->engine_pid;
+        owner->until = process->objects_let_go;
+    }
 }
 
-static void forget_owner(struct process *process, uint32_t handle)
+static void note_asked(struct process *process, uint32_t handle)
+{
+    struct owner *owner = handle ? place_for(process, handle) : NULL;
+    if (owner)
+        owner->asked++;
+}
+
+/* With the last of them the number may go to another object. */
+static void note_let_go(struct process *process, uint32_t handle)
 {
     struct owner *owner = owner_at(process, handle);
-    if (owner && owner->handle == handle)
+    if (owner && owner->handle == handle && (!owner->asked || !--owner->asked))
         owner->pid = 0;
-}
-
-static void forget_owners(struct process *process)
-{
-    if (process->owners)
-        memset(process->owners, 0, OWNERS * sizeof *process->owners);
 }
 
 /* Looks through those that wait for the one that has become ready. */
@@ -99,15 +127,45 @@ static struct process *find_ready(struct engine *engine)
     return NULL;
 }
 
+/* Whether it is tried to learn a receiver. Where that was in vain, as with one that is busy, so many calls more go by. */
+static bool tries(struct process *process)
+{
+    if (process->tries_wait) {
+        process->tries_wait--;
+        return false;
+    }
+    return process->engine->resting_count <= MOST_ASKED;
+}
+
+static struct process *learn_owner(struct process *process, uint32_t handle)
+{
+    struct process *receiver = find_ready(process->engine);
+    if (receiver)
+        keep_owner(process, handle, receiver);
+    process->tries_apart = receiver ? 0 : process->tries_apart < MOST_APART ? 2 * process->tries_apart + 1 : MOST_APART;
+    process->tries_wait = process->tries_apart;
+    return receiver;
+}
+
+void reach_before_call(struct engine *engine, uint32_t seat, const void *command, bool has_objects)
+{
+    struct call call;
+    struct thread *thread = engine->lent[seat];
+    memcpy(&call, command, sizeof call);
+    uint32_t handle = (uint32_t)call.data.target.handle;
+    engine->is_learning = thread && !has_objects && call.code == BC_TRANSACTION && handle && !find_owner(thread->process, handle)
+                          && tries(thread->process);
+    while (engine->is_learning && !all_were_looked_at(engine))
+        settle_more(engine, thread);
+}
+
 static void reach_receiver(struct thread *thread, uint32_t handle)
 {
     struct engine *engine = thread->process->engine;
     struct process *receiver = find_owner(thread->process, handle);
     bool is_known = receiver != NULL, is_nested = thread->serving > 0;
-    if (!is_known && all_were_looked_at(engine) && engine->resting_count <= MOST_ASKED) {
-        receiver = find_ready(engine);
-        if (receiver)
-            keep_owner(thread->process, handle, receiver);
+    if (!is_known && engine->is_learning) {
+        receiver = learn_owner(thread->process, handle);
         is_known = !is_nested; /* else a thread that waits for a reply may have it */
     }
     if (receiver)
@@ -146,19 +204,18 @@ void reach_note_caller(struct thread *thread, const struct process *caller)
 
 void reach_after_call(struct engine *engine, uint32_t seat, const void *command, bool has_objects)
 {
-    struct {
-        uint32_t code;
-        struct binder_transaction_data data;
-    } __attribute__((packed)) call;
+    struct call call;
     struct thread *thread = engine->lent[seat];
     bool is_refused = engine->answer.stop == HULLPIPPIN_AT_CAUSE;
     memcpy(&call, command, sizeof call);
-    if (!thread || has_objects)
+    if (!thread)
         reach_all(engine, true);
     else if (call.code == BC_REPLY)
         reach_caller(thread, is_refused);
     else if (!is_refused)
         reach_receiver(thread, call.data.target.handle);
+    if (has_objects)
+        reach_all(engine, false);
     if (thread)
         reach_process(thread->process, false);
 }
@@ -166,15 +223,20 @@ void reach_after_call(struct engine *engine, uint32_t seat, const void *command,
 /* The handle that a command on references names. */
 static void reach_reference(struct thread *thread, uint32_t code, const uint8_t *payload)
 {
+    struct process *process = thread->process;
     uint32_t handle;
     memcpy(&handle, payload, sizeof handle);
-    struct process *owner = find_owner(thread->process, handle);
+    if (process->engine->answer.notes)
+        return; /* nothing was changed */
+    struct process *owner = find_owner(process, handle);
     if (owner)
         reach_process(owner, false);
     else
-        reach_all(thread->process->engine, false);
+        reach_all(process->engine, false);
     if (code == BC_RELEASE || code == BC_DECREFS)
-        forget_owner(thread->process, handle);
+        note_let_go(process, handle);
+    else
+        note_asked(process, handle);
 }
 
 static void reach_freed(struct thread *thread, const uint8_t *payload)
@@ -183,7 +245,7 @@ static void reach_freed(struct thread *thread, const uint8_t *payload)
     memcpy(&pointer, payload, sizeof pointer);
     if (process_handed(thread->process, pointer - WINDOW_BASE) != HANDED_WITH_OBJECTS)
         return;
-    forget_owners(thread->process);
+    thread->process->objects_let_go++;
     reach_all(thread->process->engine, false);
 }
 
@@ -224,6 +286,6 @@ void reach_after_read(struct engine *engine, uint32_t seat)
 void reach_after_end(struct engine *engine, uint32_t seat)
 {
     if (engine->lent[seat])
-        forget_owners(engine->lent[seat]->process);
+        engine->lent[seat]->process->objects_let_go++;
     reach_all(engine, true);
 }

@@ -8,9 +8,11 @@
  */
 #include "daemon.h"
 
-/* Who waits for a reply is looked for among so many of a process at once, and of those that all have to be looked at these are so many
-   between two turns. */
-#define LOOKS_AT_ONCE 64
+/* Who waits for a reply is looked for among so many of a process at once .. */
+#define LOOKS_AT_CALLERS 64
+
+/* .. and of those that all have to be looked at these are so many in a turn and between two. */
+#define LOOKS_AT_ONCE 16
 
 static bool is_ready(const struct thread *thread)
 {
@@ -159,7 +161,7 @@ static void look_at_callers(struct process *process, const struct thread *acting
         next = entry->next;
         if (thread == acting)
             continue;
-        if (looks++ == LOOKS_AT_ONCE) {
+        if (looks++ == LOOKS_AT_CALLERS) {
             engine->looked_at_left = engine->looked_at_count;
             return;
         }
@@ -227,6 +229,12 @@ static void look_at_some(struct engine *engine, const struct thread *acting)
         engine->looked_at_left = 0;
     if (list_is_empty(&engine->resting))
         engine->resting_left = 0;
+}
+
+void settle_more(struct engine *engine, const struct thread *acting)
+{
+    look_at_reached(engine, acting);
+    look_at_some(engine, acting);
 }
 
 bool settle_some(struct engine *engine)

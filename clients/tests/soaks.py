@@ -11,6 +11,8 @@ SECONDS = 20
 # from this second on the daemon's memory has to be flat
 WARM = 10
 KIB = 256
+# seconds in which the daemon lets go of what those have left who were killed last
+PATIENCE = 10
 SAMPLES = 10
 # malloc gives what isn't used back at once, so that what is measured is used
 GIVES_BACK = {"GLIBC_TUNABLES": "glibc.malloc.trim_threshold=65536:glibc.malloc.mmap_threshold=65536"}
@@ -71,6 +73,16 @@ def is_flat(memory):
     return min(late) <= min(early) + KIB
 
 
+def wait_for_descriptors(stage, before):
+    """Until the daemon has no more than before: how many seconds that took. What the killed have left it closes one after the other,
+    which takes its time beside other work; what stays for longer stays for good."""
+    begin = time.monotonic()
+    while (after := open_files(stage.daemon.pid)) > before:
+        expect(time.monotonic() < begin + PATIENCE, f"the daemon has {after} descriptors after {before}")
+        time.sleep(0.02)
+    return time.monotonic() - begin
+
+
 def soak(build, begin, parts, honest):
     """Begins, and plays parts, each some commands and the longest time of one life; judges memory, descriptors and the journal."""
     with Stage(build, journal=DEVICE, daemon_environment=GIVES_BACK) as stage:
@@ -81,10 +93,9 @@ def soak(build, begin, parts, honest):
         kills = sum(player.kills for player in players)
         expect(build.sanitized or is_flat(memory), f"the daemon's memory by seconds: {memory} KiB")
         expect(kills > SECONDS, f"only {kills} were killed")
-        time.sleep(0.5)
-        after = open_files(stage.daemon.pid)
-        expect(after <= before, f"the daemon has {after} descriptors after {before}")
-    return f"{kills} killed in {SECONDS} s; KiB of memory from second {WARM} on: {memory[WARM - 1:SECONDS]}; lawful, {stage.entries} steps"
+        took = wait_for_descriptors(stage, before)
+    return f"{kills} killed in {SECONDS} s; KiB of memory from second {WARM} on: {memory[WARM - 1:SECONDS]}; descriptors were back after {took:.1f} s; \
+lawful, {stage.entries} steps"
 
 
 def raw_parts(stage):

@@ -1,7 +1,7 @@
 /*
- * services [COUNT]: registers so many services with a context manager that speaks AIDL and runs already, finds and
- * lists them all, and calls one. A call and a look-up take no longer with all of them than with one. When their owner
- * dies all are gone.
+ * services [COUNT]: registers so many services, each of a process of its own, with a context manager that speaks AIDL and runs
+ * already, finds and lists them all, and calls one. A call takes no longer with all of them than with one; a look-up, whose reply
+ * carries an object, not many times as long. When their owners die all are gone.
  */
 #include "raw.h"
 
@@ -14,6 +14,7 @@ enum { CHECK_SERVICE = 2, ADD_SERVICE = 3, LIST_SERVICES = 4 };
 
 #define NAME_ROOM 64
 #define ROUNDS 3000
+#define MOST 1000u
 
 static void write_ascii(struct writer *writer, const char *text)
 {
@@ -57,19 +58,22 @@ static void tell_number(struct looper *looper, const struct binder_transaction_d
     raw_answer(looper, &number, sizeof number);
 }
 
-struct range {
-    uint32_t from, to;
-};
-
 static void own(void *with)
 {
-    struct range *range = with;
     struct client client;
     raw_open(&client, WINDOW, tell_number);
-    for (uint32_t i = range->from; i < range->to; i++)
-        add(&client, i);
+    add(&client, *(uint32_t *)with);
     raw_ready();
     looper_run(&client.looper);
+}
+
+/* A process for each service. */
+static pid_t owners[MOST];
+
+static void start_owners(uint32_t from, uint32_t to)
+{
+    for (uint32_t i = from; i < to; i++)
+        owners[i] = raw_start(own, &i);
 }
 
 /* The handle of a service, 0 where there is none. */
@@ -121,7 +125,9 @@ static struct cost measure(struct client *client, uint32_t number, uint32_t hand
         double start = raw_now();
         CHECK(raw_ask(&client->looper, (struct call){.handle = handle}) == number, "another service was called");
         calls[i] = raw_now() - start;
-        start = raw_now();
+    }
+    for (size_t i = 0; i < ROUNDS; i++) {
+        double start = raw_now();
         let_go(client, find(client, number));
         finds[i] = raw_now() - start;
     }
@@ -140,10 +146,12 @@ static void all_are_there(struct client *client, uint32_t many)
     CHECK(!find(client, many), "there is a service that nobody added");
 }
 
-static void all_go(struct client *client, pid_t owner, uint32_t left)
+/* The last of them die. */
+static void all_go(struct client *client, uint32_t many, uint32_t left)
 {
     uint32_t there = left + 1;
-    raw_kill(owner);
+    for (uint32_t i = left; i < many; i++)
+        raw_kill(owners[i]);
     for (int turn = 0; turn < 1000 && there != left; turn++, usleep(1000))
         there = count(client);
     CHECK(there == left, "%u services are left after a death, in place of %u", there, left);
@@ -153,18 +161,18 @@ int main(int argc, char **argv)
 {
     uint32_t many = argc > 1 ? (uint32_t)atoi(argv[1]) : 300;
     struct client client;
-    struct range first = {0, 1}, others = {1, many};
+    CHECK(many && many <= MOST, "%u services", many);
     raw_begin(60);
-    pid_t alone = raw_start(own, &first);
+    start_owners(0, 1);
     raw_open(&client, WINDOW, NULL);
     uint32_t handle = find(&client, 0);
     CHECK(handle, "the first service isn't there");
     struct cost before = measure(&client, 0, handle);
-    pid_t crowd = raw_start(own, &others);
+    start_owners(1, many);
     all_are_there(&client, many);
     struct cost after = measure(&client, 0, handle);
     printf("call %.1f then %.1f find %.1f then %.1f with %u services\n", before.call, after.call, before.find, after.find, many);
-    all_go(&client, crowd, 1);
-    all_go(&client, alone, 0);
+    all_go(&client, many, 1);
+    all_go(&client, 1, 0);
     return 0;
 }
