@@ -6,13 +6,15 @@ a request of one word.
 import re
 import struct
 
-from wire import Record, command, padded
+from wire import OTHER_OBJECTS, REFUSED, Record, Unreadable, command, padded, read_command
 
 WRITES = {"enter": "BC_ENTER_LOOPER", "exitloop": "BC_EXIT_LOOPER", "free": "BC_FREE_BUFFER", "increfs": "BC_INCREFS",
           "acquire": "BC_ACQUIRE", "release": "BC_RELEASE", "decrefs": "BC_DECREFS", "increfsdone": "BC_INCREFS_DONE",
           "acquiredone": "BC_ACQUIRE_DONE", "askdeath": "BC_REQUEST_DEATH_NOTIFICATION",
           "cleardeath": "BC_CLEAR_DEATH_NOTIFICATION", "deaddone": "BC_DEAD_BINDER_DONE"}
 VERBS = {"manager": "set_manager", "spam": "set_spam", "exitthread": "exit_thread", "exitprocess": "exit_process"}
+# refused by the rules, but not by the driver
+DRIVERS_OWN = {struct.pack("<I", REFUSED[name]) for name in ("BC_REGISTER_LOOPER", "BC_TRANSACTION_SG", "BC_REPLY_SG")}
 ENGINES_OWN = ("look", "await", "post", "serve", "collect", "withdraw")
 
 
@@ -47,6 +49,22 @@ def request_of(words):
     return VERBS.get(verb, verb), *map(int, rest)
 
 
+def is_common(request):
+    """Whether a request means to the driver what it does to the rules: what these leave out, it may well take."""
+    if request[0] != "write":
+        return request[0] != "engine"
+    _, stream, area = request
+    words = {area[at:at + 4] for at in range(0, len(area), 4)}
+    if words & {struct.pack("<I", it) for it in OTHER_OBJECTS}:
+        return False
+    while stream[:4] not in DRIVERS_OWN:
+        try:
+            stream = stream[read_command(stream)[2]:]
+        except Unreadable:
+            return True
+    return False
+
+
 class Script:
     """Its number of seats, and its lines: their numbers, seats, requests and words."""
 
@@ -58,15 +76,15 @@ class Script:
                 continue
             if words[0] == "seats":
                 self.seats = int(words[1])
-            else:
+            elif words[1] != "look":  # which changes nothing
                 self.lines.append((number, int(words[0]), request_of(words[1:]), re.sub(" +", " ", line)))
 
     def waits(self):
         return any(request[0] == "wait" for _, _, request, _ in self.lines)
 
     def is_playable(self):
-        """Whether a real program can play it: all but what belongs to the engine's own driver."""
-        return not any(request[0] == "engine" for _, _, request, _ in self.lines)
+        """Whether a real program can play it on Linux's driver."""
+        return all(is_common(request) for _, _, request, _ in self.lines)
 
 
 def printed(answer, begin, end):
