@@ -138,3 +138,7 @@ final_record seats states e count given h parts lawful =
 
     engine_is : {x y : History} → Home x ≡ Home y → x ≡ y
     engine_is {x} {y} p = ap (engine_in x) p
+
+-- no entry is a history
+pub no_history : (seats : ℕ) (entries : List Entry) → entries ≡ [] → IsHistory (history_of seats entries)
+no_history seats entries is = subst (λ l. IsHistory (history_of seats l)) (sym is) (record { short = omega arith; seats = refl; follows = tt })

@@ -12,10 +12,9 @@ use Rattle.bd_driver.specs.declared.view.View.{View}
 use Rattle.bd_driver.specs.declared.view.Handover.{Handover}
 use Rattle.bd_driver.specs.declared.view.Handover.TheVariants.{Open}
 use Rattle.bd_driver.specs.declared.outcome.Why.{Why}
-use Rattle.bd_driver.specs.declared.outcome.Why.TheVariants.{Taken, NoMemory, HistoryFull, Withdrawn}
 use Rattle.bd_driver.specs.declared.outcome.Outcome.{Outcome}
 use Rattle.bd_driver.specs.declared.outcome.Outcome.TheVariants.{Done, Back, Handed}
-use Rattle.bd_driver.specs.Mailboxes.{Mailbox, shut, empty, posted, picked, answered, RunAt, IsReason, IsTold, MailboxFits}
+use Rattle.bd_driver.specs.Mailboxes.{Mailbox, shut, empty, posted, picked, answered, RunAt, HadReason, IsTold, MailboxFits}
 use Rattle.bd_driver.proofs.Places.{others_stay}
 use Rattle.bd_driver.proofs.Views.{starts_longer}
 
@@ -35,15 +34,12 @@ run_longer seats entries run who r n answer start end h = record {
 pub longer : (entries run : List Entry) (n : ℕ) → n ≤ length entries → n ≤ length (entries ++ run)
 longer entries run n h = let a = length-append entries run in omega arith
 
-reason_longer : (seats : ℕ) (entries run : List Entry) (who : ℕ) (r : Request) (why : Why) → IsReason seats entries who r why → IsReason seats (entries ++ run) who r why
-reason_longer seats entries run who r Taken h = h
-reason_longer seats entries run who r NoMemory h = (h.0, starts_longer entries run h.0 h.1, h.2, h.3)
-reason_longer seats entries run who r HistoryFull h = (h.0, starts_longer entries run h.0 h.1, h.2, h.3)
-reason_longer seats entries run who r Withdrawn h = h
+reason_longer : (seats : ℕ) (entries run : List Entry) (who : ℕ) (r : Request) (n : ℕ) (why : Why) → HadReason seats entries who r n why → HadReason seats (entries ++ run) who r n why
+reason_longer seats entries run who r n why h = (h.0, starts_longer entries run h.0 h.1, h.2, h.3)
 
 told_longer : (seats : ℕ) (entries run : List Entry) (who : ℕ) (r : Request) (n : ℕ) (o : Outcome) → IsTold seats entries who r n o → IsTold seats (entries ++ run) who r n o
 told_longer seats entries run who r n (Done answer start end) h = run_longer seats entries run who r n answer start end h
-told_longer seats entries run who r n (Back back why) h = (h.0, reason_longer seats entries run who r why h.1)
+told_longer seats entries run who r n (Back back why) h = (h.0, reason_longer seats entries run who r n why h.1)
 told_longer seats entries run who r n Handed h = h
 
 pub fits_longer : (seats : ℕ) (entries run : List Entry) (who : ℕ) (h : Handover) (b : Mailbox) → MailboxFits seats entries who h b → MailboxFits seats (entries ++ run) who h b

@@ -23,7 +23,7 @@ use Rattle.bd_driver.specs.declared.view.Pick.TheVariants.{Nothing, Picked}
 use Rattle.bd_driver.specs.declared.slot.Slot.{Slot}
 use Rattle.bd_driver.specs.declared.slot.Slot.TheVariants.{Home, Answered, Empty}
 use Rattle.bd_driver.specs.declared.outcome.Outcome.{Outcome}
-use Rattle.bd_driver.specs.Mailboxes.{RunAt, IsReason, IsTold, answer_places}
+use Rattle.bd_driver.specs.Mailboxes.{RunAt, HadReason, IsReason, IsTold, answer_places}
 use Rattle.bd_driver.specs.Steps.{Hands, entries_in, picked_as, with_places, served_at, served, letter_to, answered_at, answered_as}
 use Rattle.std.specs.Prelude.{slice_set, MatchBool, if◌then◌else◌, Result, Ok, Err, MatchResult, IfOk, IfErr, OnErr}
 use Rattle.bd_driver.specs.declared.view.Tally.{Tally}
@@ -106,8 +106,8 @@ module _ (m : Hands) (i : ℕ) (r : Request) (e0 : History) (p : IsPicked m i r 
   }
 
   reason_is : (why : Refused) → FullOnly why (IsAtLimit e0 i r) → MemoryOnly why (HasPlace e0) → HasEntry e0 i r → IsReason v.seats v.seen i r (reason_of why)
-  reason_is Memory full place some = (v.seen, starts_all v.seen, subst HasPlace p.stands place, subst (λ z. HasEntry z i r) p.stands some)
-  reason_is Full full place some = (v.seen, starts_all v.seen, subst (λ z. IsAtLimit z i r) p.stands full, subst (λ z. HasEntry z i r) p.stands some)
+  reason_is Memory full place some = (subst HasPlace p.stands place, subst (λ z. HasEntry z i r) p.stands some)
+  reason_is Full full place some = (subst (λ z. IsAtLimit z i r) p.stands full, subst (λ z. HasEntry z i r) p.stands some)
 
   -- what came of it, and what is then published
   pub runs_as : (e1 : History) (ran : Result HasRan Refused) (o : Outcome) → MatchResult ran (λ x. o ≡ Done x.answer x.from x.to) (λ why. o ≡ Back r (reason_of why)) → IfOk ran (λ x. HasRun e0 e1 i r x.answer x.from x.to)
@@ -145,7 +145,7 @@ module _ (m : Hands) (i : ℕ) (r : Request) (e0 : History) (p : IsPicked m i r 
       go (Err why) is h same full place some =
           let entries : e1.entries ≡ v.seen = ap (λ (e : History). e.entries) same ∙ entries_are in
           let none_more : length e1.entries - length v.seen ≡ 0 = let a = ap (length {A = Entry}) entries in omega arith in
-          subst (AnswersPick (served_at v n e1.entries) i) (sym is) (answers_pick e1 (Back r (reason_of why)) n (refl, subst (λ l. IsReason v.seats l i r (reason_of why)) (sym entries) (reason_is why full place some))
+          subst (AnswersPick (served_at v n e1.entries) i) (sym is) (answers_pick e1 (Back r (reason_of why)) n (refl, subst (λ l. HadReason v.seats l i r p.since (reason_of why)) (sym entries) (v.seen, starts_all v.seen, p.early, reason_is why full place some))
           (ap (places (length v.seen)) none_more))
 
   -- the whole of it, once answered

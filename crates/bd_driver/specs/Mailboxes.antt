@@ -77,18 +77,21 @@ pub record RunAt (seats : ℕ) (entries : List Entry) (who : ℕ) (r : Request) 
   pub by_seat : AllBy who run
   pub is_run : IsRun (history_of seats before) who r run answer
 
--- For what reason a posted request may come back. Both are said of a beginning of the entries after which the request's
--- run would have an entry: memory is wanting only where one more has a place there, and the history full only at its
--- limit.
+-- For what reason a request that was picked comes back, of just the history at hand, after which its run would have an
+-- entry: memory is wanting only where one more has a place there, and the history full only at its limit.
 abbrev pub IsReason : ℕ → List Entry → ℕ → Request → Why → Type 0
 IsReason seats entries who r Taken = ⊥
-IsReason seats entries who r NoMemory = (before : List Entry) × BeginsWith entries before × HasPlace (history_of seats before) × HasEntry (history_of seats before) who r
-IsReason seats entries who r HistoryFull = (before : List Entry) × BeginsWith entries before × IsAtLimit (history_of seats before) who r × HasEntry (history_of seats before) who r
+IsReason seats entries who r NoMemory = HasPlace (history_of seats entries) × HasEntry (history_of seats entries) who r
+IsReason seats entries who r HistoryFull = IsAtLimit (history_of seats entries) who r × HasEntry (history_of seats entries) who r
 IsReason seats entries who r Withdrawn = ⊥
+
+-- so it was of a beginning of the entries that isn't shorter than n
+abbrev pub HadReason : ℕ → List Entry → ℕ → Request → ℕ → Why → Type 0
+HadReason seats entries who r n why = (before : List Entry) × BeginsWith entries before × (n ≤ length before) × IsReason seats before who r why
 
 abbrev pub IsTold : ℕ → List Entry → ℕ → Request → ℕ → Outcome → Type 0
 IsTold seats entries who r n (Done answer start end) = RunAt seats entries who r n answer start end
-IsTold seats entries who r n (Back back why) = (back ≡ r) × IsReason seats entries who r why
+IsTold seats entries who r n (Back back why) = (back ≡ r) × HadReason seats entries who r n why
 IsTold seats entries who r n Handed = ⊥
 
 -- how a mailbox ties what its seat has handed over to the entries

@@ -55,14 +55,17 @@ impl Model for Driver {
 }
 
 impl Driver {
+    ghost use Rattle.bd_space.specs.Histories.{IsHistory, history_in};
     ghost use Rattle.bd_driver.specs.Together.{AllSeats, IsFinal};
 
     /// The history, where all seats are there, in any order: it begins with what each seat has seen, and a seat's
     /// entries are exactly its own places. A seat that still waits may have beside these the entries of one run of what
-    /// it handed over (`history`). With fewer seats the call is only safe and total. Takes no memory.
+    /// it handed over (`history`). With fewer seats it is a history still (`lawful`), of which nothing more is said. Takes
+    /// no memory.
     pub fn finish(self, seats: Vec<Seat>) -> Record
         requires { All (λ s. s.table ≡ self.table) seats.items }
         ensures history { AllSeats self.seats seats.items → IsFinal self.seats seats.items result.seats result.entries }
+        ensures lawful { IsHistory (history_in result) }
     {
         let Driver { table, alloc } = self;
         let (_, mut keeper) = table.shared.load_new_seat::<Enter>(0);

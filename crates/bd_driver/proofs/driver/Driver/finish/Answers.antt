@@ -1,8 +1,8 @@
-use Rattle.std.proofs.Common.{[], rules, ap}
+use Rattle.std.proofs.Common.{◌≡◌, [], rules, ap}
 use Rattle.bd_driver.specs.States.{DriverState}
 use Rattle.bd_driver.specs.Steps.{Hands}
 use Rattle.bd_driver.proofs.Deals.{enters}
-use Rattle.bd_driver.proofs.Ends.{ends_at, final_record}
+use Rattle.bd_driver.proofs.Ends.{ends_at, final_record, no_history}
 use Rattle.bd_driver.proofs.driver.Driver.finish.Goals as goal
 
 pub load_new_seat-keeper-requires : goal.load_new_seat-keeper-requires
@@ -15,6 +15,7 @@ returns-in-Home c = record {
       let vs = ap (λ (m : Hands). m.0) c.gather.ensures.keeper.1 in
       let h = ends_at _ _ _ _ c.args.seats.items _ _ _ key vs c.close_with-closed.ensures.values.2 c.in-Home.ensures.value c.gather.ensures.idle all in
       final_record c.args.self.seats c.args.seats.items c.in-Home.engine _ _ h (c.into_record.ensures.seats, c.into_record.ensures.entries) c.into_record.ensures.lawful;
+  lawful = c.into_record.ensures.lawful;
 }
 
 pub returns : goal.returns
@@ -24,4 +25,5 @@ returns c = record {
       let vs = ap (λ (m : Hands). m.0) c.gather.ensures.keeper.1 in
       let h = ends_at _ _ _ _ c.args.seats.items _ _ _ key vs c.close_with-closed.ensures.values.2 c.take-slot.ensures.value c.gather.ensures.idle all in
       absurd (c.in_default.not-Home _ h.1);
+  lawful = let none : c.new-in_default.result ≡ [] = cc in no_history 0 c.new-in_default.result none;
 }
