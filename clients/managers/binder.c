@@ -47,6 +47,11 @@ bool binder_become_manager(struct binder *binder)
     return ioctl(binder->fd, BINDER_SET_CONTEXT_MGR, 0) == 0;
 }
 
+bool binder_allow_threads(struct binder *binder, uint32_t count)
+{
+    return ioctl(binder->fd, BINDER_SET_MAX_THREADS, &count) == 0;
+}
+
 bool binder_has(const struct binder *binder, uint64_t pointer, uint64_t size)
 {
     uint64_t from = (uintptr_t)binder->window;

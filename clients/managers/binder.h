@@ -26,6 +26,8 @@ void binder_close(struct binder *binder);
 
 /* Makes the process the context manager; false with errno. */
 bool binder_become_manager(struct binder *binder);
+/* The driver may ask for so many further threads (BR_SPAWN_LOOPER); false with errno. */
+bool binder_allow_threads(struct binder *binder, uint32_t count);
 
 /* Whether so many bytes at a pointer lie in the window. Pointers come from other processes by way of parcels. */
 bool binder_has(const struct binder *binder, uint64_t pointer, uint64_t size);

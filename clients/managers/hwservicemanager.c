@@ -6,6 +6,9 @@
  * A service is added by its instance's name alone. Its interfaces are asked for: while it waits for the answer, the
  * service itself is called. Its name in the registry is INTERFACE/INSTANCE, once for each interface but the base of
  * all.
+ *
+ * A service may take its time to answer, or never do. Only the thread that adds it waits for that, and there are more threads than may
+ * wait. Who has as many services waiting as a process or a user may have is told that the next one isn't added.
  */
 #include "manager.h"
 
@@ -19,6 +22,12 @@
 #define NAME_BYTES 512
 /* Interfaces of one service: each extends the one before it. */
 #define INTERFACES 16
+
+/* Threads besides the first; and how many may wait for services, all together, of one user and of one process. */
+#define THREADS 32
+#define WAITING 24
+#define WAITING_OF_USER 8
+#define WAITING_OF_PROCESS 4
 
 enum call {
     GET = 1,
@@ -89,8 +98,9 @@ static bool is(struct text text, const char *word)
 }
 
 /* Adds what the reply to interfaceChain names, which is a vector of strings. */
-static bool add_chain(struct manager *manager, const struct binder_transaction_data *reply, struct text instance, uint32_t handle)
+static bool add_chain(struct looper *looper, const struct binder_transaction_data *reply, struct text instance, uint32_t handle)
 {
+    struct manager *manager = looper->with;
     struct binder_buffer_object all;
     bool any = false;
     if (!buffer_of(&manager->binder, reply, 1, &all))
@@ -103,14 +113,15 @@ static bool add_chain(struct manager *manager, const struct binder_transaction_d
         if (!text_at(&manager->binder, where, &interface) || !full_name(name, interface, instance))
             return any;
         if (!is(interface, BASE) || count == 1)
-            any = manager_add(manager, name, strlen(name), handle, 0) || any;
+            any = manager_add(looper, name, strlen(name), handle, 0) || any;
     }
     return any;
 }
 
 /* Asks the object for its interfaces, and adds it under each. */
-static bool ask_and_add(struct manager *manager, struct text instance, uint32_t handle)
+static bool ask_and_add(struct looper *looper, struct text instance, uint32_t handle)
 {
+    struct manager *manager = looper->with;
     static const uint8_t token[(sizeof BASE + 3) / 4 * 4] = BASE;
     struct binder_transaction_data call = {
         .target.handle = handle,
@@ -120,10 +131,12 @@ static bool ask_and_add(struct manager *manager, struct text instance, uint32_t 
         .data.ptr.buffer = (uintptr_t)token,
     };
     struct binder_transaction_data reply;
-    if (looper_call(&manager->looper, &call, 0, &reply) != BR_REPLY)
+    if (looper_call(looper, &call, 0, &reply) != BR_REPLY)
         return false;
-    bool added = add_chain(manager, &reply, instance, handle);
-    looper_free(&manager->looper, &reply);
+    pthread_mutex_lock(&manager->lock);
+    bool added = add_chain(looper, &reply, instance, handle);
+    pthread_mutex_unlock(&manager->lock);
+    looper_free(looper, &reply);
     return added;
 }
 
@@ -140,12 +153,51 @@ static bool last_object(const struct binder_transaction_data *call, uint32_t *ha
     return object.hdr.type == BINDER_TYPE_HANDLE;
 }
 
-static void add(struct manager *manager, const struct binder_transaction_data *call, struct writer *writer)
+/* Whose services are waited for. */
+static struct {
+    pthread_mutex_t lock;
+    struct waiting {
+        pid_t pid;
+        uid_t user;
+    } all[WAITING];
+    size_t count;
+} waits = {.lock = PTHREAD_MUTEX_INITIALIZER};
+
+static bool begin_wait(const struct binder_transaction_data *call)
 {
+    size_t of_process = 0, of_user = 0;
+    pthread_mutex_lock(&waits.lock);
+    for (size_t i = 0; i < waits.count; i++) {
+        of_process += waits.all[i].pid == call->sender_pid;
+        of_user += waits.all[i].user == call->sender_euid;
+    }
+    bool may_wait = waits.count < WAITING && of_user < WAITING_OF_USER && of_process < WAITING_OF_PROCESS;
+    if (may_wait)
+        waits.all[waits.count++] = (struct waiting){call->sender_pid, call->sender_euid};
+    pthread_mutex_unlock(&waits.lock);
+    return may_wait;
+}
+
+static void end_wait(const struct binder_transaction_data *call)
+{
+    pthread_mutex_lock(&waits.lock);
+    size_t i = 0;
+    while (waits.all[i].pid != call->sender_pid || waits.all[i].user != call->sender_euid)
+        i++;
+    waits.all[i] = waits.all[--waits.count];
+    pthread_mutex_unlock(&waits.lock);
+}
+
+static void add(struct looper *looper, const struct binder_transaction_data *call, struct writer *writer)
+{
+    struct manager *manager = looper->with;
     struct text instance;
     uint32_t handle;
-    bool added = argument(&manager->binder, call, 0, &instance) && last_object(call, &handle)
-        && ask_and_add(manager, instance, handle);
+    bool added = argument(&manager->binder, call, 0, &instance) && last_object(call, &handle) && begin_wait(call);
+    if (added) {
+        added = ask_and_add(looper, instance, handle);
+        end_wait(call);
+    }
     write_number(writer, added);
 }
 
@@ -220,7 +272,7 @@ static bool has_header(const struct binder_transaction_data *call)
         && !memcmp((const void *)(uintptr_t)call->data.ptr.buffer, INTERFACE, sizeof INTERFACE);
 }
 
-/* Writes the answer of a call, or tells a status to be answered with in its place. */
+/* Writes the answer of a call, or tells a status to be answered with in its place. The lock is held. */
 static int32_t write_answer(struct manager *manager, const struct binder_transaction_data *call, struct writer *writer,
                             struct lists *lists)
 {
@@ -232,9 +284,6 @@ static int32_t write_answer(struct manager *manager, const struct binder_transac
     switch (call->code) {
     case GET:
         get(manager, call, writer);
-        return 0;
-    case ADD:
-        add(manager, call, writer);
         return 0;
     case GET_TRANSPORT:
         write_number(writer, named(manager, call) ? BY_BINDER : NOWHERE);
@@ -248,26 +297,39 @@ static int32_t write_answer(struct manager *manager, const struct binder_transac
     }
 }
 
+/* What is listed lies in the registry until the answer is out. */
+static void serve_locked(struct looper *looper, const struct binder_transaction_data *call, struct writer *writer)
+{
+    struct manager *manager = looper->with;
+    struct lists lists = {0};
+    pthread_mutex_lock(&manager->lock);
+    int32_t status = write_answer(manager, call, writer, &lists);
+    if (status) {
+        looper_answer_status(looper, status);
+        writer_free(writer);
+    } else {
+        manager_answer(looper, writer);
+    }
+    pthread_mutex_unlock(&manager->lock);
+    free(lists.strings);
+}
+
 /* Nothing that a manager does is asked for one-way. */
 static void serve(struct looper *looper, const struct binder_transaction_data *call)
 {
-    struct manager *manager = looper->with;
     struct writer writer = {0};
-    struct lists lists = {0};
     if (call->flags & TF_ONE_WAY)
         return;
     write_number(&writer, 0); /* each answer begins with a status */
-    int32_t status = write_answer(manager, call, &writer, &lists);
-    if (status) {
-        looper_answer_status(looper, status);
-        writer_free(&writer);
+    if (call->code == ADD && has_header(call)) {
+        add(looper, call, &writer);
+        manager_answer(looper, &writer);
     } else {
-        manager_answer(manager, &writer);
+        serve_locked(looper, call, &writer);
     }
-    free(lists.strings);
 }
 
 int main(int argc, char **argv)
 {
-    return manager_main(argc, argv, "hullpippin-hwservicemanager", "/dev/hwbinder", serve);
+    return manager_main(argc, argv, "hullpippin-hwservicemanager", "/dev/hwbinder", serve, THREADS);
 }

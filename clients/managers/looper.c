@@ -98,12 +98,22 @@ bool looper_turn(struct looper *looper, struct turn *turn)
     return true;
 }
 
-void looper_run(struct looper *looper)
+static void run(struct looper *looper, uint32_t code)
 {
     struct turn turn;
-    put_code(&looper->commands, BC_ENTER_LOOPER);
+    put_code(&looper->commands, code);
     while (looper_turn(looper, &turn))
         ;
+}
+
+void looper_run(struct looper *looper)
+{
+    run(looper, BC_ENTER_LOOPER);
+}
+
+void looper_run_spawned(struct looper *looper)
+{
+    run(looper, BC_REGISTER_LOOPER);
 }
 
 uint32_t looper_call(struct looper *looper, const struct binder_transaction_data *call, size_t buffers,

@@ -40,6 +40,8 @@ bool looper_turn(struct looper *looper, struct turn *turn);
 
 /* Enters the loop and turns in it; back only with an error, in errno. */
 void looper_run(struct looper *looper);
+/* The same in a thread that the driver has asked for. */
+void looper_run_spawned(struct looper *looper);
 
 /*
  * Makes a call, and waits for its end: `reply` is filled where it is BR_REPLY. A one-way call ends as

@@ -11,6 +11,8 @@
 #include "parcel.h"
 #include "registry.h"
 
+#include <pthread.h>
+
 /* Codes that every interface of Android has. */
 #define AIDL_PING B_PACK_CHARS('_', 'P', 'N', 'G')
 #define HIDL_PING B_PACK_CHARS(0x0f, 'P', 'N', 'G')
@@ -24,20 +26,22 @@
 
 struct manager {
     struct binder binder;
-    struct looper looper; /* its `with` is the manager */
+    struct looper looper; /* of the first thread. The `with` of each thread's is the manager */
+    pthread_mutex_t lock; /* of the registry */
     struct registry registry;
     const char *program;
     bool talks; /* a line for each service that comes or goes */
 };
 
-/* Does all that a manager's main does: `serve` serves one call. The answer is an exit status. */
+/* Does all that a manager's main does: `serve` serves one call, in any of `threads` threads besides the first. The answer is an exit
+   status. */
 int manager_main(int argc, char **argv, const char *program, const char *device,
-                 void (*serve)(struct looper *, const struct binder_transaction_data *));
+                 void (*serve)(struct looper *, const struct binder_transaction_data *), uint32_t threads);
 
-/* Gives a name, with a mark, to an object that came with the call being served; false without memory. */
-bool manager_add(struct manager *manager, const void *name, size_t size, uint32_t handle, uint32_t mark);
+/* Gives a name, with a mark, to an object that came with the call being served; false without memory. The lock is the caller's. */
+bool manager_add(struct looper *looper, const void *name, size_t size, uint32_t handle, uint32_t mark);
 
 /* Answers with a parcel, or with a lack of memory where it isn't whole, and frees it. */
-void manager_answer(struct manager *manager, struct writer *writer);
+void manager_answer(struct looper *looper, struct writer *writer);
 
 #endif

@@ -90,7 +90,7 @@ static void find(struct manager *manager, struct reader *reader, enum form form)
         write_no_object(&writer);
     if (form == AIDL3 || !service)
         write_number(&writer, service ? service->mark : 0);
-    manager_answer(manager, &writer);
+    manager_answer(&manager->looper, &writer);
 }
 
 /* Reads what is to be added. An object of another process always comes as a handle. */
@@ -122,12 +122,12 @@ static void add(struct manager *manager, struct reader *reader, const struct bin
     }
     if (form == AIDL3)
         read_number(reader, &stability);
-    if (!manager_add(manager, name, size, object.handle, stability)) {
+    if (!manager_add(&manager->looper, name, size, object.handle, stability)) {
         looper_answer_status(&manager->looper, STATUS_NO_MEMORY);
         return;
     }
     write_number(&writer, 0);
-    manager_answer(manager, &writer);
+    manager_answer(&manager->looper, &writer);
 }
 
 /* Before AIDL3 a client asks for one name after the other, until it is told that there are no more. */
@@ -141,7 +141,7 @@ static void list_one(struct manager *manager, struct reader *reader)
     }
     const struct service *service = &manager->registry.all[index];
     write_name(&writer, service->name, service->size);
-    manager_answer(manager, &writer);
+    manager_answer(&manager->looper, &writer);
 }
 
 static void list_all(struct manager *manager)
@@ -151,7 +151,7 @@ static void list_all(struct manager *manager)
     write_number(&writer, manager->registry.count);
     for (size_t i = 0; i < manager->registry.count; i++)
         write_name(&writer, manager->registry.all[i].name, manager->registry.all[i].size);
-    manager_answer(manager, &writer);
+    manager_answer(&manager->looper, &writer);
 }
 
 static void answer(struct manager *manager, const struct binder_transaction_data *call)
@@ -160,7 +160,7 @@ static void answer(struct manager *manager, const struct binder_transaction_data
     struct writer nothing = {0};
     enum form form;
     if (call->code == AIDL_PING)
-        manager_answer(manager, &nothing);
+        manager_answer(&manager->looper, &nothing);
     else if (!read_header(&reader, &form))
         looper_answer_status(&manager->looper, STATUS_NOT_PERMITTED);
     else if (call->code == GET_SERVICE || call->code == CHECK_SERVICE)
@@ -184,5 +184,5 @@ static void serve(struct looper *looper, const struct binder_transaction_data *c
 
 int main(int argc, char **argv)
 {
-    return manager_main(argc, argv, "hullpippin-servicemanager", "/dev/binder", serve);
+    return manager_main(argc, argv, "hullpippin-servicemanager", "/dev/binder", serve, 0);
 }

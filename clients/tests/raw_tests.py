@@ -116,6 +116,15 @@ def services(build):
     return f"{told}; lawful, {stage.entries} steps"
 
 
+@test("raw slow services")
+def slow_services(build):
+    """The manager asks a new service back; nobody else waits for its answer."""
+    with Stage(build, journal="/dev/hwbinder") as stage:
+        stage.manage("hwservicemanager")
+        told = stage.run([build.raw("slow_service")], environment={"RAW_DEVICE": "/dev/hwbinder"})
+    return f"{told}; lawful, {stage.entries} steps"
+
+
 @test("raw churn")
 def churn(build):
     """What the daemon keeps of clients that are gone would show in the second thousand."""
