@@ -463,6 +463,8 @@ enum strangers { NO_STRANGERS, STRANGERS_WAIT, STRANGERS_END };
 enum strangers process_end_stranger(struct daemon *daemon);
 /* Ends it in the engine, and lets go of its threads and of itself, as much as a turn has time for; else it goes on with the next. */
 void process_end(struct process *process);
+/* Whether it is to be ended, once it is its turn. */
+bool process_has_gone(const struct process *process);
 /* The process that has this pid in the engine, or NULL. */
 struct process *process_of(const struct engine *engine, uint32_t engine_pid);
 /* The client has a buffer that begins there, from now on or no longer. */

@@ -148,6 +148,8 @@ static int set_manager(struct thread *thread)
     struct process *process = thread->process;
     struct engine *engine = process->engine;
     uid_t euid;
+    if (engine->manager && process_has_gone(engine->manager))
+        process_end(engine->manager);
     bool may = caller_euid(&process->caller, &euid) && (!engine->has_had_manager || euid == engine->manager_euid);
     if (!may && !engine->manager)
         return EPERM;

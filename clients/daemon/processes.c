@@ -6,6 +6,7 @@
 #include "daemon.h"
 
 #include <errno.h>
+#include <poll.h>
 #include <stdlib.h>
 #include <string.h>
 #include <sys/epoll.h>
@@ -343,6 +344,12 @@ static bool take_share(struct daemon *daemon, struct process *process, int fd, c
         return true;
     give_share(process);
     return false;
+}
+
+bool process_has_gone(const struct process *process)
+{
+    struct pollfd ends[] = {{.fd = process->control.fd, .events = POLLRDHUP}, {.fd = process->end.fd, .events = POLLIN}};
+    return poll(ends, 2, 0) > 0;
 }
 
 static void end_ready(struct watch *watch)

@@ -58,14 +58,16 @@ static void call_each_other(void)
     CHECK(raw_call(&third.looper, (struct call){.handle = 7}, &reply) == BR_FAILED_REPLY, "there is a handle that nobody gave");
 }
 
-/* The file of the first manager stays open; another one takes its place. */
-static void manage(void)
+/* The file of the first manager stays open; another one takes its place. Its callers may be told that its thread has ended before
+   the process has. */
+static void manage(pid_t first)
 {
     struct client manager, third;
     struct binder_transaction_data reply;
     raw_open(&manager, WINDOW, NULL);
     raw_open(&third, WINDOW, NULL);
     CHECK(raw_call(&third.looper, (struct call){.code = RAW_QUIT}, &reply) == BR_DEAD_REPLY, "who ends answers");
+    raw_join(first);
     if (!geteuid()) {
         CHECK(!seteuid(1000) && !binder_become_manager(&manager.binder) && errno == EPERM, "another user's is the context manager");
         CHECK(!seteuid(0), "can't be root again");
@@ -81,8 +83,7 @@ int main(void)
     raw_begin(30);
     pid_t manager = raw_start_keeper();
     call_each_other();
-    manage();
-    raw_join(manager);
+    manage(manager);
     printf("%u calls within one process, and none of its own manager\n", 3 * CALLS);
     return 0;
 }
