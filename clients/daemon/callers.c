@@ -1,11 +1,12 @@
 /*
- * callers.c: whose call it is, and by which pid its receiver knows the caller. As Linux's driver does, the daemon asks at each call for the effective uid that the main thread of the
- * caller's process has then. What it was when the process opened the device, or what a client says of it, counts for nothing.
+ * callers.c: whose call it is, and by which pid its receiver knows the caller.
  *
- * It is the owner of the process's folder in /proc, which is kept open: to ask for that takes the twentieth part of what reading
- * its `status` does. That is read where the uid is another than before. Without an exec a process can only become whom its real or
- * saved uid names, unless it may become anybody. Another one is a program that has more rights than the one that has opened the
- * device, while others may have that one's pages: no call is made in its name.
+ * As Linux's driver does, the daemon asks at each call for the effective uid that the main thread of the caller's process has then. What
+ * it was when the process opened the device, or what a client says of it, counts for nothing. It is the owner of the process's
+ * folder in /proc, which is kept open: to ask for that takes a fraction of what reading its `status` does, so that is read only
+ * where the uid is another than before. Without an exec a process can only become whom its real or saved uid names, unless it may
+ * become anybody. Another one is a program that has more rights than the one that has opened the device, while others may have that
+ * one's pages: no call is made in its name.
  */
 #include "daemon.h"
 
@@ -155,7 +156,9 @@ bool caller_euid(struct caller *caller, uid_t *euid)
     if (stat.st_uid != caller->effective) {
         if (!read_status(caller, &now))
             return false;
-        if (!caller->may_be_anybody && now.effective != caller->real && now.effective != caller->effective && now.effective != caller->saved)
+        bool may = caller->may_be_anybody || now.effective == caller->real || now.effective == caller->effective
+                   || now.effective == caller->saved;
+        if (!may)
             return false;
         *caller = now;
     }

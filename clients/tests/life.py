@@ -14,8 +14,8 @@ from builds import CLIENTS
 from stage import expect, tail
 from suite import test
 
-# users that no machine has, with whom root plays; each has a folder of its own in /tmp, which goes away
-STRANGER, OTHER = 4294900001, 4294900002
+# users that no machine has, with whom root plays: others than those of a run beside this one, since a user has one folder in /tmp
+STRANGER, OTHER = 4200000000 + os.getpid(), 4210000000 + os.getpid()
 
 SECONDS = 10
 
@@ -65,7 +65,8 @@ def daemon(build, words, path, **how):
             until = time.monotonic() + SECONDS
             while not os.path.exists(path) and process.poll() is None and time.monotonic() < until:
                 time.sleep(0.01)
-            expect(process.poll() is None and os.path.exists(path), f"no daemon at {path}: {tail(process.stderr.read()) if process.poll() is not None else ''}")
+            said = tail(process.stderr.read()) if process.poll() is not None else "it runs"
+            expect(process.poll() is None and os.path.exists(path), f"no daemon at {path}: {said}")
             yield process
             process.send_signal(signal.SIGTERM)
             expect(process.wait(SECONDS) == 0, f"the daemon ended with {process.returncode}")
@@ -77,8 +78,9 @@ def daemon(build, words, path, **how):
 def reaches(build, **how):
     """Whether the library finds a daemon, and `--look` says the same."""
     words = how.pop("env")
-    looked = subprocess.run([build.daemon, "--look"], env=words, capture_output=True, text=True, timeout=SECONDS, **how)
-    called = subprocess.run([build.raw("versions")], env={**words, "LD_PRELOAD": build.preload}, capture_output=True, text=True, timeout=SECONDS, **how)
+    how = {"capture_output": True, "text": True, "timeout": SECONDS, **how}
+    looked = subprocess.run([build.daemon, "--look"], env=words, **how)
+    called = subprocess.run([build.raw("versions")], env={**words, "LD_PRELOAD": build.preload}, **how)
     expect((looked.returncode == 0) == (called.returncode == 0),
            f"--look ends with {looked.returncode}, a program with {called.returncode}: {tail(looked.stderr + called.stderr)}")
     return looked.returncode == 0
@@ -146,17 +148,27 @@ def who_may_come(build, where):
         end(build, words, "usage: ", 2, env=env)
 
 
+@contextmanager
+def started_with(build, listening, env):
+    """A daemon that is started with a socket, as descriptor 3; it runs no longer than what is done with it."""
+    words = ["sh", "-c", 'LISTEN_PID=$$ LISTEN_FDS=1 exec "$0" "$@"', build.daemon]
+    with subprocess.Popen(words, env=env, stdin=subprocess.DEVNULL, stderr=subprocess.PIPE, text=True,
+                          preexec_fn=lambda: os.dup2(listening.fileno(), 3), pass_fds=[3]) as process:
+        try:
+            yield process
+        finally:
+            process.kill()
+
+
 def given(build, where):
     """A socket that it is started with is listened at, and stays."""
     path = f"{where}/given"
     env = environment(build, HULLPIPPIN_SOCKET=path)
-    starts = ["sh", "-c", 'LISTEN_PID=$$ LISTEN_FDS=1 exec "$0" "$@"', build.daemon]
     for kind, good in ((socket.SOCK_SEQPACKET, True), (socket.SOCK_STREAM, False)):
         with socket.socket(socket.AF_UNIX, kind) as listening:
             listening.bind(path)
             listening.listen()
-            with subprocess.Popen(starts, env=env, stdin=subprocess.DEVNULL, stderr=subprocess.PIPE, text=True,
-                                  preexec_fn=lambda: os.dup2(listening.fileno(), 3), pass_fds=[3]) as process:  # pylint: disable=cell-var-from-loop
+            with started_with(build, listening, env) as process:
                 if good:
                     expect(reaches(build, env=env), "a daemon with a given socket isn't reached")
                     process.send_signal(signal.SIGTERM)

@@ -86,7 +86,8 @@ static void ends_cancelled(pthread_t thread, const char *what)
 /* Each is done whole, often enough that what one left behind would be seen by the next. */
 static void are_done(void)
 {
-    static struct act all[] = {{sets_threads, "an ioctl for the process"}, {writes, "a thread's first ioctl"}, {maps, "a mapping"}, {copies, "a copy"}};
+    static struct act all[] = {
+        {sets_threads, "an ioctl for the process"}, {writes, "a thread's first ioctl"}, {maps, "a mapping"}, {copies, "a copy"}};
     for (size_t i = 0; i < 4 * sizeof all / sizeof *all; i++) {
         pthread_t thread;
         done = 0;

@@ -63,7 +63,8 @@ static void commands(struct client *client)
     uint32_t codes[] = {BC_ENTER_LOOPER, BC_EXIT_LOOPER};
     for (size_t i = 0; i < sizeof bad / sizeof *bad; i++)
         for (size_t size = 4; size < 3 * PAGE; size += PAGE)
-            CHECK(exchanged(client, bad[i], size, (uintptr_t)room, sizeof room, &both) == EFAULT, "%zu bytes of commands at %lx", size, bad[i]);
+            CHECK(exchanged(client, bad[i], size, (uintptr_t)room, sizeof room, &both) == EFAULT, "%zu bytes of commands at %lx", size,
+                  bad[i]);
     works(client);
     /* two commands, and the end of the memory in the third */
     uint8_t *at = edge + PAGE - sizeof codes;
