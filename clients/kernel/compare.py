@@ -1,13 +1,16 @@
 #!/usr/bin/env python3
 """Plays scripts on Linux's own driver, on the engine, and on the model that stands between them, and tells where they agree.
 
-    clients/check kernel [--scripts N] [--long N] [--seed N] [--bplay PROGRAM] [--kernel FOLDER] [--seconds N] [--document]
+    clients/check kernel [--scripts N] [--long N] [--pool N] [--seed N] [--bplay PROGRAM] [--kernel FOLDER] [--seconds N]
+        [--document]
+    clients/check kernel --model ..
 
-Of random scripts N have 60 lines (500), and N have 200 (100); besides them the worked examples are played that a real program can play,
-and the scripts in `kinds/`, each of which has to show its difference. The model with all switches off has to answer as the player does,
+Of random scripts N have 60 lines (500), N have 200 (100), and N have 60 with a pool of threads that wait for calls (100); besides them
+the worked examples are played that a real program can play, and the scripts in `kinds/`, each of which has to show its difference. The model with all switches off has to answer as the player does,
 line by line, and with all on as the driver does. The last line is `kernel: N agree, D differ in named ways, 0 unknown`: in how many
 scripts the driver answers as the rules have it, in how many otherwise as the named differences have it, and in how many neither. The
-kernel is fetched into FOLDER (clients/out/kernel). --document writes what was seen into docs/KERNEL.md.
+kernel is fetched into FOLDER (clients/out/kernel). --document writes what was seen into docs/KERNEL.md. With --model the driver is left
+out, and with it the network and the machine: only the model is judged beside the player.
 """
 import argparse
 import glob
@@ -27,7 +30,7 @@ from differences import DIFFERENCES  # noqa: E402
 from fetch import Kernel, Missing, default_folder  # noqa: E402
 from machine import NotRun  # noqa: E402
 from play import played, with_keys  # noqa: E402
-from random_scripts import made  # noqa: E402
+from random_scripts import PoolMaker, made  # noqa: E402
 from scripts import Script  # noqa: E402
 
 LINES, LONG = 60, 200
@@ -81,6 +84,7 @@ def texts_of(pattern, kind):
 def cases(given):
     texts = {f"script {given.seed + it}": made(given.seed + it, LINES) for it in range(given.scripts)}
     texts |= {f"long script {given.seed + it}": made(given.seed + it, LONG) for it in range(given.long)}
+    texts |= {f"pool script {given.seed + it}": made(given.seed + it, LINES, PoolMaker) for it in range(given.pool)}
     texts |= texts_of(f"{ROOT}/examples/*.script", "example")
     texts |= texts_of(f"{HERE}/kinds/*.script", "kind")
     return [Case(name, text) for name, text in texts.items() if Script(text).is_playable()]
@@ -130,11 +134,13 @@ def arguments():
     parser = argparse.ArgumentParser(usage=__doc__)
     parser.add_argument("--scripts", type=int, default=500)
     parser.add_argument("--long", type=int, default=100)
+    parser.add_argument("--pool", type=int, default=100)
     parser.add_argument("--seed", type=int, default=int(time.time()))
     parser.add_argument("--bplay", default=engine.PLAYER)
     parser.add_argument("--kernel", default=default_folder())
     parser.add_argument("--seconds", type=int, default=7200)
     parser.add_argument("--document", action="store_true")
+    parser.add_argument("--model", action="store_true")
     return parser.parse_args()
 
 
@@ -145,6 +151,8 @@ def main():
         return 1
     all_cases = cases(given)
     wrong = judge_model(all_cases, given.bplay)
+    if given.model:
+        return 1 if wrong else 0
     try:
         kernel = Kernel(os.path.abspath(given.kernel))
         found = driver.play(kernel, {it.name: it.lowered() for it in all_cases}, given.seconds)

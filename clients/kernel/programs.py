@@ -36,8 +36,7 @@ tail -n 2 told
 sleep 1
 """
 # a context manager, a service, and the tools that list and call it
-TOOLS = """cp -r bin /tmp/bin
-./bin/hullpippin-servicemanager > /tmp/manager 2>&1 & M=$!
+TOOLS = """./bin/hullpippin-servicemanager > /tmp/manager 2>&1 & M=$!
 sleep 2
 ./bin/hullpippin-hello hello > /tmp/hello 2>&1 & H=$!
 sleep 2

@@ -195,6 +195,26 @@ class Maker:
         return f"{tohex(data)} {','.join(map(str, offsets)) or '-'}"
 
 
+class PoolMaker(Maker):
+    """A script in which the manager's process has three threads in the loop, two of which wait to begin with, and others call it."""
+
+    def __init__(self, number, length):
+        super().__init__(number, length)
+        self.weights = {**PLAIN, "wait": 45, "read": 4, "call": 20, "deaths": 6}
+        self.seats = 6
+        self.play = Play(self.seats, DIFFERENCES)
+        self.lines[0] = f"seats {self.seats}"
+
+    def begin(self):
+        for seat, words in ((0, "open 100 0 8192"), (0, "manager"), (1, "attach 100"), (2, "attach 100"), (3, "open 200 30 4096"),
+                            (4, "attach 200"), (5, "open 300 50 4096")):
+            self.put(seat, words)
+        for seat in range(self.seats):
+            self.put(seat, "enter")
+        for seat in self.random.sample([0, 1, 2], 2):
+            self.put(seat, "wait 256")
+
+
 class PoliteMaker(Maker):
     """A script as programs behave that are written for Binder: in the loop, with room of 256 bytes, they read what there is for them
     before they write, acquire what they name strongly and release what they acquired, and their threads stay."""
