@@ -2,15 +2,18 @@
 """Plays scripts on Linux's own driver, on the engine, and on the model that stands between them, and tells where they agree.
 
     clients/check kernel [--scripts N] [--long N] [--pool N] [--seed N] [--bplay PROGRAM] [--kernel FOLDER] [--seconds N]
-        [--document]
+        [--only WORD] [--document]
     clients/check kernel --model ..
 
 Of random scripts N have 60 lines (500), N have 200 (100), and N have 60 with a pool of threads that wait for calls (100); besides them
-the worked examples are played that a real program can play, and the scripts in `kinds/`, each of which has to show its difference. The model with all switches off has to answer as the player does,
-line by line, and with all on as the driver does. The last line is `kernel: N agree, D differ in named ways, 0 unknown`: in how many
-scripts the driver answers as the rules have it, in how many otherwise as the named differences have it, and in how many neither. The
-kernel is fetched into FOLDER (clients/out/kernel). --document writes what was seen into docs/KERNEL.md. With --model the driver is left
-out, and with it the network and the machine: only the model is judged beside the player.
+the worked examples are played that a real program can play, and the scripts in `kinds/`, each of which has to show its difference. The
+model with all switches off has to answer as the player does, line by line, and with all on as the driver does. The last line is
+`kernel: N agree, D differ in named ways, 0 unknown`: in how many scripts the driver answers as the rules have it, in how many otherwise
+as the named differences have it, and in how many neither.
+
+The kernel is fetched into FOLDER (clients/out/kernel). --only plays what has WORD in its name, as "kind". --document writes what was
+seen into docs/KERNEL.md. With --model the driver is left out, and with it the network and the machine: only the model is judged, beside
+the player.
 """
 import argparse
 import glob
@@ -87,7 +90,7 @@ def cases(given):
     texts |= {f"pool script {given.seed + it}": made(given.seed + it, LINES, PoolMaker) for it in range(given.pool)}
     texts |= texts_of(f"{ROOT}/examples/*.script", "example")
     texts |= texts_of(f"{HERE}/kinds/*.script", "kind")
-    return [Case(name, text) for name, text in texts.items() if Script(text).is_playable()]
+    return [Case(name, text) for name, text in texts.items() if given.only in name and Script(text).is_playable()]
 
 
 def judge_model(all_cases, program):
@@ -125,9 +128,10 @@ def judge_driver(all_cases):
     return agree, len(all_cases) - agree - unknown, unknown, met
 
 
-def unseen(met):
-    """Differences that their own script doesn't show."""
-    return [name for name, found in met.items() if f"kind {name}" not in [it.name for it in found]]
+def unseen(met, all_cases):
+    """Differences that their own script doesn't show, if it was played."""
+    played_kinds = {it.name for it in all_cases}
+    return [name for name, found in met.items() if f"kind {name}" in played_kinds - {it.name for it in found}]
 
 
 def arguments():
@@ -139,6 +143,7 @@ def arguments():
     parser.add_argument("--bplay", default=engine.PLAYER)
     parser.add_argument("--kernel", default=default_folder())
     parser.add_argument("--seconds", type=int, default=7200)
+    parser.add_argument("--only", default="")
     parser.add_argument("--document", action="store_true")
     parser.add_argument("--model", action="store_true")
     return parser.parse_args()
@@ -162,12 +167,12 @@ def main():
     for case in all_cases:
         case.answers = found.get(case.name)
     agree, differ, unknown, met = judge_driver(all_cases)
-    for name in unseen(met):
+    for name in unseen(met, all_cases):
         unknown += 1
         print(f"FAIL {name}: kinds/{name}.script doesn't show it")
     for name, those in met.items():
         print(f"{len(those):5}  {name}: {DIFFERENCES[name].driver}")
-    if given.document and not unknown and not wrong:
+    if given.document and not unknown and not wrong and not given.only:
         document.write(ROOT, document.Run(kernel.version, given, all_cases, met, agree, differ))
     print(f"kernel: {agree} agree, {differ} differ in named ways, {unknown + wrong} unknown")
     return 1 if unknown or wrong else 0

@@ -4,10 +4,11 @@
     clients/check kernel daemon [--scripts N] [--seed N] [--patience MICROSECONDS] [--show N]
 
 What the driver answers is what its model does (space.py with all switches on), which `clients/check kernel` sees to be the driver. A script
-has 60 lines. Its threads are in the loop, read with room of 256 bytes what there is for them before they write, call and acquire what they
-name strongly, release what they acquired, and stay; a process ends now and then. Of a thread's lines that could be written, 6 in 27 each
-are calls, replies and acknowledgements, 4 free a buffer, 3 ask for references and 2 for deaths; a call has no object in 2 of 6, one in 2,
-two or three in the others. The last line is `daemon: N of M scripts agree wholly`, after how often each kind of line was the first to differ.
+has 60 lines. Its threads are in the loop, read with room of 256 bytes what there is for them before they write, call and acquire what
+they name strongly, release what they acquired, and stay; a process ends now and then. Of a thread's lines that could be written, 6 in 27
+each are calls, replies and acknowledgements, 4 free a buffer, 3 ask for references and 2 for deaths; a call has no object in 2 of 6, one
+in 2, two or three in the others. The last line is `daemon: N of M scripts agree wholly`, after how often each kind of line was the first
+to differ.
 """
 import argparse
 import collections

@@ -53,10 +53,11 @@ def rows(run):
 def text_of(run):
     given, lines = run.given, sum(len(it.rules) for it in run.cases)
     waits = sum(it.script().waits() for it in run.cases)
-    head = [f"Seen on {run.version}, by `clients/check kernel --scripts {given.scripts} --long {given.long} --pool {given.pool} --seed {given.seed}`: of "
-            f"{len(run.cases)} scripts with {lines} lines, {waits} of them with threads that wait in a read, the driver answers {run.agree} "
-            f"as the rules have it, {run.differ} as the differences below have it, and none otherwise. The last column says in how many "
-            f"scripts a difference was needed.", "",
+    numbers = f"--scripts {given.scripts} --long {given.long} --pool {given.pool} --seed {given.seed}"
+    head = [f"Seen on {run.version}, by `clients/check kernel {numbers}`:", "",
+            f"- {len(run.cases)} scripts with {lines} lines, {waits} of them with threads that wait in a read;",
+            f"- in {run.agree} the driver answers as the rules have it, in {run.differ} as the differences below have it, in none otherwise;",
+            "- the last column says in how many scripts a difference was needed.", "",
             "| Name and script | What the driver does | What the rules have | On purpose? | Who notices | What its script shows | Scripts |",
             "|---|---|---|---|---|---|---|"]
     return "\n".join([*head, *rows(run)])

@@ -23,7 +23,8 @@ def build(static=True):
     folder = os.path.join(os.path.dirname(HERE), "out", "kernel-player")
     os.makedirs(folder, exist_ok=True)
     to = os.path.join(folder, "player" if static else "player-dynamic")
-    words = ["cc", *(["-static"] if static else []), "-std=gnu17", "-D_GNU_SOURCE", "-O2", "-g", "-Wall", "-Wextra", "-Wshadow", "-Werror", "-o", to]
+    words = ["cc", *(["-static"] if static else []), "-std=gnu17", "-D_GNU_SOURCE", "-O2", "-g", "-Wall", "-Wextra", "-Wshadow",
+             "-Werror", "-o", to]
     done = subprocess.run([*words, *(os.path.join(HERE, it) for it in SOURCES), "-pthread"], capture_output=True, text=True)
     if done.returncode:
         raise NotRun(f"the player can't be built: {done.stderr}")

@@ -2,7 +2,8 @@
  * player FILE: plays scripts on /dev/binder. Each is given as
  *
  *     script NAME
- *     LINE SEAT open PID EUID WINDOW | attach PID | manager | spam N | read LIMIT | wait LIMIT | write STREAM AREA | exitthread | exitprocess
+ *     LINE SEAT open PID EUID WINDOW | attach PID | manager | spam N | read LIMIT | wait LIMIT | write STREAM AREA | exitthread
+ *     LINE SEAT exitprocess
  *     end
  *
  * and told as `script NAME`, a line `LINE SEAT ANSWER` for each answer, one for each read of another seat that the line has brought to its

@@ -27,8 +27,8 @@ from packages import default_folder as packages_folder  # noqa: E402
 
 STATIC = ["OUT=out/static", "CFLAGS=-O2 -g -static"]
 # what the tests of clients/check run; the others are of the daemon: its seats, its memory
-RAW = ["nested", "oneway", "deaths", "parcels", "pool", "two_opens", "refusals", "files", "descriptors 1000", "arrays 100", "flooding asked",
-       "flooding unasked", "latency 200"]
+RAW = ["nested", "oneway", "deaths", "parcels", "pool", "two_opens", "refusals", "files", "descriptors 1000", "arrays 100",
+       "flooding asked", "flooding unasked", "latency 200"]
 ONE = """echo "== {test}"
 timeout 120 ./raw/{test} > told 2>&1
 echo "status $?"
