@@ -43,13 +43,11 @@ class Case:
     """A script with what the rules and the driver's model answer, and then what the driver did."""
 
     def __init__(self, name, text):
-        self.name, self.text = name, text
-        self.rules, self.plain = played(self.script())
-        self.expected, _ = played(self.script(), DIFFERENCES)
+        self.name, self.script = name, with_keys(Script(text))
+        self.rules, self.plain = played(self.script)
+        self.expected, drivers = played(self.script, DIFFERENCES)
+        self.asked = drivers.space.asked
         self.answers = None
-
-    def script(self):
-        return with_keys(Script(self.text))
 
     def lowered(self):
         return [f"{it.number} {it.lowered}" for it in self.expected if it.lowered]
@@ -71,9 +69,9 @@ class Case:
     def differences(self):
         """The differences without which the driver's model would answer otherwise here; all that are named if it takes several."""
         def answers(ways):
-            return [it.answers for it in played(self.script(), ways)[0]]
+            return [it.answers for it in played(self.script, ways)[0]]
         whole = [it.answers for it in self.expected]
-        return [name for name in DIFFERENCES if answers(DIFFERENCES.keys() - {name}) != whole]
+        return [name for name in DIFFERENCES if name in self.asked and answers(DIFFERENCES.keys() - {name}) != whole]
 
 
 def texts_of(pattern, kind):

@@ -52,7 +52,7 @@ def rows(run):
 
 def text_of(run):
     given, lines = run.given, sum(len(it.rules) for it in run.cases)
-    waits = sum(it.script().waits() for it in run.cases)
+    waits = sum(it.script.waits() for it in run.cases)
     numbers = f"--scripts {given.scripts} --long {given.long} --pool {given.pool} --seed {given.seed}"
     head = [f"Seen on {run.version}, by `clients/check kernel {numbers}`:", "",
             f"- {len(run.cases)} scripts with {lines} lines, {waits} of them with threads that wait in a read;",

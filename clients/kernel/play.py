@@ -6,7 +6,7 @@ with waiting reads is one without, with a read more where each comes to its end.
 import struct
 
 from scripts import printed, tohex
-from space import STRONG, Space  # noqa: F401
+from space import Space
 from wire import COMMANDS, RECORD, RETURNS, Unreadable, read_command
 
 FREE = struct.pack("<I", COMMANDS["BC_FREE_BUFFER"][0])

@@ -8,7 +8,6 @@ Each test's line says whether it passes there. A cost is told in thousands of in
 its clock counts them: of a round trip by one client, and of one of eight callers on four threads.
 """
 import argparse
-import glob
 import os
 import shutil
 import subprocess

@@ -7,8 +7,7 @@ Names of rules are used as RULES.md has them; where a switch is asked, `self.doe
 """
 import struct
 
-from wire import (BINDER, FLAT, HANDLE, ONE_WAY, OTHER_OBJECTS, WEAK_BINDER, WEAK_HANDLE, Record, Unreadable, padded, read_command,
-                  returned)
+from wire import BINDER, FLAT, HANDLE, ONE_WAY, OTHER_OBJECTS, WEAK_BINDER, WEAK_HANDLE, Unreadable, padded, read_command, returned
 
 LEAST_READ, LONGEST_RETURN, MOST_STREAM, FIRST_POINTER = 72, 68, 4096, 65536
 # what the driver wants to be free before it takes an item: a call's record, a security context, the code
@@ -133,9 +132,10 @@ class Space:
         self.manager = None
         self.steps = 0
         self.woken = []  # threads that the driver has taken off their process's list of waiting ones
-        self.met = set()  # switches that made a difference where they were asked
+        self.asked = set()  # switches on which something has depended
 
     def does(self, way):
+        self.asked.add(way)
         return way in self.ways
 
     # ------------------------------------------------------------ requests
