@@ -33,6 +33,9 @@
 /* So many connections at a time are there only to be told that they are too many. */
 #define REFUSED_MOST 64u
 
+/* So many threads end with their process in one step. */
+#define THREADS_AT_ONCE 16u
+
 /* How often a step that has to be made is tried where there is no memory. */
 #define TRIES 100
 
@@ -466,10 +469,27 @@ static bool free_threads(struct process *process)
     return list_is_empty(&process->threads);
 }
 
+/* The engine ends a process in one step, which takes as long as it has threads in calls. Whether only few of them are left. */
+static bool end_most_threads(struct process *process)
+{
+    while (process->thread_count > THREADS_AT_ONCE) {
+        thread_end(container_of(process->threads.next, struct thread, in_process));
+        if (turns_is_over(&process->loop->turns))
+            break;
+    }
+    return process->thread_count <= THREADS_AT_ONCE;
+}
+
 void process_end(struct process *process)
 {
     struct engine *engine = process->engine;
     bool was_open = process->engine_pid && !process->is_ending;
+    if (was_open && !end_most_threads(process)) {
+        turns_want_end(&process->loop->turns, &process->control);
+        settle(engine, NULL);
+        seats_retry(engine);
+        return;
+    }
     if (was_open)
         exit_in_engine(process);
     process->is_ending = true;
