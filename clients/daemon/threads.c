@@ -20,6 +20,13 @@ struct parts {
     struct page *page;
 };
 
+/* Whether the thread ends with its process. That ends as one then: who hears of the thread's end may ask at once for what the process had. */
+static bool has_gone(const struct process *process)
+{
+    char byte;
+    return !process->is_ending && recv(process->control.fd, &byte, sizeof byte, MSG_PEEK | MSG_DONTWAIT) == 0;
+}
+
 /* It is only waited for its end. The thread may have asked for something without waiting for it. */
 static void link_ready(struct watch *watch)
 {
@@ -33,6 +40,10 @@ static void link_ready(struct watch *watch)
         page_rung(thread);
     if (thread->writing) {
         turns_want(&engine->loop.turns, watch);
+        return;
+    }
+    if (has_gone(thread->process)) {
+        process_end(thread->process);
         return;
     }
     thread_end(thread);

@@ -20,6 +20,8 @@ ROUNDS, MOST_ROUNDS = 12, 40
 FUZZ_KIB = 65536
 
 DEVICE = "/dev/binder"
+# malloc gives what isn't used back at once, so that what is measured is used
+GIVES_BACK = {"GLIBC_TUNABLES": "glibc.malloc.trim_threshold=65536:glibc.malloc.mmap_threshold=65536"}
 
 
 def counts(stage, device=DEVICE):
@@ -128,7 +130,7 @@ def slow_services(build):
 @test("raw churn")
 def churn(build):
     """What the daemon keeps of clients that are gone would show in the second thousand."""
-    with Stage(build) as stage:
+    with Stage(build, daemon_environment=GIVES_BACK) as stage:
         before = open_files(stage.daemon.pid)
         told = stage.run([build.raw("churn"), "2000"], 300)
         found = figures(told)

@@ -3,7 +3,7 @@ import random
 import threading
 import time
 
-from raw_tests import DEVICE
+from raw_tests import DEVICE, GIVES_BACK
 from stage import Failed, Stage, expect, open_files, resident
 from suite import test
 
@@ -14,8 +14,6 @@ KIB = 256
 # seconds in which the daemon lets go of what those have left who were killed last
 PATIENCE = 10
 SAMPLES = 10
-# malloc gives what isn't used back at once, so that what is measured is used
-GIVES_BACK = {"GLIBC_TUNABLES": "glibc.malloc.trim_threshold=65536:glibc.malloc.mmap_threshold=65536"}
 
 
 class Player(threading.Thread):
