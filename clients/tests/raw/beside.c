@@ -154,5 +154,7 @@ int main(int argc, char **argv)
     printf("alone %.1f beside %.1f ending %.1f with %zu %s\n", alone, beside, ending, count, is_idle ? "idle" : "callers");
     raw_kill(owner);
     raw_kill(manager);
+    free(pids);
+    free(times);
     return 0;
 }

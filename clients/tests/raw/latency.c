@@ -31,5 +31,7 @@ int main(int argc, char **argv)
     struct spread spread = raw_spread(times, calls);
     printf("median %.1f tenth %.1f last %.1f\n", spread.median, spread.tenth, spread.last);
     raw_kill(manager);
+    free(data);
+    free(times);
     return 0;
 }
