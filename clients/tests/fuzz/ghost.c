@@ -22,19 +22,6 @@ static bool becomes_manager(struct hostile *hostile)
     return is_answered && !hostile->page->answer.error;
 }
 
-static void give(int socket, int descriptor)
-{
-    uint32_t count = 1;
-    union {
-        struct cmsghdr header;
-        char room[CMSG_SPACE(sizeof descriptor)];
-    } control = {.header = {CMSG_LEN(sizeof descriptor), SOL_SOCKET, SCM_RIGHTS}};
-    struct iovec part = {&count, sizeof count};
-    struct msghdr message = {.msg_iov = &part, .msg_iovlen = 1, .msg_control = &control, .msg_controllen = sizeof control};
-    memcpy(CMSG_DATA(&control.header), &descriptor, sizeof descriptor);
-    CHECK(sendmsg(socket, &message, MSG_NOSIGNAL) == sizeof count, "can't send a descriptor");
-}
-
 /* In a child, which has its parent's connection. */
 static void send_connection(void *with)
 {
@@ -50,7 +37,8 @@ static void send_connection(void *with)
     CHECK(hostile_begin(&sender, DEVICE), "no daemon");
     memcpy(sender.page->area, &object, sizeof object);
     memcpy(sender.page->area + sizeof object, &offset, sizeof offset);
-    give(sender.link, parents->control);
+    uint32_t count = 1;
+    CHECK(hostile_give(sender.link, &count, sizeof count, parents->control), "can't send a descriptor");
     bool is_answered = hostile_write(&sender, &call, sizeof call, 256, 1);
     for (int i = 0; i < 5000 && !is_answered; i++, usleep(1000))
         is_answered = atomic_load(&sender.page->state) == PAGE_ANSWERED;

@@ -191,3 +191,15 @@ bool hostile_write(struct hostile *hostile, const void *stream, size_t size, uin
     hostile->page->request = (struct page_request){PAGE_WRITE_READ, (uint32_t)size, room, PAGE_NONBLOCK, descriptors};
     return hostile_ask(hostile, 20);
 }
+
+bool hostile_give(int socket, const void *word, size_t size, int descriptor)
+{
+    union {
+        struct cmsghdr header;
+        char room[CMSG_SPACE(sizeof descriptor)];
+    } control = {.header = {CMSG_LEN(sizeof descriptor), SOL_SOCKET, SCM_RIGHTS}};
+    struct iovec part = {(void *)word, size};
+    struct msghdr message = {.msg_iov = &part, .msg_iovlen = 1, .msg_control = &control, .msg_controllen = sizeof control};
+    memcpy(CMSG_DATA(&control.header), &descriptor, sizeof descriptor);
+    return sendmsg(socket, &message, MSG_NOSIGNAL) == (ssize_t)size;
+}

@@ -48,4 +48,7 @@ bool hostile_write(struct hostile *hostile, const void *stream, size_t size, uin
 /* Writes commands that are nearly right, and a parcel for them, into the page; tells the size of the stream. */
 uint32_t hostile_commands(struct page *page);
 
+/* Sends a word with a descriptor, which stays the caller's. Whether that went. */
+bool hostile_give(int socket, const void *word, size_t size, int descriptor);
+
 #endif

@@ -28,14 +28,7 @@
 static void give(int socket, int descriptor)
 {
     char byte = 0;
-    union {
-        struct cmsghdr header;
-        char room[CMSG_SPACE(sizeof descriptor)];
-    } control = {.header = {CMSG_LEN(sizeof descriptor), SOL_SOCKET, SCM_RIGHTS}};
-    struct iovec part = {&byte, 1};
-    struct msghdr message = {.msg_iov = &part, .msg_iovlen = 1, .msg_control = &control, .msg_controllen = sizeof control};
-    memcpy(CMSG_DATA(&control.header), &descriptor, sizeof descriptor);
-    CHECK(sendmsg(socket, &message, MSG_NOSIGNAL) == 1, "can't send a descriptor");
+    CHECK(hostile_give(socket, &byte, sizeof byte, descriptor), "can't send a descriptor");
     close(descriptor);
 }
 
