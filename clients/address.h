@@ -1,3 +1,4 @@
+/* SPDX-License-Identifier: Apache-2.0 OR MIT */
 /* address.h: where the daemon listens, and where the library looks for it. */
 #ifndef HULLPIPPIN_ADDRESS_H
 #define HULLPIPPIN_ADDRESS_H

@@ -1,3 +1,4 @@
+/* SPDX-License-Identifier: Apache-2.0 OR MIT */
 /* packets.c: packets with descriptors, over sockets that keep packets apart. */
 #include "packets.h"
 #include "protocol.h"

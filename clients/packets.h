@@ -1,3 +1,4 @@
+/* SPDX-License-Identifier: Apache-2.0 OR MIT */
 /*
  * packets.h: packets with descriptors, over sockets that keep packets apart. Both the daemon and the preloaded library
  * are built with packets.c.

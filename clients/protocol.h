@@ -1,3 +1,4 @@
+/* SPDX-License-Identifier: Apache-2.0 OR MIT */
 /*
  * protocol.h: what the preloaded library and the daemon say to each other.
  *

@@ -1,3 +1,4 @@
+/* SPDX-License-Identifier: Apache-2.0 OR MIT */
 /*
  * hullpippin.h: the transaction engine of Android's Binder driver, as a library that the threads of a program share.
  *

@@ -1,3 +1,4 @@
+/* SPDX-License-Identifier: Apache-2.0 OR MIT */
 /* Linked with a program whose malloc, realloc and free are wrapped (cc -Wl,--wrap=malloc,--wrap=realloc,--wrap=free): refuses the
    request for memory that the environment's REFUSE names, from 1, and at the end writes to the file that BALANCE names how many
    requests there were and how many blocks were not given back. */

@@ -1,3 +1,4 @@
+/* SPDX-License-Identifier: Apache-2.0 OR MIT */
 /* Ptrs that a hash map of the kit puts into one place, for a process that the step at PLACE opened.
 
        collide PLACE COUNT

@@ -1,3 +1,4 @@
+# SPDX-License-Identifier: Apache-2.0 OR MIT
 """What crates.txt says, and the words by which the kit's compiler works over libraries that the gate has built."""
 import functools
 import os

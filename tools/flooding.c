@@ -1,3 +1,4 @@
+/* SPDX-License-Identifier: Apache-2.0 OR MIT */
 /* Reports of one-way flooding: a client asks for them, floods the context manager, and asks for them no longer; of a driver, by a call
    and handed over, and of a live engine, each with as many seats as a journal may have. Numbers that ask for neither are to be refused.
    Complains where an answer isn't the one that docs/RULES.md gives. Prints nothing else. */

@@ -1,3 +1,4 @@
+# SPDX-License-Identifier: Apache-2.0 OR MIT
 """Runs of a program in which one request for memory is refused. Needs a C compiler (cc)."""
 import os
 import subprocess

@@ -1,3 +1,4 @@
+/* SPDX-License-Identifier: Apache-2.0 OR MIT */
 /* Preloaded into a program: refuses its Nth request for memory (STARVE=N; 0 refuses none) and each that is larger than STARVE_MOST
    bytes, if that is set, and writes how many requests there were to the file that STARVE_COUNT names, if it is set. */
 #define _GNU_SOURCE

@@ -1,3 +1,4 @@
+// SPDX-License-Identifier: Apache-2.0 OR MIT
 //! No engine beside ours: what `beside` has, and nothing that is called.
 use crate::engines::{Engine, Told};
 use crate::sharing::Hand;

@@ -1,3 +1,4 @@
+// SPDX-License-Identifier: Apache-2.0 OR MIT
 //! The engine beside ours: an ordinary one in unverified Rust, whose crate `bench/run --beside FOLDER` names. Twice:
 //! asked as ours is, with bytes that it takes a copy of, and with steps that were made ahead.
 use crate::commands;

@@ -1,3 +1,4 @@
+// SPDX-License-Identifier: Apache-2.0 OR MIT
 //! The processor's time, which tells a step's cost also where other programs have the processor now and then.
 
 #[repr(C)]

@@ -1,3 +1,4 @@
+// SPDX-License-Identifier: Apache-2.0 OR MIT
 //! Commands as bytes: the codes and records of <linux/android/binder.h>, 64-bit form.
 
 pub const BC_TRANSACTION: u32 = 0x40406300;

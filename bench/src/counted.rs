@@ -1,3 +1,4 @@
+// SPDX-License-Identifier: Apache-2.0 OR MIT
 //! One workload played so often by one engine, and nothing else, so that bench/count can count from outside what the
 //! engine takes for it.
 use crate::beside::{self, Kept};

@@ -1,3 +1,4 @@
+// SPDX-License-Identifier: Apache-2.0 OR MIT
 //! What an engine is for the bench, and how lists of requests are played on it.
 use crate::commands;
 use crate::steps::{Ask, Op, SEATS, Wants};

@@ -1,3 +1,4 @@
+// SPDX-License-Identifier: Apache-2.0 OR MIT
 //! The journals that the workloads must come to. Two other engines of the same rules made them, an ordinary one in Rust
 //! and a model in Python: the short ones are kept as they are, the long ones as hashes.
 use crate::engines::{self, Engine};

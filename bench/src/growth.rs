@@ -1,3 +1,4 @@
+// SPDX-License-Identifier: Apache-2.0 OR MIT
 //! The workloads that grow: one engine with n of something, and bodies that are played on it one after the other.
 use crate::commands::{ONE_WAY, Object, Parcel};
 use crate::steps::{SEATS, Steps};

@@ -1,3 +1,4 @@
+// SPDX-License-Identifier: Apache-2.0 OR MIT
 //! A journal spelled, read and judged.
 use crate::beside::{self, ByRequests};
 use crate::clock;

@@ -1,3 +1,4 @@
+// SPDX-License-Identifier: Apache-2.0 OR MIT
 //! The library's speed, measured through its header: see README.md.
 #[cfg_attr(beside, path = "beside.rs")]
 #[cfg_attr(not(beside), path = "alone.rs")]

@@ -1,3 +1,4 @@
+// SPDX-License-Identifier: Apache-2.0 OR MIT
 //! Times of the workloads, each on a new engine, and the journals that they leave.
 use crate::beside::{self, ByRequests, BySteps};
 use crate::clock;

@@ -1,3 +1,4 @@
+// SPDX-License-Identifier: Apache-2.0 OR MIT
 //! Bytes of memory that an entry of the history takes, by what malloc says is in use.
 use crate::beside::{self, ByRequests};
 use crate::engines::{self, Engine, Library};

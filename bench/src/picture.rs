@@ -1,3 +1,4 @@
+// SPDX-License-Identifier: Apache-2.0 OR MIT
 //! The picture of cost against size: a panel for each thing that grows, both axes logarithmic.
 use crate::growth::KINDS;
 use crate::table::{Row, Table, Whose, whole};

@@ -1,3 +1,4 @@
+// SPDX-License-Identifier: Apache-2.0 OR MIT
 //! The words of the command line, and the machine.
 use std::fs;
 use std::process::Command;

@@ -1,3 +1,4 @@
+// SPDX-License-Identifier: Apache-2.0 OR MIT
 //! Seats in threads of their own: a pair in each thread, or a seat in each.
 use crate::engines::{self, Engine, Library, Told};
 use crate::steps::{Ask, Op, SEATS, Wants};

@@ -1,3 +1,4 @@
+// SPDX-License-Identifier: Apache-2.0 OR MIT
 //! Lists of requests, each of which is one step, with what each must answer.
 use crate::commands::{self, BC_ACQUIRE, BC_ENTER_LOOPER, BC_RELEASE, BC_REPLY, BC_TRANSACTION, Object, Parcel};
 

@@ -1,3 +1,4 @@
+// SPDX-License-Identifier: Apache-2.0 OR MIT
 //! The workloads of a fixed size. Each body leaves the engine as it found it, but for the history.
 use crate::commands::{ONE_WAY, Object, Parcel};
 use crate::steps::{SEATS, Steps};

@@ -1,3 +1,4 @@
+/* SPDX-License-Identifier: Apache-2.0 OR MIT */
 /*
  * callers.c: whose call it is, and by which pid its receiver knows the caller.
  *

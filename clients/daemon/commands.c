@@ -1,3 +1,4 @@
+/* SPDX-License-Identifier: Apache-2.0 OR MIT */
 /*
  * commands.c: the write half of a BINDER_WRITE_READ. Each command is one step of the engine. What the engine has no
  * command for is done here: registered loopers, and the scatter-gather forms of transactions and replies.

@@ -1,3 +1,4 @@
+/* SPDX-License-Identifier: Apache-2.0 OR MIT */
 /*
  * descriptors.c: how descriptors are closed: one's end may take its time, and nobody waits for that.
  */

@@ -1,3 +1,4 @@
+/* SPDX-License-Identifier: Apache-2.0 OR MIT */
 /*
  * devices.c: the device names, and the engine of each: made when a client first opens it, or at once where it has a
  * journal.

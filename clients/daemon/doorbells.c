@@ -1,3 +1,4 @@
+/* SPDX-License-Identifier: Apache-2.0 OR MIT */
 /*
  * doorbells.c: what a client's thread polls in the place of its binder file. It is readable while the thread's read
  * would find something.

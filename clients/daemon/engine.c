@@ -1,3 +1,4 @@
+/* SPDX-License-Identifier: Apache-2.0 OR MIT */
 /*
  * engine.c: the engine of one device name. All steps are made here: each goes to the journal, and a history that can
  * take no more ends the device.

@@ -1,3 +1,4 @@
+/* SPDX-License-Identifier: Apache-2.0 OR MIT */
 /*
  * handover.c: the thread of a device, and how clients come to it. The daemon's first thread takes connections; once one says which
  * device it opens, it goes to that one's thread, which has all of it from then on. Devices share nothing but what is counted in

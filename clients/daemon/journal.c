@@ -1,3 +1,4 @@
+/* SPDX-License-Identifier: Apache-2.0 OR MIT */
 /*
  * journal.c: the file that an engine's entries go to. It begins with the heading of more entries than there ever are,
  * so that nobody takes a file that was cut off for a journal; the right number is put there at the end.

@@ -1,3 +1,4 @@
+/* SPDX-License-Identifier: Apache-2.0 OR MIT */
 /*
  * landings.c: how a parcel that was read gets to its receiver: into the window, at the place that the engine has
  * chosen, with the pointers and descriptors that only this side of the engine knows (parcels.c).

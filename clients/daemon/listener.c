@@ -1,3 +1,4 @@
+/* SPDX-License-Identifier: Apache-2.0 OR MIT */
 /* listener.c: where clients come from. One daemon has an address at a time: it holds a lock beside it, or was given the socket. */
 #include "daemon.h"
 

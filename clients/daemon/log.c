@@ -1,3 +1,4 @@
+/* SPDX-License-Identifier: Apache-2.0 OR MIT */
 /* log.c: what the daemon tells: on standard error, or in a file. */
 #include "daemon.h"
 

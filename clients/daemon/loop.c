@@ -1,3 +1,4 @@
+/* SPDX-License-Identifier: Apache-2.0 OR MIT */
 /* loop.c: one wait for all descriptors. What comes of clients only marks that they want a turn (turns.c). */
 #include "daemon.h"
 

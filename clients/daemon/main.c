@@ -1,3 +1,4 @@
+/* SPDX-License-Identifier: Apache-2.0 OR MIT */
 /* main.c: hullpippind, the daemon that has a binder driver's devices where a machine has none. */
 #include "daemon.h"
 

@@ -1,3 +1,4 @@
+/* SPDX-License-Identifier: Apache-2.0 OR MIT */
 /* objects.c: looking at the objects of a parcel. */
 #include "objects.h"
 

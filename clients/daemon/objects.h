@@ -1,3 +1,4 @@
+/* SPDX-License-Identifier: Apache-2.0 OR MIT */
 /*
  * objects.h: a parcel with its objects, as it lies in the daemon's memory: data, offsets, buffers, each up to a
  * multiple of 8; and behind these, where the parcel is wrapped, a trailer.

@@ -1,3 +1,4 @@
+/* SPDX-License-Identifier: Apache-2.0 OR MIT */
 /*
  * page.c: requests in pages. A page belongs to its client as much as to the daemon, so each word of it is copied
  * once, and only the copy is looked at; no request leaves the daemon waiting, and where nothing is asked, a bell is a

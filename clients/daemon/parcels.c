@@ -1,3 +1,4 @@
+/* SPDX-License-Identifier: Apache-2.0 OR MIT */
 /*
  * parcels.c: what parcels have that the engine's don't: PTR objects with their buffers, FD and FDA objects with their
  * descriptors.

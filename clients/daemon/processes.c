@@ -1,3 +1,4 @@
+/* SPDX-License-Identifier: Apache-2.0 OR MIT */
 /*
  * processes.c: an open file is a process of its device's engine, from its mmap on: before that it has no window. The
  * end of its control socket is its exit, and so is the end of the process that has opened it: who has the socket then may be

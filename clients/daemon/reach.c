@@ -1,3 +1,4 @@
+/* SPDX-License-Identifier: Apache-2.0 OR MIT */
 /*
  * reach.c: whom the engine's steps have reached. The engine doesn't tell, but it is proved of it that of all seats but the acting
  * one those alone become ready, or aren't any more, whose own list or whose process's list a step fills or empties, and

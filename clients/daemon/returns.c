@@ -1,3 +1,4 @@
+/* SPDX-License-Identifier: Apache-2.0 OR MIT */
 /*
  * returns.c: the read half of a BINDER_WRITE_READ. What the engine's reads get is pending until it is handed over,
  * since a client may have less room than the engine wants, and since the completion of a call waits for the reply.

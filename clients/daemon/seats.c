@@ -1,3 +1,4 @@
+/* SPDX-License-Identifier: Apache-2.0 OR MIT */
 /*
  * seats.c: a thread has a seat from its first request on, until it ends. Where all seats are lent, that of a thread
  * about which the engine has nothing to remember goes to another.

@@ -1,3 +1,4 @@
+/* SPDX-License-Identifier: Apache-2.0 OR MIT */
 /*
  * settle.c: answers whom a step has made ready (reach.c).
  *

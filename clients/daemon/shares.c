@@ -1,3 +1,4 @@
+/* SPDX-License-Identifier: Apache-2.0 OR MIT */
 /*
  * shares.c: how much one user and one process may have of what all clients share: the daemon's descriptors, threads, and memory for
  * windows.

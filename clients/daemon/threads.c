@@ -1,3 +1,4 @@
+/* SPDX-License-Identifier: Apache-2.0 OR MIT */
 /* threads.c: a thread of a client, from its first ioctl until the end of its link. */
 #include "daemon.h"
 

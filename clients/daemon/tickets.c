@@ -1,3 +1,4 @@
+/* SPDX-License-Identifier: Apache-2.0 OR MIT */
 /*
  * tickets.c: what goes with a parcel beside the engine: its descriptors, until it is read. A ticket is named by the step
  * that sends the parcel, which the parcel's trailer tells who reads it. It ends when the parcel is read, or with its

@@ -1,3 +1,4 @@
+/* SPDX-License-Identifier: Apache-2.0 OR MIT */
 /*
  * turns.c: whose turn it is. A user has as many turns as another, however many processes want one, and a process as many as
  * another of its user, however many files and threads it has.

@@ -1,3 +1,4 @@
+/* SPDX-License-Identifier: Apache-2.0 OR MIT */
 /*
  * windows.c: a process's window is memory that the daemon writes and its client can't: it is sealed so that no later
  * mapping may write, and no size may change, before anybody else has it.

@@ -1,4 +1,5 @@
 #!/usr/bin/env python3
+# SPDX-License-Identifier: Apache-2.0 OR MIT
 """Plays scripts on Linux's own driver, on the engine, and on the model that stands between them, and tells where they agree.
 
     clients/check kernel [--scripts N] [--long N] [--pool N] [--seed N] [--bplay PROGRAM] [--kernel FOLDER] [--seconds N]

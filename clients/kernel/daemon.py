@@ -1,4 +1,5 @@
 #!/usr/bin/env python3
+# SPDX-License-Identifier: Apache-2.0 OR MIT
 """Plays random scripts of well-behaved programs through the daemon and the preloaded library: in how many it answers as Linux's driver.
 
     clients/check kernel daemon [--scripts N] [--seed N] [--patience MICROSECONDS] [--show N]

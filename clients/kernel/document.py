@@ -1,3 +1,4 @@
+# SPDX-License-Identifier: Apache-2.0 OR MIT
 """Writes what a run has seen into docs/KERNEL.md, between its two marks."""
 from collections import namedtuple
 

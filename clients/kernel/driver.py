@@ -1,3 +1,4 @@
+# SPDX-License-Identifier: Apache-2.0 OR MIT
 """Plays scripts on Linux's own driver, in the virtual machine."""
 import os
 import shutil

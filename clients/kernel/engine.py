@@ -1,3 +1,4 @@
+# SPDX-License-Identifier: Apache-2.0 OR MIT
 """Plays scripts on the project's own engine, by its player."""
 import os
 import subprocess

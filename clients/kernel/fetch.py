@@ -1,3 +1,4 @@
+# SPDX-License-Identifier: Apache-2.0 OR MIT
 """Linux's own Binder driver for a virtual machine, from Debian's packages: the kernel's image with the module `binder_linux`, a static
 busybox for its first process, and qemu where the machine has none.
 

@@ -1,3 +1,4 @@
+# SPDX-License-Identifier: Apache-2.0 OR MIT
 """A virtual machine with Linux's own Binder driver, in which a script is run.
 
     machine.py FOLDER [--seconds N] [--host] [--kernel FOLDER]   runs FOLDER/run there, with FOLDER as its working folder

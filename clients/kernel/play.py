@@ -1,3 +1,4 @@
+# SPDX-License-Identifier: Apache-2.0 OR MIT
 """A script's run on the model: what each line answers, with threads that wait in a read.
 
 The rules know no read that waits. There a seat that waits reads as soon as there is something for it, who waits longest first; so a script

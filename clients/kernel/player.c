@@ -1,3 +1,4 @@
+/* SPDX-License-Identifier: Apache-2.0 OR MIT */
 /*
  * player FILE: plays scripts on /dev/binder. Each is given as
  *

@@ -1,3 +1,4 @@
+/* SPDX-License-Identifier: Apache-2.0 OR MIT */
 /*
  * player.h: plays scripts on a real device, each process of a script as a process, each seat as a thread of it.
  *

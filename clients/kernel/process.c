@@ -1,3 +1,4 @@
+/* SPDX-License-Identifier: Apache-2.0 OR MIT */
 /* A process of a script: a main thread that hands requests to the threads of its seats. */
 #include "player.h"
 

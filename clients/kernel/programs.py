@@ -1,4 +1,5 @@
 #!/usr/bin/env python3
+# SPDX-License-Identifier: Apache-2.0 OR MIT
 """Runs this folder's neighbours, unchanged, on Linux's own driver in the virtual machine.
 
     clients/check kernel raw [--kernel FOLDER] [--packages FOLDER]    the raw tests, and libgbinder's tools where FOLDER has them

@@ -1,3 +1,4 @@
+# SPDX-License-Identifier: Apache-2.0 OR MIT
 """Random scripts, each from a number alone, guided by what the model has so that they reach far: what is there is what most lines name.
 
 They hold only what a real program can ask of the driver: no descriptors, no scatter-gather commands, no BC_REGISTER_LOOPER, no object with

@@ -1,3 +1,4 @@
+/* SPDX-License-Identifier: Apache-2.0 OR MIT */
 /* What a seat asks the device for: reads and writes. */
 #include "player.h"
 

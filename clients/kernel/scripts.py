@@ -1,3 +1,4 @@
+# SPDX-License-Identifier: Apache-2.0 OR MIT
 """Scripts in the player's language (docs/FORMATS.md), with one verb more: `wait LIMIT` is a read that waits until there is something.
 
 A line becomes a seat and a request as space.py takes it. Lines that only the engine's own player can play, as `look` and `post`, become

@@ -1,3 +1,4 @@
+# SPDX-License-Identifier: Apache-2.0 OR MIT
 """The rules of docs/RULES.md as a small model, apart from the engine and from its definitions, with a switch for each way in which
 Linux's driver does otherwise (differences.py).
 

@@ -1,3 +1,4 @@
+# SPDX-License-Identifier: Apache-2.0 OR MIT
 """Commands and returns as bytes, by the names of the header (docs/FORMATS.md)."""
 import struct
 from collections import namedtuple

@@ -1,3 +1,4 @@
+/* SPDX-License-Identifier: Apache-2.0 OR MIT */
 /*
  * binder.h: one open of a Binder device, by plain ioctls of <linux/android/binder.h>.
  *

@@ -1,3 +1,4 @@
+/* SPDX-License-Identifier: Apache-2.0 OR MIT */
 /*
  * hullpippin-hello [NAME]: a service to begin with. It registers with the context manager of /dev/binder as `hello`, or
  * as what is said, and answers each call with a greeting until it is killed.

@@ -1,3 +1,4 @@
+/* SPDX-License-Identifier: Apache-2.0 OR MIT */
 /*
  * hullpippin-hwservicemanager [-v] [DEVICE]: a context manager for HIDL services,
  * android.hidl.manager@1.0::IServiceManager, on /dev/hwbinder where nothing else is said. It gets, adds and lists

@@ -1,3 +1,4 @@
+/* SPDX-License-Identifier: Apache-2.0 OR MIT */
 /*
  * looper.h: a thread that calls and is called through an open device. It acknowledges what the driver tells it of its
  * own objects, gives buffers back, and serves calls that come in, also those that come while it waits for a reply.

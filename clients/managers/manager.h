@@ -1,3 +1,4 @@
+/* SPDX-License-Identifier: Apache-2.0 OR MIT */
 /*
  * manager.h: what the two context managers have in common: the device, the registry, and the objects they hold.
  *

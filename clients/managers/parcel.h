@@ -1,3 +1,4 @@
+/* SPDX-License-Identifier: Apache-2.0 OR MIT */
 /*
  * parcel.h: what managers read from parcels and write into them: numbers, names in UTF-16, objects, and buffers of
  * HIDL.

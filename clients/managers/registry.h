@@ -1,3 +1,4 @@
+/* SPDX-License-Identifier: Apache-2.0 OR MIT */
 /*
  * registry.h: services by their names. A name is bytes; a service is the handle of its object. Names are kept in
  * order, so that one is found in a few steps among hundreds.

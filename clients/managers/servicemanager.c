@@ -1,3 +1,4 @@
+/* SPDX-License-Identifier: Apache-2.0 OR MIT */
 /*
  * hullpippin-servicemanager [-v] [DEVICE]: a context manager for AIDL services, android.os.IServiceManager, on
  * /dev/binder where nothing else is said. It gets, checks, adds and lists services; one whose process ends is gone.

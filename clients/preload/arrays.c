@@ -1,3 +1,4 @@
+/* SPDX-License-Identifier: Apache-2.0 OR MIT */
 /*
  * arrays.c: descriptors of FDA objects. As the kernel's driver does, the library closes them when their receiver gives the
  * buffer back that they came with; by their numbers, whatever these stand for then. Those of FD objects are the receiver's own.

@@ -1,3 +1,4 @@
+/* SPDX-License-Identifier: Apache-2.0 OR MIT */
 /*
  * device.c: open binder files: a table from descriptors to devices. A device ends with the last of its descriptors and of its window:
  * as with the kernel's, a mapping is as good as a descriptor.

@@ -1,3 +1,4 @@
+/* SPDX-License-Identifier: Apache-2.0 OR MIT */
 /* ioctl.c: the ioctls of a binder file. */
 #include "preload.h"
 

@@ -1,3 +1,4 @@
+/* SPDX-License-Identifier: Apache-2.0 OR MIT */
 /*
  * link.c: a thread's way to the daemon: its page, its bell and its socket. It ends with the thread, or once its
  * device is closed.

@@ -1,3 +1,4 @@
+/* SPDX-License-Identifier: Apache-2.0 OR MIT */
 /*
  * memory.c: whether the program's pointers lead anywhere. The kernel answers a bad one with EFAULT; here to follow it would end the
  * program. So the kernel is asked about each page before it's touched: by system calls that look at a word and do nothing

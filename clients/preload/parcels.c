@@ -1,3 +1,4 @@
+/* SPDX-License-Identifier: Apache-2.0 OR MIT */
 /*
  * parcels.c: puts the parcel of a transaction or reply into the page: data, offsets, and the buffers that its PTR
  * objects point at. In the copy pointers become places, and descriptors become indices of the packet that brings them

@@ -1,3 +1,4 @@
+/* SPDX-License-Identifier: Apache-2.0 OR MIT */
 /*
  * paths.c: what programs call with a binder file's path, or to know what a file is. A path is made plain first: `//dev/./binder` is
  * /dev/binder, and so is `binder` where the folder is /dev. Links on the way aren't followed.

@@ -1,3 +1,4 @@
+/* SPDX-License-Identifier: Apache-2.0 OR MIT */
 /*
  * poll.c: waiting for a binder file. In its place the calling thread's doorbell is waited for, since it is threads
  * that have something to read. With epoll it is the doorbell of the thread that has added the file.

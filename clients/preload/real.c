@@ -1,3 +1,4 @@
+/* SPDX-License-Identifier: Apache-2.0 OR MIT */
 /* real.c: the functions that this library stands before, and what it tells. */
 #include "preload.h"
 

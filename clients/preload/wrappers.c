@@ -1,3 +1,4 @@
+/* SPDX-License-Identifier: Apache-2.0 OR MIT */
 /* wrappers.c: what programs call: the functions of libc that may get a binder file's descriptor. */
 #include "preload.h"
 

@@ -1,3 +1,4 @@
+/* SPDX-License-Identifier: Apache-2.0 OR MIT */
 /*
  * write_read.c: BINDER_WRITE_READ: the commands go to the daemon as many at a time as a page takes, with the last of
  * them the read.

@@ -1,3 +1,4 @@
+# SPDX-License-Identifier: Apache-2.0 OR MIT
 """What is tested: the daemon, the preloaded library, the managers and the test clients, built plainly or with sanitizers."""
 import os
 import subprocess

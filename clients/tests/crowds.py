@@ -1,3 +1,4 @@
+# SPDX-License-Identifier: Apache-2.0 OR MIT
 """What many clients, or hostile ones, do to the time and the room of others."""
 import os
 import time

@@ -1,3 +1,4 @@
+# SPDX-License-Identifier: Apache-2.0 OR MIT
 """Where a daemon lives, who may come there, and how it's started."""
 import fcntl
 import os

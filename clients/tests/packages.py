@@ -1,3 +1,4 @@
+# SPDX-License-Identifier: Apache-2.0 OR MIT
 """libgbinder, its tools and its headers, from Debian's packages: the real clients.
 
     packages.py FOLDER      fetches them into a folder

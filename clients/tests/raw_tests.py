@@ -1,3 +1,4 @@
+# SPDX-License-Identifier: Apache-2.0 OR MIT
 """Tests with our own clients alone, which need nothing but the kernel's header."""
 import os
 import re

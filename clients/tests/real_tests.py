@@ -1,3 +1,4 @@
+# SPDX-License-Identifier: Apache-2.0 OR MIT
 """Tests with libgbinder: its own tools, and programs of ours against its public headers."""
 import os
 import signal

@@ -1,3 +1,4 @@
+# SPDX-License-Identifier: Apache-2.0 OR MIT
 """Soaks: clients and services that come, call and are killed at random, while the daemon's memory is watched."""
 import random
 import threading

@@ -1,3 +1,4 @@
+# SPDX-License-Identifier: Apache-2.0 OR MIT
 """Where a test plays: a daemon with a socket of its own in a folder that goes away, and the programs that run against it.
 
 All processes are started in sessions of their own, and are ended with the stage, whatever happens.

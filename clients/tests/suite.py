@@ -1,3 +1,4 @@
+# SPDX-License-Identifier: Apache-2.0 OR MIT
 """The list of tests, and how they are run: one line for each."""
 import re
 import time

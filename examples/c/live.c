@@ -1,3 +1,4 @@
+/* SPDX-License-Identifier: Apache-2.0 OR MIT */
 /*
  * live: a one-way call from one process to another, over an engine that keeps no history. Each step's entry is appended to a file
  * as soon as the step is made, and the file is a journal once the number of its entries is put into its heading.

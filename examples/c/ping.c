@@ -1,3 +1,4 @@
+/* SPDX-License-Identifier: Apache-2.0 OR MIT */
 /*
  * ping: two seats of one driver, each in a thread of its own. The first opens a process and becomes the context manager;
  * the second calls it. With the word `call` the call is two-way and is replied to; with `one-way` it isn't.

@@ -1,3 +1,4 @@
+// SPDX-License-Identifier: Apache-2.0 OR MIT
 //! Hullpippin's library as safe Rust: a [`Driver`], its [`Seat`]s, each of which may go to a thread of its own, and the
 //! [`Outcome`] of a seat's request; or a [`Live`] engine, which keeps no history. Needs nothing but std; link with `libbd_c.a` and
 //! the kit's C library object.

@@ -1,3 +1,4 @@
+// SPDX-License-Identifier: Apache-2.0 OR MIT
 //! The worked runs of docs/EXAMPLES.md by two seats of one driver, each in a thread of its own.
 //!
 //!     ping one-way|call [JOURNAL]

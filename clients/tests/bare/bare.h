@@ -1,3 +1,4 @@
+/* SPDX-License-Identifier: Apache-2.0 OR MIT */
 /*
  * bare.h: a bare relay: what a daemon would cost that had no engine and checked nothing.
  *

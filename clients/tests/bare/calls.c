@@ -1,3 +1,4 @@
+/* SPDX-License-Identifier: Apache-2.0 OR MIT */
 /* calls.c: calls, replies and their parcels. */
 #include "bare.h"
 

@@ -1,3 +1,4 @@
+/* SPDX-License-Identifier: Apache-2.0 OR MIT */
 /* bare SOCKET: a bare relay (bare.h) that listens at a path until it is killed. */
 #include "bare.h"
 

@@ -1,3 +1,4 @@
+/* SPDX-License-Identifier: Apache-2.0 OR MIT */
 /* pages.c: requests in pages, and their answers, as the daemon has them. */
 #include "bare.h"
 

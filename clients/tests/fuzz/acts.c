@@ -1,3 +1,4 @@
+/* SPDX-License-Identifier: Apache-2.0 OR MIT */
 /* Acts of the hostile on their own, as clients that nobody talks to. */
 #include "acts.h"
 #include "hostile.h"

@@ -1,3 +1,4 @@
+/* SPDX-License-Identifier: Apache-2.0 OR MIT */
 /*
  * acts.h: what a hostile client does. Each act runs in a process of its own, which is killed after a moment or ends
  * by itself.

@@ -1,3 +1,4 @@
+/* SPDX-License-Identifier: Apache-2.0 OR MIT */
 /* Commands that are nearly right: known codes, records with a field or two that lie, parcels with objects out of
    place. */
 #include "hostile.h"

@@ -1,3 +1,4 @@
+/* SPDX-License-Identifier: Apache-2.0 OR MIT */
 /*
  * fuzz SECONDS [SEED [ACT..]]: hostile clients of the daemon whose socket HULLPIPPIN_SOCKET names, four at a time, each
  * a process that plays one act; it ends by itself or is killed at a random moment. Prints how many there were of each

@@ -1,3 +1,4 @@
+/* SPDX-License-Identifier: Apache-2.0 OR MIT */
 /*
  * garbage SECONDS SEED aidl|hidl: requests of a context manager that are nearly right: a header that is mostly true,
  * and behind it names, numbers, objects and buffers in any order, whose sizes lie. Every so often the manager has to

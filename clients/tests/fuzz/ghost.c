@@ -1,3 +1,4 @@
+/* SPDX-License-Identifier: Apache-2.0 OR MIT */
 /*
  * ghost: a context manager's connection is sent to the manager itself, which never reads the parcel, and is killed. So the daemon has
  * the other end of what it waits for. The manager goes all the same, and another can be it.

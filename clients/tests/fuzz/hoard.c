@@ -1,3 +1,4 @@
+/* SPDX-License-Identifier: Apache-2.0 OR MIT */
 /*
  * hoard connections|threads COUNT [UID]: takes as many connections that open nothing, or as many threads of an open file, as it is let
  * have, up to so many, and keeps them. Prints how many these were, and `full` where it was told EMFILE or sent away. With a user it is that one's.

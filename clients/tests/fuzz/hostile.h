@@ -1,3 +1,4 @@
+/* SPDX-License-Identifier: Apache-2.0 OR MIT */
 /*
  * hostile.h: a client that speaks the daemon's protocol by itself, to speak it wrongly. What it is refused doesn't
  * matter to it, so nothing here is checked for success that isn't needed further on.

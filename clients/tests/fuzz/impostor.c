@@ -1,3 +1,4 @@
+/* SPDX-License-Identifier: Apache-2.0 OR MIT */
 /*
  * impostor SET-UID-PROGRAM: calls in the name of a process that has more rights than who makes them. A process opens the device, and gives
  * its pages to an accomplice. The one becomes a set-uid program then, and another, which was root's, has ended: its folder in /proc is

@@ -1,3 +1,4 @@
+/* SPDX-License-Identifier: Apache-2.0 OR MIT */
 /*
  * linger: a client leaves a connection that lingers for some seconds in a socket of the daemon's and is gone, so that
  * whoever closes that waits. Nobody else may: prints how long the next client took to come, in milliseconds, and fails

@@ -1,3 +1,4 @@
+/* SPDX-License-Identifier: Apache-2.0 OR MIT */
 /* Acts of pairs, which call each other on a device of their own; and of bells, whose settings the daemon and they
    share. */
 #include "acts.h"

@@ -1,3 +1,4 @@
+/* SPDX-License-Identifier: Apache-2.0 OR MIT */
 /*
  * residue: a page from which the daemon takes a parcel is full of what was sent to somebody else before. None of that comes into the
  * window of who gets this one: not behind its data or its buffers, and not in the room that no buffer has.

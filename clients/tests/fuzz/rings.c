@@ -1,3 +1,4 @@
+/* SPDX-License-Identifier: Apache-2.0 OR MIT */
 /*
  * rings threads|files|users COUNT DEVICE [UID]: keeps so many threads of clients asking until it is killed, each for a full stream of
  * commands that are all accepted: threads of one open file, open files of one process, or processes of their own, which are

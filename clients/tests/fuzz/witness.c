@@ -1,3 +1,4 @@
+/* SPDX-License-Identifier: Apache-2.0 OR MIT */
 /*
  * witness SECONDS: an honest server and an honest client, which call all the time, by way of an object that nobody
  * else has a handle of. Each answer has to be the right one. Prints how many there were, the median, and the longest

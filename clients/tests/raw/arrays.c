@@ -1,3 +1,4 @@
+/* SPDX-License-Identifier: Apache-2.0 OR MIT */
 /*
  * arrays [TIMES]: two descriptors of an FDA object, and one of an FD object, go to the server, which sends them back, as often
  * as asked. Those of the FDA object are open until their receiver gives the buffer back, and closed then, by their numbers:

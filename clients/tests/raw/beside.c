@@ -1,3 +1,4 @@
+/* SPDX-License-Identifier: Apache-2.0 OR MIT */
 /*
  * beside idle|callers COUNT [CALLS]: what a call takes beside so many others who do nothing: processes whose looper waits, or threads
  * of one process that wait for the reply of a call which nobody answers. Prints medians alone and beside them, and the longest of the

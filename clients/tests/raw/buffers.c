@@ -1,3 +1,4 @@
+/* SPDX-License-Identifier: Apache-2.0 OR MIT */
 /*
  * buffers: of the PTR and FDA objects of a parcel those are taken that Linux's driver takes, and a receiver finds the pointers in
  * its buffers that the objects tell of. All others are refused: nothing is put over anything else, or where no buffer is.

@@ -1,3 +1,4 @@
+/* SPDX-License-Identifier: Apache-2.0 OR MIT */
 /*
  * busy serve|call|hold [SECONDS]: a part of a soak, to be killed at any time. `serve` becomes the context manager,
  * however often another has to go first; `call` calls in turn one-way and two-way, with objects, descriptors and

@@ -1,3 +1,4 @@
+/* SPDX-License-Identifier: Apache-2.0 OR MIT */
 /*
  * callers: a receiver is told the effective uid that the main thread of its caller's process has at the call, and not what it had when the
  * device was opened: of calls with objects too, of one-way calls, and of replies. With the word `serve` it is only the other side,

@@ -1,3 +1,4 @@
+/* SPDX-License-Identifier: Apache-2.0 OR MIT */
 /*
  * cancelled: a thread that is to be cancelled ends at its next cancellation point, and what it does with a binder file has none where
  * Linux's driver has none: an ioctl or a mapping is done as ever, and leaves nothing locked or open. A wait by poll is one.

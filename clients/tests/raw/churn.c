@@ -1,3 +1,4 @@
+/* SPDX-License-Identifier: Apache-2.0 OR MIT */
 /*
  * churn CLIENTS: so many clients come to a server one after the other, give it an object, are called back, and are
  * killed or end without a word. Prints the daemon's resident memory in KiB and its descriptors, in the middle and at

@@ -1,3 +1,4 @@
+/* SPDX-License-Identifier: Apache-2.0 OR MIT */
 /*
  * deaths: who holds an object hears of its process's end, in both directions; who waits for a reply hears it at once, also
  * where just the server's thread ends, or its file is closed; who asks afterwards too; and a notification that was taken back

@@ -1,3 +1,4 @@
+/* SPDX-License-Identifier: Apache-2.0 OR MIT */
 /*
  * descriptors [TIMES]: a descriptor goes to the server, which reads through it and sends one back, as often as asked.
  * In the end nobody has more open than after the first hundred: not the client, the server or the daemon between

@@ -1,3 +1,4 @@
+/* SPDX-License-Identifier: Apache-2.0 OR MIT */
 /*
  * files: what is done with an open file besides calls: it is waited for by poll, select and epoll, copied and closed; a
  * signal ends a read that waits; a little room gets what fits into it; and the child of a fork has none of its parent's.

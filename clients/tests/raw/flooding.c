@@ -1,3 +1,4 @@
+/* SPDX-License-Identifier: Apache-2.0 OR MIT */
 /*
  * flooding asked|unasked: who has asked for it is told when its one-way calls take more than a quarter of a window, of each
  * call as long as they do. Who hasn't asked, or does no longer, is told of nothing. (That is the rule of this project. Linux's driver

@@ -1,3 +1,4 @@
+/* SPDX-License-Identifier: Apache-2.0 OR MIT */
 /*
  * latency [CALLS [BYTES]]: round trips of calls with so many bytes to a process that answers at once, with its answer
  * and its next read in one go.

@@ -1,3 +1,4 @@
+/* SPDX-License-Identifier: Apache-2.0 OR MIT */
 /*
  * leftovers: no byte of an earlier parcel goes on with a later one. A secret is sent, and then a parcel whose buffer of one byte leaves
  * much of the room that was asked for; its receiver looks behind that byte. And the sender looks at its page, which the daemon

@@ -1,3 +1,4 @@
+/* SPDX-License-Identifier: Apache-2.0 OR MIT */
 /*
  * lives: what a file is besides its calls, as Linux's driver has it. A process lives as long as its window is mapped, also after its last
  * descriptor is closed; a read that waits comes back when a copy is closed; a thread's first ioctl, if it is a read, comes back at once;

@@ -1,3 +1,4 @@
+/* SPDX-License-Identifier: Apache-2.0 OR MIT */
 /*
  * many CALLERS THREADS CALLS [BYTES]: so many processes call at once, each so often and with so many bytes, one that
  * serves them on so many threads and answers with the same bytes. Tells what a call takes, of all together.

@@ -1,3 +1,4 @@
+/* SPDX-License-Identifier: Apache-2.0 OR MIT */
 /*
  * namespaces: a process is told the pid of its caller as its own pid namespace has it, and 0 where that one has none for it. A server and
  * a client are in a namespace of their own; the manager is outside.

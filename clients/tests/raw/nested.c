@@ -1,3 +1,4 @@
+/* SPDX-License-Identifier: Apache-2.0 OR MIT */
 /*
  * nested: a client gives a server an object of its own; the server calls it while it serves, and is called again by
  * it, and so on, as deep as asked. Each level adds one, so the answer tells how many there were.

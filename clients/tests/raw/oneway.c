@@ -1,3 +1,4 @@
+/* SPDX-License-Identifier: Apache-2.0 OR MIT */
 /*
  * oneway: one-way calls come in the order in which they were made, none twice and none lost; they don't wait for the
  * server, and one that would take more than half of its window is refused while those before it are still there.

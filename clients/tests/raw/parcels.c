@@ -1,3 +1,4 @@
+/* SPDX-License-Identifier: Apache-2.0 OR MIT */
 /*
  * parcels: of many sizes, there and back the same, also where they are larger than the page by which small ones go;
  * one past the receiver's window is refused, and harms none that comes after it. Their flags come as they were written.

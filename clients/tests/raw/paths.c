@@ -1,3 +1,4 @@
+/* SPDX-License-Identifier: Apache-2.0 OR MIT */
 /*
  * paths: the device is found by all the ways in which programs look for a file, and is a character device to all of them; what isn't
  * there isn't there for any.

@@ -1,3 +1,4 @@
+/* SPDX-License-Identifier: Apache-2.0 OR MIT */
 /*
  * places: a descriptor that its receiver doesn't read yet waits for it, whatever others send meanwhile: many more descriptors, on
  * another device, which are refused once too many of a process are on their way (Linux's driver has no such bound); and parcels that

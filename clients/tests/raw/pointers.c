@@ -1,3 +1,4 @@
+/* SPDX-License-Identifier: Apache-2.0 OR MIT */
 /*
  * pointers: one that leads nowhere is EFAULT, as from the kernel, and ends nobody: the argument of an ioctl, commands, the place for
  * returns. A parcel that isn't there is refused. What comes before is done, what comes afterwards works.

@@ -1,3 +1,4 @@
+/* SPDX-License-Identifier: Apache-2.0 OR MIT */
 /*
  * pool: a server whose further threads are started when the driver asks for them, up to the number it was told, and a
  * client of many threads. Calls that wait for one another inside the server show that they are served at once.

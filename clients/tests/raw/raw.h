@@ -1,3 +1,4 @@
+/* SPDX-License-Identifier: Apache-2.0 OR MIT */
 /*
  * raw.h: what the raw clients have in common. Each is a program that starts its own other side as a process, over a
  * device that has no context manager yet; it prints one line and ends with 0, or says where it failed and ends with

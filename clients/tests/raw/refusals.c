@@ -1,3 +1,4 @@
+/* SPDX-License-Identifier: Apache-2.0 OR MIT */
 /*
  * refusals: what the device refuses it refuses as the kernel's does, and nothing of it harms what comes next.
  */

@@ -1,3 +1,4 @@
+/* SPDX-License-Identifier: Apache-2.0 OR MIT */
 /*
  * relay sockets|page [CALLS]: what a round trip costs without any engine: a client, a relay and a server as
  * processes, which hand 100 bytes on through sockets, or ring one another by futexes on a shared page.

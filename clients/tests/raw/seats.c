@@ -1,3 +1,4 @@
+/* SPDX-License-Identifier: Apache-2.0 OR MIT */
 /*
  * seats: a device with a journal has 31 seats: the daemon's own, the context manager's, and 29 for callers who wait all at
  * once. One caller more is refused, and is served when the others are done.

@@ -1,3 +1,4 @@
+/* SPDX-License-Identifier: Apache-2.0 OR MIT */
 /*
  * services [COUNT]: registers so many services, each of a process of its own, with a context manager that speaks AIDL and runs
  * already, finds and lists them all, and calls one. A call takes no longer with all of them than with one; a look-up, whose reply

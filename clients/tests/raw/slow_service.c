@@ -1,3 +1,4 @@
+/* SPDX-License-Identifier: Apache-2.0 OR MIT */
 /*
  * slow_service: services are added to hullpippin-hwservicemanager that never tell their interfaces, which it asks them for. Nobody
  * else waits for that: others add and find services meanwhile. Who has as many of these waiting as a process may have is told that

@@ -1,3 +1,4 @@
+/* SPDX-License-Identifier: Apache-2.0 OR MIT */
 /*
  * two_opens: a process that opens the device twice is two processes to the driver. One of its threads serves through
  * the one and others call through the other; after the one is closed, the other goes on. Only the context manager can't be called

@@ -1,3 +1,4 @@
+/* SPDX-License-Identifier: Apache-2.0 OR MIT */
 /* versions: opens the device, and asks for its protocol: what a program does that only wants to know whether it is there. */
 #include "raw.h"
 

@@ -1,3 +1,4 @@
+/* SPDX-License-Identifier: Apache-2.0 OR MIT */
 /*
  * ways: small ways of Linux's driver. A two-way call leaves nothing to be read before its reply, also where it carries an object; a
  * thread that never was in the loop isn't told that a death notification was taken back, but another of its process is, which

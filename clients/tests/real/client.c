@@ -1,3 +1,4 @@
+/* SPDX-License-Identifier: Apache-2.0 OR MIT */
 /*
  * client NAME MODE [NUMBER [NUMBER]]: a client by libgbinder of the service in service.c; the modes stand in the
  * table at the end. Prints a line, or says what is wrong and ends with 1. DEVICE and PROTOCOL in the environment say

@@ -1,3 +1,4 @@
+/* SPDX-License-Identifier: Apache-2.0 OR MIT */
 /* client.h: what the parts of the client share. */
 #ifndef HULLPIPPIN_TESTS_CLIENT_H
 #define HULLPIPPIN_TESTS_CLIENT_H

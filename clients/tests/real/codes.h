@@ -1,3 +1,4 @@
+/* SPDX-License-Identifier: Apache-2.0 OR MIT */
 /* codes.h: what the test service answers to, and how the programs here say that something is wrong. */
 #ifndef HULLPIPPIN_TESTS_CODES_H
 #define HULLPIPPIN_TESTS_CODES_H

@@ -1,3 +1,4 @@
+/* SPDX-License-Identifier: Apache-2.0 OR MIT */
 /* common.h: what clients and services share besides codes: pipes with a word in them, counts of open descriptors, replies. */
 #ifndef HULLPIPPIN_TESTS_COMMON_H
 #define HULLPIPPIN_TESTS_COMMON_H

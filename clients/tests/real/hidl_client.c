@@ -1,3 +1,4 @@
+/* SPDX-License-Identifier: Apache-2.0 OR MIT */
 /* hidl_client: calls hidl_service in each of its ways; strings and vectors go as scatter-gather buffers that point
    at one another. Prints a line, or says what is wrong and ends with 1. */
 #include "codes.h"

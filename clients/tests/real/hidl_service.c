@@ -1,3 +1,4 @@
+/* SPDX-License-Identifier: Apache-2.0 OR MIT */
 /* hidl_service: a HIDL service by libgbinder, hullpippin.test@1.0::IEcho/default on /dev/hwbinder. Code 1 answers
    a string by a string, 2 a vector of strings by the same, 3 counts one-way calls, 4 tells the count. Prints
    `ready`. */

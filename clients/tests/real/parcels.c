@@ -1,3 +1,4 @@
+/* SPDX-License-Identifier: Apache-2.0 OR MIT */
 /* Modes of the client about what parcels carry: many bytes, too many, descriptors, and values of all kinds. */
 #include "client.h"
 #include "common.h"

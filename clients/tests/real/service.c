@@ -1,3 +1,4 @@
+/* SPDX-License-Identifier: Apache-2.0 OR MIT */
 /*
  * service NAME [COUNT [DEVICE [PROTOCOL]]]: registers a test service by libgbinder, or with a COUNT so many, as
  * NAME0, NAME1 and so on, and serves until it is killed. Prints `ready` then, and `dead` for each object whose end it

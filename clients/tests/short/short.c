@@ -1,3 +1,4 @@
+/* SPDX-License-Identifier: Apache-2.0 OR MIT */
 /*
  * short.c: goes into a daemon of the tests, whose histories can take no more after so many steps: what the engine answers
  * after 4294967295, which the daemon knows too. The linker has the daemon call these in the library's place. With SHORT_OF_MEMORY in its environment the

@@ -1,3 +1,4 @@
+# SPDX-License-Identifier: Apache-2.0 OR MIT
 # Completion of bplay for fish.
 complete -c bplay -n __fish_use_subcommand -f -a run -d 'Play a script'
 complete -c bplay -n __fish_use_subcommand -f -a check -d 'Judge a journal'
