@@ -82,6 +82,9 @@ static int run_call(struct run *run, uint32_t code, const uint8_t *payload)
         return EPERM;
     parcel.tells_euid = parcel.euid != process->euid;
     memcpy(&record, payload, _IOC_SIZE(code));
+    if (!is_reply && calls_own_manager(run, &record.transaction_data))
+        record.transaction_data.target.handle = NO_HANDLE;
+    reach_before_call(run->thread, is_reply, &record.transaction_data);
     if (may_fit(run->thread, &record, is_reply))
         parcel_fetch(&parcel, run->thread, &record, run->fds, run->fd_count);
     else
@@ -89,8 +92,6 @@ static int run_call(struct run *run, uint32_t code, const uint8_t *payload)
     run->engine->copied += parcel.data_size + parcel.offsets_size;
 
     struct call_command command = {is_reply ? BC_REPLY : BC_TRANSACTION, record.transaction_data};
-    if (!is_reply && calls_own_manager(run, &record.transaction_data))
-        command.data.target.handle = NO_HANDLE;
     if (!parcel.is_lost) {
         command.data.data_size = parcel.data_size;
         command.data.offsets_size = parcel.offsets_size;

@@ -181,7 +181,6 @@ int engine_command(struct engine *engine, uint32_t seat, const void *command, si
 int engine_call(struct engine *engine, uint32_t seat, const void *command, size_t size, const uint8_t *data, size_t data_size,
                 const uint8_t *offsets, size_t offsets_size)
 {
-    reach_before_call(engine, seat, command, offsets_size > 0);
     int error = stepped(engine, hullpippin_live_command(&engine->live, seat, command, size, data_size ? data : HULLPIPPIN_NOWHERE,
                                                         data_size, offsets_size ? offsets : HULLPIPPIN_NOWHERE, offsets_size,
                                                         &engine->answer));

@@ -148,14 +148,11 @@ static struct process *learn_owner(struct process *process, uint32_t handle)
     return receiver;
 }
 
-void reach_before_call(struct engine *engine, uint32_t seat, const void *command, bool has_objects)
+void reach_before_call(struct thread *thread, bool is_reply, const struct binder_transaction_data *data)
 {
-    struct call call;
-    struct thread *thread = engine->lent[seat];
-    memcpy(&call, command, sizeof call);
-    uint32_t handle = (uint32_t)call.data.target.handle;
-    engine->is_learning = thread && !has_objects && call.code == BC_TRANSACTION && handle && !find_owner(thread->process, handle)
-                          && tries(thread->process);
+    struct engine *engine = thread->process->engine;
+    uint32_t handle = data->target.handle;
+    engine->is_learning = !data->offsets_size && !is_reply && handle && !find_owner(thread->process, handle) && tries(thread->process);
     while (engine->is_learning && !all_were_looked_at(engine))
         settle_more(engine, thread);
 }

@@ -51,6 +51,13 @@ for word in ("asked", "unasked"):
     plays("flooding", word, title=f"flooding {word}")
 
 
+@test("raw crossed")
+def crossed(build):
+    """Without a journal, so that there are seats for all."""
+    with Stage(build) as stage:
+        return stage.run([build.raw("crossed"), "3"], 120)
+
+
 @test("raw paths")
 def paths(build):
     with Stage(build) as stage:

@@ -2,7 +2,8 @@
 /*
  * ways: small ways of Linux's driver. A two-way call leaves nothing to be read before its reply, also where it carries an object; a
  * thread that never was in the loop isn't told that a death notification was taken back, but another of its process is, which
- * waits, or polls, or comes later; the manager can't have a reference on itself.
+ * waits, or polls, or comes later; the manager can't have a reference on itself. And a reply comes, however much its call's write goes on
+ * with.
  */
 #include "raw.h"
 
@@ -15,7 +16,10 @@
 #include <sys/ioctl.h>
 #include <unistd.h>
 
-enum { GIVE = 1, TAKE, ASK_ITSELF };
+enum { GIVE = 1, TAKE, ASK_ITSELF, ANSWER };
+
+/* Commands that take some turns of the daemon. */
+#define GOING_ON 480
 
 #define COOKIE 0x777000
 
@@ -96,6 +100,24 @@ static void defers(void)
     binder_close(&client.binder);
 }
 
+/* So much follows the call that others have their turns before the read begins. */
+static void goes_on(void)
+{
+    struct client client;
+    struct binder_transaction_data call = {.code = ANSWER};
+    struct commands commands = {0};
+    uint32_t room[64];
+    raw_open(&client, WINDOW, NULL);
+    put_record(&commands, BC_TRANSACTION, &call);
+    for (int i = 0; i < GOING_ON; i++)
+        put_code(&commands, BC_ENTER_LOOPER);
+    struct binder_write_read both = {.write_size = commands.size, .write_buffer = (uintptr_t)commands.bytes,
+                                     .read_size = sizeof room, .read_buffer = (uintptr_t)room};
+    CHECK(!ioctl(client.binder.fd, BINDER_WRITE_READ, &both), "no write and read");
+    CHECK(both.read_consumed == 3 * sizeof(uint32_t) + sizeof call && room[2] == BR_REPLY, "%llu bytes came", both.read_consumed);
+    binder_close(&client.binder);
+}
+
 /* Its threads: one that takes notifications back, and one in the loop. */
 static struct client both;
 static uint32_t handle;
@@ -156,6 +178,7 @@ int main(void)
     pid_t manager = raw_start_manager(serve);
     defers();
     tells_another();
+    goes_on();
     raw_open(&client, WINDOW, NULL);
     CHECK(raw_ask(&client.looper, (struct call){.code = ASK_ITSELF}) == 0, "the manager has a reference on itself");
     printf("nothing before a reply, told to another, none on itself\n");

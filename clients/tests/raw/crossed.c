@@ -1,0 +1,131 @@
+/*
+ * crossed SECONDS [IDLE]: parcels that are on their way at once stay apart. Some processes call a service again and again with objects
+ * and buffers, of which the daemon keeps some beside the engine. Another one calls an echo, each time by a handle that it has just got,
+ * which has the daemon look for who is called, and for all that is to be read by others, before the call. Those that only wait make that
+ * take its time.
+ */
+#include "raw.h"
+
+#include <stdio.h>
+#include <stdlib.h>
+#include <string.h>
+#include <unistd.h>
+
+enum { KEEP_SINK = 1, KEEP_ECHO, HAND_SINK, HAND_ECHO };
+
+#define BYTES 3000
+#define SENDERS 3
+#define MOST 512
+
+static uint32_t kept[2];
+
+static void manage(struct looper *looper, const struct binder_transaction_data *call)
+{
+    struct writer writer = {0};
+    if (call->code == KEEP_SINK || call->code == KEEP_ECHO)
+        kept[call->code - KEEP_SINK] = raw_keep(looper, call);
+    else
+        write_strong_handle(&writer, kept[call->code - HAND_SINK]);
+    struct binder_transaction_data answer = record_of(&writer);
+    CHECK(looper_answer(looper, &answer, 0), "can't answer");
+    writer_free(&writer);
+}
+
+static void echo(struct looper *looper, const struct binder_transaction_data *call)
+{
+    raw_answer(looper, raw_data(call), call->data_size);
+}
+
+static void run_echo(void *with)
+{
+    struct client client;
+    (void)with;
+    raw_open(&client, WINDOW, echo);
+    raw_give(&client, KEEP_ECHO);
+    raw_ready();
+    looper_run(&client.looper);
+}
+
+static void run_sink(void *with)
+{
+    struct client client;
+    (void)with;
+    raw_open(&client, WINDOW, NULL);
+    raw_give(&client, KEEP_SINK);
+    raw_ready();
+    looper_run(&client.looper);
+}
+
+static void wait_idle(void *with)
+{
+    struct client client;
+    (void)with;
+    raw_open(&client, WINDOW, NULL);
+    put_code(&client.looper.commands, BC_ENTER_LOOPER);
+    CHECK(looper_flush(&client.looper), "can't enter the loop");
+    raw_ready();
+    looper_run(&client.looper);
+}
+
+static void send_on(void *with)
+{
+    static uint8_t bytes[BYTES];
+    struct client client;
+    struct binder_transaction_data reply;
+    (void)with;
+    memset(bytes, 0xee, sizeof bytes);
+    raw_open(&client, WINDOW, NULL);
+    CHECK(raw_call(&client.looper, (struct call){.code = HAND_SINK}, &reply) == BR_REPLY, "no service is handed over");
+    uint32_t handle = raw_keep(&client.looper, &reply);
+    looper_free(&client.looper, &reply);
+    raw_ready();
+    for (;;) {
+        struct writer writer = {0};
+        write_buffer(&writer, bytes, sizeof bytes, -1, 0);
+        write_own_object(&writer, 0x1000, 0x1000);
+        CHECK(raw_call_with(&client.looper, (struct call){.handle = handle}, &writer, &reply) == BR_REPLY, "a parcel isn't taken");
+        looper_free(&client.looper, &reply);
+    }
+}
+
+/* The handle isn't kept, so that it is another one, or means something else, with each turn. */
+static void call_echo(struct client *client, uint32_t number)
+{
+    static uint32_t bytes[BYTES / sizeof(uint32_t)];
+    struct binder_transaction_data handed, reply;
+    struct flat_binder_object object;
+    CHECK(raw_call(&client->looper, (struct call){.code = HAND_ECHO}, &handed) == BR_REPLY, "no echo is handed over");
+    memcpy(&object, raw_data(&handed), sizeof object);
+    for (size_t i = 0; i < sizeof bytes / sizeof *bytes; i++)
+        bytes[i] = number + (uint32_t)i;
+    struct call call = {.handle = object.handle, .bytes = bytes, .size = sizeof bytes};
+    CHECK(raw_call(&client->looper, call, &reply) == BR_REPLY, "call %u wasn't answered", number);
+    CHECK(reply.data_size == sizeof bytes && !memcmp(raw_data(&reply), bytes, sizeof bytes), "the echo of call %u has other bytes", number);
+    looper_free(&client->looper, &reply);
+    looper_free(&client->looper, &handed);
+}
+
+int main(int argc, char **argv)
+{
+    double until = (argc > 1 ? atof(argv[1]) : 2) * 1e6;
+    size_t idle = argc > 2 ? strtoul(argv[2], NULL, 10) : 64, count = 0;
+    pid_t all[MOST];
+    struct client client;
+    uint32_t calls = 0;
+    raw_begin(120);
+    CHECK(idle + SENDERS + 3 <= MOST, "too many");
+    all[count++] = raw_start_manager(manage);
+    all[count++] = raw_start(run_echo, NULL);
+    for (size_t i = 0; i < idle; i++)
+        all[count++] = raw_start(wait_idle, NULL);
+    all[count++] = raw_start(run_sink, NULL);
+    for (size_t i = 0; i < SENDERS; i++)
+        all[count++] = raw_start(send_on, NULL);
+    raw_open(&client, WINDOW, NULL);
+    for (until += raw_now(); raw_now() < until; calls++)
+        call_echo(&client, calls);
+    printf("%u calls beside %u that send parcels with buffers\n", calls, SENDERS);
+    while (count)
+        raw_kill(all[--count]);
+    return 0;
+}
