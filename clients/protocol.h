@@ -5,8 +5,9 @@
  * An open binder file is a control socket (SOCK_SEQPACKET): one packet asks, one answers, in turn. A thread that
  * makes its first ioctl gets, over that socket, three descriptors of its own: a link (a socket for descriptors, whose
  * end is the thread's end), a page of shared memory, and a bell (an eventfd). It writes a request into its page,
- * rings the bell, and waits for the page's state by a futex. Both sides are built from one tree and run on one
- * machine: numbers are as C has them.
+ * rings the bell, and waits for the page's state by a futex. Where that takes long it waits by its link instead, and says
+ * so in its page: then a packet without descriptors tells of the answer, and nobody's end is missed. Both sides are built
+ * from one tree and run on one machine: numbers are as C has them.
  *
  * The daemon trusts nothing of a page: it copies what it needs, once, before it looks at it. So a field may change at
  * any time, and is read through a copy.
@@ -18,7 +19,7 @@
 #include <stdint.h>
 
 /* Goes up with each change of this file: a library of another build is refused. */
-#define PROTOCOL_VERSION 4u
+#define PROTOCOL_VERSION 5u
 
 /* The largest window, as the kernel's is. */
 #define WINDOW_MAX (4u << 20)
@@ -116,6 +117,7 @@ struct page {
     _Atomic uint32_t state;
     _Atomic uint32_t cancel; /* why the client's thread wants its answer now: enum page_cancel */
     _Atomic uint32_t ended;   /* by the daemon: nobody answers here any more */
+    _Atomic uint32_t is_long; /* by the client: it waits by its link */
     _Atomic uint32_t freed;   /* by the client: how many buffers it has given back so far; wraps */
     _Atomic uint32_t taken;   /* by the daemon: how many of these it has seen to */
     uint64_t frees[PAGE_FREES];

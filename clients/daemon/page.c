@@ -19,6 +19,17 @@ void page_copy(void *to, const void *from, size_t size)
     __asm__ volatile("" ::: "memory");
 }
 
+/* Where the link is full of what its client hasn't taken, that wakes it as well. */
+static void wake(struct thread *thread)
+{
+    const uint32_t none = 0;
+    if (atomic_load(&thread->page->is_long))
+        packet_send(thread->link.fd, &none, sizeof none, NULL, 0, MSG_DONTWAIT);
+    else
+        syscall(SYS_futex, &thread->page->state, FUTEX_WAKE, 1, NULL, NULL, 0);
+}
+
+/* The state is set and then it is looked how the client waits; there it's the other way round, so that one of the two sees the other. */
 void page_answer(struct thread *thread, const uint8_t *returns, uint32_t size)
 {
     struct page *page = thread->page;
@@ -26,8 +37,8 @@ void page_answer(struct thread *thread, const uint8_t *returns, uint32_t size)
     if (size)
         memcpy(page->returns, returns, size);
     page->answer = thread->answer;
-    atomic_store_explicit(&page->state, PAGE_ANSWERED, memory_order_release);
-    syscall(SYS_futex, &page->state, FUTEX_WAKE, 1, NULL, NULL, 0);
+    atomic_store(&page->state, PAGE_ANSWERED);
+    wake(thread);
 }
 
 static void answer_error(struct thread *thread, int error)

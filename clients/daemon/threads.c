@@ -75,10 +75,18 @@ static struct page *make_page(int *memory)
     return at == MAP_FAILED ? NULL : at;
 }
 
+/* What the daemon sends there waits in the kernel's memory for a client that may never take it: that are some packets. */
+static bool make_link(int link[2])
+{
+    static const int least = 1;
+    return socketpair(AF_UNIX, SOCK_SEQPACKET | SOCK_CLOEXEC, 0, link) == 0
+           && setsockopt(link[0], SOL_SOCKET, SO_SNDBUF, &least, sizeof least) == 0;
+}
+
 static bool make_parts(struct parts *parts)
 {
     *parts = (struct parts){{-1, -1}, -1, -1, NULL};
-    if (socketpair(AF_UNIX, SOCK_SEQPACKET | SOCK_CLOEXEC, 0, parts->link))
+    if (!make_link(parts->link))
         return false;
     parts->bell = eventfd(0, EFD_CLOEXEC | EFD_NONBLOCK);
     return parts->bell >= 0 && (parts->page = make_page(&parts->memory));

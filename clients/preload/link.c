@@ -11,8 +11,12 @@
 #include <sys/syscall.h>
 #include <time.h>
 
-/* How long a thread waits before it looks whether the daemon is still there. */
-#define LOOK_SECONDS 2
+/* How long a thread waits by the futex, which takes the least time. From then on it waits by its link, where it sees the daemon's
+   end too, and nothing else wakes it. */
+#define SHORT_NANOSECONDS 20000000
+
+/* How long it keeps the memory of large parcels while it waits. */
+#define KEEP_MILLISECONDS 1000
 
 static __thread struct link *links __attribute__((tls_model("initial-exec")));
 static pthread_key_t ends;
@@ -178,36 +182,61 @@ void link_keep_area(struct link *link, uint64_t size)
     }
 }
 
-/* A wait is long. Whether the daemon has gone. */
-static bool rest(struct link *link)
+/* What has ended a wait: it may be the answer; a signal; it takes long; the answer is about to come; or nobody is there to give one. */
+enum woken { WOKEN, INTERRUPTED, LATE, SOON, GONE };
+
+static enum woken wait_shortly(struct page *page)
 {
-    give_area_back(link);
-    struct pollfd file = {.fd = link->socket};
-    return real()->poll(&file, 1, 0) == 1 && file.revents & (POLLHUP | POLLERR);
+    static const struct timespec patience = {.tv_nsec = SHORT_NANOSECONDS};
+    if (syscall(SYS_futex, &page->state, FUTEX_WAIT, PAGE_ASKED, &patience, NULL, 0) == 0)
+        return WOKEN;
+    return errno == EINTR ? INTERRUPTED : errno == ETIMEDOUT ? LATE : WOKEN;
+}
+
+/* Takes the packet that tells of an answer. One with descriptors comes right before an answer that they are of, and stays. */
+static bool take_tiding(const struct link *link)
+{
+    uint32_t told = 0;
+    bool is_one = recv(link->socket, &told, sizeof told, MSG_PEEK | MSG_DONTWAIT) == sizeof told && !told;
+    return is_one && recv(link->socket, &told, sizeof told, MSG_DONTWAIT) == sizeof told;
+}
+
+static enum woken wait_long(struct link *link)
+{
+    struct pollfd file = {.fd = link->socket, .events = POLLIN};
+    int count = real()->poll(&file, 1, link->kept_area ? KEEP_MILLISECONDS : -1);
+    if (count < 0)
+        return errno == EINTR ? INTERRUPTED : WOKEN;
+    if (count == 0)
+        give_area_back(link);
+    else if (!take_tiding(link))
+        return file.revents & (POLLHUP | POLLERR | POLLNVAL) ? GONE : SOON;
+    return WOKEN;
 }
 
 /* Waits for the answer to what was asked. A signal ends a read that waits, as in the kernel: the daemon is asked for
    its answer, and has one at once. */
 static int await(struct link *link, struct page_answer *answer)
 {
-    static const struct timespec patience = {.tv_sec = LOOK_SECONDS};
     struct page *page = link->page;
-    while (atomic_load_explicit(&page->state, memory_order_acquire) == PAGE_ASKED) {
-        if (atomic_load(&page->ended)) {
+    enum woken woken = WOKEN;
+    bool is_long = false;
+    while (atomic_load(&page->state) == PAGE_ASKED) {
+        if (woken == GONE || atomic_load(&page->ended)) {
             *answer = (struct page_answer){.error = ENODEV};
             return ENODEV;
         }
-        if (syscall(SYS_futex, &page->state, FUTEX_WAIT, PAGE_ASKED, &patience, NULL, 0) == 0)
-            continue;
-        if (errno == EINTR) {
+        woken = is_long ? wait_long(link) : wait_shortly(page);
+        if (woken == LATE || woken == SOON) {
+            is_long = woken == LATE;
+            atomic_store(&page->is_long, is_long); /* before it is looked for the answer */
+        } else if (woken == INTERRUPTED) {
             atomic_store(&page->cancel, CANCEL_INTERRUPTED);
             ring(link);
-        } else if (errno == ETIMEDOUT && rest(link)
-                   && atomic_load_explicit(&page->state, memory_order_acquire) == PAGE_ASKED) {
-            *answer = (struct page_answer){.error = ENODEV};
-            return ENODEV;
         }
     }
+    if (is_long)
+        atomic_store_explicit(&page->is_long, 0, memory_order_relaxed); /* nothing is asked, which comes before it is again */
     *answer = page->answer;
     atomic_store_explicit(&page->state, PAGE_IDLE, memory_order_relaxed);
     return answer->error;
@@ -250,17 +279,28 @@ bool link_free_buffers(struct link *link, const uint64_t *buffers, uint32_t coun
     return true;
 }
 
+/* Tidings of answers that were seen without them may come before. */
+int link_receive(struct link *link, int *fds, uint32_t room, uint32_t *count)
+{
+    uint32_t told;
+    do
+        if (packet_receive(link->socket, &told, sizeof told, fds, room, count, 0) != 1)
+            return errno;
+    while (!told);
+    return 0;
+}
+
 int link_doorbell(struct link *link)
 {
     const struct page_request request = {.op = PAGE_DOORBELL};
     struct page_answer answer;
-    uint32_t told, count;
+    uint32_t count = 0;
     if (link->doorbell >= 0)
         return link->doorbell;
     int error = link_ask(link, &request, &answer);
-    if (!error && packet_receive(link->socket, &told, sizeof told, &link->doorbell, 1, &count, 0) != 1)
-        error = errno;
-    else if (!error && count != 1)
+    if (!error)
+        error = link_receive(link, &link->doorbell, 1, &count);
+    if (!error && count != 1)
         error = ENODEV;
     if (error)
         return errno = error, -1;

@@ -175,6 +175,8 @@ void link_use_area(struct link *link, uint64_t size);
 void link_keep_area(struct link *link, uint64_t size);
 /* Gives buffers back without waiting; false where so many can't be now. */
 bool link_free_buffers(struct link *link, const uint64_t *buffers, uint32_t count);
+/* The descriptors that an answer has told of: 0 or an errno. */
+int link_receive(struct link *link, int *fds, uint32_t room, uint32_t *count);
 /* The descriptor that is readable while a read would find something, or -1 and errno. */
 int link_doorbell(struct link *link);
 /* Has a thread's read come back, or else its next one. With the devices' lock. */

@@ -78,11 +78,12 @@ static uint64_t pack_stream(struct packing *packing, const uint8_t *commands, ui
    is no room for all of them in the process, or no memory to remember them, -1 stays there for each. */
 static int place_descriptors(struct link *link, uint32_t wanted)
 {
-    uint32_t told, count;
+    uint32_t count;
     int fds[DESCRIPTORS_MAX];
     struct page_answer answer;
-    if (packet_receive(link->socket, &told, sizeof told, fds, DESCRIPTORS_MAX, &count, 0) != 1)
-        return errno == EMFILE ? 0 : ENODEV;
+    int error = link_receive(link, fds, DESCRIPTORS_MAX, &count);
+    if (error)
+        return error == EMFILE ? 0 : ENODEV;
     if (count != wanted)
         return ENODEV;
     if (!arrays_keep(link->device, link->page, fds, count)) {

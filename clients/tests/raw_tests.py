@@ -295,6 +295,13 @@ def residue(build):
         return f"{stage.run([build.fuzz('residue')], client=False)}"
 
 
+@test("raw unheard")
+def unheard(build):
+    """What the daemon tells a client that doesn't listen takes no more of the kernel's memory than a little."""
+    with Stage(build) as stage:
+        return stage.run([build.fuzz("unheard")], client=False)
+
+
 @test("raw fuzz of managers")
 def fuzz_managers(build):
     """The two context managers get requests that lie for a while, and work afterwards."""

@@ -11,9 +11,13 @@
 static void answer(struct thread *thread, struct page_answer answer)
 {
     struct page *page = thread->page;
+    const uint32_t none = 0;
     page->answer = answer;
-    atomic_store_explicit(&page->state, PAGE_ANSWERED, memory_order_release);
-    syscall(SYS_futex, &page->state, FUTEX_WAKE, 1, NULL, NULL, 0);
+    atomic_store(&page->state, PAGE_ANSWERED);
+    if (atomic_load(&page->is_long))
+        packet_send(thread->link, &none, sizeof none, NULL, 0);
+    else
+        syscall(SYS_futex, &page->state, FUTEX_WAKE, 1, NULL, NULL, 0);
 }
 
 static void ring(struct thread *thread)

@@ -88,6 +88,8 @@ void act_garbage_page(void)
         if (!below(10))
             atomic_store(&hostile.page->cancel, (uint32_t)odd_number());
         if (!below(10))
+            atomic_store(&hostile.page->is_long, below(2));
+        if (!below(10))
             lie_about_frees(hostile.page);
         hostile_ask(&hostile, below(4) ? 5 : 0);
         if (!below(10))

@@ -115,6 +115,7 @@ static void copies(struct client *client)
 }
 
 static atomic_bool is_interrupted;
+static useconds_t pause_between;
 static pthread_t reader;
 
 static void ignore(int number)
@@ -125,17 +126,19 @@ static void ignore(int number)
 /* Again and again, should the first one come before the read waits. */
 static void *interrupt(void *with)
 {
-    for (; !is_interrupted; usleep(50000))
+    for (usleep(pause_between); !is_interrupted; usleep(pause_between))
         pthread_kill(reader, SIGUSR1);
     return with;
 }
 
-static void is_woken(struct client *client)
+static void is_woken(struct client *client, useconds_t after)
 {
     uint32_t returns[64];
     pthread_t thread;
     struct sigaction action = {.sa_handler = ignore, .sa_flags = SA_RESTART};
     reader = pthread_self();
+    pause_between = after;
+    is_interrupted = false;
     CHECK(!sigaction(SIGUSR1, &action, NULL) && !pthread_create(&thread, NULL, interrupt, NULL), "no thread");
     CHECK(read_into(client->binder.fd, returns, sizeof returns) < 0 && errno == EINTR, "a signal doesn't end a read");
     is_interrupted = true;
@@ -164,7 +167,8 @@ int main(void)
     works(&client);
     waits(&client);
     fits(&client);
-    is_woken(&client);
+    is_woken(&client, 2000);
+    is_woken(&client, 200000); /* who waits for long does so otherwise */
     raw_join(raw_start(be_a_child, &client));
     works(&client);
     copies(&client);
