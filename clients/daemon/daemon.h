@@ -205,6 +205,11 @@ void account_release(struct account *account);
 bool account_take(struct account *account, enum shared what, uint64_t amount);
 void account_give(struct account *account, enum shared what, uint64_t amount);
 
+/* --- filter.c: what the daemon may ask of the kernel. --- */
+
+/* From now on no more than its clients need. False where the kernel can't see to that. */
+bool filter_begin(void);
+
 /* --- log.c --- */
 
 bool log_open(const char *path, bool verbose);

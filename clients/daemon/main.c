@@ -3,6 +3,7 @@
 #include "daemon.h"
 
 #include <errno.h>
+#include <fcntl.h>
 #include <getopt.h>
 #include <limits.h>
 #include <malloc.h>
@@ -27,7 +28,7 @@ enum { STATUS_FAILED = 1, STATUS_USAGE = 2, STATUS_BUSY = 3 };
 
 static const char usage[] =
     "usage: hullpippind [--socket PATH] [--mode MODE] [--group GROUP] [--devices NAME,..] [--journal [NAME=]FILE].. [--seats N]\n"
-    "                   [--log FILE] [-v] [--background]\n"
+    "                   [--log FILE] [-v] [--background] [--no-filter]\n"
     "       hullpippind --look [--socket PATH] | --help | --version\n"
     "\n"
     "  --socket PATH           where to listen (else HULLPIPPIN_SOCKET, else $XDG_RUNTIME_DIR/hullpippin/socket,\n"
@@ -39,13 +40,14 @@ static const char usage[] =
     "  --seats N               seats of a device, 2 to 65536 (16384); with a journal 31 at most\n"
     "  --log FILE              log there, not on standard error; -v: all that happens\n"
     "  --background            return as soon as clients may come\n"
+    "  --no-filter             don't have the kernel refuse what the daemon never asks of it\n"
     "  --look                  only tell whether programs reach a daemon, and where: status 0 or 1\n"
     "\n"
     "Ends in order on SIGTERM and SIGINT. Status 3: a daemon listens there already.\n";
 
 struct options {
     const char *socket, *log;
-    bool is_verbose, is_background, looks, helps, tells_version;
+    bool is_verbose, is_background, is_unfiltered, looks, helps, tells_version;
 };
 
 /* Seats are at least the daemon's own and one to lend. */
@@ -67,7 +69,7 @@ static bool read_options(struct daemon *daemon, struct options *options, int cou
         {"verbose", no_argument, NULL, 'v'},       {"mode", required_argument, NULL, 'm'},
         {"group", required_argument, NULL, 'g'},   {"look", no_argument, NULL, 'k'},
         {"help", no_argument, NULL, 'h'},          {"version", no_argument, NULL, 'V'},
-        {NULL, 0, NULL, 0},
+        {"no-filter", no_argument, NULL, 'f'},     {NULL, 0, NULL, 0},
     };
     const char *devices = DEFAULT_DEVICES, *journals[DEVICES_MAX];
     int option, journal_count = 0;
@@ -87,6 +89,7 @@ static bool read_options(struct daemon *daemon, struct options *options, int cou
         case 'v': options->is_verbose = true; break;
         case 'm': is_good = is_good && listener_set_mode(&daemon->listener, optarg); break;
         case 'g': is_good = is_good && listener_set_group(&daemon->listener, optarg); break;
+        case 'f': options->is_unfiltered = true; break;
         case 'k': options->looks = true; break;
         case 'h': options->helps = true; break;
         case 'V': options->tells_version = true; break;
@@ -160,14 +163,19 @@ static void keep_memory(void)
     mallopt(M_TRIM_THRESHOLD, KEPT_BYTES);
 }
 
-/* The first process waits until the second tells that clients may come, and ends with its status. What the second
-   gets is where it tells that; -1 where it can't be. */
-static int go_to_background(void)
+/* Where the process that waits is told, and what takes the place of the standard files then; -1: nobody waits. */
+struct background {
+    int told, null;
+};
+
+/* The first process waits until the second tells that clients may come, and ends with its status. False where that can't be. */
+static bool go_to_background(struct background *background)
 {
     int ends[2];
     close_range(3, UINT_MAX, 0); /* else who waits for the end of what we were given would wait for ours */
-    if (pipe(ends))
-        return -1;
+    background->null = open("/dev/null", O_RDWR | O_CLOEXEC);
+    if (background->null < 0 || pipe(ends))
+        return false;
     pid_t child = fork();
     if (child > 0) {
         unsigned char status = STATUS_FAILED;
@@ -177,38 +185,59 @@ static int go_to_background(void)
         _exit(status);
     }
     close(ends[0]);
-    if (child < 0) {
-        close(ends[1]);
-        return -1;
-    }
-    setsid();
-    return ends[1];
+    background->told = ends[1];
+    return child == 0 && setsid() >= 0;
 }
 
 /* Tells the status to the process that waits for it, and lets go of what that one's caller may read to its end. */
-static void tell_status(int fd, unsigned char status)
+static void tell_status(struct background *background, unsigned char status)
 {
-    if (fd < 0)
+    if (background->told < 0)
         return;
-    if (write(fd, &status, 1) != 1)
+    if (write(background->told, &status, 1) != 1)
         log_line("nobody waits for the daemon's beginning");
-    close(fd);
-    if (!freopen("/dev/null", "r", stdin) || !freopen("/dev/null", "w", stdout) || !freopen("/dev/null", "w", stderr))
-        log_line("the standard files stay open");
+    for (int fd = STDIN_FILENO; fd <= STDERR_FILENO; fd++)
+        if (dup3(background->null, fd, 0) < 0)
+            log_line("the standard files stay open");
+    descriptor_close(&background->told);
+    descriptor_close(&background->null);
 }
 
-static int run(struct daemon *daemon, const struct options *options, int told)
+/* Whatever is opened from here on has another number than a standard file: a line of the log goes to no client. */
+static bool has_standard_files(void)
+{
+    int fd;
+    do
+        fd = open("/dev/null", O_RDWR);
+    while (fd >= 0 && fd <= STDERR_FILENO);
+    if (fd >= 0)
+        close(fd);
+    return fd >= 0;
+}
+
+/* A sanitizer calls the kernel as it likes. */
+static bool is_filtered(const struct options *options)
+{
+#ifdef HULLPIPPIN_SANITIZED
+    return options != NULL;
+#else
+    return options->is_unfiltered || filter_begin();
+#endif
+}
+
+static int run(struct daemon *daemon, const struct options *options, struct background *background)
 {
     int status = listener_lock(daemon, options->socket);
     if (status != LISTENER_OK) {
         status = status == LISTENER_BUSY ? STATUS_BUSY : STATUS_FAILED;
-        tell_status(told, (unsigned char)status);
+        tell_status(background, (unsigned char)status);
         return status;
     }
     /* Old journals are written anew once the address is ours. A client that comes before waits until the loop runs. */
-    bool is_begun = watch_signals(daemon) && watch_strangers(daemon) && descriptors_begin() && listener_begin(daemon) && devices_begin(daemon);
+    bool is_begun = watch_signals(daemon) && watch_strangers(daemon) && descriptors_begin() && listener_begin(daemon) && devices_begin(daemon)
+                    && is_filtered(options);
     status = is_begun ? 0 : STATUS_FAILED;
-    tell_status(told, (unsigned char)status);
+    tell_status(background, (unsigned char)status);
     if (!status && !loop_run(&daemon->loop))
         status = STATUS_FAILED;
     devices_end(daemon);
@@ -224,6 +253,8 @@ int main(int count, char **words)
                                    .listener = {.watch.fd = -1, .rest.fd = -1, .lock = -1, .spare = -1, .mode = NO_MODE, .group = NO_GROUP}};
     struct options options = {0};
     list_begin(&daemon.strangers);
+    if (!has_standard_files())
+        return STATUS_FAILED;
     if (!read_options(&daemon, &options, count, words))
         return fputs(usage, stderr), STATUS_USAGE;
     if (options.helps)
@@ -232,8 +263,8 @@ int main(int count, char **words)
         return printf("hullpippind: Binder protocol %d, library protocol %u\n", BINDER_CURRENT_PROTOCOL_VERSION, PROTOCOL_VERSION), 0;
     if (options.looks)
         return listener_look(options.socket);
-    int told = options.is_background ? go_to_background() : -1;
-    if (options.is_background && told < 0)
+    struct background background = {-1, -1};
+    if (options.is_background && !go_to_background(&background))
         return perror("hullpippind"), STATUS_FAILED;
     raise_limits();
     keep_memory();
@@ -243,7 +274,7 @@ int main(int count, char **words)
     daemon.loop.between = strangers_end_some;
     daemon.loop.idle = has_rested;
     daemon.loop.context = &daemon;
-    int status = run(&daemon, &options, told);
+    int status = run(&daemon, &options, &background);
     loop_end(&daemon.loop);
     log_close();
     return status;

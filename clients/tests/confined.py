@@ -1,9 +1,14 @@
-"""What the daemon and its clients take of the machine while they wait."""
+"""What the daemon and its clients have of the machine: the system calls that they may make, and the time that they take while they wait."""
 import os
+import signal
 import time
 
-from stage import Stage, expect
+from stage import Stage, expect, tail
 from suite import test
+
+# by name what the daemon asks for that it has no use for (short/), and the errno that it is told; None: it ends
+CALLS = {"exec": None, "fork": None, "socket": None, "pair": None, "signal": None, "other": None, "code": None, "protect": None,
+         "write": "EACCES", "unknown": "ENOSYS"}
 
 THREADS = 500
 # seconds in which waiting threads are watched, in which they come to rest before that, and in which they learn of the daemon's end
@@ -18,6 +23,37 @@ def by_thread(pid, *names):
             status = dict(line.split(":", 1) for line in file.read().splitlines() if ":" in line)
         told.append(tuple(status[name].strip() for name in names))
     return told
+
+
+def filters(build, *words):
+    """How the threads of a daemon are filtered that has clients on two devices."""
+    with Stage(build, words=words) as stage:
+        stage.manage()
+        stage.manage("hwservicemanager")
+        return by_thread(stage.daemon.pid, "Seccomp", "NoNewPrivs")
+
+
+def call(build, name, error):
+    """A daemon that asks for what it has no use for ends, or is told so and goes on."""
+    with Stage(build, daemon=build.short, daemon_environment={"SHORT_CALL": name}) as stage:
+        if error is not None:
+            stage.run([build.raw("nested")])
+            expect(f"call {name}: {error}" in stage.daemon.printed(), f"{name} isn't {error}: {tail(stage.daemon.printed())}")
+            return
+        stage.daemon.finish(10, statuses=(-signal.SIGSYS,))
+        stage.clear()
+
+
+@test("raw filter", plain_only=True)
+def filtered(build):
+    """The kernel keeps each of the daemon's threads to what the daemon is for, from when it lets the first client in."""
+    threads = filters(build)
+    expect(len(threads) >= 5 and set(threads) == {("2", "1")}, f"the daemon's threads: {threads}")
+    without = filters(build, "--no-filter")
+    expect({it[0] for it in without} == {"0"}, f"with --no-filter: {without}")
+    for name, error in CALLS.items():
+        call(build, name, error)
+    return f"{len(threads)} threads; {sum(error is None for error in CALLS.values())} calls end the daemon, others fail"
 
 
 def switches(*processes):

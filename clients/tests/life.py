@@ -202,6 +202,19 @@ def run(words, **how):
     return done.returncode, done.stdout + done.stderr
 
 
+def without_standard_files(build, where):
+    """A daemon that is started without them has no client's socket in their place."""
+    path = f"{where}/without"
+    words = ["sh", "-c", 'exec "$0" "$@" <&- >&- 2>&-', build.daemon, "--socket", path]
+    with subprocess.Popen(words, env=environment(build)) as process:
+        until = time.monotonic() + SECONDS
+        while not os.path.exists(path) and process.poll() is None and time.monotonic() < until:
+            time.sleep(0.01)
+        files = [os.readlink(f"/proc/{process.pid}/fd/{number}") for number in range(3)]
+        process.terminate()
+    expect(files == ["/dev/null"] * 3, f"a daemon without standard files has {files}")
+
+
 @test("raw run")
 def running(build):
     """hullpippin-run never goes on without a daemon that the program reaches, nor without its library."""
@@ -216,6 +229,7 @@ def running(build):
             os.symlink(CLIENTS, f"{where}/cli{letter}ents")
             status, said = run([f"{where}/cli{letter}ents/hullpippin-run", "echo", "went on"], env=env)
             expect(status == 2 and "a space or a colon" in said and "went on" not in said, f"in a folder with {letter!r}: {status}, {said}")
+        without_standard_files(build, where)
         with daemon(build, [], f"{where}/socket", env=env):
             for word, lines in (("0", 0), ("1", 1)):
                 status, said = run([program, build.raw("versions")], env={**env, "HULLPIPPIN_LOG": word})

@@ -116,9 +116,9 @@ def open_files(pid):
 
 class Stage:
     """A daemon, started; `journal` names a device whose journal is kept and judged in the end. With `bare` a bare relay stands in its
-    place, which nothing is asked of but times. With `daemon` it is another program."""
+    place, which nothing is asked of but times. With `daemon` it is another program; `words` are further ones for it."""
 
-    def __init__(self, build, journal=None, daemon_environment=(), bare=False, daemon=None):
+    def __init__(self, build, journal=None, daemon_environment=(), bare=False, daemon=None, words=()):
         self.build, self.is_bare = build, bare
         self.folder = tempfile.mkdtemp(prefix="hullpippin-stage-")
         self.socket = f"{self.folder}/socket"
@@ -127,7 +127,7 @@ class Stage:
         self.others = []
         self.is_over = False
         self.environment = {**build.environment, "HULLPIPPIN_SOCKET": self.socket, "PATH": os.environ["PATH"], "HOME": self.folder}
-        words = [build.bare, self.socket] if bare else [daemon or build.daemon, "--socket", self.socket]
+        words = [build.bare, self.socket] if bare else [daemon or build.daemon, "--socket", self.socket, *words]
         if journal:
             words += ["--journal", f"{journal}={self.journal}"]
         self.daemon = Process(words, {**self.environment, **dict(daemon_environment)}, f"{self.folder}/daemon.log")

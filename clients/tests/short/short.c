@@ -1,13 +1,21 @@
 /* SPDX-License-Identifier: Apache-2.0 OR MIT */
 /*
  * short.c: goes into a daemon of the tests, whose histories can take no more after so many steps: what the engine answers
- * after 4294967295, which the daemon knows too. The linker has the daemon call these in the library's place. With SHORT_OF_MEMORY in its environment the
- * kernel has no memory for its clients in the first seconds, and the engine none to end the first threads.
+ * after 4294967295, which the daemon knows too. The linker has the daemon call these in the library's place. With SHORT_OF_MEMORY in
+ * its environment the kernel has no memory for its clients in the first seconds, and the engine none to end the first threads. With
+ * SHORT_CALL it asks the kernel for something that it has no use for, as often as a client comes.
  */
 #include <errno.h>
+#include <fcntl.h>
+#include <signal.h>
+#include <stdio.h>
 #include <stdlib.h>
+#include <string.h>
+#include <sys/mman.h>
 #include <sys/socket.h>
+#include <sys/syscall.h>
 #include <time.h>
+#include <unistd.h>
 
 #include "hullpippin.h"
 
@@ -53,6 +61,36 @@ uint32_t __wrap_hullpippin_live_exit_thread(hullpippin_live *live, uint32_t seat
     return hullpippin_live_len(live) < STEPS ? __real_hullpippin_live_exit_thread(live, seat, answer) : HULLPIPPIN_HISTORY_FULL;
 }
 
+/* Where the kernel lets it, none of them does harm. */
+static const struct {
+    const char *name;
+    long number, arguments[6];
+} calls[] = {
+    {"exec", SYS_execve, {(long)"/bin/true"}},
+    {"fork", SYS_clone, {SIGCHLD}},
+    {"socket", SYS_socket, {AF_INET, SOCK_STREAM}},
+    {"pair", SYS_socketpair, {AF_INET, SOCK_STREAM}},
+    {"signal", SYS_kill, {1}},
+    {"other", SYS_tgkill, {1, 1}},
+    {"code", SYS_mmap, {0, 4096, PROT_READ | PROT_EXEC, MAP_PRIVATE | MAP_ANONYMOUS, -1}},
+    {"protect", SYS_mprotect, {0, 4096, PROT_READ | PROT_EXEC}},
+    {"write", SYS_openat, {AT_FDCWD, (long)"/dev/null", O_WRONLY}},
+    {"unknown", SYS_getcwd, {0}},
+};
+
+static void make_call(const char *name)
+{
+    for (size_t i = 0; name && i < sizeof calls / sizeof *calls; i++) {
+        const long *with = calls[i].arguments;
+        if (strcmp(calls[i].name, name))
+            continue;
+        long done = syscall(calls[i].number, with[0], with[1], with[2], with[3], with[4], with[5]);
+        if (done == 0 && calls[i].number == SYS_clone)
+            _exit(0); /* the child */
+        fprintf(stderr, "call %s: %s\n", name, done < 0 ? strerrorname_np(errno) : "done");
+    }
+}
+
 int __real_accept4(int fd, struct sockaddr *address, socklen_t *size, int flags);
 int __wrap_accept4(int fd, struct sockaddr *address, socklen_t *size, int flags);
 int __wrap_accept4(int fd, struct sockaddr *address, socklen_t *size, int flags)
@@ -61,6 +99,7 @@ int __wrap_accept4(int fd, struct sockaddr *address, socklen_t *size, int flags)
     clock_gettime(CLOCK_MONOTONIC, &now);
     if (!first.tv_sec)
         first = now;
+    make_call(getenv("SHORT_CALL"));
     if (getenv("SHORT_OF_MEMORY") && now.tv_sec - first.tv_sec < SECONDS)
         return errno = ENOMEM, -1;
     return __real_accept4(fd, address, size, flags);
