@@ -51,6 +51,7 @@ static void note_call(struct thread *thread, bool is_reply, bool is_one_way, con
         thread->is_prompt = true;
     } else {
         thread->calling++;
+        thread->completions++;
     }
 }
 
@@ -119,8 +120,10 @@ int command_free(struct thread *thread, uint64_t pointer)
     if (process_handed(process, place) == NOT_HANDED)
         return engine_pass(process->engine);
     int error = engine_command(process->engine, thread->seat, &command, sizeof command);
-    if (!error)
+    if (!error) {
         process_note_handed(process, place, NOT_HANDED);
+        process_clear_secret(process, place);
+    }
     return error;
 }
 

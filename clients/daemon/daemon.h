@@ -459,6 +459,7 @@ struct process {
     struct cleared cleared;
     bool detects_spam;    /* it is told of its own one-way flooding; before its mmap: will be */
     uint64_t *handed;     /* two bits for each 8 bytes of the window: a buffer that the client has begins there; it has objects */
+    uint8_t *secret;      /* one bit for each: they are part of such a buffer, and are to be cleared with it */
 };
 
 void process_accept(struct daemon *daemon, int fd);
@@ -477,6 +478,9 @@ struct process *process_of(const struct engine *engine, uint32_t engine_pid);
 enum { NOT_HANDED = 0, HANDED = 1, HANDED_WITH_OBJECTS = 3 };
 void process_note_handed(struct process *process, uint64_t place, unsigned handed);
 unsigned process_handed(const struct process *process, uint64_t place);
+/* So many bytes from there are a buffer whose sender wants it cleared once it is given back, and that clears it. */
+void process_note_secret(struct process *process, uint64_t place, uint64_t size);
+void process_clear_secret(struct process *process, uint64_t place);
 
 /* The daemon's own seat has a thread of the process from the one to the other: 0 or an errno. */
 int process_enter(struct process *process);
@@ -519,6 +523,7 @@ struct thread {
     uint32_t callers[CALLERS_KNOWN]; /* pids that the processes have in the engine which wait for the first of those answers */
     struct writing *writing;   /* NULL: none */
     uint32_t refusals;         /* refused commands whose BR_FAILED_REPLY or BR_DEAD_REPLY isn't read yet */
+    uint32_t completions;      /* two-way calls of which it isn't read yet that they were taken */
 
     bool is_waiting;           /* in a read */
     bool has_no_room;          /* .. in which no return finds room, and there is one */
@@ -601,6 +606,8 @@ void parcel_place(struct thread *thread, uint32_t count);
 bool returns_are_there(const struct thread *thread);
 /* Reads once from the engine: 0 or an errno. */
 int returns_fetch(struct thread *thread);
+/* Reads the next of what a two-way call has left, up to its completion, which waits for the reply; EAGAIN where that was read. */
+int returns_fetch_deferred(struct thread *thread);
 /* Answers the thread's read with what is there. */
 void returns_deliver(struct thread *thread);
 /* The process is to be told of one death notification more; there is room. */

@@ -142,6 +142,8 @@ void parcel_deliver(struct thread *thread, struct binder_transaction_data *recor
     record->data.ptr.offsets = process->window.base + offsets_place;
     bool is_wrapped = unwrap(process->engine, &objects, &trailer);
     process_note_handed(process, place, is_wrapped || process->engine->answer.offsets ? HANDED_WITH_OBJECTS : HANDED);
+    if (record->flags & TF_CLEAR_BUF)
+        process_note_secret(process, place, round8(process->engine->answer.data) + process->engine->answer.offsets);
     if (is_wrapped)
         deliver_wrapped(thread, record, place, &objects, &trailer);
     else

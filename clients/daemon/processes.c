@@ -86,6 +86,26 @@ unsigned process_handed(const struct process *process, uint64_t place)
     return process->handed[place / 8 / PLACES_OF_WORD] >> 2 * (place / 8 % PLACES_OF_WORD) & 3;
 }
 
+static bool is_secret(const struct process *process, uint64_t place)
+{
+    return place < process->window.size && process->secret[place / 64] >> place / 8 % 8 & 1;
+}
+
+void process_note_secret(struct process *process, uint64_t place, uint64_t size)
+{
+    for (uint64_t end = place + size; place < end && place < process->window.size; place += 8)
+        process->secret[place / 64] |= (uint8_t)(1u << place / 8 % 8);
+}
+
+/* It goes as far as the next buffer, should there be another one of that kind right behind. */
+void process_clear_secret(struct process *process, uint64_t place)
+{
+    uint64_t end = place;
+    for (; is_secret(process, end) && (end == place || process_handed(process, end) == NOT_HANDED); end += 8)
+        process->secret[end / 64] &= (uint8_t)~(1u << end / 8 % 8);
+    memset(process->window.at + place, 0, end - place);
+}
+
 /* What is no errno: the process is no longer here, but its device's, whose thread answers. */
 enum { HANDED_OVER = -1 };
 
@@ -211,11 +231,14 @@ static int map_window(struct process *process, const struct control_request *req
     if (!account_take(process->account, SHARED_WINDOWS, size))
         return ENOMEM;
     process->handed = calloc(size / 8 / PLACES_OF_WORD, sizeof *process->handed);
-    bool is_made = process->handed && window_make(&process->window, size, request->base);
+    process->secret = calloc(size / 64, 1);
+    bool is_made = process->handed && process->secret && window_make(&process->window, size, request->base);
     int error = is_made ? open_in_engine(process) : ENOMEM;
     if (error) {
         free(process->handed);
+        free(process->secret);
         process->handed = NULL;
+        process->secret = NULL;
         window_free(&process->window);
         account_give(process->account, SHARED_WINDOWS, size);
         return error;
@@ -454,6 +477,7 @@ static void let_go(struct process *process)
     give_share(process);
     window_free(&process->window);
     free(process->handed);
+    free(process->secret);
     free(process->cleared.cookies);
     free(process->owners);
     free(process);

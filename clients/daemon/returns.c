@@ -72,18 +72,15 @@ static void take_return(struct thread *thread, uint8_t *bytes, uint32_t size)
         take_failure(thread);
     if (!waits_for_reply(thread, code))
         thread->is_prompt = true;
+    if (code == BR_TRANSACTION_COMPLETE && thread->completions)
+        thread->completions--;
     append(thread, bytes, size);
 }
 
-int returns_fetch(struct thread *thread)
+static int fetch(struct thread *thread, uint32_t limit)
 {
     static _Thread_local uint8_t stream[PAGE_RETURNS];
     struct engine *engine = thread->process->engine;
-    uint32_t used = thread->pending_size + RETURN_ROOM - (READ_LEAST - sizeof(uint32_t));
-    uint32_t limit = thread->room > used + READ_LEAST ? thread->room - used : READ_LEAST;
-    thread->has_no_room = thread->room < sizeof(uint32_t) + RETURN_ROOM && !thread->calling;
-    if (thread->has_no_room) /* what there is may be another's, who has room */
-        return 0;
     if (thread->pending_size + limit > sizeof thread->pending)
         return ENOBUFS;
     int error = engine_read(engine, thread->seat, limit);
@@ -98,6 +95,20 @@ int returns_fetch(struct thread *thread)
         at += length;
     }
     return 0;
+}
+
+int returns_fetch(struct thread *thread)
+{
+    uint32_t used = thread->pending_size + RETURN_ROOM - (READ_LEAST - sizeof(uint32_t));
+    uint32_t limit = thread->room > used + READ_LEAST ? thread->room - used : READ_LEAST;
+    thread->has_no_room = thread->room < sizeof(uint32_t) + RETURN_ROOM && !thread->calling;
+    return thread->has_no_room ? 0 : fetch(thread, limit); /* what there is may be another's, who has room */
+}
+
+/* The least limit leaves no room for the reply behind anything else. */
+int returns_fetch_deferred(struct thread *thread)
+{
+    return thread->completions && !thread->is_prompt ? fetch(thread, READ_LEAST) : EAGAIN;
 }
 
 /* As the kernel does: where no thread of the process waits for work, a looper's read asks for another thread. */

@@ -90,12 +90,24 @@ void settle_end(struct process *process)
 
 /* --- Doorbells. --- */
 
+/* Whether a read would find something. What a call has left doesn't count before its reply. */
+static bool has_something(struct thread *thread)
+{
+    while (!returns_are_there(thread)) {
+        if (!is_ready(thread))
+            return false;
+        if (returns_fetch_deferred(thread))
+            return true;
+    }
+    return true;
+}
+
 void settle_doorbell(struct thread *thread)
 {
     if (thread->doorbell < 0 || thread->seat == NO_SEAT)
         return;
     bool was_rung = thread->is_rung;
-    doorbell_set(thread, returns_are_there(thread) || is_ready(thread));
+    doorbell_set(thread, has_something(thread));
     if (thread->is_rung != was_rung)
         settle_watch(thread);
 }

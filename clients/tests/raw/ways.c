@@ -1,6 +1,6 @@
 /* SPDX-License-Identifier: Apache-2.0 OR MIT */
 /*
- * ways: small ways of Linux's driver. A two-way call leaves nothing to be read before its reply, also where it carries an object; a
+ * ways: small ways of Linux's driver. A two-way call leaves nothing to be read or polled before its reply, also where it carries an object; a
  * thread that never was in the loop isn't told that a death notification was taken back, but another of its process is, which
  * waits, or polls, or comes later; the manager can't have a reference on itself. And a reply comes, however much its call's write goes on
  * with.
@@ -81,7 +81,15 @@ static void read_nothing(int fd)
     CHECK(!fcntl(fd, F_SETFL, 0), "no O_NONBLOCK");
 }
 
-static void defers(void)
+/* The reply takes its time, and is the first that poll tells of. */
+static void poll_for_reply(int fd)
+{
+    struct pollfd file = {.fd = fd, .events = POLLIN};
+    CHECK(poll(&file, 1, 50) == 0, "poll tells of something before the reply");
+    CHECK(poll(&file, 1, 5000) == 1, "poll doesn't tell of the reply");
+}
+
+static void defers(void (*before)(int fd))
 {
     static const uint32_t wanted[] = {BR_INCREFS, BR_ACQUIRE, BR_TRANSACTION_COMPLETE, BR_REPLY};
     struct client client;
@@ -93,7 +101,7 @@ static void defers(void)
     call.code = TAKE;
     put_record(&client.looper.commands, BC_TRANSACTION, &call);
     CHECK(looper_flush(&client.looper), "can't write");
-    read_nothing(client.binder.fd);
+    before(client.binder.fd);
     ssize_t count = read_codes(client.binder.fd, codes);
     CHECK(count == 4 && !memcmp(codes, wanted, sizeof wanted), "%zd returns came with the reply, of which the first is %x", count, codes[0]);
     writer_free(&object);
@@ -176,7 +184,8 @@ int main(void)
     struct client client;
     raw_begin(30);
     pid_t manager = raw_start_manager(serve);
-    defers();
+    defers(read_nothing);
+    defers(poll_for_reply);
     tells_another();
     goes_on();
     raw_open(&client, WINDOW, NULL);
