@@ -118,10 +118,10 @@ def services(build):
         stage.run([build.raw("services"), "20"])
     with Stage(build) as of_many:
         of_many.manage()
-        told = of_many.run([build.raw("services"), "300"])
+        told = of_many.run([build.raw("services"), "300"], 180)
         if not (build.sanitized or build.untimed):
             if not (flat_cost(told, "call") and flat_cost(told, "find", SLACK_OF_OBJECTS)):
-                told = of_many.run([build.raw("services"), "300"])  # once more, should other work have come between
+                told = of_many.run([build.raw("services"), "300"], 180)  # once more, should other work have come between
             expect(flat_cost(told, "call") and flat_cost(told, "find", SLACK_OF_OBJECTS), f"slower with more services: {told}")
     return f"{told}; lawful, {stage.entries} steps"
 

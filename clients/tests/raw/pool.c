@@ -14,6 +14,9 @@
 #define CLIENT_THREADS 8
 #define SERVER_THREADS 4 /* besides the one that enters the loop by itself */
 #define CALLS 400
+#define ALL_CALLS (CLIENT_THREADS * CALLS)
+/* Seconds without an answer, beside whatever else the machine does. */
+#define HUNG 30
 
 enum { ADD = 1, MEET, THREADS };
 
@@ -73,6 +76,18 @@ static void run_server(void *with)
 }
 
 static struct client client;
+static atomic_uint answered;
+
+/* Tells calls that are slow from those that hang. */
+static void *watch(void *with)
+{
+    for (uint32_t before = 0, now, seconds = 0; seconds < HUNG; before = now, sleep(1)) {
+        now = atomic_load(&answered);
+        seconds = now == before ? seconds + 1 : 0;
+    }
+    raw_fail(__FILE__, __LINE__, "no call was answered in %u s, %u of %u before", HUNG, atomic_load(&answered), ALL_CALLS);
+    return with;
+}
 
 static void *call_often(void *with)
 {
@@ -82,6 +97,7 @@ static void *call_often(void *with)
     for (uint32_t i = from; i < from + CALLS; i++) {
         uint32_t answer = raw_ask(&looper, (struct call){.code = ADD, .bytes = &i, .size = sizeof i});
         CHECK(answer == i + 1, "the answer to %u was %u", i, answer);
+        atomic_fetch_add(&answered, 1);
     }
     CHECK(looper_flush(&looper), "can't write");
     CHECK(!ioctl(client.binder.fd, BINDER_THREAD_EXIT, 0), "BINDER_THREAD_EXIT");
@@ -109,14 +125,16 @@ static void all(void *(*body)(void *), size_t count)
 
 int main(void)
 {
-    raw_begin(60);
+    pthread_t watcher;
+    raw_begin(170);
     pid_t manager = raw_start(run_server, NULL);
     raw_open(&client, WINDOW, NULL);
+    CHECK(!pthread_create(&watcher, NULL, watch, NULL), "no thread");
     all(call_to_meet, 3);
     all(call_often, CLIENT_THREADS);
     uint32_t threads = raw_ask(&client.looper, (struct call){.code = THREADS});
     CHECK(threads >= 2 && threads <= SERVER_THREADS, "%u threads were asked for, with at most %u", threads, SERVER_THREADS);
-    printf("%u calls by %u threads, served by %u and 1\n", CLIENT_THREADS * CALLS, CLIENT_THREADS, threads);
+    printf("%u calls by %u threads, served by %u and 1\n", ALL_CALLS, CLIENT_THREADS, threads);
     raw_kill(manager);
     return 0;
 }

@@ -163,7 +163,7 @@ int main(int argc, char **argv)
     uint32_t many = argc > 1 ? (uint32_t)atoi(argv[1]) : 300;
     struct client client;
     CHECK(many && many <= MOST, "%u services", many);
-    raw_begin(60);
+    raw_begin(170); /* a busy machine takes its time for so many processes */
     start_owners(0, 1);
     raw_open(&client, WINDOW, NULL);
     uint32_t handle = find(&client, 0);
