@@ -1,3 +1,4 @@
+/* SPDX-License-Identifier: Apache-2.0 OR MIT */
 /*
  * filter.c: the system calls that the daemon makes once it has begun, for the kernel to hold it to. Files that it writes are open by
  * then, so is its socket, and it runs nothing else: should a client ever get it to do what isn't written here, it can't be much.

@@ -1,3 +1,4 @@
+# SPDX-License-Identifier: Apache-2.0 OR MIT
 """What the daemon and its clients have of the machine: the system calls that they may make, and the time that they take while they wait."""
 import os
 import signal

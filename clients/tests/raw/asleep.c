@@ -1,3 +1,4 @@
+/* SPDX-License-Identifier: Apache-2.0 OR MIT */
 /*
  * asleep COUNT: descriptors come whole to who has waited for long, and to who has not. Then so many threads wait, each in a read or, of
  * every eighth, for a reply, until the device has ended under them: `ready` is printed once they do, and when they have been told.

@@ -1,3 +1,4 @@
+/* SPDX-License-Identifier: Apache-2.0 OR MIT */
 /*
  * crossed SECONDS [IDLE]: parcels that are on their way at once stay apart. Some processes call a service again and again with objects
  * and buffers, of which the daemon keeps some beside the engine. Another one calls an echo, each time by a handle that it has just got,
