@@ -615,8 +615,8 @@ void returns_clear(struct process *process, binder_uintptr_t cookie);
 
 /* --- reach.c: whom the engine's steps have reached. --- */
 
-/* Where it isn't known who is called, all who are ready are seen to before, so that the receiver can be told from them. Their steps come
-   before the call's, and their parcels over the workbench: so nothing of the call may have been fetched yet. */
+/* Where it isn't known who is called, all who are ready are seen to before, so that the receiver can be told from them. Their
+   steps come before the call's, and their parcels over the workbench: so nothing of the call may have been fetched yet. */
 void reach_before_call(struct thread *thread, bool is_reply, const struct binder_transaction_data *data);
 /* These follow the steps of that name. */
 void reach_after_command(struct engine *engine, uint32_t seat, const void *command);

@@ -1,10 +1,11 @@
 /* SPDX-License-Identifier: Apache-2.0 OR MIT */
 /*
- * filter.c: the system calls that the daemon makes once it has begun, for the kernel to hold it to. Files that it writes are open by
- * then, so is its socket, and it runs nothing else: should a client ever get it to do what isn't written here, it can't be much.
+ * filter.c: the system calls that the daemon makes once it has begun, for the kernel to hold it to. Files that it writes are
+ * open by then, so is its socket, and it runs nothing else: should a client ever get it to do what isn't written here, it can't
+ * be much.
  *
- * What nobody can mean ends the daemon (SIGSYS); whatever else isn't here fails as on a kernel that hasn't got it, so that another C
- * library can do without.
+ * What nobody can mean ends the daemon (SIGSYS); whatever else isn't here fails as on a kernel that hasn't got it, so that
+ * another C library can do without.
  */
 #include "daemon.h"
 
@@ -232,13 +233,13 @@ static void write_program(void)
     end(FAILS_WITH(ENOSYS));
 }
 
-/* For all threads, those too that have begun. The daemon runs nothing that is foreign to it, so that it needn't be slowed down against
-   what such a thing could learn from the processor. */
+/* For all threads, those too that have begun. The daemon runs nothing that is foreign to it, so that it needn't be slowed down
+   against what such a thing could learn from the processor. */
 static bool install(void)
 {
+    unsigned flags = SECCOMP_FILTER_FLAG_TSYNC | SECCOMP_FILTER_FLAG_SPEC_ALLOW;
     write_program();
-    return prctl(PR_SET_NO_NEW_PRIVS, 1, 0, 0, 0) == 0
-           && syscall(SYS_seccomp, SECCOMP_SET_MODE_FILTER, SECCOMP_FILTER_FLAG_TSYNC | SECCOMP_FILTER_FLAG_SPEC_ALLOW, &program) == 0;
+    return prctl(PR_SET_NO_NEW_PRIVS, 1, 0, 0, 0) == 0 && syscall(SYS_seccomp, SECCOMP_SET_MODE_FILTER, flags, &program) == 0;
 }
 
 #else

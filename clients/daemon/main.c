@@ -234,8 +234,8 @@ static int run(struct daemon *daemon, const struct options *options, struct back
         return status;
     }
     /* Old journals are written anew once the address is ours. A client that comes before waits until the loop runs. */
-    bool is_begun = watch_signals(daemon) && watch_strangers(daemon) && descriptors_begin() && listener_begin(daemon) && devices_begin(daemon)
-                    && is_filtered(options);
+    bool is_begun = watch_signals(daemon) && watch_strangers(daemon) && descriptors_begin() && listener_begin(daemon)
+                    && devices_begin(daemon) && is_filtered(options);
     status = is_begun ? 0 : STATUS_FAILED;
     tell_status(background, (unsigned char)status);
     if (!status && !loop_run(&daemon->loop))

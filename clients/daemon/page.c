@@ -29,7 +29,8 @@ static void wake(struct thread *thread)
         syscall(SYS_futex, &thread->page->state, FUTEX_WAKE, 1, NULL, NULL, 0);
 }
 
-/* The state is set and then it is looked how the client waits; there it's the other way round, so that one of the two sees the other. */
+/* The state is set and then it is looked how the client waits; there it's the other way round, so that one of the two sees the
+   other. */
 void page_answer(struct thread *thread, const uint8_t *returns, uint32_t size)
 {
     struct page *page = thread->page;
@@ -135,8 +136,8 @@ static int write_on(struct thread *thread, struct writing *writing)
         bool is_divided = writing == thread->writing; /* the reply may have come between two turns */
         thread->is_waiting = true;
         thread->room = request->room;
-        thread->defers = !is_divided && thread->calling > writing->calling && !thread->answer.refused && !thread->pending_size && !thread->is_prompt
-                         && !(request->flags & PAGE_NONBLOCK) && !is_to_return(thread);
+        thread->defers = !is_divided && thread->calling > writing->calling && !thread->answer.refused && !thread->pending_size
+                         && !thread->is_prompt && !(request->flags & PAGE_NONBLOCK) && !is_to_return(thread);
     }
     return error;
 }

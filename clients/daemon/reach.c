@@ -152,7 +152,8 @@ void reach_before_call(struct thread *thread, bool is_reply, const struct binder
 {
     struct engine *engine = thread->process->engine;
     uint32_t handle = data->target.handle;
-    engine->is_learning = !data->offsets_size && !is_reply && handle && !find_owner(thread->process, handle) && tries(thread->process);
+    engine->is_learning = !data->offsets_size && !is_reply && handle && !find_owner(thread->process, handle)
+                          && tries(thread->process);
     while (engine->is_learning && !all_were_looked_at(engine))
         settle_more(engine, thread);
 }

@@ -182,7 +182,8 @@ void link_keep_area(struct link *link, uint64_t size)
     }
 }
 
-/* What has ended a wait: it may be the answer; a signal; it takes long; the answer is about to come; or nobody is there to give one. */
+/* What has ended a wait: it may be the answer; a signal; it takes long; the answer is about to come; nobody is there to give
+   one. */
 enum woken { WOKEN, INTERRUPTED, LATE, SOON, GONE };
 
 static enum woken wait_shortly(struct page *page)

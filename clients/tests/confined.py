@@ -1,5 +1,5 @@
 # SPDX-License-Identifier: Apache-2.0 OR MIT
-"""What the daemon and its clients have of the machine: the system calls that they may make, and the time that they take while they wait."""
+"""What the daemon and its clients have of the machine: the system calls that they may make, and the time that waiting takes."""
 import os
 import signal
 import time

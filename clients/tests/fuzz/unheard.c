@@ -1,7 +1,7 @@
 /* SPDX-License-Identifier: Apache-2.0 OR MIT */
 /*
- * unheard: a client that always says that it waits by its link, and never takes what comes there. It is told of each answer by a packet,
- * until there are some: more the daemon doesn't leave in the kernel's memory, and it goes on answering.
+ * unheard: a client that always says that it waits by its link, and never takes what comes there. It is told of each answer by a
+ * packet, until there are some: more the daemon doesn't leave in the kernel's memory, and it goes on answering.
  */
 #include "../raw/raw.h"
 #include "hostile.h"

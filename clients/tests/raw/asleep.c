@@ -1,7 +1,8 @@
 /* SPDX-License-Identifier: Apache-2.0 OR MIT */
 /*
- * asleep COUNT: descriptors come whole to who has waited for long, and to who has not. Then so many threads wait, each in a read or, of
- * every eighth, for a reply, until the device has ended under them: `ready` is printed once they do, and when they have been told.
+ * asleep COUNT: descriptors come whole to who has waited for long, and to who has not. Then so many threads wait, each in a read
+ * or, of every eighth, for a reply, until the device has ended under them: `ready` is printed once they do, and when they have
+ * been told.
  */
 #include "raw.h"
 
@@ -56,17 +57,19 @@ static void pass(struct client *client, uint32_t handle, uint32_t number)
     int ends[2];
     CHECK(!pipe2(ends, O_CLOEXEC) && write(ends[1], &number, sizeof number) == sizeof number, "no pipe");
     write_descriptor(&writer, ends[0]);
-    CHECK(raw_call_with(&client->looper, (struct call){.handle = handle, .code = PASS}, &writer, &reply) == BR_REPLY, "call %u", number);
+    CHECK(raw_call_with(&client->looper, (struct call){.handle = handle, .code = PASS}, &writer, &reply) == BR_REPLY,
+          "call %u", number);
     CHECK(raw_number(&reply) == number, "%u came back for %u", raw_number(&reply), number);
     looper_free(&client->looper, &reply);
     close(ends[0]);
     close(ends[1]);
 }
 
-/* In turn after a long wait, and at once. */
+/* In turn after a long wait, and at once. Before that the server has waited for a call without any. */
 static void pass_some(struct client *client)
 {
     struct binder_transaction_data reply;
+    usleep(LONG);
     CHECK(raw_call(&client->looper, (struct call){.code = GIVE}, &reply) == BR_REPLY, "no object came");
     uint32_t handle = raw_keep(&client->looper, &reply);
     looper_free(&client->looper, &reply);

@@ -1,9 +1,9 @@
 /* SPDX-License-Identifier: Apache-2.0 OR MIT */
 /*
- * crossed SECONDS [IDLE]: parcels that are on their way at once stay apart. Some processes call a service again and again with objects
- * and buffers, of which the daemon keeps some beside the engine. Another one calls an echo, each time by a handle that it has just got,
- * which has the daemon look for who is called, and for all that is to be read by others, before the call. Those that only wait make that
- * take its time.
+ * crossed SECONDS [IDLE]: parcels that are on their way at once stay apart. Some processes call a service again and again with
+ * objects and buffers, of which the daemon keeps some beside the engine. Another one calls an echo, each time by a handle that
+ * it has just got, which has the daemon look for who is called, and for all that is to be read by others, before the call. Those
+ * that only wait make that take its time.
  */
 #include "raw.h"
 
@@ -101,7 +101,8 @@ static void call_echo(struct client *client, uint32_t number)
         bytes[i] = number + (uint32_t)i;
     struct call call = {.handle = object.handle, .bytes = bytes, .size = sizeof bytes};
     CHECK(raw_call(&client->looper, call, &reply) == BR_REPLY, "call %u wasn't answered", number);
-    CHECK(reply.data_size == sizeof bytes && !memcmp(raw_data(&reply), bytes, sizeof bytes), "the echo of call %u has other bytes", number);
+    CHECK(reply.data_size == sizeof bytes && !memcmp(raw_data(&reply), bytes, sizeof bytes),
+          "the echo of call %u has other bytes", number);
     looper_free(&client->looper, &reply);
     looper_free(&client->looper, &handed);
 }

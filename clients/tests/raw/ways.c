@@ -1,9 +1,9 @@
 /* SPDX-License-Identifier: Apache-2.0 OR MIT */
 /*
- * ways: small ways of Linux's driver. A two-way call leaves nothing to be read or polled before its reply, also where it carries an object; a
- * thread that never was in the loop isn't told that a death notification was taken back, but another of its process is, which
- * waits, or polls, or comes later; the manager can't have a reference on itself. And a reply comes, however much its call's write goes on
- * with.
+ * ways: small ways of Linux's driver. A two-way call leaves nothing to be read or polled before its reply, also where it carries
+ * an object; a thread that never was in the loop isn't told that a death notification was taken back, but another of its process
+ * is, which waits, or polls, or comes later; the manager can't have a reference on itself. And a reply comes, however much its
+ * call's write goes on with.
  */
 #include "raw.h"
 

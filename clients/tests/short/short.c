@@ -1,9 +1,9 @@
 /* SPDX-License-Identifier: Apache-2.0 OR MIT */
 /*
- * short.c: goes into a daemon of the tests, whose histories can take no more after so many steps: what the engine answers
- * after 4294967295, which the daemon knows too. The linker has the daemon call these in the library's place. With SHORT_OF_MEMORY in
- * its environment the kernel has no memory for its clients in the first seconds, and the engine none to end the first threads. With
- * SHORT_CALL it asks the kernel for something that it has no use for, as often as a client comes.
+ * short.c: goes into a daemon of the tests, whose histories can take no more after so many steps: what the engine answers after
+ * 4294967295, which the daemon knows too. The linker has the daemon call these in the library's place. With SHORT_OF_MEMORY in
+ * its environment the kernel has no memory for its clients in the first seconds, and the engine none to end the first threads.
+ * With SHORT_CALL it asks the kernel for something that it has no use for, as often as a client comes.
  */
 #include <errno.h>
 #include <fcntl.h>
