@@ -2,9 +2,8 @@
 /*
  * hullpippin.h: the transaction engine of Android's Binder driver, as a library that the threads of a program share.
  *
- * Link with libbd_c.a and with the C library object of the Rattle kit, which gives it malloc, realloc and free
- * (docs/LIBRARY.md, "Building"). Nothing else is needed: the library starts no thread, takes no lock, waits for nobody
- * and opens no file.
+ * Link with libhullpippin.a (docs/LIBRARY.md, "Building"), which asks malloc, realloc and free for memory. Nothing else is
+ * needed: the library starts no thread, takes no lock, waits for nobody and opens no file.
  *
  * A driver has 1 to 31 seats. A seat stands for one calling thread: it opens a process or attaches to one, writes
  * commands (BC_..) and reads returns (BR_..), in the bytes of <linux/android/binder.h>, 64-bit form, protocol 8. The

@@ -1,8 +1,11 @@
 # SPDX-License-Identifier: Apache-2.0 OR MIT
 """What crates.txt says, and the words by which the kit's compiler works over libraries that the gate has built."""
 import functools
+import glob
 import os
+import shutil
 import subprocess
+import tempfile
 
 ROOT = os.path.dirname(os.path.dirname(os.path.abspath(__file__)))
 
@@ -58,3 +61,13 @@ def words(name):
     for it in [f"{at}/rlibs", *(os.path.dirname(built(it)) for it in below(name))]:
         found += ["-L", f"dependency={it}"]
     return [*found, "--antt-project", f"{at}/rattle/logic/antt-project.json", "--logic-built", f"{at}/logic_built"]
+
+
+def with_kit(archive, out):
+    """Makes the archive that programs link: all members of this one, and the kit's C library object. The same members make the same bytes."""
+    with tempfile.TemporaryDirectory() as room:
+        for number, it in enumerate((archive, f"{kit()}/c/liblibc_c.a")):
+            os.mkdir(f"{room}/{number}")
+            subprocess.run(["ar", "x", os.path.abspath(it)], cwd=f"{room}/{number}", check=True)
+        subprocess.run(["ar", "rcsD", f"{room}/made.a", *sorted(glob.glob(f"{room}/?/*"))], check=True)
+        shutil.move(f"{room}/made.a", out)

@@ -210,6 +210,10 @@ void account_give(struct account *account, enum shared what, uint64_t amount);
 /* From now on no more than its clients need. False where the kernel can't see to that. */
 bool filter_begin(void);
 
+/* --- proved.c --- */
+
+void version_tell(FILE *out);
+
 /* --- log.c --- */
 
 bool log_open(const char *path, bool verbose);

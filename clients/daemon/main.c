@@ -260,7 +260,7 @@ int main(int count, char **words)
     if (options.helps)
         return fputs(usage, stdout), 0;
     if (options.tells_version)
-        return printf("hullpippind: Binder protocol %d, library protocol %u\n", BINDER_CURRENT_PROTOCOL_VERSION, PROTOCOL_VERSION), 0;
+        return version_tell(stdout), 0;
     if (options.looks)
         return listener_look(options.socket);
     struct background background = {-1, -1};

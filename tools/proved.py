@@ -1,0 +1,110 @@
+# SPDX-License-Identifier: Apache-2.0 OR MIT
+"""What is known to be proved: a record beside a built file, FILE.proved, and in out/gate what the gate has passed.
+
+A record has a line for each of `commit`, `sources` (the sum of all that is proved), `kit` and `sum` (the file's), the gate's one for
+`libraries` (the sum of those that it has built). Of a file that was built otherwise since, nothing is known, nor of an archive over other
+libraries than the gate's. Records keep out mistakes, not lies.
+"""
+import glob
+import hashlib
+import os
+import subprocess
+
+import crates
+
+ROOT = crates.ROOT
+GATE = f"{ROOT}/out/gate"
+LIBRARY = f"{crates.folder('bd_c')}/out/libhullpippin.a"
+PLAYER = f"{crates.folder('bd_play')}/out/bd_play"
+# What isn't proved, of a crate's folder.
+ASIDE = ("out", "edits", "must-fail")
+
+
+def sum_of(path):
+    with open(path, "rb") as file:
+        return hashlib.file_digest(file, "sha256").hexdigest()
+
+
+def sources():
+    """The sum of all that is proved: each file's path, and its sum."""
+    found = [f"{ROOT}/crates.txt", f"{ROOT}/HANDLES"]
+    for folder in glob.glob(f"{ROOT}/crates/*/*"):
+        if os.path.basename(folder) not in ASIDE:
+            found += [it for it in [folder, *glob.glob(f"{folder}/**", recursive=True)] if os.path.isfile(it)]
+    names = "".join(f"{os.path.relpath(it, ROOT)} {sum_of(it)}\n" for it in sorted(set(found)))
+    return hashlib.sha256(names.encode()).hexdigest()
+
+
+def commit():
+    """The commit whose sources these are; where they are none's, it says so."""
+    found = subprocess.run(["git", "-C", ROOT, "rev-parse", "HEAD"], capture_output=True, text=True)
+    if found.returncode:
+        return "unknown"
+    changed = subprocess.run(["git", "-C", ROOT, "status", "--porcelain", "--", "crates", "crates.txt", "HANDLES"], capture_output=True, text=True)
+    return found.stdout.strip() + (" with changes" if changed.stdout.strip() else "")
+
+
+def kit():
+    return subprocess.run(["rt", "version"], check=True, capture_output=True, text=True).stdout.strip()
+
+
+def state():
+    """What is to be proved, as it stands now."""
+    return {"commit": commit(), "sources": sources(), "kit": kit()}
+
+
+def written(path, record):
+    os.makedirs(os.path.dirname(path), exist_ok=True)
+    with open(path, "w", encoding="utf-8") as file:
+        file.writelines(f"{key} {value}\n" for key, value in record.items())
+
+
+def read(path):
+    """A record; nothing where there is none."""
+    try:
+        with open(path, encoding="utf-8") as file:
+            return dict(line.rstrip("\n").split(" ", 1) for line in file if " " in line)
+    except OSError:
+        return {}
+
+
+def libraries():
+    """The sum of the built libraries that the archive stands on; nothing where one isn't there."""
+    built = [crates.built(it) for it in sorted(crates.below("bd_c"))]
+    if not all(map(os.path.exists, built)):
+        return ""
+    return hashlib.sha256("".join(map(sum_of, built)).encode()).hexdigest()
+
+
+def note(path, what):
+    """Notes that this file was proved, of such a state."""
+    written(f"{path}.proved", {**what, "sum": sum_of(path)})
+
+
+def forget(path):
+    """Takes a record away, before its file is built anew."""
+    if os.path.exists(f"{path}.proved"):
+        os.remove(f"{path}.proved")
+
+
+def known(path):
+    """The record of a file that is still the one that was proved; nothing where there is none."""
+    record = read(f"{path}.proved")
+    return record if record and record.get("sum") == sum_of(path) else {}
+
+
+def note_gate(what):
+    """Notes that the gate has passed all of that state, and that it built the libraries and the player."""
+    written(GATE, {**what, "libraries": libraries()})
+    if os.path.exists(PLAYER):
+        note(PLAYER, what)
+
+
+def gate_passed(what):
+    """Whether a gate is known to have passed these sources."""
+    return bool(what) and read(GATE).get("sources") == what["sources"]
+
+
+def are_of_gate(what):
+    """Whether the built libraries are those of a gate that has passed these sources."""
+    return gate_passed(what) and read(GATE)["libraries"] == libraries()
