@@ -64,7 +64,7 @@ def words(name):
 
 
 def with_kit(archive, out):
-    """Makes the archive that programs link: all members of this one, and the kit's C library object. The same members make the same bytes."""
+    """Makes the archive that programs link, of this one's members and the kit's C library object. The same make the same bytes."""
     with tempfile.TemporaryDirectory() as room:
         for number, it in enumerate((archive, f"{kit()}/c/liblibc_c.a")):
             os.mkdir(f"{room}/{number}")

@@ -1,9 +1,9 @@
 # SPDX-License-Identifier: Apache-2.0 OR MIT
 """What is known to be proved: a record beside a built file, FILE.proved, and in out/gate what the gate has passed.
 
-A record has a line for each of `commit`, `sources` (the sum of all that is proved), `kit` and `sum` (the file's), the gate's one for
-`libraries` (the sum of those that it has built). Of a file that was built otherwise since, nothing is known, nor of an archive over other
-libraries than the gate's. Records keep out mistakes, not lies.
+A record has a line for each of `commit`, `sources` (the sum of all that is proved), `kit` and `sum` (the file's), the gate's
+one for `libraries` (the sum of those that it has built). Of a file that was built otherwise since, nothing is known, nor of
+an archive over other libraries than the gate's. Records keep out mistakes, not lies.
 """
 import glob
 import hashlib
@@ -37,11 +37,11 @@ def sources():
 
 def commit():
     """The commit whose sources these are; where they are none's, it says so."""
-    found = subprocess.run(["git", "-C", ROOT, "rev-parse", "HEAD"], capture_output=True, text=True)
-    if found.returncode:
+    head, changed = (subprocess.run(["git", "-C", ROOT, *words], capture_output=True, text=True) for words in (
+        ["rev-parse", "HEAD"], ["status", "--porcelain", "--", "crates", "crates.txt", "HANDLES"]))
+    if head.returncode:
         return "unknown"
-    changed = subprocess.run(["git", "-C", ROOT, "status", "--porcelain", "--", "crates", "crates.txt", "HANDLES"], capture_output=True, text=True)
-    return found.stdout.strip() + (" with changes" if changed.stdout.strip() else "")
+    return head.stdout.strip() + (" with changes" if changed.stdout.strip() else "")
 
 
 def kit():

@@ -127,7 +127,7 @@ impl Library {
     pub fn finish(self) -> History {
         let Library { mut driver, seats } = self;
         seats.into_iter().for_each(|seat| driver.return_seat(seat).expect("a seat of the driver's"));
-        driver.finish().unwrap_or_else(|(error, _)| panic!("{error}"))
+        driver.finish().unwrap_or_else(|it| panic!("{it}"))
     }
 }
 

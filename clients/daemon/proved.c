@@ -34,6 +34,7 @@ void version_tell(FILE *out)
     if (file)
         fclose(file);
     line[strcspn(line, "\n")] = 0;
-    fprintf(out, "hullpippind " HULLPIPPIND_VERSION ": Binder protocol %d, library protocol %u\nengine %s\n", BINDER_CURRENT_PROTOCOL_VERSION,
-            PROTOCOL_VERSION, line);
+    fprintf(out, "hullpippind " HULLPIPPIND_VERSION ": Binder protocol %d, library protocol %u\n", BINDER_CURRENT_PROTOCOL_VERSION,
+            PROTOCOL_VERSION);
+    fprintf(out, "engine %s\n", line);
 }

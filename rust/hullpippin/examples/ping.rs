@@ -2,15 +2,10 @@
 //! The worked runs of docs/EXAMPLES.md by two seats of one driver, each in a thread of its own.
 //!
 //!     ping one-way|call [JOURNAL]
-use hullpippin::{Answer, Driver, Error, Outcome, Seat, Verdict, verdict_on};
+use hullpippin::{verdict_on, Answer, Command, Driver, Error, Outcome, Parcel, Seat, Verdict, ONE_WAY};
 use std::process::ExitCode;
 use std::sync::atomic::{AtomicBool, Ordering};
 use std::thread;
-
-const BC_TRANSACTION: u32 = 0x40406300;
-const BC_REPLY: u32 = 0x40406301;
-const BC_ENTER_LOOPER: u32 = 0x0000630c;
-const ONE_WAY: u32 = 1;
 
 /// The lines of a part, each with its number.
 type Lines = Vec<(u32, String)>;
@@ -18,21 +13,12 @@ type Lines = Vec<(u32, String)>;
 /// A part has failed, so the other's turn won't come.
 static FAILED: AtomicBool = AtomicBool::new(false);
 
-/// A transaction or a reply to handle 0, its data at the beginning of the area and no objects behind it.
-fn transaction(command: u32, code: u32, flags: u32, size: u64) -> Vec<u8> {
-    let mut stream = command.to_le_bytes().to_vec();
-    stream.extend([0; 16]);
-    stream.extend(code.to_le_bytes());
-    stream.extend(flags.to_le_bytes());
-    stream.extend([0; 8]);
-    for word in [size, 0, 0, size.next_multiple_of(8)] {
-        stream.extend(word.to_le_bytes());
-    }
-    stream
-}
-
 fn hex(bytes: &[u8]) -> String {
-    if bytes.is_empty() { "-".into() } else { bytes.iter().map(|byte| format!("{byte:02x}")).collect() }
+    if bytes.is_empty() {
+        "-".into()
+    } else {
+        bytes.iter().map(|byte| format!("{byte:02x}")).collect()
+    }
 }
 
 /// What the player prints for an outcome.
@@ -85,13 +71,13 @@ impl Part {
         self.say(2, opened)?;
         let set = self.seat.manager();
         self.say(3, set)?;
-        let wrote = self.seat.write(&BC_ENTER_LOOPER.to_le_bytes(), &[]);
+        let wrote = self.seat.command(&Command::EnterLooper);
         self.say(4, wrote)?;
         self.wait_for(6)?;
         let got = self.seat.read(256);
         self.say(8, got)?;
         if two_way {
-            let wrote = self.seat.write(&transaction(BC_REPLY, 0, 0, 1), &[0x2a, 0, 0, 0, 0, 0, 0, 0]);
+            let wrote = self.seat.reply(0, 0, &Parcel::from(&[0x2a][..]));
             self.say(9, wrote)?;
             self.wait_for(9)?;
             let got = self.seat.read(256);
@@ -106,9 +92,9 @@ impl Part {
         let opened = self.seat.open(200, 2000, 4096);
         self.say(5, opened)?;
         let wrote = if two_way {
-            self.seat.write(&transaction(BC_TRANSACTION, 9, 0, 4), &[1, 2, 3, 4, 0, 0, 0, 0])
+            self.seat.transact(0, 9, 0, &Parcel::from(&[1, 2, 3, 4][..]))
         } else {
-            self.seat.write(&transaction(BC_TRANSACTION, 7, ONE_WAY, 2), b"hi\0\0\0\0\0\0")
+            self.seat.transact(0, 7, ONE_WAY, &Parcel::from(&b"hi"[..]))
         };
         self.say(6, wrote)?;
         let got = self.seat.read(256);
@@ -148,11 +134,11 @@ fn play(two_way: bool) -> Result<(Lines, Vec<u8>), String> {
     let mut lines = Vec::new();
     for (part, done) in parts {
         done?;
-        driver.return_seat(part.seat).map_err(text)?;
+        driver.return_seat(part.seat).map_err(|it| text(it.error))?;
         lines.extend(part.lines);
     }
     lines.sort();
-    let journal = driver.finish().map_err(|(error, _)| text(error))?.journal().map_err(text)?;
+    let journal = driver.finish().map_err(|it| text(it.error))?.journal().map_err(text)?;
     match verdict_on(&journal).map_err(text)? {
         Verdict::Lawful(_) => Ok((lines, journal)),
         verdict => Err(format!("{verdict:?}")),

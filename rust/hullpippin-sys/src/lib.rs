@@ -1,0 +1,475 @@
+// SPDX-License-Identifier: Apache-2.0 OR MIT
+//! The declarations of `hullpippin.h`: the transaction engine of Android's Binder driver, as its C library gives it.
+//!
+//! All is as the header says, which also tells what the library relies on: handles that aren't copied, one call at a time
+//! with a handle, memory that doesn't overlap. The crate `hullpippin` keeps that by its types; most programs want that one.
+//!
+//! The build links `libhullpippin.a`. It is looked for where the variable `HULLPIPPIN_LIB` says, which names the archive or
+//! its folder, and else asked of pkg-config.
+// (tools/bindings of the repository writes this file.)
+#![no_std]
+#![allow(non_camel_case_types)]
+
+/// A driver, or the history of one that has ended.
+#[repr(C)]
+#[derive(Debug)]
+pub struct hullpippin_driver {
+    /// What the library keeps.
+    pub at: *mut core::ffi::c_void,
+}
+
+impl hullpippin_driver {
+    /// A handle that has nothing.
+    pub const NONE: hullpippin_driver = hullpippin_driver { at: core::ptr::null_mut() };
+}
+
+/// A seat that was taken off a driver.
+#[repr(C)]
+#[derive(Debug)]
+pub struct hullpippin_seat {
+    /// What the library keeps.
+    pub at: *mut core::ffi::c_void,
+}
+
+impl hullpippin_seat {
+    /// A handle that has nothing.
+    pub const NONE: hullpippin_seat = hullpippin_seat { at: core::ptr::null_mut() };
+}
+
+/// An engine that keeps no history.
+#[repr(C)]
+#[derive(Debug)]
+pub struct hullpippin_live {
+    /// What the library keeps.
+    pub at: *mut core::ffi::c_void,
+}
+
+impl hullpippin_live {
+    /// A handle that has nothing.
+    pub const NONE: hullpippin_live = hullpippin_live { at: core::ptr::null_mut() };
+}
+
+/// It was made.
+pub const HULLPIPPIN_DONE: u32 = 0;
+
+/// Malloc gave none for the call's own copies; it may be made again.
+pub const HULLPIPPIN_NO_MEMORY: u32 = 1;
+
+/// A request of this seat is handed over: collect or withdraw it first.
+pub const HULLPIPPIN_WAITING: u32 = 2;
+
+/// No request of this seat is handed over.
+pub const HULLPIPPIN_NOT_WAITING: u32 = 3;
+
+/// Serve: another seat has the engine.
+pub const HULLPIPPIN_TAKEN: u32 = 4;
+
+/// Post: there is no such kind of request; post, set_spam, live_set_spam: `on` is neither 0 nor 1.
+pub const HULLPIPPIN_NO_SUCH_REQUEST: u32 = 5;
+
+/// New: the number of seats isn't 1 to 31; live_new: 1 to 65536.
+pub const HULLPIPPIN_SEAT_COUNT: u32 = 6;
+
+/// Take_seat: all seats are taken.
+pub const HULLPIPPIN_NO_SEAT_LEFT: u32 = 7;
+
+/// Finish: a seat isn't back.
+pub const HULLPIPPIN_SEATS_AWAY: u32 = 8;
+
+/// Verdict: the bytes are no journal; journal, live_entry, live_heading: no journal spells it.
+pub const HULLPIPPIN_NO_JOURNAL: u32 = 9;
+
+/// Live: the engine has no seat of that number.
+pub const HULLPIPPIN_NO_SUCH_SEAT: u32 = 10;
+
+/// Live: the history can take no more (F13).
+pub const HULLPIPPIN_HISTORY_FULL: u32 = 11;
+
+/// Live_command: the bytes aren't exactly one command.
+pub const HULLPIPPIN_NO_COMMAND: u32 = 12;
+
+/// Collect, withdraw: it is still handed over.
+pub const HULLPIPPIN_HANDED: u32 = 0;
+
+/// Open, attach: the seat has a thread of the process.
+pub const HULLPIPPIN_OPENED: u32 = 1;
+
+/// Manager, set_spam: that is so from now on.
+pub const HULLPIPPIN_SET: u32 = 2;
+
+/// Exit_thread, exit_process: the thread or the process has ended.
+pub const HULLPIPPIN_EXITED: u32 = 3;
+
+/// Write: commands were run.
+pub const HULLPIPPIN_WROTE: u32 = 4;
+
+/// Read: there are bytes to be fetched.
+pub const HULLPIPPIN_GOT: u32 = 5;
+
+/// It was refused, and changed nothing: `number` is its fault, F1 to F16.
+pub const HULLPIPPIN_REFUSED: u32 = 6;
+
+/// It wasn't run: `why`.
+pub const HULLPIPPIN_BACK: u32 = 7;
+
+/// It didn't.
+pub const HULLPIPPIN_AT_END: u32 = 0;
+
+/// The next command can't be read or run: `number` is the fault, F1 to F16.
+pub const HULLPIPPIN_AT_FAULT: u32 = 1;
+
+/// The last command that was run was refused: `number` is the cause, X1 to X16.
+pub const HULLPIPPIN_AT_CAUSE: u32 = 2;
+
+/// Another seat has the engine: call again, or post.
+pub const HULLPIPPIN_BACK_TAKEN: u32 = 1;
+
+/// The engine found no memory.
+pub const HULLPIPPIN_BACK_NO_MEMORY: u32 = 2;
+
+/// The history can take no more.
+pub const HULLPIPPIN_BACK_HISTORY_FULL: u32 = 3;
+
+/// Withdraw: nobody had picked it.
+pub const HULLPIPPIN_BACK_WITHDRAWN: u32 = 4;
+
+/// The returns.
+pub const HULLPIPPIN_STREAM: u32 = 0;
+
+/// The data of the transaction or reply among them.
+pub const HULLPIPPIN_DATA: u32 = 1;
+
+/// The offsets of its objects.
+pub const HULLPIPPIN_OFFSETS: u32 = 2;
+
+/// Kinds of requests that are posted.
+pub const HULLPIPPIN_OPEN: u32 = 1;
+
+/// Kinds of requests that are posted.
+pub const HULLPIPPIN_ATTACH: u32 = 2;
+
+/// Kinds of requests that are posted.
+pub const HULLPIPPIN_MANAGER: u32 = 3;
+
+/// Kinds of requests that are posted.
+pub const HULLPIPPIN_WRITE: u32 = 4;
+
+/// Kinds of requests that are posted.
+pub const HULLPIPPIN_READ: u32 = 5;
+
+/// Kinds of requests that are posted.
+pub const HULLPIPPIN_EXIT_THREAD: u32 = 6;
+
+/// Kinds of requests that are posted.
+pub const HULLPIPPIN_EXIT_PROCESS: u32 = 7;
+
+/// Kinds of requests that are posted.
+pub const HULLPIPPIN_SET_SPAM: u32 = 8;
+
+/// What a request came to. What a field doesn't apply to has 0 there.
+#[repr(C)]
+#[derive(Clone, Copy, Debug, Default, PartialEq, Eq)]
+pub struct hullpippin_answer {
+    /// HULLPIPPIN_HANDED .. HULLPIPPIN_BACK.
+    pub kind: u32,
+    /// The place of its first step in the history.
+    pub from: u32,
+    /// The place behind its last.
+    pub to: u32,
+    /// Wrote: write_consumed, how many bytes of the stream were run.
+    pub consumed: u32,
+    /// Wrote: how many of the commands changed nothing, each with a note.
+    pub notes: usize,
+    /// Wrote: HULLPIPPIN_AT_END .. HULLPIPPIN_AT_CAUSE.
+    pub stop: u32,
+    /// Wrote, refused: the number of the fault or cause; live_command: also that of its note.
+    pub number: u32,
+    /// Back: HULLPIPPIN_BACK_TAKEN ..
+    pub why: u32,
+    /// Got: how many bytes of returns.
+    pub stream: usize,
+    /// Got: how many bytes of data.
+    pub data: usize,
+    /// Got: how many bytes of offsets, 8 for each object.
+    pub offsets: usize,
+}
+
+/// A command of a write that changed nothing.
+#[repr(C)]
+#[derive(Clone, Copy, Debug, Default, PartialEq, Eq)]
+pub struct hullpippin_note {
+    /// Which command of the stream, from 0.
+    pub command: u32,
+    /// Why: N1 to N11.
+    pub number: u32,
+}
+
+/// The page: how far the driver is.
+#[repr(C)]
+#[derive(Clone, Copy, Debug, Default, PartialEq, Eq)]
+pub struct hullpippin_page {
+    /// How many steps the history has.
+    pub stamp: u32,
+    /// Bit i: seat i has something to read.
+    pub ready: u32,
+    /// A seat has the engine.
+    pub taken: bool,
+}
+
+/// A request to be posted. A field that its kind has no use for isn't looked at.
+#[repr(C)]
+#[derive(Clone, Copy, Debug, Default, PartialEq, Eq)]
+pub struct hullpippin_request {
+    /// HULLPIPPIN_OPEN .. HULLPIPPIN_SET_SPAM.
+    pub kind: u32,
+    /// Open, attach.
+    pub pid: u32,
+    /// Open.
+    pub euid: u32,
+    /// Open.
+    pub window: u32,
+    /// Read.
+    pub limit: u32,
+    /// Set_spam: 1, or 0 for no longer.
+    pub on: u32,
+}
+
+/// What is said of a journal.
+#[repr(C)]
+#[derive(Clone, Copy, Debug, Default, PartialEq, Eq)]
+pub struct hullpippin_verdict_on {
+    /// Whether its entries are a history.
+    pub lawful: bool,
+    /// How many of them are one, from the first on: all of them where it is lawful.
+    pub entries: usize,
+}
+
+extern "C" {
+    /// Makes a driver with so many seats, numbered from 0. `driver` must be empty, and stays so unless DONE is
+    /// answered. Also NO_MEMORY, SEAT_COUNT.
+    pub fn hullpippin_new(seats: u32, driver: *mut hullpippin_driver) -> u32;
+
+    /// Takes a seat off the driver: the first that is there, so of a new driver seat 0, then seat 1. `seat` must be
+    /// empty, and stays so unless DONE is answered. Also NO_MEMORY, NO_SEAT_LEFT.
+    pub fn hullpippin_take_seat(driver: *mut hullpippin_driver, seat: *mut hullpippin_seat) -> u32;
+
+    /// Gives a seat back to its own driver, behind those that are there, and empties `seat`. What its latest call
+    /// answered is gone. Also NO_MEMORY, which never comes where the seat was taken off this driver.
+    pub fn hullpippin_return_seat(driver: *mut hullpippin_driver, seat: *mut hullpippin_seat) -> u32;
+
+    /// Ends a driver whose seats are all back. The handle has its history from then on: of the functions of drivers
+    /// only journal and free_driver may be called. Takes no memory. Also SEATS_AWAY.
+    pub fn hullpippin_finish(driver: *mut hullpippin_driver) -> u32;
+
+    /// Tells in `size` how many bytes the journal of an ended driver has, and copies them to `out` if all of them fit
+    /// in `room` bytes; else `out` stays as it was, and a later call with more room has them. Also NO_MEMORY,
+    /// NO_JOURNAL.
+    pub fn hullpippin_journal(driver: *mut hullpippin_driver, out: *mut u8, room: usize, size: *mut usize) -> u32;
+
+    /// Judges the bytes of a journal, by playing its entries again. Needs no driver. Also NO_MEMORY, NO_JOURNAL.
+    pub fn hullpippin_verdict(journal: *const u8, size: usize, verdict: *mut hullpippin_verdict_on) -> u32;
+
+    /// Lets go of a driver, or of an ended one's history, and empties the handle. Seats that are away stay usable. The
+    /// handle must not be empty.
+    pub fn hullpippin_free_driver(driver: *mut hullpippin_driver);
+
+    /// Lets go of a seat for good, and empties the handle, which must not be empty. Its driver can't be finished then.
+    pub fn hullpippin_free_seat(seat: *mut hullpippin_seat);
+
+    /// Opens a process with one thread, the seat's: `pid` 1 to 2147483647, `window` a multiple of 4096 up to 4194304.
+    pub fn hullpippin_open(
+        seat: *mut hullpippin_seat,
+        pid: u32,
+        euid: u32,
+        window: u32,
+        answer: *mut hullpippin_answer,
+    ) -> u32;
+
+    /// Makes the seat a further thread of a live process.
+    pub fn hullpippin_attach(seat: *mut hullpippin_seat, pid: u32, answer: *mut hullpippin_answer) -> u32;
+
+    /// Makes the seat's process the context manager (BINDER_SET_CONTEXT_MGR).
+    pub fn hullpippin_manager(seat: *mut hullpippin_seat, answer: *mut hullpippin_answer) -> u32;
+
+    /// Has the seat's process told of its own flooding with one-way calls where `on` is 1, and no longer where it is 0
+    /// (BINDER_ENABLE_ONEWAY_SPAM_DETECTION). While it is told, an accepted one-way transaction reads
+    /// BR_ONEWAY_SPAM_SUSPECT in place of BR_TRANSACTION_COMPLETE where the process's one-way buffers that live in the
+    /// receiver's window take more than a quarter of it. At first it isn't. Also NO_SUCH_REQUEST, where `on` is neither
+    /// 0 nor 1, and nowhere else.
+    pub fn hullpippin_set_spam(seat: *mut hullpippin_seat, on: u32, answer: *mut hullpippin_answer) -> u32;
+
+    /// Runs the commands of a stream of at most 4096 bytes (the write half of BINDER_WRITE_READ). In their transaction
+    /// records `buffer` and `offsets` are places in the area. Also NO_MEMORY.
+    pub fn hullpippin_write(
+        seat: *mut hullpippin_seat,
+        stream: *const u8,
+        stream_size: usize,
+        area: *const u8,
+        area_size: usize,
+        answer: *mut hullpippin_answer,
+    ) -> u32;
+
+    /// Reads returns of at most `limit` bytes, which is at least 72 (the read half of BINDER_WRITE_READ). Where it is
+    /// GOT, the answer has the sizes, and the bytes stay with the seat. Where there is nothing to read, it is REFUSED
+    /// with F12.
+    pub fn hullpippin_read(seat: *mut hullpippin_seat, limit: u32, answer: *mut hullpippin_answer) -> u32;
+
+    /// Ends the seat's thread (BINDER_THREAD_EXIT). The seat may open or attach again.
+    pub fn hullpippin_exit_thread(seat: *mut hullpippin_seat, answer: *mut hullpippin_answer) -> u32;
+
+    /// Ends the seat's process with all its threads.
+    pub fn hullpippin_exit_process(seat: *mut hullpippin_seat, answer: *mut hullpippin_answer) -> u32;
+
+    /// Copies a part of what a read got to `out`, if all of it fits in `room` bytes, and else nothing. Answers how many
+    /// bytes it has, 0 where the latest answer isn't GOT. Takes no memory.
+    pub fn hullpippin_answer_bytes(seat: *mut hullpippin_seat, part: u32, out: *mut u8, room: usize) -> usize;
+
+    /// Tells the note at an index below the answer's `notes`; false where there is none. Takes no memory.
+    pub fn hullpippin_answer_note(seat: *mut hullpippin_seat, index: usize, note: *mut hullpippin_note) -> bool;
+
+    /// The page.
+    pub fn hullpippin_look(seat: *mut hullpippin_seat, page: *mut hullpippin_page);
+
+    /// Its ready seats alone, bit i for seat i.
+    pub fn hullpippin_ready(seat: *mut hullpippin_seat) -> u32;
+
+    /// Posts a request; the stream and the area are those of a write. Also WAITING, NO_MEMORY; and NO_SUCH_REQUEST,
+    /// where its kind is none of these, or is HULLPIPPIN_SET_SPAM and its `on` neither 0 nor 1, and nowhere else.
+    pub fn hullpippin_post(
+        seat: *mut hullpippin_seat,
+        request: *const hullpippin_request,
+        stream: *const u8,
+        stream_size: usize,
+        area: *const u8,
+        area_size: usize,
+    ) -> u32;
+
+    /// Runs what all seats have posted, once each, and tells in `picked` how many that were. Also TAKEN.
+    pub fn hullpippin_serve(seat: *mut hullpippin_seat, picked: *mut u32) -> u32;
+
+    /// Fetches the answer to what was posted; HANDED while it isn't there. Also NOT_WAITING.
+    pub fn hullpippin_collect(seat: *mut hullpippin_seat, answer: *mut hullpippin_answer) -> u32;
+
+    /// Takes back what was posted, if nobody has picked it: BACK with BACK_WITHDRAWN, or HANDED. Also NOT_WAITING.
+    pub fn hullpippin_withdraw(seat: *mut hullpippin_seat, answer: *mut hullpippin_answer) -> u32;
+
+    /// Makes a live engine with 1 to 65536 seats. `live` must be empty, and stays so unless DONE is answered. Also
+    /// NO_MEMORY, SEAT_COUNT.
+    pub fn hullpippin_live_new(seats: u32, live: *mut hullpippin_live) -> u32;
+
+    /// As hullpippin_open.
+    pub fn hullpippin_live_open(
+        live: *mut hullpippin_live,
+        seat: u32,
+        pid: u32,
+        euid: u32,
+        window: u32,
+        answer: *mut hullpippin_answer,
+    ) -> u32;
+
+    /// As hullpippin_attach.
+    pub fn hullpippin_live_attach(
+        live: *mut hullpippin_live,
+        seat: u32,
+        pid: u32,
+        answer: *mut hullpippin_answer,
+    ) -> u32;
+
+    /// As hullpippin_manager.
+    pub fn hullpippin_live_manager(live: *mut hullpippin_live, seat: u32, answer: *mut hullpippin_answer) -> u32;
+
+    /// As hullpippin_set_spam. Also NO_SUCH_REQUEST, as there, whatever `seat` is.
+    pub fn hullpippin_live_set_spam(
+        live: *mut hullpippin_live,
+        seat: u32,
+        on: u32,
+        answer: *mut hullpippin_answer,
+    ) -> u32;
+
+    /// Runs one command, whose bytes are `command`, as the command of a write of that one alone. With a transaction or
+    /// reply its parcel is given: the data and the offsets of its objects, of the sizes that its record says; else it
+    /// is refused with X7. The record's pointers aren't looked at. With other commands nothing is looked at of the
+    /// parcel. WROTE: `notes` is 1 where the command changed nothing, `stop` is AT_CAUSE where it was refused, and
+    /// `number` is the note's or the cause's; `consumed` is 0. REFUSED with F4 where the seat has no thread. Also
+    /// NO_COMMAND: then it isn't read, and no step is made; a write would stop there at a fault.
+    pub fn hullpippin_live_command(
+        live: *mut hullpippin_live,
+        seat: u32,
+        command: *const u8,
+        command_size: usize,
+        data: *const u8,
+        data_size: usize,
+        offsets: *const u8,
+        offsets_size: usize,
+        answer: *mut hullpippin_answer,
+    ) -> u32;
+
+    /// As hullpippin_read; the bytes stay with the engine until its next step.
+    pub fn hullpippin_live_read(
+        live: *mut hullpippin_live,
+        seat: u32,
+        limit: u32,
+        answer: *mut hullpippin_answer,
+    ) -> u32;
+
+    /// As hullpippin_exit_thread.
+    pub fn hullpippin_live_exit_thread(live: *mut hullpippin_live, seat: u32, answer: *mut hullpippin_answer) -> u32;
+
+    /// As hullpippin_exit_process.
+    pub fn hullpippin_live_exit_process(live: *mut hullpippin_live, seat: u32, answer: *mut hullpippin_answer) -> u32;
+
+    /// Whether the seat has something to read; false where there is no such seat. Takes no memory.
+    pub fn hullpippin_live_ready(live: *mut hullpippin_live, seat: u32) -> bool;
+
+    /// How many steps were made. Takes no memory.
+    pub fn hullpippin_live_len(live: *mut hullpippin_live) -> u32;
+
+    /// Copies where the buffers were made that ended by the latest step, each the place of its step in the history,
+    /// oldest first, to `out` if all of them fit in `room` numbers, and else nothing. Answers how many there are, 0
+    /// where no step was made yet; they stay until the next step that is DONE. A buffer has ended where one made there
+    /// lived before the step and none does after it, so a bridge may take back its memory. Only a BC_FREE_BUFFER and
+    /// the exits end buffers, and only they take time for it: a BC_FREE_BUFFER looks for one, an exit looks through
+    /// those of its own process. Takes no memory.
+    pub fn hullpippin_live_ended(live: *mut hullpippin_live, out: *mut u32, room: usize) -> usize;
+
+    /// Looks whether each of `count` seats has something to read, and notes it. Tells in `changed` for how many of them
+    /// that differs from what was noted when the seat was last looked at by this function; at first no seat has
+    /// anything to read. Which they are is fetched by hullpippin_live_changed. Other seats stay noted as they were:
+    /// what becomes of them is told when they are named next. Numbers that are no seat's are passed over. It costs a
+    /// look at each seat that is named, as hullpippin_live_ready does: name those that somebody waits for, or all. A
+    /// step costs nothing for it. Also NO_MEMORY: then all stays noted as it was.
+    pub fn hullpippin_live_poll(
+        live: *mut hullpippin_live,
+        seats: *const u32,
+        count: usize,
+        changed: *mut usize,
+    ) -> u32;
+
+    /// Copies the seats that the latest hullpippin_live_poll found changed to `out`, if all of them fit in `room`
+    /// numbers, and else nothing. Answers how many there are; they stay until its next call that is DONE. Each was
+    /// noted ready and isn't now, or the other way round. Takes no memory.
+    pub fn hullpippin_live_changed(live: *mut hullpippin_live, out: *mut u32, room: usize) -> usize;
+
+    /// As hullpippin_answer_bytes, of the latest step; 0 where that isn't a read, or didn't get anything.
+    pub fn hullpippin_live_bytes(live: *mut hullpippin_live, part: u32, out: *mut u8, room: usize) -> usize;
+
+    /// Tells in `size` how many bytes the latest step's entry has in a journal, 0 where no step was made yet, and
+    /// copies them to `out` if all of them fit in `room` bytes; else `out` stays as it was, and a later call with more
+    /// room has them, until the next step. Also NO_MEMORY, NO_JOURNAL: the call may be made again, the entry stays.
+    pub fn hullpippin_live_entry(live: *mut hullpippin_live, out: *mut u8, room: usize, size: *mut usize) -> u32;
+
+    /// The same for what a journal of `count` entries begins with. Where the entries are still to come, begin the file
+    /// with the heading of 4294967295 entries, and write the right one over it at the end, or `count` alone into the
+    /// four bytes from byte 12, little-endian. Until then no reader takes it for a journal. NO_JOURNAL where there are
+    /// more than 31 seats.
+    pub fn hullpippin_live_heading(
+        live: *mut hullpippin_live,
+        count: u32,
+        out: *mut u8,
+        room: usize,
+        size: *mut usize,
+    ) -> u32;
+
+    /// Lets go of a live engine, and empties the handle, which must not be empty.
+    pub fn hullpippin_free_live(live: *mut hullpippin_live);
+}

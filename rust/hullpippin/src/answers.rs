@@ -1,0 +1,229 @@
+// SPDX-License-Identifier: Apache-2.0 OR MIT
+//! What is asked of a seat, and what comes of it.
+use crate::{Cause, Fault, Note, Returns};
+use hullpippin_sys as sys;
+use std::fmt;
+
+/// Why a write stopped before the end of its stream.
+#[derive(Clone, Copy, Debug, PartialEq, Eq, Hash)]
+pub enum Stop {
+    /// The next command can't be read or run.
+    Fault(Fault),
+    /// The last command that was run was refused.
+    Cause(Cause),
+}
+
+impl fmt::Display for Stop {
+    fn fmt(&self, f: &mut fmt::Formatter<'_>) -> fmt::Result {
+        match self {
+            Stop::Fault(fault) => fault.fmt(f),
+            Stop::Cause(cause) => cause.fmt(f),
+        }
+    }
+}
+
+impl std::error::Error for Stop {}
+
+/// Why a request comes back. It wasn't run.
+#[derive(Clone, Copy, Debug, PartialEq, Eq, Hash)]
+pub enum Why {
+    /// Another seat has the engine.
+    Taken,
+    /// The engine found no memory.
+    NoMemory,
+    /// The history can take no more.
+    HistoryFull,
+    /// It was taken back.
+    Withdrawn,
+}
+
+impl fmt::Display for Why {
+    fn fmt(&self, f: &mut fmt::Formatter<'_>) -> fmt::Result {
+        f.write_str(match self {
+            Why::Taken => "another seat has the engine",
+            Why::NoMemory => "out of memory",
+            Why::HistoryFull => "the history is full",
+            Why::Withdrawn => "the request was taken back",
+        })
+    }
+}
+
+impl std::error::Error for Why {}
+
+/// What a request that was run came to.
+#[derive(Clone, Debug, PartialEq, Eq)]
+pub enum Answer {
+    /// The seat has a thread of the process.
+    Opened,
+    /// The process is the context manager, or what it is told of its one-way flooding is set.
+    Set,
+    /// The thread or the process has ended.
+    Exited,
+    /// Commands were run.
+    Wrote {
+        /// How many bytes of the stream were run.
+        consumed: u32,
+        /// The commands that changed nothing, by their places in the stream from 0, and why.
+        notes: Vec<(u32, Note)>,
+        /// Why it stopped before the end.
+        stop: Option<Stop>,
+    },
+    /// What was read.
+    Got {
+        /// The returns: [`Answer::returns`] takes them apart.
+        stream: Vec<u8>,
+        /// The data of the transaction or reply among them.
+        data: Vec<u8>,
+        /// The offsets of its objects.
+        offsets: Vec<u8>,
+    },
+    /// It was refused, and changed nothing.
+    Refused(Fault),
+}
+
+impl Answer {
+    /// The returns that were read, one by one; none where nothing was.
+    pub fn returns(&self) -> Returns<'_> {
+        match self {
+            Answer::Got { stream, .. } => Returns::of(stream),
+            _ => Returns::of(&[]),
+        }
+    }
+}
+
+/// What came of a request.
+#[derive(Clone, Debug, PartialEq, Eq)]
+pub enum Outcome {
+    /// It was run: its steps stand in the history from `from` up to and without `to`.
+    Done {
+        /// What it came to.
+        answer: Answer,
+        /// The place of its first step.
+        from: u32,
+        /// The place behind its last.
+        to: u32,
+    },
+    /// It wasn't run.
+    Back(Why),
+    /// It is still handed over.
+    Handed,
+}
+
+impl Outcome {
+    /// What the request came to, where it was run.
+    pub fn answer(self) -> Option<Answer> {
+        match self {
+            Outcome::Done { answer, .. } => Some(answer),
+            Outcome::Back(_) | Outcome::Handed => None,
+        }
+    }
+}
+
+/// A request to be posted.
+#[derive(Clone, Copy, Debug, PartialEq, Eq)]
+pub enum Request<'a> {
+    /// As [`Seat::open`](crate::Seat::open).
+    Open {
+        /// 1 to 2147483647.
+        pid: u32,
+        /// The user.
+        euid: u32,
+        /// A multiple of 4096 up to 4194304.
+        window: u32,
+    },
+    /// As [`Seat::attach`](crate::Seat::attach).
+    Attach {
+        /// That of a live process.
+        pid: u32,
+    },
+    /// As [`Seat::manager`](crate::Seat::manager).
+    Manager,
+    /// As [`Seat::set_spam`](crate::Seat::set_spam).
+    SetSpam {
+        /// Whether it is told from now on.
+        on: bool,
+    },
+    /// As [`Seat::write`](crate::Seat::write).
+    Write {
+        /// The commands.
+        stream: &'a [u8],
+        /// What their records speak of.
+        area: &'a [u8],
+    },
+    /// As [`Seat::read`](crate::Seat::read).
+    Read {
+        /// At least 72.
+        limit: u32,
+    },
+    /// As [`Seat::exit_thread`](crate::Seat::exit_thread).
+    ExitThread,
+    /// As [`Seat::exit_process`](crate::Seat::exit_process).
+    ExitProcess,
+}
+
+impl<'a> Request<'a> {
+    /// The request as the library takes it, its stream and its area.
+    pub(crate) fn given(&self) -> (sys::hullpippin_request, &'a [u8], &'a [u8]) {
+        let of = |kind| sys::hullpippin_request { kind, ..Default::default() };
+        let (request, stream, area): (_, &[u8], &[u8]) = match *self {
+            Request::Open { pid, euid, window } => {
+                (sys::hullpippin_request { pid, euid, window, ..of(sys::HULLPIPPIN_OPEN) }, &[], &[])
+            }
+            Request::Attach { pid } => (sys::hullpippin_request { pid, ..of(sys::HULLPIPPIN_ATTACH) }, &[], &[]),
+            Request::Manager => (of(sys::HULLPIPPIN_MANAGER), &[], &[]),
+            Request::SetSpam { on } => {
+                (sys::hullpippin_request { on: on.into(), ..of(sys::HULLPIPPIN_SET_SPAM) }, &[], &[])
+            }
+            Request::Write { stream, area } => (of(sys::HULLPIPPIN_WRITE), stream, area),
+            Request::Read { limit } => (sys::hullpippin_request { limit, ..of(sys::HULLPIPPIN_READ) }, &[], &[]),
+            Request::ExitThread => (of(sys::HULLPIPPIN_EXIT_THREAD), &[], &[]),
+            Request::ExitProcess => (of(sys::HULLPIPPIN_EXIT_PROCESS), &[], &[]),
+        };
+        (request, stream, area)
+    }
+}
+
+/// The fault of a number that the library tells, which is one of those that there are.
+pub(crate) fn fault(number: u32) -> Fault {
+    Fault::from_number(number).unwrap_or_else(|| panic!("the library tells fault {number}"))
+}
+
+/// The cause of a number.
+pub(crate) fn cause(number: u32) -> Cause {
+    Cause::from_number(number).unwrap_or_else(|| panic!("the library tells cause {number}"))
+}
+
+/// The note of a number.
+pub(crate) fn note(number: u32) -> Note {
+    Note::from_number(number).unwrap_or_else(|| panic!("the library tells note {number}"))
+}
+
+/// What the library has of an answer besides its numbers.
+pub(crate) trait Fetched {
+    /// A part of what was read, of that size.
+    fn bytes(&mut self, part: u32, size: usize) -> Vec<u8>;
+
+    /// What a request that was run came to; the notes are told apart.
+    fn told(&mut self, told: &sys::hullpippin_answer, notes: Vec<(u32, Note)>, consumed: u32) -> Answer {
+        match told.kind {
+            sys::HULLPIPPIN_OPENED => Answer::Opened,
+            sys::HULLPIPPIN_SET => Answer::Set,
+            sys::HULLPIPPIN_EXITED => Answer::Exited,
+            sys::HULLPIPPIN_WROTE => Answer::Wrote {
+                consumed,
+                notes,
+                stop: match told.stop {
+                    sys::HULLPIPPIN_AT_END => None,
+                    sys::HULLPIPPIN_AT_FAULT => Some(Stop::Fault(fault(told.number))),
+                    _ => Some(Stop::Cause(cause(told.number))),
+                },
+            },
+            sys::HULLPIPPIN_GOT => Answer::Got {
+                stream: self.bytes(sys::HULLPIPPIN_STREAM, told.stream),
+                data: self.bytes(sys::HULLPIPPIN_DATA, told.data),
+                offsets: self.bytes(sys::HULLPIPPIN_OFFSETS, told.offsets),
+            },
+            _ => Answer::Refused(fault(told.number)),
+        }
+    }
+}

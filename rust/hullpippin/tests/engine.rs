@@ -1,0 +1,192 @@
+// SPDX-License-Identifier: Apache-2.0 OR MIT
+//! Runs over the library: what this crate spells is what the engine reads, and the other way round.
+use hullpippin::{
+    verdict_on, Answer, Cause, Command, Driver, Error, Fault, FlatObject, Kept, Live, Note, Outcome, Parcel, Request,
+    Return, Stop, TransactionData, Verdict, Why, ONE_WAY,
+};
+
+fn returns(answer: Answer) -> Vec<Return> {
+    answer.returns().map(|it| it.expect("a return")).collect()
+}
+
+/// A live engine whose seat 0 is the manager's, and seat 1 a client's.
+fn introduced() -> Live {
+    let mut live = Live::new(3).expect("an engine");
+    for (seat, pid) in [(0, 100), (1, 200)] {
+        assert_eq!(live.open(seat, pid, 1000 + pid, 65536).expect("a step").answer, Answer::Opened);
+    }
+    assert_eq!(live.manager(0).expect("a step").answer, Answer::Set);
+    assert_eq!(live.command(0, &Command::EnterLooper).expect("a step").answer, wrote(4));
+    live
+}
+
+fn wrote(consumed: u32) -> Answer {
+    Answer::Wrote { consumed, notes: vec![], stop: None }
+}
+
+#[test]
+fn every_command_is_one_that_the_engine_reads() {
+    let record = TransactionData { target: 0, code: 1, flags: ONE_WAY, ..TransactionData::default() };
+    let all = [
+        (Command::Transaction(record), None, None),
+        (Command::Reply(record), None, Some(Cause::NoCall)),
+        (Command::FreeBuffer(1), Some(Note::NoSuchBuffer), None),
+        (Command::Increfs(7), Some(Note::NoSuchNumber), None),
+        (Command::Acquire(7), Some(Note::NoSuchNumber), None),
+        (Command::Release(7), Some(Note::NoSuchNumber), None),
+        (Command::Decrefs(7), Some(Note::NoSuchNumber), None),
+        (Command::IncrefsDone(1, 2), Some(Note::NoSuchObject), None),
+        (Command::AcquireDone(1, 2), Some(Note::NoSuchObject), None),
+        (Command::EnterLooper, None, None),
+        (Command::ExitLooper, None, None),
+        (Command::RequestDeathNotification(7, 1), Some(Note::NoSuchNumber), None),
+        (Command::ClearDeathNotification(7, 1), Some(Note::NoSuchNumber), None),
+        (Command::DeadBinderDone(1), Some(Note::NoneTold), None),
+    ];
+    for (command, note, cause) in all {
+        let mut live = introduced();
+        let made = live.command(1, &command).unwrap_or_else(|error| panic!("{command}: {error}"));
+        let notes = note.into_iter().map(|it| (0, it)).collect();
+        let consumed = command.to_bytes().len() as u32;
+        assert_eq!(made.answer, Answer::Wrote { consumed, notes, stop: cause.map(Stop::Cause) }, "{command}");
+        let mut longer = command.to_bytes();
+        longer.push(0);
+        assert_eq!(live.command_bytes(1, &longer, &[], &[]), Err(Error::NoCommand), "{command}");
+    }
+}
+
+#[test]
+fn a_call_with_an_object_is_read_as_it_was_sent() {
+    let mut live = introduced();
+    let mut parcel = Parcel::from(&b"abc"[..]);
+    parcel.push(FlatObject::binder(0x1000, 0x20));
+    live.transact(1, 0, 9, 0, &parcel).expect("a step");
+    let read = live.read(0, 256).expect("a step").answer;
+    let Answer::Got { data, offsets, .. } = read.clone() else { panic!("{read:?}") };
+    assert_eq!((&data[..3], &offsets[..]), (&b"abc"[..], &8u64.to_le_bytes()[..]));
+    let object = FlatObject::from_bytes(&data[8..]).expect("an object");
+    assert_eq!(object, FlatObject { flags: object.flags, ..FlatObject::handle(1) });
+    let Some(Return::Transaction(call)) = returns(read).pop() else { panic!("no call") };
+    assert_eq!(
+        (call.code, call.sender_pid, call.sender_euid, call.data_size, call.offsets_size),
+        (9, 200, 1200, 32, 8)
+    );
+    // The owner is told of its object, and reads the reply.
+    live.reply(0, 0, 0, &Parcel::from(&b"yes"[..])).expect("a step");
+    let told = returns(live.read(1, 256).expect("a step").answer);
+    assert!(told.contains(&Return::Acquire(0x1000, 0x20)), "{told:?}");
+    let reply = told.iter().chain(&returns(live.read(1, 256).expect("a step").answer)).find_map(|it| match it {
+        Return::Reply(record) => Some(record.data_size),
+        _ => None,
+    });
+    assert_eq!(reply, Some(3));
+}
+
+#[test]
+fn a_death_is_told() {
+    let mut live = introduced();
+    let mut parcel = Parcel::new();
+    parcel.push(FlatObject::binder(0x1000, 0x20));
+    live.transact(1, 0, 9, ONE_WAY, &parcel).expect("a step");
+    live.read(0, 256).expect("a step");
+    live.command(0, &Command::Acquire(1)).expect("a step");
+    live.command(0, &Command::RequestDeathNotification(1, 77)).expect("a step");
+    live.exit_process(1).expect("a step");
+    assert!(live.is_ready(0));
+    assert!(returns(live.read(0, 256).expect("a step").answer).contains(&Return::DeadBinder(77)));
+}
+
+#[test]
+fn notes_and_stops_are_told_by_their_names() {
+    let mut driver = Driver::new(1).expect("a driver");
+    let mut seat = driver.take_seat().expect("a seat");
+    let refused = Outcome::Done { answer: Answer::Refused(Fault::NoProcess), from: 0, to: 1 };
+    assert_eq!(seat.command(&Command::EnterLooper), Ok(refused));
+    seat.open(100, 1000, 4096).expect("a call");
+    let mut stream = Command::EnterLooper.to_bytes();
+    Command::Release(5).spell(&mut stream);
+    Command::FreeBuffer(9).spell(&mut stream);
+    stream.extend([0xff; 4]);
+    let answer = seat.write(&stream, &[]).expect("a call").answer().expect("an answer");
+    let notes = vec![(1, Note::NoSuchNumber), (2, Note::NoSuchBuffer)];
+    assert_eq!(answer, Answer::Wrote { consumed: 24, notes, stop: Some(Stop::Fault(Fault::UnknownCommand)) });
+    assert_eq!(seat.open(1, 1, 4096).expect("a call").answer(), Some(Answer::Refused(Fault::HasProcess)));
+}
+
+#[test]
+fn seats_keep_their_numbers() {
+    let mut driver = Driver::new(3).expect("a driver");
+    let [first, second] = [0, 1].map(|_| driver.take_seat().expect("a seat"));
+    driver.return_seat(second).expect("its own");
+    driver.return_seat(first).expect("its own");
+    let mut seats = [0, 1, 2].map(|_| driver.take_seat().expect("a seat"));
+    assert_eq!(driver.take_seat().err(), Some(Error::NoSeatLeft));
+    assert_eq!(seats.each_ref().map(|seat| seat.number()), [2, 1, 0]);
+    for (seat, pid) in seats.iter_mut().zip([1, 2, 3]) {
+        seat.open(pid, 0, 4096).expect("a call");
+    }
+    // The call is the receiver's to read, its completion the sender's, in whatever seats they are.
+    seats[0].manager().expect("a call");
+    seats[0].command(&Command::EnterLooper).expect("a call");
+    seats[1].transact(0, 1, ONE_WAY, &Parcel::new()).expect("a call");
+    assert_eq!(seats.each_mut().map(|seat| seat.is_ready()), [true, true, false]);
+    assert_eq!(seats[0].ready(), 0b110);
+}
+
+#[test]
+fn what_is_refused_comes_back() {
+    let (mut one, mut other) = (Driver::new(1).expect("a driver"), Driver::new(1).expect("a driver"));
+    let seat = one.take_seat().expect("a seat");
+    let Err(Kept { kept: seat, error }) = other.return_seat(seat) else { panic!("another driver takes it") };
+    assert_eq!(error, Error::OtherDriver);
+    let Err(Kept { kept: mut one, error }) = one.finish() else { panic!("it ends without its seat") };
+    assert_eq!(error, Error::SeatsAway);
+    one.return_seat(seat).expect("its own");
+    assert!(one.finish().is_ok());
+    assert_eq!(Driver::new(0).err(), Some(Error::SeatCount));
+    assert_eq!(Live::new(65537).err(), Some(Error::SeatCount));
+    assert_eq!(Live::new(1).expect("an engine").read(1, 256), Err(Error::NoSuchSeat));
+}
+
+#[test]
+fn a_posted_request_waits() {
+    let mut driver = Driver::new(2).expect("a driver");
+    let (mut asks, mut serves) = (driver.take_seat().expect("a seat"), driver.take_seat().expect("a seat"));
+    assert_eq!(asks.collect(), Err(Error::NotWaiting));
+    let stream = Command::EnterLooper.to_bytes();
+    for request in [
+        Request::Open { pid: 5, euid: 6, window: 4096 },
+        Request::Manager,
+        Request::SetSpam { on: true },
+        Request::Write { stream: &stream, area: &[] },
+        Request::ExitProcess,
+    ] {
+        asks.post(request).expect("a post");
+        assert_eq!(asks.open(1, 1, 4096), Err(Error::Waiting));
+        assert_eq!(serves.serve(), Ok(1));
+        assert!(!matches!(asks.collect().expect("an answer").answer(), None | Some(Answer::Refused(_))), "{request:?}");
+    }
+    for (request, fault) in [
+        (Request::Attach { pid: 9 }, Fault::NoSuchPid),
+        (Request::Read { limit: 256 }, Fault::NoProcess),
+        (Request::ExitThread, Fault::NoProcess),
+    ] {
+        asks.post(request).expect("a post");
+        assert_eq!(serves.serve(), Ok(1));
+        assert_eq!(asks.collect().expect("an answer").answer(), Some(Answer::Refused(fault)));
+    }
+    asks.post(Request::Manager).expect("a post");
+    assert_eq!(asks.withdraw(), Ok(Outcome::Back(Why::Withdrawn)));
+}
+
+#[test]
+fn a_changed_journal_is_unlawful() {
+    let mut live = introduced();
+    let mut journal = live.heading(1).expect("a heading");
+    let place = live.exit_thread(1).expect("a step").place;
+    assert_eq!((place, live.steps()), (4, 5));
+    // An exit of a seat that has no process, where the history begins with it.
+    journal.extend(live.entry().expect("an entry"));
+    assert_eq!(verdict_on(&journal), Ok(Verdict::Unlawful(0)));
+    assert_eq!(verdict_on(&journal[..journal.len() - 1]), Err(Error::NoJournal));
+}
