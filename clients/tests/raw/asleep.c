@@ -117,5 +117,6 @@ int main(int argc, char **argv)
         pthread_join(threads[i], NULL);
     printf("%zu threads were told of the end\n", wanted);
     raw_kill(manager);
+    free(threads);
     return 0;
 }
