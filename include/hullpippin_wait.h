@@ -1,0 +1,117 @@
+/* SPDX-License-Identifier: Apache-2.0 OR MIT */
+/*
+ * hullpippin_wait.h: waiting, over hullpippin.h. Unproved, and nothing that is proved stands on it.
+ *
+ * No call of the library waits. Where another seat has the engine a request comes back, and who has nothing to read is told so;
+ * what a thread does until then is its own. Most want one of these:
+ *
+ *  - hullpippin_insist makes a request again until no other seat has the engine. It calls only once a look has found the engine
+ *    free, since a call that comes back takes the page's cache line from the seat at work; and pauses longer and longer between
+ *    its looks.
+ *  - hullpippin_sleep has a thread sleep until its seat has something to read. It is woken by a bell, one for all seats of a
+ *    driver, which hullpippin_insist rings after each request. Requests that are made otherwise have to ring it themselves.
+ *
+ *     hullpippin_bell bell = HULLPIPPIN_BELL;
+ *     struct read_of { uint32_t limit; } most = { 256 };
+ *     if (hullpippin_sleep(&bell, &seat, 1, NULL))
+ *         status = hullpippin_insist(&bell, &seat, read_once, &most, &answer);
+ *
+ * Needs C11 with its atomics, and POSIX threads; C++ has no such header. What hullpippin.h relies on holds here too: one call at a time with a seat.
+ */
+#ifndef HULLPIPPIN_WAIT_H
+#define HULLPIPPIN_WAIT_H
+
+#include "hullpippin.h"
+
+#include <errno.h>
+#include <pthread.h>
+#include <sched.h>
+#include <stdatomic.h>
+#include <time.h>
+
+/* What wakes the threads that sleep: one for all seats of a driver. It is neither copied nor moved. */
+typedef struct {
+    pthread_mutex_t lock;
+    pthread_cond_t rung;
+    atomic_uint sleepers; /* how many threads sleep, or are about to */
+} hullpippin_bell;
+
+#define HULLPIPPIN_BELL { PTHREAD_MUTEX_INITIALIZER, PTHREAD_COND_INITIALIZER, 0 }
+
+/* A request: one call of hullpippin.h with this seat, whose status it answers. `given` is the caller's. */
+typedef uint32_t hullpippin_request_of(hullpippin_seat *seat, void *given, hullpippin_answer *answer);
+
+/* Looks that are made right after one another, then those with a turn of other threads between them; behind these a thread sleeps,
+   at first for the shortest time, and no longer than the longest. */
+enum { HULLPIPPIN_SPINS = 64, HULLPIPPIN_YIELDS = 128 };
+#define HULLPIPPIN_SHORTEST_NS 2000L
+#define HULLPIPPIN_LONGEST_NS 1000000L
+
+/* Pauses before another look, the longer the more looks there were. */
+static inline void hullpippin_pause(unsigned looks)
+{
+    if (looks < HULLPIPPIN_SPINS)
+        return;
+    if (looks < HULLPIPPIN_YIELDS) {
+        sched_yield();
+        return;
+    }
+    unsigned doublings = looks - HULLPIPPIN_YIELDS;
+    long time = doublings < 9 ? HULLPIPPIN_SHORTEST_NS << doublings : HULLPIPPIN_LONGEST_NS;
+    struct timespec rest = { 0, time };
+    nanosleep(&rest, NULL);
+}
+
+/* Wakes those who sleep, so that each looks whether its seat is ready. */
+static inline void hullpippin_ring(hullpippin_bell *bell)
+{
+    /* Who is about to sleep has counted itself before it looks, and our step was published before we look at the count: one of the
+       two sees the other. */
+    atomic_thread_fence(memory_order_seq_cst);
+    if (!atomic_load_explicit(&bell->sleepers, memory_order_relaxed))
+        return;
+    pthread_mutex_lock(&bell->lock);
+    pthread_cond_broadcast(&bell->rung);
+    pthread_mutex_unlock(&bell->lock);
+}
+
+/* Makes a request until no other seat has the engine, and then rings the bell, where there is one. The status and the answer are
+   those of the last call; so the answer may be BACK for another reason. */
+static inline uint32_t hullpippin_insist(hullpippin_bell *bell, hullpippin_seat *seat, hullpippin_request_of *request, void *given,
+                                         hullpippin_answer *answer)
+{
+    unsigned looks = 0;
+    for (;;) {
+        uint32_t status = request(seat, given, answer);
+        if (status != HULLPIPPIN_DONE || answer->kind != HULLPIPPIN_BACK || answer->why != HULLPIPPIN_BACK_TAKEN) {
+            if (bell)
+                hullpippin_ring(bell);
+            return status;
+        }
+        hullpippin_page page;
+        do {
+            hullpippin_pause(looks++);
+            hullpippin_look(seat, &page);
+        } while (page.taken);
+    }
+}
+
+/* Sleeps until the seat of this number, which is the one given, has something to read. Answers false where that isn't so by a time of
+   CLOCK_REALTIME, if one is given. */
+static inline bool hullpippin_sleep(hullpippin_bell *bell, hullpippin_seat *seat, uint32_t number, const struct timespec *until)
+{
+    if (hullpippin_ready(seat) >> number & 1)
+        return true;
+    int status = 0;
+    bool is_ready;
+    pthread_mutex_lock(&bell->lock);
+    atomic_fetch_add_explicit(&bell->sleepers, 1, memory_order_relaxed);
+    atomic_thread_fence(memory_order_seq_cst);
+    while (!(is_ready = hullpippin_ready(seat) >> number & 1) && status != ETIMEDOUT)
+        status = until ? pthread_cond_timedwait(&bell->rung, &bell->lock, until) : pthread_cond_wait(&bell->rung, &bell->lock);
+    atomic_fetch_sub_explicit(&bell->sleepers, 1, memory_order_relaxed);
+    pthread_mutex_unlock(&bell->lock);
+    return is_ready;
+}
+
+#endif
