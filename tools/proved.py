@@ -2,8 +2,8 @@
 """What is known to be proved: a record beside a built file, FILE.proved, and in out/gate what the gate has passed.
 
 A record has a line for each of `commit`, `sources` (the sum of all that is proved), `kit` and `sum` (the file's), the gate's
-one for `libraries` (the sum of those that it has built). Of a file that was built otherwise since, nothing is known, nor of
-an archive over other libraries than the gate's. Records keep out mistakes, not lies.
+one for `libraries` (those that it has built, by their sizes and times). Of a file that was built otherwise since, nothing is
+known, nor of an archive over other libraries than the gate's. Records keep out mistakes, not lies.
 """
 import glob
 import hashlib
@@ -25,14 +25,23 @@ def sum_of(path):
         return hashlib.file_digest(file, "sha256").hexdigest()
 
 
+def stamp_of(path):
+    """What changes where a file is written anew, for those that are too large to be read."""
+    found = os.stat(path)
+    return f"{found.st_size} {found.st_mtime_ns}"
+
+
+def sum_of_all(paths, told):
+    """The sum of these files, and of those below these folders: each one's path, and what is told of it."""
+    found = {it for path in paths for it in [path, *glob.glob(f"{glob.escape(path)}/**", recursive=True)] if os.path.isfile(it)}
+    lines = "".join(f"{os.path.relpath(it, ROOT)} {told(it)}\n" for it in sorted(found))
+    return hashlib.sha256(lines.encode()).hexdigest()
+
+
 def sources():
-    """The sum of all that is proved: each file's path, and its sum."""
-    found = [f"{ROOT}/crates.txt", f"{ROOT}/HANDLES"]
-    for folder in glob.glob(f"{ROOT}/crates/*/*"):
-        if os.path.basename(folder) not in ASIDE:
-            found += [it for it in [folder, *glob.glob(f"{folder}/**", recursive=True)] if os.path.isfile(it)]
-    names = "".join(f"{os.path.relpath(it, ROOT)} {sum_of(it)}\n" for it in sorted(set(found)))
-    return hashlib.sha256(names.encode()).hexdigest()
+    """The sum of all that is proved."""
+    parts = [it for it in glob.glob(f"{ROOT}/crates/*/*") if os.path.basename(it) not in ASIDE]
+    return sum_of_all([f"{ROOT}/crates.txt", f"{ROOT}/HANDLES", *parts], sum_of)
 
 
 def commit():
@@ -69,11 +78,9 @@ def read(path):
 
 
 def libraries():
-    """The sum of the built libraries that the archive stands on; nothing where one isn't there."""
-    built = [crates.built(it) for it in sorted(crates.below("bd_c"))]
-    if not all(map(os.path.exists, built)):
-        return ""
-    return hashlib.sha256("".join(map(sum_of, built)).encode()).hexdigest()
+    """Which built libraries the archive stands on; nothing where one isn't there."""
+    built = [crates.built(it) for it in crates.below("bd_c")]
+    return sum_of_all(built, stamp_of) if all(map(os.path.exists, built)) else ""
 
 
 def note(path, what):
@@ -107,4 +114,5 @@ def gate_passed(what):
 
 def are_of_gate(what):
     """Whether the built libraries are those of a gate that has passed these sources."""
-    return gate_passed(what) and read(GATE)["libraries"] == libraries()
+    built = libraries()
+    return gate_passed(what) and built != "" and read(GATE).get("libraries") == built
