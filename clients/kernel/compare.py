@@ -3,7 +3,7 @@
 """Plays scripts on Linux's own driver, on the engine, and on the model that stands between them, and tells where they agree.
 
     clients/check kernel [--scripts N] [--long N] [--pool N] [--seed N] [--bplay PROGRAM] [--kernel FOLDER] [--seconds N]
-        [--only WORD] [--document]
+        [--keep FOLDER] [--only WORD] [--document]
     clients/check kernel --model ..
 
 Of random scripts N have 60 lines (500), N have 200 (100), and N have 60 with a pool of threads that wait for calls (100); besides them
@@ -12,14 +12,17 @@ model with all switches off has to answer as the player does, line by line, and 
 `kernel: N agree, D differ in named ways, 0 unknown`: in how many scripts the driver answers as the rules have it, in how many otherwise
 as the named differences have it, and in how many neither.
 
-The kernel is fetched into FOLDER (clients/out/kernel). --only plays what has WORD in its name, as "kind". --document writes what was
-seen into docs/KERNEL.md. With --model the driver is left out, and with it the network and the machine: only the model is judged, beside
+The kernel is fetched into FOLDER (clients/out/kernel). What was played stays in --keep FOLDER: the same words go on where a run was
+broken off, or had no more than --seconds. --only plays what has WORD in its name, as "kind". --document writes what was seen into
+docs/KERNEL.md. With --model the driver is left out, and with it the network and the machine: only the model is judged, beside
 the player.
 """
 import argparse
 import glob
 import os
+import shutil
 import sys
+import tempfile
 import time
 
 sys.dont_write_bytecode = True
@@ -59,7 +62,7 @@ class Case:
 
     def unknown(self):
         """Where the driver doesn't answer as its model: the line, or None."""
-        if not self.answers or not self.answers.is_whole:
+        if not self.answers:
             return self.expected[-1]
         return self.differs_from(self.expected)
 
@@ -142,10 +145,21 @@ def arguments():
     parser.add_argument("--bplay", default=engine.PLAYER)
     parser.add_argument("--kernel", default=default_folder())
     parser.add_argument("--seconds", type=int, default=7200)
+    parser.add_argument("--keep")
     parser.add_argument("--only", default="")
     parser.add_argument("--document", action="store_true")
     parser.add_argument("--model", action="store_true")
     return parser.parse_args()
+
+
+def driver_answers(given, kernel, all_cases):
+    """What the driver answers to each script, in a folder that stays if it is wanted."""
+    folder = os.path.abspath(given.keep) if given.keep else tempfile.mkdtemp(prefix="kernel-play-")
+    try:
+        return driver.play(driver.Goes(folder, kernel), {it.name: it.lowered() for it in all_cases}, given.seconds)
+    finally:
+        if not given.keep:
+            shutil.rmtree(folder, ignore_errors=True)
 
 
 def main():
@@ -159,7 +173,7 @@ def main():
         return 1 if wrong else 0
     try:
         kernel = Kernel(os.path.abspath(given.kernel))
-        found = driver.play(kernel, {it.name: it.lowered() for it in all_cases}, given.seconds)
+        found = driver_answers(given, kernel, all_cases)
     except (Missing, NotRun, OSError) as why:
         print(f"kernel: the driver can't be played: {why}", file=sys.stderr)
         return 1
@@ -172,7 +186,8 @@ def main():
     for name, those in met.items():
         print(f"{len(those):5}  {name}: {DIFFERENCES[name].driver}")
     if given.document and not unknown and not wrong and not given.only:
-        document.write(ROOT, document.Run(kernel.version, given, all_cases, met, agree, differ))
+        run = document.Run(kernel.version, given, all_cases, met, agree, differ)
+        document.write(ROOT, "the run", document.text_of(run))
     print(f"kernel: {agree} agree, {differ} differ in named ways, {unknown + wrong} unknown")
     return 1 if unknown or wrong else 0
 

@@ -2,17 +2,21 @@
 # SPDX-License-Identifier: Apache-2.0 OR MIT
 """Plays random scripts of well-behaved programs through the daemon and the preloaded library: in how many it answers as Linux's driver.
 
-    clients/check kernel daemon [--scripts N] [--seed N] [--patience MICROSECONDS] [--show N]
+    clients/check kernel daemon [--scripts N] [--seed N] [--patience MICROSECONDS] [--model] [--kernel FOLDER] [--keep FOLDER]
+        [--seconds N] [--document]
 
-What the driver answers is what its model does (space.py with all switches on), which `clients/check kernel` sees to be the driver. A script
-has 60 lines. Its threads are in the loop, read with room of 256 bytes what there is for them before they write, call and acquire what
-they name strongly, release what they acquired, and stay; a process ends now and then. Of a thread's lines that could be written, 6 in 27
-each are calls, replies and acknowledgements, 4 free a buffer, 3 ask for references and 2 for deaths; a call has no object in 2 of 6, one
-in 2, two or three in the others. The last line is `daemon: N of M scripts agree wholly`, after how often each kind of line was the first
-to differ.
+The same scripts are played on the driver, as by `clients/check kernel`; with --model its model (space.py with all switches on) answers in
+its place. A script has 60 lines. Its threads are in the loop, read with room of 256 bytes what there is for them before they write, call
+and acquire what they name strongly, release what they acquired, and stay; a process ends now and then. Of a thread's lines that could be
+written, 6 in 27 each are calls, replies and acknowledgements, 4 free a buffer, 3 ask for references and 2 for deaths; a call has no object
+in 2 of 6, one in 2, two or three in the others.
+
+Where the daemon answers otherwise, the fewest differences are told without which the driver's model answers as it does, or how its first
+line differs, where there are none. The last line is `daemon: N of M scripts agree wholly, D differ in named ways, U unknown`.
 """
 import argparse
 import collections
+import itertools
 import os
 import subprocess
 import sys
@@ -24,10 +28,14 @@ HERE = os.path.dirname(os.path.abspath(__file__))
 CLIENTS = os.path.dirname(HERE)
 sys.path.insert(0, HERE)
 
+import document  # noqa: E402
 import driver  # noqa: E402
-from compare import Case, LINES  # noqa: E402
+from compare import Case, LINES, ROOT, driver_answers, tell_unknown  # noqa: E402
+from differences import DIFFERENCES  # noqa: E402
 from document import fields_apart, shown_all  # noqa: E402
+from fetch import Kernel, Missing, default_folder  # noqa: E402
 from machine import NotRun  # noqa: E402
+from play import played  # noqa: E402
 from random_scripts import PoliteMaker, made  # noqa: E402
 
 DAEMON, LIBRARY = f"{CLIENTS}/out/hullpippind", f"{CLIENTS}/out/libhullpippin-preload.so"
@@ -64,13 +72,83 @@ def play(lowered, patience, seconds):
         return driver.read_answers(f"{folder}/answers")
 
 
-def kind_of(case, line):
+def answers_of(case, ways):
+    """What the model answers, line by line, as far as the driver's player can play the script."""
+    return [its.answers for its, line in zip(played(case.script, ways)[0], case.expected) if line.lowered]
+
+
+def names_of(case, its):
+    """The fewest differences without which the driver's model answers as the daemon does in the whole script, or None."""
+    found = [its.lines.get(it.number) for it in case.expected if it.lowered]
+    asked = [name for name in DIFFERENCES if name in case.asked]
+    for count in (1, 2, 3):
+        for names in itertools.combinations(asked, count):
+            if answers_of(case, DIFFERENCES.keys() - set(names)) == found:
+                return names
+    return None
+
+
+def first_apart(case, its):
+    """The first line that the daemon answers otherwise than the driver, and what this answers; or None."""
+    for line in case.expected:
+        drivers = case.answers.lines.get(line.number) if case.answers else line.answers
+        if line.lowered and its.lines.get(line.number) != drivers:
+            return line, drivers
+    return None
+
+
+def kind_of(line, drivers, its):
     """What kind of line is answered otherwise, by the returns that the driver and the daemon give there."""
-    own, answers = line.answers[0][0], case.answers.lines.get(line.number)
-    expected, its = shown_all(line.answers, own), shown_all(answers, own)
-    if expected == its:
-        return f"{line.words.split()[1]}: {', '.join(fields_apart(line.answers[0][1], answers[0][1]))} in {its}"
-    return f"{line.words.split()[1]}: driver {expected}; daemon {its}"
+    own = line.answers[0][0]
+    expected, found = shown_all(drivers, own), shown_all(its, own)
+    if expected == found:
+        return f"{line.words.split()[1]}: {', '.join(fields_apart(drivers[0][1], its[0][1]))} in {found}"
+    return f"{line.words.split()[1]}: driver {expected}; daemon {found}"
+
+
+Judged = collections.namedtuple("Judged", "agree names unknown")
+
+
+def judge(all_cases, found):
+    """In which scripts the daemon answers as the driver; in which otherwise, by the differences; and in how many neither."""
+    agree, names, unknown = [], collections.defaultdict(list), 0
+    for case in all_cases:
+        its = found.get(case.name)
+        apart = its and first_apart(case, its)
+        if its and not apart:
+            agree.append(case)
+            continue
+        named = names_of(case, its) if its else None
+        if named:
+            names[", ".join(named)].append((case, apart))
+            continue
+        unknown += 1
+        print(f"FAIL {case.name}: " + (f"line {apart[0].number}: {kind_of(*apart, its.lines.get(apart[0].number))}" if apart else
+                                       "it wasn't played to its end"))
+    return Judged(agree, names, unknown)
+
+
+def judge_driver(given, all_cases):
+    """Plays the scripts on the driver, which has to answer as its model: in how many it doesn't, and which driver it is."""
+    kernel = Kernel(os.path.abspath(given.kernel))
+    answers, wrong = driver_answers(given, kernel, all_cases), 0
+    for case in all_cases:
+        case.answers = answers.get(case.name)
+        line = case.unknown()
+        if line:
+            wrong += 1
+            tell_unknown(case, line)
+    return wrong, kernel.version
+
+
+def text_of(given, version, all_cases, judged):
+    """What docs/KERNEL.md has of it."""
+    lines = sum(len(it.rules) for it in all_cases)
+    rows = [(names, str(len(those)), f"{those[0][0].name}, line {those[0][1][0].number}") for names, those in
+            sorted(judged.names.items(), key=lambda it: -len(it[1]))]
+    head = (f"Seen on {version}, by `clients/check kernel daemon --scripts {given.scripts} --seed {given.seed}`: {len(judged.agree)} of "
+            f"{len(all_cases)} scripts, with {lines} lines, agree wholly with the driver.")
+    return "\n".join([head, "", *document.table(["Others differ by", "Scripts", "First seen in"], rows)] if rows else [head])
 
 
 def arguments():
@@ -78,30 +156,31 @@ def arguments():
     parser.add_argument("--scripts", type=int, default=500)
     parser.add_argument("--seed", type=int, default=int(time.time()))
     parser.add_argument("--patience", type=int, default=20000)
-    parser.add_argument("--seconds", type=int, default=3600)
-    parser.add_argument("--show", type=int, default=12)
+    parser.add_argument("--seconds", type=int, default=7200)
+    parser.add_argument("--kernel", default=default_folder())
+    parser.add_argument("--keep")
+    parser.add_argument("--model", action="store_true")
+    parser.add_argument("--document", action="store_true")
     return parser.parse_args()
 
 
 def main():
     given = arguments()
-    all_cases = [Case(f"script {it}", made(it, LINES, PoliteMaker)) for it in range(given.seed, given.seed + given.scripts)]
+    all_cases = [Case(f"polite script {it}", made(it, LINES, PoliteMaker)) for it in range(given.seed, given.seed + given.scripts)]
     try:
         found = play({it.name: it.lowered() for it in all_cases}, given.patience, given.seconds)
-    except (NotRun, OSError, subprocess.TimeoutExpired) as why:
+        wrong, version = (0, "its model") if given.model else judge_driver(given, all_cases)
+    except (Missing, NotRun, OSError, subprocess.TimeoutExpired) as why:
         print(f"daemon: it can't be played: {why}", file=sys.stderr)
         return 1
-    kinds = collections.defaultdict(list)
-    for case in all_cases:
-        case.answers = found.get(case.name)
-        line = case.unknown()
-        if line:
-            kinds[kind_of(case, line)].append(f"{case.name}, line {line.number}")
-    for kind, those in sorted(kinds.items(), key=lambda it: -len(it[1]))[:given.show]:
-        print(f"{len(those):5}  {kind}  ({those[0]})")
-    agree = len(all_cases) - sum(map(len, kinds.values()))
-    print(f"daemon: {agree} of {len(all_cases)} scripts agree wholly")
-    return 0
+    judged = judge(all_cases, found)
+    for names, those in sorted(judged.names.items(), key=lambda it: -len(it[1])):
+        print(f"{len(those):5}  {names}  ({those[0][0].name}, line {those[0][1][0].number})")
+    if given.document and not given.model and not judged.unknown and not wrong:
+        document.write(ROOT, "the daemon", text_of(given, version, all_cases, judged))
+    named = sum(map(len, judged.names.values()))
+    print(f"daemon: {len(judged.agree)} of {len(all_cases)} scripts agree wholly, {named} differ in named ways, {judged.unknown + wrong} unknown")
+    return 1 if judged.unknown or wrong else 0
 
 
 if __name__ == "__main__":

@@ -1,11 +1,9 @@
 # SPDX-License-Identifier: Apache-2.0 OR MIT
-"""Writes what a run has seen into docs/KERNEL.md, between its two marks."""
+"""Writes what was seen into docs/KERNEL.md, each part of it between its two marks."""
 from collections import namedtuple
 
 from differences import DIFFERENCES
 from wire import Record, read_returns
-
-BEGIN, END = "<!-- the run: begin -->", "<!-- the run: end -->"
 
 Run = namedtuple("Run", "version given cases met agree differ")
 
@@ -47,8 +45,8 @@ def rows(run):
     by_name = {case.name: case for case in run.cases}
     for name, it in DIFFERENCES.items():
         words, driver, rules = first_shown(by_name[f"kind {name}"])
-        yield (f"| [{name}](../clients/kernel/kinds/{name}.script) | {it.driver} ({it.lines}) | {it.rules} | {it.purpose} | {it.noticed} "
-               f"| `{words}`: {driver}; by the rules {rules} | {len(run.met[name])} |")
+        yield (f"[{name}](../clients/kernel/kinds/{name}.script)", f"{it.driver} ({it.lines})", it.rules, it.purpose, it.noticed,
+               f"`{words}`: {driver}; by the rules {rules}", str(len(run.met[name])))
 
 
 def text_of(run):
@@ -58,16 +56,22 @@ def text_of(run):
     head = [f"Seen on {run.version}, by `clients/check kernel {numbers}`:", "",
             f"- {len(run.cases)} scripts with {lines} lines, {waits} of them with threads that wait in a read;",
             f"- in {run.agree} the driver answers as the rules have it, in {run.differ} as the differences below have it, in none otherwise;",
-            "- the last column says in how many scripts a difference was needed.", "",
-            "| Name and script | What the driver does | What the rules have | On purpose? | Who notices | What its script shows | Scripts |",
-            "|---|---|---|---|---|---|---|"]
-    return "\n".join([*head, *rows(run)])
+            "- the last column says in how many scripts a difference was needed.", ""]
+    columns = ["Name and script", "What the driver does", "What the rules have", "On purpose?", "Who notices", "What its script shows", "Scripts"]
+    return "\n".join([*head, *table(columns, rows(run))])
 
 
-def write(root, run):
-    path = f"{root}/docs/KERNEL.md"
+def table(head, lines):
+    return [f"| {' | '.join(head)} |", "|---" * len(head) + "|", *(f"| {' | '.join(line)} |" for line in lines)]
+
+
+def write(root, part, text):
+    """Puts a part's text in the place of what stands between its marks."""
+    path, begin, end = f"{root}/docs/KERNEL.md", f"<!-- {part}: begin -->", f"<!-- {part}: end -->"
     with open(path, encoding="utf-8") as file:
-        before, _, rest = file.read().partition(BEGIN)
-    after = rest.partition(END)[2]
+        before, found, rest = file.read().partition(begin)
+    after = rest.partition(end)
+    if not found or not after[1]:
+        raise ValueError(f"{path} has no place for {part}")
     with open(path, "w", encoding="utf-8") as file:
-        file.write(f"{before}{BEGIN}\n{text_of(run)}\n{END}{after}")
+        file.write(f"{before}{begin}\n{text}\n{end}{after[2]}")

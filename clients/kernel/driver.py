@@ -1,9 +1,9 @@
 # SPDX-License-Identifier: Apache-2.0 OR MIT
-"""Plays scripts on Linux's own driver, in the virtual machine."""
+"""Plays scripts on Linux's own driver, in the virtual machine, in one go or in several."""
+import glob
 import os
 import shutil
 import subprocess
-import tempfile
 
 from machine import NotRun, run
 from play import without_pointers
@@ -39,11 +39,27 @@ def write_scripts(path, lowered):
             file.write(f"script {name}\n{''.join(f'{it}{chr(10)}' for it in lines)}end\n")
 
 
+def read_whole(path):
+    """The lines of each script that a file has to its end, by name: what was broken off isn't there."""
+    found, name, lines = {}, None, []
+    with open(path, encoding="ascii") as file:
+        for line in file.read().splitlines():
+            if line.startswith("script "):
+                name, lines = line[7:], []
+            elif line == "end":
+                found[name] = lines
+            else:
+                lines.append(line)
+    return found
+
+
 class Answers:
     """What the player told of one script: by line, the answers of its seat and of those whose reads it brought to their end."""
 
-    def __init__(self):
-        self.lines, self.pids, self.is_whole = {}, {0: 0}, False
+    def __init__(self, lines):
+        self.lines, self.pids = {}, {0: 0}
+        for line in lines:
+            self.take(line)
 
     def take(self, line):
         words = line.split(" ")
@@ -60,29 +76,50 @@ class Answers:
 
 
 def read_answers(path):
-    found, now = {}, None
-    with open(path, encoding="ascii") as file:
-        for line in file.read().splitlines():
-            if line.startswith("script "):
-                now = found[line[7:]] = Answers()
-            elif line == "end":
-                now.is_whole = True
-            else:
-                now.take(line)
-    return found
+    return {name: Answers(lines) for name, lines in read_whole(path).items()}
 
 
-def play(kernel, lowered, seconds=1200):
-    """What the driver answers to each script."""
-    folder = tempfile.mkdtemp(prefix="kernel-play-")
-    try:
-        shutil.copy(build(), folder)
-        write_scripts(f"{folder}/scripts", lowered)
-        with open(f"{folder}/run", "w", encoding="ascii") as file:
-            file.write(RUN)
-        status, output = run(kernel, folder, seconds)
+class Goes:
+    """A folder with all that a run has played, go by go. A go that was broken off stands as far as it came."""
+
+    def __init__(self, folder, kernel):
+        self.folder, self.kernel = folder, kernel
+        os.makedirs(folder, exist_ok=True)
+
+    def answers(self, lowered):
+        """What this kernel has answered to the scripts that were played by now as they are here."""
+        found = {}
+        for go in sorted(glob.glob(f"{self.folder}/go-*/answers")):
+            go = os.path.dirname(go)
+            with open(f"{go}/version", encoding="utf-8") as file:
+                if file.read() != self.kernel.version:
+                    continue
+            asked = read_whole(f"{go}/scripts")
+            answers = read_answers(f"{go}/answers")
+            found |= {name: its for name, its in answers.items() if name in lowered and asked[name] == lowered[name]}
+        return found
+
+    def play(self, lowered, seconds):
+        """Plays scripts in one more go."""
+        go = f"{self.folder}/go-{len(glob.glob(f'{self.folder}/go-*')):03}"
+        os.mkdir(go)
+        shutil.copy(build(), go)
+        write_scripts(f"{go}/scripts", lowered)
+        for name, text in (("version", self.kernel.version), ("run", RUN)):
+            with open(f"{go}/{name}", "w", encoding="utf-8") as file:
+                file.write(text)
+        status, output = run(self.kernel, go, seconds)
         if status:
             raise NotRun(f"the player ended with {status}: {output[-600:]}")
-        return read_answers(f"{folder}/answers")
-    finally:
-        shutil.rmtree(folder, ignore_errors=True)
+
+
+def play(goes, lowered, seconds):
+    """What the driver answers to each script; those that weren't played yet are."""
+    left = lowered.keys() - goes.answers(lowered).keys()
+    if left:
+        print(f"{len(left)} of {len(lowered)} scripts are to be played", flush=True)
+        try:
+            goes.play({name: lines for name, lines in lowered.items() if name in left}, seconds)
+        except NotRun as why:
+            raise NotRun(f"{len(goes.answers(lowered))} of {len(lowered)} scripts are played by now, then: {why}") from why
+    return goes.answers(lowered)
