@@ -96,7 +96,7 @@ struct page_request {
 struct page_answer {
     int32_t error;         /* 0, or an errno */
     uint32_t consumed;     /* bytes of the stream that were run */
-    uint32_t refused;      /* the last command that was run was refused, which ended the write */
+    uint32_t refused;      /* a command was refused, which ended its write, and the thread has to read that before it writes again */
     uint32_t returns_size; /* bytes of returns */
     uint32_t descriptors;  /* how many stand in the link's next packet */
 };

@@ -33,11 +33,13 @@ struct run {
     uint32_t fd_count;
 };
 
+/* X15: there is no frame that the reply would close. */
+enum { NO_CALL = 15 };
+
 /* What a transaction or reply leaves of the thread: its frames, and whether its next read has something to tell at
    once. */
 static void note_call(struct thread *thread, bool is_reply, bool is_one_way, const hullpippin_answer *answer)
 {
-    enum { NO_CALL = 15 }; /* X15: there is no frame that the reply would close */
     bool is_refused = answer->stop == HULLPIPPIN_AT_CAUSE;
     if (is_reply && is_refused && answer->number == NO_CALL) {
         thread->refusals++;
@@ -53,6 +55,15 @@ static void note_call(struct thread *thread, bool is_reply, bool is_one_way, con
         thread->calling++;
         thread->completions++;
     }
+}
+
+/* What it leaves to be read, which the thread's next write waits for where it is a refusal. */
+static void note_untold(struct thread *thread, bool is_reply, const hullpippin_answer *answer)
+{
+    bool is_refused = answer->stop == HULLPIPPIN_AT_CAUSE, completes = !is_refused || (is_reply && answer->number != NO_CALL);
+    thread->untold += completes;
+    if (is_refused)
+        thread->refusal = completes ? REFUSED_REPLY : REFUSED_CALL;
 }
 
 /* As the kernel's driver has it, nobody calls the context manager through another file that its own process has opened. */
@@ -106,9 +117,11 @@ static int run_call(struct run *run, uint32_t code, const uint8_t *payload)
         parcel_refuse(&parcel);
     else if (parcel.ticket)
         ticket_keep(&run->engine->tickets, parcel.ticket);
-    if (!error)
-        note_call(run->thread, is_reply, record.transaction_data.flags & TF_ONE_WAY, &run->engine->answer);
-    return error;
+    if (error)
+        return error;
+    note_call(run->thread, is_reply, record.transaction_data.flags & TF_ONE_WAY, &run->engine->answer);
+    note_untold(run->thread, is_reply, &run->engine->answer);
+    return 0;
 }
 
 /* The client's pointers begin where it has mapped its window. */

@@ -510,6 +510,10 @@ struct writing {
     uint8_t stream[PAGE_STREAM];
 };
 
+/* What was refused of a thread and isn't handed over to it yet. A call, or a reply to nobody, is told by BR_FAILED_REPLY or
+   BR_DEAD_REPLY; any other reply by the last BR_TRANSACTION_COMPLETE. */
+enum refusal { NOT_REFUSED, REFUSED_CALL, REFUSED_REPLY };
+
 /* Of so many calls that a thread serves it is known who waits for the answer. */
 #define CALLERS_KNOWN 32
 
@@ -528,6 +532,9 @@ struct thread {
     struct writing *writing;   /* NULL: none */
     uint32_t refusals;         /* refused commands whose BR_FAILED_REPLY or BR_DEAD_REPLY isn't read yet */
     uint32_t completions;      /* two-way calls of which it isn't read yet that they were taken */
+
+    enum refusal refusal;      /* until it is handed over, nothing that the thread writes is run */
+    uint32_t untold;           /* calls and replies whose BR_TRANSACTION_COMPLETE isn't handed over yet */
 
     bool is_waiting;           /* in a read */
     bool has_no_room;          /* .. in which no return finds room, and there is one */

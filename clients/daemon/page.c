@@ -35,6 +35,7 @@ void page_answer(struct thread *thread, const uint8_t *returns, uint32_t size)
 {
     struct page *page = thread->page;
     thread->answer.returns_size = size;
+    thread->answer.refused = thread->refusal != NOT_REFUSED;
     if (size)
         memcpy(page->returns, returns, size);
     page->answer = thread->answer;

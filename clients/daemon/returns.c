@@ -136,6 +136,18 @@ static void send_landing(struct thread *thread)
     landing->ticket = NULL;
 }
 
+/* The thread is told how a command of it came out, perhaps that which was refused. */
+static void note_told(struct thread *thread, uint32_t code)
+{
+    if (code == BR_TRANSACTION_COMPLETE || code == BR_ONEWAY_SPAM_SUSPECT) {
+        thread->untold -= thread->untold > 0;
+        if (thread->refusal == REFUSED_REPLY && !thread->untold)
+            thread->refusal = NOT_REFUSED;
+    } else if ((code == BR_FAILED_REPLY || code == BR_DEAD_REPLY) && thread->refusal == REFUSED_CALL) {
+        thread->refusal = NOT_REFUSED;
+    }
+}
+
 /* How many bytes of the pending returns fit into so much room. */
 static uint32_t fitting(struct thread *thread, uint32_t room)
 {
@@ -145,6 +157,7 @@ static uint32_t fitting(struct thread *thread, uint32_t room)
         memcpy(&code, thread->pending + size, sizeof code);
         if (code == BR_TRANSACTION || code == BR_REPLY)
             send_landing(thread);
+        note_told(thread, code);
         size += sizeof code + _IOC_SIZE(code);
     }
     return size;

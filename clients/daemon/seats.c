@@ -13,7 +13,8 @@ static void take_away(struct thread *thread)
     thread->process->engine->lent[thread->seat] = NULL;
     thread->seat = NO_SEAT;
     thread->is_looper = false;
-    thread->serving = thread->calling = thread->refusals = thread->completions = 0;
+    thread->serving = thread->calling = thread->refusals = thread->completions = thread->untold = 0;
+    thread->refusal = NOT_REFUSED;
     doorbell_set(thread, false);
     settle_watch(thread);
 }

@@ -63,7 +63,8 @@ void settle_forget(struct thread *thread)
         rest_no_more(thread->process);
 }
 
-/* The last to call is the first to be looked for. */
+/* The last to call is the first to be looked for; and as in the kernel the last that waits for its process's list is the first to get
+   what comes there. */
 void settle_watch(struct thread *thread)
 {
     struct process *process = thread->process;
@@ -74,7 +75,7 @@ void settle_watch(struct thread *thread)
         list_append(process->callers.next, &thread->in_callers);
         process->engine->looked_at_count++;
     } else if (waits && thread->is_looper && !thread->serving) {
-        list_append(&process->idle, &thread->in_watch);
+        list_append(process->idle.next, &thread->in_watch);
     }
     if (list_is_empty(&process->idle))
         rest_no_more(process);

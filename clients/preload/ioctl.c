@@ -42,6 +42,7 @@ static int do_ioctl(struct device *device, struct link *link, unsigned long requ
     case BINDER_WRITE_READ:
         return write_read(link, argument);
     case BINDER_THREAD_EXIT:
+        link->is_refused = false;
         return ask(link, PAGE_EXIT_THREAD);
     case BINDER_SET_CONTEXT_MGR:
         return ask(link, PAGE_SET_MANAGER);

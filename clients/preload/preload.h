@@ -163,6 +163,7 @@ struct link {
     uint64_t used_area, kept_area; /* bytes of the page's area that hold the parcel of a request; memory that large ones have left */
     time_t kept_since;
     _Atomic bool is_to_return; /* its next read comes back at once */
+    bool is_refused; /* what was refused of the thread is still to be read: until then nothing that it writes is run */
 };
 
 /* The calling thread's link to a device, or NULL and errno. */

@@ -114,6 +114,7 @@ static int exchange(struct link *link, const struct packing *packing, uint32_t r
     link_use_area(link, packing->area_size);
     int error = link_ask(link, &request, answer);
     link_keep_area(link, packing->area_size);
+    link->is_refused = answer->refused;
     what->write_consumed += answer->consumed;
     if (error || !answer->returns_size || answer->returns_size > room)
         return error;
@@ -139,8 +140,8 @@ static bool free_buffers(struct link *link, struct binder_write_read *what)
     const uint8_t *commands = (const uint8_t *)(uintptr_t)what->write_buffer + what->write_consumed;
     uint64_t size = what->write_size - what->write_consumed, each = sizeof(uint32_t) + _IOC_SIZE(BC_FREE_BUFFER);
     uint64_t buffers[PAGE_FREES];
-    if (room_for_returns(what) || what->write_size <= what->write_consumed || size % each || size / each > PAGE_FREES
-        || !memory_can_be_read(commands, size))
+    if (link->is_refused || room_for_returns(what) || what->write_size <= what->write_consumed || size % each
+        || size / each > PAGE_FREES || !memory_can_be_read(commands, size))
         return false;
     for (uint64_t i = 0; i < size / each; i++) {
         uint32_t code;
@@ -165,14 +166,15 @@ static bool is_place(const struct binder_write_read *what, uint32_t room)
     return memory_can_be_written(place_of_returns(what), room < sizeof(uint32_t) ? room : sizeof(uint32_t));
 }
 
-/* A refused command ends the write, not the read. Memory that isn't there ends both, once what comes before it is done. */
+/* A refused command ends the write, not the read; and until its refusal is read nothing that is written is run. Memory that isn't there
+   ends both, once what comes before it is done. */
 int write_read(struct link *link, struct binder_write_read *what)
 {
-    bool is_end = free_buffers(link, what), is_refused = false;
+    bool is_end = free_buffers(link, what);
     while (!is_end) {
         struct packing packing = {.device = link->device, .page = link->page};
         struct page_answer answer;
-        uint64_t left = what->write_size > what->write_consumed && !is_refused ? what->write_size - what->write_consumed : 0;
+        uint64_t left = what->write_size > what->write_consumed && !link->is_refused ? what->write_size - what->write_consumed : 0;
         uint64_t packed = pack_stream(&packing, (const uint8_t *)(uintptr_t)what->write_buffer + what->write_consumed, left);
         is_end = packed == left || packing.is_over;
         uint32_t room = is_end ? room_for_returns(what) : 0;
@@ -180,8 +182,7 @@ int write_read(struct link *link, struct binder_write_read *what)
         if (!packing.stream_size && !(room && has_place))
             return packing.is_lost || !has_place ? EFAULT : 0;
         int error = exchange(link, &packing, has_place ? room : 0, what, &answer);
-        is_refused = !error && answer.refused;
-        if (error || !has_place || (packing.is_lost && !is_refused))
+        if (error || !has_place || (packing.is_lost && !link->is_refused))
             return error ? error : EFAULT;
     }
     return 0;

@@ -1,0 +1,130 @@
+/*
+ * waits: what waits for a thread, and what threads wait for. As with Linux's driver nothing that a thread writes is run before it has read
+ * what was refused of it, be that a call or a reply; and of the threads that wait for what comes to their process the one gets a call
+ * that began to wait last.
+ */
+#include "raw.h"
+
+#include <pthread.h>
+#include <stdio.h>
+#include <sys/ioctl.h>
+#include <unistd.h>
+
+enum { REFUSE = 1, WHO };
+
+#define NOBODY 77
+
+/* How many bytes of the commands a bare write has run. */
+static size_t run_of(int fd, const struct commands *commands)
+{
+    struct binder_write_read both = {.write_size = commands->size, .write_buffer = (uintptr_t)commands->bytes};
+    CHECK(!ioctl(fd, BINDER_WRITE_READ, &both), "can't write");
+    return both.write_consumed;
+}
+
+/* Whether a command that is always taken is run. */
+static bool writes_run(int fd)
+{
+    struct commands commands = {0};
+    put_code(&commands, BC_ENTER_LOOPER);
+    return run_of(fd, &commands) == commands.size;
+}
+
+/* The same of one that nobody waits for: back with nothing but a buffer that isn't there. */
+static bool frees_run(int fd)
+{
+    struct commands commands = {0};
+    put_pointer(&commands, BC_FREE_BUFFER, 0);
+    return run_of(fd, &commands) == commands.size;
+}
+
+/* Reads, and tells the code that came last. */
+static uint32_t read_last(int fd)
+{
+    uint8_t room[256];
+    struct binder_write_read both = {.read_size = sizeof room, .read_buffer = (uintptr_t)room};
+    CHECK(!ioctl(fd, BINDER_WRITE_READ, &both), "can't read");
+    struct returns returns = {room, room + both.read_consumed};
+    const uint8_t *payload;
+    uint32_t code = 0;
+    while (next_return(&returns, &code, &payload))
+        ;
+    return code;
+}
+
+/* The refused command itself is run, nothing behind it, and nothing more until its refusal is read. */
+static void is_refused(int fd, uint32_t code, const struct binder_transaction_data *record, uint32_t told)
+{
+    struct commands commands = {0};
+    put_record(&commands, code, record);
+    size_t size = commands.size;
+    put_code(&commands, BC_ENTER_LOOPER);
+    CHECK(run_of(fd, &commands) == size, "what stands behind a refused command was run");
+    CHECK(!writes_run(fd) && !frees_run(fd), "a write was run before the refusal was read");
+    uint32_t code_read = read_last(fd);
+    CHECK(code_read == told, "the refusal was read as %x", code_read);
+    CHECK(frees_run(fd) && writes_run(fd), "no write is run after the refusal was read");
+}
+
+static void call_nobody(int fd)
+{
+    struct binder_transaction_data call = {.target.handle = NOBODY, .flags = TF_ONE_WAY};
+    is_refused(fd, BC_TRANSACTION, &call, BR_FAILED_REPLY);
+}
+
+/* A reply whose parcel is none: who made it is told that it was taken, and its caller that there is none. */
+static void refuse(struct looper *looper)
+{
+    struct binder_transaction_data call = {.target.handle = NOBODY, .flags = TF_ONE_WAY}, reply = {.offsets_size = 4};
+    is_refused(looper->binder->fd, BC_TRANSACTION, &call, BR_FAILED_REPLY);
+    is_refused(looper->binder->fd, BC_REPLY, &reply, BR_TRANSACTION_COMPLETE);
+    is_refused(looper->binder->fd, BC_REPLY, &reply, BR_FAILED_REPLY); /* there is no call any more */
+}
+
+static struct client server;
+
+static void serve(struct looper *looper, const struct binder_transaction_data *call)
+{
+    uint32_t number = looper == &server.looper ? 1 : 2;
+    if (call->code == REFUSE)
+        refuse(looper);
+    else
+        raw_answer(looper, &number, sizeof number);
+}
+
+static void *wait_later(void *with)
+{
+    struct looper looper;
+    raw_looper(&looper, &server, serve);
+    usleep(200000); /* the first waits by then */
+    looper_run(&looper);
+    return with;
+}
+
+static void run_server(void *with)
+{
+    pthread_t thread;
+    (void)with;
+    raw_open(&server, WINDOW, serve);
+    CHECK(binder_become_manager(&server.binder), "can't be the context manager");
+    CHECK(!pthread_create(&thread, NULL, wait_later, NULL), "no thread");
+    raw_ready();
+    looper_run(&server.looper);
+}
+
+int main(void)
+{
+    struct client client;
+    struct binder_transaction_data reply;
+    raw_begin(30);
+    pid_t manager = raw_start(run_server, NULL);
+    usleep(600000); /* both wait by now */
+    raw_open(&client, WINDOW, NULL);
+    for (int i = 0; i < 3; i++, usleep(100000))
+        CHECK(raw_ask(&client.looper, (struct call){.code = WHO}) == 2, "who waited longer got the call");
+    call_nobody(client.binder.fd);
+    CHECK(raw_call(&client.looper, (struct call){.code = REFUSE}, &reply) == BR_FAILED_REPLY, "a refused reply came");
+    printf("nothing runs before a refusal is read, who waits last is called first\n");
+    raw_kill(manager);
+    return 0;
+}
