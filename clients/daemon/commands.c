@@ -84,6 +84,25 @@ static bool may_fit(const struct thread *thread, const struct binder_transaction
            && round8(data->data_size) + round8(data->offsets_size) + round8(record->buffers_size) <= room;
 }
 
+/* Has the engine run it: the parcel goes with it, or is let go of. */
+static int send_call(struct run *run, bool is_reply, const struct binder_transaction_data *data, struct parcel *parcel)
+{
+    struct call_command command = {is_reply ? BC_REPLY : BC_TRANSACTION, *data};
+    if (!parcel->is_lost) {
+        command.data.data_size = parcel->data_size;
+        command.data.offsets_size = parcel->offsets_size;
+    }
+    command.data.data.ptr.buffer = 0;
+    command.data.data.ptr.offsets = round8(command.data.data_size);
+    int error = engine_call(run->engine, run->thread->seat, &command, sizeof command, parcel->data, parcel->data_size,
+                            parcel->offsets, parcel->offsets_size);
+    if (error || run->engine->answer.stop != HULLPIPPIN_AT_END)
+        parcel_refuse(parcel);
+    else if (parcel->ticket)
+        ticket_keep(&run->engine->tickets, parcel->ticket);
+    return error;
+}
+
 static int run_call(struct run *run, uint32_t code, const uint8_t *payload)
 {
     struct parcel parcel;
@@ -102,25 +121,14 @@ static int run_call(struct run *run, uint32_t code, const uint8_t *payload)
     else
         parcel = (struct parcel){.is_lost = true};
     run->engine->copied += parcel.data_size + parcel.offsets_size;
-
-    struct call_command command = {is_reply ? BC_REPLY : BC_TRANSACTION, record.transaction_data};
-    if (!parcel.is_lost) {
-        command.data.data_size = parcel.data_size;
-        command.data.offsets_size = parcel.offsets_size;
-    }
-    command.data.data.ptr.buffer = 0;
-    command.data.data.ptr.offsets = round8(command.data.data_size);
-    int error = engine_call(run->engine, run->thread->seat, &command, sizeof command, parcel.data, parcel.data_size,
-                            parcel.offsets, parcel.offsets_size);
-    bool is_accepted = !error && run->engine->answer.stop == HULLPIPPIN_AT_END;
-    if (!is_accepted)
-        parcel_refuse(&parcel);
-    else if (parcel.ticket)
-        ticket_keep(&run->engine->tickets, parcel.ticket);
+    const struct process *receiver = reach_target(run->thread, is_reply, record.transaction_data.target.handle);
+    int error = send_call(run, is_reply, &record.transaction_data, &parcel);
     if (error)
         return error;
     note_call(run->thread, is_reply, record.transaction_data.flags & TF_ONE_WAY, &run->engine->answer);
     note_untold(run->thread, is_reply, &run->engine->answer);
+    if (run->engine->answer.stop == HULLPIPPIN_AT_END)
+        sendings_note(run->thread, &parcel, receiver);
     return 0;
 }
 

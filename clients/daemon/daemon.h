@@ -447,6 +447,7 @@ struct process {
     struct list in_engine, in_bucket;
     struct list threads;
     struct list idle, callers, polling; /* some of its threads (settle.c) */
+    struct list senders;                /* what some of its threads have sent (sendings.c) */
     struct list in_resting, in_reached;
     bool callers_are_reached; /* they are to be looked at too */
     bool is_ending;           /* it has no place in the engine any more, and its threads are let go of */
@@ -550,7 +551,9 @@ struct thread {
     uint8_t pending[PAGE_RETURNS + READ_LEAST];
     uint32_t pending_size;
     bool is_prompt; /* they don't wait, or will not: there is or will be more than that */
+    bool is_behind; /* some were handed over by other threads: what the engine has for it comes with them */
     struct landing *landing; /* NULL: no parcel had descriptors yet */
+    struct sendings *sendings; /* NULL: it has read that all was taken that it has sent */
 };
 
 /* Makes a thread of the process. Tells its end of the link, its page and its bell, of which the first two are the
@@ -619,6 +622,10 @@ bool returns_are_there(const struct thread *thread);
 int returns_fetch(struct thread *thread);
 /* Reads the next of what a two-way call has left, up to its completion, which waits for the reply; EAGAIN where that was read. */
 int returns_fetch_deferred(struct thread *thread);
+/* Whether the engine still has what the thread's calls and replies have left. */
+bool returns_are_left(const struct thread *thread);
+/* Reads all of that, up to the latest's completion. */
+int returns_fetch_sent(struct thread *thread);
 /* Answers the thread's read with what is there. */
 void returns_deliver(struct thread *thread);
 /* The process is to be told of one death notification more; there is room. */
@@ -636,10 +643,23 @@ void reach_after_read(struct engine *engine, uint32_t seat);
 void reach_after_end(struct engine *engine, uint32_t seat);
 /* The process, and its threads that wait for a reply. */
 void reach_process(struct process *process, bool callers);
+/* The process that the thread's next call or reply goes to; NULL where that isn't known. */
+struct process *reach_target(const struct thread *thread, bool is_reply, uint32_t handle);
 /* The size of the window that the thread's next call or reply goes to: the largest where that isn't known. */
 uint64_t reach_window(const struct thread *thread, bool is_reply, uint32_t handle);
 /* The thread serves one call more; its caller is a process, or isn't known. */
 void reach_note_caller(struct thread *thread, const struct process *caller);
+
+/* --- sendings.c: who of a process is told of an object that it sends. --- */
+
+/* The thread's call or reply was taken, with the parcel that the engine has got. */
+void sendings_note(struct thread *thread, const struct parcel *parcel, const struct process *receiver);
+/* Has what others have sent in vain so far, since the thread is told of it, read before what it reads itself. */
+void sendings_gather(struct thread *thread);
+/* Hands what the thread has read of objects over to whom it is for, and puts the rest in the driver's order. */
+void sendings_sort(struct thread *thread);
+/* The thread has read that all was taken that it has sent, or sends nothing more. */
+void sendings_end(struct thread *thread);
 
 /* --- settle.c: answers whom a step has made ready. --- */
 

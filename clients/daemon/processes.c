@@ -428,6 +428,7 @@ void process_accept(struct daemon *daemon, int fd)
     list_begin(&process->idle);
     list_begin(&process->callers);
     list_begin(&process->polling);
+    list_begin(&process->senders);
     list_begin(&process->in_resting);
     list_begin(&process->in_reached);
     if (open_end(process) && join_loop(process, &daemon->loop))

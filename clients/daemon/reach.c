@@ -185,11 +185,15 @@ static void reach_caller(struct thread *thread, bool is_refused)
         reach_all(engine, true);
 }
 
+struct process *reach_target(const struct thread *thread, bool is_reply, uint32_t handle)
+{
+    uint32_t pid = thread->serving && thread->serving <= CALLERS_KNOWN ? thread->callers[thread->serving - 1] : 0;
+    return !is_reply ? find_owner(thread->process, handle) : pid ? process_of(thread->process->engine, pid) : NULL;
+}
+
 uint64_t reach_window(const struct thread *thread, bool is_reply, uint32_t handle)
 {
-    struct engine *engine = thread->process->engine;
-    uint32_t pid = thread->serving && thread->serving <= CALLERS_KNOWN ? thread->callers[thread->serving - 1] : 0;
-    struct process *receiver = !is_reply ? find_owner(thread->process, handle) : pid ? process_of(engine, pid) : NULL;
+    struct process *receiver = reach_target(thread, is_reply, handle);
     if (!receiver && !is_reply && !handle)
         return 0; /* there is no context manager, which the engine says before it asks for a parcel */
     return receiver ? receiver->window.size : WINDOW_MAX;

@@ -94,11 +94,13 @@ static int fetch(struct thread *thread, uint32_t limit)
         take_return(thread, stream + at, length);
         at += length;
     }
+    sendings_sort(thread);
     return 0;
 }
 
 int returns_fetch(struct thread *thread)
 {
+    sendings_gather(thread);
     uint32_t used = thread->pending_size + RETURN_ROOM - (READ_LEAST - sizeof(uint32_t));
     uint32_t limit = thread->room > used + READ_LEAST ? thread->room - used : READ_LEAST;
     thread->has_no_room = thread->room < sizeof(uint32_t) + RETURN_ROOM && !thread->calling;
@@ -109,6 +111,34 @@ int returns_fetch(struct thread *thread)
 int returns_fetch_deferred(struct thread *thread)
 {
     return thread->completions && !thread->is_prompt ? fetch(thread, READ_LEAST) : EAGAIN;
+}
+
+static bool is_completion(uint32_t code)
+{
+    return code == BR_TRANSACTION_COMPLETE || code == BR_ONEWAY_SPAM_SUSPECT;
+}
+
+static uint32_t pending_completions(const struct thread *thread)
+{
+    uint32_t count = 0, code;
+    for (uint32_t at = 0; at < thread->pending_size; at += sizeof code + _IOC_SIZE(code)) {
+        memcpy(&code, thread->pending + at, sizeof code);
+        count += is_completion(code);
+    }
+    return count;
+}
+
+bool returns_are_left(const struct thread *thread)
+{
+    return pending_completions(thread) < thread->untold;
+}
+
+int returns_fetch_sent(struct thread *thread)
+{
+    int error = 0;
+    while (!error && returns_are_left(thread))
+        error = fetch(thread, READ_LEAST);
+    return error;
 }
 
 /* As the kernel does: where no thread of the process waits for work, a looper's read asks for another thread. */
@@ -139,9 +169,12 @@ static void send_landing(struct thread *thread)
 /* The thread is told how a command of it came out, perhaps that which was refused. */
 static void note_told(struct thread *thread, uint32_t code)
 {
-    if (code == BR_TRANSACTION_COMPLETE || code == BR_ONEWAY_SPAM_SUSPECT) {
+    if (is_completion(code)) {
         thread->untold -= thread->untold > 0;
-        if (thread->refusal == REFUSED_REPLY && !thread->untold)
+        if (thread->untold)
+            return;
+        sendings_end(thread);
+        if (thread->refusal == REFUSED_REPLY)
             thread->refusal = NOT_REFUSED;
     } else if ((code == BR_FAILED_REPLY || code == BR_DEAD_REPLY) && thread->refusal == REFUSED_CALL) {
         thread->refusal = NOT_REFUSED;
@@ -202,7 +235,7 @@ void returns_deliver(struct thread *thread)
     }
     bool has_more = thread->has_no_room || (thread->calling && hullpippin_live_ready(&thread->process->engine->live, thread->seat));
     thread->is_prompt = thread->pending_size || (thread->is_prompt && has_more);
-    thread->is_waiting = thread->has_no_room = false;
+    thread->is_waiting = thread->has_no_room = thread->is_behind = false;
     settle_watch(thread);
     settle_doorbells(thread->process);
     page_answer(thread, returns, size);

@@ -15,6 +15,7 @@ static void take_away(struct thread *thread)
     thread->is_looper = false;
     thread->serving = thread->calling = thread->refusals = thread->completions = thread->untold = 0;
     thread->refusal = NOT_REFUSED;
+    sendings_end(thread);
     doorbell_set(thread, false);
     settle_watch(thread);
 }

@@ -128,7 +128,8 @@ static bool look(struct thread *thread)
         settle_doorbell(thread);
         return false;
     }
-    bool reads = !returns_are_there(thread) && is_ready(thread);
+    bool is_whole = returns_are_there(thread) && !(thread->is_behind && returns_are_left(thread));
+    bool reads = !is_whole && is_ready(thread);
     int error = reads ? returns_fetch(thread) : 0;
     if (error)
         page_interrupt(thread, error);

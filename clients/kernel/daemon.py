@@ -11,8 +11,8 @@ and acquire what they name strongly, release what they acquired, and stay; a pro
 written, 6 in 27 each are calls, replies and acknowledgements, 4 free a buffer, 3 ask for references and 2 for deaths; a call has no object
 in 2 of 6, one in 2, two or three in the others.
 
-Where the daemon answers otherwise, the fewest differences are told without which the driver's model answers as it does, or how its first
-line differs, where there are none. The last line is `daemon: N of M scripts agree wholly, D differ in named ways, U unknown`.
+Where the daemon answers otherwise, the fewest differences are told without which the driver's model answers as it does, or that only what
+owners are told differs, or else how its first line does. The last line is `daemon: N of M scripts agree wholly, D differ in named ways, U unknown`.
 """
 import argparse
 import collections
@@ -37,7 +37,11 @@ from fetch import Kernel, Missing, default_folder  # noqa: E402
 from machine import NotRun  # noqa: E402
 from play import played  # noqa: E402
 from random_scripts import PoliteMaker, made  # noqa: E402
+from wire import read_returns  # noqa: E402
 
+TOLD = ("BR_INCREFS", "BR_ACQUIRE", "BR_RELEASE", "BR_DECREFS")
+# the daemon's own: what a thread is told of an object is read by the rules when another of its process reads what stands before that
+EARLY = "only in what owners are told of their objects"
 DAEMON, LIBRARY = f"{CLIENTS}/out/hullpippind", f"{CLIENTS}/out/libhullpippin-preload.so"
 
 
@@ -88,10 +92,32 @@ def names_of(case, its):
     return None
 
 
+def without_told(answers):
+    """Answers without what owners are told of their objects."""
+    found = []
+    for seat, answer in answers or []:
+        if answer.startswith("got "):
+            stream, *rest = answer.split()[1:]
+            others = [it for it in read_returns(bytes.fromhex(stream)) if it[0] not in TOLD]
+            answer = "again" if [name for name, _ in others] == ["BR_NOOP"] else str((others, rest))
+        found.append((seat, answer))
+    return found
+
+
+def differs_in_told(case, its):
+    """Whether the daemon answers otherwise only in what owners are told of their objects, and when."""
+    return all(without_told(its.lines.get(it.number)) == without_told(drivers_answers(case, it)) for it in case.expected if it.lowered)
+
+
+def drivers_answers(case, line):
+    """What the driver has answered, or its model where it wasn't asked."""
+    return case.answers.lines.get(line.number) if case.answers else line.answers
+
+
 def first_apart(case, its):
     """The first line that the daemon answers otherwise than the driver, and what this answers; or None."""
     for line in case.expected:
-        drivers = case.answers.lines.get(line.number) if case.answers else line.answers
+        drivers = drivers_answers(case, line)
         if line.lowered and its.lines.get(line.number) != drivers:
             return line, drivers
     return None
@@ -118,7 +144,7 @@ def judge(all_cases, found):
         if its and not apart:
             agree.append(case)
             continue
-        named = names_of(case, its) if its else None
+        named = its and (names_of(case, its) or differs_in_told(case, its) and [EARLY])
         if named:
             names[", ".join(named)].append((case, apart))
             continue
