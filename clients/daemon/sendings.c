@@ -1,3 +1,4 @@
+/* SPDX-License-Identifier: Apache-2.0 OR MIT */
 /*
  * sendings.c: who of a process is told of an object that it sends, and in which order. By the rules whatever sends an object that its
  * owner isn't told of has its thread told, and what a parcel brings is told in the order in which its objects come first. With Linux's
