@@ -8,11 +8,13 @@
  */
 #include "raw.h"
 
+#include <errno.h>
 #include <fcntl.h>
 #include <poll.h>
 #include <stdio.h>
 #include <stdlib.h>
 #include <string.h>
+#include <sys/ioctl.h>
 #include <unistd.h>
 
 #define MILLISECONDS 10000
@@ -134,6 +136,26 @@ static void pass_and_free(struct client *client, uint32_t handle)
         close(reading[i]);
 }
 
+/* What follows a command that is cut short is no command, though it looks as if it gave the buffer back. (Linux's driver takes the
+   rest of the first one from it.) */
+static void give_back_in_vain(struct client *client, uint32_t handle)
+{
+    struct binder_transaction_data reply;
+    int reading[3];
+    struct three back = pass(client, handle, reading, &reply);
+    const struct {
+        uint32_t cut, free;
+        binder_uintptr_t buffer;
+    } __attribute__((packed)) stream = {BC_TRANSACTION_SG, BC_FREE_BUFFER, reply.data.ptr.buffer};
+    struct binder_write_read both = {.write_size = sizeof stream, .write_buffer = (uintptr_t)&stream};
+    CHECK(ioctl(client->binder.fd, BINDER_WRITE_READ, &both) && errno == EINVAL, "a command that is cut short was taken");
+    CHECK(is_open(back.array[0]) && is_open(back.array[1]), "closed by what follows a command that is cut short");
+    looper_free(&client->looper, &reply);
+    CHECK(looper_flush(&client->looper) && !close(back.alone), "can't give it back");
+    for (int i = 0; i < 3; i++)
+        close(reading[i]);
+}
+
 /* In a child: what is closed there is none of its parent's. */
 struct parents {
     struct client client;
@@ -176,6 +198,7 @@ int main(int argc, char **argv)
         pass_and_free(&client, handle);
     CHECK(raw_descriptors(getpid()) == here, "the client has %zu descriptors after %zu", raw_descriptors(getpid()), here);
     CHECK(raw_descriptors(manager) == there, "the server has %zu descriptors after %zu", raw_descriptors(manager), there);
+    give_back_in_vain(&client, handle);
     goes_with_the_file();
     printf("%u times there and back, %zu open here, %zu there\n", times, here, there);
     raw_kill(manager);
