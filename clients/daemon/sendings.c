@@ -1,10 +1,11 @@
 /* SPDX-License-Identifier: Apache-2.0 OR MIT */
 /*
- * sendings.c: who of a process is told of an object that it sends, and in which order. By the rules whatever sends an object that its
- * owner isn't told of has its thread told, and what a parcel brings is told in the order in which its objects come first. With Linux's
- * driver it is the first strong reference of a receiver that does this, and puts what is to be told behind all that the thread has;
- * where the receiver has one already by what another thread has sent, that one is told. So it is here, as far as it is known what the
- * process's threads have sent without having read yet that it was taken, and to whom. What isn't known is told by the rules.
+ * sendings.c: who of a process is told of an object that it sends, and in which order. By the rules whatever sends an object
+ * that its owner isn't told of has its thread told, and what a parcel brings is told in the order in which its objects come
+ * first. With Linux's driver it is the first strong reference of a receiver that does this, and puts what is to be told behind
+ * all that the thread has; where the receiver has one already by what another thread has sent, that one is told. So it is here,
+ * as far as it is known what the process's threads have sent without having read yet that it was taken, and to whom. What isn't
+ * known is told by the rules.
  */
 #include "daemon.h"
 

@@ -63,8 +63,8 @@ void settle_forget(struct thread *thread)
         rest_no_more(thread->process);
 }
 
-/* The last to call is the first to be looked for; and as in the kernel the last that waits for its process's list is the first to get
-   what comes there. */
+/* The last to call is the first to be looked for; and as in the kernel the last to wait for its process's list is the first to
+   get what comes there. */
 void settle_watch(struct thread *thread)
 {
     struct process *process = thread->process;

@@ -11,8 +11,9 @@ and acquire what they name strongly, release what they acquired, and stay; a pro
 written, 6 in 27 each are calls, replies and acknowledgements, 4 free a buffer, 3 ask for references and 2 for deaths; a call has no object
 in 2 of 6, one in 2, two or three in the others.
 
-Where the daemon answers otherwise, the fewest differences are told without which the driver's model answers as it does, or that only what
-owners are told differs, or else how its first line does. The last line is `daemon: N of M scripts agree wholly, D differ in named ways, U unknown`.
+Where the daemon answers otherwise, the fewest differences are told without which the driver's model answers as it does, or that only
+what owners are told differs, or else how its first line does. The last line is `daemon: N of M scripts agree wholly, D differ in named
+ways, U unknown`.
 """
 import argparse
 import collections
@@ -205,7 +206,8 @@ def main():
     if given.document and not given.model and not judged.unknown and not wrong:
         document.write(ROOT, "the daemon", text_of(given, version, all_cases, judged))
     named = sum(map(len, judged.names.values()))
-    print(f"daemon: {len(judged.agree)} of {len(all_cases)} scripts agree wholly, {named} differ in named ways, {judged.unknown + wrong} unknown")
+    print(f"daemon: {len(judged.agree)} of {len(all_cases)} scripts agree wholly, {named} differ in named ways, "
+          f"{judged.unknown + wrong} unknown")
     return 1 if judged.unknown or wrong else 0
 
 

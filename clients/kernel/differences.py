@@ -13,7 +13,8 @@ DIFFERENCES = {
         "A read takes the next item only while 76 bytes are free, room for a call with a security context; else it ends, even with "
         "BR_NOOP alone. No limit is too small.",
         "68 bytes, the longest return of the profile; a limit below 72 is refused (F11).",
-        "binder.c 4450", "on purpose: the profile has no security context", "only with less than 80 bytes of room"),
+        "binder.c 4450", "on purpose: the profile has no security context; the daemon as the driver",
+        "only with less than 80 bytes of room"),
     "looper": Difference(
         "A thread without a call reads its process's list whether it entered the loop or not, and BC_EXIT_LOOPER changes nothing.",
         "Only threads in the loop read it.",
@@ -21,7 +22,7 @@ DIFFERENCES = {
     "waiter": Difference(
         "A call goes to the thread that began to wait last, and is its own from then on; whatever else comes to a process wakes that one.",
         "Reads don't wait; the call stands on the process's list until somebody reads it.",
-        "binder.c 611, 2798, 4303", "outside of the rules", "which thread serves, nothing else"),
+        "binder.c 611, 2798, 4303", "outside of the rules; the daemon as the driver", "which thread serves, nothing else"),
     "deferred": Difference(
         "What a two-way call leaves on its thread's list (BR_TRANSACTION_COMPLETE, notices of what it sent) is no reason to end a read "
         "until something else comes there.",
@@ -30,7 +31,7 @@ DIFFERENCES = {
     "stuck": Difference(
         "Until a thread has read its refusal, its writes run nothing and consume nothing.",
         "A cause ends its own write alone.",
-        "binder.c 3812", "not on purpose", "a program that writes again before it reads"),
+        "binder.c 3812", "not on purpose; the daemon as the driver", "a program that writes again before it reads"),
     "verdict": Difference(
         "A thread has room for one verdict; a second one that comes before it is read is lost.",
         "Each verdict is an item of its own.",
@@ -42,7 +43,7 @@ DIFFERENCES = {
     "own0": Difference(
         "BC_INCREFS and BC_ACQUIRE of 0 by the manager's process end the write with EINVAL.",
         "N4: the command changes nothing, and the next one runs.",
-        "binder.c 3846", "not on purpose", "a manager that acquires itself gets an error"),
+        "binder.c 3846", "not on purpose; the daemon as the driver", "a manager that acquires itself gets an error"),
     "counts": Difference(
         "One count for what a process asked for and what its buffers carry: BC_RELEASE takes either, and a freed buffer takes what its "
         "number means by then.",
@@ -56,7 +57,8 @@ DIFFERENCES = {
         "A notice is queued by an event and stays queued though nothing differs any more; only the first count of a name moves one to the "
         "sender.",
         "A Notice stands exactly while what the owner was told is wrong, and each sending of a BINDER makes it anew.",
-        "binder.c 837, 848, 890", "on purpose: a rule that needs no events", "which thread reads a notice, and when"),
+        "binder.c 837, 848, 890",
+        "on purpose: a rule that needs no events; the daemon has thread and order as the driver, where it knows who was sent what", "which thread reads a notice, and when"),
     "half": Difference(
         "A refused parcel was sent up to its faulty object and taken back, which may move a notice to the sender.",
         "A refused call leaves nothing but its Refusal.",
@@ -72,7 +74,7 @@ DIFFERENCES = {
     "cleared": Difference(
         "BR_CLEAR_DEATH_NOTIFICATION_DONE goes to the list of the process where the thread never entered the loop.",
         "It goes to the thread whose command made it.",
-        "binder.c 4166, 4223", "not on purpose", "another thread of the process may read it"),
+        "binder.c 4166, 4223", "not on purpose; the daemon as the driver", "another thread of the process may read it"),
     "told_order": Difference(
         "BC_DEAD_BINDER_DONE means the death with that cookie that was told first.",
         "The one that was asked for first.",

@@ -31,8 +31,8 @@ from suite import figures  # noqa: E402
 ROOT = os.path.dirname(CLIENTS)
 STATIC = ["OUT=out/static", "CFLAGS=-O2 -g -static"]
 # what clients/check runs of our own clients, but for what is of the daemon: its seats, its memory, its turns
-RAW = ["nested", "oneway", "deaths", "ways", "waits", "told", "parcels", "buffers", "leftovers", "places", "pool", "two_opens", "refusals", "files",
-       "descriptors 1000", "arrays 100", "flooding asked", "flooding unasked", "callers", "namespaces", "lives", "paths", "pointers",
+RAW = ["nested", "oneway", "deaths", "ways", "waits", "told", "parcels", "buffers", "leftovers", "places", "pool", "two_opens",
+       "refusals", "files", "descriptors 1000", "arrays 100", "flooding asked", "flooding unasked", "callers", "namespaces", "lives", "paths", "pointers",
        "cancelled", "latency 200", "many 8 4 50"]
 # .. those that want a context manager, and libgbinder's tools, which want a service too
 OF_MANAGERS = ["services 20", "slow_service"]

@@ -1,8 +1,8 @@
 /* SPDX-License-Identifier: Apache-2.0 OR MIT */
 /*
- * told: who of a process is told of an object that it sends, and in which order, as with Linux's driver. Of what two threads send to one
- * receiver, before either has read that it was taken, the first is told; and what a parcel has weakly and then strongly is told behind
- * what stands between the two.
+ * told: who of a process is told of an object that it sends, and in which order, as with Linux's driver. Of what two threads
+ * send to one receiver, before either has read that it was taken, the first is told; and what a parcel has weakly and then
+ * strongly is told behind what stands between the two.
  */
 #include "raw.h"
 

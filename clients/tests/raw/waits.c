@@ -1,8 +1,8 @@
 /* SPDX-License-Identifier: Apache-2.0 OR MIT */
 /*
- * waits: what waits for a thread, and what threads wait for. As with Linux's driver nothing that a thread writes is run before it has read
- * what was refused of it, be that a call or a reply; and of the threads that wait for what comes to their process the one gets a call
- * that began to wait last.
+ * waits: what waits for a thread, and what threads wait for. As with Linux's driver nothing that a thread writes is run before
+ * it has read what was refused of it, be that a call or a reply; and of the threads that wait for what comes to their process
+ * the one gets a call that began to wait last.
  */
 #include "raw.h"
 
