@@ -5,7 +5,7 @@
     clients/check kernel raw [--kernel FOLDER] [--packages FOLDER] [--document]    the raw tests, and libgbinder's tools
     clients/check kernel cost [--kernel FOLDER] [--calls N] [--document]           calls on the driver and over the daemon
 
-Each test's line says whether it passes there; libgbinder is fetched into FOLDER (clients/out/packages) where it isn't yet. A cost is told
+Each test's line says whether it passes there, and the last one how many don't though no reason is known; libgbinder is fetched into FOLDER (clients/out/packages) where it isn't yet. A cost is told
 in thousands of instructions of the one processor, the whole machine's, as its clock counts them: the median of one client's round
 trips, and what one takes of eight callers on four threads. --document writes what was seen into docs/KERNEL.md.
 """
@@ -34,6 +34,16 @@ STATIC = ["OUT=out/static", "CFLAGS=-O2 -g -static"]
 RAW = ["nested", "oneway", "deaths", "ways", "waits", "told", "parcels", "buffers", "leftovers", "places", "pool", "two_opens",
        "refusals", "files", "descriptors 1000", "arrays 100", "flooding asked", "flooding unasked", "callers", "namespaces", "lives", "paths", "pointers",
        "cancelled", "latency 200", "many 8 4 50"]
+# why some don't pass there, which are not to be told from others that don't by chance
+REASONS = {
+    "leftovers": "it looks at the page between library and daemon, which isn't there",
+    "refusals": "a command that the write's size cuts short is run, its bytes being read where memory goes on",
+    "files": "the child of a fork acts as its parent", "lives": "the child of a fork acts as its parent",
+    "arrays 100": "the descriptors of an FDA object whose buffer isn't given back stay open",
+    "flooding asked": "flooding is told once, by another measure (*spam*)",
+    "callers": "the context manager takes no descriptors there, which it hasn't said it would",
+    "cancelled": "poll tells at once of a thread that has made no ioctl yet",
+}
 # .. those that want a context manager, and libgbinder's tools, which want a service too
 OF_MANAGERS = ["services 20", "slow_service"]
 TOOLS = ["binder-list -d /dev/binder", "binder-ping -d /dev/binder hello"]
@@ -136,18 +146,20 @@ def tests_told(output):
 
 
 def tell_tests(kernel, output, is_documented):
-    """A line for each test; whether all were run."""
+    """A line for each test; whether all were run, and pass or have a reason not to."""
     found = list(tests_told(output))
     for name, passes, told in found:
-        print(f"{'ok  ' if passes else 'FAIL'} {name}: {told}")
-    passed = sum(passes for _, passes, _ in found)
-    print(f"kernel raw: {passed} pass, {len(found) - passed} don't")
-    is_whole = len(found) == len(RAW + OF_MANAGERS + TOOLS)
-    if is_documented and is_whole:
-        lines = [(name, "passes" if passes else "**doesn't pass**", told) for name, passes, told in found]
-        head = f"Seen on {kernel.version}, by `clients/check kernel raw`: {passed} pass, {len(found) - passed} don't.\n"
-        document.write(ROOT, "raw tests", "\n".join([head, *document.table(["Test", "There", "What it says last"], lines)]))
-    return is_whole
+        reason = f" ({REASONS[name]})" if name in REASONS and not passes else ""
+        print(f"{'ok  ' if passes else 'FAIL'} {name}: {told}{reason}")
+    passed, failed = sum(passes for _, passes, _ in found), [name for name, passes, _ in found if not passes]
+    unknown = [name for name in failed if name not in REASONS]
+    print(f"kernel raw: {passed} pass, {len(failed) - len(unknown)} don't for named reasons, {len(unknown)} unknown")
+    is_good = len(found) == len(RAW + OF_MANAGERS + TOOLS) and not unknown
+    if is_documented and is_good:
+        lines = [(name, told, "" if passes else f"**doesn't pass**: {REASONS[name]}") for name, passes, told in found]
+        head = f"Seen on {kernel.version}, by `clients/check kernel raw`: {passed} pass, {len(failed)} don't.\n"
+        document.write(ROOT, "raw tests", "\n".join([head, *document.table(["Test", "What it says last", ""], lines)]))
+    return is_good
 
 
 def costs_told(output):

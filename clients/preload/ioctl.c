@@ -33,11 +33,18 @@ static bool has_argument(unsigned long request, const void *argument)
     return has_none || (_IOC_DIR(request) & _IOC_READ ? memory_can_be_written(argument, size) : memory_can_be_read(argument, size));
 }
 
+/* What the kernel says of an argument that isn't there, which differs from one to another. */
+static int no_argument(unsigned long request)
+{
+    bool is_invalid = request == BINDER_VERSION || request == BINDER_SET_MAX_THREADS || request == BINDER_SET_CONTEXT_MGR_EXT;
+    return is_invalid ? EINVAL : EFAULT;
+}
+
 /* 0, or an errno. What the kernel has besides these is told to be unknown, as an older kernel would. */
 static int do_ioctl(struct device *device, struct link *link, unsigned long request, void *argument)
 {
     if (!has_argument(request, argument))
-        return EFAULT;
+        return no_argument(request);
     switch (request) {
     case BINDER_WRITE_READ:
         return write_read(link, argument);

@@ -1,6 +1,6 @@
 /* SPDX-License-Identifier: Apache-2.0 OR MIT */
 /*
- * pointers: one that leads nowhere is EFAULT, as from the kernel, and ends nobody: the argument of an ioctl, commands, the place for
+ * pointers: one that leads nowhere is EFAULT, or EINVAL, as from the kernel, and ends nobody: the argument of an ioctl, commands, the place for
  * returns. A parcel that isn't there is refused. What comes before is done, what comes afterwards works.
  */
 #include "raw.h"
@@ -42,11 +42,15 @@ static void works(struct client *client)
 
 static void arguments(struct client *client)
 {
-    const unsigned long requests[] = {BINDER_WRITE_READ, BINDER_VERSION, BINDER_SET_MAX_THREADS, BINDER_SET_CONTEXT_MGR_EXT,
-                                      BINDER_ENABLE_ONEWAY_SPAM_DETECTION};
-    for (size_t i = 0; i < sizeof requests / sizeof *requests; i++)
+    static const struct {
+        unsigned long request;
+        int error;
+    } all[] = {{BINDER_WRITE_READ, EFAULT}, {BINDER_VERSION, EINVAL}, {BINDER_SET_MAX_THREADS, EINVAL}, {BINDER_SET_CONTEXT_MGR_EXT, EINVAL},
+               {BINDER_ENABLE_ONEWAY_SPAM_DETECTION, EFAULT}};
+    for (size_t i = 0; i < sizeof all / sizeof *all; i++)
         for (size_t j = 0; j < sizeof bad / sizeof *bad; j++)
-            CHECK(ioctl(client->binder.fd, requests[i], bad[j]) == -1 && errno == EFAULT, "ioctl %lx of %lx", requests[i], bad[j]);
+            CHECK(ioctl(client->binder.fd, all[i].request, bad[j]) == -1 && errno == all[i].error, "ioctl %lx of %lx", all[i].request,
+                  bad[j]);
     works(client);
 }
 

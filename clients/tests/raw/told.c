@@ -25,8 +25,10 @@ struct told {
 
 static void serve(struct looper *looper, const struct binder_transaction_data *call)
 {
-    if (call->code == WAIT)
+    if (call->code == WAIT) {
+        raw_keep(looper, call);
         usleep(800000);
+    }
     if (!(call->flags & TF_ONE_WAY))
         raw_answer(looper, NULL, 0);
 }

@@ -48,8 +48,10 @@ static void serve(struct looper *looper, const struct binder_transaction_data *c
     struct writer object = {0};
     if (call->code == GIVE)
         write_own_object(&object, 0x1000, 0x1000);
-    if (call->code == TAKE)
+    if (call->code == TAKE) {
+        raw_keep(looper, call); /* what is let go of by then nobody is told of */
         usleep(200000);
+    }
     if (call->code == ASK_ITSELF)
         write_number(&object, asks_itself(looper));
     struct binder_transaction_data answer = record_of(&object);
