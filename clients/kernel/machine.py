@@ -18,6 +18,8 @@ from fetch import Kernel, Missing, default_folder
 # no call of the kernel is left for another thread before it waits or ends
 OF_KERNEL = ("console=ttyS0 quiet panic=-1 preempt=none nosmp no_timer_check tsc=reliable lpj=4000000 mitigations=off audit=0 apparmor=0 "
              "log_buf_len=1M")
+# the least that what Rattle compiles runs on: x86-64-v2
+PROCESSOR = "Nehalem"
 # seconds until the kernel has to have come up, by an emulation that four others slow down
 TO_COME_UP = 600
 
@@ -30,7 +32,7 @@ def words(kernel, folder, host):
     """qemu's command line."""
     shares = [(folder, "work", "")] + ([("/usr", "usr", ",readonly=on")] if host else [])
     found = [*kernel.qemu, "-nodefaults", "-no-user-config", "-display", "none", "-no-reboot", "-nic", "none", "-m", "256", "-smp", "1",
-             "-accel", "tcg", "-icount", "shift=0,sleep=off", "-kernel", kernel.image, "-initrd", kernel.first_files,
+             "-cpu", PROCESSOR, "-accel", "tcg", "-icount", "shift=0,sleep=off", "-kernel", kernel.image, "-initrd", kernel.first_files,
              "-serial", f"file:{folder}/console", "-append", OF_KERNEL]
     for path, tag, more in shares:
         found += ["-virtfs", f"local,path={path},mount_tag={tag},security_model=none,id={tag},multidevs=remap{more}"]

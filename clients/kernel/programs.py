@@ -36,6 +36,7 @@ RAW = ["nested", "oneway", "deaths", "ways", "waits", "told", "parcels", "buffer
        "cancelled", "latency 200", "many 8 4 50"]
 # why some don't pass there, which are not to be told from others that don't by chance
 REASONS = {
+    "ways": "a thread that never entered the loop reads what comes to its process all the same (*looper*)",
     "leftovers": "it looks at the page between library and daemon, which isn't there",
     "refusals": "a command that the write's size cuts short is run, its bytes being read where memory goes on",
     "files": "the child of a fork acts as its parent", "lives": "the child of a fork acts as its parent",
@@ -64,7 +65,7 @@ END_MANAGERS = "kill $MANAGERS\n"
 COST = """export HULLPIPPIN_SOCKET=/tmp/socket
 LOAD="./lib/ld-linux-x86-64.so.2 --library-path lib"
 $LOAD ./hullpippind --socket $HULLPIPPIN_SOCKET --background
-for bytes in 0 4096 262144; do
+for bytes in {sizes}; do
     echo "driver one $bytes: $(./raw/latency {calls} $bytes)"
     echo "daemon one $bytes: $($LOAD --preload ./libhullpippin-preload.so ./dynamic/latency {calls} $bytes)"
     echo "driver many $bytes: $(./raw/many 8 4 {calls} $bytes)"
@@ -203,7 +204,7 @@ def script_of(given, folder):
         return script_of_tests(folder, os.path.abspath(given.packages))
     build_raw(folder)
     add_daemon(folder)
-    return COST.format(calls=given.calls)
+    return COST.format(calls=given.calls, sizes=" ".join(BYTES))
 
 
 def main():

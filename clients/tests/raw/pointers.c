@@ -18,7 +18,8 @@
 /* Memory of which only the first page is there. */
 static uint8_t *edge;
 
-/* All that leads nowhere: no page, no page any more, a page that nobody may touch, no address at all. */
+/* All that leads nowhere: no page, no page any more, a page that nobody may touch, no address at all. (What would go past the
+   last address is as nothing to the kernel.) */
 static uintptr_t bad[5];
 
 static void make_bad(void)
@@ -28,7 +29,7 @@ static void make_bad(void)
     uint8_t *closed = mmap(NULL, PAGES * PAGE, PROT_NONE, MAP_PRIVATE | MAP_ANONYMOUS, -1, 0);
     CHECK(edge != MAP_FAILED && gone != MAP_FAILED && closed != MAP_FAILED, "no memory");
     CHECK(!munmap(edge + PAGE, PAGE) && !munmap(gone, PAGE), "can't unmap");
-    const uintptr_t all[] = {0, 16, (uintptr_t)gone, (uintptr_t)closed, (uintptr_t)-64};
+    const uintptr_t all[] = {0, 16, (uintptr_t)gone, (uintptr_t)closed, (uintptr_t)-65536};
     memcpy(bad, all, sizeof all);
 }
 
@@ -45,8 +46,8 @@ static void arguments(struct client *client)
     static const struct {
         unsigned long request;
         int error;
-    } all[] = {{BINDER_WRITE_READ, EFAULT}, {BINDER_VERSION, EINVAL}, {BINDER_SET_MAX_THREADS, EINVAL}, {BINDER_SET_CONTEXT_MGR_EXT, EINVAL},
-               {BINDER_ENABLE_ONEWAY_SPAM_DETECTION, EFAULT}};
+    } all[] = {{BINDER_WRITE_READ, EFAULT}, {BINDER_VERSION, EINVAL}, {BINDER_SET_MAX_THREADS, EINVAL},
+               {BINDER_SET_CONTEXT_MGR_EXT, EINVAL}, {BINDER_ENABLE_ONEWAY_SPAM_DETECTION, EFAULT}};
     for (size_t i = 0; i < sizeof all / sizeof *all; i++)
         for (size_t j = 0; j < sizeof bad / sizeof *bad; j++)
             CHECK(ioctl(client->binder.fd, all[i].request, bad[j]) == -1 && errno == all[i].error, "ioctl %lx of %lx", all[i].request,
