@@ -125,6 +125,8 @@ int main(void)
         CHECK(raw_ask(&client.looper, (struct call){.code = WHO}) == 2, "who waited longer got the call");
     call_nobody(client.binder.fd);
     CHECK(raw_call(&client.looper, (struct call){.code = REFUSE}, &reply) == BR_FAILED_REPLY, "a refused reply came");
+    usleep(100000); /* else who served that call may find fault with it after this */
+    CHECK(raw_ask(&client.looper, (struct call){.code = WHO}) == 2, "who refused its reply no longer serves");
     printf("nothing runs before a refusal is read, who waits last is called first\n");
     raw_kill(manager);
     return 0;
