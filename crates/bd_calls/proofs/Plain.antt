@@ -3,12 +3,12 @@ use Rattle.std.proofs.Common.{◌≡◌, refl, sym, ◌∙◌, Bool, true, false
 use Rattle.bd_space.specs.declared.space.TodoList.{TodoList}
 use Rattle.bd_space.specs.declared.space.Work.{Work}
 use Rattle.bd_space.specs.Todo.{has_work_in, is_on, work_on}
-use Rattle.bd_space.specs.Reading.{is_empty}
+use Rattle.bd_space.specs.Reading.{none_due}
 use Rattle.bd_links.proofs.OnList.{any_left}
 
 -- whether there is anything to read is told by the lists alone where they are empty
 pub anything-to-read : (todo : List Work) (own shared : TodoList) (idle : Bool)
-    → (has_work_in todo own || (has_work_in todo shared && idle)) ≡ not (is_empty (work_on todo (cond (has_work_in todo own) (Some own) (cond idle (Some shared) None))))
+    → (has_work_in todo own || (has_work_in todo shared && idle)) ≡ not (none_due (work_on todo (cond (has_work_in todo own) (Some own) (cond idle (Some shared) None))))
 anything-to-read todo own shared idle = at (has_work_in todo own) refl idle
   where
     last : (b : Bool) → (b && true) ≡ b
@@ -19,7 +19,7 @@ anything-to-read todo own shared idle = at (has_work_in todo own) refl idle
     never true = refl
     never false = refl
 
-    at : (a : Bool) → has_work_in todo own ≡ a → (i : Bool) → (a || (has_work_in todo shared && i)) ≡ not (is_empty (work_on todo (cond a (Some own) (cond i (Some shared) None))))
+    at : (a : Bool) → has_work_in todo own ≡ a → (i : Bool) → (a || (has_work_in todo shared && i)) ≡ not (none_due (work_on todo (cond a (Some own) (cond i (Some shared) None))))
     at true e i = sym e ∙ any_left (is_on own) todo
     at false e true = last (has_work_in todo shared) ∙ any_left (is_on shared) todo
     at false e false = never (has_work_in todo shared)

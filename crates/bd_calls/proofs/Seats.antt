@@ -21,7 +21,7 @@ use Rattle.bd_space.specs.declared.space.TodoList.TheVariants.{OfThread, OfProce
 use Rattle.bd_space.specs.Words.{is_some_and, same_identity}
 use Rattle.bd_space.specs.Seats.{thread_in}
 use Rattle.bd_space.specs.Frames.{innermost_in}
-use Rattle.bd_space.specs.Reading.{is_empty}
+use Rattle.bd_space.specs.Reading.{none_due}
 use Rattle.bd_ways.specs.Local.{first_due}
 use Rattle.bd_space.specs.Todo.{has_work_in, is_on, same_list, work_on, reads_in, with_work, is_item, is_call, without_taken, is_notice}
 use Rattle.bd_space.specs.Notices.{has_notice_in}
@@ -35,7 +35,7 @@ use Rattle.bd_calls.proofs.Plain.{anything-to-read}
 
 -- what was seen tells whether the thread has anything to read
 pub seen-ready : (fs : List Frame) (ts : List Thread) (ws : List Work) (seat : ℕ) (x : Seen) (t : Thread) → x.thread ≡ Some t → IsSeen ts ws seat x
-    → (x.own || (x.shared && (t.looping && is_none (innermost_in fs t.seat)))) ≡ is_some_and (thread_in ts seat) (λ u. not (is_empty (work_on ws (reads_in fs ws u))))
+    → (x.own || (x.shared && (t.looping && is_none (innermost_in fs t.seat)))) ≡ is_some_and (thread_in ts seat) (λ u. not (none_due (work_on ws (reads_in fs ws u))))
 seen-ready fs ts ws seat x t is seen =
     let found : thread_in ts seat ≡ Some t = sym seen.thread ∙ is in
     let at : t.seat ≡ seat = eqb-true _ _ (found_passes (λ (u : Thread). u.seat == seat) ts t found) in
@@ -46,7 +46,7 @@ seen-ready fs ts ws seat x t is seen =
     ap (λ b. b || (x.shared && idle)) own
     ∙ ap (λ b. has_work_in ws (OfThread t.seat) || (b && idle)) shared
     ∙ anything-to-read ws (OfThread t.seat) (OfProcess t.process) idle
-    ∙ ap (λ o. is_some_and o (λ u. not (is_empty (work_on ws (reads_in fs ws u))))) (sym found)
+    ∙ ap (λ o. is_some_and o (λ u. not (none_due (work_on ws (reads_in fs ws u))))) (sym found)
 
 -- ---- what is kept
 

@@ -93,7 +93,7 @@ pub(crate) fn look_at(threads: &ThreadTable, todo: &WorkTable, seat: u32) -> See
 pub(crate) fn has_seen(frames: &FrameTable, seen: &Seen) -> bool
     ensures { (seat : ℕ) (ts : List threads.Thread) (ws : List works.Work) (fs : List declared.Frame)
         → frame_table.FramesAre frames.now fs → spec.IsSeen ts ws seat seen.now
-        → result ≡ is_some_and (thread_in ts seat) (λ t. not (reading.is_empty (todos.work_on ws (todos.reads_in fs ws t)))) }
+        → result ≡ is_some_and (thread_in ts seat) (λ t. not (reading.none_due (todos.work_on ws (todos.reads_in fs ws t)))) }
 {
     match seen.thread {
         Some(thread) => seen.own || (seen.shared && is_idle(frames, &thread)),

@@ -1,7 +1,7 @@
 -- FollowingIsLocal: where references go, a look at their names and objects is enough.
 use Rattle.bd_laws.proofs.words.Logic.{arith, ◌≡◌, ℕ, Bool, true, false, not, ◌&&◌, ◌||◌, List, [], ◌∷◌, Option, Some, None, inr, refl, ap, sym, subst, ◌∙◌, filter, list_any, eqb-true, eq-eqb}
 use Rattle.bd_laws.proofs.words.Types.{ObjectId, Process, Object, Reference}
-use Rattle.bd_laws.proofs.words.Space.{same, is_some_and, without_first, Space, lives_in, object_in, owned_in, held_in, strong_in, names_for, wants_notice, drop_asked, acknowledge, turns_of, completed, NameTest, ObjectTest, follow_of, at_name, no_name, at_object, names_of_references, objects_of_references}
+use Rattle.bd_laws.proofs.words.Space.{same, is_some_and, without_first, Space, lives_in, object_in, owned_in, held_in, strong_in, gives_name_to, wants_notice, drop_asked, acknowledge, turns_of, completed, NameTest, ObjectTest, follow_of, at_name, no_name, at_object, names_of_references, objects_of_references}
 use Rattle.bd_laws.proofs.words.Laws.{In, Elsewhere, IsSettled, NoneRipe, IsQuiet, IsFollowed}
 use Rattle.bd_laws.proofs.Lists.{find-in, filter-in, any-in}
 use Rattle.bd_laws.proofs.Tests.{both, and-both, same-eq, eq-same}
@@ -14,7 +14,7 @@ use Rattle.bd_laws.proofs.Machine.Fields.{follow_of-frames}
 -- of what isn't touched the references say the same
 pub record SameSaid (a : NameTest) (b : ObjectTest) (references changed : List Reference) : Type 0 where
   pub named : (p : ℕ) (o : ObjectId) → a p o ≡ false
-      → list_any (λ (r : Reference). same r.object o && names_for p r.holder) changed ≡ list_any (λ (r : Reference). same r.object o && names_for p r.holder) references
+      → list_any (λ (r : Reference). same r.object o && gives_name_to p r.holder) changed ≡ list_any (λ (r : Reference). same r.object o && gives_name_to p r.holder) references
   pub held : (o : ObjectId) → b o ≡ false → held_in changed o ≡ held_in references o
   pub strong : (o : ObjectId) → b o ≡ false → strong_in changed o ≡ strong_in references o
 
@@ -59,7 +59,7 @@ module _ {A : Type 0} where
 -- the names and objects of those that come or go are touched
 module _ (a : NameTest) (b : ObjectTest) (references changed : List Reference) (Differs : Reference → Type 0)
     (any-same : (p : Reference → Bool) → ((r : Reference) → Differs r → p r ≡ false) → list_any p changed ≡ list_any p references)
-    (named : (r : Reference) (p : ℕ) (o : ObjectId) → Differs r → (same r.object o && names_for p r.holder) ≡ true → a p o ≡ true)
+    (named : (r : Reference) (p : ℕ) (o : ObjectId) → Differs r → (same r.object o && gives_name_to p r.holder) ≡ true → a p o ≡ true)
     (held : (r : Reference) (o : ObjectId) → Differs r → same r.object o ≡ true → b o ≡ true) where
   pub said-by : SameSaid a b references changed
   said-by = search arith

@@ -1,7 +1,7 @@
 -- For the engine, by FollowingIsLocal: after the end of a thread it is enough to look at what it touched.
 use Rattle.bd_laws.proofs.words.Logic.{arith, ◌≡◌, ℕ, ◌==◌, Bool, true, false, not, ◌&&◌, ◌||◌, List, [], ◌∷◌, length, inl, refl, ap, sym, subst, ◌∙◌, filter, list_any, eqb-true}
 use Rattle.bd_laws.proofs.words.Types.{ObjectId, Object, Reference, Name, Thread, Holder, Carried, DeathNotification, Work, TodoList, OfThread}
-use Rattle.bd_laws.proofs.words.Space.{same, is_some_and, Space, lives_in, object_in, owned_in, held_in, names_for, buffer_of_holder, is_on, is_notice, hands_out, wants_notice, is_name_of, follow, settle, thread_goes, is_lost_with, NameTest, ObjectTest, follow_of, close_among, left_objects, lost_with_thread, names_left, objects_left, frames_left}
+use Rattle.bd_laws.proofs.words.Space.{same, is_some_and, Space, lives_in, object_in, owned_in, held_in, gives_name_to, buffer_of_holder, is_on, is_notice, hands_out, wants_notice, is_name_of, follow, settle, thread_goes, is_lost_with, NameTest, ObjectTest, follow_of, close_among, left_objects, lost_with_thread, names_left, objects_left, frames_left}
 use Rattle.bd_space.specs.declared.space.WorkKind.TheVariants as work
 use Rattle.bd_laws.proofs.words.Laws.{In, Elsewhere, IsFollowed, IsTidy, IsFramed}
 use Rattle.bd_laws.proofs.Lists.{in-filter, filter-in, any-found, any-in, find-in}
@@ -23,7 +23,7 @@ pub record Parts (a : NameTest) (b : ObjectTest) (s z : Space) : Type 0 where
   pub owners : (x : Object) → In x s.objects → b x.id ≡ false → lives_in z.processes x.owner ≡ lives_in s.processes x.owner
   pub fewer : (r : Reference) → In r z.references → In r s.references
   pub stay : (r : Reference) → In r s.references → b r.object ≡ false → In r z.references
-  pub named : (m : Name) → In m z.names → a m.process m.object ≡ false → (r : Reference) → In r s.references → same r.object m.object ≡ true → names_for m.process r.holder ≡ true → In r z.references
+  pub named : (m : Name) → In m z.names → a m.process m.object ≡ false → (r : Reference) → In r s.references → same r.object m.object ≡ true → gives_name_to m.process r.holder ≡ true → In r z.references
   pub less : (w : Work) (o : ObjectId) → In w z.todo → w.kind ≡ work.Notice o → In w s.todo
   pub more : (w : Work) (o : ObjectId) → In w s.todo → is_notice o w.kind ≡ true → b o ≡ false → In w z.todo
   pub deaths : (d : DeathNotification) → In d z.deaths → a d.process d.object ≡ false → (d.cleared || is_name_of z.names d.process d.object) ≡ true
@@ -50,10 +50,10 @@ module _ (a : NameTest) (b : ObjectTest) (s z : Space) (h : IsFollowed s) (k : P
   parts-elsewhere = record {
     names = λ m l none.
         let t = both (not (owned_in s.objects m.process m.object)) _ (h.names m (k.names m l) refl) in
-        let r = any-found (λ (r : Reference). same r.object m.object && names_for m.process r.holder) s.references t.1 in
-        let c = both (same r.0.object m.object) (names_for m.process r.0.holder) r.2 in
+        let r = any-found (λ (r : Reference). same r.object m.object && gives_name_to m.process r.holder) s.references t.1 in
+        let c = both (same r.0.object m.object) (gives_name_to m.process r.0.holder) r.2 in
         and-both (not (owned_in z.objects m.process m.object)) _ (ap (λ (os : List Object). not (owned_in os m.process m.object)) k.objects ∙ t.0)
-        (any-in (λ (r : Reference). same r.object m.object && names_for m.process r.holder) r.0 z.references (k.named m l none r.0 r.1 c.0 c.1) r.2);
+        (any-in (λ (r : Reference). same r.object m.object && gives_name_to m.process r.holder) r.0 z.references (k.named m l none r.0 r.1 c.0 c.1) r.2);
     objects = λ x l none. search (arith, held-same);
     deaths = k.deaths;
     notices = λ w o l e none. due-same o none (h.notices w o (k.less w o l e) e refl);
@@ -122,18 +122,18 @@ module _ (s : Space) (seat : ℕ) (h : IsTidy s) where
   -- the names to look at are the process's, and their objects are looked at too
   pub left-names : (t : Thread) → In t s.threads → t.seat ≡ seat → (p : ℕ) (o : ObjectId) → names_left s seat p o ≡ true → (t.process ≡ p) × (objects_left s seat o ≡ true)
   left-names t here at p o e =
-      let test = λ (r : Reference). same r.object o && names_for p r.holder in
+      let test = λ (r : Reference). same r.object o && gives_name_to p r.holder in
       let r = any-found test (filter gone s.references) e in
       let i = in-filter gone r.0 s.references r.1 in
-      let c = both (same r.0.object o) (names_for p r.0.holder) r.2 in
+      let c = both (same r.0.object o) (gives_name_to p r.0.holder) r.2 in
       let touched = any-in (λ (q : Reference). same q.object o && gone q) r.0 s.references i.0 (and-both (same r.0.object o) (gone r.0) c.0 i.1) in
       (by_holder r.0 i.0 c.1 i.1, or-left _ (list_any (λ (w : Work). is_notice o w.kind && list_any (λ (l : TodoList). is_on l w) (OfThread seat ∷ [])) s.todo) touched)
     where
       -- a lost reference by which the process has a name is a buffer's
-      carried : (c : Holder) (lost : ℕ → Bool) → names_for p c ≡ true → is_some_and (buffer_of_holder c) lost ≡ true → (b : ℕ) × (c ≡ Carried b p) × (lost b ≡ true)
+      carried : (c : Holder) (lost : ℕ → Bool) → gives_name_to p c ≡ true → is_some_and (buffer_of_holder c) lost ≡ true → (b : ℕ) × (c ≡ Carried b p) × (lost b ≡ true)
       carried c lost named k = search (arith, eqb-true)
 
-      by_holder : (r : Reference) → In r s.references → names_for p r.holder ≡ true → is_some_and (buffer_of_holder r.holder) (is_lost_with s.todo (OfThread seat)) ≡ true → t.process ≡ p
+      by_holder : (r : Reference) → In r s.references → gives_name_to p r.holder ≡ true → is_some_and (buffer_of_holder r.holder) (is_lost_with s.todo (OfThread seat)) ≡ true → t.process ≡ p
       by_holder r l named lost =
           let b = carried r.holder (is_lost_with s.todo (OfThread seat)) named lost in
           let w = any-found (λ (w : Work). is_on (OfThread seat) w && is_some_and (hands_out w.kind) (λ m. m == b.0)) s.todo b.2 in

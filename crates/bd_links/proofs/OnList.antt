@@ -3,7 +3,7 @@ use Rattle.std.proofs.Common.{◌≡◌, Bool, true, false, not, ◌&&◌, ◌||
 use Rattle.std.specs.List.{list_any, slice_get}
 use Rattle.std.proofs.lemmas.Bool.{or_parts}
 use Rattle.bd_space.specs.declared.space.Work.{Work}
-use Rattle.bd_space.specs.Reading.{is_empty}
+use Rattle.bd_space.specs.Reading.{none_due}
 use Rattle.bd_space.specs.Words.{without_first}
 
 pub any-filter : (p q : Work → Bool) (ws : List Work) → list_any q (filter p ws) ≡ list_any (λ w. p w && q w) ws
@@ -15,11 +15,11 @@ any-filter p q (w ∷ ws) = at (p w) (any-filter p q ws)
     at false e = e
 
 -- something is left exactly where something passes
-pub any_left : (p : Work → Bool) (ws : List Work) → list_any p ws ≡ not (is_empty (filter p ws))
+pub any_left : (p : Work → Bool) (ws : List Work) → list_any p ws ≡ not (none_due (filter p ws))
 any_left p [] = refl
 any_left p (w ∷ ws) = first (p w) (any_left p ws)
   where
-    first : (b : Bool) → list_any p ws ≡ not (is_empty (filter p ws)) → (b || list_any p ws) ≡ not (is_empty (cond b (w ∷ filter p ws) (filter p ws)))
+    first : (b : Bool) → list_any p ws ≡ not (none_due (filter p ws)) → (b || list_any p ws) ≡ not (none_due (cond b (w ∷ filter p ws) (filter p ws)))
     first true h = refl
     first false h = h
 
@@ -27,7 +27,7 @@ any_left p (w ∷ ws) = first (p w) (any_left p ws)
 pub any_first : (p : Work → Bool) (ws : List Work) → is_some (slice_get (filter p ws) 0) ≡ list_any p ws
 any_first p ws = first (filter p ws) ∙ sym (any_left p ws)
   where
-    first : (vs : List Work) → is_some (slice_get vs 0) ≡ not (is_empty vs)
+    first : (vs : List Work) → is_some (slice_get vs 0) ≡ not (none_due vs)
     first [] = refl
     first (v ∷ vs) = refl
 
@@ -69,4 +69,4 @@ one_less p (w ∷ ws) e = at (p w) e (one_less p ws)
     at false e k = let l = k e in omega (arith, l)
 
 pub any_none : (p : Work → Bool) (ws : List Work) → filter p ws ≡ [] → list_any p ws ≡ false
-any_none p ws e = any_left p ws ∙ ap (λ vs. not (is_empty vs)) e
+any_none p ws e = any_left p ws ∙ ap (λ vs. not (none_due vs)) e

@@ -18,7 +18,7 @@ use Rattle.bd_links.proofs.Plain.{none_some}
 use Rattle.bd_links.proofs.QueueLemmas.{push_shows, front_shows, ring_empty, queue_is}
 use Rattle.bd_links.proofs.Growing.{begun, freed, lengthened, head_listed, unheaded, free_less, zero_added}
 use Rattle.bd_links.proofs.RingLemmas.{Below-at, In-left}
-use Rattle.bd_space.specs.Reading.{is_empty}
+use Rattle.bd_space.specs.Reading.{none_due}
 
 -- the node x is moved to the end of the ring of s
 pub record Moved (old new : List Node) (x s : ℕ) : Type 0 where
@@ -161,7 +161,7 @@ give_stands t u todo s l h found none nn pp rr ww ls fr = record { either = of h
         none_left : filter (is_on l) todo ≡ []
         none_left = no_items (filter (is_on l) todo) (sym (any_left (is_on l) todo) ∙ none)
           where
-            no_items : (vs : List Work) → not (is_empty vs) ≡ false → vs ≡ []
+            no_items : (vs : List Work) → not (none_due vs) ≡ false → vs ≡ []
             no_items [] e = refl
             no_items (v ∷ vs) e = absurd cc
 

@@ -15,7 +15,7 @@ use Rattle.bd_space.specs.declared.space.Reference.{Reference}
 use Rattle.bd_space.specs.Words.{same}
 use Rattle.bd_space.specs.References.{owned_in}
 use Rattle.bd_space.specs.Parcels.{object_of_item}
-use Rattle.bd_space.specs.Names.{is_named_in, is_object, named_in, number_in, with_name, with_names, has_number_past_limit}
+use Rattle.bd_space.specs.Names.{is_named_in, is_managers, named_in, number_in, with_name, with_names, has_number_past_limit}
 use Rattle.bd_space.proofs.Identities.{same-eq, same-self}
 use Rattle.bd_names.specs.Numbers.{IsFull, new_number}
 use Rattle.bd_objects.specs.Naming.{with_name_unless, with_other_name, is_referred, AreReferred}
@@ -47,7 +47,7 @@ is-named (Some y) o h = ap (λ z. Some z) (same-eq y o h)
 -- so none is given
 pub known-stays : (own : Bool) (manager : Option ObjectId) (p n : ℕ) (ns : List Name) (o : ObjectId) → named_in ns p n ≡ Some o → with_name_unless own manager p ns o ≡ ns
 known-stays true manager p n ns o h = refl
-known-stays false manager p n ns o h = ap (λ b. cond b ns (ns ++ record { process = p; number = new_number (is_object manager o) p ns; object = o } ∷ [])) (named-has p n o ns h)
+known-stays false manager p n ns o h = ap (λ b. cond b ns (ns ++ record { process = p; number = new_number (is_managers manager o) p ns; object = o } ∷ [])) (named-has p n o ns h)
 
 module _ (manager : Option ObjectId) (objects : List Object) (p : ℕ) where
   abbrev other : List Name → ObjectId → List Name
@@ -115,11 +115,11 @@ module _ (manager : Option ObjectId) (objects : List Object) (p : ℕ) where
   named refs o e h = rw (e, h) refl
 
   -- the name that would be needed stays, since a reference carries it
-  pub past-one : (refs : List Reference) (ms : List Name) (o : ObjectId) → owned_in objects p o ≡ false → is_referred refs p o ≡ true → IsFull (is_object manager o) p ms o
+  pub past-one : (refs : List Reference) (ms : List Name) (o : ObjectId) → owned_in objects p o ≡ false → is_referred refs p o ≡ true → IsFull (is_managers manager o) p ms o
       → IsPastLimit objects refs (other ms o)
   past-one refs ms o e h f =
       let q = λ (m : Name). is_named_in objects refs m.process m.object in
-      let n : Name = record { process = p; number = new_number (is_object manager o) p ms; object = o } in
+      let n : Name = record { process = p; number = new_number (is_managers manager o) p ms; object = o } in
       let given : other ms o ≡ ms ++ n ∷ [] = rw (e, f.lacks) refl in
       subst (λ ns. has_number_past_limit (filter q ns) ≡ true) (sym given) (past-push q ms n (named refs o e h) f.past)
 
@@ -129,7 +129,7 @@ module _ (manager : Option ObjectId) (objects : List Object) (p : ℕ) where
   referred-at refs (x ∷ xs) (suc i) d h r = referred-at refs xs i d (omega arith) r.1
 
   pub past-all : (refs : List Reference) (xs : List Item) (ns : List Name) (i : ℕ) (d : Item) → i < length xs → owned_in objects p (get_or xs i d).object ≡ false
-      → AreReferred refs p (map object_of_item xs) → IsFull (is_object manager (get_or xs i d).object) p (fold give ns (take i xs)) (get_or xs i d).object
+      → AreReferred refs p (map object_of_item xs) → IsFull (is_managers manager (get_or xs i d).object) p (fold give ns (take i xs)) (get_or xs i d).object
       → IsPastLimit objects refs (fold (with_other_name manager objects p) ns (map object_of_item xs))
   past-all refs xs ns i d h e r f =
       let q = λ (m : Name). is_named_in objects refs m.process m.object in

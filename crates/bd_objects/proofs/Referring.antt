@@ -7,14 +7,14 @@ use Rattle.bd_space.specs.declared.space.Item.{Item}
 use Rattle.bd_space.specs.declared.space.Reference.{Reference}
 use Rattle.bd_space.specs.declared.space.Holder.TheVariants.{Asked}
 use Rattle.bd_space.specs.Words.{same}
-use Rattle.bd_space.specs.References.{reference_of, names_for}
+use Rattle.bd_space.specs.References.{reference_of, gives_name_to}
 use Rattle.bd_space.specs.Parcels.{object_of_item}
 use Rattle.bd_space.specs.Delivery.{buffer_references}
 use Rattle.bd_space.proofs.Identities.{same-self}
 use Rattle.bd_objects.specs.Naming.{is_referred, AreReferred}
 
 abbrev refers : ℕ → ObjectId → Reference → Bool
-refers p o r = same r.object o && names_for p r.holder
+refers p o r = same r.object o && gives_name_to p r.holder
 
 at-end : (p : ℕ) (o : ObjectId) (refs more : List Reference) → is_referred more p o ≡ true → is_referred (refs ++ more) p o ≡ true
 at-end p o refs more h = list_any-append (refers p o) refs more ∙ or_right _ _ h

@@ -15,8 +15,8 @@ use bd_names::{NameTable, NumbersFull};
 use bd_nodes::NodeTable;
 use bd_space::{Item, Object, ObjectId};
 
-fn is_object(manager: Option<ObjectId>, o: ObjectId) -> bool
-    ensures { result ≡ names_of.is_object manager o }
+fn is_managers(manager: Option<ObjectId>, o: ObjectId) -> bool
+    ensures { result ≡ names_of.is_managers manager o }
 {
     match manager {
         Some(m) => m == o,
@@ -38,13 +38,13 @@ pub(crate) fn give_name(
     ensures err { OnErr result ((base l : List Name) → NamesSince names.old base l → NamesSince names.new base l) }
     ensures other { OnErr result (own ≡ false) }
     ensures full { OnErr result ((base l : List Name) → NamesSince names.old base l
-        → IsFull (names_of.is_object manager o) p l o) }
+        → IsFull (names_of.is_managers manager o) p l o) }
     ensures uses { Uses names.old names.new 1 }
 {
     if own {
         return Ok(());
     }
-    names.give(is_object(manager, o), p, o)
+    names.give(is_managers(manager, o), p, o)
 }
 
 /// The same for a process that asked for the object by a number: where that is the object's already, nothing else is looked at.
@@ -61,7 +61,7 @@ pub(crate) fn give_asked_name(
         → NamesAre names.old l → NamesAre names.new (with_other_name manager objects p l o)) }
     ensures err { OnErr result ((l : List Name) → NamesAre names.old l → NamesAre names.new l) }
     ensures other { OnErr result ((objects : List Object) → NodesAre nodes.now objects → refer.owned_in objects p o ≡ false) }
-    ensures full { OnErr result ((l : List Name) → NamesAre names.old l → IsFull (names_of.is_object manager o) p l o) }
+    ensures full { OnErr result ((l : List Name) → NamesAre names.old l → IsFull (names_of.is_managers manager o) p l o) }
     ensures uses { Uses names.old names.new 1 }
 {
     if names.named(p, n) == Some(o) {

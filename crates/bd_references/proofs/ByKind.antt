@@ -9,7 +9,7 @@ use Rattle.bd_space.specs.declared.space.Reference.{Reference}
 use Rattle.bd_space.specs.declared.space.Holder.{Holder}
 use Rattle.bd_space.specs.declared.space.Holder.TheVariants as holders
 use Rattle.bd_space.specs.Words.{same}
-use Rattle.bd_space.specs.References.{is_asked_by, is_in_window, is_handshake, is_asking, is_shaking, is_of_buffer, is_of_owner, same_strength, names_for}
+use Rattle.bd_space.specs.References.{is_asked_by, is_in_window, is_handshake, is_asking, is_shaking, is_of_buffer, is_of_owner, same_strength, gives_name_to}
 use Rattle.bd_references.specs.declared.keys.Kind.{Kind}
 use Rattle.bd_references.specs.declared.keys.Kind.TheVariants.{Asked, Carried, Handshake, Manager, Any}
 use Rattle.bd_references.specs.declared.keys.UseKey.{UseKey}
@@ -31,7 +31,7 @@ shaken-kind (holders.Target b q) = refl
 shaken-kind holders.Handshake = refl
 shaken-kind holders.Manager = refl
 
-named-kind : (p : ℕ) (h : Holder) → names_for p h ≡ (same_kind (kind_of h) (Asked p) || same_kind (kind_of h) (Carried p))
+named-kind : (p : ℕ) (h : Holder) → gives_name_to p h ≡ (same_kind (kind_of h) (Asked p) || same_kind (kind_of h) (Carried p))
 named-kind p (holders.Asked q) = sym (or-false (q == p))
 named-kind p (holders.Carried b q) = refl
 named-kind p (holders.Target b q) = refl
@@ -103,7 +103,7 @@ strong-key o r = sym (and-true (r.strong && same r.object o)) ∙ of-key o Any r
 
 -- those that give the process a name
 naming-key : (p : ℕ) (o : ObjectId) (r : Reference) (strong : Bool)
-    → (same_strength strong r && same r.object o && names_for p r.holder) ≡ names_with p o strong r
+    → (same_strength strong r && same r.object o && gives_name_to p r.holder) ≡ names_with p o strong r
 naming-key p o r strong =
     let to = same_strength strong r && same r.object o in
     let kind = kind_of r.holder in
@@ -112,10 +112,10 @@ naming-key p o r strong =
     ∙ ap (λ b. same_key (use_key r) (count_key o (Asked p) strong) || b) (of-key o (Carried p) r kind (same_kind kind (Carried p)) refl strong)
 
 pub naming-strongly : (p : ℕ) (o : ObjectId) (r : Reference)
-    → (r.strong && same r.object o && names_for p r.holder) ≡ names_with p o true r
+    → (r.strong && same r.object o && gives_name_to p r.holder) ≡ names_with p o true r
 naming-strongly p o r = naming-key p o r true
 
-pub naming : (p : ℕ) (o : ObjectId) (r : Reference) → (same r.object o && names_for p r.holder) ≡ names p o r
+pub naming : (p : ℕ) (o : ObjectId) (r : Reference) → (same r.object o && gives_name_to p r.holder) ≡ names p o r
 naming p o r =
     let kind = kind_of r.holder in
     ap (λ n. same r.object o && n) (named-kind p r.holder) ∙ and-or (same r.object o) (same_kind kind (Asked p)) (same_kind kind (Carried p))

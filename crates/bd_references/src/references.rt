@@ -49,7 +49,7 @@ impl ReferenceTable {
     /// Whether the process refers to it: it asked for it, or a buffer in its window carries it.
     pub fn refers(&self, p: u32, o: ObjectId) -> bool
         ensures { (l : List Reference) → ReferencesAre self.now l
-            → result ≡ list_any (λ r. words.same r.object o && refer.names_for p r.holder) l }
+            → result ≡ list_any (λ r. words.same r.object o && refer.gives_name_to p r.holder) l }
     {
         self.tallies.names(p, o)
     }
@@ -57,7 +57,7 @@ impl ReferenceTable {
     /// The same, strongly.
     pub fn refers_strongly(&self, p: u32, o: ObjectId) -> bool
         ensures { (l : List Reference) → ReferencesAre self.now l
-            → result ≡ list_any (λ r. r.strong && words.same r.object o && refer.names_for p r.holder) l }
+            → result ≡ list_any (λ r. r.strong && words.same r.object o && refer.gives_name_to p r.holder) l }
     {
         self.tallies.names_with(p, o, true)
     }

@@ -1,9 +1,7 @@
 -- The steps of BC_INCREFS, BC_ACQUIRE, BC_RELEASE, BC_DECREFS, BC_INCREFS_DONE and BC_ACQUIRE_DONE.
 use Rattle.std.specs.Prelude.{ℕ, ◌==◌, Bool, not, ◌&&◌, [], ◌∷◌, ◌++◌, Option, Result, find, if◌then◌else◌}
 use Rattle.bd_space.specs.Words.{list_any, Note, ObjectId, Object, Asked, when, first_of, found_or, unless, and_then, without_first, Space}
-use Rattle.bd_space.specs.References.{reference_of, strong_in, owned_in, is_asking, is_shaking}
-use Rattle.bd_space.specs.Names.{named, assign_numbers}
-use Rattle.bd_space.specs.Outcomes.{Outcome, by_check}
+use Rattle.bd_space.specs.{References.{reference_of, strong_in, owned_in, is_asking, is_shaking}, Names.{named, assign_numbers}, Outcomes.{Outcome, by_check}}
 
 -- ---- asking
 

@@ -1,10 +1,7 @@
 -- The steps of BC_CLEAR_DEATH_NOTIFICATION and BC_DEAD_BINDER_DONE.
 use Rattle.std.specs.Prelude.{ℕ, ◌==◌, Bool, true, false, not, ◌&&◌, Option, Some, None, Result, find, if◌then◌else◌}
 use Rattle.bd_space.specs.Words.{Note, DeathNotification, Phase, Armed, Queued, Told, Done, OfThread, WorkKind, found_or, unless, when, and_then, changed, Space}
-use Rattle.bd_space.specs.Names.{named}
-use Rattle.bd_space.specs.Todo.{owe}
-use Rattle.bd_space.specs.Outcomes.{Outcome, accepted, noted, by_check}
-use Rattle.bd_space.specs.Deaths.{uncleared_in, is_notification, without_death, with_phase}
+use Rattle.bd_space.specs.{Names.named, Todo.owe, Outcomes.{Outcome, accepted, noted, by_check}, Deaths.{uncleared_in, is_notification, without_death, with_phase}}
 
 -- ---- clearing
 

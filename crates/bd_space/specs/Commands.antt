@@ -1,13 +1,7 @@
 -- The step of each command.
 use Rattle.std.specs.Prelude.{ℕ, Bool, true, false, Option, ◌==◌}
 use Rattle.bd_space.specs.Words.{Command, Parcel, changed, Space, Actor}
-use Rattle.bd_space.specs.Transactions.{transaction_step}
-use Rattle.bd_space.specs.Replies.{reply_step}
-use Rattle.bd_space.specs.Freeing.{free_step}
-use Rattle.bd_space.specs.Asking.{ask_step, drop_step, done_step}
-use Rattle.bd_space.specs.Deaths.{request_step}
-use Rattle.bd_space.specs.Clearing.{clear_step, death_done_step}
-use Rattle.bd_space.specs.Outcomes.{Outcome, accepted}
+use Rattle.bd_space.specs.{Transactions.transaction_step, Replies.reply_step, Freeing.free_step, Asking.{ask_step, drop_step, done_step}, Deaths.request_step, Clearing.{clear_step, death_done_step}, Outcomes.{Outcome, accepted}}
 
 -- the thread has entered the loop, or left it
 unfoldable pub with_looping : Space → ℕ → Bool → Space

@@ -1,11 +1,7 @@
 -- Death notifications, and the step of BC_REQUEST_DEATH_NOTIFICATION.
 use Rattle.std.specs.Prelude.{ℕ, ◌==◌, Bool, false, not, ◌&&◌, List, [], ◌∷◌, ◌++◌, Option, Result, find, filter, is_some, if◌then◌else◌}
 use Rattle.bd_space.specs.Words.{Note, ObjectId, Process, Object, DeathNotification, Phase, Armed, Queued, OfProcess, WorkKind, is_some_and, same, found_or, unless, when, and_then, changed, Space}
-use Rattle.bd_space.specs.Seats.{lives_in}
-use Rattle.bd_space.specs.References.{object_in}
-use Rattle.bd_space.specs.Names.{named}
-use Rattle.bd_space.specs.Todo.{owe}
-use Rattle.bd_space.specs.Outcomes.{Outcome, by_check}
+use Rattle.bd_space.specs.{Seats.lives_in, References.object_in, Names.named, Todo.owe, Outcomes.{Outcome, by_check}}
 
 -- the uncleared notification that stands on a process's name of the object
 abbrev pub is_uncleared_on : ℕ → ObjectId → DeathNotification → Bool

@@ -1,13 +1,7 @@
 -- What a transaction and a reply have in common: what they deliver.
 use Rattle.std.specs.Prelude.{ℕ, ◌+◌, Bool, true, false, not, ◌&&◌, List, [], ◌∷◌, ◌++◌, map, Option, Some, None, filter, fold, if◌then◌else◌}
 use Rattle.bd_space.specs.Words.{TransactionData, ObjectId, Process, Object, Reference, Buffer, Work, Carried, Target, OfThread, is_some_and, Space, Actor, Item, is_own, is_strong_kind}
-use Rattle.bd_space.specs.References.{reference_of, object_in}
-use Rattle.bd_space.specs.Names.{assign_numbers}
-use Rattle.bd_space.specs.Windows.{needed}
-use Rattle.bd_space.specs.Todo.{is_notice}
-use Rattle.bd_space.specs.Notices.{with_notice}
-use Rattle.bd_space.specs.Parcels.{Sending, object_of_item}
-use Rattle.bd_space.specs.Translation.{translation}
+use Rattle.bd_space.specs.{References.{reference_of, object_in}, Names.assign_numbers, Windows.needed, Todo.is_notice, Notices.with_notice, Parcels.{Sending, object_of_item}, Translation.translation}
 
 -- what is delivered: to which process, on which object, whether one-way, what, and where in the receiver's window
 pub record Delivery : Type 0 where

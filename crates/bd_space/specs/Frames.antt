@@ -1,7 +1,6 @@
 -- Frames: open two-way calls. Parents make a forest.
 use Rattle.std.specs.Prelude.{ℕ, ◌==◌, nat_le, Bool, true, false, not, ◌&&◌, ◌||◌, List, [], ◌∷◌, length, reverse, Option, Some, None, find, filter, option_map, option_and_then, if◌then◌else◌}
-use Rattle.bd_space.specs.Words.{list_all, Thread, Frame, Server, Pending, Serving, Gone, TodoList, OfThread, OfProcess, is_some_and, Space}
-use Rattle.bd_space.specs.Seats.{thread_in}
+use Rattle.bd_space.specs.{Words.{list_all, Thread, Frame, Server, Pending, Serving, Gone, TodoList, OfThread, OfProcess, is_some_and, Space}, Seats.thread_in}
 
 abbrev pub serves : ℕ → Server → Bool
 serves seat Pending = false

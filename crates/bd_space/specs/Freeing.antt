@@ -1,8 +1,6 @@
 -- The step of BC_FREE_BUFFER.
 use Rattle.std.specs.Prelude.{ℕ, ◌+◌, ◌==◌, Bool, not, ◌&&◌, Option, Some, None, find, filter, if◌then◌else◌}
-use Rattle.bd_space.specs.Words.{Note, Buffer, Space}
-use Rattle.bd_space.specs.References.{is_of_buffer}
-use Rattle.bd_space.specs.Outcomes.{Outcome, accepted, noted}
+use Rattle.bd_space.specs.{Words.{Note, Buffer, Space}, References.is_of_buffer, Outcomes.{Outcome, accepted, noted}}
 
 -- the pointer by which a receiver knows a buffer
 abbrev pub pointer : Buffer → ℕ

@@ -1,11 +1,6 @@
 -- Histories: lists of steps in which each answer follows from the steps before.
 use Rattle.std.specs.Prelude.{ℕ, zero, suc, ◌+◌, ◌^◌, ◌≡◌, ◌≤◌, ◌<◌, nat_lt, nat_le, Bool, true, false, not, ◌||◌, List, [], ◌∷◌, ◌++◌, length, Option, if◌then◌else◌}
-use Rattle.bd_space.specs.Words.{list_all, Step, StepAnswer, Entry, Record, is_some_and, Space, opening}
-use Rattle.bd_space.specs.Seats.{thread_in}
-use Rattle.bd_space.specs.Names.{has_number_past_limit}
-use Rattle.bd_space.specs.Todo.{list_to_read}
-use Rattle.bd_space.specs.Reading.{is_empty}
-use Rattle.bd_space.specs.Steps.{step}
+use Rattle.bd_space.specs.{Words.{list_all, Step, StepAnswer, Entry, Record, is_some_and, Space, opening}, Seats.thread_in, Names.has_number_past_limit, Todo.list_to_read, Reading.none_due, Steps.step}
 
 -- the seats of a driver, and what has happened
 pub record History : Type 0 where
@@ -60,7 +55,7 @@ extended h seat x answer = history_of h.seats (h.entries ++ record { seat = seat
 
 -- the seat's live thread finds something on the list that it reads
 abbrev pub is_ready : Space → ℕ → Bool
-is_ready s seat = is_some_and (thread_in s.threads seat) (λ t. not (is_empty (list_to_read s t)))
+is_ready s seat = is_some_and (thread_in s.threads seat) (λ t. not (none_due (list_to_read s t)))
 
 -- the ready seats below n, bit i for seat i
 abbrev pub ready_below : Space → ℕ → ℕ

@@ -1,16 +1,15 @@
 -- Names: the numbers (handles) by which processes know the objects of others.
 use Rattle.std.specs.Prelude.{ℕ, suc, ◌==◌, nat_lt, Bool, not, ◌&&◌, List, [], ◌∷◌, ◌++◌, length, Option, Some, None, find, filter, fold, is_some, option_map, option_and_then, unwrap_or, if◌then◌else◌}
-use Rattle.bd_space.specs.Words.{list_any, ObjectId, Object, Reference, Name, same, is_some_and, least, Space}
-use Rattle.bd_space.specs.References.{names_for, owned_in}
+use Rattle.bd_space.specs.{Words.{list_any, ObjectId, Object, Reference, Name, same, is_some_and, least, Space}, References.{gives_name_to, owned_in}}
 
 -- o is another's, and p asked for it, or some buffer that p received carries it: only then p has a name for it
 abbrev pub is_named_in : List Object → List Reference → ℕ → ObjectId → Bool
-is_named_in objects references p o = not (owned_in objects p o) && list_any (λ r. same r.object o && names_for p r.holder) references
+is_named_in objects references p o = not (owned_in objects p o) && list_any (λ r. same r.object o && gives_name_to p r.holder) references
 
 -- strongly where one of these is a strong reference
 abbrev pub is_strongly_named_in : List Object → List Reference → ℕ → ObjectId → Bool
 is_strongly_named_in objects references p o =
-    not (owned_in objects p o) && list_any (λ r. r.strong && same r.object o && names_for p r.holder) references
+    not (owned_in objects p o) && list_any (λ r. r.strong && same r.object o && gives_name_to p r.holder) references
 
 -- what the number names for p, and p's number of o
 abbrev pub named_in : List Name → ℕ → ℕ → Option ObjectId
@@ -28,13 +27,15 @@ if_strongly_named objects references p o = if is_strongly_named_in objects refer
 unfoldable pub strongly_named : Space → ℕ → ℕ → Option ObjectId
 strongly_named s p n = option_and_then (if_strongly_named s.objects s.references p) (named_in s.names p n)
 
-abbrev pub is_object : Option ObjectId → ObjectId → Bool
-is_object manager o = is_some_and manager (λ m. same m o)
+-- the object is the context manager's
+abbrev pub is_managers : Option ObjectId → ObjectId → Bool
+is_managers manager o = is_some_and manager (λ m. same m o)
 
--- the least number that p doesn't use, from 0 for the context manager's object and else from 1; one of so many is free
+-- the least number that p doesn't use, from 0 for the context manager's object and else from 1: one more than there are names are
+-- looked at, so that one of them is free and the 0 that stands for none is never given
 abbrev pub free_number : Option ObjectId → List Name → ℕ → ObjectId → ℕ
 free_number manager names p o =
-    unwrap_or (least (suc (length names)) (if is_object manager o then 0 else 1) (λ n. not (list_any (λ m. (m.process == p) && (m.number == n)) names))) 0
+    unwrap_or (least (suc (length names)) (if is_managers manager o then 0 else 1) (λ n. not (list_any (λ m. (m.process == p) && (m.number == n)) names))) 0
 
 -- a name for o that p lacks gets its number
 abbrev pub with_name : Option ObjectId → List Object → List Reference → ℕ → List Name → ObjectId → List Name

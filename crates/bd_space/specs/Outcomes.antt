@@ -1,9 +1,6 @@
 -- What a step answers, and the space after it.
 use Rattle.std.specs.Prelude.{Result, Ok, Err}
-use Rattle.bd_space.specs.Words.{Note, Fault, Cause, StepAnswer, Space}
-use Rattle.bd_space.specs.Turns.{ripen}
-use Rattle.bd_space.specs.Notices.{follow}
-use Rattle.bd_space.specs.Settle.{settle}
+use Rattle.bd_space.specs.{Words.{Note, Fault, Cause, StepAnswer, Space}, Turns.ripen, Notices.follow, Settle.settle}
 
 pub record Outcome : Type 0 where
   pub answer : StepAnswer

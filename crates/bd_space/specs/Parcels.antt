@@ -1,8 +1,7 @@
 -- What a parcel sends: its objects, each known to the sender or made by the sending, or the first cause against it.
 use Rattle.std.specs.Prelude.{ℕ, ◌%◌, ◌^◌, ◌==◌, Bool, false, not, ◌&&◌, List, [], ◌∷◌, ◌++◌, length, Option, Some, None, Result, Ok, Err, if◌then◌else◌}
 use Rattle.bd_space.specs.Words.{TransactionData, FlatObject, Binder, WeakBinder, Handle, WeakHandle, Cause, WalkFault, offsets_in, fault_in, object_at, ObjectId, Parcel, Object, Item, Resolved, option_to_list, and_then, Space}
-use Rattle.bd_space.specs.References.{own_in}
-use Rattle.bd_space.specs.Names.{named, strongly_named}
+use Rattle.bd_space.specs.{References.own_in, Names.{named, strongly_named}}
 
 abbrev pub object_of_item : Item → ObjectId
 object_of_item x = x.object

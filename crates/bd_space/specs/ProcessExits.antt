@@ -1,13 +1,7 @@
 -- The step that ends a process.
 use Rattle.std.specs.Prelude.{ℕ, ◌==◌, Bool, true, false, not, ◌&&◌, ◌||◌, List, map, Option, Some, None, filter, fold, if◌then◌else◌}
 use Rattle.bd_space.specs.Words.{ObjectId, StepAnswer, Thread, Object, Reference, DeathNotification, OfProcess, WorkKind, Phase, Armed, Queued, Space, Actor}
-use Rattle.bd_space.specs.References.{owned_in, is_asked_by, is_in_window, is_of_owner}
-use Rattle.bd_space.specs.Todo.{owe, is_on}
-use Rattle.bd_space.specs.Notices.{follow}
-use Rattle.bd_space.specs.Settle.{settle}
-use Rattle.bd_space.specs.Deaths.{with_phase}
-use Rattle.bd_space.specs.Outcomes.{Outcome}
-use Rattle.bd_space.specs.ThreadExits.{unread_frame, thread_goes}
+use Rattle.bd_space.specs.{References.{owned_in, is_asked_by, is_in_window, is_of_owner}, Todo.{owe, is_on}, Notices.follow, Settle.settle, Deaths.with_phase, Outcomes.Outcome, ThreadExits.{unread_frame, thread_goes}}
 
 abbrev pub seat_of : Thread → ℕ
 seat_of t = t.seat

@@ -1,10 +1,7 @@
 -- The items that a read takes, and what reading them changes.
 use Rattle.std.specs.Prelude.{ℕ, ◌+◌, ◌-◌, ◌==◌, nat_lt, Bool, true, false, List, [], ◌∷◌, ◌++◌, length, map, Option, Some, None, option_and_then, if◌then◌else◌}
 use Rattle.bd_space.specs.Words.{list_any, flat_map, Return, ObjectId, Object, Reference, Frame, Buffer, Work, DeathNotification, Handshake, Serving, WorkKind, Told, first_of, is_some_and, same, changed, Space}
-use Rattle.bd_space.specs.References.{reference_of, held_in, strong_in}
-use Rattle.bd_space.specs.Todo.{notice_of, death_of, hands_out, is_call, without_taken}
-use Rattle.bd_space.specs.Freeing.{is_made_at}
-use Rattle.bd_space.specs.Returns.{buffer_in, returns_of, bytes_read}
+use Rattle.bd_space.specs.{References.{reference_of, held_in, strong_in}, Todo.{notice_of, death_of, hands_out, is_call, without_taken}, Freeing.is_made_at, Returns.{buffer_in, returns_of, bytes_read}}
 
 -- ---- which they are
 

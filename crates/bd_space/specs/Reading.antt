@@ -1,22 +1,18 @@
 -- The step of a read.
 use Rattle.std.specs.Prelude.{ℕ, ◌-◌, nat_lt, Bool, true, false, List, [], ◌∷◌, Option, Some, None}
-use Rattle.bd_space.specs.Words.{Fault, StepAnswer, Buffer, Work, when, first_of, Space, Actor}
-use Rattle.bd_space.specs.Todo.{list_to_read}
-use Rattle.bd_space.specs.Notices.{follow}
-use Rattle.bd_space.specs.Outcomes.{Outcome, refused}
-use Rattle.bd_space.specs.Returns.{stream_of}
-use Rattle.bd_space.specs.ReadItems.{taken, buffer_taken, read_by}
+use Rattle.bd_space.specs.{Words.{Fault, StepAnswer, Buffer, Work, when, first_of, Space, Actor}, Todo.list_to_read, Notices.follow, Outcomes.{Outcome, refused}, Returns.stream_of, ReadItems.{taken, buffer_taken, read_by}}
 
 abbrev pub got : List ℕ → Option Buffer → StepAnswer
 got stream None = StepAnswer.Got stream [] []
 got stream (Some b) = StepAnswer.Got stream b.bytes b.offsets
 
-abbrev pub is_empty : List Work → Bool
-is_empty [] = true
-is_empty (w ∷ ws) = false
+-- there is nothing to read
+abbrev pub none_due : List Work → Bool
+none_due [] = true
+none_due (w ∷ ws) = false
 
 abbrev pub read_fault : ℕ → List Work → Option Fault
-read_fault limit ws = first_of (when (nat_lt limit 72) Fault.ReadTooSmall ∷ when (is_empty ws) Fault.Again ∷ [])
+read_fault limit ws = first_of (when (nat_lt limit 72) Fault.ReadTooSmall ∷ when (none_due ws) Fault.Again ∷ [])
 
 unfoldable pub read_taking : Space → ℕ → List Work → Outcome
 read_taking s seat ws = record { answer = got (stream_of s ws) (buffer_taken s ws); space = follow (read_by s seat ws) }

@@ -1,7 +1,6 @@
 -- References to objects: what each is for, and which objects they keep.
 use Rattle.std.specs.Prelude.{ℕ, ◌==◌, Bool, true, false, not, ◌&&◌, ◌||◌, List, find, filter, Option, Some, None}
-use Rattle.bd_space.specs.Words.{list_any, ObjectId, Process, Object, Reference, Holder, Asked, Carried, Target, Handshake, Manager, same, is_some_and, Space}
-use Rattle.bd_space.specs.Seats.{lives_in}
+use Rattle.bd_space.specs.{Words.{list_any, ObjectId, Process, Object, Reference, Holder, Asked, Carried, Target, Handshake, Manager, same, is_some_and, Space}, Seats.lives_in}
 
 -- what the step at this place refers to is counted from 0
 abbrev pub reference_of : ℕ → ℕ → ObjectId → Bool → Holder → Reference
@@ -39,11 +38,11 @@ abbrev pub is_asked_by : ℕ → Holder → Bool
 is_asked_by p (Asked q) = q == p
 is_asked_by p _ = false
 
--- p asked, or one of the buffers that p received carries it
-abbrev pub names_for : ℕ → Holder → Bool
-names_for p (Asked q) = q == p
-names_for p (Carried b q) = q == p
-names_for p _ = false
+-- p has a name by it: p asked, or one of the buffers that p received carries it
+abbrev pub gives_name_to : ℕ → Holder → Bool
+gives_name_to p (Asked q) = q == p
+gives_name_to p (Carried b q) = q == p
+gives_name_to p _ = false
 
 -- the buffer with which it ends
 abbrev pub buffer_of_holder : Holder → Option ℕ

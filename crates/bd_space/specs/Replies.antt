@@ -1,13 +1,7 @@
 -- The step of BC_REPLY.
 use Rattle.std.specs.Prelude.{ℕ, false, Option, Some, None, Result, Ok, Err, option_and_then}
 use Rattle.bd_space.specs.Words.{TransactionData, Return, Cause, Parcel, Frame, OfThread, WorkKind, found_or, and_then, Space, Actor}
-use Rattle.bd_space.specs.Seats.{actor}
-use Rattle.bd_space.specs.Windows.{needed, buffers_of, start_for}
-use Rattle.bd_space.specs.Frames.{served_innermost, closed}
-use Rattle.bd_space.specs.Todo.{owe, tell_caller}
-use Rattle.bd_space.specs.Parcels.{Sending, sending_of}
-use Rattle.bd_space.specs.Delivery.{Delivery, delivered}
-use Rattle.bd_space.specs.Outcomes.{Outcome, accepted, stopped}
+use Rattle.bd_space.specs.{Seats.actor, Windows.{needed, buffers_of, start_for}, Frames.{served_innermost, closed}, Todo.{owe, tell_caller}, Parcels.{Sending, sending_of}, Delivery.{Delivery, delivered}, Outcomes.{Outcome, accepted, stopped}}
 
 -- the live thread that made the call, and its process
 unfoldable pub caller_of : Space → Frame → Option Actor

@@ -1,11 +1,7 @@
 -- The returns that work items give, and their bytes.
 use Rattle.std.specs.Prelude.{ℕ, ◌+◌, not, ◌&&◌, List, [], ◌∷◌, ◌++◌, length, map, Option, Some, None, find, option_map, option_and_then, unwrap_or, if◌then◌else◌, pos}
 use Rattle.bd_space.specs.Words.{concat, TransactionData, Return, return_bytes, Object, Reference, Buffer, Work, WorkKind, round_up, Space}
-use Rattle.bd_space.specs.Seats.{actor}
-use Rattle.bd_space.specs.References.{held_in, strong_in, object_in}
-use Rattle.bd_space.specs.Frames.{is_frame}
-use Rattle.bd_space.specs.Freeing.{pointer, is_made_at}
-use Rattle.bd_space.specs.Deaths.{is_notification}
+use Rattle.bd_space.specs.{Seats.actor, References.{held_in, strong_in, object_in}, Frames.is_frame, Freeing.{pointer, is_made_at}, Deaths.is_notification}
 
 abbrev pub buffer_in : List Buffer → ℕ → Option Buffer
 buffer_in buffers made = find (is_made_at made) buffers

@@ -1,11 +1,6 @@
 -- The run of a request: the entries that it makes, and its answer.
 use Rattle.std.specs.Prelude.{ℕ, ◌≡◌, ◌≢◌, ◌⊎◌, true, List, [], ◌∷◌, ◌++◌, length, Option, Some}
-use Rattle.bd_space.specs.Words.{Step, StepAnswer, Entry, Request, Answer, Space}
-use Rattle.bd_space.specs.Steps.{step}
-use Rattle.bd_space.specs.Histories.{History, space_after, is_at_limit}
-use Rattle.bd_space.specs.Streams.{commands_of}
-use Rattle.bd_space.specs.Writes.{Run, write}
-use Rattle.bd_space.specs.Stops.{step_after, IsCutShort}
+use Rattle.bd_space.specs.{Words.{Step, StepAnswer, Entry, Request, Answer, Space}, Steps.step, Histories.{History, space_after, is_at_limit}, Streams.commands_of, Writes.{Run, write}, Stops.{step_after, IsCutShort}}
 
 -- ---- the run of a request
 

@@ -1,8 +1,6 @@
 -- Abandoned calls: what follows when a server has gone.
 use Rattle.std.specs.Prelude.{ℕ, zero, suc, Bool, not, ◌&&◌, List, length, Option, Some, None, find}
-use Rattle.bd_space.specs.Words.{list_any, Return, Frame, WorkKind, Space}
-use Rattle.bd_space.specs.Frames.{is_gone, is_child_of, closed}
-use Rattle.bd_space.specs.Todo.{tell_caller}
+use Rattle.bd_space.specs.{Words.{list_any, Return, Frame, WorkKind, Space}, Frames.{is_gone, is_child_of, closed}, Todo.tell_caller}
 
 -- its server has gone, and it has no open child
 abbrev pub is_abandoned : List Frame → Frame → Bool

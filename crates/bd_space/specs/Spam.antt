@@ -1,9 +1,6 @@
 -- Reports of one-way flooding.
 use Rattle.std.specs.Prelude.{ℕ, ◌*◌, ◌==◌, nat_lt, Bool, ◌&&◌, List, filter, sum_by}
-use Rattle.bd_space.specs.Words.{Process, Buffer, Actor, StepAnswer, changed, Space}
-use Rattle.bd_space.specs.Windows.{buffers_of}
-use Rattle.bd_space.specs.Delivery.{Delivery}
-use Rattle.bd_space.specs.Outcomes.{Outcome}
+use Rattle.bd_space.specs.{Words.{Process, Buffer, Actor, StepAnswer, changed, Space}, Windows.buffers_of, Delivery.Delivery, Outcomes.Outcome}
 
 -- ---- who is told
 

@@ -1,14 +1,8 @@
 -- Every step of a space.
 use Rattle.std.specs.Prelude.{ℕ, suc, ◌%◌, ◌==◌, nat_le, Bool, true, false, not, ◌&&◌, ◌||◌, [], ◌∷◌, ◌++◌, Option, Some, None, is_some}
 use Rattle.bd_space.specs.Words.{Fault, ObjectId, Step, StepAnswer, Process, Manager, when, first_of, Space, Actor}
-use Rattle.bd_space.specs.Seats.{actor, thread_in, process_with_pid}
-use Rattle.bd_space.specs.References.{reference_of, own_in}
-use Rattle.bd_space.specs.Spam.{spam_step}
-use Rattle.bd_space.specs.Commands.{command_step}
-use Rattle.bd_space.specs.Reading.{read_step}
-use Rattle.bd_space.specs.ThreadExits.{exit_thread_step}
-use Rattle.bd_space.specs.ProcessExits.{exit_process_step}
-use Rattle.bd_space.specs.Outcomes.{Outcome, refused}
+use Rattle.bd_space.specs.{Seats.{actor, thread_in, process_with_pid}, References.{reference_of, own_in}, Spam.spam_step, Commands.command_step}
+use Rattle.bd_space.specs.{Reading.read_step, ThreadExits.exit_thread_step, ProcessExits.exit_process_step, Outcomes.{Outcome, refused}}
 
 -- ---- opening
 

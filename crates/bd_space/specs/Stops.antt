@@ -1,9 +1,7 @@
 -- A write that memory or the full history stops after some of its commands.
 use Rattle.std.specs.Prelude.{ℕ, zero, suc, ◌≡◌, ◌<◌, true, List, [], ◌∷◌, ◌++◌, length, take, Option, Some, None}
 use Rattle.bd_space.specs.Words.{Command, Fault, Step, Entry, Answer, Space}
-use Rattle.bd_space.specs.Histories.{History, history_of, space_after, HasPlace, is_at_limit}
-use Rattle.bd_space.specs.Streams.{commands_of, step_of_command}
-use Rattle.bd_space.specs.Writes.{written, Run, run_of_written, write}
+use Rattle.bd_space.specs.{Histories.{History, history_of, space_after, HasPlace, is_at_limit}, Streams.{commands_of, step_of_command}, Writes.{written, Run, run_of_written, write}}
 
 -- the run of the first n of its commands, with this fault as the stop
 unfoldable pub write_first : Space → ℕ → List ℕ → List ℕ → ℕ → Fault → Run

@@ -1,11 +1,7 @@
 -- The step that ends a thread.
 use Rattle.std.specs.Prelude.{ℕ, ◌==◌, Bool, not, ◌&&◌, List, map, Option, Some, None, filter, if◌then◌else◌}
 use Rattle.bd_space.specs.Words.{list_any, StepAnswer, Reference, Frame, Work, Server, Pending, Serving, Gone, TodoList, OfThread, is_some_and, Space, Actor}
-use Rattle.bd_space.specs.References.{buffer_of_holder}
-use Rattle.bd_space.specs.Todo.{is_on, is_call, hands_out}
-use Rattle.bd_space.specs.Notices.{follow}
-use Rattle.bd_space.specs.Settle.{settle}
-use Rattle.bd_space.specs.Outcomes.{Outcome}
+use Rattle.bd_space.specs.{References.buffer_of_holder, Todo.{is_on, is_call, hands_out}, Notices.follow, Settle.settle, Outcomes.Outcome}
 
 -- ---- frames
 

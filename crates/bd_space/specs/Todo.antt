@@ -1,7 +1,6 @@
 -- Work items: what is still to be read, and by whom.
 use Rattle.std.specs.Prelude.{ℕ, ◌==◌, Bool, true, false, not, ◌&&◌, List, [], ◌∷◌, ◌++◌, Option, Some, None, filter, count_by, is_none, if◌then◌else◌}
-use Rattle.bd_space.specs.Words.{list_any, ObjectId, Thread, Frame, Work, TodoList, OfThread, OfProcess, WorkKind, same, same_identity, Space}
-use Rattle.bd_space.specs.Frames.{innermost_in}
+use Rattle.bd_space.specs.{Words.{list_any, ObjectId, Thread, Frame, Work, TodoList, OfThread, OfProcess, WorkKind, same, same_identity, Space}, Frames.innermost_in}
 
 -- one work item more: its identity is the step's place and the count of items that the step has made before it
 abbrev pub with_work : ℕ → List Work → TodoList → WorkKind → List Work

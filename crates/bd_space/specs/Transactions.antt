@@ -1,16 +1,8 @@
 -- The step of BC_TRANSACTION.
 use Rattle.std.specs.Prelude.{ℕ, ◌%◌, ◌^◌, ◌==◌, Bool, true, false, ◌&&◌, [], ◌∷◌, ◌++◌, Option, Some, None, Result, Ok, Err, is_some, is_none, option_map, option_and_then, if◌then◌else◌}
 use Rattle.bd_space.specs.Words.{TransactionData, Return, Cause, ObjectId, Parcel, Process, Callee, Pending, OfThread, WorkKind, when, first_of, found_or, unless, and_then, Space, Actor}
-use Rattle.bd_space.specs.Seats.{process_in}
-use Rattle.bd_space.specs.References.{object_in, owned_in}
-use Rattle.bd_space.specs.Names.{strongly_named}
-use Rattle.bd_space.specs.Windows.{needed, buffers_of, start_for}
-use Rattle.bd_space.specs.Frames.{innermost, served_innermost, goes_to, made_of}
-use Rattle.bd_space.specs.Todo.{owe, has_unread}
-use Rattle.bd_space.specs.Parcels.{Sending, sending_of}
-use Rattle.bd_space.specs.Delivery.{Delivery, delivered}
-use Rattle.bd_space.specs.Spam.{is_spam}
-use Rattle.bd_space.specs.Outcomes.{Outcome, accepted, stopped}
+use Rattle.bd_space.specs.{Seats.process_in, References.{object_in, owned_in}, Names.strongly_named, Windows.{needed, buffers_of, start_for}, Frames.{innermost, served_innermost, goes_to, made_of}}
+use Rattle.bd_space.specs.{Todo.{owe, has_unread}, Parcels.{Sending, sending_of}, Delivery.{Delivery, delivered}, Spam.is_spam, Outcomes.{Outcome, accepted, stopped}}
 
 abbrev pub is_one_way : TransactionData → Bool
 is_one_way d = d.flags.0 % 2 == 1

@@ -1,7 +1,6 @@
 -- Translation: the objects of a parcel as its receiver is to see them.
 use Rattle.std.specs.Prelude.{ℕ, ◌==◌, ◌&&◌, List, Some, None, find, fold, unwrap_or, if◌then◌else◌}
-use Rattle.bd_space.specs.Words.{FlatObject, Binder, WeakBinder, Handle, WeakHandle, is_strong_kind, object_bytes, Object, Name, same, overwritten, Space, Item}
-use Rattle.bd_space.specs.Names.{number_in}
+use Rattle.bd_space.specs.{Words.{FlatObject, Binder, WeakBinder, Handle, WeakHandle, is_strong_kind, object_bytes, Object, Name, same, overwritten, Space, Item}, Names.number_in}
 
 -- the receiver's own object, and anybody else's
 abbrev pub as_own : FlatObject → Object → FlatObject

@@ -1,7 +1,6 @@
 -- One-way calls: of one object's, one is due or handed out at a time, in the order in which they were made.
 use Rattle.std.specs.Prelude.{ℕ, Bool, not, ◌&&◌, List, [], ◌∷◌, ◌++◌, Option, None, option_map, if◌then◌else◌}
-use Rattle.bd_space.specs.Words.{list_any, filter_map, Buffer, Turn, Work, OfProcess, WorkKind, same, Space}
-use Rattle.bd_space.specs.Todo.{with_work, is_call}
+use Rattle.bd_space.specs.{Words.{list_any, filter_map, Buffer, Turn, Work, OfProcess, WorkKind, same, Space}, Todo.{with_work, is_call}}
 
 -- the one-way calls whose buffers live, oldest first
 abbrev pub turn_of : Buffer → Option Turn

@@ -1,8 +1,6 @@
 -- The run of a write: each command one step, up to one that is refused.
 use Rattle.std.specs.Prelude.{ℕ, suc, ◌+◌, nat_lt, List, [], ◌∷◌, ◌++◌, length, Option, Some, option_map, if◌then◌else◌}
-use Rattle.bd_space.specs.Words.{Command, Note, Fault, StepAnswer, Entry, Stop, Answer, Space}
-use Rattle.bd_space.specs.Steps.{step}
-use Rattle.bd_space.specs.Streams.{commands_of, step_of_command}
+use Rattle.bd_space.specs.{Words.{Command, Note, Fault, StepAnswer, Entry, Stop, Answer, Space}, Steps.step, Streams.{commands_of, step_of_command}}
 
 -- what a write has done: its entries, the bytes of its commands, the notes, and why it stopped
 pub record Written : Type 0 where

@@ -13,7 +13,7 @@ use Rattle.bd_space.specs.declared.space.Holder.{Holder}
 use Rattle.bd_space.specs.declared.space.Holder.TheVariants.{Asked, Carried, Target, Handshake, Manager}
 use Rattle.bd_space.specs.Words.{same}
 use Rattle.bd_space.specs.Space.{Space}
-use Rattle.bd_space.specs.References.{is_of_buffer, names_for}
+use Rattle.bd_space.specs.References.{is_of_buffer, gives_name_to}
 use Rattle.bd_space.specs.Returns.{buffer_in}
 use Rattle.bd_space.specs.Freeing.{without_buffer, is_made_at, is_buffer_at, buffer_at_pointer}
 use Rattle.bd_space.specs.Turns.{turn_of}
@@ -89,7 +89,7 @@ more-elsewhere a c b e z names objects h = record {
 }
 
 -- who has a name by the reference of a buffer receives it
-window-name : (q made : ℕ) (h : Holder) → is_of_buffer made h ≡ true → names_for q h ≡ true → h ≡ Carried made q
+window-name : (q made : ℕ) (h : Holder) → is_of_buffer made h ≡ true → gives_name_to q h ≡ true → h ≡ Carried made q
 window-name q made (Carried b p) e f = ap (λ n. Carried n p) (eqb-true b made e) ∙ ap (Carried made) (eqb-true p q f)
 window-name q made (Target b p) e f = absurd (cc)
 window-name q made (Asked p) e f = absurd (cc)
@@ -105,8 +105,8 @@ module _ (s : Space) (p made : ℕ) (os : List ObjectId) (k : IsFreeing p made o
 
   referred-name : (q : ℕ) (o : ObjectId) → names_of_references (references_of_buffer s made) q o ≡ true → names_among p os q o ≡ true
   referred-name q o e =
-      let r = any-found (λ (r : Reference). same r.object o && names_for q r.holder) (references_of_buffer s made) e in
-      let t = both (same r.0.object o) (names_for q r.0.holder) r.2 in
+      let r = any-found (λ (r : Reference). same r.object o && gives_name_to q r.holder) (references_of_buffer s made) e in
+      let t = both (same r.0.object o) (gives_name_to q r.0.holder) r.2 in
       let i = in-filter (λ (r : Reference). is_of_buffer made r.holder) r.0 s.references r.1 in
       let carried = window-name q made r.0.holder i.1 t.1 in
       let its = k.tidy.in_windows r.0 k.buffer q i.0 k.here (carried ∙ ap (λ n. Carried n q) (sym k.made_there)) in

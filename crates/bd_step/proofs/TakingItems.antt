@@ -14,7 +14,7 @@ use Rattle.bd_space.specs.Words.{first_of, when}
 use Rattle.bd_space.specs.Outcomes.{Outcome, refused}
 use Rattle.bd_space.specs.ReadItems.{taken, ends_read}
 use Rattle.bd_space.specs.Returns.{bytes_read, stream_of}
-use Rattle.bd_space.specs.Reading.{is_empty, read_fault, read_taking}
+use Rattle.bd_space.specs.Reading.{none_due, read_fault, read_taking}
 use Rattle.bd_step.proofs.Folds.{past}
 
 -- ---- tests
@@ -27,7 +27,7 @@ lt_false m n h = search (rules, tests)
 
 -- ---- an empty list
 
-pub filled : (ws : List Work) (w : Work) → slice_get ws 0 ≡ Some w → is_empty ws ≡ false
+pub filled : (ws : List Work) (w : Work) → slice_get ws 0 ≡ Some w → none_due ws ≡ false
 filled [] w e = absurd (none-some w e)
 filled (x ∷ xs) w e = refl
 
@@ -90,15 +90,15 @@ module _ (s : Space) (limit : ℕ) (list : List Work) where
 -- ---- the step by its cases
 
 pub too-small : (limit : ℕ) (ws : List Work) → limit < 72 → read_fault limit ws ≡ Some ReadTooSmall
-too-small limit ws h = ap (λ b. first_of (when b ReadTooSmall ∷ when (is_empty ws) Again ∷ [])) (lt_true limit 72 h)
+too-small limit ws h = ap (λ b. first_of (when b ReadTooSmall ∷ when (none_due ws) Again ∷ [])) (lt_true limit 72 h)
 
-pub nothing : (limit : ℕ) (ws : List Work) → 72 ≤ limit → is_empty ws ≡ true → read_fault limit ws ≡ Some Again
+pub nothing : (limit : ℕ) (ws : List Work) → 72 ≤ limit → none_due ws ≡ true → read_fault limit ws ≡ Some Again
 nothing limit ws h e =
-    ap (λ b. first_of (when b ReadTooSmall ∷ when (is_empty ws) Again ∷ [])) (lt_false limit 72 h) ∙ ap (λ b. first_of (when b Again ∷ [])) e
+    ap (λ b. first_of (when b ReadTooSmall ∷ when (none_due ws) Again ∷ [])) (lt_false limit 72 h) ∙ ap (λ b. first_of (when b Again ∷ [])) e
 
-pub readable : (limit : ℕ) (ws : List Work) → 72 ≤ limit → is_empty ws ≡ false → read_fault limit ws ≡ None
+pub readable : (limit : ℕ) (ws : List Work) → 72 ≤ limit → none_due ws ≡ false → read_fault limit ws ≡ None
 readable limit ws h e =
-    ap (λ b. first_of (when b ReadTooSmall ∷ when (is_empty ws) Again ∷ [])) (lt_false limit 72 h) ∙ ap (λ b. first_of (when b Again ∷ [])) e
+    ap (λ b. first_of (when b ReadTooSmall ∷ when (none_due ws) Again ∷ [])) (lt_false limit 72 h) ∙ ap (λ b. first_of (when b Again ∷ [])) e
 
 abbrev pub read_outcome : Space → ℕ → ℕ → List Work → Option Fault → Outcome
 read_outcome s seat limit ws fault = elim fault [ Some x ↦ refused s x | None ↦ read_taking s seat (taken s (limit - 4) ws) ]

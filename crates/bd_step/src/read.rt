@@ -156,7 +156,7 @@ impl Tables {
             (λ list. (s : Space) → Before self.now s
             → todo.list_to_read s thread.now ≡ todo.work_on s.todo (Some list)) }
         ensures filled { IfSome result
-            (λ list. (s : Space) → Before self.now s → spec.is_empty (todo.list_to_read s thread.now) ≡ false) }
+            (λ list. (s : Space) → Before self.now s → spec.none_due (todo.list_to_read s thread.now) ≡ false) }
         ensures none { result ≡ None → (s : Space) → Before self.now s → todo.list_to_read s thread.now ≡ [] }
     {
         match self.calls.reads(thread) {

@@ -3,7 +3,7 @@ use Rattle.std.specs.Prelude.{ℕ, zero, suc, ◌==◌, Bool, false, not, ◌&&�
 use Rattle.bd_ways.specs.Words.{list_any, ObjectId, Work, DeathNotification, OfProcess, WorkKind, Return, same, is_some_and, Space, Reference, Item, Turn}
 use Rattle.bd_space.specs.Frames.{is_frame, closed}
 use Rattle.bd_space.specs.Settle.{is_abandoned}
-use Rattle.bd_space.specs.References.{stays_in, names_for}
+use Rattle.bd_space.specs.References.{stays_in, gives_name_to}
 use Rattle.bd_space.specs.Names.{is_named_in}
 use Rattle.bd_space.specs.Todo.{with_work, is_call, tell_caller}
 use Rattle.bd_space.specs.Turns.{turns_of}
@@ -73,7 +73,7 @@ names_among p os q i = list_any (λ o. at_name p o q i) os
 
 -- all that these references refer to, and its names
 abbrev pub names_of_references : List Reference → NameTest
-names_of_references rs p o = list_any (λ r. same r.object o && names_for p r.holder) rs
+names_of_references rs p o = list_any (λ r. same r.object o && gives_name_to p r.holder) rs
 
 abbrev pub objects_of_references : List Reference → ObjectTest
 objects_of_references rs o = list_any (λ r. same r.object o) rs

@@ -1,7 +1,7 @@
 -- For ItemsAreToldApart, which SpacesAreTidy has as a part: each step keeps the identities of work items apart.
 use Rattle.bd_laws.proofs.words.Logic.{◌≡◌, ℕ, ◌==◌, Bool, true, false, cond, not, ◌&&◌, ◌||◌, List, [], ◌∷◌, refl, ap, sym, subst, ◌∙◌, filter, arith, eqb-true, eq-eqb, list_any}
 use Rattle.bd_laws.proofs.words.Types.{WorkKind, Phase, Entry, Reference, Holder, Carried, Thread, Name, Work, DeathNotification, OfThread, OfProcess, Queued}
-use Rattle.bd_laws.proofs.words.Space.{changed, seats_in, lists_in, lost_with_process, is_some_and, Space, opening, owned_in, objects_go, names_for, buffer_of_holder, named, is_named_in, names_go, owe, is_on, hands_out, is_name_of, deaths_go, with_phase, is_notification, is_lost_with, is_lost_reference, threads_go, without_process, tell_death, tell_deaths, seat_of, is_armed, change, counted, next}
+use Rattle.bd_laws.proofs.words.Space.{changed, seats_in, lists_in, lost_with_process, is_some_and, Space, opening, owned_in, objects_go, gives_name_to, buffer_of_holder, named, is_named_in, names_go, owe, is_on, hands_out, is_name_of, deaths_go, with_phase, is_notification, is_lost_with, is_lost_reference, threads_go, without_process, tell_death, tell_deaths, seat_of, is_armed, change, counted, next}
 use Rattle.bd_space.specs.declared.space.WorkKind.TheVariants as work
 use Rattle.bd_laws.proofs.words.Laws.{In, AtHome, Told, IsQuiet}
 use Rattle.bd_laws.proofs.Lists.{in-filter, filter-in, in-map, any-found, any-in, fold-keeps}
@@ -37,7 +37,7 @@ module _ (s : Space) (p : ℕ) (h : Told s) (quiet : IsQuiet s) (home : AtHome s
   left = threads-left s p
 
   -- while p's threads go, other processes keep their references
-  not-lost : (r : Reference) (q : ℕ) → (q ≡ p → ⊥) → In r s.references → names_for q r.holder ≡ true → (seat : ℕ) → In seat (seats_in s p) → is_lost_reference s.todo (OfThread seat) r ≡ true → ⊥
+  not-lost : (r : Reference) (q : ℕ) → (q ≡ p → ⊥) → In r s.references → gives_name_to q r.holder ≡ true → (seat : ℕ) → In seat (seats_in s p) → is_lost_reference s.todo (OfThread seat) r ≡ true → ⊥
   not-lost r q other l named seat at lost = holds r.holder refl named lost
     where
       carries : (b : ℕ) → r.holder ≡ Carried b q → is_lost_with s.todo (OfThread seat) b ≡ true → ⊥
@@ -50,12 +50,12 @@ module _ (s : Space) (p : ℕ) (h : Told s) (quiet : IsQuiet s) (home : AtHome s
           let same_thread = one-thread s home t.0 i.0 u.0 i.1 (t.2 ∙ sym i.2) in
           other (sym (i.3 r q l is) ∙ ap (λ (y : Thread). y.process) (sym same_thread) ∙ eqb-true t.0.process p u.1)
 
-      holds : (o : Holder) → r.holder ≡ o → names_for q o ≡ true → is_some_and (buffer_of_holder o) (is_lost_with s.todo (OfThread seat)) ≡ true → ⊥
+      holds : (o : Holder) → r.holder ≡ o → gives_name_to q o ≡ true → is_some_and (buffer_of_holder o) (is_lost_with s.todo (OfThread seat)) ≡ true → ⊥
       holds (Carried b c) is e k = carries b (is ∙ ap (Carried b) (eqb-true c q e)) k
       holds _ is e k = search arith
 
   -- a reference of another process stays
-  pub rest-references : (r : Reference) (q : ℕ) → (q ≡ p → ⊥) → names_for q r.holder ≡ true → In r s.references → In r rest.references
+  pub rest-references : (r : Reference) (q : ℕ) → (q ≡ p → ⊥) → gives_name_to q r.holder ≡ true → In r s.references → In r rest.references
   unfolding without_process
   rest-references r q other named l = search (arith, any-found, not-lost, filter-in, left, not-eq, eqb-true)
 

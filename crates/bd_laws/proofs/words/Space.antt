@@ -32,7 +32,7 @@ pub use Rattle.bd_space.specs.ReadItems.{ends_read, hand_out, handed_buffers, ha
 unfoldable pub use Rattle.bd_space.specs.Reading.{read_step, read_taking}
 pub use Rattle.bd_space.specs.Reading.{got, read_fault}
 unfoldable pub use Rattle.bd_space.specs.References.{objects_go}
-pub use Rattle.bd_space.specs.References.{buffer_of_holder, held_in, is_asked_by, is_asking, is_handshake, is_in_window, is_of_buffer, is_of_owner, is_shaking, names_for, object_in, own_in, owned_in, reference_of, same_strength, stays_in, strong_in}
+pub use Rattle.bd_space.specs.References.{buffer_of_holder, held_in, is_asked_by, is_asking, is_handshake, is_in_window, is_of_buffer, is_of_owner, is_shaking, gives_name_to, object_in, own_in, owned_in, reference_of, same_strength, stays_in, strong_in}
 unfoldable pub use Rattle.bd_space.specs.Replies.{caller_of, replied, reply_check, reply_refused, reply_step}
 pub use Rattle.bd_space.specs.Replies.{reply_outcome, reply_placed, reply_sent_to, reply_to}
 unfoldable pub use Rattle.bd_space.specs.Returns.{data_of, returns_of, stream_of}

@@ -1,7 +1,7 @@
 use Rattle.std.proofs.Common.{◌∙◌, [], ◌∷◌, ◌++◌, sym, ap, subst}
 use Rattle.bd_space.specs.declared.space.Holder.TheVariants.{Asked}
 use Rattle.bd_space.specs.References.{reference_of}
-use Rattle.bd_space.specs.Names.{is_object, assign_numbers, names_go}
+use Rattle.bd_space.specs.Names.{is_managers, assign_numbers, names_go}
 use Rattle.bd_space.specs.Asking.{ask}
 use Rattle.bd_references.specs.Stands.{ReferencesAre}
 use Rattle.bd_names.specs.Stands.{NamesAre}
@@ -36,7 +36,7 @@ returns-in_err-give_asked_name-clause-full c = on-err c.from_residual.result (λ
     let o = c.args.o in
     let refs = s.references ++ reference_of s.steps 0 o c.args.strong (Asked p) ∷ [] in
     let referred = referred-asked s.steps p o c.args.strong s.references in
-    let full = subst (λ m. IsFull (is_object m o) p s.names o) (sym at.1) (c.in_err-give_asked_name.ensures.full s.names h.names_are) in
+    let full = subst (λ m. IsFull (is_managers m o) p s.names o) (sym at.1) (c.in_err-give_asked_name.ensures.full s.names h.names_are) in
     subst (λ ns. IsPastLimit s.objects refs ns) (same-name s.manager s.objects p refs s.names o referred)
     (past-one s.manager s.objects p refs s.names o (c.in_err-give_asked_name.ensures.other s.objects h.objects_are) referred full))
 

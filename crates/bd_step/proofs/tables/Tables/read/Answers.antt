@@ -2,7 +2,7 @@ use Rattle.std.proofs.Common.{◌-◌, ◌∙◌, List, sym, ap, subst}
 use Rattle.bd_uapi.specs.declared.fault.Fault.TheVariants.{ReadTooSmall, Again}
 use Rattle.bd_space.specs.declared.space.Work.{Work}
 use Rattle.bd_space.specs.Todo.{list_to_read}
-use Rattle.bd_space.specs.Reading.{read_step, read_taking, is_empty}
+use Rattle.bd_space.specs.Reading.{read_step, read_taking, none_due}
 use Rattle.bd_space.specs.ReadItems.{taken}
 use Rattle.bd_step.specs.Taking.{IsReading}
 use Rattle.bd_step.proofs.Meeting.{IsOutcome, answer-is, meets, in-case, is-refused}
@@ -26,7 +26,7 @@ returns-in_default c = record {
   ok = answer-is _ _ _ _ _ _ c.twice-in_default.ensures.answer (meets _ _ _ _ _ (λ s h by.
       let ws = list_to_read s c.args.a.thread in
       in-case _ _ (read_outcome s c.args.a.thread.seat c.args.limit ws) _ _
-      (nothing c.args.limit ws c.if-limit-lt72.false (ap is_empty (c.list_to_read.ensures.none c.in_default.is s h))) (is-refused _ s Again h)));
+      (nothing c.args.limit ws c.if-limit-lt72.false (ap none_due (c.list_to_read.ensures.none c.in_default.is s h))) (is-refused _ s Again h)));
   twice = λ asked. c.twice-in_default.ensures.again ∙ sym c.twice-in_default.ensures.answer;
   err = tt;
   full = tt;
