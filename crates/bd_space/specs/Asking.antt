@@ -9,17 +9,14 @@ use Rattle.bd_space.specs.{References.{reference_of, strong_in, owned_in, is_ask
 abbrev pub asked_of : Space → ℕ → ℕ → Option ObjectId
 asked_of s p n = if n == 0 then first_of (s.manager ∷ named s p 0 ∷ []) else named s p n
 
--- a strong reference is to be had only while somebody has one; nobody asks for his own
-abbrev pub ask_note : Space → ℕ → Bool → ObjectId → Option Note
-ask_note s p strong o =
-    first_of (
+-- the object that is asked for, or the first note against it: a strong reference is to be had only while somebody has one, and
+-- nobody asks for his own
+unfoldable pub ask_check : Space → ℕ → ℕ → Bool → Result ObjectId Note
+ask_check s p n strong =
+    and_then (found_or (asked_of s p n) Note.NoSuchNumber) (λ o. unless (first_of (
     when (strong && not (strong_in s.references o)) Note.NotStrong
     ∷ when (owned_in s.objects p o) Note.OwnManager
-    ∷ [])
-
--- the object that is asked for, or the first note against it
-unfoldable pub ask_check : Space → ℕ → ℕ → Bool → Result ObjectId Note
-ask_check s p n strong = and_then (found_or (asked_of s p n) Note.NoSuchNumber) (λ o. unless (ask_note s p strong o) o)
+    ∷ [])) o)
 
 -- the reference comes in, and the name with it
 unfoldable pub ask : Space → ℕ → ObjectId → Bool → Space
@@ -30,11 +27,10 @@ ask_step s p n strong = by_check s (λ o. ask s p o strong) (ask_check s p n str
 
 -- ---- dropping
 
-abbrev pub drop_note : Space → ℕ → Bool → ObjectId → Option Note
-drop_note s p strong o = when (not (list_any (is_asking p o strong) s.references)) Note.NothingAsked
-
 unfoldable pub drop_check : Space → ℕ → ℕ → Bool → Result ObjectId Note
-drop_check s p n strong = and_then (found_or (named s p n) Note.NoSuchNumber) (λ o. unless (drop_note s p strong o) o)
+drop_check s p n strong =
+    and_then (found_or (named s p n) Note.NoSuchNumber)
+    (λ o. unless (when (not (list_any (is_asking p o strong) s.references)) Note.NothingAsked) o)
 
 -- the least reference of that strength that the process asked for goes
 unfoldable pub drop_asked : Space → ℕ → ObjectId → Bool → Space
@@ -48,12 +44,10 @@ drop_step s p n strong = by_check s (λ o. drop_asked s p o strong) (drop_check 
 abbrev pub is_own_with : ℕ → ℕ → ℕ → Object → Bool
 is_own_with p ptr cookie x = (x.owner == p) && (x.ptr == ptr) && (x.cookie == cookie)
 
-abbrev pub done_note : Space → Bool → Object → Option Note
-done_note s strong x = when (not (list_any (is_shaking x.id strong) s.references)) Note.NoHandshake
-
 unfoldable pub done_check : Space → ℕ → ℕ → ℕ → Bool → Result Object Note
 done_check s p ptr cookie strong =
-    and_then (found_or (find (is_own_with p ptr cookie) s.objects) Note.NoSuchObject) (λ x. unless (done_note s strong x) x)
+    and_then (found_or (find (is_own_with p ptr cookie) s.objects) Note.NoSuchObject)
+    (λ x. unless (when (not (list_any (is_shaking x.id strong) s.references)) Note.NoHandshake) x)
 
 -- the reference that stood for the acknowledgement goes
 unfoldable pub acknowledge : Space → ObjectId → Bool → Space

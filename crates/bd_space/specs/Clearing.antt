@@ -1,24 +1,20 @@
 -- The steps of BC_CLEAR_DEATH_NOTIFICATION and BC_DEAD_BINDER_DONE.
 use Rattle.std.specs.Prelude.{ℕ, ◌==◌, Bool, true, false, not, ◌&&◌, Option, Some, None, Result, find, if◌then◌else◌}
-use Rattle.bd_space.specs.Words.{Note, DeathNotification, Phase, Armed, Queued, Told, Done, OfThread, WorkKind, found_or, unless, when, and_then, changed, Space}
+use Rattle.bd_space.specs.Words.{Note, DeathNotification, Phase, Queued, Told, Done, OfThread, WorkKind, found_or, unless, when, and_then, changed, Space}
 use Rattle.bd_space.specs.{Names.named, Todo.owe, Outcomes.{Outcome, accepted, noted, by_check}, Deaths.{uncleared_in, is_notification, without_death, with_phase}}
 
 -- ---- clearing
 
-abbrev pub clear_note : ℕ → DeathNotification → Option Note
-clear_note cookie x = when (not (x.cookie == cookie)) Note.NoneAsked
-
-abbrev pub cleared_by : ℕ → Option DeathNotification → Result DeathNotification Note
-cleared_by cookie x = and_then (found_or x Note.NoneAsked) (λ y. unless (clear_note cookie y) y)
-
+-- the notification that stands on the name, which has to have this cookie
 unfoldable pub clear_check : Space → ℕ → ℕ → ℕ → Result DeathNotification Note
-clear_check s p n cookie = and_then (found_or (named s p n) Note.NoSuchNumber) (λ o. cleared_by cookie (uncleared_in s.deaths p o))
+clear_check s p n cookie =
+    and_then (found_or (named s p n) Note.NoSuchNumber)
+    (λ o. and_then (found_or (uncleared_in s.deaths p o) Note.NoneAsked) (λ x. unless (when (not (x.cookie == cookie)) Note.NoneAsked) x))
 
 abbrev pub is_out : Phase → Bool
-is_out Armed = false
 is_out Queued = true
 is_out Told = true
-is_out Done = false
+is_out _ = false
 
 -- queued or told it is marked, and no longer belongs to the name
 unfoldable pub mark_cleared : Space → ℕ → Space

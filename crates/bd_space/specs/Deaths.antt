@@ -21,11 +21,10 @@ with_phase s made phase = record s { deaths = changed (is_notification made) (λ
 
 -- ---- the step
 
-abbrev pub request_note : Space → ℕ → ObjectId → Option Note
-request_note s p o = when (is_some (uncleared_in s.deaths p o)) Note.AlreadyAsked
-
 unfoldable pub request_check : Space → ℕ → ℕ → Result ObjectId Note
-request_check s p n = and_then (found_or (named s p n) Note.NoSuchNumber) (λ o. unless (request_note s p o) o)
+request_check s p n =
+    and_then (found_or (named s p n) Note.NoSuchNumber)
+    (λ o. unless (when (is_some (uncleared_in s.deaths p o)) Note.AlreadyAsked) o)
 
 unfoldable pub with_death : Space → ℕ → ObjectId → ℕ → Phase → Space
 with_death s p o cookie phase =

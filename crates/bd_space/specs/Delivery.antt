@@ -1,7 +1,7 @@
 -- What a transaction and a reply have in common: what they deliver.
-use Rattle.std.specs.Prelude.{ℕ, ◌+◌, Bool, true, false, not, ◌&&◌, List, [], ◌∷◌, ◌++◌, map, Option, Some, None, filter, fold, if◌then◌else◌}
-use Rattle.bd_space.specs.Words.{TransactionData, ObjectId, Process, Object, Reference, Buffer, Work, Carried, Target, OfThread, is_some_and, Space, Actor, Item, is_own, is_strong_kind}
-use Rattle.bd_space.specs.{References.{reference_of, object_in}, Names.assign_numbers, Windows.needed, Todo.is_notice, Notices.with_notice, Parcels.{Sending, object_of_item}, Translation.translation}
+use Rattle.std.specs.Prelude.{ℕ, ◌+◌, Bool, true, false, not, ◌&&◌, List, [], ◌∷◌, ◌++◌, map, Option, Some, None, Result, Ok, filter, fold, if◌then◌else◌}
+use Rattle.bd_space.specs.Words.{TransactionData, Cause, and_then, ObjectId, Process, Object, Reference, Buffer, Work, Carried, Target, OfThread, is_some_and, Space, Actor, Item, is_own, is_strong_kind}
+use Rattle.bd_space.specs.{References.{reference_of, object_in}, Names.assign_numbers, Windows.{needed, buffers_of, start_for}, Todo.is_notice, Notices.with_notice, Parcels.{Sending, object_of_item}, Translation.translation}
 
 -- what is delivered: to which process, on which object, whether one-way, what, and where in the receiver's window
 pub record Delivery : Type 0 where
@@ -10,6 +10,12 @@ pub record Delivery : Type 0 where
   pub one_way : Bool
   pub sending : Sending
   pub start : ℕ
+
+-- what is delivered to this process, on this object, where its window has a place
+abbrev pub placed_for : Space → TransactionData → Process → Option ObjectId → Bool → Sending → Result Delivery Cause
+placed_for s d receiver target one_way x =
+    and_then (start_for receiver.window (buffers_of s.buffers receiver.made) one_way (needed d.data_size d.offsets_size))
+    (λ start. Ok (record { receiver = receiver; target = target; one_way = one_way; sending = x; start = start }))
 
 -- the sender's new objects come in
 unfoldable pub make_objects : Space → List Object → Space

@@ -21,11 +21,9 @@ number_in names p o = option_map (λ m. m.number) (find (λ m. (m.process == p) 
 unfoldable pub named : Space → ℕ → ℕ → Option ObjectId
 named s p n = named_in s.names p n
 
-abbrev pub if_strongly_named : List Object → List Reference → ℕ → ObjectId → Option ObjectId
-if_strongly_named objects references p o = if is_strongly_named_in objects references p o then Some o else None
-
 unfoldable pub strongly_named : Space → ℕ → ℕ → Option ObjectId
-strongly_named s p n = option_and_then (if_strongly_named s.objects s.references p) (named_in s.names p n)
+strongly_named s p n =
+    option_and_then (λ o. if is_strongly_named_in s.objects s.references p o then Some o else None) (named_in s.names p n)
 
 -- the object is the context manager's
 abbrev pub is_managers : Option ObjectId → ObjectId → Bool

@@ -3,13 +3,10 @@ use Rattle.std.specs.Prelude.{ℕ, ◌==◌, Bool, true, not, ◌&&◌, ◌||◌
 use Rattle.bd_space.specs.Words.{list_any, beq, ObjectId, Process, Object, Reference, Name, Work, DeathNotification, TodoList, OfProcess, WorkKind, same, is_some_and, Space}
 use Rattle.bd_space.specs.{Seats.lives_in, References.{held_in, strong_in, object_in, objects_go}, Names.names_go, Todo.{with_work, is_notice}}
 
--- what the owner was told isn't what is so
-abbrev pub differs_in : List Reference → Object → Bool
-differs_in references x = not (beq x.told_weak (held_in references x.id)) || not (beq x.told_strong (strong_in references x.id))
-
--- the owner lives and is to be told
+-- the owner lives, and what it was told isn't what is so
 abbrev pub wants_notice : List Process → List Reference → Object → Bool
-wants_notice processes references x = lives_in processes x.owner && differs_in references x
+wants_notice processes references x =
+    lives_in processes x.owner && (not (beq x.told_weak (held_in references x.id)) || not (beq x.told_strong (strong_in references x.id)))
 
 abbrev pub has_notice_in : List Work → ObjectId → Bool
 has_notice_in todo o = list_any (λ w. is_notice o w.kind) todo

@@ -17,8 +17,9 @@ read_fault limit ws = first_of (when (nat_lt limit 72) Fault.ReadTooSmall ∷ wh
 unfoldable pub read_taking : Space → ℕ → List Work → Outcome
 read_taking s seat ws = record { answer = got (stream_of s ws) (buffer_taken s ws); space = follow (read_by s seat ws) }
 
-abbrev pub read_list : Space → ℕ → ℕ → List Work → Outcome
-read_list s seat limit ws = elim (read_fault limit ws) [ Some x ↦ refused s x | None ↦ read_taking s seat (taken s (limit - 4) ws) ]
-
 unfoldable pub read_step : Space → Actor → ℕ → Outcome
-read_step s a limit = read_list s a.thread.seat limit (list_to_read s a.thread)
+read_step s a limit =
+    elim (read_fault limit (list_to_read s a.thread)) [
+      | Some x ↦ refused s x
+      | None ↦ read_taking s a.thread.seat (taken s (limit - 4) (list_to_read s a.thread))
+    ]

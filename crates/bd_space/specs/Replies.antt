@@ -1,23 +1,17 @@
 -- The step of BC_REPLY.
 use Rattle.std.specs.Prelude.{ℕ, false, Option, Some, None, Result, Ok, Err, option_and_then}
 use Rattle.bd_space.specs.Words.{TransactionData, Return, Cause, Parcel, Frame, OfThread, WorkKind, found_or, and_then, Space, Actor}
-use Rattle.bd_space.specs.{Seats.actor, Windows.{needed, buffers_of, start_for}, Frames.{served_innermost, closed}, Todo.{owe, tell_caller}, Parcels.{Sending, sending_of}, Delivery.{Delivery, delivered}, Outcomes.{Outcome, accepted, stopped}}
+use Rattle.bd_space.specs.{Seats.actor, Frames.{served_innermost, closed}, Todo.{owe, tell_caller}, Parcels.sending_of, Delivery.{Delivery, delivered, placed_for}, Outcomes.{Outcome, accepted, stopped}}
 
 -- the live thread that made the call, and its process
 unfoldable pub caller_of : Space → Frame → Option Actor
 caller_of s f = option_and_then (actor s) f.caller
 
-abbrev pub reply_placed : Space → TransactionData → Actor → Sending → Result Delivery Cause
-reply_placed s d c x =
-    and_then (start_for c.process.window (buffers_of s.buffers c.process.made) false (needed d.data_size d.offsets_size))
-    (λ start. Ok (record { receiver = c.process; target = None; one_way = false; sending = x; start = start }))
-
-abbrev pub reply_sent_to : Space → Actor → TransactionData → Option Parcel → Actor → Result Delivery Cause
-reply_sent_to s a d parcel c = and_then (sending_of s a.process.made d parcel) (reply_placed s d c)
-
 -- what is to be delivered to the caller of the frame, or the first cause against it
 unfoldable pub reply_check : Space → Actor → TransactionData → Option Parcel → Frame → Result Delivery Cause
-reply_check s a d parcel f = and_then (found_or (caller_of s f) Cause.CallerGone) (reply_sent_to s a d parcel)
+reply_check s a d parcel f =
+    and_then (found_or (caller_of s f) Cause.CallerGone)
+    (λ c. and_then (sending_of s a.process.made d parcel) (placed_for s d c.process None false))
 
 -- the frame closes, and the caller has a reply to read
 unfoldable pub replied : Space → Actor → TransactionData → Frame → Delivery → Space

@@ -7,13 +7,10 @@ use Rattle.bd_space.specs.{Words.{Step, StepAnswer, Entry, Request, Answer, Spac
 -- the answer of a request that isn't a write
 abbrev pub answered : StepAnswer → Answer
 answered StepAnswer.Opened = Answer.Opened
-answered StepAnswer.Set = Answer.Set
 answered StepAnswer.Exited = Answer.Exited
-answered StepAnswer.Accepted = Answer.Set
-answered (StepAnswer.Noted n) = Answer.Set
-answered (StepAnswer.Stopped x) = Answer.Set
 answered (StepAnswer.Got a b c) = Answer.Got a b c
 answered (StepAnswer.Refused x) = Answer.Refused x
+answered _ = Answer.Set
 
 abbrev pub single : Space → ℕ → Step → Run
 single s seat x =

@@ -1,8 +1,8 @@
 -- The step of BC_TRANSACTION.
 use Rattle.std.specs.Prelude.{ℕ, ◌%◌, ◌^◌, ◌==◌, Bool, true, false, ◌&&◌, [], ◌∷◌, ◌++◌, Option, Some, None, Result, Ok, Err, is_some, is_none, option_map, option_and_then, if◌then◌else◌}
 use Rattle.bd_space.specs.Words.{TransactionData, Return, Cause, ObjectId, Parcel, Process, Callee, Pending, OfThread, WorkKind, when, first_of, found_or, unless, and_then, Space, Actor}
-use Rattle.bd_space.specs.{Seats.process_in, References.{object_in, owned_in}, Names.strongly_named, Windows.{needed, buffers_of, start_for}, Frames.{innermost, served_innermost, goes_to, made_of}}
-use Rattle.bd_space.specs.{Todo.{owe, has_unread}, Parcels.{Sending, sending_of}, Delivery.{Delivery, delivered}, Spam.is_spam, Outcomes.{Outcome, accepted, stopped}}
+use Rattle.bd_space.specs.{Seats.process_in, References.{object_in, owned_in}, Names.strongly_named, Frames.{innermost, served_innermost, goes_to, made_of}}
+use Rattle.bd_space.specs.{Todo.{owe, has_unread}, Parcels.sending_of, Delivery.{Delivery, delivered, placed_for}, Spam.is_spam, Outcomes.{Outcome, accepted, stopped}}
 
 abbrev pub is_one_way : TransactionData → Bool
 is_one_way d = d.flags.0 % 2 == 1
@@ -41,13 +41,8 @@ caller_cause s seat =
 
 -- ---- the whole test: what is to be delivered, or the first cause against it
 
-abbrev pub placed : Space → TransactionData → Callee → Sending → Result Delivery Cause
-placed s d c x =
-    and_then (start_for c.process.window (buffers_of s.buffers c.process.made) (is_one_way d) (needed d.data_size d.offsets_size))
-    (λ start. Ok (record { receiver = c.process; target = Some c.object; one_way = is_one_way d; sending = x; start = start }))
-
 abbrev pub sent_to : Space → Actor → TransactionData → Option Parcel → Callee → Result Delivery Cause
-sent_to s a d parcel c = and_then (sending_of s a.process.made d parcel) (placed s d c)
+sent_to s a d parcel c = and_then (sending_of s a.process.made d parcel) (placed_for s d c.process (Some c.object) (is_one_way d))
 
 unfoldable pub transaction_check : Space → Actor → TransactionData → Option Parcel → Result Delivery Cause
 transaction_check s a d parcel =

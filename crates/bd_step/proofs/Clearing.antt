@@ -1,13 +1,13 @@
 -- A death notification that is to be cleared is there.
-use Rattle.std.proofs.Common.{◌≡◌, ℕ, Ok, subst}
+use Rattle.std.proofs.Common.{◌≡◌, ◌==◌, ℕ, not, Ok, subst}
 use Rattle.bd_space.specs.declared.space.DeathNotification.{DeathNotification}
 use Rattle.bd_space.specs.declared.step.ObjectId.{ObjectId}
 use Rattle.bd_uapi.specs.declared.fault.Note.TheVariants.{NoSuchNumber, NoneAsked}
-use Rattle.bd_space.specs.Words.{found_or, unless}
+use Rattle.bd_space.specs.Words.{found_or, unless, when, and_then}
 use Rattle.bd_space.specs.Space.{Space}
 use Rattle.bd_space.specs.Names.{named}
 use Rattle.bd_space.specs.Deaths.{is_uncleared_on, uncleared_in}
-use Rattle.bd_space.specs.Clearing.{clear_check, clear_note, cleared_by}
+use Rattle.bd_space.specs.Clearing.{clear_check}
 use Rattle.bd_laws.specs.Lists.{In}
 use Rattle.bd_laws.proofs.Lists.{find-in}
 use Rattle.bd_laws.proofs.Tests.{and_then-ok, found-ok, unless-ok}
@@ -15,8 +15,9 @@ use Rattle.bd_laws.proofs.Tests.{and_then-ok, found-ok, unless-ok}
 pub cleared-there : (s : Space) (p n cookie : ℕ) (x : DeathNotification) → clear_check s p n cookie ≡ Ok x → In x s.deaths
 unfolding clear_check
 cleared-there s p n cookie x e =
-    let o = and_then-ok (found_or (named s p n) NoSuchNumber) (λ (o : ObjectId). cleared_by cookie (uncleared_in s.deaths p o)) x e in
-    let y = and_then-ok (found_or (uncleared_in s.deaths p o.0) NoneAsked) (λ (y : DeathNotification). unless (clear_note cookie y) y) x o.2 in
-    let is = (unless-ok (clear_note cookie y.0) y.0 x y.2).1 in
+    let with_cookie = λ (y : DeathNotification). unless (when (not (y.cookie == cookie)) NoneAsked) y in
+    let o = and_then-ok (found_or (named s p n) NoSuchNumber) (λ (o : ObjectId). and_then (found_or (uncleared_in s.deaths p o) NoneAsked) with_cookie) x e in
+    let y = and_then-ok (found_or (uncleared_in s.deaths p o.0) NoneAsked) with_cookie x o.2 in
+    let is = (unless-ok (when (not (y.0.cookie == cookie)) NoneAsked) y.0 x y.2).1 in
     let here = (find-in (is_uncleared_on p o.0) y.0 s.deaths (found-ok (uncleared_in s.deaths p o.0) NoneAsked y.0 y.1)).0 in
     subst (λ (z : DeathNotification). In z s.deaths) is here

@@ -16,7 +16,7 @@ use Rattle.bd_space.specs.Space.{Space}
 use Rattle.bd_space.specs.Seats.{thread_in, process_with_pid}
 use Rattle.bd_space.specs.References.{object_in, own_in}
 use Rattle.bd_space.specs.Names.{named}
-use Rattle.bd_space.specs.Deaths.{is_notification, uncleared_in, request_check, request_note}
+use Rattle.bd_space.specs.Deaths.{is_notification, uncleared_in, request_check}
 use Rattle.bd_space.specs.Parcels.{Sending, new_object, resolve, sending_of}
 use Rattle.bd_space.specs.Steps.{is_manager_busy, is_pid, is_window, open_fault}
 use Rattle.bd_laws.specs.Lists.{In}
@@ -106,8 +106,8 @@ unnotified s place at tidy =
 pub new-death : (s : Space) (place p n : ℕ) (o : ObjectId) → s.steps ≡ place → IsTidy s → request_check s p n ≡ Ok o → IsNewDeath place p o s
 unfolding request_check
 new-death s place p n o at tidy check =
-    let c = and_then-ok (found_or (named s p n) NoSuchNumber) (λ (o : ObjectId). unless (request_note s p o) o) o check in
-    let k = unless-ok (request_note s p c.0) c.0 o c.2 in
+    let c = and_then-ok (found_or (named s p n) NoSuchNumber) (λ (o : ObjectId). unless (when (is_some (uncleared_in s.deaths p o)) AlreadyAsked) o) o check in
+    let k = unless-ok (when (is_some (uncleared_in s.deaths p c.0)) AlreadyAsked) c.0 o c.2 in
     record {
       at = at;
       made = unnotified s place at tidy;

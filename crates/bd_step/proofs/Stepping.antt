@@ -24,15 +24,14 @@ use Rattle.bd_space.specs.Frames.{closed, served_innermost}
 use Rattle.bd_space.specs.Parcels.{sending_of}
 use Rattle.bd_space.specs.Windows.{buffers_of}
 use Rattle.bd_space.specs.Spam.{floods, is_spam}
-use Rattle.bd_space.specs.Delivery.{Delivery, delivered, known_by, own_notices, add_buffer, refer, make_objects}
+use Rattle.bd_space.specs.Delivery.{Delivery, placed_for, delivered, known_by, own_notices, add_buffer, refer, make_objects}
 use Rattle.bd_space.specs.Translation.{translation}
 use Rattle.bd_space.specs.Outcomes.{accepted, stopped}
 use Rattle.bd_space.specs.Transactions.{is_one_way, handle_of, not_own, target_of, owner_of, with_owner, callee_of, caller_cause, sent_to, transaction_check, call_out, called, transacted, refusal, transaction_step, transaction_outcome}
-use Rattle.bd_space.specs.Replies.{caller_of, reply_sent_to, reply_check, replied, reply_refused, reply_outcome, reply_to, reply_step}
+use Rattle.bd_space.specs.Replies.{caller_of, reply_check, replied, reply_refused, reply_outcome, reply_to, reply_step}
 use Rattle.bd_calls.specs.Stacked.{IsStacked}
 use Rattle.bd_step.specs.declared.tables.Tables.{Tables}
 use Rattle.bd_step.specs.Stands.{StandsAt, Within}
-use Rattle.bd_step.specs.Deliveries.{placed_for}
 use Rattle.bd_laws.proofs.Checks.{actor-acts}
 use Rattle.bd_step.proofs.Finding.{found-lives}
 
@@ -168,13 +167,16 @@ unfolding caller_of
 caller-is s f o e = ap (λ (x : Option ℕ). option_and_then (actor s) x) (sym e)
 
 module _ (s : Space) (a : Actor) (d : TransactionData) (parcel : Option Parcel) (f : Frame) where
+  abbrev reply_to_caller : Actor → Result Delivery Cause
+  reply_to_caller c = and_then (sending_of s a.process.made d parcel) (placed_for s d c.process None false)
+
   pub caller-gone : None ≡ caller_of s f → Err CallerGone ≡ reply_check s a d parcel f
   unfolding reply_check
-  caller-gone e = ap (λ (o : Option Actor). and_then (found_or o CallerGone) (reply_sent_to s a d parcel)) e
+  caller-gone e = ap (λ (o : Option Actor). and_then (found_or o CallerGone) reply_to_caller) e
 
   pub caller-there : (c : Actor) → Some c ≡ caller_of s f → and_then (sending_of s a.process.made d parcel) (placed_for s d c.process None false) ≡ reply_check s a d parcel f
   unfolding reply_check
-  caller-there c e = ap (λ (o : Option Actor). and_then (found_or o CallerGone) (reply_sent_to s a d parcel)) e
+  caller-there c e = ap (λ (o : Option Actor). and_then (found_or o CallerGone) reply_to_caller) e
 
   pub reply-stops : (x : Cause) → Err x ≡ reply_check s a d parcel f → reply_to s a d parcel (Some f) ≡ stopped x (reply_refused s a.thread.seat f)
   reply-stops x e = ap (reply_outcome s a d f) (sym e)

@@ -1,8 +1,8 @@
 -- What is so of a sending that was read, and of a delivery that its receiver's window can take.
-use Rattle.std.specs.Prelude.{ℕ, ◌≡◌, ◌+◌, ◌*◌, ◌≤◌, Bool, List, Option, Some, Result, Ok, length, All}
-use Rattle.bd_ways.specs.Words.{TransactionData, Cause, ObjectId, Parcel, Process, Object, Item, and_then, Space}
+use Rattle.std.specs.Prelude.{ℕ, ◌≡◌, ◌+◌, ◌*◌, ◌≤◌, List, Some, length, All}
+use Rattle.bd_ways.specs.Words.{TransactionData, Parcel, Object, Item, Space}
 use Rattle.bd_space.specs.Seats.{process_in}
-use Rattle.bd_space.specs.Windows.{needed, buffers_of, start_for}
+use Rattle.bd_space.specs.Windows.{needed}
 use Rattle.bd_space.specs.Parcels.{Sending}
 use Rattle.bd_space.specs.Delivery.{Delivery}
 use Rattle.bd_ways.specs.Tables as tables
@@ -36,12 +36,6 @@ pub record IsDeliverable (t : Tables) (d : TransactionData) (v : Delivery) : Typ
   pub sound : IsSound d v.sending
   pub can_add : CanAdd t.windows v.receiver.made v.one_way (size_of d) v.start
   pub fits : size_of d ≤ 4194304
-
--- what is delivered to this process, on this object, where its window has a place
-abbrev pub placed_for : Space → TransactionData → Process → Option ObjectId → Bool → Sending → Result Delivery Cause
-placed_for s d receiver target one_way x =
-    and_then (start_for receiver.window (buffers_of s.buffers receiver.made) one_way (size_of d))
-    (λ start. Ok (record { receiver = receiver; target = target; one_way = one_way; sending = x; start = start }))
 
 -- memory for all that a delivery and what follows from it take
 pub record IsReady (t : Tables) (v : Delivery) : Type 0 where

@@ -16,7 +16,7 @@ ghost use Rattle.bd_calls.specs.Room as call_rooms;
 ghost use Rattle.bd_buffers.specs.WindowsStand.{CanAdd, buffer_room};
 ghost use Rattle.bd_step.specs.{Stands.{Before, Tells, Makes, Begins, PassesLimit}, Meets.{IsKept}};
 ghost use Rattle.bd_step.specs.Following.{AreTouched};
-ghost use Rattle.bd_step.specs.Deliveries.{IsSound, IsDeliverable, IsReady, SendsNew, Delivers, Spends, OnlyWorks, OnlyObjects, placed_for, sending};
+ghost use Rattle.bd_step.specs.Deliveries.{IsSound, IsDeliverable, IsReady, SendsNew, Delivers, Spends, OnlyWorks, OnlyObjects, sending};
 
 use crate::sending::Sending;
 use crate::tables::Tables;
@@ -115,7 +115,7 @@ impl Tables {
         requires { IsSound d.now sending }
         ensures computed { IfOk result
             (λ r. (s : Space) → Before self.now s → process_in s.processes receiver.made ≡ Some receiver
-            → r ≡ placed_for s d.now receiver target one_way sending.entry) }
+            → r ≡ spec.placed_for s d.now receiver target one_way sending.entry) }
         ensures deliverable { IfOk result (λ r. IfOk r (IsDeliverable self.now d.now)) }
     {
         match self
@@ -151,7 +151,7 @@ impl Tables {
         ensures computed { IfOk result
             (λ r. (s : Space) → Before self.now s → process_in s.processes receiver.made ≡ Some receiver
             → r ≡ words.and_then (parcels.sending_of s a.process.made d.now parcel.now)
-            (placed_for s d.now receiver target one_way)) }
+            (spec.placed_for s d.now receiver target one_way)) }
         ensures deliverable { IfOk result (λ r. IfOk r (IsDeliverable self.now d.now)) }
     {
         match self.sending_of(a.process.made, d, parcel)? {

@@ -5,9 +5,8 @@ use Rattle.bd_space.specs.Words.{and_then}
 use Rattle.bd_space.specs.Space.{Space}
 use Rattle.bd_space.specs.Seats.{process_in}
 use Rattle.bd_space.specs.Parcels.{Sending, sending_of}
-use Rattle.bd_space.specs.Delivery.{Delivery}
+use Rattle.bd_space.specs.Delivery.{Delivery, placed_for}
 use Rattle.bd_step.specs.Stands.{Before}
-use Rattle.bd_step.specs.Deliveries.{placed_for}
 use Rattle.bd_step.proofs.tables.Tables.sent_to.Goals as goal
 
 pub returns-in-Err-clause-computed : goal.returns-in-Err-clause-computed

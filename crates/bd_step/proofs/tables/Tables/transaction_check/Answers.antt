@@ -6,11 +6,10 @@ use Rattle.bd_space.specs.Space.{Space}
 use Rattle.bd_space.specs.Words.{and_then}
 use Rattle.bd_space.specs.Seats.{process_in}
 use Rattle.bd_space.specs.Parcels.{sending_of}
-use Rattle.bd_space.specs.Delivery.{Delivery}
+use Rattle.bd_space.specs.Delivery.{Delivery, placed_for}
 use Rattle.bd_space.specs.Transactions.{transaction_check}
 use Rattle.bd_calls.specs.Stacked.{IsStacked}
 use Rattle.bd_step.specs.Stands.{Before}
-use Rattle.bd_step.specs.Deliveries.{placed_for}
 use Rattle.bd_step.proofs.Stepping.{no-callee, may-not-call, may-call}
 use Rattle.bd_step.proofs.tables.Tables.transaction_check.Goals as goal
 
