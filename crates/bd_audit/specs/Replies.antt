@@ -11,8 +11,7 @@ use Rattle.bd_space.specs.Frames.{innermost, made_of, is_frame}
 use Rattle.bd_space.specs.Todo.{list_to_read, is_call}
 use Rattle.bd_space.specs.Transactions.{is_one_way}
 use Rattle.bd_space.specs.Steps.{step}
-use Rattle.bd_space.specs.ReadItems.{taken}
-use Rattle.bd_space.specs.Reading.{read_fault}
+use Rattle.bd_space.specs.ReadItems.{taken, read_fault}
 use Rattle.bd_space.specs.Histories.{History, IsHistory, after, next}
 use Rattle.bd_links.specs.TodoList.{first_reply_in}
 use Rattle.bd_audit.specs.Gifts.{Stands}

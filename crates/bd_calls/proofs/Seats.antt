@@ -21,7 +21,7 @@ use Rattle.bd_space.specs.declared.space.TodoList.TheVariants.{OfThread, OfProce
 use Rattle.bd_space.specs.Words.{is_some_and, same_identity}
 use Rattle.bd_space.specs.Seats.{thread_in}
 use Rattle.bd_space.specs.Frames.{innermost_in}
-use Rattle.bd_space.specs.Reading.{none_due}
+use Rattle.bd_space.specs.ReadItems.{none_due}
 use Rattle.bd_ways.specs.Local.{first_due}
 use Rattle.bd_space.specs.Todo.{has_work_in, is_on, same_list, work_on, reads_in, with_work, is_item, is_call, without_taken, is_notice}
 use Rattle.bd_space.specs.Notices.{has_notice_in}

@@ -8,7 +8,7 @@ ghost use Rattle.bd_space.specs.declared.space.Thread as threads;
 ghost use Rattle.bd_space.specs.declared.space.Work as works;
 ghost use Rattle.bd_space.specs.{Seats.{thread_in}, Words.{is_some_and}};
 ghost use Rattle.bd_space.specs.Todo as todos;
-ghost use Rattle.bd_space.specs.Reading as reading;
+ghost use Rattle.bd_space.specs.ReadItems as reading;
 ghost use Rattle.bd_links.specs.Stands as links;
 ghost use Rattle.bd_frames.specs.Stands as frame_table;
 ghost use Rattle.bd_threads.specs.Listed.{listed};

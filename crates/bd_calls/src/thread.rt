@@ -1,5 +1,5 @@
 //! Threads.
-#![tactic(auto, unfolding(bd_space::specs::Steps::with_thread, bd_space::specs::Commands::with_looping, crate::specs::Room::rooms))]
+#![tactic(auto, unfolding(bd_space::specs::Steps::with_thread, bd_space::specs::Steps::with_looping, crate::specs::Room::rooms))]
 
 ghost use Rattle.std.specs.Prelude.{◌≡◌, ◌==◌, ◌≤◌, map, filter, length, IfOk, OnErr};
 ghost use Rattle.bd_space.specs.{Seats.{thread_in}, ProcessExits.{seat_of}};
@@ -9,7 +9,7 @@ use bd_space::Thread;
 use std::alloc::{AllocError, Global};
 
 impl CallTable {
-    ghost use Rattle.bd_space.specs.{Space.{Space}, Steps.{with_thread}, Commands.{with_looping}};
+    ghost use Rattle.bd_space.specs.{Space.{Space}, Steps.{with_thread, with_looping}};
     ghost use Rattle.bd_ways.specs.Tables.{Tells, Makes, MakesAt};
     ghost use Rattle.bd_calls.specs.{Stands.{StandsFor}, Room.{Uses, UsesNothing, nothing, thread_room}};
 

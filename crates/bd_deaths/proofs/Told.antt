@@ -7,7 +7,7 @@ use Rattle.std.proofs.Math.Bool.{and-false}
 use Rattle.std.proofs.lemmas.Bool.{or_from}
 use Rattle.bd_space.proofs.Keyed.{length_changed}
 use Rattle.bd_space.specs.Words.{changed}
-use Rattle.bd_space.specs.Clearing.{is_told, is_told_with}
+use Rattle.bd_space.specs.Deaths.{is_told, is_told_with}
 use Rattle.bd_space.specs.declared.space.DeathNotification.{DeathNotification}
 use Rattle.bd_space.specs.declared.space.Phase.{Phase}
 use Rattle.bd_deaths.specs.declared.slot.Slot.{Slot}

@@ -1,7 +1,7 @@
 -- Slots in the order in which their notifications were made. One that goes leaves its slot.
 use Rattle.std.specs.Prelude.{ℕ, ◌≡◌, ◌≤◌, Bool, false, ◌&&◌, List, [], ◌∷◌, map, take, length, if◌then◌else◌}
 use Rattle.bd_ways.specs.Words.{list_any, DeathNotification}
-use Rattle.bd_space.specs.Clearing.{is_told}
+use Rattle.bd_space.specs.Deaths.{is_told}
 use Rattle.bd_deaths.specs.declared.slot.Slot.{Slot}
 
 -- the notification of each slot, whether it has gone or not

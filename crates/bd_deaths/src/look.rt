@@ -2,7 +2,6 @@
 
 ghost use Rattle.std.specs.Prelude.{◌≡◌, ◌==◌, if◌then◌else◌, find, count_by, option_map, List, None};
 ghost use Rattle.bd_space.specs.Deaths as deaths_of;
-ghost use Rattle.bd_space.specs.Clearing as clearing;
 ghost use Rattle.bd_space.specs.declared.space.DeathNotification as declared;
 ghost use Rattle.bd_deaths.specs.Only.{only_uncleared_in};
 ghost use Rattle.bd_deaths.specs.Slots as spec;
@@ -60,13 +59,13 @@ fn only_uncleared_in(slots: &[Slot], p: u32, o: ObjectId) -> Option<Slot>
 
 // Whether the notification is told, of the process, with the cookie.
 fn is_told_with(p: u32, cookie: u64, x: &DeathNotification) -> bool
-    ensures { result ≡ clearing.is_told_with p cookie x.now }
+    ensures { result ≡ deaths_of.is_told_with p cookie x.now }
 {
     is_told(x.phase) && x.process == p && x.cookie == cookie
 }
 
 fn told_in(slots: &[Slot], p: u32, cookie: u64) -> Option<Slot>
-    ensures { result ≡ find (spec.on (clearing.is_told_with p cookie)) slots.now }
+    ensures { result ≡ find (spec.on (deaths_of.is_told_with p cookie)) slots.now }
 {
     slots
         .iter()
@@ -115,7 +114,7 @@ impl DeathTable {
     /// The least told notification of the process with this cookie.
     pub fn told(&self, p: u32, cookie: u64) -> Option<DeathNotification>
         ensures { (l : List declared.DeathNotification) → DeathsAre self.now l
-            → result ≡ find (clearing.is_told_with p cookie) l }
+            → result ≡ find (deaths_of.is_told_with p cookie) l }
     {
         death_of(told_in(self.list.told_part(p, cookie), p, cookie))
     }

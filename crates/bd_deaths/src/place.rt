@@ -2,7 +2,6 @@
 
 ghost use Rattle.std.specs.Prelude.{◌≡◌, ◌==◌, ◌≤◌, ◌+◌, ℕ, not, length, vec_len, List, IfSome};
 ghost use Rattle.std.specs.List.{list_any};
-ghost use Rattle.bd_space.specs.Clearing as clearing;
 ghost use Rattle.bd_space.specs.Deaths as deaths_of;
 ghost use Rattle.bd_space.specs.declared.space.DeathNotification as declared;
 ghost use Rattle.bd_space.specs.Words.{is_some_and};
@@ -101,7 +100,7 @@ impl DeathList {
         ensures from { result.start ≤ result.end }
         ensures to { result.end ≤ vec_len self.now.slots }
         ensures within { (l : List declared.DeathNotification) → AreIn self.now l
-            → IsWithin (spec.on (clearing.is_told_with p cookie)) result.start result.end self.now.slots.items }
+            → IsWithin (spec.on (deaths_of.is_told_with p cookie)) result.start result.end self.now.slots.items }
     {
         let len = self.slots.len();
         match self.one_range(cookie_key(p, cookie)) {
@@ -131,7 +130,7 @@ impl DeathList {
     /// A part of the slots with all told notifications of the process with this cookie.
     pub(crate) fn told_part(&self, p: u32, cookie: u64) -> &[Slot]
         ensures { (l : List declared.DeathNotification) → AreIn self.now l
-            → IsPartOf (clearing.is_told_with p cookie) (spec.lives result.now) l }
+            → IsPartOf (deaths_of.is_told_with p cookie) (spec.lives result.now) l }
     {
         let range = self.told_range(p, cookie);
         &self.slots[range.start..range.end]

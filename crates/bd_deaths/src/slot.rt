@@ -1,7 +1,7 @@
 //! Notifications in their slots, in the order in which they were made.
 
 ghost use Rattle.std.specs.{Prelude.{◌≡◌, ◌≤◌, true, false, length, take}, List.{list_any}};
-ghost use Rattle.bd_space.specs.Clearing as clearing;
+ghost use Rattle.bd_space.specs.Deaths as deaths_of;
 ghost use Rattle.bd_deaths.specs.Slots as spec;
 
 use bd_space::{DeathNotification, Phase};
@@ -14,7 +14,7 @@ pub(crate) struct Slot {
 }
 
 pub(crate) fn is_told(phase: Phase) -> bool
-    ensures { result ≡ clearing.is_told phase }
+    ensures { result ≡ deaths_of.is_told phase }
 {
     matches!(phase, Phase::Told)
 }
@@ -37,7 +37,7 @@ pub(crate) fn told_from(slots: &[Slot], from: usize, to: usize) -> usize
 /// Up to where none is told, if those from the second slot on may be this far.
 pub(crate) fn told_before(none: usize, from: usize, phase: Phase) -> usize
     ensures less { result ≤ none }
-    ensures before { clearing.is_told phase ≡ true → result ≤ from }
+    ensures before { deaths_of.is_told phase ≡ true → result ≤ from }
 {
     if is_told(phase) { none.min(from) } else { none }
 }

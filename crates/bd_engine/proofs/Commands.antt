@@ -20,10 +20,8 @@ use Rattle.bd_space.specs.declared.step.Request.TheVariants.{Write}
 use Rattle.bd_space.specs.Space.{Space, opening}
 use Rattle.bd_space.specs.Steps.{step}
 use Rattle.bd_space.specs.Histories.{History, next, after, space_after, extended, HasPlace, is_at_limit}
-use Rattle.bd_space.specs.Streams.{Readable, readable, commands_of, step_of_command}
-use Rattle.bd_space.specs.Writes.{Written, written, ends_here, goes_on, wrote, run_of_written, Run, write}
-use Rattle.bd_space.specs.Runs.{run, IsRun, AllBy, HasRun}
-use Rattle.bd_space.specs.Stops.{write_first, step_after, MayStop}
+use Rattle.bd_space.specs.Writes.{Readable, readable, commands_of, step_of_command, Written, written, ends_here, goes_on, wrote, run_of_written, Run, write}
+use Rattle.bd_space.specs.Runs.{run, IsRun, AllBy, HasRun, write_first, step_after, MayStop}
 use Rattle.bd_step.specs.declared.why.Why.{Why}
 use Rattle.bd_step.specs.declared.why.Why.TheVariants.{NoMemory, HistoryFull}
 use Rattle.bd_engine.specs.Refusals.{FullOnly, MemoryOnly}

@@ -16,7 +16,7 @@ use Rattle.bd_space.specs.declared.step.Answer.{Answer}
 use Rattle.bd_space.specs.declared.step.Request.TheVariants.{Write}
 use Rattle.bd_space.specs.Steps.{step}
 use Rattle.bd_space.specs.Histories.{History, space_after, extended, HasPlace, is_at_limit}
-use Rattle.bd_space.specs.Streams.{step_of_command}
+use Rattle.bd_space.specs.Writes.{step_of_command}
 use Rattle.bd_space.specs.Runs.{HasRun}
 use Rattle.bd_step.specs.declared.why.Why.{Why}
 use Rattle.bd_engine.specs.declared.write.Progress.{Progress}

@@ -8,8 +8,7 @@ use Rattle.bd_space.specs.declared.step.Stop.TheVariants as stop
 use Rattle.bd_space.specs.declared.step.Answer.TheVariants.{Wrote, Refused}
 use Rattle.bd_space.specs.declared.step.Request.TheVariants.{Write}
 use Rattle.bd_space.specs.Histories.{History, space_after, HasPlace}
-use Rattle.bd_space.specs.Streams.{readable, commands_of}
-use Rattle.bd_space.specs.Writes.{Written, written, wrote}
+use Rattle.bd_space.specs.Writes.{readable, commands_of, Written, written, wrote}
 use Rattle.bd_space.specs.Runs.{AllBy, HasRun, HasEntry, IsAtLimit}
 use Rattle.bd_step.specs.declared.why.Why.{Why}
 use Rattle.bd_step.specs.declared.why.Why.TheVariants.{NoMemory, HistoryFull}

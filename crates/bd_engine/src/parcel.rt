@@ -1,7 +1,7 @@
 //! Cutting the parcel of a command from the area of its write.
 
 ghost use Rattle.std.specs.Prelude.{◌≡◌, ◌+◌, nat_le, length, take, drop, true, false, IfOk, MatchOption};
-ghost use Rattle.bd_space.specs.Streams.{parcel_of, parcel_for};
+ghost use Rattle.bd_space.specs.Writes.{parcel_of, parcel_for};
 
 use bd_space::{Bytes, Parcel};
 use bd_uapi::{Command, TransactionData};
@@ -39,7 +39,7 @@ fn parcel_of(
 }
 
 /// The parcel of a transaction or reply, in memory of its own, if it lies inside the area.
-#[tactic(auto, unfolding(bd_space::specs::Streams::parcel_for))]
+#[tactic(auto, unfolding(bd_space::specs::Writes::parcel_for))]
 pub(crate) fn parcel_for(
     alloc: Global,
     area: &[u8],

@@ -6,7 +6,7 @@ ghost use Rattle.bd_codec.specs.Reading.{command_at};
 ghost use Rattle.bd_space.specs.{declared.step.Request.TheVariants.{Write}, declared.step.Answer.TheVariants.{Wrote}};
 ghost use Rattle.bd_space.specs.Histories.{History, space_after, extended, HasPlace, is_at_limit};
 ghost use Rattle.bd_space.specs.Steps as steps;
-ghost use Rattle.bd_space.specs.{Runs.{HasRun}, Streams.{step_of_command}};
+ghost use Rattle.bd_space.specs.{Runs.{HasRun}, Writes.{step_of_command}};
 ghost use Rattle.bd_engine.specs.Refusals.{FullOnly, MemoryOnly};
 ghost use Rattle.bd_engine.specs.Writing.{HasCome, IsSame, IsAfter, IsCourse, IsCutAt, IsTurnedAway, IsNext, refused};
 

@@ -3,7 +3,7 @@ use Rattle.std.proofs.Common.{◌≡◌, Bool, true, false, not, ◌&&◌, ◌||
 use Rattle.std.specs.List.{list_any, slice_get}
 use Rattle.std.proofs.lemmas.Bool.{or_parts}
 use Rattle.bd_space.specs.declared.space.Work.{Work}
-use Rattle.bd_space.specs.Reading.{none_due}
+use Rattle.bd_space.specs.ReadItems.{none_due}
 use Rattle.bd_space.specs.Words.{without_first}
 
 pub any-filter : (p q : Work → Bool) (ws : List Work) → list_any q (filter p ws) ≡ list_any (λ w. p w && q w) ws

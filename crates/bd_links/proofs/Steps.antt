@@ -18,7 +18,7 @@ use Rattle.bd_links.proofs.Plain.{none_some}
 use Rattle.bd_links.proofs.QueueLemmas.{push_shows, front_shows, ring_empty, queue_is}
 use Rattle.bd_links.proofs.Growing.{begun, freed, lengthened, head_listed, unheaded, free_less, zero_added}
 use Rattle.bd_links.proofs.RingLemmas.{Below-at, In-left}
-use Rattle.bd_space.specs.Reading.{none_due}
+use Rattle.bd_space.specs.ReadItems.{none_due}
 
 -- the node x is moved to the end of the ring of s
 pub record Moved (old new : List Node) (x s : ℕ) : Type 0 where

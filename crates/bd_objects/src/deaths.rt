@@ -3,7 +3,6 @@
 ghost use Rattle.std.specs.{Prelude.{◌≡◌, ◌≤◌, true, find, IfOk, OnErr}, List.{list_any}};
 ghost use Rattle.bd_space.specs.Space.{Space};
 ghost use Rattle.bd_space.specs.Deaths as deaths_of;
-ghost use Rattle.bd_space.specs.Clearing as clearing;
 ghost use Rattle.bd_space.specs.ProcessExits.{tell_deaths};
 ghost use Rattle.bd_deaths.specs.Due as due;
 
@@ -51,9 +50,9 @@ impl ObjectTable {
 
     /// The uncleared notification on the process's name with this number. Errors: no such number, or no notification
     /// with this cookie.
-    #[tactic(auto, unfolding(bd_space::specs::Clearing::clear_check, bd_space::specs::Names::named))]
+    #[tactic(auto, unfolding(bd_space::specs::Deaths::clear_check, bd_space::specs::Names::named))]
     pub fn clear_check(&self, p: u32, n: u32, cookie: u64) -> Result<DeathNotification, Note>
-        ensures { Tells (StandsFor self.now) result (λ s. clearing.clear_check s p n cookie) }
+        ensures { Tells (StandsFor self.now) result (λ s. deaths_of.clear_check s p n cookie) }
     {
         let o = self.names.named(p, n).ok_or(Note::NoSuchNumber)?;
         let x = self.deaths.uncleared(p, o).ok_or(Note::NoneAsked)?;
@@ -64,9 +63,9 @@ impl ObjectTable {
     }
 
     /// Marks the notification as cleared.
-    #[tactic(auto, unfolding(bd_space::specs::Clearing::mark_cleared, crate::specs::Room::rooms))]
+    #[tactic(auto, unfolding(bd_space::specs::Deaths::mark_cleared, crate::specs::Room::rooms))]
     pub fn mark_cleared(&mut self, made: u32)
-        ensures stands { Makes (StandsFor self.old) (StandsFor self.new) (λ s. clearing.mark_cleared s made) }
+        ensures stands { Makes (StandsFor self.old) (StandsFor self.new) (λ s. deaths_of.mark_cleared s made) }
         ensures uses { UsesNothing self.old self.new }
     {
         self.deaths.mark_cleared(made);
@@ -91,9 +90,9 @@ impl ObjectTable {
     }
 
     /// The least told notification of the process with this cookie.
-    #[tactic(auto, unfolding(bd_space::specs::Clearing::told_death))]
+    #[tactic(auto, unfolding(bd_space::specs::Deaths::told_death))]
     pub fn told_death(&self, p: u32, cookie: u64) -> Option<DeathNotification>
-        ensures { Tells (StandsFor self.now) result (λ s. clearing.told_death s p cookie) }
+        ensures { Tells (StandsFor self.now) result (λ s. deaths_of.told_death s p cookie) }
     {
         self.deaths.told(p, cookie)
     }

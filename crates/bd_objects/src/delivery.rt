@@ -3,7 +3,7 @@
 
 ghost use Rattle.std.specs.Prelude.{◌≡◌, ◌≤◌, ◌+◌, ◌++◌, ◌∷◌, [], length, List, None, OnOk, OnErr};
 ghost use Rattle.bd_space.specs.Delivery as delivery;
-ghost use Rattle.bd_space.specs.Translation as translations;
+ghost use Rattle.bd_space.specs.Parcels as translations;
 ghost use Rattle.bd_space.specs.declared.space.Reference.{Reference};
 ghost use Rattle.bd_references.specs.{Stands.{ReferencesAre}, Room.{reference_room as room_in}};
 

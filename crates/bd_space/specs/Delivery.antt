@@ -1,7 +1,7 @@
 -- What a transaction and a reply have in common: what they deliver.
 use Rattle.std.specs.Prelude.{ℕ, ◌+◌, Bool, true, false, not, ◌&&◌, List, [], ◌∷◌, ◌++◌, map, Option, Some, None, Result, Ok, filter, fold, if◌then◌else◌}
 use Rattle.bd_space.specs.Words.{TransactionData, Cause, and_then, ObjectId, Process, Object, Reference, Buffer, Work, Carried, Target, OfThread, is_some_and, Space, Actor, Item, is_own, is_strong_kind}
-use Rattle.bd_space.specs.{References.{reference_of, object_in}, Names.assign_numbers, Windows.{needed, buffers_of, start_for}, Todo.is_notice, Notices.with_notice, Parcels.{Sending, object_of_item}, Translation.translation}
+use Rattle.bd_space.specs.{References.{reference_of, object_in}, Names.assign_numbers, Windows.{needed, buffers_of, start_for}, Todo.is_notice, Notices.with_notice, Parcels.{Sending, object_of_item, translation}}
 
 -- what is delivered: to which process, on which object, whether one-way, what, and where in the receiver's window
 pub record Delivery : Type 0 where

@@ -1,6 +1,6 @@
 -- Histories: lists of steps in which each answer follows from the steps before.
 use Rattle.std.specs.Prelude.{ℕ, zero, suc, ◌+◌, ◌^◌, ◌≡◌, ◌≤◌, ◌<◌, nat_lt, nat_le, Bool, true, false, not, ◌||◌, List, [], ◌∷◌, ◌++◌, length, Option, if◌then◌else◌}
-use Rattle.bd_space.specs.{Words.{list_all, Step, StepAnswer, Entry, Record, is_some_and, Space, opening}, Seats.thread_in, Names.has_number_past_limit, Todo.list_to_read, Reading.none_due, Steps.step}
+use Rattle.bd_space.specs.{Words.{list_all, Step, StepAnswer, Entry, Record, is_some_and, Space, opening}, Seats.thread_in, Names.has_number_past_limit, Todo.list_to_read, ReadItems.none_due, Steps.step}
 
 -- the seats of a driver, and what has happened
 pub record History : Type 0 where

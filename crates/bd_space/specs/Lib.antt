@@ -11,7 +11,6 @@ pub mod Notices
 pub mod Settle
 pub mod Outcomes
 pub mod Parcels
-pub mod Translation
 pub mod Delivery
 pub mod Spam
 pub mod Transactions
@@ -19,16 +18,11 @@ pub mod Replies
 pub mod Freeing
 pub mod Asking
 pub mod Deaths
-pub mod Clearing
-pub mod Commands
 pub mod Returns
 pub mod ReadItems
-pub mod Reading
 pub mod ThreadExits
 pub mod ProcessExits
 pub mod Steps
 pub mod Histories
-pub mod Streams
 pub mod Writes
-pub mod Stops
 pub mod Runs

@@ -1,7 +1,8 @@
--- What a parcel sends: its objects, each known to the sender or made by the sending, or the first cause against it.
-use Rattle.std.specs.Prelude.{ℕ, ◌%◌, ◌^◌, ◌==◌, Bool, false, not, ◌&&◌, List, [], ◌∷◌, ◌++◌, length, Option, Some, None, Result, Ok, Err, if◌then◌else◌}
-use Rattle.bd_space.specs.Words.{TransactionData, FlatObject, Binder, WeakBinder, Handle, WeakHandle, Cause, WalkFault, offsets_in, fault_in, object_at, ObjectId, Parcel, Object, Item, Resolved, option_to_list, and_then, Space}
-use Rattle.bd_space.specs.{References.own_in, Names.{named, strongly_named}}
+-- What a parcel sends: its objects, each known to the sender or made by the sending, or the first cause against it; and how its
+-- receiver is to see them.
+use Rattle.std.specs.Prelude.{ℕ, ◌%◌, ◌^◌, ◌==◌, Bool, false, not, ◌&&◌, List, [], ◌∷◌, ◌++◌, length, Option, Some, None, Result, Ok, Err, if◌then◌else◌, find, fold, unwrap_or}
+use Rattle.bd_space.specs.Words.{TransactionData, FlatObject, Binder, WeakBinder, Handle, WeakHandle, Cause, WalkFault, offsets_in, fault_in, object_at, ObjectId, Parcel, Object, Item, Resolved, option_to_list, and_then, Space, is_strong_kind, object_bytes, Name, same, overwritten}
+use Rattle.bd_space.specs.{References.own_in, Names.{named, strongly_named, number_in}}
 
 abbrev pub object_of_item : Item → ObjectId
 object_of_item x = x.object
@@ -73,3 +74,26 @@ sending_of s p d (Some q) =
     if not (is_cut d q) then Err Cause.OutsideArea
     else (if not (length q.offsets % 8 == 0) then Err Cause.OffsetsSize
     else resolve_walked s p q (fault_in q.bytes (offsets_in q.offsets)))
+
+-- ---- translation
+
+-- the receiver's own object, and anybody else's
+abbrev pub as_own : FlatObject → Object → FlatObject
+as_own x o = record x { kind = if is_strong_kind x.kind then Binder else WeakBinder; binder = o.ptr; cookie = o.cookie }
+
+abbrev pub as_handle : FlatObject → ℕ → FlatObject
+as_handle x n = record x { kind = if is_strong_kind x.kind then Handle else WeakHandle; binder = n; cookie = 0 }
+
+abbrev pub translated : List Object → List Name → ℕ → Item → FlatObject
+translated objects names q x =
+    elim (find (λ o. same o.id x.object && (o.owner == q)) objects) [
+      | Some o ↦ as_own x.flat o
+      | None ↦ as_handle x.flat (unwrap_or (number_in names q x.object) 0)
+    ]
+
+abbrev pub translate_item : List Object → List Name → ℕ → List ℕ → Item → List ℕ
+translate_item objects names q bytes x = overwritten bytes x.at (object_bytes (translated objects names q x))
+
+-- the data with each object translated
+unfoldable pub translation : Space → ℕ → List ℕ → List Item → List ℕ
+translation s q bytes items = fold (translate_item s.objects s.names q) bytes items

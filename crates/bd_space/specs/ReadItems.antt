@@ -1,7 +1,8 @@
--- The items that a read takes, and what reading them changes.
+-- A read: the items that it takes, what reading them changes, and its step.
 use Rattle.std.specs.Prelude.{ℕ, ◌+◌, ◌-◌, ◌==◌, nat_lt, Bool, true, false, List, [], ◌∷◌, ◌++◌, length, map, Option, Some, None, option_and_then, if◌then◌else◌}
-use Rattle.bd_space.specs.Words.{list_any, flat_map, Return, ObjectId, Object, Reference, Frame, Buffer, Work, DeathNotification, Handshake, Serving, WorkKind, Told, first_of, is_some_and, same, changed, Space}
-use Rattle.bd_space.specs.{References.{reference_of, held_in, strong_in}, Todo.{notice_of, death_of, hands_out, is_call, without_taken}, Freeing.is_made_at, Returns.{buffer_in, returns_of, bytes_read}}
+use Rattle.bd_space.specs.Words.{list_any, flat_map, Return, ObjectId, Object, Reference, Frame, Buffer, Work, DeathNotification, Handshake, Serving, WorkKind, Told, first_of, is_some_and, same, changed, Space, Fault, StepAnswer, when, Actor}
+use Rattle.bd_space.specs.{References.{reference_of, held_in, strong_in}, Todo.{notice_of, death_of, hands_out, is_call, without_taken, list_to_read}, Notices.follow}
+use Rattle.bd_space.specs.{Outcomes.{Outcome, refused}, Freeing.is_made_at, Returns.{buffer_in, returns_of, bytes_read, stream_of}}
 
 -- ---- which they are
 
@@ -83,3 +84,27 @@ read_by s seat ws = record s {
   deaths = told_deaths ws s.deaths;
   todo = without_taken ws s.todo;
 }
+
+-- ---- the step
+
+abbrev pub got : List ℕ → Option Buffer → StepAnswer
+got stream None = StepAnswer.Got stream [] []
+got stream (Some b) = StepAnswer.Got stream b.bytes b.offsets
+
+-- there is nothing to read
+abbrev pub none_due : List Work → Bool
+none_due [] = true
+none_due (w ∷ ws) = false
+
+abbrev pub read_fault : ℕ → List Work → Option Fault
+read_fault limit ws = first_of (when (nat_lt limit 72) Fault.ReadTooSmall ∷ when (none_due ws) Fault.Again ∷ [])
+
+unfoldable pub read_taking : Space → ℕ → List Work → Outcome
+read_taking s seat ws = record { answer = got (stream_of s ws) (buffer_taken s ws); space = follow (read_by s seat ws) }
+
+unfoldable pub read_step : Space → Actor → ℕ → Outcome
+read_step s a limit =
+    elim (read_fault limit (list_to_read s a.thread)) [
+      | Some x ↦ refused s x
+      | None ↦ read_taking s a.thread.seat (taken s (limit - 4) (list_to_read s a.thread))
+    ]

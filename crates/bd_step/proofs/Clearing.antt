@@ -6,8 +6,7 @@ use Rattle.bd_uapi.specs.declared.fault.Note.TheVariants.{NoSuchNumber, NoneAske
 use Rattle.bd_space.specs.Words.{found_or, unless, when, and_then}
 use Rattle.bd_space.specs.Space.{Space}
 use Rattle.bd_space.specs.Names.{named}
-use Rattle.bd_space.specs.Deaths.{is_uncleared_on, uncleared_in}
-use Rattle.bd_space.specs.Clearing.{clear_check}
+use Rattle.bd_space.specs.Deaths.{is_uncleared_on, uncleared_in, clear_check}
 use Rattle.bd_laws.specs.Lists.{In}
 use Rattle.bd_laws.proofs.Lists.{find-in}
 use Rattle.bd_laws.proofs.Tests.{and_then-ok, found-ok, unless-ok}

@@ -19,10 +19,9 @@ use Rattle.bd_space.specs.Space.{Space}
 use Rattle.bd_space.specs.References.{object_in}
 use Rattle.bd_space.specs.Names.{assign_numbers, names_go, has_number_past_limit}
 use Rattle.bd_uapi.specs.Kinds.{is_own, is_strong_kind}
-use Rattle.bd_space.specs.Parcels.{object_of_item}
+use Rattle.bd_space.specs.Parcels.{object_of_item, translate_item, translated, translation}
 use Rattle.bd_space.specs.Todo.{is_notice}
 use Rattle.bd_space.specs.Delivery.{Delivery, make_objects, refer, known_by, withdraw_notice, buffer_of, add_buffer, own_notices}
-use Rattle.bd_space.specs.Translation.{translate_item, translated, translation}
 use Rattle.bd_objects.specs.declared.table.ObjectTable.{ObjectTable}
 use Rattle.bd_objects.specs.Stands as objects
 use Rattle.bd_step.specs.declared.tables.Tables.{Tables}

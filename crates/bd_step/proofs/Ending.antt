@@ -25,8 +25,7 @@ use Rattle.bd_space.specs.Outcomes.{Outcome, accepted, noted}
 use Rattle.bd_space.specs.Freeing.{free_step, free_outcome, buffer_at_pointer, without_buffer, is_made_at, is_buffer_at}
 use Rattle.bd_space.specs.ThreadExits.{thread_goes, is_lost_with, exit_thread_step}
 use Rattle.bd_space.specs.ProcessExits.{threads_go, without_process, tell_deaths, exit_process_step, seat_of}
-use Rattle.bd_space.specs.Commands.{command_step}
-use Rattle.bd_space.specs.Steps.{change, by_actor}
+use Rattle.bd_space.specs.Steps.{command_step, change, by_actor}
 use Rattle.bd_buffers.specs.WindowsStand.{made_of_buffer}
 use Rattle.bd_laws.specs.Lists.{In, Pairs}
 use Rattle.bd_laws.specs.Items.{AtHome}

@@ -35,13 +35,10 @@ use Rattle.bd_space.specs.Transactions.{transaction_step, transaction_outcome, t
 use Rattle.bd_space.specs.Replies.{reply_step, reply_to, reply_outcome, reply_check, replied, reply_refused}
 use Rattle.bd_space.specs.Freeing.{is_made_at}
 use Rattle.bd_space.specs.Asking.{ask_step, ask_check, ask, drop_step, drop_check, drop_asked, done_step, done_check, acknowledge}
-use Rattle.bd_space.specs.Deaths.{request_step, request_check, requested}
-use Rattle.bd_space.specs.Clearing.{clear_step, clear_check, cleared, death_done_step, death_done_outcome, told_death}
+use Rattle.bd_space.specs.Deaths.{request_step, request_check, requested, clear_step, clear_check, cleared, death_done_step, death_done_outcome, told_death}
 use Rattle.bd_space.specs.Spam.{is_spam, spam_step, with_spam_detection}
-use Rattle.bd_space.specs.Commands.{command_step, with_looping}
-use Rattle.bd_space.specs.Reading.{read_step, read_fault, read_taking}
-use Rattle.bd_space.specs.ReadItems.{read_by, taken, hand_out, handed_buffers, buffer_taken}
-use Rattle.bd_space.specs.Steps.{change, by_actor, open_step, open_outcome, open_fault, attach_step, attach_outcome, manager_step, manager_outcome, is_manager_busy, with_thread, with_process, with_manager}
+use Rattle.bd_space.specs.Steps.{command_step, with_looping, change, by_actor, open_step, open_outcome, open_fault, attach_step, attach_outcome, manager_step, manager_outcome, is_manager_busy, with_thread, with_process, with_manager}
+use Rattle.bd_space.specs.ReadItems.{read_step, read_fault, read_taking, read_by, taken, hand_out, handed_buffers, buffer_taken}
 use Rattle.bd_laws.specs.Lists.{In}
 use Rattle.bd_laws.proofs.Lists.{in-left, changed-in}
 use Rattle.bd_laws.proofs.Machine.Deaths.{on-requested, on-cleared, on-done}

@@ -14,10 +14,9 @@ use Rattle.bd_space.specs.Seats.{actor, actor_of, thread_in, process_in}
 use Rattle.bd_laws.specs.Tidy.{IsTidy}
 use Rattle.bd_step.specs.Meets.{IsBy}
 use Rattle.bd_step.proofs.Finding.{found_passes}
-use Rattle.bd_space.specs.Steps.{change, by_actor, manager_step}
+use Rattle.bd_space.specs.Steps.{change, by_actor, manager_step, command_step}
 use Rattle.bd_space.specs.Spam.{spam_step}
-use Rattle.bd_space.specs.Commands.{command_step}
-use Rattle.bd_space.specs.Reading.{read_step}
+use Rattle.bd_space.specs.ReadItems.{read_step}
 use Rattle.bd_space.specs.ThreadExits.{exit_thread_step}
 use Rattle.bd_space.specs.ProcessExits.{exit_process_step}
 use Rattle.bd_space.specs.Outcomes.{refused}

@@ -21,11 +21,10 @@ use Rattle.bd_space.specs.Seats.{process_in, actor}
 use Rattle.bd_space.specs.Names.{names_go, has_number_past_limit, assign_numbers}
 use Rattle.bd_space.specs.Todo.{owe, tell_caller}
 use Rattle.bd_space.specs.Frames.{closed, served_innermost}
-use Rattle.bd_space.specs.Parcels.{sending_of}
+use Rattle.bd_space.specs.Parcels.{sending_of, translation}
 use Rattle.bd_space.specs.Windows.{buffers_of}
 use Rattle.bd_space.specs.Spam.{floods, is_spam}
 use Rattle.bd_space.specs.Delivery.{Delivery, placed_for, delivered, known_by, own_notices, add_buffer, refer, make_objects}
-use Rattle.bd_space.specs.Translation.{translation}
 use Rattle.bd_space.specs.Outcomes.{accepted, stopped}
 use Rattle.bd_space.specs.Transactions.{is_one_way, handle_of, not_own, target_of, owner_of, with_owner, callee_of, caller_cause, sent_to, transaction_check, call_out, called, transacted, refusal, transaction_step, transaction_outcome}
 use Rattle.bd_space.specs.Replies.{caller_of, reply_check, replied, reply_refused, reply_outcome, reply_to, reply_step}

@@ -12,9 +12,8 @@ use Rattle.bd_uapi.specs.declared.fault.Fault.{Fault}
 use Rattle.bd_uapi.specs.declared.fault.Fault.TheVariants.{ReadTooSmall, Again}
 use Rattle.bd_space.specs.Words.{first_of, when}
 use Rattle.bd_space.specs.Outcomes.{Outcome, refused}
-use Rattle.bd_space.specs.ReadItems.{taken, ends_read}
+use Rattle.bd_space.specs.ReadItems.{taken, ends_read, none_due, read_fault, read_taking}
 use Rattle.bd_space.specs.Returns.{bytes_read, stream_of}
-use Rattle.bd_space.specs.Reading.{none_due, read_fault, read_taking}
 use Rattle.bd_step.proofs.Folds.{past}
 
 -- ---- tests

@@ -5,7 +5,7 @@ ghost use Rattle.bd_space.specs.{Space.{Space}, Seats.{process_in}};
 ghost use Rattle.bd_space.specs.Windows as room;
 ghost use Rattle.bd_space.specs.Turns as turns;
 ghost use Rattle.bd_space.specs.Delivery as delivery;
-ghost use Rattle.bd_space.specs.Translation as translations;
+ghost use Rattle.bd_space.specs.Parcels as translations;
 ghost use Rattle.bd_space.specs.declared.space.Process.{Process};
 ghost use Rattle.bd_space.specs.Freeing as freeing;
 ghost use Rattle.bd_space.specs.Outcomes.{completed};

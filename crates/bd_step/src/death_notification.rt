@@ -7,7 +7,6 @@ ghost use Rattle.bd_space.specs.declared.space.TodoList.TheVariants.{OfProcess};
 ghost use Rattle.bd_space.specs.declared.space.WorkKind.TheVariants.{Death};
 ghost use Rattle.bd_space.specs.Todo as todo;
 ghost use Rattle.bd_space.specs.Deaths as deaths;
-ghost use Rattle.bd_space.specs.Clearing as clearing;
 ghost use Rattle.bd_space.specs.Space.{Space};
 ghost use Rattle.bd_space.specs.ProcessExits as exits;
 ghost use Rattle.bd_ways.specs.Tables.{MakesWhere};
@@ -25,7 +24,7 @@ use bd_space::{Actor, DeathNotification, ObjectId, Phase, TodoList, WorkKind};
 use bd_uapi::Note;
 
 fn is_out(phase: Phase) -> bool
-    ensures { result ≡ clearing.is_out phase }
+    ensures { result ≡ deaths.is_out phase }
 {
     match phase {
         Phase::Queued | Phase::Told => true,
@@ -92,7 +91,7 @@ impl Tables {
     // A notification goes, and the thread is told.
     fn end_death(&mut self, seat: u32, x: DeathNotification)
         requires { 1 ≤ work_room self.old.calls }
-        ensures { MakesWithin self.old self.new (λ s. clearing.death_ended s seat x) }
+        ensures { MakesWithin self.old self.new (λ s. deaths.death_ended s seat x) }
     {
         self.objects.without_death(x.made);
         self.add_work(TodoList::OfThread(seat), WorkKind::Cleared(x.cookie));
@@ -101,7 +100,7 @@ impl Tables {
     // A notification is cleared: marked where it is queued or told; else it goes.
     fn drop_request(&mut self, seat: u32, x: DeathNotification)
         requires { 1 ≤ work_room self.old.calls }
-        ensures { MakesWithin self.old self.new (λ s. clearing.cleared s seat x) }
+        ensures { MakesWithin self.old self.new (λ s. deaths.cleared s seat x) }
     {
         if is_out(x.phase) {
             self.objects.mark_cleared(x.made);
@@ -113,7 +112,7 @@ impl Tables {
     /// The step by which a process takes back that it asked to be told of an owner's end. Nothing follows from it.
     pub(crate) fn clear_death(&mut self, a: Actor, n: u32, cookie: u64) -> Result<Plain, Why>
         ensures { IsStep self.old self.new (IsBy a)
-            (λ s. clearing.clear_step s a.thread.seat a.process.made n cookie) result }
+            (λ s. deaths.clear_step s a.thread.seat a.process.made n cookie) result }
     {
         let x = match self.objects.clear_check(a.process.made, n, cookie) {
             Ok(x) => x,
@@ -129,7 +128,7 @@ impl Tables {
     // The process knows of the owner's end: a marked notification goes; else it is done.
     fn know_death(&mut self, seat: u32, x: DeathNotification)
         requires { 1 ≤ work_room self.old.calls }
-        ensures { MakesWithin self.old self.new (λ s. clearing.death_done s seat x) }
+        ensures { MakesWithin self.old self.new (λ s. deaths.death_done s seat x) }
     {
         if x.cleared {
             self.end_death(seat, x);
@@ -141,7 +140,7 @@ impl Tables {
     /// The step by which a process acknowledges that it was told of an owner's end. Nothing follows from it.
     pub(crate) fn death_done(&mut self, a: Actor, cookie: u64) -> Result<Plain, Why>
         ensures { IsStep self.old self.new (IsBy a)
-            (λ s. clearing.death_done_step s a.thread.seat a.process.made cookie) result }
+            (λ s. deaths.death_done_step s a.thread.seat a.process.made cookie) result }
     {
         let x = match self.objects.told_death(a.process.made, cookie) {
             Some(x) => x,

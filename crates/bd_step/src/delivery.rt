@@ -9,7 +9,6 @@ ghost use Rattle.bd_space.specs.Words as words;
 ghost use Rattle.bd_space.specs.Parcels as parcels;
 ghost use Rattle.bd_space.specs.Names.{names_go};
 ghost use Rattle.bd_space.specs.Delivery as spec;
-ghost use Rattle.bd_space.specs.Translation as translations;
 ghost use Rattle.bd_ways.specs.{Local.{objects_of_items}, Tables.{MakesWhere}};
 ghost use Rattle.bd_objects.specs.Room as object_rooms;
 ghost use Rattle.bd_calls.specs.Room as call_rooms;

@@ -6,8 +6,7 @@ ghost use Rattle.bd_uapi.specs.declared.command.Return.TheVariants.{Noop};
 ghost use Rattle.bd_codec.specs.Spelling.{return_bytes};
 ghost use Rattle.bd_space.specs.{Space.{Space}, Words.{first_of}};
 ghost use Rattle.bd_space.specs.Todo as todo;
-ghost use Rattle.bd_space.specs.Reading as spec;
-ghost use Rattle.bd_space.specs.ReadItems as read_items;
+ghost use Rattle.bd_space.specs.ReadItems as spec;
 ghost use Rattle.bd_space.specs.Returns as returns;
 ghost use Rattle.bd_buffers.specs.WindowsStand.{made_of_buffer};
 ghost use Rattle.bd_objects.specs.Room.{reference_room};
@@ -34,7 +33,7 @@ struct Taking {
 
 // Nothing is read after it.
 fn ends_read(kind: WorkKind) -> bool
-    ensures { result ≡ read_items.ends_read kind }
+    ensures { result ≡ spec.ends_read kind }
 {
     matches!(
         kind,
@@ -200,7 +199,7 @@ impl Tables {
 
     // The buffer that is handed over by reading these.
     fn buffer_taken(&self, works: &[Work]) -> Option<&Buffer>
-        ensures { TellsWithin self.now (option_copied result) (λ s. read_items.buffer_taken s works.now) }
+        ensures { TellsWithin self.now (option_copied result) (λ s. spec.buffer_taken s works.now) }
     {
         match handed_by(works) {
             Some(made) => self.windows.buffer(made),
@@ -227,8 +226,8 @@ impl Tables {
     // The thread of a seat has read these work items, by which the buffer made there is handed over.
     fn read_by(&mut self, seat: u32, works: &[Work], made: Option<u32>)
         requires { 2 * length works.now ≤ reference_room self.old.objects }
-        ensures stands { (s : Space) → Within self.old s → made ≡ option_map made_of_buffer (read_items.buffer_taken s works.now)
-            → Within self.new (read_items.read_by s seat works.now) }
+        ensures stands { (s : Space) → Within self.old s → made ≡ option_map made_of_buffer (spec.buffer_taken s works.now)
+            → Within self.new (spec.read_by s seat works.now) }
         ensures uses { UsesNothing self.old self.new }
     {
         self.objects.read_by(self.steps, works);
@@ -246,7 +245,7 @@ impl Tables {
     ) -> Result<Twice, AllocError>
         ensures ok { IfOk result
             (λ x. Meets self.old self.new (IsReading thread.now list)
-            (λ s. spec.read_taking s thread.now.seat (read_items.taken s (limit - 4) (todo.work_on s.todo (Some list)))) x.answer) }
+            (λ s. spec.read_taking s thread.now.seat (spec.taken s (limit - 4) (todo.work_on s.todo (Some list)))) x.answer) }
         ensures twice { IsTrue both → IfOk result (λ x. x.again ≡ x.answer) }
         ensures err { OnErr result (IsKept self.old self.new) }
     {

@@ -1,7 +1,7 @@
 //! Every step of the tables.
 
 ghost use Rattle.std.specs.Prelude.{◌≡◌};
-ghost use Rattle.bd_space.specs.{Seats.{actor}, Steps.{change}, Commands.{command_step}};
+ghost use Rattle.bd_space.specs.{Seats.{actor}, Steps.{change, command_step}};
 ghost use Rattle.bd_step.specs.Plain as plain;
 ghost use Rattle.bd_step.specs.Meets.{IsAny, IsBy, IsNobody, IsStep, IsStepTwice};
 
@@ -23,7 +23,7 @@ fn twice(taken: Result<Plain, Why>) -> Result<Twice, Why>
 
 impl Tables {
     // The step of a command.
-    #[tactic(auto, unfolding(bd_space::specs::Commands::command_step))]
+    #[tactic(auto, unfolding(bd_space::specs::Steps::command_step))]
     fn command(
         &mut self,
         a: Actor,

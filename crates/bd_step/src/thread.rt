@@ -5,7 +5,6 @@ ghost use Rattle.bd_uapi.specs.Limits.{most_seats};
 ghost use Rattle.bd_space.specs.Seats as seats;
 ghost use Rattle.bd_space.specs.{Steps.{is_pid}, Histories.{is_ready, ready_below}};
 ghost use Rattle.bd_space.specs.Steps as steps;
-ghost use Rattle.bd_space.specs.Commands as commands;
 ghost use Rattle.bd_space.specs.Outcomes.{accepted};
 ghost use Rattle.bd_space.specs.ThreadExits as exits;
 ghost use Rattle.bd_ways.specs.Tables.{Makes as Changes};
@@ -123,7 +122,7 @@ impl Tables {
     /// The step by which a thread enters the loop, or leaves it. Nothing follows from it, and it takes no memory.
     pub(crate) fn set_looping(&mut self, a: Actor, looping: bool) -> Plain
         ensures { IsStep self.old self.new (IsBy a)
-            (λ s. accepted (commands.with_looping s a.thread.seat looping)) (Ok result) }
+            (λ s. accepted (steps.with_looping s a.thread.seat looping)) (Ok result) }
     {
         self.calls.set_looping(a.thread.seat, looping);
         Plain::Accepted

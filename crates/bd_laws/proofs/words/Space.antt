@@ -1,11 +1,9 @@
 -- The definitions of the space and of the parts of its steps, passed on from where they are defined.
 unfoldable pub use Rattle.bd_space.specs.Asking.{acknowledge, ask, ask_check, ask_step, done_check, done_step, drop_asked, drop_check, drop_step}
 pub use Rattle.bd_space.specs.Asking.{asked_of, is_own_with}
-unfoldable pub use Rattle.bd_space.specs.Clearing.{clear_check, clear_step, cleared, death_done, death_done_step, death_ended, mark_cleared, told_death}
-pub use Rattle.bd_space.specs.Clearing.{death_done_outcome, is_out, is_told, is_told_with}
-unfoldable pub use Rattle.bd_space.specs.Commands.{command_step, with_looping}
-unfoldable pub use Rattle.bd_space.specs.Deaths.{request_check, request_step, requested, with_death, with_phase, without_death}
-pub use Rattle.bd_space.specs.Deaths.{is_notification, owner_lives_in}
+unfoldable pub use Rattle.bd_space.specs.Deaths.{clear_check, clear_step, cleared, death_done, death_done_step, death_ended, mark_cleared, told_death, request_check, request_step, requested, with_death, with_phase, without_death}
+pub use Rattle.bd_space.specs.Deaths.{death_done_outcome, is_out, is_told, is_told_with, is_notification, owner_lives_in}
+unfoldable pub use Rattle.bd_space.specs.Steps.{command_step, with_looping, attach_step, change, counted, manager_step, open_step, with_manager, with_process, with_thread}
 unfoldable pub use Rattle.bd_space.specs.Delivery.{add_buffer, delivered, known_by, make_objects, own_notices, refer}
 pub use Rattle.bd_space.specs.Delivery.{Delivery, add_notice, buffer_of, buffer_references, withdraw_notice}
 unfoldable pub use Rattle.bd_space.specs.Frames.{closed, goes_to, innermost, served_innermost}
@@ -27,10 +25,8 @@ unfoldable pub use Rattle.bd_space.specs.Parcels.{resolve, sending_of}
 pub use Rattle.bd_space.specs.Parcels.{Sending, is_cut, new_object, object_of_item, resolve_all, resolve_handle, resolve_own, resolve_walked}
 unfoldable pub use Rattle.bd_space.specs.ProcessExits.{exit_process_step, tell_deaths, threads_go, without_process}
 pub use Rattle.bd_space.specs.ProcessExits.{is_armed, is_dropped_with, manager_without, seat_of, tell_death}
-unfoldable pub use Rattle.bd_space.specs.ReadItems.{buffer_taken, read_by}
-pub use Rattle.bd_space.specs.ReadItems.{ends_read, hand_out, handed_buffers, handshakes, handshakes_for, handshakes_of, is_told_by, is_told_of_death, serve, served_frames, shakes, taken, told_deaths, told_objects, told_of}
-unfoldable pub use Rattle.bd_space.specs.Reading.{read_step, read_taking}
-pub use Rattle.bd_space.specs.Reading.{got, read_fault}
+unfoldable pub use Rattle.bd_space.specs.ReadItems.{buffer_taken, read_by, read_step, read_taking}
+pub use Rattle.bd_space.specs.ReadItems.{ends_read, hand_out, handed_buffers, handshakes, handshakes_for, handshakes_of, is_told_by, is_told_of_death, serve, served_frames, shakes, taken, told_deaths, told_objects, told_of, got, read_fault}
 unfoldable pub use Rattle.bd_space.specs.References.{objects_go}
 pub use Rattle.bd_space.specs.References.{buffer_of_holder, held_in, is_asked_by, is_asking, is_handshake, is_in_window, is_of_buffer, is_of_owner, is_shaking, gives_name_to, object_in, own_in, owned_in, reference_of, same_strength, stays_in, strong_in}
 unfoldable pub use Rattle.bd_space.specs.Replies.{caller_of, replied, reply_check, reply_refused, reply_step}
@@ -44,7 +40,6 @@ pub use Rattle.bd_space.specs.Settle.{is_abandoned, settle_one, settle_step, set
 pub use Rattle.bd_space.specs.Space.{Space, opening}
 unfoldable pub use Rattle.bd_space.specs.Spam.{is_spam, spam_step, with_spam_detection}
 pub use Rattle.bd_space.specs.Spam.{detecting}
-unfoldable pub use Rattle.bd_space.specs.Steps.{attach_step, change, counted, manager_step, open_step, with_manager, with_process, with_thread}
 pub use Rattle.bd_space.specs.Steps.{attach_outcome, by_actor, is_manager_busy, is_pid, is_window, manager_outcome, open_fault, open_outcome, step}
 unfoldable pub use Rattle.bd_space.specs.ThreadExits.{exit_thread_step, thread_goes}
 pub use Rattle.bd_space.specs.ThreadExits.{frame_without, gone_caller, gone_server, is_lost_reference, is_lost_with, is_unread_on, unread_frame, unread_server}

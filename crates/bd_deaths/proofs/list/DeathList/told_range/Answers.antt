@@ -1,5 +1,5 @@
 use Rattle.std.proofs.Common.{◌==◌, subst, arith}
-use Rattle.bd_space.specs.Clearing.{is_told, is_told_with}
+use Rattle.bd_space.specs.Deaths.{is_told, is_told_with}
 use Rattle.bd_deaths.specs.declared.key.Key.{Key}
 use Rattle.bd_deaths.specs.Keys.{has, cookie_key}
 use Rattle.bd_deaths.specs.Slots.{on}

@@ -1,4 +1,4 @@
-use Rattle.bd_space.specs.Clearing.{is_told_with}
+use Rattle.bd_space.specs.Deaths.{is_told_with}
 use Rattle.bd_deaths.proofs.Lives.{found-in}
 use Rattle.bd_deaths.proofs.table.DeathTable.told.Goals as goal
 

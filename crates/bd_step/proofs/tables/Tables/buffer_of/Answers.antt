@@ -1,6 +1,6 @@
 use Rattle.std.proofs.Common.{◌∙◌, ap, refl, List}
 use Rattle.bd_space.specs.declared.space.Item.{Item}
-use Rattle.bd_space.specs.Translation.{translation}
+use Rattle.bd_space.specs.Parcels.{translation}
 use Rattle.bd_step.proofs.Deliveries.{buffer-is}
 use Rattle.bd_step.proofs.tables.Tables.buffer_of.Goals as goal
 

@@ -1,9 +1,8 @@
 use Rattle.std.proofs.Common.{ap}
 use Rattle.bd_space.specs.Space.{Space}
-use Rattle.bd_space.specs.Steps.{change, open_step, attach_step, manager_step}
+use Rattle.bd_space.specs.Steps.{change, open_step, attach_step, manager_step, command_step}
 use Rattle.bd_space.specs.Spam.{spam_step}
-use Rattle.bd_space.specs.Commands.{command_step}
-use Rattle.bd_space.specs.Reading.{read_step}
+use Rattle.bd_space.specs.ReadItems.{read_step}
 use Rattle.bd_space.specs.ThreadExits.{exit_thread_step}
 use Rattle.bd_space.specs.ProcessExits.{exit_process_step}
 use Rattle.bd_step.specs.Meets.{IsBy}

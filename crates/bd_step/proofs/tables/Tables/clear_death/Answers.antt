@@ -1,5 +1,5 @@
 use Rattle.std.proofs.Common.{sym}
-use Rattle.bd_space.specs.Clearing.{clear_step, clear_check, cleared}
+use Rattle.bd_space.specs.Deaths.{clear_step, clear_check, cleared}
 use Rattle.bd_laws.proofs.Clearing.{cleared-local}
 use Rattle.bd_step.proofs.Clearing.{cleared-there}
 use Rattle.bd_step.proofs.Accepting.{checked-notes, checked-accepts-alone}

@@ -1,5 +1,5 @@
 use Rattle.std.proofs.Common.{sym, ap}
-use Rattle.bd_space.specs.Clearing.{death_done_step, death_done_outcome, death_done}
+use Rattle.bd_space.specs.Deaths.{death_done_step, death_done_outcome, death_done}
 use Rattle.bd_laws.proofs.Clearing.{done-local}
 use Rattle.bd_step.proofs.Accepting.{accepts-alone, notes}
 use Rattle.bd_step.proofs.Meeting.{taken-step}

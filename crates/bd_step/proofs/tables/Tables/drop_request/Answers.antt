@@ -2,7 +2,7 @@ use Rattle.std.proofs.Common.{ℕ, ◌+◌, Bool, subst}
 use Rattle.std.specs.Prelude.{if◌then◌else◌}
 use Rattle.bd_space.specs.declared.space.DeathNotification.{DeathNotification}
 use Rattle.bd_space.specs.Space.{Space}
-use Rattle.bd_space.specs.Clearing.{cleared, mark_cleared, death_ended}
+use Rattle.bd_space.specs.Deaths.{cleared, mark_cleared, death_ended}
 use Rattle.bd_step.specs.Stands.{Within}
 use Rattle.bd_step.proofs.Changing.{with-objects}
 use Rattle.bd_step.proofs.tables.Tables.drop_request.Goals as goal

@@ -1,6 +1,5 @@
 use Rattle.std.proofs.Common.{◌+◌}
-use Rattle.bd_space.specs.Deaths.{without_death}
-use Rattle.bd_space.specs.Clearing.{death_ended}
+use Rattle.bd_space.specs.Deaths.{without_death, death_ended}
 use Rattle.bd_step.proofs.Changing.{with-objects}
 use Rattle.bd_step.proofs.tables.Tables.end_death.Goals as goal
 

@@ -1,6 +1,6 @@
 use Rattle.std.proofs.Common.{ap, sym, ◌∙◌, Some}
 use Rattle.bd_space.specs.Todo.{list_to_read, work_on}
-use Rattle.bd_space.specs.Reading.{none_due}
+use Rattle.bd_space.specs.ReadItems.{none_due}
 use Rattle.bd_step.proofs.TakingItems.{filled, none_left}
 use Rattle.bd_step.proofs.tables.Tables.list_to_read.Goals as goal
 

@@ -2,8 +2,7 @@ use Rattle.std.proofs.Common.{◌-◌, ◌∙◌, List, sym, ap, subst}
 use Rattle.bd_uapi.specs.declared.fault.Fault.TheVariants.{ReadTooSmall, Again}
 use Rattle.bd_space.specs.declared.space.Work.{Work}
 use Rattle.bd_space.specs.Todo.{list_to_read}
-use Rattle.bd_space.specs.Reading.{read_step, read_taking, none_due}
-use Rattle.bd_space.specs.ReadItems.{taken}
+use Rattle.bd_space.specs.ReadItems.{read_step, read_taking, none_due, taken}
 use Rattle.bd_step.specs.Taking.{IsReading}
 use Rattle.bd_step.proofs.Meeting.{IsOutcome, answer-is, meets, in-case, is-refused}
 use Rattle.bd_step.proofs.TakingItems.{read_outcome, too-small, nothing, readable}

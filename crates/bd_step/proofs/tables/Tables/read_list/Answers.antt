@@ -5,8 +5,7 @@ use Rattle.bd_buffers.specs.WindowsStand.{made_of_buffer}
 use Rattle.bd_space.specs.declared.space.Work.{Work}
 use Rattle.bd_space.specs.Todo.{notice_of, work_on}
 use Rattle.bd_ways.specs.Local.{is_among}
-use Rattle.bd_space.specs.Reading.{read_taking, got}
-use Rattle.bd_space.specs.ReadItems.{read_by, buffer_taken, taken}
+use Rattle.bd_space.specs.ReadItems.{read_taking, got, read_by, buffer_taken, taken}
 use Rattle.bd_space.specs.Returns.{stream_of}
 use Rattle.bd_step.specs.Stands.{Within}
 use Rattle.bd_step.proofs.Standing.{within}

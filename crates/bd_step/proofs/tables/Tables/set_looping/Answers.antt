@@ -1,5 +1,5 @@
 use Rattle.std.proofs.Common.{◌+◌, refl}
-use Rattle.bd_space.specs.Commands.{with_looping}
+use Rattle.bd_space.specs.Steps.{with_looping}
 use Rattle.bd_laws.proofs.Others.{looping-local}
 use Rattle.bd_step.proofs.Changing.{with-calls}
 use Rattle.bd_step.proofs.Accepting.{accepts-alone}

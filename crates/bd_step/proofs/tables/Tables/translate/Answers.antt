@@ -1,5 +1,5 @@
 use Rattle.std.proofs.Common.{arith, ◌∙◌}
-use Rattle.bd_space.specs.Translation.{translation, translate_item}
+use Rattle.bd_space.specs.Parcels.{translation, translate_item}
 use Rattle.bd_step.proofs.Deliveries.{translated-more, fold-all}
 use Rattle.bd_step.proofs.tables.Tables.translate.Goals as goal
 

@@ -1,7 +1,7 @@
 use Rattle.std.proofs.Common.{ℕ, ◌≡◌, take}
 use Rattle.std.specs.List.{fold}
 use Rattle.bd_space.specs.Space.{Space}
-use Rattle.bd_space.specs.Translation.{translate_item}
+use Rattle.bd_space.specs.Parcels.{translate_item}
 use Rattle.bd_step.specs.Stands.{StandsAt}
 use Rattle.bd_step.proofs.tables.Tables.translate.Given as goal
 
