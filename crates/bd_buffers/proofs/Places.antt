@@ -8,7 +8,7 @@ use Rattle.std.proofs.lemmas.Bool.{cases_lt, and_from, false_from_ne_true}
 use Rattle.bd_uapi.specs.declared.fault.Cause.{Cause}
 use Rattle.bd_uapi.specs.declared.fault.Cause.TheVariants.{NoRoom, OverBudget}
 use Rattle.bd_space.specs.declared.space.Buffer.{Buffer}
-use Rattle.bd_space.specs.Words.{least, when, found_or, unless, and_then}
+use Rattle.bd_space.specs.Words.{least, when, ok_or, unless, and_then}
 use Rattle.bd_space.specs.Windows.{is_apart, fits_in, start_in, over_budget_in, start_for, needed}
 use Rattle.bd_buffers.specs.Buffer.{IsApart}
 use Rattle.bd_buffers.specs.declared.window.Window.{Window}
@@ -200,7 +200,7 @@ over_budget size buffers n true e = (refl, search (rules, tests))
 over_budget size buffers n false e = cc
 
 given : (size : ℕ) (buffers : List Buffer) (one_way : Bool) (n p : ℕ) (o : Option ℕ) (over : Bool) → start_in size buffers n ≡ o → (one_way && over_budget_in size buffers n) ≡ over
-    → and_then (found_or o NoRoom) (unless (when over OverBudget)) ≡ Ok p → IsGiven size buffers one_way n p
+    → and_then (ok_or o NoRoom) (unless (when over OverBudget)) ≡ Ok p → IsGiven size buffers one_way n p
 given size buffers one_way n p None over e f g = cc
 given size buffers one_way n p (Some q) true e f g = cc
 given size buffers one_way n p (Some q) false e f g =
@@ -208,7 +208,7 @@ given size buffers one_way n p (Some q) false e f g =
     record { least = start_says size buffers n p (e ∙ ap (λ r. Some r) same); budget = in_budget size buffers n one_way f }
 
 refused : (size : ℕ) (buffers : List Buffer) (one_way : Bool) (n : ℕ) (x : Cause) (o : Option ℕ) (over : Bool) → 8 ≤ n → start_in size buffers n ≡ o
-    → (one_way && over_budget_in size buffers n) ≡ over → and_then (found_or o NoRoom) (unless (when over OverBudget)) ≡ Err x → Refuses size buffers one_way n x
+    → (one_way && over_budget_in size buffers n) ≡ over → and_then (ok_or o NoRoom) (unless (when over OverBudget)) ≡ Err x → Refuses size buffers one_way n x
 refused size buffers one_way n x None over filled e f g =
     let P : Cause → Type 0 = λ y. Refuses size buffers one_way n y in
     let same : NoRoom ≡ x = cc in

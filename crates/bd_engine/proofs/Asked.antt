@@ -4,7 +4,7 @@ use Rattle.std.specs.List.{list_any}
 use Rattle.std.specs.Result.{is_ok}
 use Rattle.std.proofs.Common.{refl}
 use Rattle.bd_uapi.specs.declared.fault.Note.TheVariants.{NoSuchNumber, NothingAsked}
-use Rattle.bd_space.specs.Words.{is_some_and, when, found_or, unless, and_then}
+use Rattle.bd_space.specs.Words.{is_some_and, when, ok_or, unless, and_then}
 use Rattle.bd_space.specs.Space.{Space}
 use Rattle.bd_space.specs.References.{is_asking}
 use Rattle.bd_space.specs.Names.{named}
@@ -17,7 +17,7 @@ module _ {A E : Type 0} where
   passed o e false = refl
 
   checked : (found : Option A) (d e : E) (p : A → Bool)
-      → is_ok (and_then (found_or found d) (λ o. unless (when (not (p o)) e) o)) ≡ is_some_and found p
+      → is_ok (and_then (ok_or found d) (λ o. unless (when (not (p o)) e) o)) ≡ is_some_and found p
   checked None d e p = refl
   checked (Some o) d e p = passed o e (p o)
 

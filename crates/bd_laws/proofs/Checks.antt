@@ -1,7 +1,7 @@
 -- For every law: what an accepted transaction, reply or asking has tested.
 use Rattle.bd_laws.proofs.words.Logic.{arith, ◌≡◌, ◌==◌, ℕ, Bool, false, Option, Some, None, Ok, ◌⊎◌, refl, sym, subst, option_map, option_and_then_some, eqb-true}
 use Rattle.bd_laws.proofs.words.Types.{TransactionData, DeadOwner, ObjectId, Parcel, Process, Thread, Actor, Callee, Frame, Object}
-use Rattle.bd_laws.proofs.words.Space.{same, found_or, Space, actor, process_in, thread_in, object_in, Delivery, sending_of, transaction_check, callee_of, target_of, with_owner, owner_of, handle_of, is_one_way, caller_cause, reply_check, caller_of, ask_check}
+use Rattle.bd_laws.proofs.words.Space.{same, ok_or, Space, actor, process_in, thread_in, object_in, Delivery, sending_of, transaction_check, callee_of, target_of, with_owner, owner_of, handle_of, is_one_way, caller_cause, reply_check, caller_of, ask_check}
 use Rattle.bd_laws.specs.Lists.{In}
 use Rattle.bd_laws.proofs.Lists.{find-in}
 use Rattle.bd_laws.proofs.Tests.{same-eq, and_then-ok, found-ok}
@@ -29,7 +29,7 @@ pub record Transacts (s : Space) (a : Actor) (d : TransactionData) (parcel : Opt
   pub one_way : v.one_way ≡ is_one_way d
 
 found-callee : (s : Space) (o : ObjectId) (q : Option Process) (c : Callee) → owner_of s o ≡ q
-    → found_or (option_map (λ (p : Process). let x : Callee = record { object = o; process = p } in x) q) DeadOwner ≡ Ok c → Owned s c.object c.process
+    → ok_or (option_map (λ (p : Process). let x : Callee = record { object = o; process = p } in x) q) DeadOwner ≡ Ok c → Owned s c.object c.process
 found-callee s o None c e h = absurd (cc)
 found-callee s o (Some q) c e h = search (arith, owned)
 

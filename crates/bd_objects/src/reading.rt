@@ -2,7 +2,7 @@
 
 ghost use Rattle.std.specs.Prelude.{◌≡◌, ◌==◌, ◌≤◌, ◌+◌, ◌*◌, ◌++◌, ℕ, List, length, vec_len, vec_capacity};
 ghost use Rattle.std.specs.List.{flat_map};
-ghost use Rattle.bd_space.specs.{Words.{changed, when, is_some_and, same as same_object}, Todo.{notice_of}};
+ghost use Rattle.bd_space.specs.{Words.{changed, when, is_some_and, option_to_list, same as same_object}, Todo.{notice_of}};
 ghost use Rattle.bd_space.specs.References as refer;
 ghost use Rattle.bd_space.specs.ReadItems as reading;
 ghost use Rattle.bd_space.specs.Returns as returns;
@@ -30,7 +30,7 @@ fn return_when(test: bool, r: Return) -> Option<Return>
 /// What the owner of this object is told, by the references as they stand.
 fn notice_returns_of(references: &ReferenceTable, x: &Object) -> [Option<Return>; 4]
     ensures { (l : List Reference) → ReferencesAre references.now l
-        → flat_map returns.one result ≡ returns.notice_returns l x.now }
+        → flat_map option_to_list result ≡ returns.notice_returns l x.now }
 {
     let Hold { is_held, is_strong } = references.hold(x.id);
     [
@@ -188,7 +188,7 @@ impl ObjectTable {
     /// What the owner of the object is told: `BR_INCREFS`, `BR_ACQUIRE`, `BR_RELEASE` and `BR_DECREFS`, each if it is
     /// to be told that.
     pub fn notice_returns(&self, o: ObjectId) -> [Option<Return>; 4]
-        ensures { Tells (StandsFor self.now) (flat_map returns.one result)
+        ensures { Tells (StandsFor self.now) (flat_map option_to_list result)
             (λ s. returns.returns_of_object s.references (refer.object_in s.objects o)) }
     {
         match self.nodes.object(o) {

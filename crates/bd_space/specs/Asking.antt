@@ -1,6 +1,6 @@
 -- The steps of BC_INCREFS, BC_ACQUIRE, BC_RELEASE, BC_DECREFS, BC_INCREFS_DONE and BC_ACQUIRE_DONE.
 use Rattle.std.specs.Prelude.{ℕ, ◌==◌, Bool, not, ◌&&◌, [], ◌∷◌, ◌++◌, Option, Result, find, if◌then◌else◌}
-use Rattle.bd_space.specs.Words.{list_any, Note, ObjectId, Object, Asked, when, first_of, found_or, unless, and_then, without_first, Space}
+use Rattle.bd_space.specs.Words.{list_any, Note, ObjectId, Object, Asked, when, first_of, ok_or, unless, and_then, without_first, Space}
 use Rattle.bd_space.specs.{References.{reference_of, strong_in, owned_in, is_asking, is_shaking}, Names.{named, assign_numbers}, Outcomes.{Outcome, by_check}}
 
 -- ---- asking
@@ -13,7 +13,7 @@ asked_of s p n = if n == 0 then first_of (s.manager ∷ named s p 0 ∷ []) else
 -- nobody asks for his own
 unfoldable pub ask_check : Space → ℕ → ℕ → Bool → Result ObjectId Note
 ask_check s p n strong =
-    and_then (found_or (asked_of s p n) Note.NoSuchNumber) (λ o. unless (first_of (
+    and_then (ok_or (asked_of s p n) Note.NoSuchNumber) (λ o. unless (first_of (
     when (strong && not (strong_in s.references o)) Note.NotStrong
     ∷ when (owned_in s.objects p o) Note.OwnManager
     ∷ [])) o)
@@ -29,7 +29,7 @@ ask_step s p n strong = by_check s (λ o. ask s p o strong) (ask_check s p n str
 
 unfoldable pub drop_check : Space → ℕ → ℕ → Bool → Result ObjectId Note
 drop_check s p n strong =
-    and_then (found_or (named s p n) Note.NoSuchNumber)
+    and_then (ok_or (named s p n) Note.NoSuchNumber)
     (λ o. unless (when (not (list_any (is_asking p o strong) s.references)) Note.NothingAsked) o)
 
 -- the least reference of that strength that the process asked for goes
@@ -46,7 +46,7 @@ is_own_with p ptr cookie x = (x.owner == p) && (x.ptr == ptr) && (x.cookie == co
 
 unfoldable pub done_check : Space → ℕ → ℕ → ℕ → Bool → Result Object Note
 done_check s p ptr cookie strong =
-    and_then (found_or (find (is_own_with p ptr cookie) s.objects) Note.NoSuchObject)
+    and_then (ok_or (find (is_own_with p ptr cookie) s.objects) Note.NoSuchObject)
     (λ x. unless (when (not (list_any (is_shaking x.id strong) s.references)) Note.NoHandshake) x)
 
 -- the reference that stood for the acknowledgement goes

@@ -1,6 +1,6 @@
 -- Death notifications, and the steps of BC_REQUEST_DEATH_NOTIFICATION, BC_CLEAR_DEATH_NOTIFICATION and BC_DEAD_BINDER_DONE.
 use Rattle.std.specs.Prelude.{ℕ, ◌==◌, Bool, false, not, ◌&&◌, List, [], ◌∷◌, ◌++◌, Option, Result, find, filter, is_some, if◌then◌else◌, true, Some, None}
-use Rattle.bd_space.specs.Words.{Note, ObjectId, Process, Object, DeathNotification, Phase, Armed, Queued, OfProcess, WorkKind, is_some_and, same, found_or, unless, when, and_then, changed, Space, Told, Done, OfThread}
+use Rattle.bd_space.specs.Words.{Note, ObjectId, Process, Object, DeathNotification, Phase, Armed, Queued, OfProcess, WorkKind, is_some_and, same, ok_or, unless, when, and_then, changed, Space, Told, Done, OfThread}
 use Rattle.bd_space.specs.{Seats.lives_in, References.object_in, Names.named, Todo.owe, Outcomes.{Outcome, by_check, accepted, noted}}
 
 -- the uncleared notification that stands on a process's name of the object
@@ -23,7 +23,7 @@ with_phase s made phase = record s { deaths = changed (is_notification made) (λ
 
 unfoldable pub request_check : Space → ℕ → ℕ → Result ObjectId Note
 request_check s p n =
-    and_then (found_or (named s p n) Note.NoSuchNumber)
+    and_then (ok_or (named s p n) Note.NoSuchNumber)
     (λ o. unless (when (is_some (uncleared_in s.deaths p o)) Note.AlreadyAsked) o)
 
 unfoldable pub with_death : Space → ℕ → ObjectId → ℕ → Phase → Space
@@ -47,8 +47,8 @@ request_step s p n cookie = by_check s (λ o. requested s p o cookie) (request_c
 -- the notification that stands on the name, which has to have this cookie
 unfoldable pub clear_check : Space → ℕ → ℕ → ℕ → Result DeathNotification Note
 clear_check s p n cookie =
-    and_then (found_or (named s p n) Note.NoSuchNumber)
-    (λ o. and_then (found_or (uncleared_in s.deaths p o) Note.NoneAsked) (λ x. unless (when (not (x.cookie == cookie)) Note.NoneAsked) x))
+    and_then (ok_or (named s p n) Note.NoSuchNumber)
+    (λ o. and_then (ok_or (uncleared_in s.deaths p o) Note.NoneAsked) (λ x. unless (when (not (x.cookie == cookie)) Note.NoneAsked) x))
 
 abbrev pub is_out : Phase → Bool
 is_out Queued = true

@@ -1,6 +1,6 @@
 -- The step of BC_REPLY.
 use Rattle.std.specs.Prelude.{ℕ, false, Option, Some, None, Result, Ok, Err, option_and_then}
-use Rattle.bd_space.specs.Words.{TransactionData, Return, Cause, Parcel, Frame, OfThread, WorkKind, found_or, and_then, Space, Actor}
+use Rattle.bd_space.specs.Words.{TransactionData, Return, Cause, Parcel, Frame, OfThread, WorkKind, ok_or, and_then, Space, Actor}
 use Rattle.bd_space.specs.{Seats.actor, Frames.{served_innermost, closed}, Todo.{owe, tell_caller}, Parcels.sending_of, Delivery.{Delivery, delivered, placed_for}, Outcomes.{Outcome, accepted, stopped}}
 
 -- the live thread that made the call, and its process
@@ -10,7 +10,7 @@ caller_of s f = option_and_then (actor s) f.caller
 -- what is to be delivered to the caller of the frame, or the first cause against it
 unfoldable pub reply_check : Space → Actor → TransactionData → Option Parcel → Frame → Result Delivery Cause
 reply_check s a d parcel f =
-    and_then (found_or (caller_of s f) Cause.CallerGone)
+    and_then (ok_or (caller_of s f) Cause.CallerGone)
     (λ c. and_then (sending_of s a.process.made d parcel) (placed_for s d c.process None false))
 
 -- the frame closes, and the caller has a reply to read

@@ -1,6 +1,6 @@
 -- The returns that work items give, and their bytes.
 use Rattle.std.specs.Prelude.{ℕ, ◌+◌, not, ◌&&◌, List, [], ◌∷◌, ◌++◌, length, map, Option, Some, None, find, option_map, option_and_then, unwrap_or, if◌then◌else◌, pos}
-use Rattle.bd_space.specs.Words.{concat, TransactionData, Return, return_bytes, Object, Reference, Buffer, Work, WorkKind, round_up, Space}
+use Rattle.bd_space.specs.Words.{concat, option_to_list, TransactionData, Return, return_bytes, Object, Reference, Buffer, Work, WorkKind, round_up, Space}
 use Rattle.bd_space.specs.{Seats.actor, References.{held_in, strong_in, object_in}, Frames.is_frame, Freeing.{pointer, is_made_at}, Deaths.is_notification}
 
 abbrev pub buffer_in : List Buffer → ℕ → Option Buffer
@@ -37,10 +37,6 @@ notice_returns references x =
     ++ (if x.told_strong && not (strong_in references x.id) then (Return.Release x.ptr x.cookie ∷ []) else [])
     ++ (if x.told_weak && not (held_in references x.id) then (Return.Decrefs x.ptr x.cookie ∷ []) else [])
 
-abbrev pub one : Option Return → List Return
-one None = []
-one (Some r) = r ∷ []
-
 abbrev pub returns_of_object : List Reference → Option Object → List Return
 returns_of_object references None = []
 returns_of_object references (Some x) = notice_returns references x
@@ -49,10 +45,10 @@ unfoldable pub returns_of : Space → WorkKind → List Return
 returns_of s (WorkKind.Notice o) = returns_of_object s.references (object_in s.objects o)
 returns_of s (WorkKind.Complete spam) = (if spam then Return.OnewaySpamSuspect else Return.TransactionComplete) ∷ []
 returns_of s (WorkKind.Refusal r) = r ∷ []
-returns_of s (WorkKind.Call b) = one (option_map (λ x. Return.Transaction (data_of s x)) (buffer_in s.buffers b))
-returns_of s (WorkKind.Reply b) = one (option_map (λ x. Return.Reply (data_of s x)) (buffer_in s.buffers b))
+returns_of s (WorkKind.Call b) = option_to_list (option_map (λ x. Return.Transaction (data_of s x)) (buffer_in s.buffers b))
+returns_of s (WorkKind.Reply b) = option_to_list (option_map (λ x. Return.Reply (data_of s x)) (buffer_in s.buffers b))
 returns_of s (WorkKind.Verdict r) = r ∷ []
-returns_of s (WorkKind.Death n) = one (option_map (λ x. Return.DeadBinder x.cookie) (find (is_notification n) s.deaths))
+returns_of s (WorkKind.Death n) = option_to_list (option_map (λ x. Return.DeadBinder x.cookie) (find (is_notification n) s.deaths))
 returns_of s (WorkKind.Cleared cookie) = Return.ClearDeathNotificationDone cookie ∷ []
 
 abbrev pub bytes_read : Space → Work → List ℕ

@@ -1,6 +1,6 @@
 -- The step of BC_TRANSACTION.
 use Rattle.std.specs.Prelude.{ℕ, ◌%◌, ◌^◌, ◌==◌, Bool, true, false, ◌&&◌, [], ◌∷◌, ◌++◌, Option, Some, None, Result, Ok, Err, is_some, is_none, option_map, option_and_then, if◌then◌else◌}
-use Rattle.bd_space.specs.Words.{TransactionData, Return, Cause, ObjectId, Parcel, Process, Callee, Pending, OfThread, WorkKind, when, first_of, found_or, unless, and_then, Space, Actor}
+use Rattle.bd_space.specs.Words.{TransactionData, Return, Cause, ObjectId, Parcel, Process, Callee, Pending, OfThread, WorkKind, when, first_of, ok_or, unless, and_then, Space, Actor}
 use Rattle.bd_space.specs.{Seats.process_in, References.{object_in, owned_in}, Names.strongly_named, Frames.{innermost, served_innermost, goes_to, made_of}}
 use Rattle.bd_space.specs.{Todo.{owe, has_unread}, Parcels.sending_of, Delivery.{Delivery, delivered, placed_for}, Spam.is_spam, Outcomes.{Outcome, accepted, stopped}}
 
@@ -19,13 +19,13 @@ not_own s p o = unless (when (owned_in s.objects p o) Cause.OwnManager) o
 
 unfoldable pub target_of : Space → ℕ → ℕ → Result ObjectId Cause
 target_of s p handle =
-    if handle == 0 then and_then (found_or s.manager Cause.NoManager) (not_own s p) else found_or (strongly_named s p handle) Cause.NotStronglyNamed
+    if handle == 0 then and_then (ok_or s.manager Cause.NoManager) (not_own s p) else ok_or (strongly_named s p handle) Cause.NotStronglyNamed
 
 unfoldable pub owner_of : Space → ObjectId → Option Process
 owner_of s o = option_and_then (λ x. process_in s.processes x.owner) (object_in s.objects o)
 
 abbrev pub with_owner : Space → ObjectId → Result Callee Cause
-with_owner s o = found_or (option_map (λ q. record { object = o; process = q }) (owner_of s o)) Cause.DeadOwner
+with_owner s o = ok_or (option_map (λ q. record { object = o; process = q }) (owner_of s o)) Cause.DeadOwner
 
 unfoldable pub callee_of : Space → ℕ → ℕ → Result Callee Cause
 callee_of s p handle = and_then (target_of s p handle) (with_owner s)

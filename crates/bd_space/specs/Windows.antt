@@ -1,6 +1,6 @@
 -- Where a buffer goes in its receiver's window.
 use Rattle.std.specs.Prelude.{ℕ, ◌+◌, ◌*◌, ◌/◌, ◌==◌, nat_le, nat_lt, Bool, ◌&&◌, ◌||◌, List, Option, Result, max, filter, option_map, sum_by}
-use Rattle.bd_space.specs.Words.{list_all, Cause, Buffer, least, round_up, when, found_or, unless, and_then}
+use Rattle.bd_space.specs.Words.{list_all, Cause, Buffer, least, round_up, when, ok_or, unless, and_then}
 
 -- the room that a parcel needs
 abbrev pub needed : ℕ → ℕ → ℕ
@@ -29,4 +29,4 @@ over_budget_in window buffers size = nat_lt window (2 * (sum_by (λ b. b.size) (
 -- the place of a new buffer, or why there is none
 unfoldable pub start_for : ℕ → List Buffer → Bool → ℕ → Result ℕ Cause
 start_for window buffers one_way size =
-    and_then (found_or (start_in window buffers size) Cause.NoRoom) (unless (when (one_way && over_budget_in window buffers size) Cause.OverBudget))
+    and_then (ok_or (start_in window buffers size) Cause.NoRoom) (unless (when (one_way && over_budget_in window buffers size) Cause.OverBudget))

@@ -1,20 +1,15 @@
 -- The words that the space is said in: its members, steps and refusals, passed on from where they are declared, and a few of
 -- its own on lists, numbers, options and identities.
 use Rattle.std.specs.Prelude.{ℕ, zero, suc, ◌+◌, ◌*◌, ◌/◌, ◌==◌, Bool, true, false, ◌&&◌, List, [], ◌∷◌, ◌++◌, length, take, drop, Option, Some, None, Result, Ok, Err, if◌then◌else◌}
-pub use Rattle.std.specs.{Bool.beq, List.list_any, List.list_all, List.flat_map, List.filter_map, List.concat, Option.option_to_list}
-pub use Rattle.bd_uapi.specs.declared.command.{Command.Command, Return.Return, TransactionData.TransactionData}
-pub use Rattle.bd_uapi.specs.declared.fault.{Cause.Cause, Fault.Fault, Note.Note}
+pub use Rattle.std.specs.{Bool.beq, List.list_any, List.list_all, List.flat_map, List.filter_map, List.concat, Option.option_to_list, Option.ok_or}
+pub use Rattle.bd_uapi.specs.{declared.command.{Command.Command, Return.Return, TransactionData.TransactionData}, declared.fault.{Cause.Cause, Fault.Fault, Note.Note}, Kinds.{is_own, is_strong_kind}, Records.object_bytes}
 pub use Rattle.bd_uapi.specs.declared.object.{FlatObject.FlatObject, ObjectKind.TheVariants.Binder, ObjectKind.TheVariants.WeakBinder, ObjectKind.TheVariants.Handle, ObjectKind.TheVariants.WeakHandle}
-pub use Rattle.bd_uapi.specs.{Kinds.is_own, Kinds.is_strong_kind, Records.object_bytes}
 pub use Rattle.bd_codec.specs.{Reading.command_at, Spelling.return_bytes}
 pub use Rattle.bd_parcel.specs.{Parcels.offsets_in, Parcels.fault_in, Reading.object_at, declared.fault.WalkFault.WalkFault}
 pub use Rattle.bd_space.specs.declared.{record.Record.Record, step.Answer.Answer, step.Entry.Entry, step.ObjectId.ObjectId, step.Parcel.Parcel, step.Request.Request, step.Step.Step, step.StepAnswer.StepAnswer, step.Stop.Stop}
 pub use Rattle.bd_space.specs.declared.space.{Actor.Actor, Buffer.Buffer, Callee.Callee, DeathNotification.DeathNotification, Frame.Frame, Identity.Identity, Item.Item, Name.Name, Object.Object}
 pub use Rattle.bd_space.specs.declared.space.{Process.Process, Reference.Reference, Resolved.Resolved, Thread.Thread, Turn.Turn, Work.Work, WorkKind.WorkKind, Holder.Holder, Phase.Phase, Server.Server, TodoList.TodoList}
-pub use Rattle.bd_space.specs.declared.space.Holder.TheVariants.{Asked, Carried, Target, Handshake, Manager}
-pub use Rattle.bd_space.specs.declared.space.Phase.TheVariants.{Armed, Queued, Told, Done}
-pub use Rattle.bd_space.specs.declared.space.Server.TheVariants.{Pending, Serving, Gone}
-pub use Rattle.bd_space.specs.declared.space.TodoList.TheVariants.{OfThread, OfProcess}
+pub use Rattle.bd_space.specs.declared.space.{Holder.TheVariants.{Asked, Carried, Target, Handshake, Manager}, Phase.TheVariants.{Armed, Queued, Told, Done}, Server.TheVariants.{Pending, Serving, Gone}, TodoList.TheVariants.{OfThread, OfProcess}}
 pub use Rattle.bd_space.specs.Space.{Space, opening}
 
 -- a cause, a note or a fault where the test holds
@@ -32,11 +27,6 @@ first_of (None ∷ os) = first_of os
 abbrev pub is_some_and : {A : Type 0} → Option A → (A → Bool) → Bool
 is_some_and None p = false
 is_some_and (Some x) p = p x
-
--- what there is, or else why there is nothing
-abbrev pub found_or : {A E : Type 0} → Option A → E → Result A E
-found_or None e = Err e
-found_or (Some x) e = Ok x
 
 -- the value where nothing stands against it
 abbrev pub unless : {A E : Type 0} → Option E → A → Result A E

@@ -11,7 +11,7 @@ use Rattle.bd_space.specs.declared.step.Parcel.{Parcel}
 use Rattle.bd_space.specs.declared.space.Object.{Object}
 use Rattle.bd_space.specs.declared.space.Item.{Item}
 use Rattle.bd_space.specs.declared.space.Resolved.{Resolved}
-use Rattle.bd_space.specs.Words.{same, found_or, unless, when, first_of}
+use Rattle.bd_space.specs.Words.{same, ok_or, unless, when, first_of}
 use Rattle.bd_space.specs.Space.{Space}
 use Rattle.bd_space.specs.Seats.{thread_in, process_with_pid}
 use Rattle.bd_space.specs.References.{object_in, own_in}
@@ -106,7 +106,7 @@ unnotified s place at tidy =
 pub new-death : (s : Space) (place p n : ℕ) (o : ObjectId) → s.steps ≡ place → IsTidy s → request_check s p n ≡ Ok o → IsNewDeath place p o s
 unfolding request_check
 new-death s place p n o at tidy check =
-    let c = and_then-ok (found_or (named s p n) NoSuchNumber) (λ (o : ObjectId). unless (when (is_some (uncleared_in s.deaths p o)) AlreadyAsked) o) o check in
+    let c = and_then-ok (ok_or (named s p n) NoSuchNumber) (λ (o : ObjectId). unless (when (is_some (uncleared_in s.deaths p o)) AlreadyAsked) o) o check in
     let k = unless-ok (when (is_some (uncleared_in s.deaths p c.0)) AlreadyAsked) c.0 o c.2 in
     record {
       at = at;

@@ -15,7 +15,7 @@ use Rattle.bd_space.specs.declared.space.Callee.{Callee}
 use Rattle.bd_space.specs.declared.space.Actor.{Actor}
 use Rattle.bd_space.specs.declared.space.TodoList.TheVariants.{OfThread}
 use Rattle.bd_space.specs.declared.space.WorkKind.TheVariants.{Complete, Refusal, Reply, Verdict}
-use Rattle.bd_space.specs.Words.{found_or, unless, and_then}
+use Rattle.bd_space.specs.Words.{ok_or, unless, and_then}
 use Rattle.bd_space.specs.Space.{Space}
 use Rattle.bd_space.specs.Seats.{process_in, actor}
 use Rattle.bd_space.specs.Names.{names_go, has_number_past_limit, assign_numbers}
@@ -48,17 +48,17 @@ callee o q = record { object = o; process = q }
 pub target-manager : (s : Space) (p handle : ℕ) (o : ObjectId) → handle ≡ 0 → s.manager ≡ Some o → not_own s p o ≡ target_of s p handle
 unfolding target_of
 target-manager s p handle o e m =
-    ap (λ (x : Option ObjectId). and_then (found_or x NoManager) (not_own s p)) (sym m) ∙ rw e refl
+    ap (λ (x : Option ObjectId). and_then (ok_or x NoManager) (not_own s p)) (sym m) ∙ rw e refl
 
 pub owner-dead : (s : Space) (p handle : ℕ) (o : ObjectId) → Ok o ≡ target_of s p handle → None ≡ owner_of s o → Err DeadOwner ≡ callee_of s p handle
 unfolding callee_of
 owner-dead s p handle o e k =
-    ap (λ (x : Option Process). found_or (option_map (λ (q : Process). callee o q) x) DeadOwner) k ∙ ap (λ (r : Result ObjectId Cause). and_then r (with_owner s)) e
+    ap (λ (x : Option Process). ok_or (option_map (λ (q : Process). callee o q) x) DeadOwner) k ∙ ap (λ (r : Result ObjectId Cause). and_then r (with_owner s)) e
 
 pub owner-lives : (s : Space) (p handle : ℕ) (o : ObjectId) (q : Process) → Ok o ≡ target_of s p handle → Some q ≡ owner_of s o → Ok (callee o q) ≡ callee_of s p handle
 unfolding callee_of
 owner-lives s p handle o q e k =
-    ap (λ (x : Option Process). found_or (option_map (λ (q : Process). callee o q) x) DeadOwner) k ∙ ap (λ (r : Result ObjectId Cause). and_then r (with_owner s)) e
+    ap (λ (x : Option Process). ok_or (option_map (λ (q : Process). callee o q) x) DeadOwner) k ∙ ap (λ (r : Result ObjectId Cause). and_then r (with_owner s)) e
 
 pub no-target : (s : Space) (p handle : ℕ) (x : Cause) → Err x ≡ target_of s p handle → Err x ≡ callee_of s p handle
 unfolding callee_of
@@ -171,11 +171,11 @@ module _ (s : Space) (a : Actor) (d : TransactionData) (parcel : Option Parcel) 
 
   pub caller-gone : None ≡ caller_of s f → Err CallerGone ≡ reply_check s a d parcel f
   unfolding reply_check
-  caller-gone e = ap (λ (o : Option Actor). and_then (found_or o CallerGone) reply_to_caller) e
+  caller-gone e = ap (λ (o : Option Actor). and_then (ok_or o CallerGone) reply_to_caller) e
 
   pub caller-there : (c : Actor) → Some c ≡ caller_of s f → and_then (sending_of s a.process.made d parcel) (placed_for s d c.process None false) ≡ reply_check s a d parcel f
   unfolding reply_check
-  caller-there c e = ap (λ (o : Option Actor). and_then (found_or o CallerGone) reply_to_caller) e
+  caller-there c e = ap (λ (o : Option Actor). and_then (ok_or o CallerGone) reply_to_caller) e
 
   pub reply-stops : (x : Cause) → Err x ≡ reply_check s a d parcel f → reply_to s a d parcel (Some f) ≡ stopped x (reply_refused s a.thread.seat f)
   reply-stops x e = ap (reply_outcome s a d f) (sym e)

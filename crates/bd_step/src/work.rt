@@ -4,7 +4,7 @@ ghost use Rattle.std.specs.Prelude.{pos, true, ◌≡◌, ◌+◌, ◌≤◌, �
 ghost use Rattle.std.specs.List.{flat_map, concat};
 ghost use Rattle.bd_uapi.specs.declared.command.Return.TheVariants as br;
 ghost use Rattle.bd_codec.specs.Spelling.{return_bytes};
-ghost use Rattle.bd_space.specs.Words.{round_up as rounded};
+ghost use Rattle.bd_space.specs.Words.{option_to_list, round_up as rounded};
 ghost use Rattle.bd_space.specs.Seats as seats;
 ghost use Rattle.bd_space.specs.{Frames.{is_frame}, Freeing.{pointer}};
 ghost use Rattle.bd_space.specs.Returns as spec;
@@ -22,7 +22,7 @@ use std::alloc::AllocError;
 
 // One return, if there is one.
 fn alone(r: Option<Return>) -> [Option<Return>; 4]
-    ensures { flat_map spec.one result ≡ spec.one r }
+    ensures { flat_map option_to_list result ≡ option_to_list r }
 {
     [r, None, None, None]
 }
@@ -40,7 +40,7 @@ fn completion(spam: bool) -> Return
 
 // Appends the spelling of a return, if there is one.
 fn append_one(r: &Option<Return>, out: &mut Vec<u8>) -> Result<(), AllocError>
-    ensures { OnOk result (out.new.items ≡ out.old.items ++ concat (map return_bytes (spec.one r.now))) }
+    ensures { OnOk result (out.new.items ≡ out.old.items ++ concat (map return_bytes (option_to_list r.now))) }
 {
     match r {
         Some(r) => match write_return(r, out) {
@@ -53,7 +53,7 @@ fn append_one(r: &Option<Return>, out: &mut Vec<u8>) -> Result<(), AllocError>
 
 /// Appends the spelling of returns.
 pub(crate) fn append_returns(rs: &[Option<Return>], out: &mut Vec<u8>) -> Result<(), AllocError>
-    ensures { OnOk result (out.new.items ≡ out.old.items ++ concat (map return_bytes (flat_map spec.one rs.now))) }
+    ensures { OnOk result (out.new.items ≡ out.old.items ++ concat (map return_bytes (flat_map option_to_list rs.now))) }
 {
     for r in rs {
         append_one(r, out)?;
@@ -159,7 +159,7 @@ impl Tables {
     // The returns that a work item gives.
     #[tactic(auto, unfolding(bd_space::specs::Returns::returns_of))]
     fn returns_of(&self, kind: WorkKind) -> [Option<Return>; 4]
-        ensures { TellsBefore self.now (flat_map spec.one result) (λ s. spec.returns_of s kind) }
+        ensures { TellsBefore self.now (flat_map option_to_list result) (λ s. spec.returns_of s kind) }
     {
         match kind {
             WorkKind::Notice(o) => self.objects.notice_returns(o),

@@ -2,8 +2,9 @@
 -- takes a reply.
 use Rattle.bd_laws.proofs.words.Logic.{arith, ◌≡◌, ℕ, ◌-◌, Bool, true, false, cond, not, List, [], ◌∷◌, ◌++◌, Option, Some, Result, inl, inr, refl, ap, subst, ◌∙◌, map, list_any, concat, flat_map, find, option_map, is_some, eq-eqb, list_any-append, map-append}
 use Rattle.std.proofs.lemmas.List.Folds.{concat-append}
+use Rattle.std.specs.Option.{option_to_list}
 use Rattle.bd_laws.proofs.words.Types.{TransactionData, Return, Cause, Fault, Note, Parcel, Step, Open, Attach, SetManager, Command, Read, ExitThread, ExitProcess, StepAnswer, Got, Entry, Process, Object, Reference, Frame, Buffer, Work, Actor, DeathNotification, WorkKind, SetSpam}
-use Rattle.bd_laws.proofs.words.Space.{Space, opening, actor, thread_in, process_with_pid, object_in, list_to_read, Delivery, transaction_step, transaction_outcome, reply_step, reply_to, reply_outcome, free_step, free_outcome, is_made_at, ask_step, drop_step, done_step, request_step, is_notification, clear_step, death_done_step, death_done_outcome, command_step, read_taking, got, taken, buffer_taken, stream_of, bytes_read, buffer_in, data_of, one, returns_of, returns_of_object, exit_thread_step, exit_process_step, Outcome, by_check, change, open_step, open_outcome, open_fault, attach_step, attach_outcome, manager_step, manager_outcome, is_manager_busy, by_actor, History, IsHistory, Follows, after, spam_step}
+use Rattle.bd_laws.proofs.words.Space.{Space, opening, actor, thread_in, process_with_pid, object_in, list_to_read, Delivery, transaction_step, transaction_outcome, reply_step, reply_to, reply_outcome, free_step, free_outcome, is_made_at, ask_step, drop_step, done_step, request_step, is_notification, clear_step, death_done_step, death_done_outcome, command_step, read_taking, got, taken, buffer_taken, stream_of, bytes_read, buffer_in, data_of, returns_of, returns_of_object, exit_thread_step, exit_process_step, Outcome, by_check, change, open_step, open_outcome, open_fault, attach_step, attach_outcome, manager_step, manager_outcome, is_manager_busy, by_actor, History, IsHistory, Follows, after, spam_step}
 use Rattle.bd_uapi.specs.declared.command.Command as command
 use Rattle.bd_uapi.specs.declared.command.Return.TheVariants as br
 use Rattle.bd_codec.specs.Spelling.{return_bytes}
@@ -40,10 +41,10 @@ notice-none references o = search (arith, none-both, none-if)
 carried-none : (r : Return) → not (is_reply r) ≡ true → HasReply (r ∷ []) ≡ false
 carried-none r h = rw (not-true (is_reply r) h) refl
 
-one-none : {A : Type 0} (f : A → Return) (o : Option A) → ((x : A) → is_reply (f x) ≡ false) → HasReply (one (option_map f o)) ≡ false
+one-none : {A : Type 0} (f : A → Return) (o : Option A) → ((x : A) → is_reply (f x) ≡ false) → HasReply (option_to_list (option_map f o)) ≡ false
 one-none f o h = search (arith, none-if)
 
-reply-is : (z : Space) (o : Option Buffer) → HasReply (one (option_map (λ (x : Buffer). br.Reply (data_of z x)) o)) ≡ is_some o
+reply-is : (z : Space) (o : Option Buffer) → HasReply (option_to_list (option_map (λ (x : Buffer). br.Reply (data_of z x)) o)) ≡ is_some o
 reply-is z o = search arith
 
 -- a reply whose buffer lives gives a BR_REPLY, and no other item does

@@ -32,7 +32,7 @@ pub use Rattle.bd_space.specs.References.{buffer_of_holder, held_in, is_asked_by
 unfoldable pub use Rattle.bd_space.specs.Replies.{caller_of, replied, reply_check, reply_refused, reply_step}
 pub use Rattle.bd_space.specs.Replies.{reply_outcome, reply_to}
 unfoldable pub use Rattle.bd_space.specs.Returns.{data_of, returns_of, stream_of}
-pub use Rattle.bd_space.specs.Returns.{buffer_in, bytes_read, one, returns_of_object}
+pub use Rattle.bd_space.specs.Returns.{buffer_in, bytes_read, returns_of_object}
 unfoldable pub use Rattle.bd_space.specs.Seats.{actor}
 pub use Rattle.bd_space.specs.Seats.{actor_of, lives_in, process_in, process_with_pid, thread_in}
 unfoldable pub use Rattle.bd_space.specs.Settle.{settle}
@@ -51,4 +51,4 @@ unfoldable pub use Rattle.bd_space.specs.Turns.{ripen}
 pub use Rattle.bd_space.specs.Turns.{is_ripe, ripened, turn_of, turns_of}
 unfoldable pub use Rattle.bd_space.specs.Windows.{start_for}
 pub use Rattle.bd_space.specs.Windows.{buffers_of, needed}
-pub use Rattle.bd_space.specs.Words.{and_then, changed, first_of, found_or, is_some_and, same, same_identity, unless, when, without_first}
+pub use Rattle.bd_space.specs.Words.{and_then, changed, first_of, ok_or, is_some_and, same, same_identity, unless, when, without_first}
