@@ -9,7 +9,7 @@ ghost use Rattle.bd_audit.specs.{Replays.{with_entry}, Gifts.{IsChainOf}};
 ghost use Rattle.bd_audit.specs.GiftSearch as spec;
 
 use crate::playing::advance;
-use bd_engine::Engine;
+use bd_engine::{Engine, Looks};
 use bd_space::{Entry, ObjectId, Record};
 use bd_uapi::Fault;
 use std::alloc::Global;

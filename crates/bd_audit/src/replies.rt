@@ -8,7 +8,7 @@ ghost use Rattle.bd_audit.specs.Replays.{with_entry, beginning};
 ghost use Rattle.bd_audit.specs.Replies as spec;
 
 use crate::playing::{advance, entry_at, played_before};
-use bd_engine::Engine;
+use bd_engine::{Engine, Looks};
 use bd_space::{Entry, Record, Step};
 use bd_uapi::Fault;
 use std::alloc::Global;

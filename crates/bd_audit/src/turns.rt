@@ -9,7 +9,7 @@ ghost use Rattle.bd_audit.specs.TurnCalls.{AreTurns};
 ghost use Rattle.bd_audit.specs.TurnSearch as spec;
 
 use crate::playing::advance;
-use bd_engine::Engine;
+use bd_engine::{Engine, Looks};
 use bd_space::{Buffer, Entry, ObjectId, Record};
 use bd_uapi::Fault;
 use std::alloc::Global;

@@ -10,6 +10,7 @@ use crate::handles::Handle;
 use crate::live_entries::got_of;
 use crate::opening::take;
 use crate::parts::fill;
+use bd_engine::Looks;
 use std::alloc::Global;
 
 /// Whether the seat has something to read.

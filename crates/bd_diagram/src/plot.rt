@@ -8,7 +8,7 @@ use crate::model::{Arrow, Diagram, End, Event, Kind};
 use crate::sheet::Sheet;
 use crate::stepping::{Taken, make_step};
 use crate::tracks::Tracks;
-use bd_engine::Engine;
+use bd_engine::{Engine, Looks};
 use bd_show::{Places, Reason, Returns, Untold, handle_of};
 use bd_space::{Buffer, Entry, ObjectId, Record, Step, StepAnswer};
 use bd_uapi::{Command, Fault, Return, TransactionData};

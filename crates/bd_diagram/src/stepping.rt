@@ -7,7 +7,7 @@ ghost use Rattle.bd_audit.specs.{Replays.{with_entry}, Replies.{reply_taken}};
 ghost use Rattle.bd_diagram.specs.Taken.{call_taken, unless_served};
 
 use bd_audit::advance;
-use bd_engine::Engine;
+use bd_engine::{Engine, Looks};
 use bd_space::{Entry, Step};
 use bd_uapi::Fault;
 

@@ -3,7 +3,7 @@
 use crate::lanes::{add_lane, lane_at, put_in_order};
 use crate::model::{Doing, Item, Lane, Span};
 use crate::sheet::Sheet;
-use bd_engine::Engine;
+use bd_engine::{Engine, Looks};
 use bd_space::Entry;
 use std::alloc::{AllocError, Global};
 

@@ -9,7 +9,7 @@ use Rattle.bd_space.specs.Space.{Space}
 use Rattle.bd_space.specs.References.{is_asking}
 use Rattle.bd_space.specs.Names.{named}
 use Rattle.bd_space.specs.Asking.{drop_check}
-use Rattle.bd_step.specs.Looks.{has_asked}
+use Rattle.bd_engine.specs.Looks.{has_asked}
 
 module _ {A E : Type 0} where
   passed : (o : A) (e : E) (b : Bool) → is_ok (unless (when (not b) e) o) ≡ b

@@ -3,6 +3,6 @@ pub mod Keeps
 pub mod Refusals
 pub mod Readiness
 pub mod Writing
-pub use Rattle.bd_step.specs.Looks
+pub mod Looks
 pub use Rattle.bd_step.specs.Ending
 pub use Rattle.bd_step.specs.declared.why.Why

@@ -7,6 +7,8 @@ ghost use Rattle.bd_step.specs.{Refusals.{FullOnly, MemoryOnly}, Ending.{is_gone
 ghost use Rattle.bd_engine.specs.Follows.{Follows};
 
 use crate::live::Live;
+use crate::looks::Looks;
+use crate::tables::HasTables;
 use bd_space::{Entry, Step};
 use bd_step::Why;
 

@@ -5,11 +5,11 @@ ghost use Rattle.bd_uapi.specs.Limits.{most_seats, IsSeats};
 ghost use Rattle.bd_space.specs.Histories as histories;
 ghost use Rattle.bd_space.specs.Histories.{most_steps};
 ghost use Rattle.bd_space.specs.Steps as steps;
-ghost use Rattle.bd_step.specs.Stands.{Before};
 ghost use Rattle.bd_engine.specs.Refusals.{FullOnly, MemoryOnly, IsSeatFault};
 ghost use Rattle.bd_step.specs.declared.why.Why.TheVariants.{NoMemory};
 
 use crate::live::Live;
+use crate::tables::HasTables;
 use bd_space::{Entries, Entry, Record, Step, StepAnswer};
 use bd_step::{Tables, Why};
 use bd_uapi::{Fault, MOST_SEATS};
@@ -43,6 +43,16 @@ impl Drop for Engine {
             entries: _,
             live: _,
         } = self;
+    }
+}
+
+impl HasTables for Engine {
+    ghost says = { λ e P. P e };
+
+    ghost concludes = { λ e P Q f p. f e p };
+
+    fn tables(&self) -> &Tables {
+        &self.live.tables
     }
 }
 
@@ -80,13 +90,6 @@ impl Engine {
     // What its memory comes from.
     pub(crate) fn alloc(&self) -> Global {
         *self.entries.allocator()
-    }
-
-    // The tables, which stand for the space after the history.
-    pub(crate) fn tables(&self) -> &Tables
-        ensures { Before result.now (histories.space_after self.now) }
-    {
-        &self.live.tables
     }
 
     /// How many seats there are, 1 to 31.

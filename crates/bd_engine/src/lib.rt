@@ -4,12 +4,11 @@
 mod ended;
 mod engine;
 mod live;
-mod live_looks;
 mod looks;
-mod members;
 mod parcel;
 mod readiness;
 mod run;
+mod tables;
 mod write;
 
 pub use bd_links::Works;
@@ -17,4 +16,5 @@ pub use bd_objects::CarriedObjects;
 pub use bd_step::Why;
 pub use engine::Engine;
 pub use live::Live;
+pub use looks::Looks;
 pub use run::Ran;

@@ -4,10 +4,10 @@ ghost use Rattle.std.specs.Prelude.{◌≡◌, ◌<◌, true, [], length, IfOk, 
 ghost use Rattle.bd_space.specs.Histories as histories;
 ghost use Rattle.bd_space.specs.Histories.{History, HasPlace, history_of};
 ghost use Rattle.bd_space.specs.Steps as steps;
-ghost use Rattle.bd_step.specs.Stands.{Before};
 ghost use Rattle.bd_engine.specs.Follows.{Follows};
 ghost use Rattle.bd_engine.specs.Refusals.{FullOnly, MemoryOnly, IsLiveSeats, IsLiveSeatFault};
 
+use crate::tables::HasTables;
 use bd_space::{Entry, Step, StepAnswer};
 use bd_step::{Tables, Why};
 use bd_uapi::Fault;
@@ -28,6 +28,16 @@ impl Drop for Live {
             seats: _,
             tables: _,
         } = self;
+    }
+}
+
+impl HasTables for Live {
+    ghost says = { λ l P. (h : History) → Follows l h → P h };
+
+    ghost concludes = { λ l P Q f p. λ h follows. f h (p h follows) };
+
+    fn tables(&self) -> &Tables {
+        &self.tables
     }
 }
 
@@ -68,13 +78,6 @@ impl Live {
         ensures { (h : History) → Follows self.now h → result ≡ length h.entries }
     {
         self.tables().steps
-    }
-
-    // The tables, which stand for the space after each history that it follows.
-    pub(crate) fn tables(&self) -> &Tables
-        ensures { (h : History) → Follows self.now h → Before result.now (histories.space_after h) }
-    {
-        &self.tables
     }
 
     // From now on it is kept which seats are ready. Errors: memory was refused.

@@ -1,82 +1,171 @@
-//! What the space of the history holds.
+//! What the space holds after a history.
 
-ghost use Rattle.std.specs.{Prelude.{◌≡◌}, Option.{option_copied}};
-ghost use Rattle.bd_space.specs.{Histories.{space_after}, Returns.{buffer_in}};
-ghost use Rattle.bd_step.specs.Looks as looks;
+ghost use Rattle.std.specs.{Prelude.{◌≡◌, Some, find}, Option.{option_copied}};
+ghost use Rattle.bd_space.specs.Histories as histories;
+ghost use Rattle.bd_space.specs.{Histories.{space_after}, Seats.{process_in, thread_in}, References.{object_in}};
+ghost use Rattle.bd_space.specs.Names as names;
+ghost use Rattle.bd_space.specs.{Todo.{work_on}, Deaths.{is_notification}, Returns.{buffer_in}};
+ghost use Rattle.bd_engine.specs.Looks as looks;
 
 use crate::engine::Engine;
+use crate::live::Live;
+use crate::tables::HasTables;
+use bd_calls::serves;
+use bd_links::Works;
 use bd_objects::CarriedObjects;
-use bd_space::{Buffer, ObjectId};
+use bd_space::{Buffer, DeathNotification, Object, ObjectId, Process, Thread, TodoList};
 
-impl Engine {
-    /// The process of the live thread of a seat, by the place of its Open. Takes no memory.
-    pub fn process_of(&self, seat: u32) -> Option<u32>
-        ensures { result ≡ looks.process_of (space_after self.now) seat }
+/// Looks at the space after a history. What a look answers is so of the history that an engine has, and of each that a live
+/// engine follows. None takes memory.
+pub trait Looks: HasTables {
+    /// Whether a seat is ready: it has something to read.
+    final fn is_ready(&self, seat: u32) -> bool
+        ensures { Self.says self.now (λ h. result ≡ histories.is_ready (space_after h) seat) }
     {
-        self.tables().process_of(seat)
+        self.tables().calls.is_ready(seat)
     }
 
-    /// The live process with this pid, by the place of its Open. Takes no memory.
-    pub fn process_of_pid(&self, pid: u32) -> Option<u32>
-        ensures { result ≡ looks.process_of_pid (space_after self.now) pid }
+    /// The live process that was opened there: its pid, euid and window, and whether it asked for reports of its own
+    /// one-way flooding.
+    final fn process(&self, made: u32) -> Option<Process>
+        ensures { Self.says self.now (λ h. result ≡ process_in (space_after h).processes made) }
     {
-        self.tables().process_of_pid(pid)
+        self.tables().process(made)
     }
 
-    /// The context manager's object. Takes no memory.
-    pub fn manager(&self) -> Option<ObjectId>
-        ensures { result ≡ (space_after self.now).manager }
+    /// The live process with this pid, by the place of its Open.
+    final fn process_of_pid(&self, pid: u32) -> Option<u32>
+        ensures { Self.says self.now (λ h. result ≡ looks.process_of_pid (space_after h) pid) }
+    {
+        match self.tables().processes.with_pid(pid) {
+            Some(q) => Some(q.made),
+            None => None,
+        }
+    }
+
+    /// The live thread of a seat: its process, and whether it is in the loop (looper).
+    final fn thread(&self, seat: u32) -> Option<Thread>
+        ensures { Self.says self.now (λ h. result ≡ thread_in (space_after h).threads seat) }
+    {
+        self.tables().calls.thread(seat)
+    }
+
+    /// The process of the live thread of a seat, by the place of its Open.
+    final fn process_of(&self, seat: u32) -> Option<u32>
+        ensures { Self.says self.now (λ h. result ≡ looks.process_of (space_after h) seat) }
+    {
+        match self.thread(seat) {
+            Some(t) => Some(t.process),
+            None => None,
+        }
+    }
+
+    /// The context manager's object.
+    final fn manager(&self) -> Option<ObjectId>
+        ensures { Self.says self.now (λ h. result ≡ (space_after h).manager) }
     {
         self.tables().manager
     }
 
-    /// What the number (handle) names for the live process with this pid. Takes no memory.
-    pub fn named(&self, pid: u32, number: u32) -> Option<ObjectId>
-        ensures { result ≡ looks.named_by (space_after self.now) pid number }
+    /// An object of the space: its owner, ptr and cookie, and what its owner was told.
+    final fn object(&self, o: ObjectId) -> Option<Object>
+        ensures { Self.says self.now (λ h. result ≡ object_in (space_after h).objects o) }
     {
-        self.tables().named_by(pid, number)
+        self.tables().objects.object(o)
     }
 
-    /// The process that owns an object of the space, by the place of its Open. Takes no memory.
-    pub fn owner(&self, o: ObjectId) -> Option<u32>
-        ensures { result ≡ looks.owner_of (space_after self.now) o }
+    /// The process that owns an object of the space, by the place of its Open.
+    final fn owner(&self, o: ObjectId) -> Option<u32>
+        ensures { Self.says self.now (λ h. result ≡ looks.owner_of (space_after h) o) }
     {
-        self.tables().owner_of_object(o)
+        match self.object(o) {
+            Some(x) => Some(x.owner),
+            None => None,
+        }
     }
 
-    /// Where the innermost frame of a seat's thread was made, and whether the thread serves it. Takes no memory.
-    pub fn innermost(&self, seat: u32) -> Option<(u32, bool)>
-        ensures { result ≡ looks.innermost_of (space_after self.now) seat }
+    /// What the number (handle) names for the live process with this pid.
+    final fn named(&self, pid: u32, number: u32) -> Option<ObjectId>
+        ensures { Self.says self.now (λ h. result ≡ looks.named_by (space_after h) pid number) }
     {
-        self.tables().innermost_of(seat)
+        let tables = self.tables();
+        match tables.processes.with_pid(pid) {
+            Some(q) => tables.objects.named(q.made, number),
+            None => None,
+        }
     }
 
-    /// Where the first reply on the own list of a seat's thread was made. Takes no memory.
-    pub fn first_reply(&self, seat: u32) -> Option<u32>
-        ensures { result ≡ looks.first_reply (space_after self.now) seat }
+    /// The object that a number (handle) of a process, told by the place of its Open, names strongly.
+    final fn strongly_named(&self, process: u32, number: u32) -> Option<ObjectId>
+        ensures { Self.says self.now (λ h. result ≡ names.strongly_named (space_after h) process number) }
     {
-        self.tables().first_reply_of(seat)
+        self.tables().objects.strongly_named(process, number)
     }
 
-    /// Whether a process, told by the place of its Open, has a name (handle) for the object. Takes no memory.
-    pub fn knows(&self, process: u32, o: ObjectId) -> bool
-        ensures { result ≡ looks.knows (space_after self.now) process o }
+    /// Whether a process, told by the place of its Open, has a name (handle) for the object.
+    final fn knows(&self, process: u32, o: ObjectId) -> bool
+        ensures { Self.says self.now (λ h. result ≡ looks.knows (space_after h) process o) }
     {
-        self.tables().is_known_to(process, o)
+        self.tables().objects.number_of(process, o).is_some()
     }
 
-    /// The live buffer made there. Takes no memory.
-    pub fn buffer(&self, made: u32) -> Option<&Buffer>
-        ensures { option_copied result ≡ buffer_in (space_after self.now).buffers made }
+    /// Whether a process, told by the place of its Open, has a reference of this strength to what its number (handle)
+    /// names because it asked for one.
+    final fn has_asked(&self, process: u32, number: u32, strong: bool) -> bool
+        ensures { Self.says self.now (λ h. result ≡ looks.has_asked (space_after h) process number strong) }
+    {
+        self.tables()
+            .objects
+            .drop_check(process, number, strong)
+            .is_ok()
+    }
+
+    /// The live buffer made there.
+    final fn buffer(&self, made: u32) -> Option<&Buffer>
+        ensures { Self.says self.now (λ h. option_copied result ≡ buffer_in (space_after h).buffers made) }
     {
         self.tables().windows.buffer(made)
     }
 
-    /// The objects that the live buffer made there carries, one for each object of its parcel, in their order. Takes no
-    /// memory.
-    pub fn carried(&self, made: u32) -> CarriedObjects<'_>
-        ensures { result ≡ looks.carried (space_after self.now) made }
+    /// The objects that the live buffer made there carries, one for each object of its parcel, in their order.
+    final fn carried(&self, made: u32) -> CarriedObjects<'_>
+        ensures { Self.says self.now (λ h. result ≡ looks.carried (space_after h) made) }
     {
         self.tables().objects.carried(made)
     }
+
+    /// Where the innermost frame of a seat's thread was made, and whether the thread serves it.
+    final fn innermost(&self, seat: u32) -> Option<(u32, bool)>
+        ensures { Self.says self.now (λ h. result ≡ looks.innermost_of (space_after h) seat) }
+    {
+        match self.tables().calls.innermost(seat) {
+            Some(f) => Some((f.made, serves(seat, f.server))),
+            None => None,
+        }
+    }
+
+    /// Where the first reply on the own list of a seat's thread was made.
+    final fn first_reply(&self, seat: u32) -> Option<u32>
+        ensures { Self.says self.now (λ h. result ≡ looks.first_reply (space_after h) seat) }
+    {
+        self.tables().calls.first_reply(TodoList::OfThread(seat))
+    }
+
+    /// The unread work items on the list of a thread or of a process, oldest first.
+    final fn unread(&self, list: TodoList) -> Works<'_>
+        ensures { Self.says self.now (λ h. result ≡ work_on (space_after h).todo (Some list)) }
+    {
+        self.tables().calls.works_on(list)
+    }
+
+    /// The death notification that was asked for there: of which process, on which object, and how far it is.
+    final fn death(&self, made: u32) -> Option<DeathNotification>
+        ensures { Self.says self.now (λ h. result ≡ find (is_notification made) (space_after h).deaths) }
+    {
+        self.tables().objects.death(made)
+    }
 }
+
+impl Looks for Engine {}
+
+impl Looks for Live {}

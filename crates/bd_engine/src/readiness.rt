@@ -5,6 +5,7 @@ ghost use Rattle.bd_space.specs.Histories.{History, space_after, is_ready};
 ghost use Rattle.bd_engine.specs.{Follows.{Follows}, Readiness.{has_seat, flipped, Noted}};
 
 use crate::live::Live;
+use crate::looks::Looks;
 
 impl Live {
     /// Notes which of these seats are ready, and lists those of which that was noted otherwise. Takes no memory. Who calls

@@ -13,7 +13,7 @@ use crate::fault::Untold;
 use crate::form::{Form, Gift};
 use crate::pids::{pid_of, receiver_of};
 use bd_audit::{Turn, advance, call_of_reply, gift_chain, oneway_turns};
-use bd_engine::Engine;
+use bd_engine::{Engine, Looks};
 use bd_space::{Entry, ObjectId, Record};
 use bd_state::{ObjectText, OrDash, owner_of};
 use serde::Serialize;

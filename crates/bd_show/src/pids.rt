@@ -8,7 +8,7 @@ ghost use Rattle.bd_show.specs.Pids as spec;
 
 use crate::fault::Untold;
 use bd_audit::{advance, played_to};
-use bd_engine::Engine;
+use bd_engine::{Engine, Looks};
 use bd_space::{Entry, Record};
 use bd_state::pid_at;
 use std::alloc::Global;

@@ -7,7 +7,7 @@ ghost use Rattle.bd_space.specs.Histories.{IsHistory, history_in};
 use crate::fault::Untold;
 use crate::form::Form;
 use bd_audit::played_to;
-use bd_engine::Engine;
+use bd_engine::{Engine, Looks};
 use bd_space::{Entry, Record};
 use bd_state::{ObjectText, ProcessState};
 use serde::Serialize;

@@ -6,7 +6,7 @@ use crate::again::again;
 use crate::broken::Broken;
 use crate::fingerprint::{MOST_HANDLES, PIDS};
 use bd_audit::{AuditFault, call_of_reply, gift_chain, oneway_turns, replay};
-use bd_engine::Engine;
+use bd_engine::{Engine, Looks};
 use bd_space::{Record, StepAnswer};
 use bd_uapi::{Fault, MOST_SEATS};
 use std::alloc::Global;

@@ -1,6 +1,6 @@
 //! What all reading calls of an engine answer, as one number: equal engines have equal ones.
 
-use bd_engine::Engine;
+use bd_engine::{Engine, Looks};
 use bd_space::{Buffer, ObjectId};
 use std::hash::{DefaultHasher, Hash, Hasher};
 

@@ -7,7 +7,7 @@ ghost use Rattle.bd_state.specs.States.{IsOfBuffer, object_text};
 
 use crate::lists::{write_each, write_mark};
 use crate::texts::{ObjectText, Wide};
-use bd_engine::Engine;
+use bd_engine::{Engine, Looks};
 use bd_space::{Buffer, ObjectId};
 use serde::Serialize;
 use std::alloc::{AllocError, Global};

@@ -5,7 +5,7 @@ ghost use Rattle.bd_state.specs.States.{IsOfDeath};
 
 use crate::lists::write_mark;
 use crate::texts::{ObjectText, Wide};
-use bd_engine::Engine;
+use bd_engine::{Engine, Looks};
 use bd_space::{DeathNotification, Phase};
 use serde::Serialize;
 use std::alloc::AllocError;

@@ -9,7 +9,7 @@ use crate::lists::{write_each, write_mark};
 use crate::objects::most_made;
 use crate::owners::owner_of;
 use crate::texts::{ObjectText, OrDash};
-use bd_engine::Engine;
+use bd_engine::{Engine, Looks};
 use bd_space::{Entry, ObjectId, Step};
 use serde::Serialize;
 use std::alloc::{AllocError, Global};

@@ -4,7 +4,7 @@ ghost use Rattle.std.specs.Prelude.{◌≡◌};
 ghost use Rattle.bd_space.specs.Histories.{space_after};
 ghost use Rattle.bd_state.specs.Owners as spec;
 
-use bd_engine::Engine;
+use bd_engine::{Engine, Looks};
 use bd_space::{Entry, ObjectId, Step};
 
 /// The pid of the process that was opened at a place.

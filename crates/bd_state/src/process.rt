@@ -11,7 +11,7 @@ use crate::lists::{write_lines, write_mark};
 use crate::objects::{ObjectState, add_objects};
 use crate::threads::{ThreadState, add_threads};
 use crate::work_items::{UnreadItem, add_unread};
-use bd_engine::Engine;
+use bd_engine::{Engine, Looks};
 use bd_space::{Entry, Step, TodoList};
 use serde::Serialize;
 use std::alloc::{AllocError, Global};

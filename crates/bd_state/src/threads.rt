@@ -7,7 +7,7 @@ ghost use Rattle.bd_state.specs.States.{IsInCall, IsOfThread};
 
 use crate::lists::{write_lines, write_mark};
 use crate::work_items::{UnreadItem, add_unread};
-use bd_engine::Engine;
+use bd_engine::{Engine, Looks};
 use bd_space::{Thread, TodoList};
 use serde::Serialize;
 use std::alloc::{AllocError, Global};

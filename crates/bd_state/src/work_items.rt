@@ -5,7 +5,7 @@ ghost use Rattle.bd_state.specs.States.{IsOfWork};
 
 use crate::names::return_name;
 use crate::texts::{ObjectText, Wide};
-use bd_engine::Engine;
+use bd_engine::{Engine, Looks};
 use bd_space::{TodoList, Work, WorkKind};
 use serde::Serialize;
 use std::alloc::AllocError;

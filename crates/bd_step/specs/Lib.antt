@@ -6,7 +6,6 @@ pub mod Ending
 pub mod Telling
 pub mod Taking
 pub mod Deliveries
-pub mod Looks
 pub mod Freed
 pub mod Following
 pub mod Exits

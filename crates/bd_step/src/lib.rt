@@ -9,7 +9,6 @@ mod delivery;
 mod ended;
 mod exit;
 mod frame;
-mod looks;
 mod manager;
 mod process;
 mod read;

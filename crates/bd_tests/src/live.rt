@@ -2,7 +2,7 @@
 
 use crate::same::holds;
 use crate::steps::{enter, fields, open};
-use bd_engine::Live;
+use bd_engine::{Live, Looks};
 use bd_space::{Bytes, Parcel, Step, StepAnswer};
 use bd_uapi::{Command, Fault, TransactionFlags};
 use std::alloc::Global;

@@ -1,5 +1,0 @@
-use Rattle.bd_space.specs.Histories.{space_after}
-use Rattle.bd_engine.proofs.engine.Engine.carried.Goals as goal
-
-pub returns : goal.returns
-returns c = c.carried.ensures (space_after c.args.self.now) c.tables.ensures.objects_stand

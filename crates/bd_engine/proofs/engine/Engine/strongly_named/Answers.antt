@@ -1,5 +1,0 @@
-use Rattle.bd_space.specs.Histories.{space_after}
-use Rattle.bd_engine.proofs.engine.Engine.strongly_named.Goals as goal
-
-pub returns : goal.returns
-returns c = c.strongly_named.ensures (space_after c.args.self.now) c.tables.ensures.objects_stand

@@ -1,5 +1,0 @@
-use Rattle.bd_space.specs.Histories.{space_after}
-use Rattle.bd_engine.proofs.engine.Engine.thread.Goals as goal
-
-pub returns : goal.returns
-returns c = c.thread.ensures (space_after c.args.self.now) c.tables.ensures.calls_stand

@@ -1,5 +1,0 @@
-use Rattle.bd_space.specs.Histories.{space_after}
-use Rattle.bd_engine.proofs.live.Live.strongly_named.Goals as goal
-
-pub returns : goal.returns
-returns c = λ h follows. c.strongly_named.ensures (space_after h) (c.tables.ensures h follows).objects_stand

@@ -1,0 +1,5 @@
+use Rattle.bd_space.specs.Histories.{space_after}
+use Rattle.bd_engine.proofs.looks.Looks.is_ready.Goals as goal
+
+pub returns : goal.returns
+returns g c = g.Self.HasTables.concludes _ _ _ (λ h stands. c.is_ready.ensures (space_after h) stands.calls_stand) c.tables.ensures
