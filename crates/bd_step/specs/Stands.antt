@@ -106,3 +106,17 @@ pub record HasRoom (t : Tables) (room : Room) (works : ℕ) : Type 0 where
   pub frames_fit : 1 ≤ call_rooms.frame_room t.calls
   pub turns_fit : 1 ≤ call_rooms.turn_room t.calls
   pub can_follow : CanFollow t (works + 2)
+
+-- ---- what a reserve does
+
+-- the room that it makes: this among the objects, and what the calls' table reserves for so many work items
+pub record IsReserved (t : Tables) (room : Room) (works : ℕ) : Type 0 where
+  pub in_objects : object_rooms.HasRoom t.objects room
+  pub in_calls : call_rooms.HasRoom t.calls works
+
+-- what had room still has it
+pub record KeepsRoom (old new : Tables) : Type 0 where
+  pub in_processes : new.processes ≡ old.processes
+  pub in_objects : object_rooms.UsesNothing old.objects new.objects
+  pub in_calls : call_rooms.UsesNothing old.calls new.calls
+  pub in_windows : new.windows ≡ old.windows

@@ -1,6 +1,6 @@
 //! The tables that a space is kept in, and room in them.
 
-ghost use Rattle.std.specs.Prelude.{◌≡◌, ◌≤◌, OnOk};
+ghost use Rattle.std.specs.Prelude.{OnOk, OnErr};
 
 use bd_buffers::Windows;
 use bd_calls::CallTable;
@@ -52,8 +52,7 @@ impl Drop for Tables {
 
 impl Tables {
     ghost use Rattle.bd_space.specs.Space.{Space, opening};
-    ghost use Rattle.bd_objects.specs.Room as object_rooms;
-    ghost use Rattle.bd_step.specs.{Stands.{Before, HasRoom}, Meets.{IsKept}};
+    ghost use Rattle.bd_step.specs.{Stands.{Before, HasRoom, IsReserved, KeepsRoom}, Meets.{IsKept}};
 
     /// The tables of a new engine. Takes no memory.
     pub fn new(alloc: Global) -> Tables
@@ -74,9 +73,12 @@ impl Tables {
     /// Changes nothing else, also where memory is refused.
     pub(crate) fn reserve(&mut self, room: Room, works: usize) -> Result<(), AllocError>
         ensures stands { IsKept self.old self.new }
+        // What had room still has.
+        ensures uses { KeepsRoom self.old self.new }
         ensures room { OnOk result (HasRoom self.new room works) }
-        ensures windows { self.new.windows ≡ self.old.windows }
-        ensures count { object_rooms.object_count self.new.objects ≤ object_rooms.object_count self.old.objects }
+        ensures reserved { OnOk result (IsReserved self.new room works) }
+        // Memory was asked for: there was no room.
+        ensures grown { OnErr result (IsReserved self.old room works → ⊥) }
     {
         self.objects.reserve(room)?;
         self.calls.reserve(works)
