@@ -275,7 +275,7 @@ whole_again read spell a rest e short = rw (blocks.again (spell a) rest short, e
 
 -- ---- entries
 
-entry_takes : (v : Version) (seats : ℕ) (bytes : List ℕ) (x : Entry × List ℕ) → IsBytes bytes → entry_from v seats bytes ≡ Some x → Takes bytes (entry_bytes x.0) x.1 × IsEntryIn v seats x.0
+pub entry_takes : (v : Version) (seats : ℕ) (bytes : List ℕ) (x : Entry × List ℕ) → IsBytes bytes → entry_from v seats bytes ≡ Some x → Takes bytes (entry_bytes x.0) x.1 × IsEntryIn v seats x.0
 unfolding entry_from
 entry_takes v seats bytes x fits e =
     let p = bind_some (word_from bytes) (λ a. whole_block_from (step_from v) a.1 >>= λ b. whole_block_from answer_from b.1 >>= λ c. cond (ltb a.0 seats) (Some (record { seat = a.0; step = b.0; answer = c.0 }, c.1)) None) x e in
@@ -291,7 +291,7 @@ entry_takes v seats bytes x fits e =
     let made : Takes bytes (entry_bytes one) u.0.1 × IsEntryIn v seats one = (all, record { seat = ltb-true _ _ d.0; step = t1.1; step_block = t1.2; answer = t2.1; answer_block = t2.2 }) in
     subst (λ (y : Entry × List ℕ). Takes bytes (entry_bytes y.0) y.1 × IsEntryIn v seats y.0) (some_is (one, u.0.1) x d.1) made
 
-entry_again : (v : Version) (seats : ℕ) (e : Entry) (rest : List ℕ) → seats < 2 ^ 32 → IsEntryIn v seats e → entry_from v seats (entry_bytes e ++ rest) ≡ Some (e, rest)
+pub entry_again : (v : Version) (seats : ℕ) (e : Entry) (rest : List ℕ) → seats < 2 ^ 32 → IsEntryIn v seats e → entry_from v seats (entry_bytes e ++ rest) ≡ Some (e, rest)
 unfolding entry_from
 entry_again v seats e rest few fits =
     let done : step_from v (step_bytes e.step) ≡ Some (e.step, []) = ap (step_from v) (sym (append-nil (step_bytes e.step))) ∙ step_again v e.step [] fits.step fits.step_block in
@@ -336,7 +336,7 @@ both_true : (a b : Bool) → (a && b) ≡ true → (a ≡ true) × (b ≡ true)
 both_true true b e = (refl, e)
 both_true false b e = absurd cc
 
-magic_takes : (bytes : List ℕ) (x : Version × List ℕ) → IsBytes bytes → version_from bytes ≡ Some x → Takes bytes (magic x.0) x.1
+pub magic_takes : (bytes : List ℕ) (x : Version × List ℕ) → IsBytes bytes → version_from bytes ≡ Some x → Takes bytes (magic x.0) x.1
 unfolding version_from
 magic_takes bytes x fits e = by (bytes_eq (take 8 bytes) (magic Two)) (bytes_eq (take 8 bytes) (magic One)) refl refl e
   where
@@ -352,7 +352,7 @@ magic_takes bytes x fits e = by (bytes_eq (take 8 bytes) (magic Two)) (bytes_eq 
     by false true p q f = subst (λ (y : Version × List ℕ). Takes bytes (magic y.0) y.1) (some_is (One, drop 8 bytes) x f) (begins One q)
     by false false p q f = let h : None ≡ Some x = f in absurd (none_is_not_some x h)
 
-magic_again : (v : Version) (rest : List ℕ) → version_from (magic v ++ rest) ≡ Some (v, rest)
+pub magic_again : (v : Version) (rest : List ℕ) → version_from (magic v ++ rest) ≡ Some (v, rest)
 unfolding version_from
 magic_again One rest = refl
 magic_again Two rest = refl
@@ -360,7 +360,7 @@ magic_again Two rest = refl
 abbrev seats_fit : Version → ℕ → Bool
 seats_fit v n = leb 1 n && leb n (most_seats_in v)
 
-seats_take : (v : Version) (bytes : List ℕ) (x : ℕ × List ℕ) → IsBytes bytes → seats_from v bytes ≡ Some x → Takes bytes (word x.0) x.1 × (1 ≤ x.0) × (x.0 ≤ most_seats_in v)
+pub seats_take : (v : Version) (bytes : List ℕ) (x : ℕ × List ℕ) → IsBytes bytes → seats_from v bytes ≡ Some x → Takes bytes (word x.0) x.1 × (1 ≤ x.0) × (x.0 ≤ most_seats_in v)
 unfolding seats_from
 seats_take v bytes x fits e =
     let p = bind_some (word_from bytes) (λ b. cond (seats_fit v b.0) (Some b) None) x e in
@@ -371,11 +371,11 @@ seats_take v bytes x fits e =
     subst (λ (y : ℕ × List ℕ). Takes bytes (word y.0) y.1 × (1 ≤ y.0) × (y.0 ≤ most_seats_in v)) (some_is p.0 x d.1) made
 
 -- a number of seats has its width
-seats_small : (v : Version) (n : ℕ) → n ≤ most_seats_in v → n < 2 ^ 32
+pub seats_small : (v : Version) (n : ℕ) → n ≤ most_seats_in v → n < 2 ^ 32
 seats_small One n few = omega (arith, few)
 seats_small Two n few = omega (arith, few)
 
-seats_again : (v : Version) (n : ℕ) (rest : List ℕ) → 1 ≤ n → n ≤ most_seats_in v → seats_from v (word n ++ rest) ≡ Some (n, rest)
+pub seats_again : (v : Version) (n : ℕ) (rest : List ℕ) → 1 ≤ n → n ≤ most_seats_in v → seats_from v (word n ++ rest) ≡ Some (n, rest)
 unfolding seats_from
 seats_again v n rest some few = rw (words.again n rest (seats_small v n few), le-leb 1 n some, le-leb n (most_seats_in v) few) refl
 

@@ -4,3 +4,5 @@ pub mod FieldLaws
 pub mod Tags
 pub mod Laws
 pub mod SeatsTold
+pub mod Whole
+pub mod Cuts

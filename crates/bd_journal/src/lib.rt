@@ -2,6 +2,7 @@
 #![tactic(auto)]
 
 mod codes;
+mod cut;
 mod fault;
 mod fields;
 mod reading;
@@ -10,6 +11,7 @@ mod versions;
 mod writing;
 
 pub use codes::{cause_number, fault_number, note_number};
+pub use cut::read_cut;
 pub use fault::{ReadError, WriteError};
 pub use reading::read_journal;
 pub use versions::{Version, behind_magic};

@@ -5,6 +5,7 @@ ghost use Rattle.clap.specs.Matches.{found_of};
 ghost use Rattle.bd_play.specs.Orders.{IsManner, PlaysFound, PlaysInput};
 
 use crate::commands::Making;
+use crate::cuts::Mend;
 use crate::inquiries::{
     Doubt, Inquiry, doubt_in, format_arg, format_in, inquiry_in, progress_arg, source_in,
     with_inquiries,
@@ -71,7 +72,16 @@ A journal is the history of a run, which `bplay run script --journal journal` wr
 `lawful N`, where all N entries are a history, or `unlawful K` with the place of the first entry that doesn't follow
 from those before, from 0.
 
+With `--cut` a journal is judged that broke off, or is still being written: the entries that are whole, whatever count
+its heading has. Then it prints `lawful N, then B bytes of no entry`.
+
 Statuses: 0 lawful; 1 unlawful, or a fault, told on standard error; 3 memory refused.";
+
+const MEND_HELP: &str = "\
+A journal that broke off has whole entries, and perhaps the beginning of one more. `bplay mend journal out` writes the
+journal of those that are whole, and prints `mended N, then B bytes of no entry`. It doesn't judge them.
+
+Statuses: 0 done; 1 a fault, told on standard error; 3 memory refused.";
 
 /// A run of a script.
 #[derive(Clone, Copy)]
@@ -95,6 +105,10 @@ pub enum Order<'a> {
     Run(Run<'a>),
     /// Judges a journal.
     Check(Source<'a>),
+    /// Judges what is whole of a journal that was cut off.
+    CheckCut(Source<'a>),
+    /// Writes the journal of what is whole of another.
+    Mend(Mend<'a>),
     /// Answers a question about a journal.
     Ask(Inquiry<'a>),
     /// Tells what a name means, or what is with a journal.
@@ -157,7 +171,28 @@ fn run_command<'a>(alloc: Global) -> Making<'a> {
 fn check_command<'a>(alloc: Global) -> Making<'a> {
     Making::new(alloc, "check", "Judges a journal", CHECK_HELP)
         .arg(file_arg(alloc, "The journal, or - for standard input"))
+        .arg(
+            Arg::new(alloc, "cut")
+                .long("cut")
+                .action(ArgAction::SetTrue)
+                .help("Judge what is whole of a journal that was cut off"),
+        )
         .arg(progress_arg(alloc))
+}
+
+fn mend_command<'a>(alloc: Global) -> Making<'a> {
+    let about = "Writes the journal of what is whole of one that was cut off";
+    Making::new(alloc, "mend", about, MEND_HELP)
+        .arg(file_arg(
+            alloc,
+            "The journal that was cut off, or - for standard input",
+        ))
+        .arg(
+            Arg::new(alloc, "out")
+                .value_name("OUT")
+                .required(true)
+                .help("Where the journal is to stand"),
+        )
 }
 
 fn script_command<'a>(alloc: Global) -> Making<'a> {
@@ -169,7 +204,8 @@ fn script_command<'a>(alloc: Global) -> Making<'a> {
 fn program<'a>(alloc: Global) -> Making<'a> {
     let program = Making::program(alloc, "bplay", VERSION, ABOUT, PROGRAM_HELP)
         .command(run_command(alloc))
-        .command(check_command(alloc));
+        .command(check_command(alloc))
+        .command(mend_command(alloc));
     with_inquiries(alloc, program)
         .command(diagram_command(alloc))
         .command(script_command(alloc))
@@ -207,11 +243,28 @@ fn run_order<'a>(matches: &ArgMatches<'a>) -> Option<Order<'a>>
     }))
 }
 
+// To judge the journal, or what is whole of it.
+fn check_order<'a>(matches: &ArgMatches<'a>, source: Source<'a>) -> Order<'a> {
+    if matches.get_flag("cut") {
+        Order::CheckCut(source)
+    } else {
+        Order::Check(source)
+    }
+}
+
+fn mend_in<'a>(matches: &ArgMatches<'a>) -> Option<Mend<'a>> {
+    Some(Mend {
+        file: matches.get_str("file")?,
+        place: matches.get_str("out")?,
+    })
+}
+
 fn order_in<'a>(matches: &ArgMatches<'a>) -> Option<Order<'a>> {
     let (name, inner) = matches.subcommand()?;
     match name {
         "run" => run_order(inner),
-        "check" => Some(Order::Check(source_in(inner)?)),
+        "check" => Some(check_order(inner, source_in(inner)?)),
+        "mend" => Some(Order::Mend(mend_in(inner)?)),
         "explain" => Some(Order::Explain(doubt_in(inner)?)),
         "diagram" => Some(Order::Draw(sketch_in(inner)?)),
         "script" => Some(Order::Script),

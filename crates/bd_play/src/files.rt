@@ -34,17 +34,18 @@ fn is_same<H: Files>(rt: &H, path: &str, other: &str) -> bool {
     }
 }
 
+/// Whether a journal's place is neither the file that is read, or standard input, nor what is printed to.
+pub fn is_kept_apart<H: Files>(rt: &H, place: &str, file: &str) -> bool {
+    let read = if file == INPUT { INPUT_FILE } else { file };
+    !is_same(rt, place, read) && !is_same(rt, place, OUTPUT_FILE)
+}
+
 // A draft of the run's journal, where one is to be written: not of a file that the run reads or prints to.
 fn draft_of<H: AllocGlobal + Files>(rt: &H, run: Run<'_>) -> Result<Option<Draft<H::File>>, Fault> {
     let Some(journal) = run.journal else {
         return Ok(None);
     };
-    let script = if run.file == INPUT {
-        INPUT_FILE
-    } else {
-        run.file
-    };
-    if is_same(rt, journal, script) || is_same(rt, journal, OUTPUT_FILE) {
+    if !is_kept_apart(rt, journal, run.file) {
         return Err(Fault::Arguments);
     }
     Ok(Some(draft_for(rt, journal)?))

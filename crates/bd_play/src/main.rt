@@ -4,6 +4,7 @@
 mod arguments;
 mod asking;
 mod commands;
+mod cuts;
 mod draft;
 mod files;
 mod inquiries;
@@ -16,6 +17,7 @@ mod sources;
 use arguments::{Order, Refused, order_of};
 use asking::{ask, explain};
 use bd_player::{DONE, Fault, after_writing, tell};
+use cuts::{check_cut_file, mend_file};
 use files::{check_file, run_file};
 use output::Output;
 use script_help::SCRIPT_HELP;
@@ -50,6 +52,8 @@ where
     let status = match order {
         Order::Run(run) => run_file(rt, run, out, err),
         Order::Check(check) => check_file(rt, check, out, err),
+        Order::CheckCut(check) => check_cut_file(rt, check, out, err),
+        Order::Mend(mend) => mend_file(rt, mend, out, err),
         Order::Ask(inquiry) => ask(rt, inquiry, out, err),
         Order::Explain(doubt) => explain(rt, doubt, out, err),
         Order::Draw(sketch) => draw_journal(rt, sketch, out, err),

@@ -1,12 +1,15 @@
 -- What a flush keeps, and what a status tells of a journal.
-use Rattle.std.proofs.Common.{◌≡◌, ◌≤◌, List, [], ℕ, Option, Some, None, IfSome, Bool, true, false, sym, subst, arith}
+use Rattle.std.proofs.Common.{◌≡◌, ◌≤◌, List, [], ℕ, Option, Some, None, IfSome, length, Bool, true, false, sym, subst, arith}
 use Rattle.std.proofs.lemmas.List.{append-nil}
 use Rattle.std.proofs.KnownBytes.{Appends-kept}
 use Rattle.std.specs.Io.KnownBytes.{Appends, Keeps}
 use Rattle.bd_space.specs.declared.record.Record.{Record}
 use Rattle.bd_journal.specs.Spelling.{IsJournal, Tells, journal_bytes}
 use Rattle.bd_player.specs.Journals.{Wrote}
-use Rattle.bd_player.specs.Verdicts.{IsLawfulAt0, Judges, JudgesKnown}
+use Rattle.bd_journal.specs.Cut.{IsCut}
+use Rattle.bd_player.specs.Cuts.{IsLawfulCutAt0, IsWhole}
+use Rattle.bd_player.specs.Verdicts.{IsJudged, IsLawfulAt0, Judges, JudgesKnown}
+use Rattle.bd_player.specs.declared.cuts.Whole.{Whole}
 use Rattle.bd_player.specs.declared.verdicts.Judged.{Judged}
 use Rattle.bd_player.specs.declared.verdicts.Judged.TheVariants.{History}
 
@@ -24,3 +27,14 @@ judges_known (Some xs) bytes j same h = subst (λ (ys : List ℕ). Judges ys j) 
 
 pub not_judged : (known : Option (List ℕ)) (status : ℕ) → 1 ≤ status → IsLawfulAt0 known status
 not_judged known status fails = λ e. absurd (omega (arith, fails, e))
+
+pub whole_known : (known : Option (List ℕ)) (bytes left : List ℕ) (w : Whole) → IfSome known (λ xs. bytes ≡ xs) → IsCut bytes w.record left → w.left ≡ length left → IfSome known (λ xs. IsWhole xs w)
+whole_known None bytes left w same cut so_many = tt
+whole_known (Some xs) bytes left w same cut so_many = subst (λ (ys : List ℕ). IsWhole ys w) same (left, cut, so_many)
+
+pub cut_judged : (known : Option (List ℕ)) (w : Whole) (found : Record) (status : ℕ) → IfSome known (λ xs. IsWhole xs w) → IsJudged w.record (History found) → IsLawfulCutAt0 known status
+cut_judged None w found status whole judged = λ e. tt
+cut_judged (Some bytes) w found status whole judged = λ e. (w.record, whole.0, whole.1, judged.2)
+
+pub cut_not_judged : (known : Option (List ℕ)) (status : ℕ) → 1 ≤ status → IsLawfulCutAt0 known status
+cut_not_judged known status fails = λ e. absurd (omega (arith, fails, e))

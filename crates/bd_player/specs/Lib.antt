@@ -3,3 +3,4 @@ pub mod Playing
 pub mod Printing
 pub mod Verdicts
 pub mod Workers
+pub mod Cuts

@@ -44,7 +44,7 @@ pub fn print_unlawful<W: Write>(at: u32, out: &mut W) -> u8
 }
 
 // What the reader has, if it begins as each journal does. Of what doesn't, no more than these first bytes is read.
-fn journal_from<R: Read>(alloc: Global, journal: &mut R) -> Result<Vec<u8>, Fault>
+pub fn journal_from<R: Read>(alloc: Global, journal: &mut R) -> Result<Vec<u8>, Fault>
     ensures { IfOk result (λ v. IfSome (R.remaining journal.old) (λ bytes. v.items ≡ bytes)) }
 {
     let mut first = [0; 8];

@@ -2,6 +2,7 @@
 #![tactic(auto)]
 
 mod blocks;
+mod cuts;
 mod faults;
 mod journals;
 mod manner;
@@ -13,6 +14,7 @@ mod threads;
 mod verdicts;
 mod worker;
 
+pub use cuts::{Whole, check_cut, print_whole, whole_from};
 pub use faults::{DONE, FAULT, Fault, MEMORY, TURNS, after_writing, tell};
 pub use journals::{
     check_journal, check_watched, judged_from, judged_watched, print_lawful, print_unlawful,

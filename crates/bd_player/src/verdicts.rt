@@ -43,7 +43,7 @@ pub enum Judged {
 }
 
 // What the replay of a record tells of it.
-fn judge<P: Watch>(alloc: Global, found: Record, watch: &mut P) -> Result<Judged, Fault>
+pub fn judge<P: Watch>(alloc: Global, found: Record, watch: &mut P) -> Result<Judged, Fault>
     requires seats { IsSeats found.seats }
     ensures judged { IfOk result (IsJudged found) }
     ensures fault { IfErr result (λ f. f ≡ Journal → ⊥) }

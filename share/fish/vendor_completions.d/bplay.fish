@@ -2,6 +2,7 @@
 # Completion of bplay for fish.
 complete -c bplay -n __fish_use_subcommand -f -a run -d 'Play a script'
 complete -c bplay -n __fish_use_subcommand -f -a check -d 'Judge a journal'
+complete -c bplay -n __fish_use_subcommand -f -a mend -d 'Write what is whole of a journal that was cut off'
 complete -c bplay -n __fish_use_subcommand -f -a show -d 'Show the entries of a journal'
 complete -c bplay -n __fish_use_subcommand -f -a state -d 'Tell what a history has come to'
 complete -c bplay -n __fish_use_subcommand -f -a explain -d 'Tell what a refusal means, or why an entry was answered so'
@@ -17,6 +18,7 @@ complete -c bplay -n '__fish_seen_subcommand_from run' -l threads -d "Run each s
 complete -c bplay -n '__fish_seen_subcommand_from run' -x -l turns -d 'How many turns a line has'
 complete -c bplay -n '__fish_seen_subcommand_from run' -r -l journal -d 'Write the journal of the run here'
 complete -c bplay -n '__fish_seen_subcommand_from run check show state explain chain call-of-reply turns diagram' -l progress -d 'Tell how much is done'
+complete -c bplay -n '__fish_seen_subcommand_from check' -l cut -d 'Judge what is whole of a journal that was cut off'
 complete -c bplay -n '__fish_seen_subcommand_from show diagram' -x -l from -d 'Only entries from this place on'
 complete -c bplay -n '__fish_seen_subcommand_from show diagram' -x -l to -d 'Only entries before this place'
 complete -c bplay -n '__fish_seen_subcommand_from show' -x -l seat -d 'Only entries of this seat'

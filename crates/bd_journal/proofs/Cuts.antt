@@ -1,0 +1,230 @@
+-- What is read of a journal that was cut off is what is whole of it.
+use Rattle.std.proofs.Common.{arith, ◌≡◌, ℕ, zero, suc, ◌+◌, ◌-◌, ◌^◌, ◌<◌, ◌≤◌, Bool, true, cond, leb, ◌&&◌, List, [], ◌∷◌, ◌++◌, Option, Some, None, Result, Ok, Err, length, refl, ap, sym, subst, ◌∙◌, append_assoc}
+use Rattle.std.specs.Prelude.{IfOk}
+use Rattle.std.specs.List.{flat_map, AllByRecursion}
+use Rattle.std.proofs.lemmas.List.{append-nil, nil_from_length, length-append}
+use Rattle.std.proofs.lemmas.List.Concat.{flat_map-cons}
+use Rattle.bd_uapi.specs.Bytes.{IsBytes, word}
+use Rattle.bd_uapi.specs.Limits.{IsSeats}
+use Rattle.bd_space.specs.declared.step.Entry.{Entry}
+use Rattle.bd_space.specs.declared.record.Record.{Record}
+use Rattle.bd_journal.specs.declared.fault.ReadError.{ReadError}
+use Rattle.bd_journal.specs.declared.versions.Version.{Version}
+use Rattle.bd_journal.specs.declared.versions.Version.TheVariants.{One, Two}
+use Rattle.bd_journal.specs.Spelling.{magic, block, step_bytes, answer_bytes, entry_bytes, heading_in, most_seats_in, IsEntryIn, Tells}
+use Rattle.bd_journal.specs.Reading.{◌>>=◌, Gives, word_from, entry_from, version_from, seats_from}
+use Rattle.bd_journal.specs.Cut.{behind, whole_with, whole_from, cut_in, IsCutIn, IsCut, Continues}
+use Rattle.bd_journal.proofs.FieldLaws.{bind_some, some_is, Takes, Takes-then, words}
+use Rattle.bd_journal.proofs.Laws.{entry_takes, entry_again, magic_takes, magic_again, seats_take, seats_again, seats_small}
+
+-- ---- entries
+
+-- no entry is without bytes
+entry_has_bytes : (e : Entry) (rest : List ℕ) → length rest < length (entry_bytes e ++ rest)
+entry_has_bytes e rest =
+    let four : length (word e.seat) ≡ 4 = refl in
+    omega (
+      arith,
+      four,
+      length-append (entry_bytes e) rest,
+      length-append (word e.seat ++ block (step_bytes e.step)) (block (answer_bytes e.answer)),
+      length-append (word e.seat) (block (step_bytes e.step)),
+    )
+
+-- what was read of the front has this spelling
+abbrev IsRead : Version → ℕ → List ℕ → List Entry × List ℕ → Type 0
+IsRead v seats bytes x = Takes bytes (flat_map entry_bytes x.0) x.1 × AllByRecursion (IsEntryIn v seats) x.0
+
+whole_takes : (v : Version) (seats n : ℕ) (bytes : List ℕ) → IsBytes bytes → IsRead v seats bytes (whole_from v seats n bytes)
+unfolding whole_from
+whole_takes v seats zero bytes fits = (record { parts = refl; rest_fits = fits }, tt)
+whole_takes v seats (suc n) bytes fits = at (whole_takes v seats n) (entry_from v seats bytes) refl
+  where
+    at : ((rest : List ℕ) → IsBytes rest → IsRead v seats rest (whole_from v seats n rest)) → (o : Option (Entry × List ℕ)) → entry_from v seats bytes ≡ o
+        → IsRead v seats bytes (whole_with (whole_from v seats n) bytes o)
+    at go None e = (record { parts = refl; rest_fits = fits }, tt)
+    at go (Some x) e =
+        let first = entry_takes v seats bytes x fits e in
+        let others = go x.1 first.0.rest_fits in
+        let read = whole_from v seats n x.1 in
+        (Takes-then bytes (entry_bytes x.0) x.1 (flat_map entry_bytes read.0) read.1 first.0 others.0, (first.1, others.1))
+
+-- where it stops, no entry begins
+stops : (v : Version) (seats n : ℕ) (bytes : List ℕ) → IsBytes bytes → length bytes ≤ n → entry_from v seats (whole_from v seats n bytes).1 ≡ None
+unfolding whole_from
+stops v seats zero bytes fits few = at (entry_from v seats bytes) refl
+  where
+    at : (o : Option (Entry × List ℕ)) → entry_from v seats bytes ≡ o → entry_from v seats bytes ≡ None
+    at None e = e
+    at (Some x) e = let t = entry_takes v seats bytes x fits e in absurd (omega (arith, few, ap length t.0.parts, entry_has_bytes x.0 x.1))
+stops v seats (suc n) bytes fits few = at (stops v seats n) (entry_from v seats bytes) refl
+  where
+    at : ((rest : List ℕ) → IsBytes rest → length rest ≤ n → entry_from v seats (whole_from v seats n rest).1 ≡ None) → (o : Option (Entry × List ℕ))
+        → entry_from v seats bytes ≡ o → entry_from v seats (whole_with (whole_from v seats n) bytes o).1 ≡ None
+    at go None e = e
+    at go (Some x) e =
+        let t = entry_takes v seats bytes x fits e in
+        go x.1 t.0.rest_fits (omega (arith, few, ap length t.0.parts, entry_has_bytes x.0 x.1))
+
+-- entries that are spelled one after the other are read, and then what stands behind them
+passes : (v : Version) (seats m : ℕ) (es : List Entry) (rest : List ℕ) → seats < 2 ^ 32 → AllByRecursion (IsEntryIn v seats) es
+    → whole_from v seats (length es + m) (flat_map entry_bytes es ++ rest) ≡ behind es (whole_from v seats m rest)
+unfolding whole_from
+passes v seats m [] rest few fits =
+    let none : 0 + m ≡ m = omega arith in
+    ap (λ (k : ℕ). whole_from v seats k rest) none
+passes v seats m (e ∷ es) rest few fits =
+    let more : length (e ∷ es) + m ≡ suc (length es + m) = omega arith in
+    let regrouped : flat_map entry_bytes (e ∷ es) ++ rest ≡ entry_bytes e ++ (flat_map entry_bytes es ++ rest) =
+    ap (λ (t : List ℕ). t ++ rest) (flat_map-cons entry_bytes e es) ∙ append_assoc (entry_bytes e) (flat_map entry_bytes es) rest in
+    ap (λ (k : ℕ). whole_from v seats k (flat_map entry_bytes (e ∷ es) ++ rest)) more
+    ∙ ap (whole_from v seats (suc (length es + m))) regrouped
+    ∙ rw (entry_again v seats e (flat_map entry_bytes es ++ rest) few fits.0, passes v seats m es rest few fits.1) refl
+
+-- so many entries have at least as many bytes
+entries_have_bytes : (es : List Entry) (rest : List ℕ) → length es ≤ length (flat_map entry_bytes es ++ rest)
+entries_have_bytes [] rest = omega arith
+entries_have_bytes (e ∷ es) rest =
+    let regrouped : flat_map entry_bytes (e ∷ es) ++ rest ≡ entry_bytes e ++ (flat_map entry_bytes es ++ rest) =
+    ap (λ (t : List ℕ). t ++ rest) (flat_map-cons entry_bytes e es) ∙ append_assoc (entry_bytes e) (flat_map entry_bytes es) rest in
+    omega (arith, ap length regrouped, entry_has_bytes e (flat_map entry_bytes es ++ rest), entries_have_bytes es rest)
+
+-- with room for them all, they are read first, whatever stands behind
+first_of : (v : Version) (seats : ℕ) (es : List Entry) (rest : List ℕ) → seats < 2 ^ 32 → AllByRecursion (IsEntryIn v seats) es
+    → (let all = flat_map entry_bytes es ++ rest in (m : ℕ) × (whole_from v seats (length all) all ≡ behind es (whole_from v seats m rest)))
+first_of v seats es rest few fits =
+    let all = flat_map entry_bytes es ++ rest in
+    let m = length all - length es in
+    let n : length all ≡ length es + m = omega (arith, entries_have_bytes es rest) in
+    (m, ap (λ (k : ℕ). whole_from v seats k all) n ∙ passes v seats m es rest few fits)
+
+-- where no entry begins nothing is read
+nothing_more : (v : Version) (seats m : ℕ) (rest : List ℕ) → entry_from v seats rest ≡ None → whole_from v seats m rest ≡ ([], rest)
+unfolding whole_from
+nothing_more v seats zero rest e = refl
+nothing_more v seats (suc m) rest e = rw e refl
+
+no_entry_in_nothing : (v : Version) (seats : ℕ) → entry_from v seats [] ≡ None
+unfolding entry_from word_from
+no_entry_in_nothing v seats = refl
+
+-- ---- the record
+
+-- what is read behind a heading
+abbrev read_behind : Version → ℕ → List ℕ → Option (Record × List ℕ)
+read_behind v seats tail = let read = whole_from v seats (length tail) tail in Some (record { seats = seats; entries = read.0 }, read.1)
+
+heading_read : (v : Version) (seats count : ℕ) (tail : List ℕ) → 1 ≤ seats → seats ≤ most_seats_in v → count < 2 ^ 32
+    → cut_in (heading_in v seats count ++ tail) ≡ read_behind v seats tail
+unfolding cut_in
+heading_read v seats count tail some few fits =
+    let regrouped : heading_in v seats count ++ tail ≡ magic v ++ (word seats ++ (word count ++ tail)) =
+    append_assoc (magic v ++ word seats) (word count) tail ∙ append_assoc (magic v) (word seats) (word count ++ tail) in
+    ap cut_in regrouped ∙ rw (magic_again v (word seats ++ (word count ++ tail)), seats_again v seats (word count ++ tail) some few, words.again count tail fits) refl
+
+-- the same of a cut journal, whatever stands behind
+module _ (v : Version) (count : ℕ) (bytes : List ℕ) (r : Record) (left : List ℕ) (is : IsCutIn v count bytes r left) where
+  abbrev few_seats : r.seats < 2 ^ 32
+  few_seats = seats_small v r.seats is.seats
+
+  read_first : (lost : List ℕ) → (m : ℕ) × (let read = behind r.entries (whole_from v r.seats m (left ++ lost)) in
+      cut_in (bytes ++ lost) ≡ Some (record { seats = r.seats; entries = read.0 }, read.1))
+  read_first lost =
+      let heading = heading_in v r.seats count in
+      let spelled = flat_map entry_bytes r.entries in
+      let tail = spelled ++ (left ++ lost) in
+      let regrouped : bytes ++ lost ≡ heading ++ tail =
+      ap (λ (b : List ℕ). b ++ lost) is.parts ∙ append_assoc (heading ++ spelled) left lost ∙ append_assoc heading spelled (left ++ lost) in
+      let k = first_of v r.seats r.entries (left ++ lost) few_seats is.entries in (
+        k.0,
+        ap cut_in regrouped ∙ heading_read v r.seats count tail is.some_seat is.seats is.count_fits
+            ∙ ap (λ (x : List Entry × List ℕ). Some (record { seats = r.seats; entries = x.0 }, x.1)) k.1,
+      )
+
+  told : cut_in bytes ≡ Some (r, left)
+  told =
+      let k = read_first [] in
+      let nothing : whole_from v r.seats k.0 (left ++ []) ≡ ([], left) =
+      ap (whole_from v r.seats k.0) (append-nil left) ∙ nothing_more v r.seats k.0 left is.none_left in
+      ap cut_in (sym (append-nil bytes)) ∙ k.1
+      ∙ ap (λ (x : List Entry × List ℕ). let read = behind r.entries x in Some (record { seats = r.seats; entries = read.0 }, read.1)) nothing
+      ∙ ap (λ (es : List Entry). Some (record { seats = r.seats; entries = es }, left)) (append-nil r.entries)
+
+  continued : (lost : List ℕ) → (y : Record) × (behind_it : List ℕ) × (cut_in (bytes ++ lost) ≡ Some (y, behind_it)) × Continues r y
+  continued lost =
+      let k = read_first lost in
+      let read = whole_from v r.seats k.0 (left ++ lost) in
+      (record { seats = r.seats; entries = r.entries ++ read.0 }, read.1, k.1, record { seats = refl; entries = (read.0, refl) })
+
+pub is_told : (bytes : List ℕ) (r : Record) (left : List ℕ) → IsCut bytes r left → cut_in bytes ≡ Some (r, left)
+is_told bytes r left is = told is.0 is.1 bytes r left is.2
+
+-- what is read is so
+found_in : (bytes : List ℕ) (x : Record × List ℕ) → IsBytes bytes → cut_in bytes ≡ Some x → IsCut bytes x.0 x.1
+unfolding cut_in
+found_in bytes x fits e =
+    let p = bind_some (version_from bytes) (λ a. seats_from a.0 a.1 >>= λ b. word_from b.1 >>= λ c. read_behind a.0 b.0 c.1) x e in
+    let v = p.0.0 in
+    let q = bind_some (seats_from v p.0.1) (λ b. word_from b.1 >>= λ c. read_behind v b.0 c.1) x p.2 in
+    let seats = q.0.0 in
+    let u = bind_some (word_from q.0.1) (λ c. read_behind v seats c.1) x q.2 in
+    let tail = u.0.1 in
+    let read = whole_from v seats (length tail) tail in
+    let begun = magic_takes bytes p.0 fits p.1 in
+    let s = seats_take v p.0.1 q.0 begun.rest_fits q.1 in
+    let t0 : Takes bytes (magic v ++ word seats) q.0.1 = Takes-then bytes (magic v) p.0.1 (word seats) q.0.1 begun s.0 in
+    let t1 = words.takes q.0.1 u.0 t0.rest_fits u.1 in
+    let t2 = Takes-then bytes (magic v ++ word seats) q.0.1 (word u.0.0) tail t0 t1.0 in
+    let t3 = whole_takes v seats (length tail) tail t2.rest_fits in
+    let all = Takes-then bytes (heading_in v seats u.0.0) tail (flat_map entry_bytes read.0) read.1 t2 t3.0 in
+    let made : IsCut bytes (record { seats = seats; entries = read.0 }) read.1 = (
+      v,
+      u.0.0,
+      record {
+        some_seat = s.1;
+        seats = s.2;
+        count_fits = t1.1;
+        entries = t3.1;
+        parts = all.parts;
+        none_left = stops v seats (length tail) tail t2.rest_fits (omega arith);
+      },
+    ) in
+    subst (λ (y : Record × List ℕ). IsCut bytes y.0 y.1) (some_is (record { seats = seats; entries = read.0 }, read.1) x u.2) made
+
+-- of a whole journal nothing is left
+pub whole_told : (bytes : List ℕ) (r : Record) → Tells bytes r → IsCut bytes r []
+whole_told bytes r is = let fits = is.1 in (
+  is.0,
+  length r.entries,
+  record {
+    some_seat = fits.some_seat;
+    seats = fits.seats;
+    count_fits = fits.count;
+    entries = fits.entries;
+    parts = is.2 ∙ sym (append-nil _);
+    none_left = no_entry_in_nothing is.0 r.seats;
+  },
+)
+
+seats_in : (v : Version) (n : ℕ) → 1 ≤ n → n ≤ most_seats_in v → IsSeats n
+seats_in One n some few = (some, omega (arith, few))
+seats_in Two n some few = (some, few)
+
+-- ---- of what a reader returned
+
+module _ {X : Type 0} (record_of : X → Record) (left_of : X → List ℕ) (bytes : List ℕ) (fits : IsBytes bytes) where
+  abbrev Reads : Result X ReadError → Type 0
+  Reads result = Gives (λ x. (record_of x, left_of x)) result (cut_in bytes)
+
+  pub is_found : (result : Result X ReadError) → Reads result → IfOk result (λ x. IsCut bytes (record_of x) (left_of x))
+  is_found (Ok x) read = found_in bytes (record_of x, left_of x) fits read
+  is_found (Err e) read = tt
+
+  pub seats_found : (result : Result X ReadError) → Reads result → IfOk result (λ x. IsSeats (record_of x).seats)
+  seats_found (Ok x) read = let is = found_in bytes (record_of x, left_of x) fits read in seats_in is.0 (record_of x).seats is.2.some_seat is.2.seats
+  seats_found (Err e) read = tt
+
+  pub goes_on : (result : Result X ReadError) → Reads result
+      → IfOk result (λ x. (lost : List ℕ) → (y : Record) × (left : List ℕ) × (cut_in (bytes ++ lost) ≡ Some (y, left)) × Continues (record_of x) y)
+  goes_on (Ok x) read = λ lost. let is = found_in bytes (record_of x, left_of x) fits read in continued is.0 is.1 bytes (record_of x) (left_of x) is.2 lost
+  goes_on (Err e) read = tt

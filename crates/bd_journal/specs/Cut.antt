@@ -1,0 +1,49 @@
+-- Reading what is whole of a journal that was cut off.
+use Rattle.std.specs.Prelude.{◌≡◌, ℕ, zero, suc, ◌<◌, ◌≤◌, ◌^◌, List, [], ◌∷◌, ◌++◌, length, Option, Some, None}
+use Rattle.std.specs.List.{flat_map, AllByRecursion}
+use Rattle.bd_space.specs.declared.step.Entry.{Entry}
+use Rattle.bd_space.specs.declared.record.Record.{Record}
+use Rattle.bd_journal.specs.declared.versions.Version.{Version}
+use Rattle.bd_journal.specs.Spelling.{most_seats_in, entry_bytes, heading_in, IsEntryIn}
+use Rattle.bd_journal.specs.Reading.{◌>>=◌, word_from, entry_from, version_from, seats_from}
+
+-- these entries before what is read behind them
+abbrev pub behind : List Entry → List Entry × List ℕ → List Entry × List ℕ
+behind front read = (front ++ read.0, read.1)
+
+-- what is whole of these bytes, by the entry that begins there and what is whole behind it
+abbrev pub whole_with : (List ℕ → List Entry × List ℕ) → List ℕ → Option (Entry × List ℕ) → List Entry × List ℕ
+whole_with go bytes None = ([], bytes)
+whole_with go bytes (Some x) = behind (x.0 ∷ []) (go x.1)
+
+-- entry after entry while one begins there, up to so many, and the bytes behind them
+unfoldable pub whole_from : Version → ℕ → ℕ → List ℕ → List Entry × List ℕ
+whole_from v seats zero bytes = ([], bytes)
+whole_from v seats (suc n) bytes = whole_with (whole_from v seats n) bytes (entry_from v seats bytes)
+
+-- the record of the entries that are whole behind a heading, whose count isn't looked at, and the bytes behind them: an entry has
+-- bytes, so there are no more entries than bytes
+unfoldable pub cut_in : List ℕ → Option (Record × List ℕ)
+cut_in bytes = do
+  begun ← version_from bytes
+  seats ← seats_from begun.0 begun.1
+  count ← word_from seats.1
+  let read = whole_from begun.0 seats.0 (length count.1) count.1 in Some (record { seats = seats.0; entries = read.0 }, read.1)
+
+-- the bytes are a heading with some count, the spelling of each entry, and then bytes that no entry begins
+pub record IsCutIn (v : Version) (count : ℕ) (bytes : List ℕ) (r : Record) (left : List ℕ) : Type 0 where
+  pub some_seat : 1 ≤ r.seats
+  pub seats : r.seats ≤ most_seats_in v
+  pub count_fits : count < 2 ^ 32
+  pub entries : AllByRecursion (IsEntryIn v r.seats) r.entries
+  pub parts : bytes ≡ heading_in v r.seats count ++ flat_map entry_bytes r.entries ++ left
+  pub none_left : entry_from v r.seats left ≡ None
+
+-- the same in one of the versions
+abbrev pub IsCut : List ℕ → Record → List ℕ → Type 0
+IsCut bytes r left = (v : Version) × (count : ℕ) × IsCutIn v count bytes r left
+
+-- a record that has as many seats, and these entries before others
+pub record Continues (r more : Record) : Type 0 where
+  pub seats : more.seats ≡ r.seats
+  pub entries : (es : List Entry) × (more.entries ≡ r.entries ++ es)

@@ -1,0 +1,14 @@
+-- What is said of a journal that was cut off, and when that is so.
+use Rattle.std.specs.Prelude.{◌≡◌, ℕ, List, length, Option, IfSome}
+use Rattle.bd_space.specs.declared.record.Record.{Record}
+use Rattle.bd_space.specs.Histories.{IsHistory, history_in}
+use Rattle.bd_journal.specs.Cut.{IsCut}
+use Rattle.bd_player.specs.declared.cuts.Whole.{Whole}
+
+-- the entries are those that are whole in the bytes, and so many bytes are left
+abbrev pub IsWhole : List ℕ → Whole → Type 0
+IsWhole bytes w = (left : List ℕ) × IsCut bytes w.record left × (w.left ≡ length left)
+
+-- with the status 0 the entries that are whole in the bytes, where they are known, are a history
+abbrev pub IsLawfulCutAt0 : Option (List ℕ) → ℕ → Type 0
+IsLawfulCutAt0 known status = status ≡ 0 → IfSome known (λ bytes. (r : Record) × (left : List ℕ) × IsCut bytes r left × IsHistory (history_in r))

@@ -1,0 +1,91 @@
+//! What is whole of a journal that was cut off, or that is still being written.
+
+ghost use Rattle.std.specs.Prelude.{◌≤◌, IfOk, IfSome};
+ghost use Rattle.bd_uapi.specs.Limits.{IsSeats};
+ghost use Rattle.bd_player.specs.Cuts.{IsLawfulCutAt0, IsWhole};
+
+use crate::faults::{DONE, Fault, after_writing, tell};
+use crate::journals::{journal_from, print_unlawful};
+use crate::verdicts::{Judged, judge};
+use bd_audit::Watch;
+use bd_journal::{ReadError, read_cut};
+use bd_space::Record;
+use std::alloc::Global;
+use std::io::{Read, Write};
+
+// More bytes than a cut entry leaves: none has more than a parcel of 4 MiB and what is around it.
+const MOST_LEFT: usize = 4_500_000;
+
+/// The entries that are whole in a journal, and how many bytes are left behind them.
+#[derive(Drop, Debug)]
+pub struct Whole {
+    /// The entries.
+    pub record: Record,
+    /// The bytes behind them, which no entry begins.
+    pub left: usize,
+}
+
+/// What is whole of the journal that a reader has. The count in its heading isn't looked at.
+///
+/// # Errors
+/// `Journal` where it doesn't begin with a heading, `Memory` where memory was refused, `File` where it can't be read.
+#[tactic(auto, using(crate::proofs::Kept::whole_known))]
+pub fn whole_from<R: Read>(alloc: Global, journal: &mut R) -> Result<Whole, Fault>
+    ensures whole { IfOk result (λ w. IfSome (R.remaining journal.old) (λ bytes. IsWhole bytes w)) }
+    ensures seats { IfOk result (λ w. IsSeats w.record.seats) }
+{
+    let bytes = match journal_from(alloc, journal) {
+        Ok(bytes) => bytes,
+        Err(fault) => return Err(fault),
+    };
+    match read_cut(alloc, &bytes) {
+        Ok((record, rest)) => Ok(Whole {
+            record,
+            left: rest.len(),
+        }),
+        Err(ReadError::Malformed) => Err(Fault::Journal),
+        Err(ReadError::Memory) => Err(Fault::Memory),
+    }
+}
+
+/// Prints how many entries are whole behind this word, and how many bytes are left, with a warning on standard error where they
+/// are too many for one entry that was cut: then there is something else amiss.
+pub fn print_whole<W: Write, E: Write>(
+    word: &str,
+    entries: usize,
+    left: usize,
+    out: &mut W,
+    err: &mut E,
+) -> u8 {
+    if left > MOST_LEFT {
+        let _ = writeln!(err, "warning: more bytes are left than a cut entry has");
+    }
+    let written = writeln!(out, "{word} {entries}, then {left} bytes of no entry");
+    after_writing(written, DONE)
+}
+
+/// Judges what is whole of a journal: whether its entries are a history, or else the first that doesn't follow from those
+/// before. It tells how far it is.
+#[tactic(auto, using(crate::proofs::Kept::cut_judged, crate::proofs::Kept::cut_not_judged))]
+pub fn check_cut<R: Read, P: Watch, W: Write, E: Write>(
+    alloc: Global,
+    journal: &mut R,
+    watch: &mut P,
+    out: &mut W,
+    err: &mut E,
+) -> u8
+    // The status is 0 only where the entries that are whole are a history.
+    ensures { IsLawfulCutAt0 (R.remaining journal.old) result }
+{
+    let Whole { record, left } = match whole_from(alloc, journal) {
+        Ok(whole) => whole,
+        Err(fault) => return tell(fault, err),
+    };
+    match judge(alloc, record, watch) {
+        Ok(Judged::History(found)) => {
+            print_whole("lawful", found.entries.as_slice().len(), left, out, err)
+        }
+        Ok(Judged::Unlawful { at, .. }) => print_unlawful(at, out),
+        Err(fault) => tell(fault, err),
+    }
+}
