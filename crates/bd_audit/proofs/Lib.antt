@@ -1,5 +1,6 @@
 pub mod Beginnings
 pub mod ReplyCalls
+pub mod CallsOfReadings
 pub mod Seated
 pub mod NamesHaveGiftChains
 pub mod GoneUnheld

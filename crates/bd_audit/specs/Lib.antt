@@ -7,6 +7,7 @@ pub mod GiftSearch
 pub mod Replies
 pub mod Paths
 pub mod Latest
+pub mod CallOf
 pub mod Ending
 pub mod Hearing
 pub mod Streams

@@ -6,6 +6,7 @@ ghost use Rattle.bd_uapi.specs.declared.fault.Fault.TheVariants as faults;
 ghost use Rattle.bd_space.specs.Histories.{IsHistory, space_after, history_in};
 ghost use Rattle.bd_audit.specs.Replays.{with_entry, beginning};
 ghost use Rattle.bd_audit.specs.Replies as spec;
+ghost use Rattle.bd_audit.specs.CallOf.{IsAnswerOf};
 
 use crate::playing::{advance, entry_at, played_before};
 use bd_engine::{Engine, Looks};
@@ -76,7 +77,10 @@ fn call_closed_at(alloc: Global, record: &Record, place: u32) -> Result<Option<u
 pub fn call_of_reply(alloc: Global, record: &Record, step: u32) -> Result<Option<u32>, Fault>
     requires seats { IsSeats «record».now.seats }
     requires lawful { IsHistory (history_in «record».now) }
-    ensures { MatchResult result (λ found. found ≡ spec.call_answered (history_in «record».now) step) (λ f. f ≡ faults.NoMemory) }
+    // That call is the one of the reading, and no other is.
+    ensures answers { IfOk result (IsAnswerOf (history_in «record».now) step) }
+    // The same by the way of the search: the innermost frame of the thread that made the first Reply taken.
+    ensures found { MatchResult result (λ found. found ≡ spec.call_answered (history_in «record».now) step) (λ f. f ≡ faults.NoMemory) }
 {
     match reply_taken_at(alloc, record, step)? {
         Some(reply) => call_closed_at(alloc, record, reply),

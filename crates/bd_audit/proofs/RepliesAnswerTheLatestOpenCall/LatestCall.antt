@@ -70,7 +70,7 @@ module _ (s : Space) (v : Work) (b : ℕ) (is_reply : reply_of v.kind ≡ Some b
       → first_of (o ∷ map (λ (y : Work). reply_of y.kind) items) ≡ Some b
   first-reply x items o r e k h = search (arith, reply-kind)
 
-  taken-first : (ws : List Work) (left : ℕ) → In v (taken s left ws) → first_reply_in (taken s left ws) ≡ Some b
+  pub taken-first : (ws : List Work) (left : ℕ) → In v (taken s left ws) → first_reply_in (taken s left ws) ≡ Some b
   taken-first = taken-by s (λ ws items. In v items → first_reply_in items ≡ Some b) (λ ws l. absurd l)
       (λ x xs e l. elim l [ inl is ↦ ap (λ (y : Work). first_of (reply_of y.kind ∷ [])) is ∙ ap (λ o. first_of (o ∷ [])) is_reply | inr none ↦ absurd none ])
       (λ x xs items e. first-reply x items (reply_of x.kind) refl e)

@@ -64,10 +64,10 @@ same-place es i P Q p q =
 pub at-same : (es : List Entry) (i : ℕ) (P Q : Space → Entry → Type 0) → At es i P → (q : At es i Q) → P (after opening q.0) q.1
 at-same es i P Q p q = let k = same-place es i P Q p q in subst (P (after opening q.0)) k.1 (subst (λ xs. P (after opening xs) p.1) k.0 p.3)
 
-one-caller : (es : List Entry) (c m n : ℕ) → Called es c m → Called es c n → m ≡ n
+pub one-caller : (es : List Entry) (c m n : ℕ) → Called es c m → Called es c n → m ≡ n
 one-caller es c m n p q = let j : Some m ≡ Some n = sym (at-same es c (λ z e. Calls z e m) (λ z e. Calls z e n) p q).by ∙ q.3.by in cc
 
-one-closed : (es : List Entry) (w c d m n : ℕ) → At es w (λ z e. AnswersCall z e c m) → At es w (λ z e. AnswersCall z e d n) → c ≡ d
+pub one-closed : (es : List Entry) (w c d m n : ℕ) → At es w (λ z e. AnswersCall z e c m) → At es w (λ z e. AnswersCall z e d n) → c ≡ d
 one-closed es w c d m n p q = let j : Some c ≡ Some d = sym (at-same es w (λ z e. AnswersCall z e c m) (λ z e. AnswersCall z e d n) p q).innermost ∙ q.3.innermost in cc
 
 -- ---- the frame that the reply closes
@@ -113,7 +113,7 @@ latest-open es w c m n called k =
 -- ---- while the reply is unread
 
 -- some item is this reply, or none
-find-reply : (todo : List Work) (b : ℕ) → ((v : Work) × In v todo × (reply_of v.kind ≡ Some b)) ⊎ ((v : Work) → In v todo → reply_of v.kind ≡ Some b → ⊥)
+pub find-reply : (todo : List Work) (b : ℕ) → ((v : Work) × In v todo × (reply_of v.kind ≡ Some b)) ⊎ ((v : Work) → In v todo → reply_of v.kind ≡ Some b → ⊥)
 find-reply todo b = at (list_any (λ (v : Work). is_some_and (reply_of v.kind) (λ c. c == b)) todo) refl
   where
     at : (q : Bool) → list_any (λ (v : Work). is_some_and (reply_of v.kind) (λ c. c == b)) todo ≡ q

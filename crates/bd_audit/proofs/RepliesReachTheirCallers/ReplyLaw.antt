@@ -59,7 +59,7 @@ module _ (es : List Entry) (i j : ℕ) (before later : List Entry) (e f : Entry)
 
 -- ---- a call is closed once, and a reply taken once
 
-open-frame : (s : Space) (e : Entry) (c : ℕ) → frame_of s e ≡ Some c → (f : Frame) × In f s.frames × (f.made ≡ c)
+pub open-frame : (s : Space) (e : Entry) (c : ℕ) → frame_of s e ≡ Some c → (f : Frame) × In f s.frames × (f.made ≡ c)
 unfolding frame_of innermost
 open-frame s e c h = search (arith, find-in)
 
@@ -143,7 +143,7 @@ answered : (h : History) (s w c : ℕ) → reply_taken_at h s ≡ Some w → cal
 unfolding call_answered
 answered h s w c e f = ap (λ o. option_and_then (call_closed_at h) o) e ∙ f
 
-answered-by : (h : History) (s c : ℕ) → call_answered h s ≡ Some c → (w : ℕ) × (reply_taken_at h s ≡ Some w) × (call_closed_at h w ≡ Some c)
+pub answered-by : (h : History) (s c : ℕ) → call_answered h s ≡ Some c → (w : ℕ) × (reply_taken_at h s ≡ Some w) × (call_closed_at h w ≡ Some c)
 unfolding call_answered
 answered-by h s c e = option_and_then_some (call_closed_at h) (reply_taken_at h s) c e (λ w f g. (w, f, g))
 
