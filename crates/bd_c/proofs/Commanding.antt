@@ -1,48 +1,34 @@
 -- A command that C gives to a live engine, of which a step was made or none.
-use Rattle.std.proofs.Common.{◌≡◌, ℕ, ◌≤◌, List, [], ◌++◌, length, append-nil, arith, true, refl, sym, ap, subst, ◌∙◌, inl, inr}
-use Rattle.std.proofs.lemmas.List.{take_all}
-use Rattle.std.specs.Prelude.{Option, Some, None, Result, Ok, Err, if◌then◌else◌}
+use Rattle.std.proofs.Common.{◌≡◌, ℕ, List, [], ◌++◌, length, append-nil, arith, true, refl, sym, ap, subst, ◌∙◌}
+use Rattle.std.specs.Prelude.{Some, Result, Ok, Err}
 use Rattle.bd_uapi.specs.declared.fault.Fault.{Fault}
 use Rattle.bd_uapi.specs.declared.command.Command.{Command}
-use Rattle.bd_codec.specs.Spelling.{command_bytes, IsCommand, Found}
-use Rattle.bd_journal.specs.Spelling.{carries}
+use Rattle.bd_codec.specs.Spelling.{command_bytes, IsCommand}
 use Rattle.bd_space.specs.declared.step.Step.{Step}
-use Rattle.bd_space.specs.declared.step.Step.TheVariants as step_of
-use Rattle.bd_c.specs.declared.held.Held.{Held}
+use Rattle.bd_space.specs.Histories.{History, HasPlace, is_at_limit}
+use Rattle.bd_engine.specs.Follows.{Follows}
 use Rattle.bd_c.specs.declared.answers.Told.{Told}
 use Rattle.bd_c.specs.declared.live.OwnedLive.{OwnedLive}
-use Rattle.bd_c.specs.declared.status.Status.{Status}
-use Rattle.bd_c.specs.declared.status.Status.TheVariants as status
-use Rattle.bd_c.specs.Behind.{IsLive, live_of}
-use Rattle.bd_c.specs.Lives.{Rests, HasParcel, Steps, StepsAt}
-use Rattle.bd_c.proofs.Behind.{over_same}
-use Rattle.bd_c.specs.LiveCommands.{Commands, parcel_given, IsCommandOf, IsNoStep}
+use Rattle.bd_c.specs.Lives.{Rests}
+use Rattle.bd_c.specs.LiveCommands.{IsCommandOf}
 
+-- no step was made, and nothing else
 pub rests : (x : OwnedLive) (told : Told) → Rests x x told told
 rests x told = record { kept = refl; seats = refl; follows = λ h follows. follows; told = refl; ended = refl; notes = record { noted = refl; changed = refl } }
 
--- a step without memory for its parcel
-pub uncopied : (h : Option Held) (seat : ℕ) (z : Step) (told : Told) → IsLive h → HasParcel z → StepsAt h h seat z told told status.NoMemory
-uncopied h seat z told is has = over_same live_of h (λ x y. Steps x y seat z status.NoMemory told told) is (λ x. (inl has, rests x told))
+-- ---- whether there is a place for one more step, by how many there were
 
--- a command of which no step was made
-pub no_step : (s : Status) (h : Option Held) (seat : ℕ) (command bytes offsets : List ℕ) (told : Told) → IsLive h → IsNoStep command bytes offsets s
-    → Commands h h seat command bytes offsets s told told
-no_step status.NoCommand h seat command bytes offsets told is none = inl (refl, none, refl, refl)
-no_step status.NoMemory h seat command bytes offsets told is none = inr (none.0, none.1, uncopied h seat none.0 told is none.2)
-no_step _ h seat command bytes offsets told is none = absurd none
+abbrev Counts : OwnedLive → ℕ → Type 0
+Counts x n = (h : History) → Follows x.live h → n ≡ length h.entries
 
--- a command that carries a parcel has one
-pub has_parcel : (c : Command) (bytes offsets : List ℕ) → carries c ≡ true → HasParcel (step_of.Command c (parcel_given c bytes offsets))
-has_parcel c bytes offsets e =
-    subst (λ b. HasParcel (step_of.Command c (if b then Some (record { bytes = bytes; offsets = offsets }) else None))) (sym e) tt
+pub full : (x : OwnedLive) (n seat : ℕ) (z : Step) → Counts x n → n ≡ 4294967295 → (h : History) → Follows x.live h → is_at_limit h seat (Some z) ≡ true
+unfolding is_at_limit
+full x n seat z counts is h follows = search (arith, counts)
 
--- there was no memory for the parcel of the command that was read, whose bytes these are
-pub no_copy : (command bytes offsets : List ℕ) (c : Command) (n : ℕ) → Found command_bytes IsCommand command c n → n ≡ length command → carries c ≡ true
-    → IsNoStep command bytes offsets status.NoMemory
-no_copy command bytes offsets c n found all e =
-    let enough : length command ≤ n = omega (arith, all) in
-    (step_of.Command c (parcel_given c bytes offsets), (c, (found.fits, sym (take_all n command enough) ∙ found.spelled), refl), has_parcel c bytes offsets e)
+pub has_place : (x : OwnedLive) (n : ℕ) → Counts x n → (n ≡ 4294967295 → ⊥) → (h : History) → Follows x.live h → HasPlace h
+has_place x n counts not h follows = let at = counts h follows in omega (arith, at, follows.lawful.short, not)
+
+-- ---- bytes that are no command
 
 -- what is read at the beginning of bytes is the only command that begins them, if one does
 abbrev pub IsOnly : List ℕ → Result (Command × ℕ) Fault → Type 0

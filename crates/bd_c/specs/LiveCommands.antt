@@ -9,8 +9,8 @@ use Rattle.bd_space.specs.declared.step.Step.TheVariants as step_of
 use Rattle.bd_c.specs.declared.answers.Told.{Told}
 use Rattle.bd_c.specs.declared.held.Held.{Held}
 use Rattle.bd_c.specs.declared.status.Status.{Status}
-use Rattle.bd_c.specs.declared.status.Status.TheVariants.{NoMemory, NoCommand}
-use Rattle.bd_c.specs.Lives.{HasParcel, StepsAt}
+use Rattle.bd_c.specs.declared.status.Status.TheVariants.{NoCommand}
+use Rattle.bd_c.specs.Lives.{StepsAt}
 
 -- a transaction or reply gets what is given as its parcel, and no other command does, so that each entry has a spelling
 abbrev pub parcel_given : Command → List ℕ → List ℕ → Option Parcel
@@ -20,21 +20,15 @@ parcel_given c bytes offsets = if carries c then Some (record { bytes = bytes; o
 abbrev pub IsCommandOf : List ℕ → Command → Type 0
 IsCommandOf command c = IsCommand c × (command ≡ command_bytes c)
 
--- the step is that of the command which has these bytes
-abbrev pub IsStepOf : List ℕ → List ℕ → List ℕ → Step → Type 0
-IsStepOf command bytes offsets z = (c : Command) × IsCommandOf command c × (z ≡ step_of.Command c (parcel_given c bytes offsets))
-
 abbrev pub IsNoCommand : List ℕ → Type 0
 IsNoCommand command = (c : Command) → IsCommandOf command c → ⊥
 
--- no command has these bytes, or there was no memory for a copy of its parcel
-abbrev pub IsNoStep : List ℕ → List ℕ → List ℕ → Status → Type 0
-IsNoStep command bytes offsets NoCommand = IsNoCommand command
-IsNoStep command bytes offsets NoMemory = (z : Step) × IsStepOf command bytes offsets z × HasParcel z
-IsNoStep command bytes offsets _ = ⊥
+-- the step of a command with what is given
+abbrev pub step_given : Command → List ℕ → List ℕ → Step
+step_given c bytes offsets = step_of.Command c (parcel_given c bytes offsets)
 
 -- the command's step was asked for, or there is no command, and nothing was done
 abbrev pub Commands : Option Held → Option Held → ℕ → List ℕ → List ℕ → List ℕ → Status → Told → Told → Type 0
 Commands h k seat command bytes offsets s a b =
     ((s ≡ NoCommand) × IsNoCommand command × (k ≡ h) × (b ≡ a))
-    ⊎ ((z : Step) × IsStepOf command bytes offsets z × StepsAt h k seat z a b s)
+    ⊎ ((c : Command) × IsCommandOf command c × StepsAt h k seat (step_given c bytes offsets) a b s)

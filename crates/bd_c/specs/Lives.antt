@@ -1,7 +1,6 @@
 -- What a call with a live engine's handle does: the same after every history that the engine follows, none of which it keeps.
-use Rattle.std.specs.Prelude.{◌≡◌, ◌≤◌, ◌⊎◌, ℕ, true, [], length, Option, Some, None}
+use Rattle.std.specs.Prelude.{◌≡◌, ◌≤◌, ℕ, true, [], length, Option, Some, None}
 use Rattle.bd_space.specs.declared.step.Step.{Step}
-use Rattle.bd_space.specs.declared.step.Step.TheVariants as step_of
 use Rattle.bd_space.specs.declared.step.StepAnswer.{StepAnswer}
 use Rattle.bd_space.specs.Steps.{step}
 use Rattle.bd_space.specs.Histories.{History, history_of, space_after, extended, HasPlace, is_at_limit}
@@ -61,18 +60,13 @@ pub record Rests (x y : OwnedLive) (a b : Told) : Type 0 where
   pub ended : y.ended.items ≡ x.ended.items
   pub notes : KeepsNotes x y
 
--- a step with a parcel has bytes that are copied
-abbrev pub HasParcel : Step → Type 0
-HasParcel (step_of.Command c (Some p)) = Unit {0}
-HasParcel _ = ⊥
-
 -- A step was made. Or none was: there is no such seat; the history is full, or would need a number past the limit; or there
--- was no memory, for the copies of a parcel or else in the engine, which isn't said of a full history.
+-- was no memory, which isn't said of a full history.
 abbrev pub Steps : OwnedLive → OwnedLive → ℕ → Step → Status → Told → Told → Type 0
 Steps x y seat z Done a b = Makes x y seat z b
 Steps x y seat z NoSuchSeat a b = (x.live.seats ≤ seat) × Rests x y a b
 Steps x y seat z HistoryFull a b = ((h : History) → Follows x.live h → is_at_limit h seat (Some z) ≡ true) × Rests x y a b
-Steps x y seat z NoMemory a b = (HasParcel z ⊎ ((h : History) → Follows x.live h → HasPlace h)) × Rests x y a b
+Steps x y seat z NoMemory a b = ((h : History) → Follows x.live h → HasPlace h) × Rests x y a b
 Steps x y seat z _ a b = ⊥
 
 -- a new live engine is behind the handle, or nothing, and why

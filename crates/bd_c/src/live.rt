@@ -43,8 +43,8 @@ impl OwnedLive {
         }
     }
 
-    // Makes a step of one of the seats, whose entry is kept, and its answer told.
-    fn make(&mut self, seat: u32, step: Step, told: &mut Told) -> Status
+    /// Makes a step of one of the seats, whose entry is kept, and its answer told.
+    pub(crate) fn make(&mut self, seat: u32, step: Step, told: &mut Told) -> Status
         requires { seat < self.old.live.seats }
         ensures { Steps self.old self.new seat step result told.old told.new }
     {

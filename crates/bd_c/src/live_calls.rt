@@ -2,15 +2,17 @@
 ghost use Rattle.std.specs.Prelude.{◌≡◌, None};
 ghost use Rattle.bd_space.specs.declared.step.Step.TheVariants.{Open, Attach, SetManager, SetSpam, Read, ExitThread, ExitProcess};
 ghost use Rattle.bd_c.specs.{Status.{Reports}, Behind.{IsLive}, Flags.{ByFlag}, Lives.{LiveOpensAt, StepsAt}};
-ghost use Rattle.bd_c.specs.LiveCommands.{Commands};
+ghost use Rattle.bd_c.specs.LiveCommands.{Commands, step_given};
 
 use crate::answers::Told;
 use crate::handles::Handle;
-use crate::live_commands::step_of;
+use crate::live_commands::command_of;
 use crate::lives::open_live;
 use crate::opening::put_made;
 use crate::requests::flag_of;
+use crate::status::Status;
 use bd_space::Step;
+use bd_uapi::Command;
 use std::alloc::Global;
 
 /// Makes a live engine for so many seats, 1 to 65536. The handle must have nothing.
@@ -87,8 +89,26 @@ pub extern "C" fn hullpippin_live_set_spam(
     }
 }
 
+// Runs a command.
+fn run(
+    alloc: Global,
+    live: &mut Handle,
+    seat: u32,
+    command: Command,
+    bytes: &[u8],
+    offsets: &[u8],
+    told: &mut Told,
+) -> u32
+    requires { IsLive live.old.held }
+    ensures { Reports result (StepsAt live.old.held live.new.held seat (step_given command bytes.now offsets.now) told.old told.new) }
+{
+    let engine = live.engine();
+    engine
+        .command(alloc, seat, command, bytes, offsets, told)
+        .number()
+}
+
 /// Runs one command of the seat. What is given as its parcel is looked at with a transaction or reply alone.
-#[tactic(auto, using(crate::proofs::Commanding::no_step))]
 #[unsafe(no_mangle)]
 pub extern "C" fn hullpippin_live_command(
     alloc: Global,
@@ -103,9 +123,9 @@ pub extern "C" fn hullpippin_live_command(
     ensures { Reports result (λ s.
         Commands live.old.held live.new.held seat command.now bytes.now offsets.now s told.old told.new) }
 {
-    match step_of(alloc, command, bytes, offsets) {
-        Ok(step) => make(live, seat, step, told),
-        Err(status) => status.number(),
+    match command_of(command) {
+        Some(command) => run(alloc, live, seat, command, bytes, offsets, told),
+        None => Status::NoCommand.number(),
     }
 }
 

@@ -1,8 +1,9 @@
-//! A command that C gives to a live engine, as a step.
-ghost use Rattle.std.specs.Prelude.{◌≡◌, true, IfOk, IfErr, OnErr};
-ghost use Rattle.bd_journal.specs.Spelling.{carries};
-ghost use Rattle.bd_c.specs.LiveCommands.{parcel_given, IsStepOf, IsNoStep};
+//! A command that C gives to a live engine.
+ghost use Rattle.std.specs.Prelude.{◌≡◌, IfOk, IfSome, IfNone};
+ghost use Rattle.bd_c.specs.{LiveCommands.{parcel_given, step_given, IsCommandOf, IsNoCommand}, Lives.{Steps}};
 
+use crate::answers::Told;
+use crate::live::OwnedLive;
 use crate::requests::copied;
 use crate::status::Status;
 use bd_codec::read_command;
@@ -26,8 +27,7 @@ fn parcel_for(
     bytes: &[u8],
     offsets: &[u8],
 ) -> Result<Option<Parcel>, AllocError>
-    ensures ok { IfOk result (λ p. p ≡ parcel_given command.now bytes.now offsets.now) }
-    ensures refused { OnErr result (carries command.now ≡ true) }
+    ensures { IfOk result (λ p. p ≡ parcel_given command.now bytes.now offsets.now) }
 {
     match command {
         Command::Transaction(_) | Command::Reply(_) => match parcel(alloc, bytes, offsets) {
@@ -38,29 +38,46 @@ fn parcel_for(
     }
 }
 
-/// The step of one command, whose bytes these are, with its parcel.
-pub(crate) fn step_of(
-    alloc: Global,
-    command: &[u8],
-    bytes: &[u8],
-    offsets: &[u8],
-) -> Result<Step, Status>
-    ensures ok { IfOk result (IsStepOf command.now bytes.now offsets.now) }
-    ensures refused { IfErr result (IsNoStep command.now bytes.now offsets.now) }
+/// The command whose bytes these are, all of them.
+pub(crate) fn command_of(bytes: &[u8]) -> Option<Command>
+    ensures some { IfSome result (IsCommandOf bytes.now) }
+    ensures none { IfNone result (IsNoCommand bytes.now) }
 {
-    match read_command(command) {
-        Err(_) => Err(Status::NoCommand),
-        Ok((found, size)) => {
-            if size != command.len() {
-                return Err(Status::NoCommand);
+    match read_command(bytes) {
+        Err(_) => None,
+        Ok((command, size)) => {
+            if size != bytes.len() {
+                return None;
             }
-            match parcel_for(alloc, &found, bytes, offsets) {
-                Ok(parcel) => Ok(Step::Command {
-                    command: found,
-                    parcel,
-                }),
-                Err(_) => Err(Status::NoMemory),
-            }
+            Some(command)
+        }
+    }
+}
+
+impl OwnedLive {
+    /// Runs a command, with what is given as its parcel. Whether there is a place for its step is asked before anything is
+    /// copied, so that want of memory isn't told of a full history.
+    #[tactic(auto, using(crate::proofs::Commanding::full, crate::proofs::Commanding::has_place, crate::proofs::Commanding::rests))]
+    pub(crate) fn command(
+        &mut self,
+        alloc: Global,
+        seat: u32,
+        command: Command,
+        bytes: &[u8],
+        offsets: &[u8],
+        told: &mut Told,
+    ) -> Status
+        ensures { Steps self.old self.new seat (step_given command bytes.now offsets.now) result told.old told.new }
+    {
+        if seat >= self.live.seats() {
+            return Status::NoSuchSeat;
+        }
+        if self.live.len() == u32::MAX {
+            return Status::HistoryFull;
+        }
+        match parcel_for(alloc, &command, bytes, offsets) {
+            Ok(parcel) => self.make(seat, Step::Command { command, parcel }, told),
+            Err(_) => Status::NoMemory,
         }
     }
 }
