@@ -161,7 +161,10 @@ pub fn play_in<H: AllocGlobal + Threads + Wait + Sync, R: Read, W: Write, E: Wri
     format: Format,
     out: &mut W,
     err: &mut E,
-) -> Played {
+) -> Played
+    // What is handed on as the history of the run is one, in either form.
+    ensures history { IfSome result.history (λ r. IsHistory (history_in r)) }
+{
     match format {
         Format::Text => play_from(rt, script, manner, out, err),
         Format::Json => play(rt.alloc(), script, manner.turns, out, err),

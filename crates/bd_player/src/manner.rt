@@ -1,5 +1,8 @@
 //! How a script is played.
 
+ghost use Rattle.std.specs.Prelude.{IfSome};
+ghost use Rattle.bd_space.specs.Histories.{IsHistory, history_in};
+
 use crate::playing::{Played, play};
 use crate::threads::play_threads;
 use std::io::{Read, Write};
@@ -22,7 +25,10 @@ pub fn play_from<H: AllocGlobal + Threads + Wait + Sync, R: Read, W: Write, E: W
     manner: Manner,
     out: &mut W,
     err: &mut E,
-) -> Played {
+) -> Played
+    // What is handed on as the history of the run is one, in either manner.
+    ensures history { IfSome result.history (λ r. IsHistory (history_in r)) }
+{
     if manner.threads {
         play_threads(rt, rt.alloc(), script, manner.turns, out, err)
     } else {

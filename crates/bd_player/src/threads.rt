@@ -2,6 +2,7 @@
 
 ghost use Rattle.std.specs.Prelude.{◌≡◌, ◌≤◌, ◌⊎◌, ◌++◌, [], ◌∷◌, true, All, IfOk, IfSome};
 ghost use Rattle.atomic_table.specs.Seated.{TableId};
+ghost use Rattle.bd_space.specs.Histories.{IsHistory, history_in};
 
 use crate::faults::{DONE, Fault, tell};
 use crate::playing::{Played, laid, play_lines};
@@ -265,7 +266,10 @@ pub fn play_threads<H: Threads + Wait + Sync, R: Read, W: Write, E: Write>(
     turns: u32,
     out: &mut W,
     err: &mut E,
-) -> Played {
+) -> Played
+    // What is handed on as the history of the run is one, whichever seats came back.
+    ensures history { IfSome result.history (λ r. IsHistory (history_in r)) }
+{
     let (driver, seats, script) = match laid(alloc, script) {
         Ok(parts) => parts,
         Err(fault) => return Played::fault(fault, err),
