@@ -4,3 +4,4 @@ pub mod Behind
 pub mod Commanding
 pub mod Noting
 pub mod Making
+pub mod NewSeats

@@ -5,7 +5,7 @@ use Rattle.bd_c.specs.declared.held.Held.{Held}
 use Rattle.bd_c.specs.declared.status.Status.{Status}
 use Rattle.bd_c.specs.declared.status.Status.TheVariants.{Done, NoMemory, SeatsAway}
 use Rattle.bd_c.specs.Behind.{Of, Over, IsMade, driver_of, history_of, seat_of}
-use Rattle.bd_c.specs.Hosts.{Opens, IsRefusal, Hands, Keeps, has_room, TakesBack, Ends}
+use Rattle.bd_c.specs.Hosts.{Opens, IsRefusal, Hands, Keeps, is_seat_away, TakesBack, Ends}
 
 -- a new driver is behind the handle, or nothing, and why
 abbrev pub OpensAt : ℕ → Option Held → Status → Type 0
@@ -20,10 +20,10 @@ HandsAt h k at s =
 abbrev pub IsOwn : Option Held → Option Held → Type 0
 IsOwn h s = Of driver_of h (λ x. Of seat_of s (λ y. y.seat.table ≡ (arc_value x.driver).table))
 
--- the seat is there again, or there was no room for it, and nothing is done
+-- the seat is there again, or no seat was away, and nothing is done
 abbrev pub ReturnsAt : Option Held → Option Held → Option Held → Option Held → Status → Type 0
 ReturnsAt h k s t Done = Over driver_of h k (λ x y. Of seat_of s (TakesBack x y)) × (t ≡ None)
-ReturnsAt h k s t NoMemory = Of driver_of h (λ x. has_room x ≡ false) × (k ≡ h) × (t ≡ s)
+ReturnsAt h k s t NoMemory = Of driver_of h (λ x. is_seat_away x ≡ false) × (k ≡ h) × (t ≡ s)
 ReturnsAt h k s t _ = ⊥
 
 -- the history is there, or nothing is done

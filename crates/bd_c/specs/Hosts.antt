@@ -1,5 +1,5 @@
 -- What is behind a driver's handle, and what becomes of it.
-use Rattle.std.specs.Prelude.{◌≡◌, ℕ, ◌<◌, ◌≤◌, nat_lt, Bool, true, [], ◌∷◌, ◌++◌, None, vec_len, vec_capacity}
+use Rattle.std.specs.Prelude.{◌≡◌, ℕ, ◌<◌, ◌≤◌, nat_lt, Bool, true, [], ◌∷◌, ◌++◌, None, vec_len}
 use Rattle.std.specs.Arc.{arc_value}
 use Rattle.bd_uapi.specs.Limits.{most_seats, IsSeats}
 use Rattle.bd_space.specs.declared.record.Record.{Record}
@@ -26,15 +26,15 @@ IsRefusal count _ = ⊥
 abbrev pub SameDriver : Host → Host → Type 0
 SameDriver h k = (k.driver ≡ h.driver) × (k.count ≡ h.count)
 
--- whether a seat can be put there without memory
-abbrev pub has_room : Host → Bool
-has_room h = nat_lt (vec_len h.seats) (vec_capacity h.seats)
+-- fewer seats are there than the driver has
+abbrev pub is_seat_away : Host → Bool
+is_seat_away h = nat_lt (vec_len h.seats) h.count
 
--- the first seat that was there is handed out, with its driver, and there is room for it to come back
+-- the first seat that was there is handed out, with its driver, and is away then
 abbrev pub Hands : Host → Host → OwnedSeat → Type 0
 Hands h k seat =
     SameDriver h k × (h.seats.items ≡ seat.seat ∷ k.seats.items) × (arc_value seat.driver ≡ arc_value h.driver) × (seat.latest ≡ None)
-    × (has_room k ≡ true)
+    × (is_seat_away k ≡ true)
 
 -- nothing is: none was there, or there was no memory
 abbrev pub Keeps : Host → Host → Status → Type 0

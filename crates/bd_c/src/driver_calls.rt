@@ -52,7 +52,7 @@ pub extern "C" fn hullpippin_return_seat(
     ensures { Reports result (ReturnsAt driver.old.held driver.new.held seat.old.held seat.new.held) }
 {
     let host = driver.host();
-    if !host.has_room() {
+    if !host.is_seat_away() {
         return Status::NoMemory.number();
     }
     match Box::into_inner(take(alloc, seat)) {

@@ -1,5 +1,5 @@
 //! A driver, with the seats that nobody has taken.
-ghost use Rattle.std.specs.{Prelude.{◌≡◌, All}, Arc.{arc_value}};
+ghost use Rattle.std.specs.{Prelude.{◌≡◌, ◌≤◌, All, vec_len, vec_capacity}, Arc.{arc_value}};
 
 use bd_driver::{Driver, Seat};
 use std::sync::Arc;
@@ -11,4 +11,7 @@ pub struct Host {
     pub(crate) seats: Vec<Seat>,
     pub(crate) count: usize,
     pub(crate) ghost of_driver: { All (λ s. s.table ≡ (arc_value driver).table) seats.items },
+    pub(crate) ghost within: { vec_len seats ≤ count },
+    // Each seat that is away can come back without memory.
+    pub(crate) ghost room: { count ≤ vec_capacity seats },
 }

@@ -1,6 +1,6 @@
 //! What a driver's handle is for: seats are taken, and come back, and then there is its history.
 ghost use Rattle.std.specs.{Prelude.{◌≡◌, true, IfOk, IfErr}, Arc.{arc_value}};
-ghost use Rattle.bd_c.specs.Hosts.{Opens, IsRefusal, Hands, Keeps, has_room, TakesBack, Ends};
+ghost use Rattle.bd_c.specs.Hosts.{Opens, IsRefusal, Hands, Keeps, is_seat_away, TakesBack, Ends};
 
 use crate::host::Host;
 use crate::seat::OwnedSeat;
@@ -49,17 +49,17 @@ impl Host {
         })
     }
 
-    /// Whether a seat can come back without memory: so it is where it was handed out.
-    pub(crate) fn has_room(&self) -> bool
-        ensures { result ≡ has_room self.now }
+    /// Whether fewer seats are there than the driver has.
+    pub(crate) fn is_seat_away(&self) -> bool
+        ensures { result ≡ is_seat_away self.now }
     {
-        self.seats.len() < self.seats.capacity()
+        self.seats.len() < self.count
     }
 
-    /// A seat comes back.
+    /// A seat that was away comes back, for which there is room.
     pub(crate) fn take_back(&mut self, seat: OwnedSeat)
         requires own { seat.seat.table ≡ (arc_value self.old.driver).table }
-        requires room { has_room self.old ≡ true }
+        requires away { is_seat_away self.old ≡ true }
         ensures { TakesBack self.old self.new seat }
     {
         let OwnedSeat {

@@ -4,13 +4,13 @@ use Rattle.bd_c.specs.declared.held.Held.{Held}
 use Rattle.bd_c.specs.declared.held.Held.TheVariants.{Driver, Seat}
 use Rattle.bd_c.specs.declared.status.Status.TheVariants.{Done, NoMemory}
 use Rattle.bd_c.specs.Behind.{Of, Over, driver_of, seat_of}
-use Rattle.bd_c.specs.Hosts.{has_room, TakesBack}
+use Rattle.bd_c.specs.Hosts.{is_seat_away, TakesBack}
 use Rattle.bd_c.proofs.driver_calls.hullpippin_return_seat.Goals as goal
 
-pub returns-then-not-has_room : goal.returns-then-not-has_room
-returns-then-not-has_room c =
-    let full : has_room c.host-host.result.now ≡ false = search rules in
-    (NoMemory, c.number.ensures, (subst (λ (h : Option Held). Of driver_of h (λ x. has_room x ≡ false)) (sym c.host-host.ensures.host) full, sym c.host-host.ensures.host, refl))
+pub returns-then-not-is_seat_away : goal.returns-then-not-is_seat_away
+returns-then-not-is_seat_away c =
+    let full : is_seat_away c.host-host.result.now ≡ false = search rules in
+    (NoMemory, c.number.ensures, (subst (λ (h : Option Held). Of driver_of h (λ x. is_seat_away x ≡ false)) (sym c.host-host.ensures.host) full, sym c.host-host.ensures.host, refl))
 
 pub returns : goal.returns
 returns c =
