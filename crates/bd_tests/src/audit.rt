@@ -1,5 +1,5 @@
-//! Certificates, with ample memory: of a reply, by the worked example 'call and reply' (docs/EXAMPLES.md), and of a name
-//! by ten gifts, where an object goes to and fro between two processes.
+//! Certificates, with ample memory: of a reply, by the worked example 'call and reply' (docs/EXAMPLES.md), what the rules
+//! give there, and of a name by ten gifts, where an object goes to and fro between two processes.
 
 ghost use Rattle.std.specs.Prelude.{◌≡◌, ◌≤◌, IfOk};
 ghost use Rattle.bd_uapi.specs.Limits.{IsSeats};
@@ -7,9 +7,9 @@ ghost use Rattle.bd_space.specs.Histories.{IsHistory, history_in};
 
 use crate::same::{holds, same};
 use crate::steps::{enter, fields, open};
-use bd_audit::{call_of_reply, gift_chain};
+use bd_audit::{Given, call_of_reply, gift_chain, given_at};
 use bd_engine::Engine;
-use bd_space::{Bytes, Parcel, Record, Step};
+use bd_space::{Bytes, Parcel, Record, Step, StepAnswer};
 use bd_uapi::{Command, MOST_SEATS, TransactionData, TransactionFlags};
 use std::alloc::{AllocError, Global};
 use std::process::Abort;
@@ -63,6 +63,7 @@ fn history_of(engine: Engine) -> Result<Record, Fail>
 
 fn engine_of_a_reply(rt: &(impl Abort + Alloc<A = Global>)) -> Result<Engine, Fail> {
     let mut engine = Engine::new(rt.alloc(), 2)?;
+    holds(rt, "room for the steps", engine.reserve(10).is_ok());
     for place in 0..10 {
         let (seat, step) = reply_step(rt.alloc(), place);
         holds(rt, "a step", take(&mut engine, seat, step));
@@ -86,6 +87,34 @@ fn tells_the_call_of_a_reply(rt: HostRuntime) -> Result<(), Fail> {
         let found = call_of_reply(rt.alloc(), &record, place)?;
         same(&rt, "the call", found, wanted);
     }
+    Ok(())
+}
+
+// What the rules give for the record's entry.
+fn given_in(alloc: Global, record: &Record, place: u32) -> Result<Given, Fail>
+    requires seats { IsSeats «record».now.seats }
+    requires lawful { IsHistory (history_in «record».now) }
+{
+    Ok(given_at(alloc, record, place)?)
+}
+
+#[test]
+fn tells_what_the_rules_give(rt: HostRuntime) -> Result<(), Fail> {
+    let record = history_of(engine_of_a_reply(&rt)?)?;
+    let first = given_in(rt.alloc(), &record, 0)?;
+    let reply = given_in(rt.alloc(), &record, 7)?;
+    let none = given_in(rt.alloc(), &record, 10)?;
+    holds(
+        &rt,
+        "it opens",
+        matches!(first, Given::Answer(StepAnswer::Opened)),
+    );
+    holds(
+        &rt,
+        "it replies",
+        matches!(reply, Given::Answer(StepAnswer::Accepted)),
+    );
+    holds(&rt, "the end", matches!(none, Given::NoStep));
     Ok(())
 }
 

@@ -1,11 +1,13 @@
-//! The live engine, with ample memory: a one-way call to the last of as many seats as it may have.
+//! The live engine, with ample memory: a one-way call to the last of as many seats as it may have, whose buffer ends; and a
+//! process of more threads than a driver has seats, which ends.
 
-use crate::same::holds;
+use crate::same::{holds, same};
 use crate::steps::{enter, fields, open};
 use bd_engine::{Live, Looks};
 use bd_space::{Bytes, Parcel, Step, StepAnswer};
-use bd_uapi::{Command, Fault, TransactionFlags};
+use bd_uapi::{Command, Fault, MOST_SEATS as MOST_SEATS_OF_A_DRIVER, TransactionFlags};
 use std::alloc::Global;
+use std::process::Abort;
 use std::test::Fail;
 
 const MOST_SEATS: u32 = 65536;
@@ -66,6 +68,73 @@ fn calls_the_last_seat(rt: HostRuntime) -> Result<(), Fail> {
     holds(&rt, "the call is there", live.is_ready(SERVER));
     holds(&rt, "its completion is there", live.is_ready(CLIENT));
     holds(&rt, "five steps", live.len() == 5);
+    Ok(())
+}
+
+// An engine after that call.
+fn called(rt: &(impl Abort + Alloc<A = Global>)) -> Result<Live, Fail> {
+    let mut live = Live::new(rt.alloc(), MOST_SEATS)?;
+    for place in 0..5 {
+        let (seat, step) = step_at(rt.alloc(), place);
+        holds(rt, "a step", is_made(&mut live, seat, step));
+    }
+    Ok(live)
+}
+
+// Makes the server's step. Whether it was made, and accepted.
+fn serves(live: &mut Live, step: Step, ended: &mut Vec<u32>) -> bool {
+    if SERVER >= live.seats() {
+        return false;
+    }
+    match live.step_with_ended(SERVER, step, ended) {
+        Ok(entry) => !is_refused(&entry.answer),
+        Err(_) => false,
+    }
+}
+
+// The buffer of the call is the first in its window.
+fn free() -> Step {
+    Step::Command {
+        command: Command::FreeBuffer(65536),
+        parcel: None,
+    }
+}
+
+#[test]
+fn tells_which_buffer_ended(rt: HostRuntime) -> Result<(), Fail> {
+    let mut live = called(&rt)?;
+    let mut ended = Vec::new(rt.alloc());
+    let read = Step::Read { limit: 256 };
+    holds(&rt, "the call is read", serves(&mut live, read, &mut ended));
+    same(&rt, "none ended", ended.len(), 0);
+    holds(&rt, "it is freed", serves(&mut live, free(), &mut ended));
+    same(&rt, "its buffer", ended.as_slice(), [4].as_slice());
+    Ok(())
+}
+
+const THREADS: u32 = MOST_SEATS_OF_A_DRIVER + 8;
+
+// A process of so many threads.
+fn crowded(rt: &(impl Abort + Alloc<A = Global>)) -> Result<Live, Fail> {
+    let mut live = Live::new(rt.alloc(), THREADS)?;
+    holds(rt, "it opens", is_made(&mut live, 0, open(100, 1000)));
+    for seat in 1..THREADS {
+        let attach = Step::Attach { pid: 100 };
+        holds(rt, "a thread more", is_made(&mut live, seat, attach));
+    }
+    Ok(live)
+}
+
+#[test]
+fn ends_a_process_of_many_threads(rt: HostRuntime) -> Result<(), Fail> {
+    let mut live = crowded(&rt)?;
+    let last = THREADS - 1;
+    holds(&rt, "it ends", is_made(&mut live, last, Step::ExitProcess));
+    for seat in 0..THREADS {
+        let has_thread = is_made(&mut live, seat, Step::ExitThread);
+        holds(&rt, "its threads ended", !has_thread);
+    }
+    holds(&rt, "pid", is_made(&mut live, last, open(100, 1000)));
     Ok(())
 }
 

@@ -1,4 +1,4 @@
-//! Tests of the player: certificates, journals, writers that fail, and threads. The worked examples are
+//! Tests of the player: certificates, journals, writers that fail, threads, and a few worked examples. All of these are
 //! played by `tools/examples`, and what is large by `tools/program`.
 
 mod certificates;
@@ -7,4 +7,5 @@ mod handing;
 mod journals;
 mod playing;
 mod threads;
+mod worked;
 mod writers;
