@@ -4,7 +4,7 @@ ghost use Rattle.std.specs.Prelude.{◌≡◌, ◌≤◌, All, IfOk, IfSome, is_
 ghost use Rattle.bd_uapi.specs.Limits.{IsSeats};
 ghost use Rattle.bd_space.specs.Histories.{IsHistory, space_after, history_in};
 ghost use Rattle.bd_engine.specs.Looks as looks;
-ghost use Rattle.bd_audit.specs.{Gifts.{IsChainOf}, Replays.{with_entry}, Replies.{call_answered}};
+ghost use Rattle.bd_audit.specs.{CallOf.{IsAnswerOf}, Gifts.{IsChainOf}, Replays.{with_entry}, Replies.{call_answered}};
 ghost use Rattle.bd_audit.specs.TurnCalls.{AreTurns};
 ghost use Rattle.bd_show.specs.{Certified.{IsMadeBy, named_by, turn_told}, Pids.{maker_of}};
 
@@ -41,7 +41,8 @@ pub(crate) fn chain_of(
 pub(crate) fn answered_by(alloc: Global, record: &Record, place: u32) -> Result<Option<u32>, Untold>
     requires seats { IsSeats «record».now.seats }
     requires lawful { IsHistory (history_in «record».now) }
-    ensures { IfOk result (λ found. found ≡ call_answered (history_in «record».now) place) }
+    ensures answers { IfOk result (IsAnswerOf (history_in «record».now) place) }
+    ensures found { IfOk result (λ found. found ≡ call_answered (history_in «record».now) place) }
 {
     Ok(call_of_reply(alloc, record, place)?)
 }
