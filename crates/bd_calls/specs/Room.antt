@@ -71,3 +71,10 @@ pub record HasRoom (t : CallTable) (works : ℕ) : Type 0 where
   pub one_frame : 1 ≤ frame_room t
   pub one_turn : 1 ≤ turn_room t
   pub all_works : works + frame_count t + 9 ≤ work_room t
+
+-- room for so many threads, frames and one-way calls each, and so many work items
+pub record HasEach (t : CallTable) (each works : ℕ) : Type 0 where
+  pub threads_fit : each ≤ thread_room t
+  pub frames_fit : each ≤ frame_room t
+  pub turns_fit : each ≤ turn_room t
+  pub works_fit : works ≤ work_room t

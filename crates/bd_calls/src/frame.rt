@@ -208,6 +208,7 @@ impl CallTable {
     {
         let parent = newest_made(&self.frames, seat);
         let list = list_from(&self.threads, &self.frames, parent, process);
+        self.sure_room = self.sure_room.saturating_sub(1);
         self.ready.forget_list(list);
         self.todo.push(place, list, WorkKind::Call(place));
         let frame = Frame {

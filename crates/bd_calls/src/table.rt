@@ -1,7 +1,11 @@
 //! The table itself: making it, room in it, and what changes several of its lists at once.
 #![tactic(auto, unfolding(crate::specs::Room::rooms))]
 
-ghost use Rattle.std.specs.Prelude.{◌≡◌, ◌+◌, ◌≤◌, ◌^◌, IfOk, OnOk, OnErr};
+ghost use Rattle.std.specs.Prelude.{◌≡◌, ◌+◌, ◌≤◌, ◌^◌, true, IfOk, OnOk, OnErr};
+ghost use Rattle.bd_threads.specs.Room.{thread_room};
+ghost use Rattle.bd_frames.specs.Room.{frame_room};
+ghost use Rattle.bd_turns.specs.Room.{turn_room};
+ghost use Rattle.bd_links.specs.Stands.{work_room};
 
 use crate::frame::{leave_frames, lose_unread, serve};
 use crate::ready::ReadySeats;
@@ -13,6 +17,9 @@ use bd_threads::ThreadTable;
 use bd_turns::TurnTable;
 use std::alloc::{AllocError, Global};
 
+// Room is made for so many of each at once, so that most steps find it there.
+const AHEAD: u32 = 64;
+
 /// The threads, the open calls, the work items and the one-way calls of a driver.
 #[derive(Drop)]
 pub struct CallTable {
@@ -21,6 +28,12 @@ pub struct CallTable {
     pub(crate) todo: WorkTable,
     pub(crate) turns: TurnTable,
     pub(crate) ready: ReadySeats,
+    // Each list surely has room for so many more: what comes in lowers it, and only `reserve` raises it.
+    pub(crate) sure_room: usize,
+    ghost threads_fit: { sure_room ≤ thread_room threads },
+    ghost frames_fit: { sure_room ≤ frame_room frames },
+    ghost turns_fit: { sure_room ≤ turn_room turns },
+    ghost works_fit: { sure_room ≤ work_room todo },
 }
 
 impl CallTable {
@@ -30,7 +43,7 @@ impl CallTable {
     ghost use Rattle.bd_space.specs.ReadItems as reading;
     ghost use Rattle.bd_ways.specs.Tables.{Tells, Makes, MakesAt};
     ghost use Rattle.bd_calls.specs.Stands.{Stands, StandsFor};
-    ghost use Rattle.bd_calls.specs.Room.{Uses, UsesNothing, nothing, HasRoom, frame_count};
+    ghost use Rattle.bd_calls.specs.Room.{Uses, UsesNothing, nothing, HasRoom, HasEach, frame_count};
 
     /// An empty table. Takes no memory.
     pub fn new(alloc: Global) -> CallTable
@@ -42,6 +55,7 @@ impl CallTable {
             todo: WorkTable::new(alloc),
             turns: TurnTable::new(alloc),
             ready: ReadySeats::new(alloc),
+            sure_room: 0,
         }
     }
 
@@ -56,6 +70,32 @@ impl CallTable {
             .ok_or(AllocError)
     }
 
+    // Makes room for so many threads, frames and one-way calls each, and so many work items.
+    fn reserve_each(&mut self, each: u32, works: usize) -> Result<(), AllocError>
+        ensures stands { Makes (StandsFor self.old) (StandsFor self.new) (λ s. s) }
+        ensures uses { UsesNothing self.old self.new }
+        ensures room { OnOk result (HasEach self.new each works) }
+        ensures grown { OnErr result (HasEach self.old each works → ⊥) }
+    {
+        self.threads.reserve(each as usize)?;
+        self.frames.reserve(each)?;
+        self.turns.reserve(each as usize)?;
+        self.todo.reserve(works)
+    }
+
+    // Makes room for more than so many work items, and for as many of all others: whether it is there now.
+    fn reserve_ahead(&mut self, works: usize) -> bool
+        ensures stands { Makes (StandsFor self.old) (StandsFor self.new) (λ s. s) }
+        ensures uses { UsesNothing self.old self.new }
+        ensures sure { result ≡ true → works ≤ self.new.sure_room }
+    {
+        if works > AHEAD as usize || self.reserve_each(AHEAD, AHEAD as usize).is_err() {
+            return false;
+        }
+        self.sure_room = AHEAD as usize;
+        true
+    }
+
     /// Makes room for a thread, a frame, a one-way call and so many work items, beside those that settling may make
     /// and the one of a call that ripens. Fails for want of memory, and then changes nothing either.
     pub fn reserve(&mut self, works: usize) -> Result<(), AllocError>
@@ -66,10 +106,10 @@ impl CallTable {
         ensures grown { OnErr result (HasRoom self.old works → ⊥) }
     {
         let works = self.works_to_reserve(works)?;
-        self.threads.reserve()?;
-        self.frames.reserve()?;
-        self.turns.reserve(1)?;
-        self.todo.reserve(works)
+        if works <= self.sure_room || self.reserve_ahead(works) {
+            return Ok(());
+        }
+        self.reserve_each(1, works)
     }
 
     /// From now on what is seen of so many seats is kept, by which they are ready: a step then looks at those alone that it may

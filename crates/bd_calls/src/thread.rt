@@ -37,6 +37,7 @@ impl CallTable {
         ensures stands { MakesAt place (StandsFor self.old) (StandsFor self.new) (λ s. with_thread s seat process) }
         ensures uses { Uses self.old self.new (record nothing { threads = 1 }) }
     {
+        self.sure_room = self.sure_room.saturating_sub(1);
         self.ready.forget_all();
         self.threads.push(Thread {
             made: place,

@@ -106,6 +106,7 @@ impl CallTable {
         ensures stands { MakesAt place (StandsFor self.old) (StandsFor self.new) (λ s. spec.owe s list kind) }
         ensures uses { Uses self.old self.new (record nothing { works = 1 }) }
     {
+        self.sure_room = self.sure_room.saturating_sub(1);
         self.ready.forget_list(list);
         self.todo.push(place, list, kind);
     }
@@ -118,6 +119,7 @@ impl CallTable {
     {
         if let Some(seat) = frame.caller {
             let list = TodoList::OfThread(seat);
+            self.sure_room = self.sure_room.saturating_sub(1);
             self.ready.forget_list(list);
             self.todo.push(place, list, kind);
         }
@@ -150,6 +152,7 @@ impl CallTable {
         ensures uses { Uses self.old self.new (record nothing { works = 1 }) }
     {
         if wanted && !self.todo.has_notice(object) {
+            self.sure_room = self.sure_room.saturating_sub(1);
             self.ready.forget_list(list);
             self.todo.push(place, list, WorkKind::Notice(object));
         }

@@ -115,6 +115,7 @@ impl CallTable {
             → StandsFor self.new (add_buffer s b) }
         ensures uses { Uses self.old self.new (record nothing { turns = 1 }) }
     {
+        self.sure_room = self.sure_room.saturating_sub(1);
         push_turn(&mut self.turns, turn);
     }
 
@@ -134,6 +135,7 @@ impl CallTable {
     {
         let oldest = self.turns.oldest_on(object);
         forget_receiver(&mut self.ready, oldest);
+        self.sure_room = self.sure_room.saturating_sub(1);
         push_first(&mut self.todo, oldest, place);
     }
 }

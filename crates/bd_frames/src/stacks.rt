@@ -103,15 +103,18 @@ impl Stacks {
         }
     }
 
-    /// Makes room for one more frame.
-    pub(crate) fn reserve(&mut self) -> Result<(), AllocError>
+    /// Makes room for so many more frames.
+    pub(crate) fn reserve(&mut self, more: u32) -> Result<(), AllocError>
         ensures stands { (l : List declared.Frame) → StacksAre self.old l → StacksAre self.new l }
         ensures uses { stack_room self.old ≤ stack_room self.new }
-        ensures room { OnOk result (1 ≤ stack_room self.new) }
-        ensures grown { OnErr result (stack_room self.old ≡ 0) }
+        ensures room { OnOk result (more ≤ stack_room self.new) }
+        ensures grown { OnErr result (stack_room self.old < more) }
     {
-        self.below.reserve(1)?;
-        self.tops.reserve(self.pending as usize + 2)
+        if more == 0 {
+            return Ok(());
+        }
+        self.below.reserve(more as usize)?;
+        self.tops.reserve(self.pending as usize + 2 * more as usize)
     }
 
     /// A frame comes in. Takes no memory.

@@ -58,17 +58,17 @@ impl FrameTable {
         }
     }
 
-    /// Makes room for one more. Fails for want of memory, and then changes nothing either.
-    pub fn reserve(&mut self) -> Result<(), AllocError>
+    /// Makes room for so many more. Fails for want of memory, and then changes nothing either.
+    pub fn reserve(&mut self, more: u32) -> Result<(), AllocError>
         ensures stands { Makes self.old self.new (λ l. l) }
         ensures uses { Uses self.old self.new 0 }
-        ensures room { OnOk result (1 ≤ frame_room self.new) }
+        ensures room { OnOk result (more ≤ frame_room self.new) }
         // Memory was asked for: there was no room.
-        ensures grown { OnErr result (frame_room self.old ≡ 0) }
+        ensures grown { OnErr result (frame_room self.old < more) }
     {
-        self.frames.reserve(1)?;
-        self.children.reserve(1)?;
-        self.stacks.reserve()
+        self.frames.reserve(more as usize)?;
+        self.children.reserve(more as usize)?;
+        self.stacks.reserve(more)
     }
 
     /// How many there are.

@@ -1,6 +1,6 @@
 //! The table, and its memory.
 
-ghost use Rattle.std.specs.Prelude.{◌≡◌, ◌≤◌, [], true, OnOk, OnErr};
+ghost use Rattle.std.specs.Prelude.{◌≡◌, ◌≤◌, ◌<◌, [], true, OnOk, OnErr};
 ghost use Rattle.bd_threads.specs.Apart.{AreApart, place_at};
 
 use bd_space::Thread;
@@ -33,16 +33,16 @@ impl ThreadTable {
         }
     }
 
-    /// Makes room for one more. Changes nothing else, also on an `Err`.
+    /// Makes room for so many more. Changes nothing else, also on an `Err`.
     #[tactic(auto, unfolding(crate::specs::Room::thread_room))]
-    pub fn reserve(&mut self) -> Result<(), AllocError>
+    pub fn reserve(&mut self, more: usize) -> Result<(), AllocError>
         ensures listed { listed self.new ≡ listed self.old }
         ensures uses { thread_room self.old ≤ thread_room self.new }
-        ensures room { OnOk result (1 ≤ thread_room self.new) }
+        ensures room { OnOk result (more ≤ thread_room self.new) }
         // Memory was asked for: there was no room.
-        ensures grown { OnErr result (thread_room self.old ≡ 0) }
+        ensures grown { OnErr result (thread_room self.old < more) }
     {
-        self.rows.reserve(1)?;
-        self.places.reserve(1)
+        self.rows.reserve(more)?;
+        self.places.reserve(more)
     }
 }

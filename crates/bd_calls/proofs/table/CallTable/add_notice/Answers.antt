@@ -22,7 +22,7 @@ pub returns-then-not-has_notice-clause-stands : goal.returns-then-not-has_notice
 returns-then-not-has_notice-clause-stands c = λ s x h at id wanted.
     let wants = sym wanted ∙ c.if-wanted.true in
     let none = subst (λ o. has_notice_in s.todo o ≡ false) (sym id) (sym (c.has_notice.ensures s.todo h.todo_are) ∙ c.if-not-has_notice.true) in
-    works-stand _ _ _ s _ h
+    works-stand _ _ s _ h refl refl refl
     (subst (WorksAre c.push.new.self) (sym (missing s.steps s.processes s.references c.args.list s.todo x wants none))
     (subst (λ n. WorksAre c.push.new.self (with_work n s.todo c.args.list (Notice x.id))) (sym at)
     (subst (λ o. WorksAre c.push.new.self (with_work c.args.place s.todo c.args.list (Notice o))) (sym id) (c.push.ensures.stands s.todo h.todo_are))))

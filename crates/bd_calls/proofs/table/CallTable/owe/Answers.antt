@@ -1,4 +1,4 @@
-use Rattle.std.proofs.Common.{sym, subst}
+use Rattle.std.proofs.Common.{sym, subst, refl}
 use Rattle.bd_space.specs.Todo.{owe, with_work}
 use Rattle.bd_links.specs.Stands.{WorksAre}
 use Rattle.bd_calls.proofs.Works.{works-stand}
@@ -8,6 +8,6 @@ use Rattle.bd_calls.proofs.table.CallTable.owe.Goals as goal
 
 pub returns-clause-stands : goal.returns-clause-stands
 unfolding owe
-returns-clause-stands c = λ s h at. works-stand _ _ _ s _ h
+returns-clause-stands c = λ s h at. works-stand _ _ s _ h refl refl refl
     (subst (λ n. WorksAre c.push.new.self (with_work n s.todo c.args.list c.args.kind)) (sym at) (c.push.ensures.stands s.todo h.todo_are))
     (kept-seen c.args.self.now.ready c.forget_list.new.self (tells_of c.args.list) s.threads s.todo _ h.ready_are c.forget_list.ensures (λ list seat x. pushed-on s.steps s.todo c.args.list c.args.kind list seat x))

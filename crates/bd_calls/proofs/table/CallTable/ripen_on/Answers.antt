@@ -1,4 +1,4 @@
-use Rattle.std.proofs.Common.{◌≡◌, ℕ, true, false, sym, subst}
+use Rattle.std.proofs.Common.{◌≡◌, ℕ, true, false, sym, subst, refl}
 use Rattle.std.specs.Prelude.{find, Option}
 use Rattle.bd_space.specs.declared.space.TodoList.{TodoList}
 use Rattle.bd_space.specs.declared.space.Turn.{Turn}
@@ -17,7 +17,7 @@ pub returns-clause-stands : goal.returns-clause-stands
 unfolding ripen_of
 returns-clause-stands c = λ s h at.
     let turn = c.oldest_on-oldest.ensures (turns_of s.buffers) h.turns_are in
-    works-stand _ _ _ s _ h
+    works-stand _ _ s _ h refl refl refl
     (subst (λ n. WorksAre c.push_first.new.todo (first_due n s.todo (find (λ t. same t.target c.args.object) (turns_of s.buffers)))) (sym at)
     (subst (λ t. WorksAre c.push_first.new.todo (first_due c.args.place s.todo t)) turn (c.push_first.ensures.todo s.todo h.todo_are)))
     (kept-seen c.args.self.now.ready c.forget_receiver.new.ready (λ at x. is_some_and c.oldest_on-oldest.result (λ t. is_of t.receiver x)) s.threads s.todo _ h.ready_are c.forget_receiver.ensures

@@ -1,4 +1,4 @@
-use Rattle.std.proofs.Common.{sym, subst}
+use Rattle.std.proofs.Common.{sym, subst, refl}
 use Rattle.bd_space.specs.declared.space.TodoList.TheVariants.{OfThread}
 use Rattle.bd_space.specs.Todo.{owe, with_work}
 use Rattle.bd_links.specs.Stands.{WorksAre}
@@ -9,6 +9,6 @@ use Rattle.bd_calls.proofs.table.CallTable.tell_caller.Goals as goal
 
 pub returns-in-Some-clause-stands : goal.returns-in-Some-clause-stands
 unfolding owe
-returns-in-Some-clause-stands c = λ s h at. rw c.in-Some.is (works-stand _ _ _ s _ h
+returns-in-Some-clause-stands c = λ s h at. rw c.in-Some.is (works-stand _ _ s _ h refl refl refl
     (subst (λ n. WorksAre c.push.new.self (with_work n s.todo (OfThread c.in-Some.seat) c.args.kind)) (sym at) (c.push.ensures.stands s.todo h.todo_are))
     (kept-seen c.args.self.now.ready c.forget_list.new.self (tells_of (OfThread c.in-Some.seat)) s.threads s.todo _ h.ready_are c.forget_list.ensures (λ list seat x. pushed-on s.steps s.todo (OfThread c.in-Some.seat) c.args.kind list seat x)))

@@ -1,4 +1,4 @@
-use Rattle.std.proofs.Common.{sym, subst, ◌∙◌}
+use Rattle.std.proofs.Common.{sym, subst, ◌∙◌, refl}
 use Rattle.bd_calls.specs.Stands.{Stands}
 use Rattle.bd_space.specs.Turns.{turns_of}
 use Rattle.bd_calls.proofs.Works.{works-stand-unseen}
@@ -6,7 +6,7 @@ use Rattle.bd_calls.proofs.Seats.{no-notice}
 use Rattle.bd_calls.proofs.table.CallTable.withdraw_notice.Goals as goal
 
 pub returns-then-has_notice-clause-stands : goal.returns-then-has_notice-clause-stands
-returns-then-has_notice-clause-stands c = λ s stands. works-stand-unseen _ _ _ s _ stands (c.withdraw_notice.ensures.stands s.todo stands.todo_are) c.forget_all.ensures
+returns-then-has_notice-clause-stands c = λ s stands. works-stand-unseen _ _ s _ stands refl refl refl (c.withdraw_notice.ensures.stands s.todo stands.todo_are) c.forget_all.ensures
 
 pub returns-else-has_notice-clause-stands : goal.returns-else-has_notice-clause-stands
 returns-else-has_notice-clause-stands c = λ s stands.
