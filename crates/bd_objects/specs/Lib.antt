@@ -1,6 +1,7 @@
 pub mod Telling
 pub mod Stands
 pub mod Room
+pub mod Within
 pub mod Numbers
 pub mod Naming
 pub mod Deaths

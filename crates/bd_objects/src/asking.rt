@@ -73,6 +73,7 @@ impl ObjectTable {
             (λ s. asking.ask s p o strong)) }
         ensures uses { Uses self.old self.new (record nothing { references = 1; names = 1 }) }
     {
+        self.sure_room = self.sure_room.saturating_sub(1);
         give_asked_name(&mut self.names, manager, &self.nodes, p, n, o)?;
         self.references.push(Reference {
             id: Identity { place, index: 0 },

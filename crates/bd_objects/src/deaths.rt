@@ -38,6 +38,7 @@ impl ObjectTable {
             (λ s. deaths_of.with_death s p o cookie phase) }
         ensures uses { Uses self.old self.new (record nothing { deaths = 1 }) }
     {
+        self.sure_room = self.sure_room.saturating_sub(1);
         self.deaths.push(DeathNotification {
             made: place,
             process: p,

@@ -155,6 +155,9 @@ impl ObjectTable {
             (λ s. delivered s receiver made.now items.now target)) }
         ensures uses { Uses self.old self.new (delivery_room made.now items.now) }
     {
+        self.sure_room = self
+            .sure_room
+            .saturating_sub(made.len().max(items.len() + 1));
         // An item's object is to be named exactly where it isn't the receiver's own, since the delivery refers to it:
         // so the names can come first, and nothing else is touched where one is past the limit.
         give_names(&mut self.names, manager, &self.nodes, made, receiver, items)?;

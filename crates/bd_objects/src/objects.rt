@@ -64,6 +64,7 @@ impl ObjectTable {
             (λ s. steps.with_manager s p) }
         ensures uses { Uses self.old self.new (record nothing { objects = 1; references = 1 }) }
     {
+        self.sure_room = self.sure_room.saturating_sub(1);
         let id = managed(place);
         self.nodes.push(Object {
             id,

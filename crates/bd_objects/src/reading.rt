@@ -206,6 +206,10 @@ impl ObjectTable {
             (λ s. reading.read_by s seat taken.now) }
         ensures uses { Uses self.old self.new (record nothing { references = 2 * length taken.now }) }
     {
+        self.sure_room = self
+            .sure_room
+            .saturating_sub(taken.len())
+            .saturating_sub(taken.len());
         // What is owed is told by the old told values. An acknowledgement keeps an object that is kept already: what
         // is held is the same afterwards.
         add_handshakes(&mut self.references, &self.nodes, place, taken);

@@ -1,4 +1,4 @@
-use Rattle.bd_objects.proofs.table.ObjectTable.reserve.Goals as goal
+use Rattle.bd_objects.proofs.table.ObjectTable.reserve_each.Goals as goal
 
 pub returns-in_err-reserve-4-clause-stands : goal.returns-in_err-reserve-4-clause-stands
 returns-in_err-reserve-4-clause-stands c = λ s h. record {
