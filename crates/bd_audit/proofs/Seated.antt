@@ -114,7 +114,7 @@ module _ (es : List Entry) (e : Entry) (h : Seated es (after opening es)) where
       asks = λ a n strong o x i t. same (ask s a.process.made o strong) refl;
       drops = λ p o strong. same (drop_asked s p o strong) refl;
       acknowledges = λ o strong i. same (acknowledge s o strong) refl;
-      loops = λ t looping u m k. now u m (sym (made-changed (λ (v : Thread). v.seat == t) looping s.threads u) ∙ k);
+      loops = λ a looping x u m k. now u m (sym (made-changed (λ (v : Thread). v.seat == a.thread.seat) looping s.threads u) ∙ k);
       on_deaths = on-commands s _ (on-mapped s _ _ (λ y k. same y k.threads) (on_deaths-aside s));
       reads = λ a limit i x n. same (read_by s a.thread.seat (taken s (limit - 4) (list_to_read s a.thread))) refl;
       leaves = λ a i. goes more s a.thread.seat now;

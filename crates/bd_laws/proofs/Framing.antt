@@ -17,18 +17,18 @@ pairs-mapped f k [] h = tt
 pairs-mapped f k (x ∷ xs) h =
     ((λ y l e. let z = in-map f y xs l in h.0 z.0 z.1 (sym (k x) ∙ e ∙ sym (ap (λ (w : Frame). w.made) z.2) ∙ k z.0)), pairs-mapped f k xs h.1)
 
-mapped : (n : ℕ) (f : Frame → Frame) → ((x : Frame) → (f x).made ≡ x.made) → (fs : List Frame) → Framed n fs → Framed n (map f fs)
+pub mapped : (n : ℕ) (f : Frame → Frame) → ((x : Frame) → (f x).made ≡ x.made) → (fs : List Frame) → Framed n fs → Framed n (map f fs)
 mapped n f k fs h = search (arith, in-map, pairs-mapped)
 
-fewer : (n : ℕ) (p : Frame → Bool) (fs : List Frame) → Framed n fs → Framed n (filter p fs)
+pub fewer : (n : ℕ) (p : Frame → Bool) (fs : List Frame) → Framed n fs → Framed n (filter p fs)
 fewer n p fs h = search (arith, in-filter, pairs-filter)
 
-served : (n : ℕ) (p : Frame → Bool) (seat : ℕ) (fs : List Frame) → Framed n fs → Framed n (changed p (serve seat) fs)
+pub served : (n : ℕ) (p : Frame → Bool) (seat : ℕ) (fs : List Frame) → Framed n fs → Framed n (changed p (serve seat) fs)
 served n p seat fs h = search (arith, in-changed, pairs-changed)
 
 -- ---- spaces
 
-abbrev G : ℕ → Space → Type 0
+abbrev pub G : ℕ → Space → Type 0
 G n z = Framed n z.frames
 
 abbrev pub Keeping : Space → Space → Type 0
@@ -58,7 +58,7 @@ called-g z seat p false h = record {
 sent-g : (n : ℕ) (s : Space) (a : Actor) (d : TransactionData) (v : Delivery) (spam : Bool) → G n s → G n (owe (delivered s a d v) (OfThread a.thread.seat) (work.Complete spam))
 sent-g n s a d v spam = search (arith, sent-frames)
 
-transacted-g : (s : Space) (a : Actor) (d : TransactionData) (v : Delivery) → G s.steps s → G (suc s.steps) (transacted s a d v)
+pub transacted-g : (s : Space) (a : Actor) (d : TransactionData) (v : Delivery) → G s.steps s → G (suc s.steps) (transacted s a d v)
 unfolding transacted
 transacted-g s a d v h =
     let spam = is_spam (delivered s a d v) a v in

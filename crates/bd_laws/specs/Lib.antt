@@ -6,4 +6,6 @@ pub mod Frames
 pub mod Stacks
 pub mod Quiet
 pub mod Tidy
+pub mod Reached
+pub mod Idle
 pub mod Laws

@@ -4,6 +4,6 @@
 mod laws;
 
 pub use laws::{
-    following_is_local, frames_are_stacks, items_are_told_apart, nothing_is_pending,
-    spaces_are_tidy,
+    following_is_local, frames_are_stacks, items_are_told_apart, no_step_is_needed,
+    nothing_is_pending, spaces_are_tidy, whom_a_step_reaches,
 };

@@ -90,7 +90,7 @@ module _ (s : Space) (seat : ℕ) (x : Step) where
       asks = λ a n strong o e i t. ask-naming s seat x a n strong o e i t;
       drops = λ p o strong m i. inl i;
       acknowledges = λ o strong k m i. inl i;
-      loops = λ t looping m i. inl i;
+      loops = λ a looping e m i. inl i;
       on_deaths = on-commands s (Naming s seat x) (on-kept (Naming s seat x) deaths-naming s (λ m i. inl i));
       reads = λ a limit e k n m i. inl i;
       leaves = λ a e m i. inl i;

@@ -182,7 +182,7 @@ module _ (o : ObjectId) (st : Hearing) where
           drops = λ p i strong. same-told s _
               (same-without o s.references (is_asking p i strong) (λ r own. and-false (same_strength strong r) (same r.object i) _ (own-unasked r.holder p own))) h.tracks;
           acknowledges = λ i strong done. absurd (no_done strong done);
-          loops = λ t looping. h.tracks;
+          loops = λ a looping e. h.tracks;
           on_deaths = on-commands s _ (on-kept H told-on_deaths s h.tracks);
           reads = λ a limit e i n. absurd (no_read (limit, i));
           leaves = λ a e. thread_goes-told s a.thread.seat h.tracks;

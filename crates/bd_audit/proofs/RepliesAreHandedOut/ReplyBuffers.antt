@@ -174,7 +174,7 @@ module _ (s : Space) (seat : ℕ) (x : Step) (turns : IsInTurn s) (h : RepliesHe
       asks = λ a n strong o e i t. (k.changes.asks a n strong o e i t, h);
       drops = λ p o strong. (k.changes.drops p o strong, h);
       acknowledges = λ o strong i. (k.changes.acknowledges o strong i, h);
-      loops = λ t looping. (k.changes.loops t looping, loops s t looping h);
+      loops = λ a looping e. (k.changes.loops a looping e, loops s a.thread.seat looping h);
       on_deaths = commands-both s _ _ k.changes.on_deaths (on-commands s _ (on-mapped s _ _ (λ y l. calm y s l.0 l.1.buffers l.1.threads h) (on-both s _ _ (one_way.on_deaths-less s) (on_deaths-aside s))));
       reads = λ a limit e i n. (k.changes.reads a limit e i n, reads s h a.thread (limit - 4));
       leaves = λ a e. (k.changes.leaves a e, goes s a.thread.seat h);

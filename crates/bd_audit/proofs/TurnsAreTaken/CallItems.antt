@@ -192,7 +192,7 @@ module _ (s : Space) (e : Entry) (m : ℕ) where
         asks = λ a n strong o x i t. at-start;
         drops = λ p o strong. at-start;
         acknowledges = λ o strong i. at-start;
-        loops = λ t looping. at-start;
+        loops = λ a looping x. at-start;
         on_deaths = on-commands s (Treats s e m) (on-kept (Treats s e m) deaths-treat s at-start);
         reads = λ a limit i x n. reads a limit i x n;
         leaves = λ a i. (gone-thread s e m) s a.thread.seat at-start;

@@ -119,7 +119,7 @@ passing-step s seat x turns l =
         asks = λ a n strong o e i t. passing-after s _ s (ask-after s a.process.made o strong) none;
         drops = λ p o strong. passing-after s _ s (drop_asked-after s p o strong) none;
         acknowledges = λ o strong i. passing-after s _ s (acknowledge-after s o strong) none;
-        loops = λ t looping. passing-untouched s _ s (Untouched.with_looping-untouched s t looping) (less_table.loops s t looping) none;
+        loops = λ a looping e. passing-untouched s _ s (Untouched.with_looping-untouched s a.thread.seat looping) (less_table.loops s a.thread.seat looping) none;
         on_deaths = on-commands s _ (on-mapped s _ _ (λ y k. passing-untouched s y s k.0 k.1 none) (on-both s _ _ (Untouched.on_deaths-untouched s) (OneWay.on_deaths-less s)));
         reads = λ a limit e i n. record { turns = k.changes.reads a limit e i n; passed = read-passed s a.thread a.thread.seat _ l };
         leaves = λ a e. record { turns = k.changes.leaves a e; passed = thread_goes-passed s s a.thread.seat (passed-none s l) };

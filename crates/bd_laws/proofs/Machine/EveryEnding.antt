@@ -44,7 +44,7 @@ pub record Changes (s : Space) (seat : ℕ) (x : Step) (M : Space → Type 0) : 
   pub asks : (a : Actor) (n : ℕ) (strong : Bool) (o : ObjectId) → actor s seat ≡ Some a → IsAsking x n strong → ask_check s a.process.made n strong ≡ Ok o → M (ask s a.process.made o strong)
   pub drops : (p : ℕ) (o : ObjectId) (strong : Bool) → M (drop_asked s p o strong)
   pub acknowledges : (o : ObjectId) (strong : Bool) → IsAcknowledging x strong → M (acknowledge s o strong)
-  pub loops : (t : ℕ) (looping : Bool) → M (with_looping s t looping)
+  pub loops : (a : Actor) (looping : Bool) → actor s seat ≡ Some a → M (with_looping s a.thread.seat looping)
   pub on_deaths : DeathCommands s M
   pub reads : (a : Actor) (limit : ℕ) → actor s seat ≡ Some a → x ≡ Read limit → read_fault limit (list_to_read s a.thread) ≡ None
       → M (read_by s a.thread.seat (taken s (limit - 4) (list_to_read s a.thread)))

@@ -1,0 +1,10 @@
+-- Answers of steps that change nothing.
+use Rattle.std.specs.Prelude.{Bool, true, false}
+use Rattle.bd_space.specs.declared.step.StepAnswer.{StepAnswer}
+use Rattle.bd_space.specs.declared.step.StepAnswer.TheVariants.{Noted, Refused}
+
+-- it is a note, or a fault
+abbrev pub is_note_or_fault : StepAnswer → Bool
+is_note_or_fault (Noted n) = true
+is_note_or_fault (Refused f) = true
+is_note_or_fault _ = false
