@@ -1,8 +1,10 @@
 -- What a live engine follows, from step to step.
-use Rattle.std.proofs.Common.{◌≡◌, ℕ, suc, ◌+◌, ◌<◌, ◌≤◌, Bool, true, false, List, [], ◌∷◌, ◌++◌, length, refl, ap, sym, subst, ◌∙◌, arith, length-append}
+use Rattle.std.proofs.Common.{◌≡◌, ℕ, suc, ◌+◌, ◌<◌, ◌≤◌, Bool, true, false, List, [], ◌∷◌, ◌++◌, length, take, set, get_or, refl, ap, sym, subst, ◌∙◌, arith, length-append}
 use Rattle.std.specs.Prelude.{nat_lt, nat_le, ◌&&◌, ◌||◌, Some}
 use Rattle.std.proofs.Math.Bool.{or-true}
+use Rattle.std.proofs.lemmas.List.{get_or_push}
 use Rattle.std.proofs.lemmas.List.Folds.{list_all-append}
+use Rattle.std.proofs.Math.Seq.{set-append_seam, take-append_seam}
 use Rattle.std.proofs.lemmas.Bool.{lt-ltb, leb-false}
 use Rattle.bd_uapi.specs.Limits.{most_seats}
 use Rattle.bd_space.specs.declared.step.Step.{Step}
@@ -107,12 +109,26 @@ full-by-number h seat x e = ap (λ b. nat_le 4294967295 (length h.entries) || b)
 
 -- ---- an engine, which holds the entries
 
-pub keeps-more : (h : History) (new : Live) (seat : ℕ) (x : Step) (e : Entry) (n : ℕ) (es : List Entry) → h.seats ≤ most_seats → e.seat ≡ seat → e.step ≡ x
-    → Follows new (extended h seat x e.answer) → n ≡ h.seats → es ≡ h.entries ++ e ∷ [] → Keeps (history_of n es) new
-keeps-more h new seat x e n es few seat_is step_is follows seats grown =
+pub more-is : (h : History) (seat : ℕ) (x : Step) (e : Entry) (n : ℕ) (es : List Entry) → e.seat ≡ seat → e.step ≡ x → n ≡ h.seats → es ≡ h.entries ++ e ∷ []
+    → history_of n es ≡ extended h seat x e.answer
+more-is h seat x e n es seat_is step_is seats grown =
     let entry : e ≡ record { seat = seat; step = x; answer = e.answer } =
     ap (λ (m : ℕ). let r : Entry = record { seat = m; step = e.step; answer = e.answer } in r) seat_is
     ∙ ap (λ (y : Step). let r : Entry = record { seat = seat; step = y; answer = e.answer } in r) step_is in
-    let all : extended h seat x e.answer ≡ history_of n es =
-    ap (λ m. history_of m (extended h seat x e.answer).entries) (sym seats) ∙ ap (history_of n) (sym (grown ∙ ap (λ (y : Entry). h.entries ++ y ∷ []) entry)) in
-    subst (λ (z : History). Keeps z new) all (record { few = few; follows = follows })
+    ap (history_of n) (grown ∙ ap (λ (y : Entry). h.entries ++ y ∷ []) entry) ∙ ap (λ m. history_of m (extended h seat x e.answer).entries) seats
+
+pub keeps-more : (h : History) (new : Live) (seat : ℕ) (x : Step) (e : Entry) (n : ℕ) (es : List Entry) → h.seats ≤ most_seats → e.seat ≡ seat → e.step ≡ x
+    → Follows new (extended h seat x e.answer) → n ≡ h.seats → es ≡ h.entries ++ e ∷ [] → Keeps (history_of n es) new
+keeps-more h new seat x e n es few seat_is step_is follows seats grown =
+    subst (λ (z : History). Keeps z new) (sym (more-is h seat x e n es seat_is step_is seats grown)) (record { few = few; follows = follows })
+
+-- an entry that was put last, before its step is made
+module _ (es pushed : List Entry) (blank : Entry) (at : ℕ) (grown : pushed ≡ es ++ blank ∷ []) (last : at ≡ length es) where
+  pub entry-there : (d : Entry) → get_or pushed at d ≡ blank
+  entry-there d = ap (λ l. get_or l at d) grown ∙ get_or_push es blank d at (sym last)
+
+  pub entry-filled : (e : Entry) → set pushed at e ≡ es ++ e ∷ []
+  entry-filled e = ap (λ l. set l at e) grown ∙ ap (λ n. set (es ++ blank ∷ []) n e) last ∙ set-append_seam es blank [] e
+
+  pub entry-taken_off : (e : Entry) → take at (set pushed at e) ≡ es
+  entry-taken_off e = ap (take at) (entry-filled e) ∙ ap (λ n. take n (es ++ e ∷ [])) last ∙ take-append_seam es (e ∷ [])

@@ -1,17 +1,18 @@
 //! The engine: a history, and the live engine that follows it.
 
-ghost use Rattle.std.specs.Prelude.{◌≡◌, ◌≤◌, ◌<◌, ◌^◌, true, [], length, nat_le, IfOk, IfErr, OnErr, MatchResult, Some};
+ghost use Rattle.std.specs.Prelude.{◌≡◌, ◌≤◌, ◌<◌, ◌^◌, true, [], length, nat_le, IfOk, IfErr, OnOk, OnErr, MatchResult, Ok, Some};
 ghost use Rattle.bd_uapi.specs.Limits.{most_seats, IsSeats};
 ghost use Rattle.bd_space.specs.Histories as histories;
 ghost use Rattle.bd_space.specs.Histories.{most_steps};
 ghost use Rattle.bd_space.specs.Steps as steps;
+ghost use Rattle.bd_step.specs.{Plain.{IsBrief}, declared.answer.Brief.TheVariants.{Got}};
 ghost use Rattle.bd_engine.specs.Refusals.{FullOnly, MemoryOnly, IsSeatFault};
 ghost use Rattle.bd_step.specs.declared.why.Why.TheVariants.{NoMemory};
 
 use crate::live::Live;
 use crate::tables::HasTables;
 use bd_space::{Entries, Entry, Record, Step, StepAnswer};
-use bd_step::{Tables, Why};
+use bd_step::{Brief, Tables, Why};
 use bd_uapi::{Fault, MOST_SEATS};
 use std::alloc::{AllocError, Global};
 use std::marker::Model;
@@ -164,19 +165,43 @@ impl Engine {
         // Want of memory isn't said of a full history.
         ensures memory { IfErr result (λ why. MemoryOnly why (histories.HasPlace self.old)) }
     {
+        let mut again = StepAnswer::Exited;
+        match self.step_in_place(seat, step, &mut again) {
+            Ok(brief) => Ok(brief.answer(again)),
+            Err(why) => Err(why),
+        }
+    }
+
+    // The same, with the answer in brief; what was read is written to `again`. The entry stands in the history before the step
+    // is made, so that neither its step nor its answer is moved any more; of a step that is refused it is taken off again.
+    fn step_in_place(&mut self, seat: u32, step: Step, again: &mut StepAnswer) -> Result<Brief, Why>
+        requires { seat < self.old.seats }
+        ensures brief { IfOk result (λ x. IsBrief x (steps.step (histories.space_after self.old) seat step).answer) }
+        ensures copied { result ≡ Ok Got → again.new ≡ (steps.step (histories.space_after self.old) seat step).answer }
+        ensures history { OnOk result (self.new ≡ histories.extended self.old seat step
+            (steps.step (histories.space_after self.old) seat step).answer) }
+        ensures err { OnErr result (self.new ≡ self.old) }
+        ensures full { IfErr result (λ why. FullOnly why (histories.is_at_limit self.old seat (Some step) ≡ true)) }
+        ensures memory { IfErr result (λ why. MemoryOnly why (histories.HasPlace self.old)) }
+    {
         if self.is_full() {
             return Err(Why::HistoryFull);
         }
         if self.entries.reserve(1).is_err() {
             return Err(Why::NoMemory);
         }
-        match self.live.make(seat, step, true) {
-            Ok(made) => {
+        let at = self.entries.len();
+        let answer = StepAnswer::Exited;
+        self.entries.push_reserved(Entry { seat, step, answer });
+        match self.live.make(&mut self.entries[at], again, true) {
+            Ok(brief) => {
                 self.live.refresh_ready();
-                self.entries.push_reserved(made.entry);
-                Ok(made.again)
+                Ok(brief)
             }
-            Err(why) => Err(why),
+            Err(why) => {
+                self.entries.truncate(at);
+                Err(why)
+            }
         }
     }
 }

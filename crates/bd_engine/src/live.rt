@@ -1,15 +1,16 @@
 //! The live engine: the tables alone. It keeps no history, and hands each entry out.
 
-ghost use Rattle.std.specs.Prelude.{◌≡◌, ◌<◌, true, [], length, IfOk, IfErr, IsTrue, OnErr, MatchResult, Some};
+ghost use Rattle.std.specs.Prelude.{◌≡◌, ◌<◌, true, [], length, IfOk, IfErr, IsTrue, OnOk, OnErr, MatchResult, Ok, Some};
 ghost use Rattle.bd_space.specs.Histories as histories;
 ghost use Rattle.bd_space.specs.Histories.{History, HasPlace, history_of};
 ghost use Rattle.bd_space.specs.Steps as steps;
+ghost use Rattle.bd_step.specs.{Plain.{IsBrief}, declared.answer.Brief.TheVariants.{Got}};
 ghost use Rattle.bd_engine.specs.Follows.{Follows};
 ghost use Rattle.bd_engine.specs.Refusals.{FullOnly, MemoryOnly, IsLiveSeats, IsLiveSeatFault};
 
 use crate::tables::HasTables;
 use bd_space::{Entry, Step, StepAnswer};
-use bd_step::{Tables, Why};
+use bd_step::{Brief, Tables, Why};
 use bd_uapi::Fault;
 use std::alloc::{AllocError, Global};
 
@@ -39,13 +40,6 @@ impl HasTables for Live {
     fn tables(&self) -> &Tables {
         &self.tables
     }
-}
-
-/// An entry, and its answer again where that was asked for.
-#[derive(Drop)]
-pub(crate) struct Made {
-    pub(crate) entry: Entry,
-    pub(crate) again: StepAnswer,
 }
 
 impl Live {
@@ -98,19 +92,25 @@ impl Live {
         tables.calls.refresh_ready();
     }
 
-    // The step, with its answer once more where both are asked for.
-    pub(crate) fn make(&mut self, seat: u32, step: Step, both: bool) -> Result<Made, Why>
-        requires { seat < self.old.seats }
-        ensures again { IsTrue both → IfOk result (λ m. m.again ≡ m.entry.answer) }
-        ensures seat { IfOk result (λ m. m.entry.seat ≡ seat) }
-        ensures step { IfOk result (λ m. m.entry.step ≡ step) }
-        ensures answer { IfOk result (λ m. (h : History) → Follows self.old h
-            → m.entry.answer ≡ (steps.step (histories.space_after h) seat step).answer) }
-        ensures follows { IfOk result (λ m. (h : History) → Follows self.old h
-            → Follows self.new (histories.extended h seat step m.entry.answer)) }
+    // The step of an entry, whose answer is written into it; what was read also to `again`, where both are asked for.
+    pub(crate) fn make(
+        &mut self,
+        entry: &mut Entry,
+        again: &mut StepAnswer,
+        both: bool,
+    ) -> Result<Brief, Why>
+        requires { entry.old.seat < self.old.seats }
+        ensures brief { IfOk result (λ x. IsBrief x entry.new.answer) }
+        ensures copied { IsTrue both → result ≡ Ok Got → again.new ≡ entry.new.answer }
+        ensures seat { entry.new.seat ≡ entry.old.seat }
+        ensures step { entry.new.step ≡ entry.old.step }
+        ensures answer { OnOk result ((h : History) → Follows self.old h
+            → entry.new.answer ≡ (steps.step (histories.space_after h) entry.old.seat entry.old.step).answer) }
+        ensures follows { OnOk result ((h : History) → Follows self.old h
+            → Follows self.new (histories.extended h entry.old.seat entry.old.step entry.new.answer)) }
         ensures err { OnErr result ((h : History) → Follows self.old h → Follows self.new h) }
         ensures full { IfErr result (λ why. (h : History) → Follows self.old h
-            → FullOnly why (histories.is_at_limit h seat (Some step) ≡ true)) }
+            → FullOnly why (histories.is_at_limit h entry.old.seat (Some entry.old.step) ≡ true)) }
         ensures memory { IfErr result (λ why. (h : History) → Follows self.old h → MemoryOnly why (HasPlace h)) }
         ensures seats { self.new.seats ≡ self.old.seats }
     {
@@ -118,15 +118,10 @@ impl Live {
             return Err(Why::HistoryFull);
         };
         let tables = &mut *self.tables;
-        match tables.change(seat, &step, both) {
-            Ok(taken) => {
+        match tables.change(entry.seat, &entry.step, both, &mut entry.answer, again) {
+            Ok(brief) => {
                 tables.steps = steps;
-                let answer = taken.answer;
-                let entry = Entry { seat, step, answer };
-                Ok(Made {
-                    entry,
-                    again: taken.again,
-                })
+                Ok(brief)
             }
             Err(why) => Err(why),
         }
@@ -156,8 +151,11 @@ impl Live {
         // It has as many seats as before.
         ensures seats { self.new.seats ≡ self.old.seats }
     {
-        match self.make(seat, step, false) {
-            Ok(made) => Ok(made.entry),
+        let answer = StepAnswer::Exited;
+        let mut entry = Entry { seat, step, answer };
+        let mut again = StepAnswer::Exited;
+        match self.make(&mut entry, &mut again, false) {
+            Ok(_) => Ok(entry),
             Err(why) => Err(why),
         }
     }

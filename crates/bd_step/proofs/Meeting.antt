@@ -12,12 +12,12 @@ use Rattle.bd_space.specs.Names.{has_number_past_limit}
 use Rattle.bd_space.specs.Outcomes.{Outcome, noted, refused}
 use Rattle.bd_step.specs.declared.tables.Tables.{Tables}
 use Rattle.bd_step.specs.declared.answer.Plain.{Plain}
-use Rattle.bd_step.specs.declared.answer.Twice.{Twice}
-use Rattle.bd_step.specs.Plain.{answer_of, both}
+use Rattle.bd_step.specs.declared.answer.Brief.{Brief}
+use Rattle.bd_step.specs.Plain.{answer_of, IsWritten}
 use Rattle.bd_step.specs.Stands.{Before, Within}
 use Rattle.bd_step.specs.declared.why.Why.{Why}
 use Rattle.bd_step.specs.Refusals.{FullOnly}
-use Rattle.bd_step.specs.Meets.{Meets, IsRefused, IsAny, IsBy, IsStep, IsStepTwice}
+use Rattle.bd_step.specs.Meets.{Meets, IsRefused, IsAny, IsBy, IsStep, IsStepWritten}
 use Rattle.bd_step.proofs.Standing.{within}
 
 -- the tables stand for this outcome's space, and the answer is its answer
@@ -60,34 +60,34 @@ module _ (old : Tables) (P Q : Space → Type 0) (f g : Space → Outcome) (same
   as-step new (Ok x) m = record { ok = as_meets new (answer_of x) m.ok; err = tt; full = tt }
   as-step new (Err why) m = record { ok = tt; err = m.err; full = as_refused why m.full }
 
-  pub as-step-twice : (new : Tables) (both : Bool) (r : Result Twice Why) → IsStepTwice old new both P f r → IsStepTwice old new both Q g r
-  as-step-twice new both (Ok x) m = record { ok = as_meets new x.answer m.ok; twice = m.twice; err = tt; full = tt }
-  as-step-twice new both (Err why) m = record { ok = tt; twice = λ asked. tt; err = m.err; full = as_refused why m.full }
+  module _ (new : Tables) (both : Bool) (answer again : StepAnswer) where
+    pub as-step-written : (r : Result Brief Why) → IsStepWritten old new both P f answer again r → IsStepWritten old new both Q g answer again r
+    as-step-written (Ok x) m = record { ok = as_meets new answer m.ok; brief = m.brief; copied = m.copied; err = tt; full = tt }
+    as-step-written (Err why) m = record { ok = tt; brief = tt; copied = m.copied; err = m.err; full = as_refused why m.full }
 
--- ---- answers twice
+-- ---- answers that take no memory, written
 
-pub twice-step : (old new : Tables) (asked : Bool) (P : Space → Type 0) (f : Space → Outcome) (r : Result Plain Why) (t : Result Twice Why) → t ≡ both r
-    → IsStep old new P f r → IsStepTwice old new asked P f t
-twice-step old new asked P f r t e m = subst (IsStepTwice old new asked P f) (sym e) (go r m)
-  where
-    go : (r : Result Plain Why) → IsStep old new P f r → IsStepTwice old new asked P f (both r)
-    go (Ok x) m = record { ok = m.ok; twice = λ a. refl; err = tt; full = tt }
-    go (Err why) m = record { ok = tt; twice = λ a. tt; err = m.err; full = m.full }
+module _ (old new : Tables) (both : Bool) (P : Space → Type 0) (f : Space → Outcome) (answer again : StepAnswer) where
+  pub written-step : (r : Result Plain Why) (t : Result Brief Why) → IsWritten r t answer → IsStep old new P f r → IsStepWritten old new both P f answer again t
+  written-step (Ok x) t is m =
+      subst (IsStepWritten old new both P f answer again) (sym is.0) (record { ok = subst (Meets old new P f) (sym is.1) m.ok; brief = is.1; copied = λ asked got. absurd (cc); err = tt; full = tt })
+  written-step (Err why) t is m = subst (IsStepWritten old new both P f answer again) (sym is) (record { ok = tt; brief = tt; copied = λ asked got. absurd (cc); err = m.err; full = m.full })
 
--- ---- the step of a live thread, said as one of the thread's, and answered twice
+-- ---- the step of a live thread, said as one of the thread's, and written
 
 module _ (old : Tables) (a : Actor) (f : Space → Outcome) where
   -- where the definition asks for no live thread
   module _ (g : Space → Outcome) (same : (s : Space) → f s ≡ g s) where
-    pub any-step : (new : Tables) (asked : Bool) (r : Result Plain Why) (t : Result Twice Why) → t ≡ both r → IsStep old new IsAny g r → IsStepTwice old new asked (IsBy a) f t
-    any-step new asked r t e m = twice-step old new asked (IsBy a) f r t e (as-step old IsAny (IsBy a) g f (λ s h by. (by.tidy, same s)) new r m)
+    pub any-step : (new : Tables) (both : Bool) (answer again : StepAnswer) (r : Result Plain Why) (t : Result Brief Why) → IsWritten r t answer → IsStep old new IsAny g r
+        → IsStepWritten old new both (IsBy a) f answer again t
+    any-step new both answer again r t is m =
+        written-step old new both (IsBy a) f answer again r t is (as-step old IsAny (IsBy a) g f (λ s h by. (by.tidy, same s)) new r m)
 
   module _ (g : Space → Actor → Outcome) (same : (s : Space) → f s ≡ by_actor s (actor s a.thread.seat) (g s)) where
     pub by-same : (s : Space) → Before old s → IsBy a s → IsBy a s × (f s ≡ g s a)
     by-same s h by = (by, same s ∙ ap (λ o. by_actor s o (g s)) by.acts)
 
-    pub by-step : (new : Tables) (asked : Bool) (r : Result Plain Why) (t : Result Twice Why) → t ≡ both r → IsStep old new (IsBy a) (λ s. g s a) r → IsStepTwice old new asked (IsBy a) f t
-    by-step new asked r t e m = twice-step old new asked (IsBy a) f r t e (as-step old (IsBy a) (IsBy a) (λ s. g s a) f by-same new r m)
-
-pub answer-is : (old new : Tables) (P : Space → Type 0) (f : Space → Outcome) (a b : StepAnswer) → a ≡ b → Meets old new P f b → Meets old new P f a
-answer-is old new P f a b e m = subst (Meets old new P f) (sym e) m
+    pub by-step : (new : Tables) (both : Bool) (answer again : StepAnswer) (r : Result Plain Why) (t : Result Brief Why) → IsWritten r t answer → IsStep old new (IsBy a) (λ s. g s a) r
+        → IsStepWritten old new both (IsBy a) f answer again t
+    by-step new both answer again r t is m =
+        written-step old new both (IsBy a) f answer again r t is (as-step old (IsBy a) (IsBy a) (λ s. g s a) f by-same new r m)

@@ -1,5 +1,5 @@
 -- What a step of the tables meets: the definition, on every space that they stand for.
-use Rattle.std.specs.Prelude.{ℕ, ◌≡◌, Bool, true, Option, Some, None, Result, Ok, IfOk, IfErr, IsTrue, OnErr}
+use Rattle.std.specs.Prelude.{ℕ, ◌≡◌, Bool, true, Option, Some, None, Result, Ok, IfOk, IfErr, IsTrue, OnOk, OnErr}
 use Rattle.bd_ways.specs.Words.{TransactionData, Parcel, StepAnswer, Actor, Space, Frame}
 use Rattle.bd_space.specs.Seats.{actor}
 use Rattle.bd_space.specs.Names.{has_number_past_limit}
@@ -12,8 +12,9 @@ use Rattle.bd_laws.specs.Tidy.{IsTidy}
 use Rattle.bd_step.specs.declared.tables.Tables.{Tables}
 use Rattle.bd_step.specs.declared.why.Why.{Why}
 use Rattle.bd_step.specs.declared.answer.Plain.{Plain}
-use Rattle.bd_step.specs.declared.answer.Twice.{Twice}
-use Rattle.bd_step.specs.Plain.{answer_of}
+use Rattle.bd_step.specs.declared.answer.Brief.{Brief}
+use Rattle.bd_step.specs.declared.answer.Brief.TheVariants.{Got}
+use Rattle.bd_step.specs.Plain.{answer_of, IsBrief}
 use Rattle.bd_step.specs.Refusals.{FullOnly}
 use Rattle.bd_step.specs.Stands.{Before, Within}
 
@@ -69,9 +70,10 @@ pub record IsStep (old new : Tables) (P : Space → Type 0) (f : Space → Outco
   pub err : OnErr r (IsKept old new)
   pub full : IfErr r (IsRefused old P f)
 
--- the same, answered twice where both are asked for
-pub record IsStepTwice (old new : Tables) (both : Bool) (P : Space → Type 0) (f : Space → Outcome) (r : Result Twice Why) : Type 0 where
-  pub ok : IfOk r (λ x. Meets old new P f x.answer)
-  pub twice : IsTrue both → IfOk r (λ x. x.again ≡ x.answer)
+-- the same, with its answer written, and once more where both are asked for and it has read
+pub record IsStepWritten (old new : Tables) (both : Bool) (P : Space → Type 0) (f : Space → Outcome) (answer again : StepAnswer) (r : Result Brief Why) : Type 0 where
+  pub ok : OnOk r (Meets old new P f answer)
+  pub brief : IfOk r (λ x. IsBrief x answer)
+  pub copied : IsTrue both → r ≡ Ok Got → again ≡ answer
   pub err : OnErr r (IsKept old new)
   pub full : IfErr r (IsRefused old P f)

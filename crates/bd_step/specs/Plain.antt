@@ -1,9 +1,10 @@
--- Answers that take no memory, and answers twice.
-use Rattle.std.specs.Prelude.{Result, Ok, Err}
+-- Answers that take no memory, and answers in brief.
+use Rattle.std.specs.Prelude.{◌≡◌, Result, Ok, Err}
 use Rattle.bd_ways.specs.Words.{StepAnswer}
 use Rattle.bd_space.specs.declared.step.StepAnswer.TheVariants as gave
 use Rattle.bd_step.specs.declared.answer.Plain.{Plain}
-use Rattle.bd_step.specs.declared.answer.Twice.{Twice}
+use Rattle.bd_step.specs.declared.answer.Brief.{Brief}
+use Rattle.bd_step.specs.declared.answer.Brief.TheVariants as brief
 use Rattle.bd_step.specs.declared.why.Why.{Why}
 use Rattle.bd_step.specs.declared.answer.Plain.TheVariants.{Opened, Set, Exited, Accepted, Noted, Stopped, Refused}
 
@@ -16,6 +17,17 @@ answer_of (Noted n) = gave.Noted n
 answer_of (Stopped x) = gave.Stopped x
 answer_of (Refused x) = gave.Refused x
 
-abbrev pub both : Result Plain Why → Result Twice Why
-both (Ok x) = Ok (record { answer = answer_of x; again = answer_of x })
-both (Err why) = Err why
+-- it is what was read
+abbrev pub IsGot : StepAnswer → Type 0
+IsGot (gave.Got stream bytes offsets) = Unit {0}
+IsGot _ = ⊥
+
+-- it is this answer in brief
+abbrev pub IsBrief : Brief → StepAnswer → Type 0
+IsBrief (brief.Plain x) answer = answer ≡ answer_of x
+IsBrief brief.Got answer = IsGot answer
+
+-- an answer that takes no memory was written, and is had in brief; or the refusal is
+abbrev pub IsWritten : Result Plain Why → Result Brief Why → StepAnswer → Type 0
+IsWritten (Ok x) r answer = (r ≡ Ok (brief.Plain x)) × (answer ≡ answer_of x)
+IsWritten (Err why) r answer = r ≡ Err why

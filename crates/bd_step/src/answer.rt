@@ -1,19 +1,28 @@
-//! Answers that take no memory, and answers twice.
+//! Answers that take no memory, and answers in brief.
 
 ghost use Rattle.std.specs.Prelude.{◌≡◌};
+ghost use Rattle.bd_step.specs.Plain.{IsWritten};
 
+use crate::why::Why;
 use bd_space::StepAnswer;
 use bd_uapi::{Cause, Fault, Note};
 
 /// The answer to a step that reads nothing: it is copied without memory.
 #[derive(Clone, Copy, Debug, PartialEq, Eq)]
-pub(crate) enum Plain {
+pub enum Plain {
+    /// As the answer of that name.
     Opened,
+    /// As the answer of that name.
     Set,
+    /// As the answer of that name.
     Exited,
+    /// As the answer of that name.
     Accepted,
+    /// As the answer of that name.
     Noted(Note),
+    /// As the answer of that name.
     Stopped(Cause),
+    /// As the answer of that name.
     Refused(Fault),
 }
 
@@ -21,7 +30,7 @@ impl Plain {
     ghost use Rattle.bd_step.specs.Plain.{answer_of};
 
     /// As an answer.
-    pub(crate) fn answer(self) -> StepAnswer
+    pub fn answer(self) -> StepAnswer
         ensures { result ≡ answer_of self }
     {
         match self {
@@ -34,24 +43,42 @@ impl Plain {
             Plain::Refused(fault) => StepAnswer::Refused(fault),
         }
     }
+}
 
-    /// As an answer, twice.
-    pub(crate) fn twice(self) -> Twice
-        ensures answer { result.answer ≡ answer_of self }
-        ensures again { result.again ≡ answer_of self }
+/// An answer in brief, in a few bytes. The answer itself stands where it was written.
+#[derive(Clone, Copy, Debug, PartialEq, Eq)]
+pub enum Brief {
+    /// This answer.
+    Plain(Plain),
+    /// What was read.
+    Got,
+}
+
+impl Brief {
+    ghost use Rattle.bd_ways.specs.Words.{StepAnswer};
+    ghost use Rattle.bd_step.specs.Plain.{IsBrief};
+    ghost use Rattle.bd_step.specs.declared.answer.Brief.TheVariants.{Got};
+
+    /// The answer, where what was read was written to `again` too.
+    pub fn answer(self, again: StepAnswer) -> StepAnswer
+        ensures { (answer : StepAnswer) → IsBrief self answer → (self ≡ Got → again ≡ answer) → result ≡ answer }
     {
-        Twice {
-            answer: self.answer(),
-            again: self.answer(),
+        match self {
+            Brief::Plain(plain) => plain.answer(),
+            Brief::Got => again,
         }
     }
 }
 
-/// One answer twice: for who made the step, and for its entry.
-#[derive(Drop)]
-pub struct Twice {
-    /// The answer.
-    pub answer: StepAnswer,
-    /// The same once more, where both were asked for.
-    pub again: StepAnswer,
+/// Writes an answer that takes no memory, and has it in brief, or the refusal.
+pub(crate) fn written(taken: Result<Plain, Why>, answer: &mut StepAnswer) -> Result<Brief, Why>
+    ensures { IsWritten taken result answer.new }
+{
+    match taken {
+        Ok(plain) => {
+            *answer = plain.answer();
+            Ok(Brief::Plain(plain))
+        }
+        Err(why) => Err(why),
+    }
 }

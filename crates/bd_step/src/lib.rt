@@ -25,6 +25,6 @@ mod transaction;
 mod why;
 mod work;
 
-pub use answer::Twice;
+pub use answer::{Brief, Plain};
 pub use tables::Tables;
 pub use why::Why;

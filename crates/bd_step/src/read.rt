@@ -12,9 +12,9 @@ ghost use Rattle.bd_buffers.specs.WindowsStand.{made_of_buffer};
 ghost use Rattle.bd_objects.specs.Room.{reference_room};
 ghost use Rattle.bd_calls.specs.Room.{work_room};
 ghost use Rattle.bd_step.specs.Stands.{Before, Within, TellsBefore, TellsWithin, UsesNothing};
-ghost use Rattle.bd_step.specs.{Meets.{Meets, IsBy, IsKept, IsStepTwice}, Taking.{AreTaken, IsReading}};
+ghost use Rattle.bd_step.specs.{Meets.{Meets, IsBy, IsKept, IsStepWritten}, Plain.{IsGot}, Taking.{AreTaken, IsReading}};
 
-use crate::answer::{Plain, Twice};
+use crate::answer::{Brief, Plain, written};
 use crate::tables::{NOTHING, Tables};
 use crate::touched::in_order;
 use crate::why::Why;
@@ -94,7 +94,8 @@ fn made_of(buffer: Option<&Buffer>) -> Option<u32>
 
 // The answer of a read: the bytes, and copies of the data and offsets that are handed over.
 fn got(alloc: Global, buffer: Option<&Buffer>, stream: Vec<u8>) -> Result<StepAnswer, AllocError>
-    ensures { IfOk result (λ answer. answer ≡ spec.got stream.items (option_copied buffer.entry)) }
+    ensures answer { IfOk result (λ answer. answer ≡ spec.got stream.items (option_copied buffer.entry)) }
+    ensures got { IfOk result (λ answer. IsGot answer) }
 {
     match buffer {
         Some(b) => Ok(StepAnswer::Got {
@@ -110,15 +111,14 @@ fn got(alloc: Global, buffer: Option<&Buffer>, stream: Vec<u8>) -> Result<StepAn
     }
 }
 
-// The answer again, where it is asked for. Else it takes no memory, and is any answer.
-fn again_if(asked: bool, answer: &StepAnswer) -> Result<StepAnswer, AllocError>
-    ensures { IsTrue asked → IfOk result (λ x. x ≡ answer.now) }
+// Writes the answer again, where it is asked for. Else it takes no memory.
+fn again_if(asked: bool, answer: &StepAnswer, again: &mut StepAnswer) -> Result<(), AllocError>
+    ensures { IsTrue asked → OnOk result (again.new ≡ answer.now) }
 {
     if asked {
-        answer.copied()
-    } else {
-        Ok(StepAnswer::Exited)
+        *again = answer.copied()?;
     }
+    Ok(())
 }
 
 // What a reading of one work item mostly has: the Noop and the longest return.
@@ -242,37 +242,48 @@ impl Tables {
         list: TodoList,
         limit: u32,
         both: bool,
-    ) -> Result<Twice, AllocError>
-        ensures ok { IfOk result
-            (λ x. Meets self.old self.new (IsReading thread.now list)
-            (λ s. spec.read_taking s thread.now.seat (spec.taken s (limit - 4) (todo.work_on s.todo (Some list)))) x.answer) }
-        ensures twice { IsTrue both → IfOk result (λ x. x.again ≡ x.answer) }
+        answer: &mut StepAnswer,
+        again: &mut StepAnswer,
+    ) -> Result<(), AllocError>
+        ensures ok { OnOk result
+            (Meets self.old self.new (IsReading thread.now list)
+            (λ s. spec.read_taking s thread.now.seat (spec.taken s (limit - 4) (todo.work_on s.todo (Some list))))
+            answer.new) }
+        ensures got { OnOk result (IsGot answer.new) }
+        ensures copied { IsTrue both → OnOk result (again.new ≡ answer.new) }
         ensures err { OnErr result (IsKept self.old self.new) }
     {
         let Taking { works, stream } = self.take(list, limit)?;
         let buffer = self.buffer_taken(works.as_slice());
         let made = made_of(buffer);
-        let answer = got(self.alloc, buffer, stream)?;
-        let again = again_if(both, &answer)?;
+        *answer = got(self.alloc, buffer, stream)?;
+        again_if(both, answer, again)?;
         let touched = in_order(noticed(self.alloc, works.as_slice())?);
         self.reserve_read(works.len(), touched.len())?;
         self.read_by(thread.seat, works.as_slice(), made);
         self.follow_objects(touched.as_slice());
-        Ok(Twice { answer, again })
+        Ok(())
     }
 
     /// The step that reads.
-    pub(crate) fn read(&mut self, a: Actor, limit: u32, both: bool) -> Result<Twice, Why>
-        ensures { IsStepTwice self.old self.new both (IsBy a) (λ s. spec.read_step s a limit) result }
+    pub(crate) fn read(
+        &mut self,
+        a: Actor,
+        limit: u32,
+        both: bool,
+        answer: &mut StepAnswer,
+        again: &mut StepAnswer,
+    ) -> Result<Brief, Why>
+        ensures { IsStepWritten self.old self.new both (IsBy a) (λ s. spec.read_step s a limit) answer.new again.new result }
     {
         if limit < 72 {
-            return Ok(Plain::Refused(Fault::ReadTooSmall).twice());
+            return written(Ok(Plain::Refused(Fault::ReadTooSmall)), answer);
         }
         let Some(list) = self.list_to_read(&a.thread) else {
-            return Ok(Plain::Refused(Fault::Again).twice());
+            return written(Ok(Plain::Refused(Fault::Again)), answer);
         };
-        match self.read_list(&a.thread, list, limit, both) {
-            Ok(taken) => Ok(taken),
+        match self.read_list(&a.thread, list, limit, both, answer, again) {
+            Ok(()) => Ok(Brief::Got),
             Err(AllocError) => Err(Why::NoMemory),
         }
     }

@@ -1,25 +1,13 @@
 //! Every step of the tables.
 
-ghost use Rattle.std.specs.Prelude.{◌≡◌};
 ghost use Rattle.bd_space.specs.{Seats.{actor}, Steps.{change, command_step}};
-ghost use Rattle.bd_step.specs.Plain as plain;
-ghost use Rattle.bd_step.specs.Meets.{IsAny, IsBy, IsNobody, IsStep, IsStepTwice};
+ghost use Rattle.bd_step.specs.Meets.{IsAny, IsBy, IsNobody, IsStep, IsStepWritten};
 
-use crate::answer::{Plain, Twice};
+use crate::answer::{Brief, Plain, written};
 use crate::tables::Tables;
 use crate::why::Why;
-use bd_space::{Actor, Parcel, Step};
+use bd_space::{Actor, Parcel, Step, StepAnswer};
 use bd_uapi::{Command, Fault};
-
-// The answer, twice, or the refusal.
-fn twice(taken: Result<Plain, Why>) -> Result<Twice, Why>
-    ensures { result ≡ plain.both taken }
-{
-    match taken {
-        Ok(plain) => Ok(plain.twice()),
-        Err(why) => Err(why),
-    }
-}
 
 impl Tables {
     // The step of a command.
@@ -51,23 +39,29 @@ impl Tables {
     }
 
     // The step of a live thread.
-    fn change_by(&mut self, a: Actor, step: &Step, both: bool) -> Result<Twice, Why>
-        ensures { IsStepTwice self.old self.new both (IsBy a) (λ s. change s a.thread.seat step.now) result }
+    fn change_by(
+        &mut self,
+        a: Actor,
+        step: &Step,
+        both: bool,
+        answer: &mut StepAnswer,
+        again: &mut StepAnswer,
+    ) -> Result<Brief, Why>
+        ensures { IsStepWritten self.old self.new both (IsBy a) (λ s. change s a.thread.seat step.now)
+            answer.new again.new result }
     {
         match step {
-            Step::Open { pid, euid, window } => twice(self.open(
-                a.thread.seat,
-                *pid,
-                *euid,
-                *window,
-            )),
-            Step::Attach { pid } => twice(self.attach(a.thread.seat, *pid)),
-            Step::SetManager => twice(self.set_manager(a)),
-            Step::SetSpam { on } => twice(Ok(self.set_spam_detection(a, *on))),
-            Step::Command { command, parcel } => twice(self.command(a, command, parcel)),
-            Step::Read { limit } => self.read(a, *limit, both),
-            Step::ExitThread => twice(self.exit_thread(a)),
-            Step::ExitProcess => twice(self.exit_process(a)),
+            Step::Open { pid, euid, window } => written(
+                self.open(a.thread.seat, *pid, *euid, *window),
+                answer,
+            ),
+            Step::Attach { pid } => written(self.attach(a.thread.seat, *pid), answer),
+            Step::SetManager => written(self.set_manager(a), answer),
+            Step::SetSpam { on } => written(Ok(self.set_spam_detection(a, *on)), answer),
+            Step::Command { command, parcel } => written(self.command(a, command, parcel), answer),
+            Step::Read { limit } => self.read(a, *limit, both, answer, again),
+            Step::ExitThread => written(self.exit_thread(a), answer),
+            Step::ExitProcess => written(self.exit_process(a), answer),
         }
     }
 
@@ -82,14 +76,22 @@ impl Tables {
         }
     }
 
-    /// The step of a seat, with its answer twice where both are asked for. It isn't counted by it. Errors: memory was refused,
-    /// or a name would have to be numbered above 4294967294; the tables then stand for what they stood for.
-    pub fn change(&mut self, seat: u32, step: &Step, both: bool) -> Result<Twice, Why>
-        ensures { IsStepTwice self.old self.new both IsAny (λ s. change s seat step.now) result }
+    /// The step of a seat. Its answer is written to `answer`; what was read also to `again`, where both are asked for. The step
+    /// isn't counted by it. Errors: memory was refused, or a name would have to be numbered above 4294967294; the tables then
+    /// stand for what they stood for, and of what is written nothing is known.
+    pub fn change(
+        &mut self,
+        seat: u32,
+        step: &Step,
+        both: bool,
+        answer: &mut StepAnswer,
+        again: &mut StepAnswer,
+    ) -> Result<Brief, Why>
+        ensures { IsStepWritten self.old self.new both IsAny (λ s. change s seat step.now) answer.new again.new result }
     {
         match self.actor(seat) {
-            Some(a) => self.change_by(a, step, both),
-            None => twice(self.change_alone(seat, step)),
+            Some(a) => self.change_by(a, step, both, answer, again),
+            None => written(self.change_alone(seat, step), answer),
         }
     }
 }

@@ -12,7 +12,7 @@ use Rattle.bd_engine.proofs.live.Live.make.Goals as goal
 pub returns-in_default-clause-full : goal.returns-in_default-clause-full
 returns-in_default-clause-full c = λ h follows.
     let long : 4294967295 ≤ length h.entries = omega (arith, (c.tables.ensures h follows).own.steps_are, place h, c.in_default.ensures) in
-    full-at-length h c.args.seat c.args.step (le-leb 4294967295 (length h.entries) long)
+    full-at-length h c.args.entry.now.seat c.args.entry.now.step (le-leb 4294967295 (length h.entries) long)
 
 pub returns-in-Ok-clause-answer : goal.returns-in-Ok-clause-answer
 returns-in-Ok-clause-answer c = λ h follows.
@@ -25,11 +25,11 @@ returns-in-Ok-clause-follows c = λ h follows.
     let before = subst (λ (t : Tables). Before t s) (sym c.deref_mut-tables.ensures.value) follows.stands in
     let met = c.in-Ok.ensures.ok in
     let stands = met.stands s before (always-tidy h) in
-    let seated : c.args.seat < h.seats = omega (arith, c.requires, follows.seats_are) in
+    let seated : c.args.entry.now.seat < h.seats = omega (arith, c.requires, follows.seats_are) in
     let short : length h.entries < 4294967295 = omega (arith, (c.tables.ensures h follows).own.steps_are, place h, c.in-Some.ensures) in
     let counted : c.in-Some.steps ≡ c.change.new.self.steps + 1 =
-    omega (arith, c.in-Some.ensures, (c.tables.ensures h follows).own.steps_are, stands.own.steps_are, change-steps s c.args.seat c.args.step) in
-    follows-step h c.args.self.now _ c.change.new.self c.args.seat c.args.step c.in-Ok.taken.answer follows seated short
+    omega (arith, c.in-Some.ensures, (c.tables.ensures h follows).own.steps_are, stands.own.steps_are, change-steps s c.args.entry.now.seat c.args.entry.now.step) in
+    follows-step h c.args.self.now _ c.change.new.self c.args.entry.now.seat c.args.entry.now.step c.change.new.answer follows seated short
     (met.answered s before (always-tidy h)) stands refl (ap (λ (n : ℕ). let t : Tables = record c.change.new.self { steps = n } in t) counted)
 
 pub returns-in-Err-clause-err : goal.returns-in-Err-clause-err
@@ -40,7 +40,7 @@ returns-in-Err-clause-err c = λ h follows.
 pub returns-in-Err-clause-full : goal.returns-in-Err-clause-full
 returns-in-Err-clause-full c = λ h follows.
     let before = subst (λ (t : Tables). Before t (space_after h)) (sym c.deref_mut-tables.ensures.value) follows.stands in
-    full-as c.in-Err.why _ _ (full-by-number h c.args.seat c.args.step) (c.in-Err.ensures.full (space_after h) before (always-tidy h))
+    full-as c.in-Err.why _ _ (full-by-number h c.args.entry.now.seat c.args.entry.now.step) (c.in-Err.ensures.full (space_after h) before (always-tidy h))
 
 pub returns-in-Err-clause-memory : goal.returns-in-Err-clause-memory
 returns-in-Err-clause-memory c = λ h follows.

@@ -1,35 +1,25 @@
-use Rattle.std.proofs.Common.{◌-◌, ◌∙◌, List, sym, ap, subst}
+use Rattle.std.proofs.Common.{◌-◌, List, sym, ap, subst}
 use Rattle.bd_uapi.specs.declared.fault.Fault.TheVariants.{ReadTooSmall, Again}
 use Rattle.bd_space.specs.declared.space.Work.{Work}
 use Rattle.bd_space.specs.Todo.{list_to_read}
 use Rattle.bd_space.specs.ReadItems.{read_step, read_taking, none_due, taken}
 use Rattle.bd_step.specs.Taking.{IsReading}
-use Rattle.bd_step.proofs.Meeting.{IsOutcome, answer-is, meets, in-case, is-refused}
+use Rattle.bd_step.proofs.Meeting.{IsOutcome, meets, in-case, is-refused, taken-step, written-step}
 use Rattle.bd_step.proofs.TakingItems.{read_outcome, too-small, nothing, readable}
 use Rattle.bd_step.proofs.tables.Tables.read.Goals as goal
 
 pub returns-then-limit-lt72 : goal.returns-then-limit-lt72
 unfolding read_step
-returns-then-limit-lt72 c = record {
-  ok = answer-is _ _ _ _ _ _ c.twice.ensures.answer (meets _ _ _ _ _ (λ s h by.
-      let ws = list_to_read s c.args.a.thread in
-      in-case _ _ (read_outcome s c.args.a.thread.seat c.args.limit ws) _ _ (too-small c.args.limit ws c.if-limit-lt72.true) (is-refused _ s ReadTooSmall h)));
-  twice = λ asked. c.twice.ensures.again ∙ sym c.twice.ensures.answer;
-  err = tt;
-  full = tt;
-}
+returns-then-limit-lt72 c = written-step _ _ _ _ _ _ _ _ _ c.written.ensures (taken-step _ _ _ _ _ (meets _ _ _ _ _ (λ s h by.
+    let ws = list_to_read s c.args.a.thread in
+    in-case _ _ (read_outcome s c.args.a.thread.seat c.args.limit ws) _ _ (too-small c.args.limit ws c.if-limit-lt72.true) (is-refused _ s ReadTooSmall h))))
 
 pub returns-in_default : goal.returns-in_default
 unfolding read_step
-returns-in_default c = record {
-  ok = answer-is _ _ _ _ _ _ c.twice-in_default.ensures.answer (meets _ _ _ _ _ (λ s h by.
-      let ws = list_to_read s c.args.a.thread in
-      in-case _ _ (read_outcome s c.args.a.thread.seat c.args.limit ws) _ _
-      (nothing c.args.limit ws c.if-limit-lt72.false (ap none_due (c.list_to_read.ensures.none c.in_default.is s h))) (is-refused _ s Again h)));
-  twice = λ asked. c.twice-in_default.ensures.again ∙ sym c.twice-in_default.ensures.answer;
-  err = tt;
-  full = tt;
-}
+returns-in_default c = written-step _ _ _ _ _ _ _ _ _ c.written-in_default.ensures (taken-step _ _ _ _ _ (meets _ _ _ _ _ (λ s h by.
+    let ws = list_to_read s c.args.a.thread in
+    in-case _ _ (read_outcome s c.args.a.thread.seat c.args.limit ws) _ _
+    (nothing c.args.limit ws c.if-limit-lt72.false (ap none_due (c.list_to_read.ensures.none c.in_default.is s h))) (is-refused _ s Again h))))
 
 pub returns-in-Ok : goal.returns-in-Ok
 unfolding read_step
@@ -39,9 +29,10 @@ returns-in-Ok c = record {
       let ok = c.in-Ok.ensures.ok in
       let reading : IsReading t c.in-Some.list s = record { tidy = by.tidy; reads = c.in-Some.ensures.some s h } in
       in-case _ _ (read_outcome s t.seat c.args.limit (list_to_read s t)) _ _ (readable c.args.limit (list_to_read s t) c.if-limit-lt72.false (c.in-Some.ensures.filled s h))
-      (subst (λ (ws : List Work). IsOutcome c.read_list.new.self c.in-Ok.taken.answer (read_taking s t.seat (taken s (c.args.limit - 4) ws))) (sym (c.in-Some.ensures.some s h))
+      (subst (λ (ws : List Work). IsOutcome c.read_list.new.self c.read_list.new.answer (read_taking s t.seat (taken s (c.args.limit - 4) ws))) (sym (c.in-Some.ensures.some s h))
       (record { answered = ok.answered s h reading; stands = ok.stands s h reading })));
-  twice = c.in-Ok.ensures.twice;
+  brief = c.in-Ok.ensures.got;
+  copied = λ asked got. c.in-Ok.ensures.copied asked;
   err = tt;
   full = tt;
 }
