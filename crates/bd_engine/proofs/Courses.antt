@@ -20,10 +20,9 @@ use Rattle.bd_space.specs.Writes.{step_of_command}
 use Rattle.bd_space.specs.Runs.{HasRun}
 use Rattle.bd_step.specs.declared.why.Why.{Why}
 use Rattle.bd_engine.specs.declared.write.Progress.{Progress}
-use Rattle.bd_engine.specs.declared.write.Course.{Course}
-use Rattle.bd_engine.specs.declared.write.Course.TheVariants.{GoesOn, Ends}
+use Rattle.bd_engine.specs.declared.write.Going.{Going}
 use Rattle.bd_engine.specs.Refusals.{FullOnly, MemoryOnly}
-use Rattle.bd_engine.specs.Writing.{IsSame, GoesTo, IsAfter, IsCutAt, IsProgress, IsTurnedAway, HasCome, IsNext, IsCourse, fault_of, stopped}
+use Rattle.bd_engine.specs.Writing.{Course, GoesOn, Ends, course_of, course_or, IsSame, GoesTo, IsAfter, IsCutAt, IsProgress, IsTurnedAway, HasCome, IsNext, IsCourse, fault_of, stopped}
 use Rattle.bd_engine.proofs.Commands.{turned_away, cut_short, ended, went_on}
 
 pub by_count : {A : Type 0} (P : A → Type 0) (n : ℕ) (a b : A) → (n ≡ 0 → P a) → (0 < n → P b) → P (cond (n == 0) a b)
@@ -93,13 +92,22 @@ next-fault stream at x e = ap command_at (sym (rest_is stream at)) ∙ e
 
 -- ---- the same, with room made for a note
 
-pub course-cut : (old now new : History) (seat : ℕ) (stream area : List ℕ) (p q : Progress) (c : Command) (size : ℕ) (why : Why) (r : Result Course Why)
-    → HasCome old now seat stream area p → IsNext stream p.consumed c size → IsSame p q → new ≡ now → IsCutAt q why r
+-- in brief
+cut_in_brief : (p : Progress) (F : Course → Type 0) (G : Why → Type 0) (r : Result Going Why) → MatchResult (course_or p r) F G → MatchResult r (λ g. F (course_of p g)) G
+cut_in_brief p F G (Ok g) m = m
+cut_in_brief p F G (Err why) m = m
+
+pub course-cut : (old now new : History) (seat : ℕ) (stream area : List ℕ) (p q : Progress) (c : Command) (size : ℕ) (why : Why) (r : Result Going Why)
+    → HasCome old now seat stream area p → IsNext stream p.consumed c size → IsSame p q → new ≡ now → IsCutAt q why (course_or q r)
     → FullOnly why (is_at_limit now seat (Some (step_of_command area c)) ≡ true) → MemoryOnly why (HasPlace now)
-    → MatchResult r (λ course. IsCourse old new seat stream area (p.consumed + size) course) (λ w. (new ≡ old) × IsTurnedAway old seat (Write stream area) w)
+    → MatchResult r (λ g. IsCourse old new seat stream area (p.consumed + size) (course_of q g)) (λ w. (new ≡ old) × IsTurnedAway old seat (Write stream area) w)
 course-cut old now new seat stream area p q c size why r come is_next same kept is full place =
     let next : IsNext stream q.consumed c size = rw same.consumed is_next in
-    rw (kept, ← same.consumed) (cut old now seat stream area q (HasCome-same old now seat stream area p q same come) c size next why r is full place)
+    let F : Course → Type 0 = λ course. IsCourse old new seat stream area (p.consumed + size) course in
+    let G : Why → Type 0 = λ w. (new ≡ old) × IsTurnedAway old seat (Write stream area) w in
+    let whole : MatchResult (course_or q r) F G =
+    rw (kept, ← same.consumed) (cut old now seat stream area q (HasCome-same old now seat stream area p q same come) c size next why (course_or q r) is full place) in
+    cut_in_brief q F G r whole
 
 pub course-on : (old now new : History) (seat : ℕ) (stream area : List ℕ) (p q : Progress) (c : Command) (size : ℕ) (a : StepAnswer) (r : Course)
     → HasCome old now seat stream area p → IsNext stream p.consumed c size → IsSame p q → IsAfter q a size r

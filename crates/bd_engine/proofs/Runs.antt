@@ -1,5 +1,5 @@
 -- A run of one step, and a write of none.
-use Rattle.std.proofs.Common.{◌≡◌, ℕ, List, [], ◌∷◌, length, refl, sym, ap, ◌∙◌, inl, ◌<◌, true, ltb}
+use Rattle.std.proofs.Common.{◌≡◌, ℕ, List, [], ◌∷◌, length, Some, Result, Ok, Err, IfErr, refl, sym, ap, subst, ◌∙◌, inl, ◌<◌, true, ltb, arith}
 use Rattle.std.proofs.lemmas.Bool.{lt-ltb}
 use Rattle.std.proofs.lemmas.List.{append-nil}
 use Rattle.bd_uapi.specs.declared.fault.Fault.TheVariants.{StreamTooLong}
@@ -12,9 +12,12 @@ use Rattle.bd_space.specs.declared.step.Answer.{Answer}
 use Rattle.bd_space.specs.declared.step.Answer.TheVariants.{Refused}
 use Rattle.bd_space.specs.Space.{Space}
 use Rattle.bd_space.specs.Steps.{step}
-use Rattle.bd_space.specs.Histories.{History, space_after, extended}
+use Rattle.bd_space.specs.Histories.{History, space_after, extended, is_at_limit}
 use Rattle.bd_space.specs.Writes.{Run, write}
-use Rattle.bd_space.specs.Runs.{run, single, answered, IsRun, HasRun}
+use Rattle.bd_space.specs.Runs.{run, single, answered, IsRun, HasRun, HasEntry, IsAtLimit}
+use Rattle.bd_step.specs.declared.why.Why.{Why}
+use Rattle.bd_engine.specs.Refusals.{FullOnly}
+use Rattle.bd_engine.specs.Writing.{IsOneStep}
 
 pub single-has_run : (old new : History) (seat : ℕ) (x : Step) (a : StepAnswer) (said : Answer) (from to : ℕ) (request : Request)
     → new ≡ extended old seat x a → a ≡ (step (space_after old) seat x).answer → said ≡ answered a → from ≡ length old.entries → to ≡ length new.entries
@@ -50,3 +53,16 @@ too_long-has_run h seat stream area at long here =
       starts = here;
       ends = here;
     }
+
+-- ---- a request that is one step
+
+module _ (h : History) (seat : ℕ) (request : Request) (x : Step) (is : IsOneStep request x) where
+  one-entry : HasEntry h seat request
+  one-entry e = absurd (omega (arith, ap length (sym (ap (λ (r : Run). r.entries) (is.runs (space_after h) seat)) ∙ e)))
+
+  pub one-some : {A : Type 0} (r : Result A Why) → IfErr r (λ w. HasEntry h seat request)
+  one-some (Ok y) = tt
+  one-some (Err why) = one-entry
+
+  pub one-full : {A : Type 0} (r : Result A Why) → IfErr r (λ why. FullOnly why (is_at_limit h seat (Some x) ≡ true)) → IfErr r (λ why. FullOnly why (IsAtLimit h seat request))
+  one-full r full = subst (λ o. IfErr r (λ why. FullOnly why (is_at_limit h seat o ≡ true))) (sym is.first) full

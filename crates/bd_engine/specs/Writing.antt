@@ -1,6 +1,6 @@
--- How far a write has come, and how it goes on.
-use Rattle.std.specs.Prelude.{ℕ, ◌+◌, ◌≡◌, ◌≤◌, ◌<◌, ◌==◌, List, [], ◌∷◌, ◌++◌, length, drop, Option, Some, Result, Ok, Err, if◌then◌else◌}
-use Rattle.bd_ways.specs.Words.{Command, Note, Fault, StepAnswer, Entry, Answer, Request}
+-- The run of a request that is one step, or of a write: how far it has come, and how it goes on.
+use Rattle.std.specs.Prelude.{ℕ, ◌+◌, ◌≡◌, ◌≤◌, ◌<◌, ◌==◌, List, [], ◌∷◌, ◌++◌, length, drop, Option, Some, None, Result, Ok, Err, if◌then◌else◌}
+use Rattle.bd_ways.specs.Words.{Command, Note, Fault, Step, StepAnswer, Entry, Answer, Request, Space}
 use Rattle.bd_uapi.specs.declared.fault.Fault.TheVariants as fault
 use Rattle.bd_codec.specs.Reading.{command_at}
 use Rattle.bd_space.specs.declared.step.StepAnswer.TheVariants as gave
@@ -9,13 +9,45 @@ use Rattle.bd_space.specs.declared.step.Answer.TheVariants.{Wrote, Refused}
 use Rattle.bd_space.specs.declared.step.Request.TheVariants.{Write}
 use Rattle.bd_space.specs.Histories.{History, space_after, HasPlace}
 use Rattle.bd_space.specs.Writes.{readable, commands_of, Written, written, wrote}
-use Rattle.bd_space.specs.Runs.{AllBy, HasRun, HasEntry, IsAtLimit}
+use Rattle.bd_space.specs.Runs.{run, single, first_step, AllBy, HasRun, HasEntry, IsAtLimit}
 use Rattle.bd_step.specs.declared.why.Why.{Why}
 use Rattle.bd_step.specs.declared.why.Why.TheVariants.{NoMemory, HistoryFull}
 use Rattle.bd_engine.specs.Refusals.{FullOnly, MemoryOnly}
 use Rattle.bd_engine.specs.declared.write.Progress.{Progress}
-use Rattle.bd_engine.specs.declared.write.Course.{Course}
-use Rattle.bd_engine.specs.declared.write.Course.TheVariants.{GoesOn, Ends}
+use Rattle.bd_engine.specs.declared.write.Going.{Going}
+use Rattle.bd_engine.specs.declared.write.Going.TheVariants as going
+
+-- ---- what a request is run by
+
+abbrev pub IsWrite : Request → Type 0
+IsWrite (Write stream area) = Unit {0}
+IsWrite _ = ⊥
+
+pub record IsOneStep (request : Request) (x : Step) : Type 0 where
+  pub runs : (s : Space) (seat : ℕ) → run s seat request ≡ single s seat x
+  pub first : first_step request ≡ Some x
+
+-- ---- how a write goes on
+
+-- the answer to a write that ended so
+abbrev pub ended : Progress → Going → Answer
+ended p going.On = Wrote p.consumed p.notes.items None
+ended p (going.Stops y) = Wrote p.consumed p.notes.items (Some y)
+ended p (going.Refused x) = Refused x
+
+-- from here, or not at all, with this answer
+pub data Course : Type 0 where
+  GoesOn : Progress → Course
+  Ends : Answer → Course
+
+abbrev pub course_of : Progress → Going → Course
+course_of p going.On = GoesOn p
+course_of p (going.Stops y) = Ends (ended p (going.Stops y))
+course_of p (going.Refused x) = Ends (ended p (going.Refused x))
+
+abbrev pub course_or : Progress → Result Going Why → Result Course Why
+course_or p (Ok g) = Ok (course_of p g)
+course_or p (Err why) = Err why
 
 -- ---- what is answered
 

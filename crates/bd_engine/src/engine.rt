@@ -13,9 +13,10 @@ use crate::live::Live;
 use crate::tables::HasTables;
 use bd_space::{Entries, Entry, Record, Step, StepAnswer};
 use bd_step::{Brief, Tables, Why};
-use bd_uapi::{Fault, MOST_SEATS};
+use bd_uapi::{Fault, MOST_SEATS, Note};
 use std::alloc::{AllocError, Global};
 use std::marker::Model;
+use std::mem::replace;
 
 /// The most steps that a history has.
 const MOST_STEPS: usize = 4294967295;
@@ -24,6 +25,8 @@ const MOST_STEPS: usize = 4294967295;
 pub struct Engine {
     entries: Vec<Entry>,
     live: Live,
+    // Room for a write's notes, which mostly has none: it is kept from write to write, so that each asks for no memory.
+    notes: Vec<(u32, Note)>,
 }
 
 impl Model for Engine {
@@ -43,6 +46,7 @@ impl Drop for Engine {
         let Engine {
             entries: _,
             live: _,
+            notes: _,
         } = self;
     }
 }
@@ -85,6 +89,7 @@ impl Engine {
         Ok(Engine {
             entries: Vec::new(alloc),
             live,
+            notes: Vec::new(alloc),
         })
     }
 
@@ -137,13 +142,35 @@ impl Engine {
         self.tables().ready_below(self.live.seats)
     }
 
+    // Room for the notes of a write, of which there are none yet.
+    pub(crate) fn take_notes(&mut self) -> Vec<(u32, Note)>
+        ensures same { self.new ≡ self.old }
+        ensures none { result.items ≡ [] }
+    {
+        let none = Vec::new(self.alloc());
+        let mut notes = replace(&mut self.notes, none);
+        notes.clear();
+        notes
+    }
+
+    // Keeps this room for the notes of the next write.
+    pub(crate) fn keep_notes(&mut self, notes: Vec<(u32, Note)>)
+        ensures { self.new ≡ self.old }
+    {
+        self.notes = notes;
+    }
+
     /// The history.
     pub fn into_record(self) -> Record
         ensures seats { result.seats ≡ self.seats }
         ensures entries { result.entries ≡ self.entries }
         ensures lawful { histories.IsHistory (record { seats = result.seats; entries = result.entries }) }
     {
-        let Engine { entries, live } = self;
+        let Engine {
+            entries,
+            live,
+            notes: _,
+        } = self;
         Record {
             seats: live.seats,
             entries: Entries::new(entries),
@@ -174,7 +201,12 @@ impl Engine {
 
     // The same, with the answer in brief; what was read is written to `again`. The entry stands in the history before the step
     // is made, so that neither its step nor its answer is moved any more; of a step that is refused it is taken off again.
-    fn step_in_place(&mut self, seat: u32, step: Step, again: &mut StepAnswer) -> Result<Brief, Why>
+    pub(crate) fn step_in_place(
+        &mut self,
+        seat: u32,
+        step: Step,
+        again: &mut StepAnswer,
+    ) -> Result<Brief, Why>
         requires { seat < self.old.seats }
         ensures brief { IfOk result (λ x. IsBrief x (steps.step (histories.space_after self.old) seat step).answer) }
         ensures copied { result ≡ Ok Got → again.new ≡ (steps.step (histories.space_after self.old) seat step).answer }

@@ -1,15 +1,17 @@
 //! The run of a request: one step, or for a write one for each of its commands.
 
-ghost use Rattle.std.specs.Prelude.{◌≡◌, ◌≤◌, ◌<◌, true, Some, length, IfOk, IfErr, OnErr};
+ghost use Rattle.std.specs.Prelude.{◌≡◌, ◌≤◌, ◌<◌, true, Some, length, IfOk, IfErr, OnErr, MatchOption};
+ghost use Rattle.bd_ways.specs.Words as words;
 ghost use Rattle.bd_space.specs.{declared.step.Request.{Request}, declared.step.Request.TheVariants.{Write}};
 ghost use Rattle.bd_space.specs.{Space.{Space}, Histories.{HasPlace, is_at_limit}};
 ghost use Rattle.bd_space.specs.Runs as runs;
 ghost use Rattle.bd_space.specs.Runs.{HasRun, HasEntry, IsAtLimit, answered};
-ghost use Rattle.bd_engine.specs.{Refusals.{FullOnly, MemoryOnly}, Writing.{IsTurnedAway}};
+ghost use Rattle.bd_step.specs.{Plain.{IsBrief, IsGot}, declared.answer.Brief.TheVariants.{Got}};
+ghost use Rattle.bd_engine.specs.{Refusals.{FullOnly, MemoryOnly}, Writing.{IsTurnedAway, IsWrite, IsOneStep}};
 
 use crate::engine::Engine;
 use bd_space::{Answer, Request, Step, StepAnswer};
-use bd_step::Why;
+use bd_step::{Brief, Plain, Why};
 use bd_uapi::Fault;
 
 /// What a run answered, and the places of its steps: from `from` up to and without `to`.
@@ -23,15 +25,12 @@ pub struct Ran {
     pub to: u32,
 }
 
-// What the only step of a request answers it.
-fn answered(answer: StepAnswer) -> Answer
+// What was read, as the answer to a request.
+fn got(answer: StepAnswer) -> Answer
+    requires { IsGot answer }
     ensures { result ≡ answered answer }
 {
     match answer {
-        StepAnswer::Opened => Answer::Opened,
-        StepAnswer::Exited => Answer::Exited,
-        StepAnswer::Set | StepAnswer::Accepted | StepAnswer::Noted(_) | StepAnswer::Stopped(_) =>
-            Answer::Set,
         StepAnswer::Got {
             stream,
             bytes,
@@ -41,7 +40,43 @@ fn answered(answer: StepAnswer) -> Answer
             bytes,
             offsets,
         },
-        StepAnswer::Refused(fault) => Answer::Refused(fault),
+        _ => unreachable!(),
+    }
+}
+
+// What the only step of a request answers it: its answer in brief, and what was read.
+fn answered(brief: Brief, again: StepAnswer) -> Answer
+    requires { brief ≡ Got → IsGot again }
+    ensures { (answer : words.StepAnswer) → IsBrief brief answer → (brief ≡ Got → again ≡ answer) → result ≡ answered answer }
+{
+    match brief {
+        Brief::Plain(Plain::Opened) => Answer::Opened,
+        Brief::Plain(Plain::Exited) => Answer::Exited,
+        Brief::Plain(Plain::Refused(fault)) => Answer::Refused(fault),
+        Brief::Plain(Plain::Set | Plain::Accepted | Plain::Noted(_) | Plain::Stopped(_)) =>
+            Answer::Set,
+        Brief::Got => got(again),
+    }
+}
+
+// The step of a request that is one; none of a write. Made in one place: a step for each kind of request would have its own
+// room on the stack, and be cleared there in each run.
+#[tactic(auto, unfolding(bd_space::specs::Runs::run))]
+fn step_of(request: &Request) -> Option<Step>
+    ensures { MatchOption result (IsWrite request.now) (IsOneStep request.now) }
+{
+    match request {
+        Request::Open { pid, euid, window } => {
+            let (pid, euid, window) = (*pid, *euid, *window);
+            Some(Step::Open { pid, euid, window })
+        }
+        Request::Attach { pid } => Some(Step::Attach { pid: *pid }),
+        Request::SetManager => Some(Step::SetManager),
+        Request::SetSpam { on } => Some(Step::SetSpam { on: *on }),
+        Request::Write { .. } => None,
+        Request::Read { limit } => Some(Step::Read { limit: *limit }),
+        Request::ExitThread => Some(Step::ExitThread),
+        Request::ExitProcess => Some(Step::ExitProcess),
     }
 }
 
@@ -56,10 +91,11 @@ impl Engine {
         ensures memory { IfErr result (λ why. MemoryOnly why (HasPlace self.old)) }
     {
         let from = self.len();
-        match self.step(seat, step) {
+        let mut again = StepAnswer::Exited;
+        match self.step_in_place(seat, step, &mut again) {
             Err(why) => Err(why),
-            Ok(answer) => Ok(Ran {
-                answer: answered(answer),
+            Ok(brief) => Ok(Ran {
+                answer: answered(brief, again),
                 from,
                 to: self.len(),
             }),
@@ -94,7 +130,6 @@ impl Engine {
     /// Runs a request: makes its steps, and says what they answer it and where they stand. A write that memory or the
     /// full history stops after some of its commands answers those; refused before its first step, the engine is as it
     /// was. A write that makes no step is never refused.
-    #[tactic(auto, unfolding(bd_space::specs::Runs::run))]
     pub fn run(&mut self, seat: u32, request: &Request) -> Result<Ran, Why>
         requires { seat < self.old.seats }
         ensures ok { IfOk result (λ r. HasRun self.old self.new seat request.now r.answer r.from r.to) }
@@ -105,18 +140,14 @@ impl Engine {
         // Only a run that has an entry is refused.
         ensures some { IfErr result (λ _. HasEntry self.old seat request.now) }
     {
-        match request {
-            Request::Open { pid, euid, window } => {
-                let (pid, euid, window) = (*pid, *euid, *window);
-                self.single(seat, Step::Open { pid, euid, window })
-            }
-            Request::Attach { pid } => self.single(seat, Step::Attach { pid: *pid }),
-            Request::SetManager => self.single(seat, Step::SetManager),
-            Request::SetSpam { on } => self.single(seat, Step::SetSpam { on: *on }),
-            Request::Write { stream, area } => self.write(seat, stream.as_slice(), area.as_slice()),
-            Request::Read { limit } => self.single(seat, Step::Read { limit: *limit }),
-            Request::ExitThread => self.single(seat, Step::ExitThread),
-            Request::ExitProcess => self.single(seat, Step::ExitProcess),
+        match step_of(request) {
+            Some(step) => self.single(seat, step),
+            None => match request {
+                Request::Write { stream, area } => {
+                    self.write(seat, stream.as_slice(), area.as_slice())
+                }
+                _ => unreachable!(),
+            },
         }
     }
 }

@@ -3,20 +3,24 @@
 ghost use Rattle.std.specs.Prelude.{◌≡◌, ◌≤◌, ◌<◌, ◌+◌, ◌-◌, ◌^◌, ◌++◌, ◌∷◌, [], List, ℕ, Err, true, Some, drop, length, vec_len, vec_capacity, IfOk, IfErr, OnOk, OnErr, MatchResult};
 ghost use Rattle.bd_uapi.specs.declared.command.Command.{Command};
 ghost use Rattle.bd_codec.specs.Reading.{command_at};
-ghost use Rattle.bd_space.specs.{declared.step.Request.TheVariants.{Write}, declared.step.Answer.TheVariants.{Wrote}};
+ghost use Rattle.bd_ways.specs.Words.{StepAnswer};
+ghost use Rattle.bd_space.specs.declared.step.Request.TheVariants.{Write};
 ghost use Rattle.bd_space.specs.Histories.{History, space_after, extended, HasPlace, is_at_limit};
 ghost use Rattle.bd_space.specs.Steps as steps;
 ghost use Rattle.bd_space.specs.{Runs.{HasRun}, Writes.{step_of_command}};
 ghost use Rattle.bd_engine.specs.Refusals.{FullOnly, MemoryOnly};
-ghost use Rattle.bd_engine.specs.Writing.{HasCome, IsSame, IsAfter, IsCourse, IsCutAt, IsTurnedAway, IsNext, refused};
+ghost use Rattle.bd_step.specs.Plain.{IsBrief};
+ghost use Rattle.bd_engine.specs.Writing.{HasCome, IsSame, IsAt, IsAfter, IsCourse, IsCutAt, IsTurnedAway, IsNext, refused};
+ghost use Rattle.bd_engine.specs.Writing.{Ends, course_of, course_or, ended};
 
 use crate::engine::Engine;
 use crate::parcel::parcel_for;
 use bd_codec::read_command;
 use bd_space::{Answer, Notes, Step, StepAnswer, Stop};
-use bd_step::Why;
+use bd_step::{Brief, Plain, Why};
 use bd_uapi::{Command, Fault, Note};
-use std::alloc::{AllocError, Global};
+use std::alloc::AllocError;
+use std::mem::replace;
 
 /// How far a write has come.
 #[derive(Drop)]
@@ -29,26 +33,27 @@ pub(crate) struct Progress {
     notes: Vec<(u32, Note)>,
 }
 
-/// How a write goes on after a command.
-#[derive(Drop)]
-pub(crate) enum Course {
-    /// With the next command.
-    GoesOn(Progress),
-    /// Not at all.
-    Ends(Answer),
+/// How a write goes on after a command, in a few bytes.
+#[derive(Clone, Copy)]
+pub(crate) enum Going {
+    /// With the next command, if there is one.
+    On,
+    /// Not at all: it stopped for this reason.
+    Stops(Stop),
+    /// Not at all: it was refused whole.
+    Refused(Fault),
 }
 
 impl Progress {
-    // Before the first command. Takes no memory.
-    fn new(alloc: Global) -> Progress
-        ensures consumed { result.consumed ≡ 0 }
-        ensures count { result.count ≡ 0 }
-        ensures notes { result.notes.items ≡ [] }
+    // Before the first command, with room for notes that has none.
+    fn new(notes: Vec<(u32, Note)>) -> Progress
+        requires { notes.items ≡ [] }
+        ensures { IsAt result 0 0 [] }
     {
         Progress {
             consumed: 0,
             count: 0,
-            notes: Vec::new(alloc),
+            notes,
         }
     }
 
@@ -83,31 +88,20 @@ impl Progress {
         self.notes.push_reserved((self.count, note));
     }
 
-    // The answer to the write, which stopped for this reason after the bytes that were consumed.
-    fn wrote(self, stop: Option<Stop>) -> Answer
-        ensures { result ≡ Wrote self.consumed self.notes.items stop }
-    {
-        Answer::Wrote {
-            consumed: self.consumed,
-            notes: Notes::new(self.notes),
-            stop,
-        }
-    }
-
-    // The answer to the write, whose step at hand was refused: without a process the first command's is.
-    fn refused(self, fault: Fault) -> Answer
-        ensures { result ≡ refused self 0 fault }
+    // How the write goes on whose step at hand was refused: without a process the first command's is.
+    fn refused(&self, fault: Fault) -> Going
+        ensures { course_of self.now result ≡ Ends (refused self.now 0 fault) }
     {
         if self.count == 0 {
-            Answer::Refused(fault)
+            Going::Refused(fault)
         } else {
-            self.wrote(Some(Stop::Fault(fault)))
+            Going::Stops(Stop::Fault(fault))
         }
     }
 
     // What a write does whose step at hand wasn't taken: it is refused whole, or stops after those that were.
-    fn cut_short(self, why: Why) -> Result<Course, Why>
-        ensures { IsCutAt self why result }
+    fn cut_short(&self, why: Why) -> Result<Going, Why>
+        ensures { IsCutAt self.now why (course_or self.now result) }
     {
         if self.count == 0 {
             return Err(why);
@@ -116,31 +110,54 @@ impl Progress {
             Why::NoMemory => Fault::NoMemory,
             Why::HistoryFull => Fault::HistoryFull,
         };
-        Ok(Course::Ends(self.wrote(Some(Stop::Fault(fault)))))
+        Ok(Going::Stops(Stop::Fault(fault)))
     }
 
     // How the write goes on after a command of this size, which was answered so.
-    fn after(mut self, answer: StepAnswer, size: u32) -> Course
-        requires room { vec_len self.notes < vec_capacity self.notes }
-        requires fits { self.consumed + size < 2 ^ 32 }
-        requires few { self.count < 2 ^ 32 - 1 }
-        ensures { IsAfter self answer size result }
+    fn after(&mut self, answer: Brief, size: u32) -> Going
+        requires room { vec_len self.old.notes < vec_capacity self.old.notes }
+        requires fits { self.old.consumed + size < 2 ^ 32 }
+        requires few { self.old.count < 2 ^ 32 - 1 }
+        ensures { (a : StepAnswer) → IsBrief answer a → IsAfter self.old a size (course_of self.new result) }
     {
         self.consumed += size;
         match answer {
-            StepAnswer::Stopped(cause) => {
-                return Course::Ends(self.wrote(Some(Stop::Cause(cause))));
-            }
-            StepAnswer::Refused(fault) => return Course::Ends(self.refused(fault)),
-            StepAnswer::Noted(note) => self.note(note),
-            StepAnswer::Opened
-            | StepAnswer::Set
-            | StepAnswer::Exited
-            | StepAnswer::Accepted
-            | StepAnswer::Got { .. } => {}
+            Brief::Plain(Plain::Stopped(cause)) => return Going::Stops(Stop::Cause(cause)),
+            Brief::Plain(Plain::Refused(fault)) => return self.refused(fault),
+            Brief::Plain(Plain::Noted(note)) => self.note(note),
+            Brief::Plain(Plain::Opened | Plain::Set | Plain::Exited | Plain::Accepted)
+            | Brief::Got => {}
         }
         self.count += 1;
-        Course::GoesOn(self)
+        Going::On
+    }
+
+    // Takes the notes. Where there are none, the room for them stays.
+    fn take_notes(&mut self) -> Vec<(u32, Note)>
+        ensures { result.items ≡ self.old.notes.items }
+    {
+        let none = Vec::new(*self.notes.allocator());
+        if self.notes.is_empty() {
+            none
+        } else {
+            replace(&mut self.notes, none)
+        }
+    }
+
+    // The answer to the write, which ended so.
+    fn answer(&mut self, going: Going) -> Answer
+        ensures { result ≡ ended self.old going }
+    {
+        let stop = match going {
+            Going::Refused(fault) => return Answer::Refused(fault),
+            Going::Stops(stop) => Some(stop),
+            Going::On => None,
+        };
+        Answer::Wrote {
+            consumed: self.consumed,
+            notes: Notes::new(self.take_notes()),
+            stop,
+        }
     }
 }
 
@@ -152,13 +169,14 @@ impl Engine {
         area: &[u8],
         command: Command,
         progress: &mut Progress,
-    ) -> Result<StepAnswer, Why>
+    ) -> Result<Brief, Why>
         requires { seat < self.old.seats }
         ensures same { IsSame progress.old progress.new }
         ensures room { OnOk result (vec_len progress.new.notes < vec_capacity progress.new.notes) }
         ensures answer { IfOk result
-            (λ a. a ≡ (steps.step (space_after self.old) seat (step_of_command area.now command)).answer) }
-        ensures history { IfOk result (λ a. self.new ≡ extended self.old seat (step_of_command area.now command) a) }
+            (λ x. IsBrief x (steps.step (space_after self.old) seat (step_of_command area.now command)).answer) }
+        ensures history { OnOk result (self.new ≡ extended self.old seat (step_of_command area.now command)
+            (steps.step (space_after self.old) seat (step_of_command area.now command)).answer) }
         ensures err { OnErr result (self.new ≡ self.old) }
         ensures full { IfErr result
             (λ why. FullOnly why (is_at_limit self.old seat (Some (step_of_command area.now command)) ≡ true)) }
@@ -170,10 +188,12 @@ impl Engine {
         if progress.reserve().is_err() {
             return Err(Why::NoMemory);
         }
-        match parcel_for(self.alloc(), area, &command) {
-            Err(_) => Err(Why::NoMemory),
-            Ok(parcel) => self.step(seat, Step::Command { command, parcel }),
-        }
+        let Ok(parcel) = parcel_for(self.alloc(), area, &command) else {
+            return Err(Why::NoMemory);
+        };
+        // A command reads nothing, so nothing is written here.
+        let mut again = StepAnswer::Exited;
+        self.step_in_place(seat, Step::Command { command, parcel }, &mut again)
     }
 
     // Runs the next command of a write, of this size.
@@ -183,21 +203,53 @@ impl Engine {
         area: &[u8],
         command: Command,
         size: u32,
-        mut progress: Progress,
-    ) -> Result<Course, Why>
+        progress: &mut Progress,
+    ) -> Result<Going, Why>
         requires seat { seat < self.old.seats }
-        requires fits { progress.consumed + size ≤ 4096 }
-        requires few { progress.count ≤ progress.consumed }
-        ensures { (old : History) (stream : List ℕ) → HasCome old self.old seat stream area.now progress
-            → IsNext stream progress.consumed command size
+        requires fits { progress.old.consumed + size ≤ 4096 }
+        requires few { progress.old.count ≤ progress.old.consumed }
+        ensures { (old : History) (stream : List ℕ) → HasCome old self.old seat stream area.now progress.old
+            → IsNext stream progress.old.consumed command size
             → MatchResult result
-            (λ course. IsCourse old self.new seat stream area.now (progress.consumed + size) course)
+            (λ going. IsCourse old self.new seat stream area.now (progress.old.consumed + size) (course_of progress.new going))
             (λ why. (self.new ≡ old) × IsTurnedAway old seat (Write stream area.now) why) }
     {
-        match self.attempt(seat, area, command, &mut progress) {
+        match self.attempt(seat, area, command, progress) {
             Err(why) => progress.cut_short(why),
             Ok(answer) => Ok(progress.after(answer, size)),
         }
+    }
+
+    // Runs one command after the other, up to one that ends the write.
+    fn run_each(
+        &mut self,
+        seat: u32,
+        stream: &[u8],
+        area: &[u8],
+        progress: &mut Progress,
+    ) -> Result<Going, Why>
+        requires seat { seat < self.old.seats }
+        requires short { length stream.now ≤ 4096 }
+        requires begun { IsAt progress.old 0 0 [] }
+        ensures ok { IfOk result (λ going. HasRun self.old self.new seat (Write stream.now area.now) (ended progress.new going)
+            (length self.old.entries) (length self.new.entries)) }
+        ensures err { OnErr result (self.new ≡ self.old) }
+        ensures away { IfErr result (IsTurnedAway self.old seat (Write stream.now area.now)) }
+    {
+        'commands: while (progress.consumed as usize) < stream.len() {
+            match progress.next(stream) {
+                Err(fault) => return Ok(Going::Stops(Stop::Fault(fault))),
+                Ok((command, size)) => {
+                    match self.run_command(seat, area, command, size, progress) {
+                        Err(why) => return Err(why),
+                        Ok(Going::On) => {}
+                        Ok(Going::Stops(stop)) => return Ok(Going::Stops(stop)),
+                        Ok(Going::Refused(fault)) => return Ok(Going::Refused(fault)),
+                    }
+                }
+            }
+        }
+        Ok(Going::On)
     }
 
     /// Runs the commands of a stream of at most 4096 bytes, whose parcels are cut from the area.
@@ -214,19 +266,14 @@ impl Engine {
         ensures err { OnErr result (self.new ≡ self.old) }
         ensures away { IfErr result (IsTurnedAway self.old seat (Write stream.now area.now)) }
     {
-        let mut progress = Progress::new(self.alloc());
-        'commands: while (progress.consumed as usize) < stream.len() {
-            match progress.next(stream) {
-                Err(fault) => return Ok(progress.wrote(Some(Stop::Fault(fault)))),
-                Ok((command, size)) => {
-                    match self.run_command(seat, area, command, size, progress) {
-                        Err(why) => return Err(why),
-                        Ok(Course::Ends(answer)) => return Ok(answer),
-                        Ok(Course::GoesOn(next)) => progress = next,
-                    }
-                }
+        let mut progress = Progress::new(self.take_notes());
+        match self.run_each(seat, stream, area, &mut progress) {
+            Err(why) => Err(why),
+            Ok(going) => {
+                let answer = progress.answer(going);
+                self.keep_notes(progress.notes);
+                Ok(answer)
             }
         }
-        Ok(progress.wrote(None))
     }
 }
