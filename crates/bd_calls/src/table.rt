@@ -18,7 +18,7 @@ use bd_turns::TurnTable;
 use std::alloc::{AllocError, Global};
 
 // Room is made for so many of each at once, so that most steps find it there.
-const AHEAD: u32 = 64;
+const AHEAD: u32 = 32;
 
 /// The threads, the open calls, the work items and the one-way calls of a driver.
 #[derive(Drop)]

@@ -14,7 +14,7 @@ use bd_references::ReferenceTable;
 use std::alloc::{AllocError, Global};
 
 // Room is made for so many of each at once, so that most steps find it there.
-const AHEAD: usize = 64;
+const AHEAD: usize = 32;
 
 /// The objects of a space, with the references to them, their names and the death notifications on them.
 #[derive(Drop)]
