@@ -2,9 +2,9 @@
 //! One workload played so often by one engine, and nothing else, so that bench/count can count from outside what the
 //! engine takes for it.
 use crate::beside::{self, Kept};
-use crate::engines::{self, Engine, Library};
+use crate::engines::{self, Engine, HandedOver, Library};
 use crate::memory;
-use crate::settings::Counted;
+use crate::settings::{Counted, Counts};
 use crate::workloads::{self, Workload};
 use std::ffi::c_void;
 
@@ -27,20 +27,35 @@ mod c {
             answer: *mut c_void,
         ) -> u32;
         pub fn hullpippin_read(seat: *mut c_void, limit: u32, answer: *mut c_void) -> u32;
+        pub fn hullpippin_post(
+            seat: *mut c_void,
+            request: *const c_void,
+            stream: *const u8,
+            stream_size: usize,
+            area: *const u8,
+            area_size: usize,
+        ) -> u32;
+        pub fn hullpippin_serve(seat: *mut c_void, picked: *mut u32) -> u32;
+        pub fn hullpippin_collect(seat: *mut c_void, answer: *mut c_void) -> u32;
     }
 }
 
 /// What is counted, by the names that a tool finds it under: all of a request, and not how the bench looks at its answer.
-fn functions(beside: bool) -> Vec<(&'static str, *const c_void)> {
-    if beside {
-        return vec![(beside::ASKS, beside::asks())];
+fn functions(whose: Counts) -> Vec<(&'static str, *const c_void)> {
+    match whose {
+        Counts::Ours => vec![
+            ("hullpippin_open", c::hullpippin_open as *const c_void),
+            ("hullpippin_manager", c::hullpippin_manager as *const c_void),
+            ("hullpippin_write", c::hullpippin_write as *const c_void),
+            ("hullpippin_read", c::hullpippin_read as *const c_void),
+        ],
+        Counts::Handed => vec![
+            ("hullpippin_post", c::hullpippin_post as *const c_void),
+            ("hullpippin_serve", c::hullpippin_serve as *const c_void),
+            ("hullpippin_collect", c::hullpippin_collect as *const c_void),
+        ],
+        Counts::Beside => vec![(beside::ASKS, beside::asks())],
     }
-    vec![
-        ("hullpippin_open", c::hullpippin_open as *const c_void),
-        ("hullpippin_manager", c::hullpippin_manager as *const c_void),
-        ("hullpippin_write", c::hullpippin_write as *const c_void),
-        ("hullpippin_read", c::hullpippin_read as *const c_void),
-    ]
 }
 
 /// The workloads that are counted.
@@ -54,14 +69,15 @@ fn all() -> Vec<Workload> {
 /// of the history takes.
 pub fn play(words: &Counted) -> Result<(), String> {
     let found = all().into_iter().find(|it| it.journal == words.workload);
-    match (found, words.beside) {
+    match (found, words.whose) {
         (None, _) => {
             all().iter().for_each(|it| println!("{}\t{}\t{}", it.journal, it.name, it.body.0.len()));
             Ok(())
         }
-        (Some(_), true) if !beside::IS_THERE => Err("there is no engine beside".into()),
-        (Some(workload), true) => played::<Kept>(&workload, words),
-        (Some(workload), false) => played::<Library>(&workload, words),
+        (Some(_), Counts::Beside) if !beside::IS_THERE => Err("there is no engine beside".into()),
+        (Some(workload), Counts::Beside) => played::<Kept>(&workload, words),
+        (Some(workload), Counts::Ours) => played::<Library>(&workload, words),
+        (Some(workload), Counts::Handed) => played::<HandedOver>(&workload, words),
     }
 }
 
@@ -71,7 +87,7 @@ fn played<E: Engine>(workload: &Workload, words: &Counted) -> Result<(), String>
         println!("{}", figures.iter().sum::<f64>() / figures.len() as f64);
         return Ok(());
     }
-    functions(words.beside).into_iter().for_each(|(name, at)| println!("{name}\t{at:p}"));
+    functions(words.whose).into_iter().for_each(|(name, at)| println!("{name}\t{at:p}"));
     let mut engine = E::new(workload.seats);
     let mut slots = engines::slots([&workload.setup.0[..], &workload.body.0]);
     engines::play(&mut engine, &engines::formed::<E>(&workload.setup.0), &mut slots);

@@ -102,6 +102,13 @@ pub fn posted<'a>(ask: &'a Ask, free: &'a [u8]) -> Request<'a> {
     }
 }
 
+/// Makes a request that is handed over, served by the seat itself, and fetched.
+pub fn hand_over(seat: &mut Seat, ask: &Ask, buffer: u64) -> Told {
+    let free = commands::free(buffer);
+    let served = seat.post(posted(ask, &free)).and_then(|()| seat.serve());
+    told(served.and_then(|_| seat.collect()))
+}
+
 /// A journal of ours as it was spelled before there were reports of flooding, which nothing here asks for: as the other
 /// engines spell and read it.
 pub fn earlier(mut journal: Vec<u8>) -> Vec<u8> {
@@ -159,5 +166,37 @@ impl Engine for Library {
 
     fn journal(self) -> Vec<u8> {
         earlier(self.finish().journal().expect("a journal"))
+    }
+}
+
+/// The same, each of whose requests is handed over.
+pub struct HandedOver(Library);
+
+impl Engine for HandedOver {
+    type Form = Ask;
+
+    fn new(seats: u32) -> HandedOver {
+        HandedOver(Library::new(seats))
+    }
+
+    fn form(ask: &Ask) -> Ask {
+        ask.clone()
+    }
+
+    #[inline]
+    fn ask(&mut self, seat: u32, ask: &Ask, buffer: u64) -> Told {
+        hand_over(&mut self.0.seats[seat as usize], ask, buffer)
+    }
+
+    fn is_ready(&mut self, seat: u32) -> bool {
+        self.0.is_ready(seat)
+    }
+
+    fn steps(&mut self) -> u32 {
+        self.0.steps()
+    }
+
+    fn journal(self) -> Vec<u8> {
+        self.0.journal()
     }
 }

@@ -20,7 +20,7 @@ mod table;
 mod workloads;
 
 use beside::{ByMutex, ByRequests, BySteps};
-use engines::Library;
+use engines::{HandedOver, Library};
 use hullpippin::{Verdict, verdict_on};
 use settings::Settings;
 use sharing::{ByCall, ByPost, Shape};
@@ -58,6 +58,7 @@ fn checked() -> Result<usize, String> {
         expected::check::<ByRequests>().map_err(|why| format!("beside, {why}"))?;
         expected::check::<BySteps>().map_err(|why| format!("beside, by steps, {why}"))?;
     }
+    expected::check::<HandedOver>().map_err(|why| format!("handed over, {why}"))?;
     expected::check::<Library>()
 }
 

@@ -21,10 +21,20 @@ pub struct Settings {
     pub counted: Option<Counted>,
 }
 
+/// Whose engine is counted, and how it is asked.
+#[derive(Clone, Copy, PartialEq, Eq)]
+pub enum Counts {
+    /// Ours, by calls.
+    Ours,
+    /// Ours, by requests that are handed over.
+    Handed,
+    /// The engine beside.
+    Beside,
+}
+
 /// What is played to be counted.
 pub struct Counted {
-    /// The engine beside, and not ours.
-    pub beside: bool,
+    pub whose: Counts,
     /// The name of the workload's journal.
     pub workload: String,
     pub rounds: usize,
@@ -32,12 +42,13 @@ pub struct Counted {
 
 impl Counted {
     fn read(words: &mut impl Iterator<Item = String>) -> Option<Counted> {
-        let beside = match words.next()?.as_str() {
-            "ours" => false,
-            "beside" => true,
+        let whose = match words.next()?.as_str() {
+            "ours" => Counts::Ours,
+            "handed" => Counts::Handed,
+            "beside" => Counts::Beside,
             _ => return None,
         };
-        Some(Counted { beside, workload: words.next()?, rounds: words.next()?.parse().ok()? })
+        Some(Counted { whose, workload: words.next()?, rounds: words.next()?.parse().ok()? })
     }
 }
 
