@@ -4,6 +4,7 @@ ghost use Rattle.atomic_table.specs.Table.{rest};
 ghost use Rattle.bd_driver.specs.{Views.{view_of}, Rest.{is_waiting}, declared.view.Handover.TheVariants.{Open}};
 ghost use Rattle.bd_driver.specs.{declared.view.Pick.TheVariants.{Nothing}, declared.slot.Slot.TheVariants.{Empty}};
 
+use crate::boxed::BoxedEngine;
 use crate::driver::Driver;
 use crate::outcome::{Outcome, Why};
 use crate::page::{Page, taken_page};
@@ -11,7 +12,6 @@ use crate::plays::{Look, Publish, Put, Take};
 use crate::refusals::outcome_of;
 use crate::seat::{Seat, TableSeat};
 use crate::slot::Slot;
-use bd_engine::Engine;
 use bd_space::Request;
 
 impl Driver {
@@ -57,7 +57,7 @@ impl Driver {
     }
 
     // The engine, where the take finds bit 0 clear.
-    pub(crate) fn take(&self, table_seat: &mut TableSeat) -> Option<Engine>
+    pub(crate) fn take(&self, table_seat: &mut TableSeat) -> Option<BoxedEngine>
         requires table { table_seat.old.table_id ≡ self.now.table }
         requires one { table_seat.old.me.0 ≡ view_of table_seat.old.me.0 ∷ [] }
         requires idle { (view_of table_seat.old.me.0).taker ≡ false }
@@ -77,7 +77,7 @@ impl Driver {
     }
 
     // Publishes the engine's history, and puts the engine home.
-    pub(crate) fn give(&self, table_seat: &mut TableSeat, engine: Engine)
+    pub(crate) fn give(&self, table_seat: &mut TableSeat, engine: BoxedEngine)
         requires table { table_seat.old.table_id ≡ self.now.table }
         requires one { table_seat.old.me.0 ≡ view_of table_seat.old.me.0 ∷ [] }
         requires held { table_seat.old.me.1 ≡ (0, Empty) ∷ rest table_seat.old.me.1 }

@@ -35,9 +35,9 @@ fn shut(table: &DriverTable, seat: Seat) -> TableSeat
     let Seat {
         mut table_seat,
         number,
-        waiting,
+        envelope,
     } = seat;
-    if waiting {
+    if envelope.is_none() {
         return table_seat;
     }
     table

@@ -75,7 +75,7 @@ impl Driver {
         drain(&mut closed);
         closed.free();
         match slot {
-            Slot::Home(engine) => engine.into_record(),
+            Slot::Home(engine) => engine.open().into_record(),
             _ => Record {
                 seats: 0,
                 entries: Entries::new(Vec::new(alloc)),

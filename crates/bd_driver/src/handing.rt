@@ -22,9 +22,12 @@ impl Driver {
     {
         let shared = &self.table.shared;
         let word = seat.number as usize + 1;
-        shared.exchange(&mut seat.table_seat, word, Slot::Posted(request));
+        let Some(envelope) = seat.envelope.take() else {
+            unreachable!()
+        };
+        let posted = Slot::Posted(envelope.filled(request));
+        shared.exchange(&mut seat.table_seat, word, posted);
         shared.swap::<Post>(&mut seat.table_seat, word, 1);
-        seat.waiting = true;
     }
 
     /// Takes back what was handed over, if nobody has picked it.
@@ -44,10 +47,11 @@ impl Driver {
         if found != 1 {
             return Outcome::Handed;
         }
-        let Slot::Posted(request) = shared.exchange(&mut seat.table_seat, word, Slot::Empty) else {
+        let Slot::Posted(posted) = shared.exchange(&mut seat.table_seat, word, Slot::Empty) else {
             unreachable!()
         };
-        seat.waiting = false;
+        let (request, envelope) = posted.open();
+        seat.envelope = Some(envelope);
         Outcome::Back {
             request,
             why: Why::Withdrawn,
@@ -73,11 +77,12 @@ impl Driver {
         if found != 3 {
             return Outcome::Handed;
         }
-        let Slot::Answered(outcome) = shared.exchange(&mut seat.table_seat, word, Slot::Empty)
+        let Slot::Answered(answered) = shared.exchange(&mut seat.table_seat, word, Slot::Empty)
         else {
             unreachable!()
         };
-        seat.waiting = false;
+        let (outcome, envelope) = answered.open();
+        seat.envelope = Some(envelope);
         outcome
     }
 }

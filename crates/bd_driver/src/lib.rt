@@ -2,6 +2,7 @@
 //! call waits, and no call tries a step again.
 #![tactic(auto)]
 
+mod boxed;
 mod calls;
 mod closing;
 mod desk;

@@ -1,16 +1,16 @@
 //! A new driver, and its seats.
-ghost use Rattle.std.specs.Prelude.{◌≡◌, ◌+◌, ◌<◌, ◌≤◌, [], ◌∷◌, suc, All, IfOk, IfErr, vec_len, vec_capacity, replicate};
+ghost use Rattle.std.specs.Prelude.{◌≡◌, ◌+◌, ◌<◌, ◌≤◌, [], ◌∷◌, suc, All, IfOk, IfErr, OnOk, vec_len, vec_capacity, replicate};
 ghost use Rattle.bd_uapi.specs.Limits.{IsSeats};
 ghost use Rattle.bd_driver.specs.{Views.{fresh, seated, newcomers}, Together.{seat_state, new_seats}};
 ghost use Rattle.bd_driver.specs.declared.slot.Slot.TheVariants.{Home, Empty};
 
+use crate::boxed::{BoxedEngine, Envelope};
 use crate::driver::{Driver, DriverTable};
 use crate::page::taken_page;
 use crate::plays::{Deal, Open};
 use crate::seat::{Seat, TableSeat};
 use crate::slot::Slot;
 use atomic_table::Table;
-use bd_engine::Engine;
 use bd_uapi::{Fault, MOST_SEATS};
 use std::alloc::{AllocError, Global};
 
@@ -33,7 +33,7 @@ impl Driver {
         let Ok(mut dealt) = Vec::with_capacity(alloc, seats as usize) else {
             return Err(Fault::NoMemory);
         };
-        let Ok(engine) = Engine::for_seats(alloc, seats) else {
+        let Ok(engine) = BoxedEngine::for_seats(alloc, seats) else {
             return Err(Fault::NoMemory);
         };
         let page = taken_page(&engine) - 1;
@@ -46,7 +46,9 @@ impl Driver {
         let Ok((table, mut keeper)) = Table::new(alloc, words.as_slice(), slots, &seats) else {
             return Err(Fault::NoMemory);
         };
-        deal(&table, &mut keeper, &mut dealt, seats);
+        let Ok(()) = deal(alloc, &table, &mut keeper, &mut dealt, seats) else {
+            return Err(Fault::NoMemory);
+        };
         Ok((Driver { table, alloc }, dealt))
     }
 }
@@ -65,7 +67,7 @@ fn lay_words(alloc: Global, page: u64, seats: usize) -> Result<Vec<u64>, AllocEr
 }
 
 // The engine, and an empty slot for each seat.
-fn lay_slots(alloc: Global, engine: Engine, seats: usize) -> Result<Vec<Slot>, AllocError>
+fn lay_slots(alloc: Global, engine: BoxedEngine, seats: usize) -> Result<Vec<Slot>, AllocError>
     requires { seats < 32 }
     ensures { IfOk result (λ v. v.items ≡ Home engine ∷ replicate seats Empty) }
 {
@@ -77,25 +79,39 @@ fn lay_slots(alloc: Global, engine: Engine, seats: usize) -> Result<Vec<Slot>, A
     Ok(slots)
 }
 
-// Each seat gets its view, and its mailbox's slot.
-fn deal(table: &DriverTable, keeper: &mut TableSeat, dealt: &mut Vec<Seat>, seats: u32)
+// Each seat gets its view, its mailbox's slot, and the box of what it hands over.
+fn deal(
+    alloc: Global,
+    table: &DriverTable,
+    keeper: &mut TableSeat,
+    dealt: &mut Vec<Seat>,
+    seats: u32,
+) -> Result<(), AllocError>
     requires table { keeper.old.table_id ≡ table.now.shared.table_id }
     requires wide { table.now.shared.table_id.words ≡ suc seats }
     requires key { table.now.shared.key ≡ seats }
     requires keeper { keeper.old.me ≡ (newcomers seats 0 seats, []) }
     requires dealt { dealt.old.items ≡ [] }
     requires room { vec_len dealt.old + seats ≤ vec_capacity dealt.old }
-    ensures keeper { (keeper.new.table_id ≡ keeper.old.table_id) × (keeper.new.me ≡ ([], [])) }
-    ensures dealt { dealt.new.items ≡ new_seats table.now.shared.table_id seats 0 seats }
+    ensures keeper { OnOk result ((keeper.new.table_id ≡ keeper.old.table_id) × (keeper.new.me ≡ ([], []))) }
+    ensures dealt { OnOk result (dealt.new.items ≡ new_seats table.now.shared.table_id seats 0 seats) }
 {
     for number in 0..seats {
+        let envelope = Envelope::new(alloc)?;
         let table_seat = table.shared.split_seat::<Deal>(keeper);
-        dealt.push_reserved(open(table, table_seat, number, seats));
+        dealt.push_reserved(open(table, table_seat, number, seats, envelope));
     }
+    Ok(())
 }
 
 // A seat takes its own mailbox's slot.
-fn open(table: &DriverTable, mut table_seat: TableSeat, number: u32, seats: u32) -> Seat
+fn open(
+    table: &DriverTable,
+    mut table_seat: TableSeat,
+    number: u32,
+    seats: u32,
+    envelope: Envelope,
+) -> Seat
     requires table { table_seat.table_id ≡ table.now.shared.table_id }
     requires wide { table.now.shared.table_id.words ≡ suc seats }
     requires number { number < seats }
@@ -108,6 +124,6 @@ fn open(table: &DriverTable, mut table_seat: TableSeat, number: u32, seats: u32)
     Seat {
         table_seat,
         number,
-        waiting: false,
+        envelope: Some(envelope),
     }
 }

@@ -2,7 +2,7 @@
 ghost use Rattle.std.specs.Prelude.{◌≡◌, ◌==◌, ◌<◌, ◌/◌, ◌%◌, length};
 ghost use Rattle.bd_driver.specs.{Views.{ready_of}, Words.{page_word}};
 
-use bd_engine::Engine;
+use crate::boxed::BoxedEngine;
 
 /// A page as one look found it.
 #[derive(Clone, Copy, Debug, PartialEq, Eq)]
@@ -31,10 +31,11 @@ impl Page {
 }
 
 /// The word of the page of an engine's history, while the engine is taken.
-pub(crate) fn taken_page(engine: &Engine) -> u64
+pub(crate) fn taken_page(engine: &BoxedEngine) -> u64
     ensures page { result ≡ page_word engine.now.seats 1 engine.now.entries }
     ensures length { length engine.now.entries < 4294967296 }
     ensures bits { ready_of engine.now.seats engine.now.entries < 2147483648 }
 {
+    let engine = engine.get();
     1 + 2 * engine.ready() as u64 + 4294967296 * engine.len() as u64
 }

@@ -4,15 +4,13 @@ ghost use Rattle.atomic_table.specs.Table.{rest};
 ghost use Rattle.bd_driver.specs.{Views.{view_of}, declared.view.Pick.TheVariants.{Nothing}};
 ghost use Rattle.bd_driver.specs.declared.slot.Slot.TheVariants.{Empty};
 
+use crate::boxed::{BoxedEngine, BoxedOutcome, BoxedRequest};
 use crate::driver::Driver;
-use crate::outcome::{Outcome, Served};
+use crate::outcome::Served;
 use crate::page::taken_page;
 use crate::plays::{AnswerPick, Pick, PublishFor, Put};
-use crate::refusals::outcome_of;
 use crate::seat::{Seat, TableSeat};
 use crate::slot::Slot;
-use bd_engine::Engine;
-use bd_space::Request;
 
 impl Driver {
     ghost use Rattle.bd_driver.specs.Served.{Serves};
@@ -43,9 +41,9 @@ impl Driver {
     fn serve_all(
         &self,
         table_seat: &mut TableSeat,
-        mut engine: Engine,
+        mut engine: BoxedEngine,
         seats: usize,
-    ) -> (Engine, u32)
+    ) -> (BoxedEngine, u32)
         requires table { table_seat.old.table_id ≡ self.now.table }
         requires wide { table_seat.old.table_id.words ≡ suc seats }
         requires few { seats < 32 }
@@ -69,9 +67,9 @@ impl Driver {
     pub(crate) fn serve_one(
         &self,
         table_seat: &mut TableSeat,
-        engine: Engine,
+        engine: BoxedEngine,
         number: u32,
-    ) -> (Engine, bool)
+    ) -> (BoxedEngine, bool)
         requires table { table_seat.old.table_id ≡ self.now.table }
         requires wide { table_seat.old.table_id.words ≡ suc engine.seats }
         requires serving { Serving table_seat.old.me engine }
@@ -92,10 +90,10 @@ impl Driver {
     pub(crate) fn run_picked(
         &self,
         table_seat: &mut TableSeat,
-        mut engine: Engine,
+        mut engine: BoxedEngine,
         number: u32,
-        request: Request,
-    ) -> Engine
+        request: BoxedRequest,
+    ) -> BoxedEngine
         requires table { table_seat.old.table_id ≡ self.now.table }
         requires wide { table_seat.old.table_id.words ≡ suc engine.seats }
         requires number { number < engine.seats }
@@ -104,14 +102,14 @@ impl Driver {
         ensures serving { Serving table_seat.new.me result × (result.seats ≡ engine.seats) }
         ensures ran { RanPicked table_seat.old.me number request table_seat.new.me }
     {
-        let ran = engine.run(number, &request);
+        let ran = engine.run(number, request.get());
         let engine = self.publish_for(table_seat, engine, number);
-        self.answer(table_seat, number, outcome_of(ran, request));
+        self.answer(table_seat, number, request.answered(ran));
         engine
     }
 
     // Picks a mailbox, if it is posted.
-    pub(crate) fn pick(&self, table_seat: &mut TableSeat, number: u32) -> Option<Request>
+    pub(crate) fn pick(&self, table_seat: &mut TableSeat, number: u32) -> Option<BoxedRequest>
         requires table { table_seat.old.table_id ≡ self.now.table }
         requires wide { number + 1 < table_seat.old.table_id.words }
         requires one { table_seat.old.me.0 ≡ view_of table_seat.old.me.0 ∷ [] }
@@ -136,9 +134,9 @@ impl Driver {
     pub(crate) fn publish_for(
         &self,
         table_seat: &mut TableSeat,
-        engine: Engine,
+        engine: BoxedEngine,
         number: u32,
-    ) -> Engine
+    ) -> BoxedEngine
         requires table { table_seat.old.table_id ≡ self.now.table }
         requires wide { 0 < table_seat.old.table_id.words }
         requires held { table_seat.old.me
@@ -165,7 +163,7 @@ impl Driver {
     }
 
     // Answers what was picked.
-    pub(crate) fn answer(&self, table_seat: &mut TableSeat, number: u32, told: Outcome)
+    pub(crate) fn answer(&self, table_seat: &mut TableSeat, number: u32, told: BoxedOutcome)
         requires table { table_seat.old.table_id ≡ self.now.table }
         requires wide { number + 1 < table_seat.old.table_id.words }
         requires held { table_seat.old.me
@@ -183,7 +181,7 @@ impl Driver {
     }
 
     // Puts the engine home with nothing new.
-    pub(crate) fn put_home(&self, table_seat: &mut TableSeat, engine: Engine)
+    pub(crate) fn put_home(&self, table_seat: &mut TableSeat, engine: BoxedEngine)
         requires table { table_seat.old.table_id ≡ self.now.table }
         requires wide { 0 < table_seat.old.table_id.words }
         requires serving { Serving table_seat.old.me engine }

@@ -181,7 +181,7 @@ fn stops_midway(
     let Seat {
         mut table_seat,
         number,
-        waiting,
+        envelope,
     } = server;
     let engine = driver.take(&mut table_seat)?;
     let request = driver.pick(&mut table_seat, 0)?;
@@ -191,7 +191,7 @@ fn stops_midway(
     let server = Seat {
         table_seat,
         number,
-        waiting,
+        envelope,
     };
     Some((server, is_so))
 }

@@ -1,6 +1,7 @@
 use Rattle.std.proofs.Common.{rules, ◌≡◌, ◌+◌, ◌∷◌, sym, ap, ◌∙◌, subst}
 use Rattle.atomic_table.specs.Table.{rest}
 use Rattle.bd_driver.specs.declared.view.View.{View}
+use Rattle.bd_driver.specs.declared.outcome.Outcome.{Outcome}
 use Rattle.bd_driver.specs.declared.slot.Slot.{Slot}
 use Rattle.bd_driver.specs.declared.slot.Slot.TheVariants.{Answered}
 use Rattle.bd_driver.specs.Views.{view_of}
@@ -28,9 +29,9 @@ returns-clause-collects c =
     let hit = c.compare_exchange-found.ensures.2.1 found in
     let slots = ap (λ (m : Hands). m.1) hit.7 in
     let told = sym slots ∙ (c.exchange.ensures.2 ∙ ap (λ (s : Slot). (c.seat.inside.number + 1, s) ∷ rest c.compare_exchange-found.new.seat.me.1) c.in-Answered.is) in
-    let same : hit.3 ≡ c.in-Answered.outcome = ap outcome_in told in
-    let new : view_of c.exchange.new.seat.me.0 ≡ collected_at v 3 hit.0 c.in-Answered.outcome =
+    let same : hit.3 ≡ c.in-Answered.answered = ap outcome_in told in
+    let new : view_of c.exchange.new.seat.me.0 ≡ collected_at v 3 hit.0 c.in-Answered.answered =
     ap (λ (m : Hands). view_of m.0) c.exchange.ensures.3 ∙ (ap (λ (m : Hands). view_of m.0) hit.7 ∙ (λ i. collected_at v (found i) hit.0 (same i))) in
     let old : v ≡ c.args.seat.now.view = ap (λ (s : SeatState). s.view) c.seat.view_is in
-    subst (λ (x : View). Collects x (view_of c.exchange.new.seat.me.0) c.in-Answered.outcome) old
-    (told_collects v _ c.in-Answered.outcome hit.0 hit.1 hit.2 hit.4 hit.5 (subst (IsTold v.seats hit.0 v.who hit.1 hit.2) same hit.6) new)
+    subst (λ (x : View × Outcome). Collects x.0 (view_of c.exchange.new.seat.me.0) x.1) (λ i. (old i, sym c.open-outcome.ensures i))
+    (told_collects v _ c.in-Answered.answered hit.0 hit.1 hit.2 hit.4 hit.5 (subst (IsTold v.seats hit.0 v.who hit.1 hit.2) same hit.6) new)

@@ -1,4 +1,5 @@
-use Rattle.std.proofs.Common.{◌≡◌, [], rules, ap}
+use Rattle.std.proofs.Common.{◌≡◌, [], rules, ap, ◌∙◌}
+use Rattle.bd_space.specs.Histories.{History}
 use Rattle.bd_driver.specs.States.{DriverState}
 use Rattle.bd_driver.specs.Steps.{Hands}
 use Rattle.bd_driver.proofs.Deals.{enters}
@@ -14,7 +15,7 @@ returns-in-Home c = record {
       let key = ap (λ (d : DriverState). d.seats) c.self.view_is in
       let vs = ap (λ (m : Hands). m.0) c.gather.ensures.keeper.1 in
       let h = ends_at _ _ _ _ c.args.seats.items _ _ _ key vs c.close_with-closed.ensures.values.2 c.in-Home.ensures.value c.gather.ensures.idle all in
-      final_record c.args.self.seats c.args.seats.items c.in-Home.engine _ _ h (c.into_record.ensures.seats, c.into_record.ensures.entries) c.into_record.ensures.lawful;
+      final_record c.args.self.seats c.args.seats.items c.in-Home.engine _ _ h (c.into_record.ensures.seats ∙ ap (λ (e : History). e.seats) c.open.ensures, c.into_record.ensures.entries ∙ ap (λ (e : History). e.entries) c.open.ensures) c.into_record.ensures.lawful;
   lawful = c.into_record.ensures.lawful;
 }
 

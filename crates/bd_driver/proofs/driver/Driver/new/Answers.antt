@@ -22,4 +22,4 @@ new-requires c =
     (opens c.args.seats _ c.in-Ok-for_seats.engine stands page bits)
 
 pub returns-clause-own : goal.returns-clause-own
-returns-clause-own c = own_all _ _ _ c.deal.ensures.dealt
+returns-clause-own c = own_all _ _ _ c.in-Ok-deal.ensures.dealt

@@ -1,5 +1,7 @@
-use Rattle.std.proofs.Common.{rules, refl, sym, ap, ◌∙◌, subst, true}
+use Rattle.std.proofs.Common.{rules, refl, sym, ap, ◌∙◌, subst, Bool}
+use Rattle.std.specs.Prelude.{is_none}
 use Rattle.atomic_table.specs.Seated.{TableId}
+use Rattle.bd_space.specs.declared.step.Request.{Request}
 use Rattle.bd_driver.specs.declared.view.View.{View}
 use Rattle.bd_driver.specs.Views.{view_of}
 use Rattle.bd_driver.specs.States.{SeatState}
@@ -12,20 +14,20 @@ use Rattle.bd_driver.proofs.driver.Driver.post.Goals as goal
 pub swap-requires : goal.swap-requires
 swap-requires c =
     let free = ap (λ (s : SeatState). is_waiting s.view.handover) c.seat.view_is ∙ c.requires.free in
-    (search rules, search rules, posts_at _ _ _ _ c.seat.inside.table_seat.me _ _ _ c.args.request c.seat.invariant free c.exchange.ensures.3)
+    (search rules, search rules, posts_at _ _ _ _ c.seat.inside.table_seat.me _ _ _ c.filled.result c.seat.invariant free c.exchange.ensures.3)
 
 pub invariant_of-seat : goal.invariant_of-seat
 invariant_of-seat c =
     let me = c.seat.inside.table_seat.me in
     let free = ap (λ (s : SeatState). is_waiting s.view.handover) c.seat.view_is ∙ c.requires.free in
-    let then = after_post 0 _ _ me _ _ _ _ c.args.request c.seat.invariant free c.exchange.ensures.3 c.swap.ensures.2 in
+    let then = after_post 0 _ _ me _ _ _ _ c.filled.result c.seat.invariant free c.exchange.ensures.3 c.swap.ensures.2 in
     let table = c.swap.ensures.0 ∙ c.exchange.ensures.0 in
-    subst (λ (z : TableId). IsAtRest z.words c.swap.new.seat.me c.seat.inside.number true) (sym table) (posted_rests _ _ me _ _ _ c.args.request c.seat.invariant then)
+    subst (λ (z : TableId × Bool). IsAtRest z.0.words c.swap.new.seat.me c.seat.inside.number z.1) (λ i. (sym table i, sym (ap is_none c.take.ensures.after) i)) (posted_rests _ _ me _ _ _ c.filled.result c.seat.invariant then)
 
 pub returns-clause-posts : goal.returns-clause-posts
 returns-clause-posts c =
     let me = c.seat.inside.table_seat.me in
     let old = ap (λ (s : SeatState). s.view) c.seat.view_is in
     let free = ap (λ (v : View). is_waiting v.handover) old ∙ c.requires.free in
-    let new = ap (λ (m : Hands). view_of m.0) (after_post 0 _ _ me _ _ _ _ c.args.request c.seat.invariant free c.exchange.ensures.3 c.swap.ensures.2) in
-    subst (λ (v : View). Posts v (view_of c.swap.new.seat.me.0) c.args.request) old (subst (λ (w : View). Posts (view_of me.0) w c.args.request) (sym new) refl)
+    let new = ap (λ (m : Hands). view_of m.0) (after_post 0 _ _ me _ _ _ _ c.filled.result c.seat.invariant free c.exchange.ensures.3 c.swap.ensures.2) in
+    subst (λ (x : View × Request). Posts x.0 (view_of c.swap.new.seat.me.0) x.1) (λ i. (old i, c.filled.ensures i)) (subst (λ (w : View). Posts (view_of me.0) w c.filled.result) (sym new) refl)
