@@ -223,23 +223,37 @@ void log_event(const char *format, ...) __attribute__((format(printf, 1, 2)));
 /* A line that is always shown. */
 void log_line(const char *format, ...) __attribute__((format(printf, 1, 2)));
 
+/* --- recorder.c: a file that a thread of its own writes. --- */
+
+struct recorder;
+
+/* Writes a file anew, which begins with these bytes. NULL where it can't, which is told. The path is the caller's, and stays. */
+struct recorder *recorder_begin(const char *path, const void *front, size_t size);
+/* The bytes will be in the file behind all before them, a second later at most. False where the recording has broken off, which is
+   told: then nothing may be appended any more. */
+bool recorder_append(struct recorder *recorder, const uint8_t *bytes, size_t size);
+/* It breaks off here, since what follows can't be had. */
+void recorder_break_off(struct recorder *recorder, const char *why);
+/* Waits until all is written, while the disk takes something, puts these bytes in the place of the first, and closes the file.
+   Whether all of it is there. */
+bool recorder_end(struct recorder *recorder, const void *front, size_t size);
+
 /* --- journal.c: the file that an engine's entries go to. --- */
 
 struct journal {
-    FILE *file; /* NULL: there is none, or it has failed */
+    struct recorder *recorder; /* NULL: there is no journal */
     const char *path;
     uint8_t *entry;
     size_t room;
-    bool is_dirty;
+    bool has_broken_off;
 };
 
 /* Closed it has to be in either case. */
 bool journal_open(struct journal *journal, const char *path, hullpippin_live *live);
-/* Appends the latest step's entry. A journal that can't have it is given up: its file is no journal. */
+/* Appends the latest step's entry. A journal that can't have it breaks off there, and has no more. */
 void journal_append(struct journal *journal, hullpippin_live *live);
-void journal_flush(struct journal *journal);
-/* Puts the number of entries right, and closes the file. */
-void journal_close(struct journal *journal, hullpippin_live *live);
+/* Puts the number of entries right, and closes the file. Whether it has all of them. */
+bool journal_close(struct journal *journal, hullpippin_live *live);
 
 /* --- tickets.c: descriptors of parcels that nobody has read yet. --- */
 

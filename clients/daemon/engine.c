@@ -59,7 +59,8 @@ static void tell_counts(struct engine *engine)
 
 void engine_conclude(struct engine *engine)
 {
-    journal_close(&engine->journal, &engine->live);
+    if (!journal_close(&engine->journal, &engine->live))
+        engine->daemon->has_failed = true;
     tell_counts(engine);
     hullpippin_free_live(&engine->live);
 }

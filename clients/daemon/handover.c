@@ -84,7 +84,6 @@ static bool idle(void *context)
 {
     struct engine *engine = context;
     seats_regain(engine);
-    journal_flush(&engine->journal);
     seats_refuse(engine);
     give_memory_back(engine);
     return engine->lost_count > 0;

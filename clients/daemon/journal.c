@@ -1,47 +1,33 @@
 /* SPDX-License-Identifier: Apache-2.0 OR MIT */
 /*
- * journal.c: the file that an engine's entries go to. It begins with the heading of more entries than there ever are,
- * so that nobody takes a file that was cut off for a journal; the right number is put there at the end.
+ * journal.c: the file that an engine's entries go to (recorder.c). It begins with the heading of more entries than there ever
+ * are, so that nobody takes a file that was cut off for a journal; the right number is put there at the end.
  */
 #include "daemon.h"
 
-#include <errno.h>
 #include <stdlib.h>
-#include <string.h>
 
 #define FIRST_ROOM 4096u
-#define FILE_BUFFER (1u << 20)
+#define HEADING_ROOM 32u
 
-static void give_up(struct journal *journal, const char *why)
+/* The heading of so many entries: its size, or 0 where there is none. */
+static size_t spell_heading(hullpippin_live *live, uint32_t count, uint8_t *heading)
 {
-    log_line("%s is no journal: %s", journal->path, why);
-    fclose(journal->file);
-    journal->file = NULL;
-}
-
-/* Writes the heading of so many entries where the file stands. */
-static bool write_heading(struct journal *journal, hullpippin_live *live, uint32_t count)
-{
-    uint8_t heading[16];
     size_t size = 0;
-    return hullpippin_live_heading(live, count, heading, sizeof heading, &size) == HULLPIPPIN_DONE
-           && size <= sizeof heading && fwrite(heading, 1, size, journal->file) == size;
+    bool is_there = hullpippin_live_heading(live, count, heading, HEADING_ROOM, &size) == HULLPIPPIN_DONE && size <= HEADING_ROOM;
+    return is_there ? size : 0;
 }
 
 bool journal_open(struct journal *journal, const char *path, hullpippin_live *live)
 {
+    uint8_t heading[HEADING_ROOM];
+    size_t size = spell_heading(live, UINT32_MAX, heading);
     *journal = (struct journal){.path = path, .room = FIRST_ROOM, .entry = malloc(FIRST_ROOM)};
-    journal->file = journal->entry ? fopen(path, "wbe") : NULL;
-    if (!journal->file) {
-        log_line("%s: %s", path, strerror(errno));
-        return false;
-    }
-    setvbuf(journal->file, NULL, _IOFBF, FILE_BUFFER);
-    if (!write_heading(journal, live, UINT32_MAX) || fflush(journal->file)) {
-        give_up(journal, "its heading can't be written");
-        return false;
-    }
-    return true;
+    if (size && journal->entry)
+        journal->recorder = recorder_begin(path, heading, size);
+    else
+        log_line("%s: no memory for its heading", path);
+    return journal->recorder != NULL;
 }
 
 /* Makes room for so many bytes of an entry. */
@@ -55,45 +41,41 @@ static bool grow(struct journal *journal, size_t size)
     return true;
 }
 
-void journal_append(struct journal *journal, hullpippin_live *live)
+/* Fetches the latest step's entry: its size, or 0 where it can't be had. */
+static size_t fetch(struct journal *journal, hullpippin_live *live)
 {
-    if (!journal->file)
-        return;
     size_t size = 0;
     uint32_t status = hullpippin_live_entry(live, journal->entry, journal->room, &size);
-    if (status == HULLPIPPIN_DONE && size > journal->room) {
-        if (!grow(journal, size))
-            return give_up(journal, "no memory for an entry");
-        status = hullpippin_live_entry(live, journal->entry, journal->room, &size);
-    }
-    if (status != HULLPIPPIN_DONE)
-        return give_up(journal, status == HULLPIPPIN_NO_MEMORY ? "no memory for an entry" : "an entry has no spelling");
-    if (fwrite(journal->entry, 1, size, journal->file) != size)
-        return give_up(journal, strerror(errno));
-    journal->is_dirty = true;
+    if (status == HULLPIPPIN_DONE && size > journal->room)
+        status = grow(journal, size) ? hullpippin_live_entry(live, journal->entry, journal->room, &size) : HULLPIPPIN_NO_MEMORY;
+    if (status == HULLPIPPIN_DONE)
+        return size;
+    recorder_break_off(journal->recorder, status == HULLPIPPIN_NO_MEMORY ? "no memory for an entry" : "an entry has no spelling");
+    return 0;
 }
 
-void journal_flush(struct journal *journal)
+void journal_append(struct journal *journal, hullpippin_live *live)
 {
-    if (!journal->file || !journal->is_dirty)
+    if (!journal->recorder || journal->has_broken_off)
         return;
-    journal->is_dirty = false;
-    if (fflush(journal->file))
-        give_up(journal, strerror(errno));
+    size_t size = fetch(journal, live);
+    journal->has_broken_off = !size || !recorder_append(journal->recorder, journal->entry, size);
 }
 
-void journal_close(struct journal *journal, hullpippin_live *live)
+bool journal_close(struct journal *journal, hullpippin_live *live)
 {
-    if (journal->file) {
+    bool is_whole = true;
+    if (journal->recorder) {
+        uint8_t heading[HEADING_ROOM];
         uint32_t count = hullpippin_live_len(live);
-        if (fflush(journal->file) || fseeko(journal->file, 0, SEEK_SET) || !write_heading(journal, live, count)
-            || fflush(journal->file)) {
-            give_up(journal, strerror(errno));
-        } else {
+        size_t size = spell_heading(live, count, heading);
+        is_whole = recorder_end(journal->recorder, heading, size) && size;
+        if (is_whole)
             log_line("%s: %u entries", journal->path, count);
-            fclose(journal->file);
-        }
+        else if (!size)
+            log_line("%s: no memory for its heading; `bplay mend` puts it right", journal->path);
     }
     free(journal->entry);
     *journal = (struct journal){0};
+    return is_whole;
 }

@@ -121,6 +121,7 @@ static bool watch_signals(struct daemon *daemon)
     sigaddset(&set, SIGTERM);
     sigaddset(&set, SIGINT);
     signal(SIGPIPE, SIG_IGN);
+    signal(SIGXFSZ, SIG_IGN); /* a journal that may grow no more breaks off */
     if (sigprocmask(SIG_BLOCK, &set, NULL))
         return false;
     daemon->signals = (struct watch){.fd = signalfd(-1, &set, SFD_CLOEXEC | SFD_NONBLOCK), .ready = signal_ready};

@@ -1,0 +1,223 @@
+# SPDX-License-Identifier: Apache-2.0 OR MIT
+"""What one can rely on in a recording: when it is in its file, and what kills and slow or full disks do to it."""
+import collections
+import fcntl
+import os
+import random
+import re
+import resource
+import shutil
+import signal
+import struct
+import subprocess
+import tempfile
+import threading
+import time
+from contextlib import contextmanager
+
+from raw_tests import DEVICE
+from stage import Stage, expect, tail
+from suite import test
+
+# seconds after which a step is in the file, as the daemon promises, and so long before a kill was answered what surely is there
+IN_TIME, SURELY = 1, 2
+# seconds of load before a kill, and the longest that looking at what it leaves may take
+LONGEST, PATIENCE = 5, 300
+# a note of raw/marked: when it was answered, by the clock of time.monotonic, its number, and how often its mark is there then
+NOTE = struct.Struct("=QII")
+MARK = re.compile(rb"mark (\d\d) (\d{9})\.")
+# a load of 150 MB of history: more than the daemon keeps for a disk that is slow
+HEAVY = ["latency", "200", "262144"]
+# the bytes of a file on the full disk, and those that a slow disk takes each time, and in which seconds
+FULL, SLOW, EACH = 8 << 20, 1 << 20, 0.02
+# the end of a daemon whose disk takes nothing, in seconds
+STUCK_END = 20
+
+
+def entries(build, path):
+    """How many entries the player finds in a journal that broke off, which has to be lawful."""
+    done = subprocess.run([build.judge, "check", "--cut", path], capture_output=True, text=True, timeout=PATIENCE)
+    found = re.match(r"lawful (\d+), then \d+ bytes of no entry", done.stdout)
+    expect(done.returncode == 0 and found, f"what is there: {tail(done.stdout + done.stderr)}")
+    return int(found[1])
+
+
+def mended(build, path):
+    """What is whole of it as a journal, which has to be lawful: its path, and how many entries it has."""
+    whole, count = f"{path}.whole", entries(build, path)
+    done = subprocess.run([build.judge, "mend", path, whole], capture_output=True, text=True, timeout=PATIENCE)
+    expect(done.returncode == 0 and done.stdout.startswith(f"mended {count},"), f"mend: {tail(done.stdout + done.stderr)}")
+    done = subprocess.run([build.judge, "check", whole], capture_output=True, text=True, timeout=PATIENCE)
+    expect(done.returncode == 0 and done.stdout.split() == ["lawful", str(count)], f"mended: {tail(done.stdout + done.stderr)}")
+    return whole, count
+
+
+def sure_marks(folder, until):
+    """The marks of all calls that were answered until then, each with how often it has to be there."""
+    for name in os.listdir(folder):
+        with open(f"{folder}/{name}", "rb") as file:
+            notes = file.read()
+        for nanoseconds, number, times in NOTE.iter_unpack(notes[:len(notes) // NOTE.size * NOTE.size]):
+            if nanoseconds < until * 1e9:
+                yield (name.encode(), b"%09d" % number), times
+
+
+def kill_once(build, seconds):
+    """A daemon is killed after so many seconds of load: how many entries there are, and how many calls were surely answered."""
+    with Stage(build, journal=DEVICE) as stage:
+        folder = f"{stage.folder}/marks"
+        os.mkdir(folder)
+        load = stage.start([build.raw("marked"), folder]).wait_for("ready", 30)
+        time.sleep(seconds)
+        expect(load.runs(), f"the load ended: {tail(load.printed())}")
+        killed = time.monotonic()
+        stage.daemon.kill()
+        load.kill()
+        whole, count = mended(build, stage.journal)
+        with open(whole, "rb") as file:
+            there = collections.Counter(MARK.findall(file.read()))
+        sure = dict(sure_marks(folder, killed - SURELY))
+        lost = [mark for mark, times in sure.items() if there[mark] < times]
+        stage.clear()
+    expect(not lost, f"of {len(sure)} calls answered {SURELY} s before the kill {len(lost)} aren't there: {lost[:3]}")
+    expect(count >= sum(sure.values()), f"{count} entries for {len(sure)} calls")
+    return count, len(sure)
+
+
+@test("raw killed recordings")
+def killed_recordings(build):
+    """A daemon that is killed under load, at any moment, leaves a lawful recording, with all that was answered before."""
+    chance = random.Random(build.seed)
+    found = [kill_once(build, chance.uniform(0, LONGEST)) for _ in range(build.kills)]
+    counts, sure = zip(*found)
+    expect(sum(sure) > 0, "no call was answered in time")
+    return f"{build.kills} killed: {min(counts)} to {max(counts)} entries, lawful, with all {sum(sure)} calls that had to be there"
+
+
+def steps_of(stage):
+    """How many steps of the device a daemon that has ended tells of."""
+    return int(re.search(rf"{DEVICE}: (\d+) steps", stage.daemon.printed())[1])
+
+
+@test("raw recorded in time")
+def recorded_in_time(build):
+    """What was done is in the file a second later, whether little follows or nothing."""
+    with Stage(build, journal=DEVICE) as stage:
+        begin = time.monotonic()
+        while time.monotonic() < begin + IN_TIME + 0.5:
+            stage.run([build.raw("nested")])
+            time.sleep(0.05)
+        meanwhile = f"{stage.folder}/meanwhile"
+        shutil.copy(stage.journal, meanwhile)
+        early = entries(build, meanwhile)
+        expect(early > 0, "nothing is there while steps are made")
+        time.sleep(IN_TIME)
+        shutil.copy(stage.journal, meanwhile)
+        found = entries(build, meanwhile)
+        stage.end_daemon()
+        expect(found == steps_of(stage), f"{found} of {steps_of(stage)} steps are there after {IN_TIME} s")
+        expect(stage.entries == found, f"{stage.entries} entries in the end, {found} before")
+    return f"{early} entries while steps were made, all {found} after {IN_TIME} s"
+
+
+@contextmanager
+def into_pipe(build):
+    """A daemon that records into a pipe, which takes what is read: the stage, and the end to be read."""
+    with tempfile.TemporaryDirectory(prefix="hullpippin-pipe-") as folder:
+        path = f"{folder}/pipe"
+        os.mkfifo(path)
+        end = os.open(path, os.O_RDONLY | os.O_NONBLOCK)
+        os.set_blocking(end, True)
+        fcntl.fcntl(end, fcntl.F_SETPIPE_SZ, SLOW)  # else each 64 KiB wait for both sides to have a processor
+        try:
+            with Stage(build, words=["--journal", f"{DEVICE}={path}"]) as stage:
+                yield stage, end
+        finally:
+            os.close(end)
+
+
+class Reader(threading.Thread):
+    """Reads a pipe to its end, into a file, and takes its time."""
+
+    def __init__(self, end, path, pause):
+        super().__init__(daemon=True)
+        self.end, self.path, self.pause = end, path, pause
+        self.start()
+
+    def run(self):
+        with open(self.path, "wb") as file:
+            while bytes_read := self.read_some():
+                file.write(bytes_read)
+                time.sleep(self.pause)
+
+    def read_some(self):
+        """As many bytes as a slow disk takes at once, or the last ones."""
+        some = b""
+        while len(some) < SLOW and (more := os.read(self.end, SLOW - len(some))):
+            some += more
+        return some
+
+
+def end_with(stage, status, seconds=30):
+    """The daemon is asked to end, and does, with a status: what it has told."""
+    stage.is_over = True
+    os.kill(stage.daemon.pid, signal.SIGTERM)
+    return stage.daemon.finish(seconds, (status,))
+
+
+def broke_off_once(said, why):
+    is_told = said.count("broke off: ") == 1 and f"broke off: {why}" in said
+    expect(is_told, f"the daemon doesn't tell once that {why}: {tail(said, 12)}")
+
+
+@test("raw slow recording")
+def slow_recording(build):
+    """A disk that takes less than comes makes calls slower, and the recording is whole."""
+    with into_pipe(build) as (stage, end):
+        reader = Reader(end, f"{stage.folder}/read", EACH)
+        told = stage.run([build.raw(HEAVY[0]), *HEAVY[1:]], 60)
+        said = end_with(stage, 0)
+        reader.join()
+        found = entries(build, reader.path)
+        expect("broke off" not in said, f"the recording broke off: {tail(said)}")
+        expect(found == steps_of(stage), f"{found} of {steps_of(stage)} steps are there")
+    return f"all {found} steps are there; {told}"
+
+
+@test("raw stuck recording")
+def stuck_recording(build):
+    """A disk that takes nothing keeps nobody waiting: the recording breaks off, and what there is of it is lawful."""
+    with into_pipe(build) as (stage, end):
+        told = stage.run([build.raw(HEAVY[0]), *HEAVY[1:]], 40)
+        broke_off_once(stage.daemon.printed(), "more comes than the disk takes")
+        stage.run([build.raw("nested")])
+        reader = Reader(end, f"{stage.folder}/read", 0)
+        broke_off_once(end_with(stage, 1, PATIENCE), "more comes than the disk takes")
+        reader.join()
+        found = entries(build, reader.path)
+        expect(0 < found < steps_of(stage), f"{found} of {steps_of(stage)} steps are there")
+    with into_pipe(build) as (stage, end):
+        stage.run([build.raw("latency"), "300", "4096"])
+        begin = time.monotonic()
+        broke_off_once(end_with(stage, 1, STUCK_END), "the disk takes nothing")
+        took = time.monotonic() - begin
+    return f"{found} entries, lawful, and calls went on ({told}); a daemon whose disk takes nothing ended after {took:.1f} s"
+
+
+@test("raw full recording")
+def full_recording(build):
+    """On a full disk the recording breaks off, and what there is of it is lawful; clients notice nothing."""
+    with Stage(build, journal=DEVICE) as stage:
+        resource.prlimit(stage.daemon.pid, resource.RLIMIT_FSIZE, (FULL, FULL))
+        told = stage.run([build.raw(HEAVY[0]), *HEAVY[1:]], 30)
+        time.sleep(IN_TIME)
+        broke_off_once(stage.daemon.printed(), "File too large")
+        stage.run([build.raw("nested")])
+        broke_off_once(end_with(stage, 1), "File too large")
+        found = entries(build, stage.journal)
+        expect(0 < found < steps_of(stage), f"{found} of {steps_of(stage)} steps are there")
+    with tempfile.TemporaryDirectory(prefix="hullpippin-full-") as folder:
+        words = [build.daemon, "--socket", f"{folder}/socket", "--journal", "/dev/full"]
+        done = subprocess.run(words, capture_output=True, text=True, env={**os.environ, **build.environment}, timeout=20)
+    expect(done.returncode == 1 and "/dev/full: No space left" in done.stderr, f"on a full disk it begins: {tail(done.stderr)}")
+    return f"{found} entries, lawful, and calls went on ({told})"
