@@ -1,12 +1,14 @@
 /* SPDX-License-Identifier: Apache-2.0 OR MIT */
 /*
- * crossed SECONDS [IDLE]: parcels that are on their way at once stay apart. Some processes call a service again and again with
- * objects and buffers, of which the daemon keeps some beside the engine. Another one calls an echo, each time by a handle that
- * it has just got, which has the daemon look for who is called, and for all that is to be read by others, before the call. Those
- * that only wait make that take its time.
+ * crossed SECONDS [IDLE]: parcels that are on their way at once stay apart. A process calls a service again and again with objects
+ * and buffers, of which the daemon keeps some beside the engine: one alone, so that the service often waits. Another one calls an
+ * echo, each time by a handle that it has just got, which has the daemon look for who is called, and for all that is to be read by
+ * others, before the call. Those that only wait make that take its time, and the daemon is stopped now and then, so that what all
+ * want of it comes at once. That goes on for so many seconds, and for LEAST calls.
  */
 #include "raw.h"
 
+#include <signal.h>
 #include <stdio.h>
 #include <stdlib.h>
 #include <string.h>
@@ -15,8 +17,9 @@
 enum { KEEP_SINK = 1, KEEP_ECHO, HAND_SINK, HAND_ECHO };
 
 #define BYTES 3000
-#define SENDERS 3
 #define MOST 512
+#define LEAST 300
+#define STOPPED 5000 /* microseconds */
 
 static uint32_t kept[2];
 
@@ -89,6 +92,18 @@ static void send_on(void *with)
     }
 }
 
+static void hold_up(void *with)
+{
+    (void)with;
+    raw_ready();
+    for (;;) {
+        CHECK(!kill(raw_daemon(), SIGSTOP), "can't stop the daemon");
+        usleep(STOPPED);
+        CHECK(!kill(raw_daemon(), SIGCONT), "can't have the daemon go on");
+        usleep(STOPPED);
+    }
+}
+
 /* The handle isn't kept, so that it is another one, or means something else, with each turn. */
 static void call_echo(struct client *client, uint32_t number)
 {
@@ -115,19 +130,22 @@ int main(int argc, char **argv)
     struct client client;
     uint32_t calls = 0;
     raw_begin(120);
-    CHECK(idle + SENDERS + 3 <= MOST, "too many");
+    CHECK(idle + 6 <= MOST, "too many");
     all[count++] = raw_start_manager(manage);
     all[count++] = raw_start(run_echo, NULL);
     for (size_t i = 0; i < idle; i++)
         all[count++] = raw_start(wait_idle, NULL);
     all[count++] = raw_start(run_sink, NULL);
-    for (size_t i = 0; i < SENDERS; i++)
-        all[count++] = raw_start(send_on, NULL);
+    all[count++] = raw_start(send_on, NULL);
     raw_open(&client, WINDOW, NULL);
-    for (until += raw_now(); raw_now() < until; calls++)
+    if (raw_daemon())
+        all[count++] = raw_start(hold_up, NULL);
+    for (until += raw_now(); calls < LEAST || raw_now() < until; calls++)
         call_echo(&client, calls);
-    printf("%u calls beside %u that send parcels with buffers\n", calls, SENDERS);
+    printf("%u calls beside one that sends parcels with buffers\n", calls);
     while (count)
         raw_kill(all[--count]);
+    if (raw_daemon())
+        kill(raw_daemon(), SIGCONT);
     return 0;
 }

@@ -11,6 +11,8 @@
 #include <fcntl.h>
 #include <poll.h>
 #include <pthread.h>
+#include <semaphore.h>
+#include <signal.h>
 #include <stdio.h>
 #include <string.h>
 #include <sys/ioctl.h>
@@ -20,6 +22,9 @@ enum { GIVE = 1, TAKE, ASK_ITSELF, ANSWER };
 
 /* Commands that take some turns of the daemon. */
 #define GOING_ON 480
+
+/* So often a server ends meanwhile. */
+#define ENDS 3
 
 #define COOKIE 0x777000
 
@@ -59,11 +64,12 @@ static void serve(struct looper *looper, const struct binder_transaction_data *c
     writer_free(&object);
 }
 
-/* Reads, and tells the codes that came behind BR_NOOP; -1 with errno in place of a number. */
-static ssize_t read_codes(int fd, uint32_t codes[8])
+/* Writes and reads, and tells the codes that came behind BR_NOOP; -1 with errno in place of a number. */
+static ssize_t write_and_read_codes(int fd, const struct commands *commands, uint32_t codes[8])
 {
     uint8_t room[256];
-    struct binder_write_read both = {.read_size = sizeof room, .read_buffer = (uintptr_t)room};
+    struct binder_write_read both = {.write_size = commands->size, .write_buffer = (uintptr_t)commands->bytes,
+                                     .read_size = sizeof room, .read_buffer = (uintptr_t)room};
     if (ioctl(fd, BINDER_WRITE_READ, &both))
         return -1;
     struct returns returns = {room + sizeof(uint32_t), room + both.read_consumed};
@@ -72,6 +78,11 @@ static ssize_t read_codes(int fd, uint32_t codes[8])
     while (count < 8 && next_return(&returns, &codes[count], &payload))
         count++;
     return (ssize_t)count;
+}
+
+static ssize_t read_codes(int fd, uint32_t codes[8])
+{
+    return write_and_read_codes(fd, &(struct commands){0}, codes);
 }
 
 /* Without the wait that would hide it. */
@@ -110,22 +121,79 @@ static void defers(void (*before)(int fd))
     binder_close(&client.binder);
 }
 
-/* So much follows the call that others have their turns before the read begins. */
-static void goes_on(void)
+/* A call, and so much behind it that others have their turns before the read begins: how many returns that got, and which. */
+static ssize_t call_and_go_on(int fd, uint32_t codes[8])
 {
-    struct client client;
-    struct binder_transaction_data call = {.code = ANSWER};
+    const struct binder_transaction_data call = {.code = ANSWER};
     struct commands commands = {0};
-    uint32_t room[64];
-    raw_open(&client, WINDOW, NULL);
     put_record(&commands, BC_TRANSACTION, &call);
     for (int i = 0; i < GOING_ON; i++)
         put_code(&commands, BC_ENTER_LOOPER);
-    struct binder_write_read both = {.write_size = commands.size, .write_buffer = (uintptr_t)commands.bytes,
-                                     .read_size = sizeof room, .read_buffer = (uintptr_t)room};
-    CHECK(!ioctl(client.binder.fd, BINDER_WRITE_READ, &both), "no write and read");
-    CHECK(both.read_consumed == 3 * sizeof(uint32_t) + sizeof call && room[2] == BR_REPLY, "%llu bytes came", both.read_consumed);
+    return write_and_read_codes(fd, &commands, codes);
+}
+
+static void goes_on(void)
+{
+    struct client client;
+    uint32_t codes[8];
+    raw_open(&client, WINDOW, NULL);
+    ssize_t count = call_and_go_on(client.binder.fd, codes);
+    CHECK(count == 2 && codes[0] == BR_TRANSACTION_COMPLETE && codes[1] == BR_REPLY, "%zd returns came with the reply, %x", count, codes[0]);
     binder_close(&client.binder);
+}
+
+/* A thread that calls once it may, while the daemon is stopped. */
+struct late {
+    struct client client;
+    sem_t may_call, is_there;
+};
+
+static void *call_late(void *with)
+{
+    struct late *late = with;
+    struct commands enter = {0};
+    uint32_t codes[8];
+    put_code(&enter, BC_ENTER_LOOPER);
+    CHECK(!written(late->client.binder.fd, &enter), "can't enter the loop");
+    sem_post(&late->is_there);
+    while (sem_wait(&late->may_call))
+        ;
+    ssize_t count = call_and_go_on(late->client.binder.fd, codes);
+    CHECK(count >= 1 && codes[count - 1] == BR_DEAD_REPLY, "%zd returns came where the server has ended, %x", count, codes[0]);
+    return with;
+}
+
+/* Has the daemon's latest turn be one for an end, so that who calls next comes before another end. */
+static void end_another(void)
+{
+    struct client another;
+    struct commands enter = {0};
+    raw_open(&another, WINDOW, NULL);
+    put_code(&enter, BC_ENTER_LOOPER); /* a short turn, after which this user owes nothing */
+    CHECK(!written(another.binder.fd, &enter), "can't enter the loop");
+    binder_close(&another.binder);
+    usleep(100000);
+}
+
+/* The same where the answer is that the server has ended. The daemon finds that and the call at once, the call first: so it sees to
+   the end between two of the turns that the write takes. */
+static void goes_on_beside_end(pid_t server)
+{
+    struct late late;
+    pthread_t thread;
+    raw_open(&late.client, WINDOW, NULL);
+    CHECK(!sem_init(&late.may_call, 0, 0) && !sem_init(&late.is_there, 0, 0), "no semaphore");
+    CHECK(!pthread_create(&thread, NULL, call_late, &late), "no thread");
+    while (sem_wait(&late.is_there))
+        ;
+    end_another();
+    CHECK(!kill(raw_daemon(), SIGSTOP), "can't stop the daemon");
+    sem_post(&late.may_call);
+    usleep(100000); /* it has called by now; were it later, it would be told that nobody is there */
+    raw_kill(server);
+    CHECK(!kill(raw_daemon(), SIGCONT), "can't have the daemon go on");
+    pthread_join(thread, NULL);
+    binder_close(&late.client.binder);
 }
 
 /* Its threads: one that takes notifications back, and one in the loop. */
@@ -192,7 +260,9 @@ int main(void)
     goes_on();
     raw_open(&client, WINDOW, NULL);
     CHECK(raw_ask(&client.looper, (struct call){.code = ASK_ITSELF}) == 0, "the manager has a reference on itself");
-    printf("nothing before a reply, told to another, none on itself\n");
+    for (int i = 0; raw_daemon() && i < ENDS; i++, manager = raw_start_manager(serve))
+        goes_on_beside_end(manager);
     raw_kill(manager);
+    printf("nothing before a reply, told to another, none on itself\n");
     return 0;
 }
