@@ -84,6 +84,8 @@ enum page_cancel {
 
 /* Flags of PAGE_WRITE_READ. */
 #define PAGE_NONBLOCK 1u /* the file is O_NONBLOCK */
+/* Flags of PAGE_SET_MANAGER. */
+#define PAGE_TAKES_DESCRIPTORS 1u /* the manager's object does */
 
 struct page_request {
     uint32_t op;

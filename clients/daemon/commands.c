@@ -115,6 +115,7 @@ static int run_call(struct run *run, uint32_t code, const uint8_t *payload)
     memcpy(&record, payload, _IOC_SIZE(code));
     if (!is_reply && calls_own_manager(run, &record.transaction_data))
         record.transaction_data.target.handle = NO_HANDLE;
+    parcel.may_have_descriptors = reach_takes_descriptors(run->thread, is_reply, record.transaction_data.target.handle);
     reach_before_call(run->thread, is_reply, &record.transaction_data);
     if (may_fit(run->thread, &record, is_reply))
         parcel_fetch(&parcel, run->thread, &record, run->fds, run->fd_count);

@@ -337,6 +337,7 @@ struct engine {
     struct process *manager; /* NULL: there is no context manager */
     uid_t manager_euid;            /* of the first, and so of all .. */
     bool has_had_manager;          /* .. once there was one */
+    bool manager_takes_descriptors;
 
     struct list processes;
     struct list by_pid[256];  /* processes by the pid that they have in the engine */
@@ -529,8 +530,14 @@ struct writing {
    BR_DEAD_REPLY; any other reply by the last BR_TRANSACTION_COMPLETE. */
 enum refusal { NOT_REFUSED, REFUSED_CALL, REFUSED_REPLY };
 
-/* Of so many calls that a thread serves it is known who waits for the answer. */
-#define CALLERS_KNOWN 32
+/* A call that a thread serves. */
+struct served {
+    uint32_t caller;        /* the pid in the engine of the process that waits for the answer; 0: it isn't known */
+    bool takes_descriptors; /* .. with the answer */
+};
+
+/* So many of them, one within the other, are known. */
+#define SERVED_KNOWN 32
 
 struct thread {
     struct watch link, bell;
@@ -543,7 +550,7 @@ struct thread {
     bool is_looper;            /* in the loop */
     bool has_looped;           /* .. or was there before */
     uint32_t serving, calling; /* open frames: calls that it has to answer, calls that it waits for */
-    uint32_t callers[CALLERS_KNOWN]; /* pids that the processes have in the engine which wait for the first of those answers */
+    struct served served[SERVED_KNOWN]; /* the first of the former */
     struct writing *writing;   /* NULL: none */
     uint32_t refusals;         /* refused commands whose BR_FAILED_REPLY or BR_DEAD_REPLY isn't read yet */
     uint32_t completions;      /* two-way calls of which it isn't read yet that they were taken */
@@ -613,6 +620,7 @@ struct parcel {
     uint64_t data_size, offsets_size;
     uid_t euid;      /* the caller's; it is the first to be set */
     bool tells_euid; /* .. which isn't what the engine tells */
+    bool may_have_descriptors; /* this one as well: its receiver takes them */
     struct ticket *ticket; /* NULL: it has no trailer */
     uint32_t fd_count;     /* of a bad one, which has no ticket */
     int fds[DESCRIPTORS_MAX];
@@ -661,8 +669,10 @@ void reach_process(struct process *process, bool callers);
 struct process *reach_target(const struct thread *thread, bool is_reply, uint32_t handle);
 /* The size of the window that the thread's next call or reply goes to: the largest where that isn't known. */
 uint64_t reach_window(const struct thread *thread, bool is_reply, uint32_t handle);
-/* The thread serves one call more; its caller is a process, or isn't known. */
-void reach_note_caller(struct thread *thread, const struct process *caller);
+/* Whether who gets the thread's next call or reply takes descriptors with it, as far as that is known. */
+bool reach_takes_descriptors(const struct thread *thread, bool is_reply, uint32_t handle);
+/* The thread serves one call more, of these flags; its caller is a process, or isn't known. */
+void reach_note_served(struct thread *thread, const struct process *caller, uint32_t flags);
 
 /* --- sendings.c: who of a process is told of an object that it sends. --- */
 

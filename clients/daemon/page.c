@@ -158,7 +158,7 @@ static int write_read(struct thread *thread, const struct page_request *request)
 }
 
 /* As with the kernel's driver, all context managers of a device are of one user: the first one's. */
-static int set_manager(struct thread *thread)
+static int set_manager(struct thread *thread, uint32_t flags)
 {
     struct process *process = thread->process;
     struct engine *engine = process->engine;
@@ -176,6 +176,7 @@ static int set_manager(struct thread *thread)
     engine->manager = process;
     engine->manager_euid = euid;
     engine->has_had_manager = true;
+    engine->manager_takes_descriptors = flags & PAGE_TAKES_DESCRIPTORS;
     log_event("process %d is the context manager of %s", process->pid, engine->device);
     return 0;
 }
@@ -211,7 +212,7 @@ static int do_request(struct thread *thread, const struct page_request *request)
     case PAGE_WRITE_READ:
         return write_read(thread, request);
     case PAGE_SET_MANAGER:
-        return set_manager(thread);
+        return set_manager(thread, request->flags);
     case PAGE_DOORBELL:
         return give_doorbell(thread);
     case PAGE_PLACE:

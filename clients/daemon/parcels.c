@@ -31,7 +31,7 @@ struct walk {
 static bool hold(struct walk *walk, uint32_t index)
 {
     struct parcel *parcel = walk->parcel;
-    if (index >= walk->fd_count || walk->fds[index] < 0 || parcel->fd_count == DESCRIPTORS_MAX)
+    if (!parcel->may_have_descriptors || index >= walk->fd_count || walk->fds[index] < 0 || parcel->fd_count == DESCRIPTORS_MAX)
         return false;
     parcel->fds[parcel->fd_count++] = walk->fds[index];
     walk->fds[index] = -1;
@@ -211,8 +211,8 @@ void parcel_fetch(struct parcel *parcel, struct thread *thread, const struct bin
     struct engine *engine = thread->process->engine;
     struct walk walk = {.objects = {engine->bench->bytes, data->data_size, data->offsets_size, record->buffers_size},
                         .bench = engine->bench, .parcel = parcel, .fds = fds, .fd_count = fd_count};
-    *parcel = (struct parcel){.euid = parcel->euid, .tells_euid = parcel->tells_euid, .data = walk.objects.bytes,
-                              .offsets = objects_offsets(&walk.objects), .data_size = data->data_size,
+    *parcel = (struct parcel){.euid = parcel->euid, .tells_euid = parcel->tells_euid, .may_have_descriptors = parcel->may_have_descriptors,
+                              .data = walk.objects.bytes, .offsets = objects_offsets(&walk.objects), .data_size = data->data_size,
                               .offsets_size = data->offsets_size};
     if (!copy_in(&walk.objects, thread->page, data))
         return lose(parcel);

@@ -173,10 +173,17 @@ static void reach_receiver(struct thread *thread, uint32_t handle)
         reach_all(engine, is_nested);
 }
 
+/* The call that the thread's next reply answers. Where nothing is known of it, it may be answered with descriptors. */
+static struct served latest_served(const struct thread *thread)
+{
+    bool is_known = thread->serving && thread->serving <= SERVED_KNOWN;
+    return is_known ? thread->served[thread->serving - 1] : (struct served){.takes_descriptors = true};
+}
+
 static void reach_caller(struct thread *thread, bool is_refused)
 {
     struct engine *engine = thread->process->engine;
-    uint32_t pid = thread->serving && thread->serving <= CALLERS_KNOWN ? thread->callers[thread->serving - 1] : 0;
+    uint32_t pid = latest_served(thread).caller;
     struct process *caller = pid ? process_of(engine, pid) : NULL;
     if (caller)
         reach_process(caller, true);
@@ -187,7 +194,7 @@ static void reach_caller(struct thread *thread, bool is_refused)
 
 struct process *reach_target(const struct thread *thread, bool is_reply, uint32_t handle)
 {
-    uint32_t pid = thread->serving && thread->serving <= CALLERS_KNOWN ? thread->callers[thread->serving - 1] : 0;
+    uint32_t pid = latest_served(thread).caller;
     return !is_reply ? find_owner(thread->process, handle) : pid ? process_of(thread->process->engine, pid) : NULL;
 }
 
@@ -199,10 +206,18 @@ uint64_t reach_window(const struct thread *thread, bool is_reply, uint32_t handl
     return receiver ? receiver->window.size : WINDOW_MAX;
 }
 
-void reach_note_caller(struct thread *thread, const struct process *caller)
+/* Which object another handle than the manager's names the engine doesn't tell, and so not whether that takes any. */
+bool reach_takes_descriptors(const struct thread *thread, bool is_reply, uint32_t handle)
 {
-    if (thread->serving <= CALLERS_KNOWN && thread->serving)
-        thread->callers[thread->serving - 1] = caller ? caller->engine_pid : 0;
+    if (is_reply)
+        return latest_served(thread).takes_descriptors;
+    return handle || thread->process->engine->manager_takes_descriptors;
+}
+
+void reach_note_served(struct thread *thread, const struct process *caller, uint32_t flags)
+{
+    if (thread->serving <= SERVED_KNOWN && thread->serving)
+        thread->served[thread->serving - 1] = (struct served){caller ? caller->engine_pid : 0, flags & TF_ACCEPT_FDS};
 }
 
 void reach_after_call(struct engine *engine, uint32_t seat, const void *command, bool has_objects)

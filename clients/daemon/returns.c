@@ -38,7 +38,7 @@ static void take_call(struct thread *thread, uint8_t *bytes, bool is_reply)
     memcpy(bytes, &record, sizeof record);
     if (!is_reply && !(record.flags & TF_ONE_WAY)) {
         thread->serving++;
-        reach_note_caller(thread, sender);
+        reach_note_served(thread, sender, record.flags);
     }
     if (is_reply && thread->calling)
         thread->calling--;

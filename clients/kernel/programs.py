@@ -31,7 +31,7 @@ from suite import figures  # noqa: E402
 ROOT = os.path.dirname(CLIENTS)
 STATIC = ["OUT=out/static", "CFLAGS=-O2 -g -static"]
 # what clients/check runs of our own clients, but for what is of the daemon: its seats, its memory, its turns
-RAW = ["nested", "oneway", "deaths", "ways", "waits", "told", "parcels", "buffers", "leftovers", "places", "pool", "two_opens",
+RAW = ["nested", "oneway", "deaths", "ways", "waits", "told", "takers", "parcels", "buffers", "leftovers", "places", "pool", "two_opens",
        "refusals", "files", "descriptors 1000", "arrays 100", "flooding asked", "flooding unasked", "callers", "namespaces", "lives", "paths", "pointers",
        "cancelled", "latency 200", "many 8 4 50"]
 # why some don't pass there, which are not to be told from others that don't by chance

@@ -19,9 +19,13 @@ static int ask_control(struct device *device, enum control_op op, const uint32_t
 }
 
 /* There are no security contexts, and the manager's object is known by no pointer: a program that wants either has to be told. */
-static bool is_plain_manager(const struct flat_binder_object *object)
+static int become_manager(struct link *link, const struct flat_binder_object *object)
 {
-    return !(object->flags & FLAT_BINDER_FLAG_TXN_SECURITY_CTX) && !object->binder && !object->cookie;
+    bool takes_descriptors = object->flags & FLAT_BINDER_FLAG_ACCEPTS_FDS;
+    const struct page_request request = {.op = PAGE_SET_MANAGER, .flags = takes_descriptors ? PAGE_TAKES_DESCRIPTORS : 0};
+    struct page_answer answer;
+    bool is_plain = !(object->flags & FLAT_BINDER_FLAG_TXN_SECURITY_CTX) && !object->binder && !object->cookie;
+    return is_plain ? link_ask(link, &request, &answer) : EINVAL;
 }
 
 /* Whether the argument is there that a request has: its number says how large it is, and who reads or writes it. Of what has none,
@@ -52,9 +56,9 @@ static int do_ioctl(struct device *device, struct link *link, unsigned long requ
         link->is_refused = false;
         return ask(link, PAGE_EXIT_THREAD);
     case BINDER_SET_CONTEXT_MGR:
-        return ask(link, PAGE_SET_MANAGER);
+        return become_manager(link, &(struct flat_binder_object){0});
     case BINDER_SET_CONTEXT_MGR_EXT:
-        return is_plain_manager(argument) ? ask(link, PAGE_SET_MANAGER) : EINVAL;
+        return become_manager(link, argument);
     case BINDER_SET_MAX_THREADS:
         return ask_control(device, CONTROL_MAX_THREADS, argument);
     case BINDER_VERSION:

@@ -43,7 +43,7 @@ def plays(name, *words, title=None):
         return f"{told}; lawful, {stage.entries} steps"
 
 
-for name in ("nested", "oneway", "deaths", "parcels", "pool", "two_opens", "refusals", "files", "seats", "leftovers", "cancelled", "lives", "pointers", "namespaces", "buffers", "places", "ways", "waits", "told"):
+for name in ("nested", "oneway", "deaths", "parcels", "pool", "two_opens", "refusals", "files", "seats", "leftovers", "cancelled", "lives", "pointers", "namespaces", "buffers", "places", "ways", "waits", "told", "takers"):
     plays(name)
 plays("descriptors", "10000")
 plays("arrays", "1000")

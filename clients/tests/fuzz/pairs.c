@@ -16,7 +16,7 @@ static bool pair_begin(struct hostile pair[2])
 {
     if (!hostile_begin(&pair[0], "/dev/vndbinder") || !hostile_begin(&pair[1], "/dev/vndbinder"))
         return false;
-    pair[0].page->request = (struct page_request){.op = PAGE_SET_MANAGER};
+    pair[0].page->request = (struct page_request){.op = PAGE_SET_MANAGER, .flags = PAGE_TAKES_DESCRIPTORS};
     hostile_ask(&pair[0], 20);
     uint32_t enter = BC_ENTER_LOOPER;
     hostile_write(&pair[0], &enter, sizeof enter, 0, 0);

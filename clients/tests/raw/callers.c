@@ -99,14 +99,26 @@ static void replies(struct client *client, uint32_t euid)
     looper_free(&client->looper, &reply);
 }
 
-static void only_serve(void)
+/* A context manager that takes descriptors too. */
+static noreturn void serve_as_manager(void (*tell_ready)(void))
 {
     struct client client;
     raw_open(&client, WINDOW, serve);
-    CHECK(binder_become_manager(&client.binder), "can't be the context manager");
-    puts("ready");
+    CHECK(raw_become_taking_manager(&client.binder), "can't be the context manager");
+    tell_ready();
     looper_run(&client.looper);
     raw_fail(__FILE__, __LINE__, "the device failed");
+}
+
+static void manage(void *with)
+{
+    (void)with;
+    serve_as_manager(raw_ready);
+}
+
+static void print_ready(void)
+{
+    puts("ready");
 }
 
 int main(int argc, char **argv)
@@ -115,9 +127,9 @@ int main(int argc, char **argv)
     pthread_t thread;
     raw_begin(30);
     if (argc > 1 && !strcmp(argv[1], "serve"))
-        only_serve();
+        serve_as_manager(print_ready);
     CHECK(!geteuid(), "only root can become another user");
-    pid_t manager = raw_start_manager(serve);
+    pid_t manager = raw_start(manage, NULL);
     raw_open(&client, WINDOW, NULL);
     are_told(&client, 0);
     CHECK(!seteuid(SOMEBODY), "can't become another user");

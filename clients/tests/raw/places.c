@@ -107,7 +107,7 @@ static void stay(void *with)
 {
     struct client client;
     (void)with;
-    CHECK(binder_open(&client.binder, OTHER_DEVICE, WINDOW) && binder_become_manager(&client.binder), "no manager of " OTHER_DEVICE);
+    CHECK(binder_open(&client.binder, OTHER_DEVICE, WINDOW) && raw_become_taking_manager(&client.binder), "no manager of " OTHER_DEVICE);
     raw_ready();
     pause();
 }

@@ -8,6 +8,7 @@
 #include <stdio.h>
 #include <stdlib.h>
 #include <string.h>
+#include <sys/ioctl.h>
 #include <sys/prctl.h>
 #include <sys/wait.h>
 #include <time.h>
@@ -152,6 +153,12 @@ void raw_ready(void)
 {
     CHECK(write(ready_end, "r", 1) == 1, "can't tell that it is ready");
     close(ready_end);
+}
+
+bool raw_become_taking_manager(struct binder *binder)
+{
+    struct flat_binder_object object = {.flags = FLAT_BINDER_FLAG_ACCEPTS_FDS};
+    return ioctl(binder->fd, BINDER_SET_CONTEXT_MGR_EXT, &object) == 0;
 }
 
 static void manage(void *with)

@@ -60,6 +60,8 @@ uint32_t raw_ask(struct looper *looper, struct call call);
 /* Starts a process that runs the body; it dies with this one. What `raw_ready` tells there is awaited here. */
 pid_t raw_start(void (*body)(void *with), void *with);
 void raw_ready(void);
+/* Makes the process the context manager, of an object that takes descriptors, as others' don't; false with errno. */
+bool raw_become_taking_manager(struct binder *binder);
 /* Starts one that is the context manager and serves. */
 pid_t raw_start_manager(serve_function *serve);
 /* Starts one that keeps the object that it is given, and hands it over: nobody can call a manager of its own process. */
