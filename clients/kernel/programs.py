@@ -42,7 +42,6 @@ REASONS = {
     "files": "the child of a fork acts as its parent", "lives": "the child of a fork acts as its parent",
     "arrays 100": "the descriptors of an FDA object whose buffer isn't given back stay open",
     "flooding asked": "flooding is told once, by another measure (*spam*)",
-    "callers": "the context manager takes no descriptors there, which it hasn't said it would",
     "cancelled": "poll tells at once of a thread that has made no ioctl yet",
 }
 # .. those that want a context manager, and libgbinder's tools, which want a service too
