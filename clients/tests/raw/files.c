@@ -8,15 +8,17 @@
 #include <errno.h>
 #include <fcntl.h>
 #include <poll.h>
-#include <pthread.h>
 #include <signal.h>
-#include <stdatomic.h>
 #include <stdio.h>
 #include <sys/epoll.h>
 #include <sys/ioctl.h>
 #include <sys/mman.h>
 #include <sys/select.h>
+#include <time.h>
 #include <unistd.h>
+
+/* So often a read is ended that hasn't waited for long. */
+#define WAITS 50
 
 /* A one-way call, of which nothing is read yet: its completion can be. */
 static void leave_unread(struct client *client)
@@ -114,35 +116,30 @@ static void copies(struct client *client)
     works(client);
 }
 
-static atomic_bool is_interrupted;
-static useconds_t pause_between;
-static pthread_t reader;
-
 static void ignore(int number)
 {
     (void)number;
 }
 
-/* Again and again, should the first one come before the read waits. */
-static void *interrupt(void *with)
+/* A signal comes again and again, should the first one be there before the read waits: from the kernel's timer, which comes in time
+   however busy others are. */
+static timer_t signal_every(long nanoseconds)
 {
-    for (usleep(pause_between); !is_interrupted; usleep(pause_between))
-        pthread_kill(reader, SIGUSR1);
-    return with;
+    timer_t timer;
+    struct sigevent event = {.sigev_notify = SIGEV_SIGNAL, .sigev_signo = SIGUSR1};
+    struct timespec pause = {.tv_nsec = nanoseconds};
+    struct sigaction action = {.sa_handler = ignore, .sa_flags = SA_RESTART};
+    CHECK(!sigaction(SIGUSR1, &action, NULL) && !timer_create(CLOCK_MONOTONIC, &event, &timer)
+              && !timer_settime(timer, 0, &(struct itimerspec){pause, pause}, NULL), "no timer");
+    return timer;
 }
 
-static void is_woken(struct client *client, useconds_t after)
+static void is_woken(struct client *client, long after)
 {
     uint32_t returns[64];
-    pthread_t thread;
-    struct sigaction action = {.sa_handler = ignore, .sa_flags = SA_RESTART};
-    reader = pthread_self();
-    pause_between = after;
-    is_interrupted = false;
-    CHECK(!sigaction(SIGUSR1, &action, NULL) && !pthread_create(&thread, NULL, interrupt, NULL), "no thread");
+    timer_t timer = signal_every(after);
     CHECK(read_into(client->binder.fd, returns, sizeof returns) < 0 && errno == EINTR, "a signal doesn't end a read");
-    is_interrupted = true;
-    pthread_join(thread, NULL);
+    CHECK(!timer_delete(timer), "no timer");
     works(client);
 }
 
@@ -167,8 +164,9 @@ int main(void)
     works(&client);
     waits(&client);
     fits(&client);
-    is_woken(&client, 2000);
-    is_woken(&client, 200000); /* who waits for long does so otherwise */
+    for (int i = 0; i < WAITS; i++) /* often, as one that its processor is kept from has waited for long */
+        is_woken(&client, 2000000);
+    is_woken(&client, 200000000); /* who waits for long does so otherwise */
     raw_join(raw_start(be_a_child, &client));
     works(&client);
     copies(&client);
