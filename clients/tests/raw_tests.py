@@ -219,6 +219,7 @@ def short_of_memory(build):
         told = stage.run([build.raw("seats")])
         used = processor_time(stage.daemon.pid)
         expect(used <= 1, f"the daemon used {used} s of processor time")
+        expect("a client was tried" not in stage.daemon.printed(), f"the daemon: {tail(stage.daemon.printed())}")
         expect("lost seats are back" in stage.daemon.printed(), f"the daemon: {tail(stage.daemon.printed())}")
     return f"{told}, {used} s of processor time; lawful, {stage.entries} steps"
 

@@ -21,6 +21,8 @@
 
 #define STEPS 4000
 #define SECONDS 3
+/* A daemon that tries so often in them doesn't rest. */
+#define MOST_TRIES 20
 #define THREADS 29
 
 extern uint64_t history_most;
@@ -96,11 +98,15 @@ int __wrap_accept4(int fd, struct sockaddr *address, socklen_t *size, int flags)
 int __wrap_accept4(int fd, struct sockaddr *address, socklen_t *size, int flags)
 {
     static struct timespec first, now;
+    static unsigned tries;
     clock_gettime(CLOCK_MONOTONIC, &now);
     if (!first.tv_sec)
         first = now;
     make_call(getenv("SHORT_CALL"));
-    if (getenv("SHORT_OF_MEMORY") && now.tv_sec - first.tv_sec < SECONDS)
+    if (getenv("SHORT_OF_MEMORY") && now.tv_sec - first.tv_sec < SECONDS) {
+        if (++tries == MOST_TRIES)
+            fprintf(stderr, "a client was tried %u times\n", tries);
         return errno = ENOMEM, -1;
+    }
     return __real_accept4(fd, address, size, flags);
 }
