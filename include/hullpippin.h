@@ -381,6 +381,128 @@ uint32_t hullpippin_live_heading(hullpippin_live *live, uint32_t count, uint8_t 
 /* Lets go of a live engine, and empties the handle, which must not be empty. */
 void hullpippin_free_live(hullpippin_live *live);
 
+/*
+ * Commands, returns and parcels as bytes (docs/FORMATS.md): they are read and spelled exactly as the engine does it. These
+ * functions have no handle and take no memory, and any thread may call them at any time.
+ */
+
+/* The code of a command. */
+#define HULLPIPPIN_BC_TRANSACTION UINT32_C(0x40406300)
+#define HULLPIPPIN_BC_REPLY UINT32_C(0x40406301)
+#define HULLPIPPIN_BC_FREE_BUFFER UINT32_C(0x40086303)
+#define HULLPIPPIN_BC_INCREFS UINT32_C(0x40046304)
+#define HULLPIPPIN_BC_ACQUIRE UINT32_C(0x40046305)
+#define HULLPIPPIN_BC_RELEASE UINT32_C(0x40046306)
+#define HULLPIPPIN_BC_DECREFS UINT32_C(0x40046307)
+#define HULLPIPPIN_BC_INCREFS_DONE UINT32_C(0x40106308)
+#define HULLPIPPIN_BC_ACQUIRE_DONE UINT32_C(0x40106309)
+#define HULLPIPPIN_BC_ENTER_LOOPER UINT32_C(0x0000630c)
+#define HULLPIPPIN_BC_EXIT_LOOPER UINT32_C(0x0000630d)
+#define HULLPIPPIN_BC_REQUEST_DEATH_NOTIFICATION UINT32_C(0x400c630e)
+#define HULLPIPPIN_BC_CLEAR_DEATH_NOTIFICATION UINT32_C(0x400c630f)
+#define HULLPIPPIN_BC_DEAD_BINDER_DONE UINT32_C(0x40086310)
+
+/* The code of a return. */
+#define HULLPIPPIN_BR_TRANSACTION UINT32_C(0x80407202)
+#define HULLPIPPIN_BR_REPLY UINT32_C(0x80407203)
+#define HULLPIPPIN_BR_DEAD_REPLY UINT32_C(0x00007205)
+#define HULLPIPPIN_BR_TRANSACTION_COMPLETE UINT32_C(0x00007206)
+#define HULLPIPPIN_BR_INCREFS UINT32_C(0x80107207)
+#define HULLPIPPIN_BR_ACQUIRE UINT32_C(0x80107208)
+#define HULLPIPPIN_BR_RELEASE UINT32_C(0x80107209)
+#define HULLPIPPIN_BR_DECREFS UINT32_C(0x8010720a)
+#define HULLPIPPIN_BR_NOOP UINT32_C(0x0000720c)
+#define HULLPIPPIN_BR_DEAD_BINDER UINT32_C(0x8008720f)
+#define HULLPIPPIN_BR_CLEAR_DEATH_NOTIFICATION_DONE UINT32_C(0x80087210)
+#define HULLPIPPIN_BR_FAILED_REPLY UINT32_C(0x00007211)
+#define HULLPIPPIN_BR_ONEWAY_SPAM_SUSPECT UINT32_C(0x00007213)
+
+/* The type of an object in a parcel. The last three are refused by name. */
+#define HULLPIPPIN_TYPE_BINDER UINT32_C(0x73622a85)
+#define HULLPIPPIN_TYPE_WEAK_BINDER UINT32_C(0x77622a85)
+#define HULLPIPPIN_TYPE_HANDLE UINT32_C(0x73682a85)
+#define HULLPIPPIN_TYPE_WEAK_HANDLE UINT32_C(0x77682a85)
+#define HULLPIPPIN_TYPE_FD UINT32_C(0x66642a85)
+#define HULLPIPPIN_TYPE_FDA UINT32_C(0x66646185)
+#define HULLPIPPIN_TYPE_PTR UINT32_C(0x70742a85)
+
+/* A transaction record: struct binder_transaction_data. */
+typedef struct {
+    uint64_t target;       /* a handle in the low 32 bits, or the ptr of the receiver's object */
+    uint64_t cookie;       /* of the receiver's object */
+    uint32_t code;         /* what is asked for */
+    uint32_t flags;        /* all 32 bits */
+    int32_t sender_pid;    /* the caller's, in what is read */
+    uint32_t sender_euid;  /* the sender's, in what is read */
+    uint64_t data_size;    /* how many bytes of data */
+    uint64_t offsets_size; /* how many bytes of offsets, 8 for each object */
+    uint64_t buffer;       /* where the data begins: in what a driver's seat writes, a place in the area */
+    uint64_t offsets;      /* where the offsets begin, in the same way */
+} hullpippin_transaction;
+
+/* A command: its code, and the fields of a command of this code. A field that it has no use for isn't looked at where it is
+   spelled, and is 0 where it is read. */
+typedef struct {
+    uint32_t code;     /* HULLPIPPIN_BC_TRANSACTION .. */
+    uint32_t handle;   /* increfs, acquire, release, decrefs, request and clear death notification */
+    uint64_t pointer;  /* free_buffer: the buffer's; increfs_done, acquire_done: the object's ptr */
+    uint64_t cookie;   /* increfs_done, acquire_done, request and clear death notification, dead_binder_done */
+    hullpippin_transaction transaction; /* transaction, reply */
+    size_t size;       /* read: how many bytes it takes; not looked at where it is spelled */
+} hullpippin_command;
+
+/* A return, in the same way. */
+typedef struct {
+    uint32_t code;     /* HULLPIPPIN_BR_TRANSACTION .. */
+    uint64_t pointer;  /* increfs, acquire, release, decrefs: the object's ptr */
+    uint64_t cookie;   /* the same, dead_binder, clear_death_notification_done */
+    hullpippin_transaction transaction; /* transaction, reply */
+    size_t size;       /* read: how many bytes it takes; not looked at where it is spelled */
+} hullpippin_return;
+
+/* An object in a parcel: struct flat_binder_object, and where it stands. */
+typedef struct {
+    uint32_t kind;   /* HULLPIPPIN_TYPE_BINDER .. */
+    uint32_t flags;  /* handed on as they are */
+    uint64_t binder; /* the ptr of an object of the sender's, or a handle in the low 32 bits */
+    uint64_t cookie; /* of an object of the sender's */
+    size_t start;    /* where it begins in the data, in bytes; it ends 24 bytes on */
+} hullpippin_flat_object;
+
+/* How far a walk over a parcel's objects is. It begins with 0 in each field. */
+typedef struct {
+    size_t index;   /* which offset is next, from 0 */
+    size_t end;     /* where the object before it ends */
+    uint32_t cause; /* why there was no next object: X8, X9 or X10, whose offset is the one at `index`; 0 at the end */
+} hullpippin_walk;
+
+/* Reads the command at the head of a stream. Answers 0, or the number of the fault by which none is there, F1 to F3, and then
+   `command` stays as it was. What comes behind the command isn't looked at. */
+uint32_t hullpippin_next_command(const uint8_t *stream, size_t stream_size, hullpippin_command *command);
+
+/* Reads the return at the head of a stream. Answers 0, or the number of the fault by which none is there, F1 or F2, and then
+   `returned` stays as it was. What comes behind the return isn't looked at: the next one begins `size` bytes on. */
+uint32_t hullpippin_next_return(const uint8_t *stream, size_t stream_size, hullpippin_return *returned);
+
+/* Copies the bytes of a command to `out`, if all of them fit in `room` bytes, and else nothing. Answers how many it has, at most
+   68, and 0 where no command has this code. */
+size_t hullpippin_spell_command(const hullpippin_command *command, uint8_t *out, size_t room);
+
+/* The same of a return. */
+size_t hullpippin_spell_return(const hullpippin_return *returned, uint8_t *out, size_t room);
+
+/* Tells the next object of a parcel, and takes the walk behind it. False where there is none: at the end, where the walk's
+   `cause` is 0, and where the parcel is refused, with the number of the cause by which a transaction with it would be: X8 where
+   the offsets are no whole numbers of 8 bytes; X9 where the next one is no multiple of 4, lies before the end of the object
+   before it, or its 24 bytes aren't all there, or no such type is known; X10 where it is the type of what isn't supported.
+   `object` stays as it was then, and a later call finds the same. */
+bool hullpippin_next_object(const uint8_t *data, size_t data_size, const uint8_t *offsets, size_t offsets_size,
+                            hullpippin_walk *walk, hullpippin_flat_object *object);
+
+/* Writes an object over the 24 bytes from its `start` on. Answers 0, or the number of the cause by which a walk would refuse it
+   there, X9 or X10, and then the data stays as it was. */
+uint32_t hullpippin_put_object(const hullpippin_flat_object *object, uint8_t *data, size_t data_size);
+
 #ifdef __cplusplus
 }
 #endif

@@ -5,3 +5,6 @@ pub mod Commanding
 pub mod Noting
 pub mod Making
 pub mod NewSeats
+pub mod GivenAgain
+pub mod Walking
+pub mod Ahead

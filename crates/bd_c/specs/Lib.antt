@@ -16,3 +16,5 @@ pub mod LiveCommands
 pub mod Flags
 pub mod LiveEntries
 pub mod LivePolls
+pub mod Spelled
+pub mod Walks

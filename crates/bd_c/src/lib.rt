@@ -1,11 +1,12 @@
 //! A driver for programs in C or Rust: what they link with. A program has handles, one of the driver and one of each
 //! seat, and whoever has a seat's handle makes that seat's calls. What the calls answer stays with the seat until its
 //! next call, so that a caller can fetch it in buffers of the size that it was told. Or a program has one handle of a live
-//! engine, which keeps no history, and makes all seats' steps with it.
+//! engine, which keeps no history, and makes all seats' steps with it. What is spelled or read needs no handle.
 #![tactic(auto)]
 
 mod answers;
 mod asking;
+mod codec_calls;
 mod driver_calls;
 mod hand_over_calls;
 mod handles;
@@ -26,8 +27,11 @@ mod loose;
 mod numbers;
 mod opening;
 mod pages;
+mod parcel_calls;
 mod parts;
 mod requests;
 mod seat;
 mod seat_calls;
+mod spelled;
 mod status;
+mod walks;

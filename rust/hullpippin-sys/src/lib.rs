@@ -244,6 +244,197 @@ pub struct hullpippin_verdict_on {
     pub entries: usize,
 }
 
+/// The code of a command.
+pub const HULLPIPPIN_BC_TRANSACTION: u32 = 0x40406300;
+
+/// The code of a command.
+pub const HULLPIPPIN_BC_REPLY: u32 = 0x40406301;
+
+/// The code of a command.
+pub const HULLPIPPIN_BC_FREE_BUFFER: u32 = 0x40086303;
+
+/// The code of a command.
+pub const HULLPIPPIN_BC_INCREFS: u32 = 0x40046304;
+
+/// The code of a command.
+pub const HULLPIPPIN_BC_ACQUIRE: u32 = 0x40046305;
+
+/// The code of a command.
+pub const HULLPIPPIN_BC_RELEASE: u32 = 0x40046306;
+
+/// The code of a command.
+pub const HULLPIPPIN_BC_DECREFS: u32 = 0x40046307;
+
+/// The code of a command.
+pub const HULLPIPPIN_BC_INCREFS_DONE: u32 = 0x40106308;
+
+/// The code of a command.
+pub const HULLPIPPIN_BC_ACQUIRE_DONE: u32 = 0x40106309;
+
+/// The code of a command.
+pub const HULLPIPPIN_BC_ENTER_LOOPER: u32 = 0x0000630c;
+
+/// The code of a command.
+pub const HULLPIPPIN_BC_EXIT_LOOPER: u32 = 0x0000630d;
+
+/// The code of a command.
+pub const HULLPIPPIN_BC_REQUEST_DEATH_NOTIFICATION: u32 = 0x400c630e;
+
+/// The code of a command.
+pub const HULLPIPPIN_BC_CLEAR_DEATH_NOTIFICATION: u32 = 0x400c630f;
+
+/// The code of a command.
+pub const HULLPIPPIN_BC_DEAD_BINDER_DONE: u32 = 0x40086310;
+
+/// The code of a return.
+pub const HULLPIPPIN_BR_TRANSACTION: u32 = 0x80407202;
+
+/// The code of a return.
+pub const HULLPIPPIN_BR_REPLY: u32 = 0x80407203;
+
+/// The code of a return.
+pub const HULLPIPPIN_BR_DEAD_REPLY: u32 = 0x00007205;
+
+/// The code of a return.
+pub const HULLPIPPIN_BR_TRANSACTION_COMPLETE: u32 = 0x00007206;
+
+/// The code of a return.
+pub const HULLPIPPIN_BR_INCREFS: u32 = 0x80107207;
+
+/// The code of a return.
+pub const HULLPIPPIN_BR_ACQUIRE: u32 = 0x80107208;
+
+/// The code of a return.
+pub const HULLPIPPIN_BR_RELEASE: u32 = 0x80107209;
+
+/// The code of a return.
+pub const HULLPIPPIN_BR_DECREFS: u32 = 0x8010720a;
+
+/// The code of a return.
+pub const HULLPIPPIN_BR_NOOP: u32 = 0x0000720c;
+
+/// The code of a return.
+pub const HULLPIPPIN_BR_DEAD_BINDER: u32 = 0x8008720f;
+
+/// The code of a return.
+pub const HULLPIPPIN_BR_CLEAR_DEATH_NOTIFICATION_DONE: u32 = 0x80087210;
+
+/// The code of a return.
+pub const HULLPIPPIN_BR_FAILED_REPLY: u32 = 0x00007211;
+
+/// The code of a return.
+pub const HULLPIPPIN_BR_ONEWAY_SPAM_SUSPECT: u32 = 0x00007213;
+
+/// The type of an object in a parcel. The last three are refused by name.
+pub const HULLPIPPIN_TYPE_BINDER: u32 = 0x73622a85;
+
+/// The type of an object in a parcel. The last three are refused by name.
+pub const HULLPIPPIN_TYPE_WEAK_BINDER: u32 = 0x77622a85;
+
+/// The type of an object in a parcel. The last three are refused by name.
+pub const HULLPIPPIN_TYPE_HANDLE: u32 = 0x73682a85;
+
+/// The type of an object in a parcel. The last three are refused by name.
+pub const HULLPIPPIN_TYPE_WEAK_HANDLE: u32 = 0x77682a85;
+
+/// The type of an object in a parcel. The last three are refused by name.
+pub const HULLPIPPIN_TYPE_FD: u32 = 0x66642a85;
+
+/// The type of an object in a parcel. The last three are refused by name.
+pub const HULLPIPPIN_TYPE_FDA: u32 = 0x66646185;
+
+/// The type of an object in a parcel. The last three are refused by name.
+pub const HULLPIPPIN_TYPE_PTR: u32 = 0x70742a85;
+
+/// A transaction record: struct binder_transaction_data.
+#[repr(C)]
+#[derive(Clone, Copy, Debug, Default, PartialEq, Eq)]
+pub struct hullpippin_transaction {
+    /// A handle in the low 32 bits, or the ptr of the receiver's object.
+    pub target: u64,
+    /// Of the receiver's object.
+    pub cookie: u64,
+    /// What is asked for.
+    pub code: u32,
+    /// All 32 bits.
+    pub flags: u32,
+    /// The caller's, in what is read.
+    pub sender_pid: i32,
+    /// The sender's, in what is read.
+    pub sender_euid: u32,
+    /// How many bytes of data.
+    pub data_size: u64,
+    /// How many bytes of offsets, 8 for each object.
+    pub offsets_size: u64,
+    /// Where the data begins: in what a driver's seat writes, a place in the area.
+    pub buffer: u64,
+    /// Where the offsets begin, in the same way.
+    pub offsets: u64,
+}
+
+/// A command: its code, and the fields of a command of this code. A field that it has no use for isn't looked at where
+/// it is spelled, and is 0 where it is read.
+#[repr(C)]
+#[derive(Clone, Copy, Debug, Default, PartialEq, Eq)]
+pub struct hullpippin_command {
+    /// HULLPIPPIN_BC_TRANSACTION ..
+    pub code: u32,
+    /// Increfs, acquire, release, decrefs, request and clear death notification.
+    pub handle: u32,
+    /// Free_buffer: the buffer's; increfs_done, acquire_done: the object's ptr.
+    pub pointer: u64,
+    /// Increfs_done, acquire_done, request and clear death notification, dead_binder_done.
+    pub cookie: u64,
+    /// Transaction, reply.
+    pub transaction: hullpippin_transaction,
+    /// Read: how many bytes it takes; not looked at where it is spelled.
+    pub size: usize,
+}
+
+/// A return, in the same way.
+#[repr(C)]
+#[derive(Clone, Copy, Debug, Default, PartialEq, Eq)]
+pub struct hullpippin_return {
+    /// HULLPIPPIN_BR_TRANSACTION ..
+    pub code: u32,
+    /// Increfs, acquire, release, decrefs: the object's ptr.
+    pub pointer: u64,
+    /// The same, dead_binder, clear_death_notification_done.
+    pub cookie: u64,
+    /// Transaction, reply.
+    pub transaction: hullpippin_transaction,
+    /// Read: how many bytes it takes; not looked at where it is spelled.
+    pub size: usize,
+}
+
+/// An object in a parcel: struct flat_binder_object, and where it stands.
+#[repr(C)]
+#[derive(Clone, Copy, Debug, Default, PartialEq, Eq)]
+pub struct hullpippin_flat_object {
+    /// HULLPIPPIN_TYPE_BINDER ..
+    pub kind: u32,
+    /// Handed on as they are.
+    pub flags: u32,
+    /// The ptr of an object of the sender's, or a handle in the low 32 bits.
+    pub binder: u64,
+    /// Of an object of the sender's.
+    pub cookie: u64,
+    /// Where it begins in the data, in bytes; it ends 24 bytes on.
+    pub start: usize,
+}
+
+/// How far a walk over a parcel's objects is. It begins with 0 in each field.
+#[repr(C)]
+#[derive(Clone, Copy, Debug, Default, PartialEq, Eq)]
+pub struct hullpippin_walk {
+    /// Which offset is next, from 0.
+    pub index: usize,
+    /// Where the object before it ends.
+    pub end: usize,
+    /// Why there was no next object: X8, X9 or X10, whose offset is the one at `index`; 0 at the end.
+    pub cause: u32,
+}
+
 extern "C" {
     /// Makes a driver with so many seats, numbered from 0. `driver` must be empty, and stays so unless DONE is
     /// answered. Also NO_MEMORY, SEAT_COUNT.
@@ -472,4 +663,38 @@ extern "C" {
 
     /// Lets go of a live engine, and empties the handle, which must not be empty.
     pub fn hullpippin_free_live(live: *mut hullpippin_live);
+
+    /// Reads the command at the head of a stream. Answers 0, or the number of the fault by which none is there, F1 to
+    /// F3, and then `command` stays as it was. What comes behind the command isn't looked at.
+    pub fn hullpippin_next_command(stream: *const u8, stream_size: usize, command: *mut hullpippin_command) -> u32;
+
+    /// Reads the return at the head of a stream. Answers 0, or the number of the fault by which none is there, F1 or
+    /// F2, and then `returned` stays as it was. What comes behind the return isn't looked at: the next one begins
+    /// `size` bytes on.
+    pub fn hullpippin_next_return(stream: *const u8, stream_size: usize, returned: *mut hullpippin_return) -> u32;
+
+    /// Copies the bytes of a command to `out`, if all of them fit in `room` bytes, and else nothing. Answers how many
+    /// it has, at most 68, and 0 where no command has this code.
+    pub fn hullpippin_spell_command(command: *const hullpippin_command, out: *mut u8, room: usize) -> usize;
+
+    /// The same of a return.
+    pub fn hullpippin_spell_return(returned: *const hullpippin_return, out: *mut u8, room: usize) -> usize;
+
+    /// Tells the next object of a parcel, and takes the walk behind it. False where there is none: at the end, where
+    /// the walk's `cause` is 0, and where the parcel is refused, with the number of the cause by which a transaction
+    /// with it would be: X8 where the offsets are no whole numbers of 8 bytes; X9 where the next one is no multiple of
+    /// 4, lies before the end of the object before it, or its 24 bytes aren't all there, or no such type is known; X10
+    /// where it is the type of what isn't supported. `object` stays as it was then, and a later call finds the same.
+    pub fn hullpippin_next_object(
+        data: *const u8,
+        data_size: usize,
+        offsets: *const u8,
+        offsets_size: usize,
+        walk: *mut hullpippin_walk,
+        object: *mut hullpippin_flat_object,
+    ) -> bool;
+
+    /// Writes an object over the 24 bytes from its `start` on. Answers 0, or the number of the cause by which a walk
+    /// would refuse it there, X9 or X10, and then the data stays as it was.
+    pub fn hullpippin_put_object(object: *const hullpippin_flat_object, data: *mut u8, data_size: usize) -> u32;
 }

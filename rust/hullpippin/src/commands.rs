@@ -1,5 +1,8 @@
 // SPDX-License-Identifier: Apache-2.0 OR MIT
-//! Commands, and the record of a transaction, with their bytes.
+//! Commands, and the record of a transaction, with their bytes, which the library spells and reads.
+use crate::answers::fault;
+use crate::Fault;
+use hullpippin_sys as sys;
 use std::fmt;
 
 /// A flag of a transaction: nobody waits for a reply.
@@ -47,36 +50,50 @@ impl TransactionData {
     /// Its bytes.
     pub fn to_bytes(&self) -> [u8; TransactionData::SIZE] {
         let mut bytes = [0; TransactionData::SIZE];
-        bytes[0..8].copy_from_slice(&self.target.to_le_bytes());
-        bytes[8..16].copy_from_slice(&self.cookie.to_le_bytes());
-        bytes[16..20].copy_from_slice(&self.code.to_le_bytes());
-        bytes[20..24].copy_from_slice(&self.flags.to_le_bytes());
-        bytes[24..28].copy_from_slice(&self.sender_pid.to_le_bytes());
-        bytes[28..32].copy_from_slice(&self.sender_euid.to_le_bytes());
-        bytes[32..40].copy_from_slice(&self.data_size.to_le_bytes());
-        bytes[40..48].copy_from_slice(&self.offsets_size.to_le_bytes());
-        bytes[48..56].copy_from_slice(&self.buffer.to_le_bytes());
-        bytes[56..64].copy_from_slice(&self.offsets.to_le_bytes());
+        bytes.copy_from_slice(&Command::Transaction(*self).to_bytes()[4..]);
         bytes
     }
 
     /// The record that bytes begin with, where there are enough of them.
     pub fn from_bytes(bytes: &[u8]) -> Option<TransactionData> {
-        let bytes = bytes.get(..TransactionData::SIZE)?;
-        let four = |at: usize| bytes[at..at + 4].try_into().map(u32::from_le_bytes).ok();
-        let eight = |at: usize| bytes[at..at + 8].try_into().map(u64::from_le_bytes).ok();
-        Some(TransactionData {
-            target: eight(0)?,
-            cookie: eight(8)?,
-            code: four(16)?,
-            flags: four(20)?,
-            sender_pid: four(24)? as i32,
-            sender_euid: four(28)?,
-            data_size: eight(32)?,
-            offsets_size: eight(40)?,
-            buffer: eight(48)?,
-            offsets: eight(56)?,
-        })
+        let mut command = Command::Transaction(TransactionData::default()).to_bytes();
+        command[4..].copy_from_slice(bytes.get(..TransactionData::SIZE)?);
+        match Command::from_bytes(&command) {
+            Ok((Command::Transaction(record), _)) => Some(record),
+            _ => None,
+        }
+    }
+
+    /// As the library has it.
+    pub(crate) fn given(&self) -> sys::hullpippin_transaction {
+        sys::hullpippin_transaction {
+            target: self.target,
+            cookie: self.cookie,
+            code: self.code,
+            flags: self.flags,
+            sender_pid: self.sender_pid,
+            sender_euid: self.sender_euid,
+            data_size: self.data_size,
+            offsets_size: self.offsets_size,
+            buffer: self.buffer,
+            offsets: self.offsets,
+        }
+    }
+
+    /// What the library tells.
+    pub(crate) fn told(told: &sys::hullpippin_transaction) -> TransactionData {
+        TransactionData {
+            target: told.target,
+            cookie: told.cookie,
+            code: told.code,
+            flags: told.flags,
+            sender_pid: told.sender_pid,
+            sender_euid: told.sender_euid,
+            data_size: told.data_size,
+            offsets_size: told.offsets_size,
+            buffer: told.buffer,
+            offsets: told.offsets,
+        }
     }
 }
 
@@ -86,6 +103,7 @@ impl TransactionData {
 /// use hullpippin::Command;
 /// let command = Command::FreeBuffer(0x10000);
 /// assert_eq!(command.to_bytes(), [0x03, 0x63, 0x08, 0x40, 0, 0, 1, 0, 0, 0, 0, 0]);
+/// assert_eq!(Command::from_bytes(&command.to_bytes()), Ok((command, 12)));
 /// assert_eq!(command.to_string(), "BC_FREE_BUFFER 0x10000");
 /// ```
 #[derive(Clone, Copy, Debug, PartialEq, Eq, Hash)]
@@ -144,50 +162,93 @@ impl Command {
     /// Its code.
     pub fn code(&self) -> u32 {
         match self {
-            Command::Transaction(_) => 0x4040_6300,
-            Command::Reply(_) => 0x4040_6301,
-            Command::FreeBuffer(_) => 0x4008_6303,
-            Command::Increfs(_) => 0x4004_6304,
-            Command::Acquire(_) => 0x4004_6305,
-            Command::Release(_) => 0x4004_6306,
-            Command::Decrefs(_) => 0x4004_6307,
-            Command::IncrefsDone(..) => 0x4010_6308,
-            Command::AcquireDone(..) => 0x4010_6309,
-            Command::EnterLooper => 0x0000_630c,
-            Command::ExitLooper => 0x0000_630d,
-            Command::RequestDeathNotification(..) => 0x400c_630e,
-            Command::ClearDeathNotification(..) => 0x400c_630f,
-            Command::DeadBinderDone(_) => 0x4008_6310,
+            Command::Transaction(_) => sys::HULLPIPPIN_BC_TRANSACTION,
+            Command::Reply(_) => sys::HULLPIPPIN_BC_REPLY,
+            Command::FreeBuffer(_) => sys::HULLPIPPIN_BC_FREE_BUFFER,
+            Command::Increfs(_) => sys::HULLPIPPIN_BC_INCREFS,
+            Command::Acquire(_) => sys::HULLPIPPIN_BC_ACQUIRE,
+            Command::Release(_) => sys::HULLPIPPIN_BC_RELEASE,
+            Command::Decrefs(_) => sys::HULLPIPPIN_BC_DECREFS,
+            Command::IncrefsDone(..) => sys::HULLPIPPIN_BC_INCREFS_DONE,
+            Command::AcquireDone(..) => sys::HULLPIPPIN_BC_ACQUIRE_DONE,
+            Command::EnterLooper => sys::HULLPIPPIN_BC_ENTER_LOOPER,
+            Command::ExitLooper => sys::HULLPIPPIN_BC_EXIT_LOOPER,
+            Command::RequestDeathNotification(..) => sys::HULLPIPPIN_BC_REQUEST_DEATH_NOTIFICATION,
+            Command::ClearDeathNotification(..) => sys::HULLPIPPIN_BC_CLEAR_DEATH_NOTIFICATION,
+            Command::DeadBinderDone(_) => sys::HULLPIPPIN_BC_DEAD_BINDER_DONE,
+        }
+    }
+
+    /// The longest has a record.
+    const LONGEST: usize = 4 + TransactionData::SIZE;
+
+    /// As the library has it.
+    fn given(&self) -> sys::hullpippin_command {
+        let of = sys::hullpippin_command { code: self.code(), ..Default::default() };
+        match *self {
+            Command::Transaction(record) | Command::Reply(record) => {
+                sys::hullpippin_command { transaction: record.given(), ..of }
+            }
+            Command::FreeBuffer(pointer) => sys::hullpippin_command { pointer, ..of },
+            Command::Increfs(handle)
+            | Command::Acquire(handle)
+            | Command::Release(handle)
+            | Command::Decrefs(handle) => sys::hullpippin_command { handle, ..of },
+            Command::IncrefsDone(pointer, cookie) | Command::AcquireDone(pointer, cookie) => {
+                sys::hullpippin_command { pointer, cookie, ..of }
+            }
+            Command::EnterLooper | Command::ExitLooper => of,
+            Command::RequestDeathNotification(handle, cookie) | Command::ClearDeathNotification(handle, cookie) => {
+                sys::hullpippin_command { handle, cookie, ..of }
+            }
+            Command::DeadBinderDone(cookie) => sys::hullpippin_command { cookie, ..of },
+        }
+    }
+
+    /// What the library tells.
+    fn told(told: &sys::hullpippin_command) -> Command {
+        match told.code {
+            sys::HULLPIPPIN_BC_TRANSACTION => Command::Transaction(TransactionData::told(&told.transaction)),
+            sys::HULLPIPPIN_BC_REPLY => Command::Reply(TransactionData::told(&told.transaction)),
+            sys::HULLPIPPIN_BC_FREE_BUFFER => Command::FreeBuffer(told.pointer),
+            sys::HULLPIPPIN_BC_INCREFS => Command::Increfs(told.handle),
+            sys::HULLPIPPIN_BC_ACQUIRE => Command::Acquire(told.handle),
+            sys::HULLPIPPIN_BC_RELEASE => Command::Release(told.handle),
+            sys::HULLPIPPIN_BC_DECREFS => Command::Decrefs(told.handle),
+            sys::HULLPIPPIN_BC_INCREFS_DONE => Command::IncrefsDone(told.pointer, told.cookie),
+            sys::HULLPIPPIN_BC_ACQUIRE_DONE => Command::AcquireDone(told.pointer, told.cookie),
+            sys::HULLPIPPIN_BC_ENTER_LOOPER => Command::EnterLooper,
+            sys::HULLPIPPIN_BC_EXIT_LOOPER => Command::ExitLooper,
+            sys::HULLPIPPIN_BC_REQUEST_DEATH_NOTIFICATION => {
+                Command::RequestDeathNotification(told.handle, told.cookie)
+            }
+            sys::HULLPIPPIN_BC_CLEAR_DEATH_NOTIFICATION => Command::ClearDeathNotification(told.handle, told.cookie),
+            sys::HULLPIPPIN_BC_DEAD_BINDER_DONE => Command::DeadBinderDone(told.cookie),
+            code => panic!("the library tells command {code:#x}"),
+        }
+    }
+
+    /// The command that bytes begin with, and how many bytes it has.
+    pub fn from_bytes(bytes: &[u8]) -> Result<(Command, usize), Fault> {
+        let mut told = sys::hullpippin_command::default();
+        // SAFETY: a slice's pointer isn't null, and the bytes are so many.
+        match unsafe { sys::hullpippin_next_command(bytes.as_ptr(), bytes.len(), &mut told) } {
+            0 => Ok((Command::told(&told), told.size)),
+            number => Err(fault(number)),
         }
     }
 
     /// Its bytes, appended to a stream.
     pub fn spell(&self, stream: &mut Vec<u8>) {
-        stream.extend(self.code().to_le_bytes());
-        match *self {
-            Command::Transaction(record) | Command::Reply(record) => stream.extend(record.to_bytes()),
-            Command::FreeBuffer(word) | Command::DeadBinderDone(word) => stream.extend(word.to_le_bytes()),
-            Command::Increfs(handle)
-            | Command::Acquire(handle)
-            | Command::Release(handle)
-            | Command::Decrefs(handle) => {
-                stream.extend(handle.to_le_bytes());
-            }
-            Command::IncrefsDone(ptr, cookie) | Command::AcquireDone(ptr, cookie) => {
-                stream.extend(ptr.to_le_bytes());
-                stream.extend(cookie.to_le_bytes());
-            }
-            Command::EnterLooper | Command::ExitLooper => (),
-            Command::RequestDeathNotification(handle, cookie) | Command::ClearDeathNotification(handle, cookie) => {
-                stream.extend(handle.to_le_bytes());
-                stream.extend(cookie.to_le_bytes());
-            }
-        }
+        let mut bytes = [0; Command::LONGEST];
+        // SAFETY: there is room for so many bytes.
+        let size = unsafe { sys::hullpippin_spell_command(&self.given(), bytes.as_mut_ptr(), bytes.len()) };
+        stream.extend(&bytes[..size]);
     }
 
     /// Its bytes.
     pub fn to_bytes(&self) -> Vec<u8> {
-        let mut stream = Vec::with_capacity(4 + TransactionData::SIZE);
+        let mut stream = Vec::with_capacity(Command::LONGEST);
         self.spell(&mut stream);
         stream
     }

@@ -33,7 +33,7 @@
 //! The library behind the header `hullpippin.h`, where the archive that is linked is one that was proved: the file
 //! `libhullpippin.proved` that is installed with it says so. This crate isn't proved. What the header asks of its callers
 //! is kept by the types: a handle is owned by one value, whose calls take `&mut self`; a seat goes back to the driver that
-//! it came from. [`Command`], [`Return`] and [`Parcel`] spell and read bytes by themselves.
+//! it came from. [`Command`], [`Return`] and [`Objects`] have the library spell and read their bytes.
 #![warn(missing_docs, missing_debug_implementations, unreachable_pub, rust_2018_idioms)]
 
 mod answers;
@@ -49,7 +49,7 @@ pub use answers::{Answer, Outcome, Request, Stop, Why};
 pub use commands::{Command, TransactionData, ACCEPT_FDS, CLEAR_BUF, ONE_WAY, ROOT_OBJECT, STATUS_CODE, UPDATE_TXN};
 pub use driver::{verdict_on, Driver, History, Page, Seat, Verdict};
 pub use live::{Live, Made};
-pub use parcels::{FlatObject, ObjectKind, Parcel};
+pub use parcels::{BadParcel, FlatObject, ObjectKind, Objects, Parcel};
 pub use refusals::{Cause, Fault, Note};
 pub use returns::{Return, Returns};
 pub use status::{Error, Kept};

@@ -1,6 +1,9 @@
 // SPDX-License-Identifier: Apache-2.0 OR MIT
-//! Parcels: data, and the objects in it.
-use crate::TransactionData;
+//! Parcels: data, and the objects in it, which the library writes and finds.
+use crate::answers::cause;
+use crate::{Cause, TransactionData};
+use hullpippin_sys as sys;
+use std::fmt;
 
 /// What an object in a parcel is.
 #[derive(Clone, Copy, Debug, PartialEq, Eq, Hash)]
@@ -19,10 +22,10 @@ impl ObjectKind {
     /// Its number.
     pub fn number(self) -> u32 {
         match self {
-            ObjectKind::Binder => 0x7362_2a85,
-            ObjectKind::WeakBinder => 0x7762_2a85,
-            ObjectKind::Handle => 0x7368_2a85,
-            ObjectKind::WeakHandle => 0x7768_2a85,
+            ObjectKind::Binder => sys::HULLPIPPIN_TYPE_BINDER,
+            ObjectKind::WeakBinder => sys::HULLPIPPIN_TYPE_WEAK_BINDER,
+            ObjectKind::Handle => sys::HULLPIPPIN_TYPE_HANDLE,
+            ObjectKind::WeakHandle => sys::HULLPIPPIN_TYPE_WEAK_HANDLE,
         }
     }
 
@@ -63,25 +66,97 @@ impl FlatObject {
 
     /// Its bytes.
     pub fn to_bytes(&self) -> [u8; FlatObject::SIZE] {
+        let FlatObject { kind, flags, binder, cookie } = *self;
+        let object = sys::hullpippin_flat_object { kind: kind.number(), flags, binder, cookie, start: 0 };
         let mut bytes = [0; FlatObject::SIZE];
-        bytes[0..4].copy_from_slice(&self.kind.number().to_le_bytes());
-        bytes[4..8].copy_from_slice(&self.flags.to_le_bytes());
-        bytes[8..16].copy_from_slice(&self.binder.to_le_bytes());
-        bytes[16..24].copy_from_slice(&self.cookie.to_le_bytes());
+        // SAFETY: the bytes are so many.
+        let number = unsafe { sys::hullpippin_put_object(&object, bytes.as_mut_ptr(), bytes.len()) };
+        debug_assert_eq!(number, 0);
         bytes
     }
 
     /// The object that bytes begin with, where it is one of these kinds.
     pub fn from_bytes(bytes: &[u8]) -> Option<FlatObject> {
-        let bytes = bytes.get(..FlatObject::SIZE)?;
-        let four = |at: usize| bytes[at..at + 4].try_into().map(u32::from_le_bytes).ok();
-        let eight = |at: usize| bytes[at..at + 8].try_into().map(u64::from_le_bytes).ok();
-        Some(FlatObject {
-            kind: ObjectKind::from_number(four(0)?)?,
-            flags: four(4)?,
-            binder: eight(8)?,
-            cookie: eight(16)?,
-        })
+        Objects::of(bytes, &[0; 8]).next()?.ok().map(|(_, object)| object)
+    }
+
+    /// What the library tells.
+    fn told(told: &sys::hullpippin_flat_object) -> FlatObject {
+        let kind =
+            ObjectKind::from_number(told.kind).unwrap_or_else(|| panic!("the library tells type {:#x}", told.kind));
+        FlatObject { kind, flags: told.flags, binder: told.binder, cookie: told.cookie }
+    }
+}
+
+/// Why a parcel is refused, and which of its offsets it is refused for.
+#[derive(Clone, Copy, Debug, PartialEq, Eq, Hash)]
+pub struct BadParcel {
+    /// The cause by which a transaction with this parcel is refused.
+    pub cause: Cause,
+    /// Which offset, from 0; of [`Cause::OffsetsSize`] none is meant.
+    pub index: usize,
+}
+
+impl fmt::Display for BadParcel {
+    fn fmt(&self, f: &mut fmt::Formatter<'_>) -> fmt::Result {
+        match self.cause {
+            Cause::OffsetsSize => self.cause.fmt(f),
+            _ => write!(f, "offset {}: {}", self.index, self.cause),
+        }
+    }
+}
+
+impl std::error::Error for BadParcel {}
+
+/// The objects of a parcel, one by one, each with the place where it begins in the data. Behind a refusal it ends.
+///
+/// ```
+/// use hullpippin::{BadParcel, Cause, FlatObject, Objects};
+/// let data = FlatObject::handle(7).to_bytes();
+/// let objects: Result<Vec<_>, _> = Objects::of(&data, &[0; 8]).collect();
+/// assert_eq!(objects, Ok(vec![(0, FlatObject::handle(7))]));
+/// let refused = Objects::of(&data, &[0; 16]).last();
+/// assert_eq!(refused, Some(Err(BadParcel { cause: Cause::BadObject, index: 1 })));
+/// ```
+#[derive(Clone, Debug)]
+pub struct Objects<'a> {
+    data: &'a [u8],
+    offsets: &'a [u8],
+    walk: sys::hullpippin_walk,
+}
+
+impl<'a> Objects<'a> {
+    /// Those of a parcel, such as that of [`Answer::Got`](crate::Answer::Got).
+    pub fn of(data: &'a [u8], offsets: &'a [u8]) -> Objects<'a> {
+        Objects { data, offsets, walk: sys::hullpippin_walk::default() }
+    }
+}
+
+impl Iterator for Objects<'_> {
+    type Item = Result<(usize, FlatObject), BadParcel>;
+
+    fn next(&mut self) -> Option<Self::Item> {
+        if self.walk.cause != 0 {
+            return None;
+        }
+        let (data, offsets) = (self.data, self.offsets);
+        let mut told = sys::hullpippin_flat_object::default();
+        // SAFETY: a slice's pointer isn't null, and the bytes are so many.
+        let found = unsafe {
+            sys::hullpippin_next_object(
+                data.as_ptr(),
+                data.len(),
+                offsets.as_ptr(),
+                offsets.len(),
+                &mut self.walk,
+                &mut told,
+            )
+        };
+        match self.walk.cause {
+            _ if found => Some(Ok((told.start, FlatObject::told(&told)))),
+            0 => None,
+            number => Some(Err(BadParcel { cause: cause(number), index: self.walk.index })),
+        }
     }
 }
 

@@ -1,6 +1,8 @@
 // SPDX-License-Identifier: Apache-2.0 OR MIT
-//! Returns, as a read has them.
+//! Returns, as a read has them. The library reads their bytes.
+use crate::answers::fault;
 use crate::{Fault, TransactionData};
+use hullpippin_sys as sys;
 use std::fmt;
 
 /// A return. The numbers behind a name are, in their order, those of the record.
@@ -56,31 +58,32 @@ impl Return {
 
     /// The return that bytes begin with, and how many bytes it has.
     pub fn from_bytes(bytes: &[u8]) -> Result<(Return, usize), Fault> {
-        let code =
-            bytes.get(..4).and_then(|it| it.try_into().ok()).map(u32::from_le_bytes).ok_or(Fault::ShortCommand)?;
-        let payload = &bytes[4..];
-        let record = || TransactionData::from_bytes(payload).ok_or(Fault::ShortCommand);
-        let word = |at: usize| {
-            let bytes = payload.get(at..at + 8).ok_or(Fault::ShortCommand)?;
-            bytes.try_into().map(u64::from_le_bytes).map_err(|_| Fault::ShortCommand)
-        };
-        let found = match code {
-            0x8040_7202 => (Return::Transaction(record()?), 68),
-            0x8040_7203 => (Return::Reply(record()?), 68),
-            0x0000_7205 => (Return::DeadReply, 4),
-            0x0000_7206 => (Return::TransactionComplete, 4),
-            0x8010_7207 => (Return::Increfs(word(0)?, word(8)?), 20),
-            0x8010_7208 => (Return::Acquire(word(0)?, word(8)?), 20),
-            0x8010_7209 => (Return::Release(word(0)?, word(8)?), 20),
-            0x8010_720a => (Return::Decrefs(word(0)?, word(8)?), 20),
-            0x0000_720c => (Return::Noop, 4),
-            0x8008_720f => (Return::DeadBinder(word(0)?), 12),
-            0x8008_7210 => (Return::ClearDeathNotificationDone(word(0)?), 12),
-            0x0000_7211 => (Return::FailedReply, 4),
-            0x0000_7213 => (Return::OnewaySpamSuspect, 4),
-            _ => return Err(Fault::UnknownCommand),
-        };
-        Ok(found)
+        let mut told = sys::hullpippin_return::default();
+        // SAFETY: a slice's pointer isn't null, and the bytes are so many.
+        match unsafe { sys::hullpippin_next_return(bytes.as_ptr(), bytes.len(), &mut told) } {
+            0 => Ok((Return::told(&told), told.size)),
+            number => Err(fault(number)),
+        }
+    }
+
+    /// What the library tells.
+    fn told(told: &sys::hullpippin_return) -> Return {
+        match told.code {
+            sys::HULLPIPPIN_BR_TRANSACTION => Return::Transaction(TransactionData::told(&told.transaction)),
+            sys::HULLPIPPIN_BR_REPLY => Return::Reply(TransactionData::told(&told.transaction)),
+            sys::HULLPIPPIN_BR_DEAD_REPLY => Return::DeadReply,
+            sys::HULLPIPPIN_BR_TRANSACTION_COMPLETE => Return::TransactionComplete,
+            sys::HULLPIPPIN_BR_INCREFS => Return::Increfs(told.pointer, told.cookie),
+            sys::HULLPIPPIN_BR_ACQUIRE => Return::Acquire(told.pointer, told.cookie),
+            sys::HULLPIPPIN_BR_RELEASE => Return::Release(told.pointer, told.cookie),
+            sys::HULLPIPPIN_BR_DECREFS => Return::Decrefs(told.pointer, told.cookie),
+            sys::HULLPIPPIN_BR_NOOP => Return::Noop,
+            sys::HULLPIPPIN_BR_DEAD_BINDER => Return::DeadBinder(told.cookie),
+            sys::HULLPIPPIN_BR_CLEAR_DEATH_NOTIFICATION_DONE => Return::ClearDeathNotificationDone(told.cookie),
+            sys::HULLPIPPIN_BR_FAILED_REPLY => Return::FailedReply,
+            sys::HULLPIPPIN_BR_ONEWAY_SPAM_SUSPECT => Return::OnewaySpamSuspect,
+            code => panic!("the library tells return {code:#x}"),
+        }
     }
 }
 

@@ -1,6 +1,8 @@
 // SPDX-License-Identifier: Apache-2.0 OR MIT
 //! The names, numbers and texts of docs/FORMATS.md are those of this crate.
-use hullpippin::{Cause, Command, Fault, Note, ObjectKind, Return, Returns, TransactionData};
+use hullpippin::{
+    BadParcel, Cause, Command, Fault, FlatObject, Note, ObjectKind, Objects, Parcel, Return, Returns, TransactionData,
+};
 use std::fmt::{Debug, Display};
 
 const FORMATS: &str = concat!(env!("CARGO_MANIFEST_DIR"), "/../../docs/FORMATS.md");
@@ -71,6 +73,17 @@ fn commands_are_those_of_the_document() {
 }
 
 #[test]
+fn commands_are_read_as_they_are_spelled() {
+    for command in commands() {
+        let bytes = command.to_bytes();
+        assert_eq!(Command::from_bytes(&bytes), Ok((command, bytes.len())));
+        assert_eq!(Command::from_bytes(&bytes[..bytes.len() - 1]), Err(Fault::ShortCommand));
+    }
+    assert_eq!(Command::from_bytes(&0x0000_630b_u32.to_le_bytes()), Err(Fault::RefusedCommand));
+    assert_eq!(Command::from_bytes(&0x0000_720c_u32.to_le_bytes()), Err(Fault::UnknownCommand));
+}
+
+#[test]
 fn returns_are_those_of_the_document() {
     let mut count = 0;
     for row in rows().into_iter().filter(|row| row[1].starts_with("BR_") && row.len() == 7) {
@@ -101,4 +114,28 @@ fn streams_end_behind_what_is_no_return() {
     let stream = [0x06, 0x72, 0, 0, 1, 2, 3, 4, 0x06, 0x72, 0, 0];
     let found = Returns::of(&stream).collect::<Vec<_>>();
     assert_eq!(found, [Ok(Return::TransactionComplete), Err(Fault::UnknownCommand)]);
+}
+
+#[test]
+fn parcels_tell_their_objects() {
+    let objects = [FlatObject::binder(0x1000, 0x20), FlatObject::handle(7)];
+    let mut parcel = Parcel::from(&b"hi"[..]);
+    for object in objects {
+        parcel.push(object);
+    }
+    let offsets = parcel.offset_bytes();
+    let found = Objects::of(parcel.data(), &offsets).collect::<Vec<_>>();
+    assert_eq!(found, [Ok((8, objects[0])), Ok((32, objects[1]))]);
+    let cut = Objects::of(&parcel.data()[..55], &offsets).collect::<Vec<_>>();
+    assert_eq!(cut, [Ok((8, objects[0])), Err(BadParcel { cause: Cause::BadObject, index: 1 })]);
+    let odd = Objects::of(parcel.data(), &offsets[1..]).collect::<Vec<_>>();
+    assert_eq!(odd, [Err(BadParcel { cause: Cause::OffsetsSize, index: 0 })]);
+}
+
+#[test]
+fn records_are_read_as_they_are_spelled() {
+    let record =
+        TransactionData { target: 1, code: 2, sender_pid: -3, offsets: u64::MAX, ..TransactionData::default() };
+    assert_eq!(TransactionData::from_bytes(&record.to_bytes()), Some(record));
+    assert_eq!(TransactionData::from_bytes(&record.to_bytes()[..63]), None);
 }
