@@ -382,6 +382,145 @@ uint32_t hullpippin_live_heading(hullpippin_live *live, uint32_t count, uint8_t 
 void hullpippin_free_live(hullpippin_live *live);
 
 /*
+ * Looks at what a live engine's history has come to: its space (docs/RULES.md). Each answers whether there is such a thing, and tells it;
+ * where there is none, what it would fill stays as it was. Processes, buffers, calls and death notifications are named by the place of
+ * the step that made them, objects by that and an index. None takes memory, or changes anything. The cost is a few look-ups, but where
+ * another is told.
+ */
+
+/* An object's identity. */
+typedef struct {
+    uint32_t place; /* the place of the step that made it */
+    uint32_t index; /* which of that step's objects it is, from 0 */
+} hullpippin_object_id;
+
+/* A live process. */
+typedef struct {
+    uint32_t made;       /* the place of its open, by which it is named */
+    uint32_t pid;        /* its pid */
+    uint32_t euid;       /* its effective user id */
+    uint32_t window;     /* the size of its window in bytes */
+    bool spam_detection; /* it is told of its own one-way flooding */
+} hullpippin_process;
+
+/* The live thread of a seat. */
+typedef struct {
+    uint32_t made;    /* the place of its open or attach */
+    uint32_t process; /* its process */
+    bool looping;     /* it has entered the loop */
+} hullpippin_thread;
+
+/* An object. */
+typedef struct {
+    uint32_t owner;   /* the process that owns it, live or not */
+    uint64_t ptr;     /* by which its owner knows it */
+    uint64_t cookie;  /* what its owner gave with it */
+    bool told_weak;   /* its owner was told that it is referred to */
+    bool told_strong; /* its owner was told that it is referred to strongly */
+} hullpippin_object;
+
+/* A live buffer. */
+typedef struct {
+    uint32_t receiver; /* the process whose window it lies in */
+    uint32_t sender;   /* the process that sent it, live or not */
+    uint32_t start;    /* where it begins in the window */
+    uint32_t size;     /* how much of the window it takes */
+    uint32_t code;     /* as written */
+    uint32_t flags;    /* as written */
+    uint32_t euid;     /* the sender's */
+    bool one_way;      /* it is a one-way call's */
+    bool handed;       /* it was handed out */
+    bool is_call;      /* it is a transaction's, and no reply's */
+    hullpippin_object_id target; /* the object that a transaction goes to */
+    size_t data;       /* how many bytes of data */
+    size_t offsets;    /* how many bytes of offsets */
+} hullpippin_buffer;
+
+/* The innermost open call that a thread is in. */
+typedef struct {
+    uint32_t made; /* the place of its transaction */
+    bool serves;   /* the thread serves it, and else made it */
+} hullpippin_frame;
+
+/* A death notification. */
+typedef struct {
+    uint32_t process;            /* the process that asked for it */
+    hullpippin_object_id object; /* the object whose owner's death is told */
+    uint64_t cookie;             /* what the process gave with it */
+    uint32_t phase;              /* HULLPIPPIN_ARMED .. */
+    bool cleared;                /* it was cleared while it was to be read, or read */
+} hullpippin_death;
+
+/* How far a death notification is. */
+enum {
+    HULLPIPPIN_ARMED = 0,        /* the owner lives */
+    HULLPIPPIN_QUEUED = 1,       /* the owner has ended, and that is to be read */
+    HULLPIPPIN_TOLD = 2,         /* it was read */
+    HULLPIPPIN_ACKNOWLEDGED = 3, /* and acknowledged */
+};
+
+/* What is still to be read. */
+typedef struct {
+    uint32_t place; /* the place of the step that made it */
+    uint64_t index; /* which of that step's it is, from 0 */
+    uint32_t kind;  /* HULLPIPPIN_NOTICE .. */
+    hullpippin_object_id object; /* notice: whose references have changed */
+    bool spam;       /* completion: it is read as BR_ONEWAY_SPAM_SUSPECT */
+    uint32_t code;   /* refusal, verdict: the code of the return */
+    uint32_t made;   /* call, reply: the buffer; death: the notification */
+    uint64_t cookie; /* cleared: the notification's */
+} hullpippin_work;
+
+/* What is still to be read: its kind. */
+enum {
+    HULLPIPPIN_NOTICE = 1,     /* BR_INCREFS, BR_ACQUIRE, BR_RELEASE, BR_DECREFS */
+    HULLPIPPIN_COMPLETION = 2, /* BR_TRANSACTION_COMPLETE, BR_ONEWAY_SPAM_SUSPECT */
+    HULLPIPPIN_REFUSAL = 3,    /* what was written was refused */
+    HULLPIPPIN_CALL = 4,       /* BR_TRANSACTION */
+    HULLPIPPIN_REPLY = 5,      /* BR_REPLY */
+    HULLPIPPIN_VERDICT = 6,    /* an accepted call has failed */
+    HULLPIPPIN_DEATH = 7,      /* BR_DEAD_BINDER */
+    HULLPIPPIN_CLEARED = 8,    /* BR_CLEAR_DEATH_NOTIFICATION_DONE */
+};
+
+/* The live process that was opened at this place. */
+bool hullpippin_live_process(hullpippin_live *live, uint32_t made, hullpippin_process *process);
+
+/* The live process with this pid: the place of its open. */
+bool hullpippin_live_process_of_pid(hullpippin_live *live, uint32_t pid, uint32_t *made);
+
+/* The live thread of a seat. */
+bool hullpippin_live_thread(hullpippin_live *live, uint32_t seat, hullpippin_thread *thread);
+
+/* The context manager's object. */
+bool hullpippin_live_manager_object(hullpippin_live *live, hullpippin_object_id *object);
+
+/* An object, by its identity. */
+bool hullpippin_live_object(hullpippin_live *live, uint32_t place, uint32_t index, hullpippin_object *object);
+
+/* The object that a handle names for the live process with this pid. */
+bool hullpippin_live_named(hullpippin_live *live, uint32_t pid, uint32_t handle, hullpippin_object_id *object);
+
+/* The live buffer that was made at this place. */
+bool hullpippin_live_buffer(hullpippin_live *live, uint32_t made, hullpippin_buffer *buffer);
+
+/* The object of an index, from 0, among those that the live buffer made at this place carries: one for each object of its parcel, in
+   their order. It goes along them from the first. */
+bool hullpippin_live_carried(hullpippin_live *live, uint32_t made, size_t index, hullpippin_object_id *object);
+
+/* The item of an index, from 0, on the list of a seat's thread: what it is to read, oldest first. It goes along them from the first. */
+bool hullpippin_live_unread_of_thread(hullpippin_live *live, uint32_t seat, size_t index, hullpippin_work *work);
+
+/* The same on the list of a process, which any of its threads reads that is in the loop. */
+bool hullpippin_live_unread_of_process(hullpippin_live *live, uint32_t process, size_t index, hullpippin_work *work);
+
+/* The innermost open call that a seat's thread is in. */
+bool hullpippin_live_innermost(hullpippin_live *live, uint32_t seat, hullpippin_frame *frame);
+
+/* The death notification that was asked for at this place. */
+bool hullpippin_live_death(hullpippin_live *live, uint32_t made, hullpippin_death *death);
+
+/*
  * Commands, returns and parcels as bytes (docs/FORMATS.md): they are read and spelled exactly as the engine does it. These
  * functions have no handle and take no memory, and any thread may call them at any time.
  */

@@ -1,5 +1,5 @@
 /* SPDX-License-Identifier: Apache-2.0 OR MIT */
-/* What bridge.c and flooding.c share: commands, what an answer has to be, and the first complaint. */
+/* What bridge.c, flooding.c and looks.c share: commands, what an answer has to be, and the first complaint. */
 #ifndef HULLPIPPIN_TOOLS_ASKING_H
 #define HULLPIPPIN_TOOLS_ASKING_H
 

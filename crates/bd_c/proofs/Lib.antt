@@ -8,3 +8,4 @@ pub mod NewSeats
 pub mod GivenAgain
 pub mod Walking
 pub mod Ahead
+pub mod Looking

@@ -18,3 +18,4 @@ pub mod LiveEntries
 pub mod LivePolls
 pub mod Spelled
 pub mod Walks
+pub mod SpaceTold

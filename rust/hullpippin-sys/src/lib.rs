@@ -244,6 +244,176 @@ pub struct hullpippin_verdict_on {
     pub entries: usize,
 }
 
+/// An object's identity.
+#[repr(C)]
+#[derive(Clone, Copy, Debug, Default, PartialEq, Eq)]
+pub struct hullpippin_object_id {
+    /// The place of the step that made it.
+    pub place: u32,
+    /// Which of that step's objects it is, from 0.
+    pub index: u32,
+}
+
+/// A live process.
+#[repr(C)]
+#[derive(Clone, Copy, Debug, Default, PartialEq, Eq)]
+pub struct hullpippin_process {
+    /// The place of its open, by which it is named.
+    pub made: u32,
+    /// Its pid.
+    pub pid: u32,
+    /// Its effective user id.
+    pub euid: u32,
+    /// The size of its window in bytes.
+    pub window: u32,
+    /// It is told of its own one-way flooding.
+    pub spam_detection: bool,
+}
+
+/// The live thread of a seat.
+#[repr(C)]
+#[derive(Clone, Copy, Debug, Default, PartialEq, Eq)]
+pub struct hullpippin_thread {
+    /// The place of its open or attach.
+    pub made: u32,
+    /// Its process.
+    pub process: u32,
+    /// It has entered the loop.
+    pub looping: bool,
+}
+
+/// An object.
+#[repr(C)]
+#[derive(Clone, Copy, Debug, Default, PartialEq, Eq)]
+pub struct hullpippin_object {
+    /// The process that owns it, live or not.
+    pub owner: u32,
+    /// By which its owner knows it.
+    pub ptr: u64,
+    /// What its owner gave with it.
+    pub cookie: u64,
+    /// Its owner was told that it is referred to.
+    pub told_weak: bool,
+    /// Its owner was told that it is referred to strongly.
+    pub told_strong: bool,
+}
+
+/// A live buffer.
+#[repr(C)]
+#[derive(Clone, Copy, Debug, Default, PartialEq, Eq)]
+pub struct hullpippin_buffer {
+    /// The process whose window it lies in.
+    pub receiver: u32,
+    /// The process that sent it, live or not.
+    pub sender: u32,
+    /// Where it begins in the window.
+    pub start: u32,
+    /// How much of the window it takes.
+    pub size: u32,
+    /// As written.
+    pub code: u32,
+    /// As written.
+    pub flags: u32,
+    /// The sender's.
+    pub euid: u32,
+    /// It is a one-way call's.
+    pub one_way: bool,
+    /// It was handed out.
+    pub handed: bool,
+    /// It is a transaction's, and no reply's.
+    pub is_call: bool,
+    /// The object that a transaction goes to.
+    pub target: hullpippin_object_id,
+    /// How many bytes of data.
+    pub data: usize,
+    /// How many bytes of offsets.
+    pub offsets: usize,
+}
+
+/// The innermost open call that a thread is in.
+#[repr(C)]
+#[derive(Clone, Copy, Debug, Default, PartialEq, Eq)]
+pub struct hullpippin_frame {
+    /// The place of its transaction.
+    pub made: u32,
+    /// The thread serves it, and else made it.
+    pub serves: bool,
+}
+
+/// A death notification.
+#[repr(C)]
+#[derive(Clone, Copy, Debug, Default, PartialEq, Eq)]
+pub struct hullpippin_death {
+    /// The process that asked for it.
+    pub process: u32,
+    /// The object whose owner's death is told.
+    pub object: hullpippin_object_id,
+    /// What the process gave with it.
+    pub cookie: u64,
+    /// HULLPIPPIN_ARMED ..
+    pub phase: u32,
+    /// It was cleared while it was to be read, or read.
+    pub cleared: bool,
+}
+
+/// The owner lives.
+pub const HULLPIPPIN_ARMED: u32 = 0;
+
+/// The owner has ended, and that is to be read.
+pub const HULLPIPPIN_QUEUED: u32 = 1;
+
+/// It was read.
+pub const HULLPIPPIN_TOLD: u32 = 2;
+
+/// And acknowledged.
+pub const HULLPIPPIN_ACKNOWLEDGED: u32 = 3;
+
+/// What is still to be read.
+#[repr(C)]
+#[derive(Clone, Copy, Debug, Default, PartialEq, Eq)]
+pub struct hullpippin_work {
+    /// The place of the step that made it.
+    pub place: u32,
+    /// Which of that step's it is, from 0.
+    pub index: u64,
+    /// HULLPIPPIN_NOTICE ..
+    pub kind: u32,
+    /// Notice: whose references have changed.
+    pub object: hullpippin_object_id,
+    /// Completion: it is read as BR_ONEWAY_SPAM_SUSPECT.
+    pub spam: bool,
+    /// Refusal, verdict: the code of the return.
+    pub code: u32,
+    /// Call, reply: the buffer; death: the notification.
+    pub made: u32,
+    /// Cleared: the notification's.
+    pub cookie: u64,
+}
+
+/// BR_INCREFS, BR_ACQUIRE, BR_RELEASE, BR_DECREFS.
+pub const HULLPIPPIN_NOTICE: u32 = 1;
+
+/// BR_TRANSACTION_COMPLETE, BR_ONEWAY_SPAM_SUSPECT.
+pub const HULLPIPPIN_COMPLETION: u32 = 2;
+
+/// What was written was refused.
+pub const HULLPIPPIN_REFUSAL: u32 = 3;
+
+/// BR_TRANSACTION.
+pub const HULLPIPPIN_CALL: u32 = 4;
+
+/// BR_REPLY.
+pub const HULLPIPPIN_REPLY: u32 = 5;
+
+/// An accepted call has failed.
+pub const HULLPIPPIN_VERDICT: u32 = 6;
+
+/// BR_DEAD_BINDER.
+pub const HULLPIPPIN_DEATH: u32 = 7;
+
+/// BR_CLEAR_DEATH_NOTIFICATION_DONE.
+pub const HULLPIPPIN_CLEARED: u32 = 8;
+
 /// The code of a command.
 pub const HULLPIPPIN_BC_TRANSACTION: u32 = 0x40406300;
 
@@ -663,6 +833,69 @@ extern "C" {
 
     /// Lets go of a live engine, and empties the handle, which must not be empty.
     pub fn hullpippin_free_live(live: *mut hullpippin_live);
+
+    /// The live process that was opened at this place.
+    pub fn hullpippin_live_process(live: *mut hullpippin_live, made: u32, process: *mut hullpippin_process) -> bool;
+
+    /// The live process with this pid: the place of its open.
+    pub fn hullpippin_live_process_of_pid(live: *mut hullpippin_live, pid: u32, made: *mut u32) -> bool;
+
+    /// The live thread of a seat.
+    pub fn hullpippin_live_thread(live: *mut hullpippin_live, seat: u32, thread: *mut hullpippin_thread) -> bool;
+
+    /// The context manager's object.
+    pub fn hullpippin_live_manager_object(live: *mut hullpippin_live, object: *mut hullpippin_object_id) -> bool;
+
+    /// An object, by its identity.
+    pub fn hullpippin_live_object(
+        live: *mut hullpippin_live,
+        place: u32,
+        index: u32,
+        object: *mut hullpippin_object,
+    ) -> bool;
+
+    /// The object that a handle names for the live process with this pid.
+    pub fn hullpippin_live_named(
+        live: *mut hullpippin_live,
+        pid: u32,
+        handle: u32,
+        object: *mut hullpippin_object_id,
+    ) -> bool;
+
+    /// The live buffer that was made at this place.
+    pub fn hullpippin_live_buffer(live: *mut hullpippin_live, made: u32, buffer: *mut hullpippin_buffer) -> bool;
+
+    /// The object of an index, from 0, among those that the live buffer made at this place carries: one for each object
+    /// of its parcel, in their order. It goes along them from the first.
+    pub fn hullpippin_live_carried(
+        live: *mut hullpippin_live,
+        made: u32,
+        index: usize,
+        object: *mut hullpippin_object_id,
+    ) -> bool;
+
+    /// The item of an index, from 0, on the list of a seat's thread: what it is to read, oldest first. It goes along
+    /// them from the first.
+    pub fn hullpippin_live_unread_of_thread(
+        live: *mut hullpippin_live,
+        seat: u32,
+        index: usize,
+        work: *mut hullpippin_work,
+    ) -> bool;
+
+    /// The same on the list of a process, which any of its threads reads that is in the loop.
+    pub fn hullpippin_live_unread_of_process(
+        live: *mut hullpippin_live,
+        process: u32,
+        index: usize,
+        work: *mut hullpippin_work,
+    ) -> bool;
+
+    /// The innermost open call that a seat's thread is in.
+    pub fn hullpippin_live_innermost(live: *mut hullpippin_live, seat: u32, frame: *mut hullpippin_frame) -> bool;
+
+    /// The death notification that was asked for at this place.
+    pub fn hullpippin_live_death(live: *mut hullpippin_live, made: u32, death: *mut hullpippin_death) -> bool;
 
     /// Reads the command at the head of a stream. Answers 0, or the number of the fault by which none is there, F1 to
     /// F3, and then `command` stays as it was. What comes behind the command isn't looked at.

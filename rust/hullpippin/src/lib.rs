@@ -43,6 +43,7 @@ mod live;
 mod parcels;
 mod refusals;
 mod returns;
+mod space;
 mod status;
 
 pub use answers::{Answer, Outcome, Request, Stop, Why};
@@ -52,6 +53,7 @@ pub use live::{Live, Made};
 pub use parcels::{BadParcel, FlatObject, ObjectKind, Objects, Parcel};
 pub use refusals::{Cause, Fault, Note};
 pub use returns::{Return, Returns};
+pub use space::{Buffer, DeathNotification, Frame, Object, ObjectId, Phase, Process, Thread, TodoList, Work};
 pub use status::{Error, Kept};
 
 /// All bytes that a call copies, of whatever size.

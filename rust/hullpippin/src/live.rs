@@ -169,6 +169,11 @@ impl Live {
         copied(|out, room, size| unsafe { sys::hullpippin_live_heading(live, count, out, room, size) })
     }
 
+    /// For what is called besides.
+    pub(crate) fn handle(&mut self) -> *mut sys::hullpippin_live {
+        &mut self.handle
+    }
+
     /// All the numbers that a call copies, however many.
     fn numbers(&mut self, copy: impl Fn(*mut sys::hullpippin_live, *mut u32, usize) -> usize) -> Vec<u32> {
         let mut numbers = Vec::new();

@@ -1,8 +1,8 @@
 // SPDX-License-Identifier: Apache-2.0 OR MIT
 //! Runs over the library: what this crate spells is what the engine reads, and the other way round.
 use hullpippin::{
-    verdict_on, Answer, Cause, Command, Driver, Error, Fault, FlatObject, Kept, Live, Note, Outcome, Parcel, Request,
-    Return, Stop, TransactionData, Verdict, Why, ONE_WAY,
+    verdict_on, Answer, Cause, Command, Driver, Error, Fault, FlatObject, Kept, Live, Note, ObjectId, Outcome, Parcel,
+    Request, Return, Stop, TodoList, TransactionData, Verdict, Why, Work, ONE_WAY,
 };
 
 fn returns(answer: Answer) -> Vec<Return> {
@@ -189,4 +189,23 @@ fn a_changed_journal_is_unlawful() {
     journal.extend(live.entry().expect("an entry"));
     assert_eq!(verdict_on(&journal), Ok(Verdict::Unlawful(0)));
     assert_eq!(verdict_on(&journal[..journal.len() - 1]), Err(Error::NoJournal));
+}
+
+#[test]
+fn what_the_history_has_come_to_can_be_looked_at() {
+    let mut live = introduced();
+    let mut parcel = Parcel::new();
+    parcel.push(FlatObject::binder(0x1000, 0x20));
+    assert_eq!(live.transact(1, 0, 7, ONE_WAY, &parcel).expect("a step").place, 4);
+    let sent = ObjectId { place: 4, index: 0 };
+    assert_eq!((live.named(100, 1), live.named(100, 2)), (Some(sent), None));
+    assert_eq!(live.object(sent).map(|it| (it.owner, it.ptr, it.cookie)), Some((1, 0x1000, 0x20)));
+    assert_eq!(live.carried(4), [sent]);
+    let buffer = live.buffer(4).expect("a buffer");
+    assert_eq!((buffer.receiver, buffer.sender, buffer.data), (0, 1, 24));
+    assert_eq!(buffer.target, live.manager_object());
+    assert_eq!(live.unread(TodoList::OfThread(1)), [Work::Notice(sent), Work::Complete { spam: false }]);
+    assert_eq!(live.unread(TodoList::OfProcess(0)), [Work::Call(4)]);
+    assert_eq!(live.thread(1).map(|it| (it.process, it.looping)), Some((1, false)));
+    assert_eq!((live.innermost(0), live.death(4)), (None, None));
 }

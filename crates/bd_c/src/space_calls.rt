@@ -1,0 +1,182 @@
+//! What C calls to look at the space that a live engine's history has come to. Each answers whether there is such a thing, and tells
+//! it. None takes memory.
+ghost use Rattle.std.specs.Prelude.{◌≡◌, Some, find, option_map, slice_get};
+ghost use Rattle.bd_space.specs.{Seats.{process_in, thread_in}, References.{object_in}, Returns.{buffer_in}};
+ghost use Rattle.bd_space.specs.{Todo.{work_on}, Deaths.{is_notification}};
+ghost use Rattle.bd_space.specs.declared.space.TodoList.TheVariants.{OfThread, OfProcess};
+ghost use Rattle.bd_engine.specs.Looks.{process_of_pid, named_by, innermost_of, carried};
+ghost use Rattle.bd_c.specs.Behind.{Of, IsLive, live_of};
+ghost use Rattle.bd_c.specs.SpaceTold.{InSpace, Finds, id_told, process_told, thread_told, object_told, buffer_told, frame_told, death_told, work_told};
+
+use crate::handles::Handle;
+use crate::space_told::{
+    BufferTold, DeathTold, FrameTold, IdTold, ObjectTold, ProcessTold, ThreadTold, WorkTold,
+};
+use bd_space::{ObjectId, TodoList};
+
+/// The live process that was opened there, by the place of its Open.
+#[unsafe(no_mangle)]
+pub extern "C" fn hullpippin_live_process(
+    live: &mut Handle,
+    made: u32,
+    told: &mut ProcessTold,
+) -> bool
+    requires { IsLive live.old.held }
+    ensures same { live.new.held ≡ live.old.held }
+    ensures finds { Of live_of live.old.held (λ x. InSpace x (λ s. Finds (option_map process_told (process_in s.processes made)) told.old told.new result)) }
+{
+    live.engine().tell_process(made, told)
+}
+
+/// The live process with this pid, by the place of its Open.
+#[unsafe(no_mangle)]
+pub extern "C" fn hullpippin_live_process_of_pid(
+    live: &mut Handle,
+    pid: u32,
+    told: &mut u32,
+) -> bool
+    requires { IsLive live.old.held }
+    ensures same { live.new.held ≡ live.old.held }
+    ensures finds { Of live_of live.old.held (λ x. InSpace x (λ s. Finds (process_of_pid s pid) told.old told.new result)) }
+{
+    live.engine().tell_process_of_pid(pid, told)
+}
+
+/// The live thread of a seat.
+#[unsafe(no_mangle)]
+pub extern "C" fn hullpippin_live_thread(
+    live: &mut Handle,
+    seat: u32,
+    told: &mut ThreadTold,
+) -> bool
+    requires { IsLive live.old.held }
+    ensures same { live.new.held ≡ live.old.held }
+    ensures finds { Of live_of live.old.held (λ x. InSpace x (λ s. Finds (option_map thread_told (thread_in s.threads seat)) told.old told.new result)) }
+{
+    live.engine().tell_thread(seat, told)
+}
+
+/// The context manager's object.
+#[unsafe(no_mangle)]
+pub extern "C" fn hullpippin_live_manager_object(live: &mut Handle, told: &mut IdTold) -> bool
+    requires { IsLive live.old.held }
+    ensures same { live.new.held ≡ live.old.held }
+    ensures finds { Of live_of live.old.held (λ x. InSpace x (λ s. Finds (option_map id_told s.manager) told.old told.new result)) }
+{
+    live.engine().tell_manager(told)
+}
+
+/// An object of the space, by its identity.
+#[unsafe(no_mangle)]
+pub extern "C" fn hullpippin_live_object(
+    live: &mut Handle,
+    place: u32,
+    index: u32,
+    told: &mut ObjectTold,
+) -> bool
+    requires { IsLive live.old.held }
+    ensures same { live.new.held ≡ live.old.held }
+    ensures finds { Of live_of live.old.held (λ x. InSpace x (λ s. Finds (option_map object_told (object_in s.objects (record { place = place; index = index }))) told.old told.new result)) }
+{
+    live.engine().tell_object(ObjectId { place, index }, told)
+}
+
+/// The object that a handle names for the live process with this pid.
+#[unsafe(no_mangle)]
+pub extern "C" fn hullpippin_live_named(
+    live: &mut Handle,
+    pid: u32,
+    handle: u32,
+    told: &mut IdTold,
+) -> bool
+    requires { IsLive live.old.held }
+    ensures same { live.new.held ≡ live.old.held }
+    ensures finds { Of live_of live.old.held (λ x. InSpace x (λ s. Finds (option_map id_told (named_by s pid handle)) told.old told.new result)) }
+{
+    live.engine().tell_named(pid, handle, told)
+}
+
+/// The live buffer made there.
+#[unsafe(no_mangle)]
+pub extern "C" fn hullpippin_live_buffer(
+    live: &mut Handle,
+    made: u32,
+    told: &mut BufferTold,
+) -> bool
+    requires { IsLive live.old.held }
+    ensures same { live.new.held ≡ live.old.held }
+    ensures finds { Of live_of live.old.held (λ x. InSpace x (λ s. Finds (option_map buffer_told (buffer_in s.buffers made)) told.old told.new result)) }
+{
+    live.engine().tell_buffer(made, told)
+}
+
+/// One of the objects that the live buffer made there carries, in their order.
+#[unsafe(no_mangle)]
+pub extern "C" fn hullpippin_live_carried(
+    live: &mut Handle,
+    made: u32,
+    index: usize,
+    told: &mut IdTold,
+) -> bool
+    requires { IsLive live.old.held }
+    ensures same { live.new.held ≡ live.old.held }
+    ensures finds { Of live_of live.old.held (λ x. InSpace x (λ s. Finds (option_map id_told (slice_get (carried s made) index)) told.old told.new result)) }
+{
+    live.engine().tell_carried(made, index, told)
+}
+
+/// One of what is unread on the list of a seat's thread, oldest first.
+#[unsafe(no_mangle)]
+pub extern "C" fn hullpippin_live_unread_of_thread(
+    live: &mut Handle,
+    seat: u32,
+    index: usize,
+    told: &mut WorkTold,
+) -> bool
+    requires { IsLive live.old.held }
+    ensures same { live.new.held ≡ live.old.held }
+    ensures finds { Of live_of live.old.held (λ x. InSpace x (λ s. Finds (option_map work_told (slice_get (work_on s.todo (Some (OfThread seat))) index)) told.old told.new result)) }
+{
+    live.engine()
+        .tell_unread(TodoList::OfThread(seat), index, told)
+}
+
+/// One of what is unread on the list of a process, told by the place of its Open, oldest first.
+#[unsafe(no_mangle)]
+pub extern "C" fn hullpippin_live_unread_of_process(
+    live: &mut Handle,
+    process: u32,
+    index: usize,
+    told: &mut WorkTold,
+) -> bool
+    requires { IsLive live.old.held }
+    ensures same { live.new.held ≡ live.old.held }
+    ensures finds { Of live_of live.old.held (λ x. InSpace x (λ s. Finds (option_map work_told (slice_get (work_on s.todo (Some (OfProcess process))) index)) told.old told.new result)) }
+{
+    live.engine()
+        .tell_unread(TodoList::OfProcess(process), index, told)
+}
+
+/// The innermost open call that a seat's thread is in.
+#[unsafe(no_mangle)]
+pub extern "C" fn hullpippin_live_innermost(
+    live: &mut Handle,
+    seat: u32,
+    told: &mut FrameTold,
+) -> bool
+    requires { IsLive live.old.held }
+    ensures same { live.new.held ≡ live.old.held }
+    ensures finds { Of live_of live.old.held (λ x. InSpace x (λ s. Finds (option_map frame_told (innermost_of s seat)) told.old told.new result)) }
+{
+    live.engine().tell_innermost(seat, told)
+}
+
+/// The death notification that was asked for there.
+#[unsafe(no_mangle)]
+pub extern "C" fn hullpippin_live_death(live: &mut Handle, made: u32, told: &mut DeathTold) -> bool
+    requires { IsLive live.old.held }
+    ensures same { live.new.held ≡ live.old.held }
+    ensures finds { Of live_of live.old.held (λ x. InSpace x (λ s. Finds (option_map death_told (find (is_notification made) s.deaths)) told.old told.new result)) }
+{
+    live.engine().tell_death(made, told)
+}

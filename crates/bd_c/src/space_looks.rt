@@ -1,0 +1,181 @@
+//! Looks at the space that a live engine's history has come to. Each tells what there is, or that there is none.
+ghost use Rattle.std.specs.Prelude.{◌≡◌, Some, find, option_map, slice_get};
+ghost use Rattle.bd_space.specs.{Seats.{process_in, thread_in}, References.{object_in}, Returns.{buffer_in}};
+ghost use Rattle.bd_space.specs.{Todo.{work_on}, Deaths.{is_notification}};
+ghost use Rattle.bd_engine.specs.Looks.{process_of_pid, named_by, innermost_of, carried};
+ghost use Rattle.bd_c.specs.SpaceTold.{InSpace, Finds, id_told, process_told, thread_told, object_told, buffer_told, frame_told, death_told, work_told};
+
+use crate::live::OwnedLive;
+use crate::space_told::{
+    BufferTold, DeathTold, FrameTold, IdTold, ObjectTold, ProcessTold, ThreadTold, WorkTold,
+};
+use bd_engine::{CarriedObjects, Looks, Works};
+use bd_space::{ObjectId, TodoList, Work};
+
+fn carried_at(mut objects: CarriedObjects<'_>, index: usize) -> Option<ObjectId>
+    ensures { result ≡ slice_get objects.entry index }
+{
+    objects.nth(index)
+}
+
+fn unread_at(mut works: Works<'_>, index: usize) -> Option<Work>
+    ensures { result ≡ slice_get works.entry index }
+{
+    works.nth(index)
+}
+
+impl OwnedLive {
+    /// The live process that was opened there.
+    #[tactic(auto, using(crate::proofs::Looking::finds_some, crate::proofs::Looking::finds_none))]
+    pub(crate) fn tell_process(&self, made: u32, told: &mut ProcessTold) -> bool
+        ensures { InSpace self.now (λ s. Finds (option_map process_told (process_in s.processes made)) told.old told.new result) }
+    {
+        match self.live.process(made) {
+            Some(q) => {
+                *told = ProcessTold::of(q);
+                true
+            }
+            None => false,
+        }
+    }
+
+    /// The live thread of a seat.
+    #[tactic(auto, using(crate::proofs::Looking::finds_some, crate::proofs::Looking::finds_none))]
+    pub(crate) fn tell_thread(&self, seat: u32, told: &mut ThreadTold) -> bool
+        ensures { InSpace self.now (λ s. Finds (option_map thread_told (thread_in s.threads seat)) told.old told.new result) }
+    {
+        match self.live.thread(seat) {
+            Some(t) => {
+                *told = ThreadTold::of(t);
+                true
+            }
+            None => false,
+        }
+    }
+
+    /// The context manager's object.
+    #[tactic(auto, using(crate::proofs::Looking::finds_some, crate::proofs::Looking::finds_none))]
+    pub(crate) fn tell_manager(&self, told: &mut IdTold) -> bool
+        ensures { InSpace self.now (λ s. Finds (option_map id_told (s.manager)) told.old told.new result) }
+    {
+        match self.live.manager() {
+            Some(id) => {
+                *told = IdTold::of(id);
+                true
+            }
+            None => false,
+        }
+    }
+
+    /// An object of the space.
+    #[tactic(auto, using(crate::proofs::Looking::finds_some, crate::proofs::Looking::finds_none))]
+    pub(crate) fn tell_object(&self, id: ObjectId, told: &mut ObjectTold) -> bool
+        ensures { InSpace self.now (λ s. Finds (option_map object_told (object_in s.objects id)) told.old told.new result) }
+    {
+        match self.live.object(id) {
+            Some(x) => {
+                *told = ObjectTold::of(x);
+                true
+            }
+            None => false,
+        }
+    }
+
+    /// The object that a handle names for the live process with this pid.
+    #[tactic(auto, using(crate::proofs::Looking::finds_some, crate::proofs::Looking::finds_none))]
+    pub(crate) fn tell_named(&self, pid: u32, handle: u32, told: &mut IdTold) -> bool
+        ensures { InSpace self.now (λ s. Finds (option_map id_told (named_by s pid handle)) told.old told.new result) }
+    {
+        match self.live.named(pid, handle) {
+            Some(id) => {
+                *told = IdTold::of(id);
+                true
+            }
+            None => false,
+        }
+    }
+
+    /// The live buffer made there.
+    #[tactic(auto, using(crate::proofs::Looking::finds_some, crate::proofs::Looking::finds_none))]
+    pub(crate) fn tell_buffer(&self, made: u32, told: &mut BufferTold) -> bool
+        ensures { InSpace self.now (λ s. Finds (option_map buffer_told (buffer_in s.buffers made)) told.old told.new result) }
+    {
+        match self.live.buffer(made) {
+            Some(b) => {
+                *told = BufferTold::of(b);
+                true
+            }
+            None => false,
+        }
+    }
+
+    /// The innermost open call that a seat's thread is in.
+    #[tactic(auto, using(crate::proofs::Looking::finds_some, crate::proofs::Looking::finds_none))]
+    pub(crate) fn tell_innermost(&self, seat: u32, told: &mut FrameTold) -> bool
+        ensures { InSpace self.now (λ s. Finds (option_map frame_told (innermost_of s seat)) told.old told.new result) }
+    {
+        match self.live.innermost(seat) {
+            Some((made, serves)) => {
+                *told = FrameTold { made, serves };
+                true
+            }
+            None => false,
+        }
+    }
+
+    /// The death notification that was asked for there.
+    #[tactic(auto, using(crate::proofs::Looking::finds_some, crate::proofs::Looking::finds_none))]
+    pub(crate) fn tell_death(&self, made: u32, told: &mut DeathTold) -> bool
+        ensures { InSpace self.now (λ s. Finds (option_map death_told (find (is_notification made) s.deaths)) told.old told.new result) }
+    {
+        match self.live.death(made) {
+            Some(d) => {
+                *told = DeathTold::of(d);
+                true
+            }
+            None => false,
+        }
+    }
+
+    /// The live process with this pid, by the place of its Open.
+    #[tactic(auto, using(crate::proofs::Looking::finds_some, crate::proofs::Looking::finds_none))]
+    pub(crate) fn tell_process_of_pid(&self, pid: u32, made: &mut u32) -> bool
+        ensures { InSpace self.now (λ s. Finds (process_of_pid s pid) made.old made.new result) }
+    {
+        match self.live.process_of_pid(pid) {
+            Some(q) => {
+                *made = q;
+                true
+            }
+            None => false,
+        }
+    }
+
+    /// One of the objects that the live buffer made there carries.
+    #[tactic(auto, using(crate::proofs::Looking::finds_some, crate::proofs::Looking::finds_none))]
+    pub(crate) fn tell_carried(&self, made: u32, index: usize, told: &mut IdTold) -> bool
+        ensures { InSpace self.now (λ s. Finds (option_map id_told (slice_get (carried s made) index)) told.old told.new result) }
+    {
+        match carried_at(self.live.carried(made), index) {
+            Some(id) => {
+                *told = IdTold::of(id);
+                true
+            }
+            None => false,
+        }
+    }
+
+    /// One of what is unread on a list, oldest first.
+    #[tactic(auto, using(crate::proofs::Looking::finds_some, crate::proofs::Looking::finds_none))]
+    pub(crate) fn tell_unread(&self, list: TodoList, index: usize, told: &mut WorkTold) -> bool
+        ensures { InSpace self.now (λ s. Finds (option_map work_told (slice_get (work_on s.todo (Some list)) index)) told.old told.new result) }
+    {
+        match unread_at(self.live.unread(list), index) {
+            Some(work) => {
+                *told = WorkTold::of(&work);
+                true
+            }
+            None => false,
+        }
+    }
+}

@@ -1,0 +1,314 @@
+// SPDX-License-Identifier: Apache-2.0 OR MIT
+//! What a live engine's history has come to: processes, threads, objects, buffers, open calls, death notifications, and what is still to be
+//! read. Processes, buffers, calls and death notifications are named by the place of the step that made them.
+use crate::Live;
+use hullpippin_sys as sys;
+
+/// The identity of an object: the place of the step that made it, and which of that step's objects it is, from 0.
+#[derive(Clone, Copy, Debug, PartialEq, Eq, Hash, PartialOrd, Ord)]
+pub struct ObjectId {
+    /// The place of the step.
+    pub place: u32,
+    /// Which of its objects.
+    pub index: u32,
+}
+
+impl ObjectId {
+    fn told(told: sys::hullpippin_object_id) -> ObjectId {
+        ObjectId { place: told.place, index: told.index }
+    }
+}
+
+/// A live process.
+#[derive(Clone, Copy, Debug, PartialEq, Eq, Hash)]
+pub struct Process {
+    /// The place of its Open.
+    pub made: u32,
+    /// Its pid.
+    pub pid: u32,
+    /// Its user.
+    pub euid: u32,
+    /// The size of its window in bytes.
+    pub window: u32,
+    /// Whether it is told of its own one-way flooding.
+    pub spam_detection: bool,
+}
+
+/// The live thread of a seat.
+#[derive(Clone, Copy, Debug, PartialEq, Eq, Hash)]
+pub struct Thread {
+    /// The place of its Open or Attach.
+    pub made: u32,
+    /// Its process.
+    pub process: u32,
+    /// Whether it has entered the loop.
+    pub looping: bool,
+}
+
+/// An object.
+#[derive(Clone, Copy, Debug, PartialEq, Eq, Hash)]
+pub struct Object {
+    /// The process that owns it, live or not.
+    pub owner: u32,
+    /// By which its owner knows it.
+    pub ptr: u64,
+    /// What its owner gave with it.
+    pub cookie: u64,
+    /// Whether its owner was told that it is referred to.
+    pub told_weak: bool,
+    /// Whether its owner was told that it is referred to strongly.
+    pub told_strong: bool,
+}
+
+/// A live buffer.
+#[derive(Clone, Copy, Debug, PartialEq, Eq, Hash)]
+pub struct Buffer {
+    /// The process whose window it lies in.
+    pub receiver: u32,
+    /// The process that sent it, live or not.
+    pub sender: u32,
+    /// Where it begins in the window.
+    pub start: u32,
+    /// How much of the window it takes.
+    pub size: u32,
+    /// Whether it is a one-way call's.
+    pub one_way: bool,
+    /// Whether it was handed out.
+    pub handed: bool,
+    /// The object that a transaction goes to; a reply goes to none.
+    pub target: Option<ObjectId>,
+    /// As written.
+    pub code: u32,
+    /// As written.
+    pub flags: u32,
+    /// The sender's user.
+    pub euid: u32,
+    /// How many bytes of data.
+    pub data: usize,
+    /// How many bytes of offsets.
+    pub offsets: usize,
+}
+
+/// The innermost open call that a thread is in.
+#[derive(Clone, Copy, Debug, PartialEq, Eq, Hash)]
+pub struct Frame {
+    /// The place of its transaction.
+    pub made: u32,
+    /// Whether the thread serves it; else it made it.
+    pub serves: bool,
+}
+
+/// How far a death notification is.
+#[derive(Clone, Copy, Debug, PartialEq, Eq, Hash)]
+pub enum Phase {
+    /// The owner lives.
+    Armed,
+    /// The owner has ended, and that is to be read.
+    Queued,
+    /// It was read.
+    Told,
+    /// And acknowledged.
+    Acknowledged,
+}
+
+/// A death notification.
+#[derive(Clone, Copy, Debug, PartialEq, Eq, Hash)]
+pub struct DeathNotification {
+    /// The process that asked for it.
+    pub process: u32,
+    /// The object whose owner's death is told.
+    pub object: ObjectId,
+    /// What the process gave with it.
+    pub cookie: u64,
+    /// How far it is.
+    pub phase: Phase,
+    /// Whether it was cleared while it was to be read, or read.
+    pub cleared: bool,
+}
+
+/// Whose list of what is still to be read.
+#[derive(Clone, Copy, Debug, PartialEq, Eq, Hash)]
+pub enum TodoList {
+    /// The thread's of this seat.
+    OfThread(u32),
+    /// The process's.
+    OfProcess(u32),
+}
+
+/// What is still to be read.
+#[derive(Clone, Copy, Debug, PartialEq, Eq, Hash)]
+pub enum Work {
+    /// The references to an own object have changed.
+    Notice(ObjectId),
+    /// A transaction or reply was accepted; whether it reports that its sender floods the receiver.
+    Complete {
+        /// It is read as `BR_ONEWAY_SPAM_SUSPECT`.
+        spam: bool,
+    },
+    /// What was written was refused: the code of the return.
+    Refusal(u32),
+    /// A call, by its buffer.
+    Call(u32),
+    /// A reply, by its buffer.
+    Reply(u32),
+    /// An accepted call has failed: the code of the return.
+    Verdict(u32),
+    /// The owner of an object has ended, by the notification.
+    Death(u32),
+    /// A death notification was cleared, by its cookie.
+    Cleared(u64),
+}
+
+impl Phase {
+    fn told(number: u32) -> Phase {
+        match number {
+            sys::HULLPIPPIN_ARMED => Phase::Armed,
+            sys::HULLPIPPIN_QUEUED => Phase::Queued,
+            sys::HULLPIPPIN_TOLD => Phase::Told,
+            sys::HULLPIPPIN_ACKNOWLEDGED => Phase::Acknowledged,
+            number => panic!("the library tells phase {number}"),
+        }
+    }
+}
+
+impl Work {
+    fn told(told: &sys::hullpippin_work) -> Work {
+        match told.kind {
+            sys::HULLPIPPIN_NOTICE => Work::Notice(ObjectId::told(told.object)),
+            sys::HULLPIPPIN_COMPLETION => Work::Complete { spam: told.spam },
+            sys::HULLPIPPIN_REFUSAL => Work::Refusal(told.code),
+            sys::HULLPIPPIN_CALL => Work::Call(told.made),
+            sys::HULLPIPPIN_REPLY => Work::Reply(told.made),
+            sys::HULLPIPPIN_VERDICT => Work::Verdict(told.code),
+            sys::HULLPIPPIN_DEATH => Work::Death(told.made),
+            sys::HULLPIPPIN_CLEARED => Work::Cleared(told.cookie),
+            kind => panic!("the library tells kind {kind} of what is to be read"),
+        }
+    }
+}
+
+/// Looks at what the history has come to.
+///
+/// ```
+/// use hullpippin::{Live, ObjectId};
+///
+/// fn main() -> Result<(), hullpippin::Error> {
+///     let mut live = Live::new(1)?;
+///     live.open(0, 100, 1000, 4096)?;
+///     live.manager(0)?;
+///     let place = live.process_of_pid(100).expect("a process");
+///     assert_eq!(live.process(place).map(|it| it.euid), Some(1000));
+///     assert_eq!(live.manager_object(), Some(ObjectId { place: 1, index: 0 }));
+///     assert_eq!(live.buffer(0), None);
+///     Ok(())
+/// }
+/// ```
+impl Live {
+    /// What a look fills, where it finds something.
+    fn found<T: Default>(&mut self, look: impl FnOnce(*mut sys::hullpippin_live, *mut T) -> bool) -> Option<T> {
+        let mut told = T::default();
+        look(self.handle(), &mut told).then_some(told)
+    }
+
+    /// All that a look tells, from index 0 on.
+    fn all<T: Default>(&mut self, mut look: impl FnMut(*mut sys::hullpippin_live, usize, *mut T) -> bool) -> Vec<T> {
+        let mut all = Vec::new();
+        while let Some(told) = self.found(|live, told| look(live, all.len(), told)) {
+            all.push(told);
+        }
+        all
+    }
+
+    /// The live process that was opened at this place.
+    pub fn process(&mut self, made: u32) -> Option<Process> {
+        // SAFETY: here and in what follows the handle has an engine, and what is filled is there.
+        let told = self.found(|live, told| unsafe { sys::hullpippin_live_process(live, made, told) })?;
+        let sys::hullpippin_process { made, pid, euid, window, spam_detection } = told;
+        Some(Process { made, pid, euid, window, spam_detection })
+    }
+
+    /// The live process with this pid, by the place of its Open.
+    pub fn process_of_pid(&mut self, pid: u32) -> Option<u32> {
+        self.found(|live, made| unsafe { sys::hullpippin_live_process_of_pid(live, pid, made) })
+    }
+
+    /// The live thread of a seat.
+    pub fn thread(&mut self, seat: u32) -> Option<Thread> {
+        let told = self.found(|live, told| unsafe { sys::hullpippin_live_thread(live, seat, told) })?;
+        let sys::hullpippin_thread { made, process, looping } = told;
+        Some(Thread { made, process, looping })
+    }
+
+    /// The context manager's object.
+    pub fn manager_object(&mut self) -> Option<ObjectId> {
+        self.found(|live, told| unsafe { sys::hullpippin_live_manager_object(live, told) }).map(ObjectId::told)
+    }
+
+    /// An object.
+    pub fn object(&mut self, id: ObjectId) -> Option<Object> {
+        let ObjectId { place, index } = id;
+        let told = self.found(|live, told| unsafe { sys::hullpippin_live_object(live, place, index, told) })?;
+        let sys::hullpippin_object { owner, ptr, cookie, told_weak, told_strong } = told;
+        Some(Object { owner, ptr, cookie, told_weak, told_strong })
+    }
+
+    /// The object that a handle names for the live process with this pid.
+    pub fn named(&mut self, pid: u32, handle: u32) -> Option<ObjectId> {
+        self.found(|live, told| unsafe { sys::hullpippin_live_named(live, pid, handle, told) }).map(ObjectId::told)
+    }
+
+    /// The live buffer that was made at this place.
+    pub fn buffer(&mut self, made: u32) -> Option<Buffer> {
+        let told = self.found(|live, told| unsafe { sys::hullpippin_live_buffer(live, made, told) })?;
+        Some(Buffer {
+            receiver: told.receiver,
+            sender: told.sender,
+            start: told.start,
+            size: told.size,
+            one_way: told.one_way,
+            handed: told.handed,
+            target: told.is_call.then_some(ObjectId::told(told.target)),
+            code: told.code,
+            flags: told.flags,
+            euid: told.euid,
+            data: told.data,
+            offsets: told.offsets,
+        })
+    }
+
+    /// The objects that the live buffer made at this place carries, one for each object of its parcel, in their order.
+    pub fn carried(&mut self, made: u32) -> Vec<ObjectId> {
+        let told = self.all(|live, index, told| unsafe { sys::hullpippin_live_carried(live, made, index, told) });
+        told.into_iter().map(ObjectId::told).collect()
+    }
+
+    /// What is still to be read of a list, oldest first.
+    pub fn unread(&mut self, list: TodoList) -> Vec<Work> {
+        let told = self.all(|live, index, told| match list {
+            TodoList::OfThread(seat) => unsafe { sys::hullpippin_live_unread_of_thread(live, seat, index, told) },
+            TodoList::OfProcess(process) => unsafe {
+                sys::hullpippin_live_unread_of_process(live, process, index, told)
+            },
+        });
+        told.iter().map(Work::told).collect()
+    }
+
+    /// The innermost open call that a seat's thread is in.
+    pub fn innermost(&mut self, seat: u32) -> Option<Frame> {
+        let told = self.found(|live, told| unsafe { sys::hullpippin_live_innermost(live, seat, told) })?;
+        let sys::hullpippin_frame { made, serves } = told;
+        Some(Frame { made, serves })
+    }
+
+    /// The death notification that was asked for at this place.
+    pub fn death(&mut self, made: u32) -> Option<DeathNotification> {
+        let told = self.found(|live, told| unsafe { sys::hullpippin_live_death(live, made, told) })?;
+        Some(DeathNotification {
+            process: told.process,
+            object: ObjectId::told(told.object),
+            cookie: told.cookie,
+            phase: Phase::told(told.phase),
+            cleared: told.cleared,
+        })
+    }
+}
