@@ -70,6 +70,9 @@ typedef struct {
 #define HULLPIPPIN_NOWHERE ((uint8_t *)1)
 #define HULLPIPPIN_NO_NUMBERS ((uint32_t *)4)
 
+/* The version of this header, a byte for each of its numbers: 1.0.0. */
+#define HULLPIPPIN_VERSION 0x010000
+
 /* Whether a call was made. With every number but 0 nothing was done, and nothing was written to what the call fills. */
 enum {
     HULLPIPPIN_DONE = 0,            /* it was made */
@@ -135,6 +138,71 @@ enum {
     HULLPIPPIN_SET_SPAM = 8,
 };
 
+/* Faults: why a request was refused, or a stream stopped before a command. */
+enum {
+    HULLPIPPIN_FAULT_SHORT_COMMAND = 1,    /* F1: the command is cut short */
+    HULLPIPPIN_FAULT_UNKNOWN_COMMAND = 2,  /* F2: no such command */
+    HULLPIPPIN_FAULT_REFUSED_COMMAND = 3,  /* F3: the command is not supported */
+    HULLPIPPIN_FAULT_NO_PROCESS = 4,       /* F4: the seat has no process */
+    HULLPIPPIN_FAULT_HAS_PROCESS = 5,      /* F5: the seat has a process */
+    HULLPIPPIN_FAULT_PID_TAKEN = 6,        /* F6: a live process has this pid */
+    HULLPIPPIN_FAULT_PID_RANGE = 7,        /* F7: the pid is out of range */
+    HULLPIPPIN_FAULT_WINDOW_SIZE = 8,      /* F8: the size of the window is out of range */
+    HULLPIPPIN_FAULT_NO_SUCH_PID = 9,      /* F9: no live process has this pid */
+    HULLPIPPIN_FAULT_MANAGER_BUSY = 10,    /* F10: there is a manager */
+    HULLPIPPIN_FAULT_READ_TOO_SMALL = 11,  /* F11: the limit of the read is too small */
+    HULLPIPPIN_FAULT_AGAIN = 12,           /* F12: there is nothing to read */
+    HULLPIPPIN_FAULT_HISTORY_FULL = 13,    /* F13: the history is full */
+    HULLPIPPIN_FAULT_NO_MEMORY = 14,       /* F14: out of memory */
+    HULLPIPPIN_FAULT_STREAM_TOO_LONG = 15, /* F15: the stream is too long */
+    HULLPIPPIN_FAULT_SEAT_COUNT = 16,      /* F16: the number of seats is out of range */
+};
+
+/* Causes: why a transaction or a reply was refused. */
+enum {
+    HULLPIPPIN_CAUSE_NOT_STRONGLY_NAMED = 1,  /* X1: the handle is not strongly named */
+    HULLPIPPIN_CAUSE_NO_MANAGER = 2,          /* X2: there is no manager */
+    HULLPIPPIN_CAUSE_OWN_MANAGER = 3,         /* X3: the manager calls itself */
+    HULLPIPPIN_CAUSE_DEAD_OWNER = 4,          /* X4: the owner has ended */
+    HULLPIPPIN_CAUSE_NOT_SERVING = 5,         /* X5: the thread does not serve its innermost call */
+    HULLPIPPIN_CAUSE_UNREAD = 6,              /* X6: the thread has a call or a reply to read */
+    HULLPIPPIN_CAUSE_OUTSIDE_AREA = 7,        /* X7: the parcel is outside the area */
+    HULLPIPPIN_CAUSE_OFFSETS_SIZE = 8,        /* X8: the offsets are no whole numbers */
+    HULLPIPPIN_CAUSE_BAD_OBJECT = 9,          /* X9: an offset or an object is bad */
+    HULLPIPPIN_CAUSE_UNSUPPORTED_OBJECT = 10, /* X10: an object is not supported */
+    HULLPIPPIN_CAUSE_OTHER_COOKIE = 11,       /* X11: the cookie differs */
+    HULLPIPPIN_CAUSE_NOT_HELD = 12,           /* X12: a sent handle is not held */
+    HULLPIPPIN_CAUSE_NO_ROOM = 13,            /* X13: the window has no room */
+    HULLPIPPIN_CAUSE_OVER_BUDGET = 14,        /* X14: the one-way buffers take over half of the window */
+    HULLPIPPIN_CAUSE_NO_CALL = 15,            /* X15: there is no call to reply to */
+    HULLPIPPIN_CAUSE_CALLER_GONE = 16,        /* X16: the caller has ended */
+};
+
+/* Notes: why a command changed nothing. */
+enum {
+    HULLPIPPIN_NOTE_NO_SUCH_NUMBER = 1, /* N1: no such handle */
+    HULLPIPPIN_NOTE_NOTHING_ASKED = 2,  /* N2: nothing was asked for */
+    HULLPIPPIN_NOTE_NOT_STRONG = 3,     /* N3: there is no strong reference to share */
+    HULLPIPPIN_NOTE_OWN_MANAGER = 4,    /* N4: the manager is the caller's own */
+    HULLPIPPIN_NOTE_NO_SUCH_BUFFER = 5, /* N5: no such buffer */
+    HULLPIPPIN_NOTE_NOT_HANDED_OUT = 6, /* N6: the buffer is not yet handed out */
+    HULLPIPPIN_NOTE_NO_SUCH_OBJECT = 7, /* N7: no such object */
+    HULLPIPPIN_NOTE_NO_HANDSHAKE = 8,   /* N8: nothing is to be acknowledged */
+    HULLPIPPIN_NOTE_ALREADY_ASKED = 9,  /* N9: a death notification stands already */
+    HULLPIPPIN_NOTE_NONE_ASKED = 10,    /* N10: no death notification with that cookie */
+    HULLPIPPIN_NOTE_NONE_TOLD = 11,     /* N11: no death was told with that cookie */
+};
+
+/* Kinds of numbers that have a text. */
+enum {
+    HULLPIPPIN_TEXT_STATUS = 1,  /* HULLPIPPIN_DONE .. HULLPIPPIN_NO_COMMAND */
+    HULLPIPPIN_TEXT_FAULT = 2,   /* HULLPIPPIN_FAULT_SHORT_COMMAND .. */
+    HULLPIPPIN_TEXT_CAUSE = 3,   /* HULLPIPPIN_CAUSE_NOT_STRONGLY_NAMED .. */
+    HULLPIPPIN_TEXT_NOTE = 4,    /* HULLPIPPIN_NOTE_NO_SUCH_NUMBER .. */
+    HULLPIPPIN_TEXT_COMMAND = 5, /* the code of a command, whose text is its name, as BC_TRANSACTION */
+    HULLPIPPIN_TEXT_RETURN = 6,  /* the code of a return, whose text is its name, as BR_TRANSACTION */
+};
+
 /* What a request came to. What a field doesn't apply to has 0 there. */
 typedef struct {
     uint32_t kind;     /* HULLPIPPIN_HANDED .. HULLPIPPIN_BACK */
@@ -143,7 +211,7 @@ typedef struct {
     uint32_t consumed; /* wrote: write_consumed, how many bytes of the stream were run */
     size_t notes;      /* wrote: how many of the commands changed nothing, each with a note */
     uint32_t stop;     /* wrote: HULLPIPPIN_AT_END .. HULLPIPPIN_AT_CAUSE */
-    uint32_t number;   /* wrote, refused: the number of the fault or cause; live_command: also that of its note */
+    uint32_t number;   /* wrote, refused: HULLPIPPIN_FAULT_.. or HULLPIPPIN_CAUSE_..; live_command: also HULLPIPPIN_NOTE_.. */
     uint32_t why;      /* back: HULLPIPPIN_BACK_TAKEN .. */
     size_t stream;     /* got: how many bytes of returns */
     size_t data;       /* got: how many bytes of data */
@@ -153,7 +221,7 @@ typedef struct {
 /* A command of a write that changed nothing. */
 typedef struct {
     uint32_t command; /* which command of the stream, from 0 */
-    uint32_t number;  /* why: N1 to N11 */
+    uint32_t number;  /* why: HULLPIPPIN_NOTE_.. */
 } hullpippin_note;
 
 /* The page: how far the driver is. */
@@ -178,6 +246,17 @@ typedef struct {
     bool lawful;    /* whether its entries are a history */
     size_t entries; /* how many of them are one, from the first on: all of them where it is lawful */
 } hullpippin_verdict_on;
+
+/*
+ * The library itself. Whoever may be anywhere: these need no handle, take no memory, and read nothing that changes.
+ */
+
+/* The version of the library that is linked, as HULLPIPPIN_VERSION has the header's. */
+uint32_t hullpippin_version(void);
+
+/* Copies the text of a number of this kind (HULLPIPPIN_TEXT_STATUS ..), which is ASCII and has no NUL behind it, to `out`
+   if all of it fits in `room` bytes, and else nothing. Answers how many bytes it has, at most 63; 0 where there is none. */
+size_t hullpippin_text_bytes(uint32_t kind, uint32_t number, uint8_t *out, size_t room);
 
 /*
  * Drivers. These calls are made by one thread at a time, as with any handle.
@@ -642,8 +721,34 @@ bool hullpippin_next_object(const uint8_t *data, size_t data_size, const uint8_t
    there, X9 or X10, and then the data stays as it was. */
 uint32_t hullpippin_put_object(const hullpippin_flat_object *object, uint8_t *data, size_t data_size);
 
+/* Room for every text, and the NUL behind it. */
+#define HULLPIPPIN_TEXT_ROOM 64
+
+/* Writes the text of a number, as a C string, into `room`, which has HULLPIPPIN_TEXT_ROOM bytes. NULL where there is none. */
+static inline const char *hullpippin_text_in(uint32_t kind, uint32_t number, char *room)
+{
+    size_t size = hullpippin_text_bytes(kind, number, (uint8_t *)room, HULLPIPPIN_TEXT_ROOM - 1);
+    if (size == 0 || size >= HULLPIPPIN_TEXT_ROOM)
+        return NULL;
+    room[size] = '\0';
+    return room;
+}
+
 #ifdef __cplusplus
 }
+
+/* Room that lasts as long as the expression that it is made in. */
+struct hullpippin_text_room {
+    char at[HULLPIPPIN_TEXT_ROOM];
+};
+#endif
+
+/* The text of a number of this kind, as a C string, NULL where there is none. It stays until the end of the block that it
+   is called in; in C++ until that of the expression. */
+#ifdef __cplusplus
+#define hullpippin_text(kind, number) hullpippin_text_in(kind, number, hullpippin_text_room().at)
+#else
+#define hullpippin_text(kind, number) hullpippin_text_in(kind, number, (char[HULLPIPPIN_TEXT_ROOM]){ 0 })
 #endif
 
 #endif

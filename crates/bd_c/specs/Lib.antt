@@ -19,3 +19,4 @@ pub mod LivePolls
 pub mod Spelled
 pub mod Walks
 pub mod SpaceTold
+pub mod Texts

@@ -37,4 +37,5 @@ mod space_looks;
 mod space_told;
 mod spelled;
 mod status;
+mod texts;
 mod walks;

@@ -166,6 +166,153 @@ pub const HULLPIPPIN_EXIT_PROCESS: u32 = 7;
 /// Kinds of requests that are posted.
 pub const HULLPIPPIN_SET_SPAM: u32 = 8;
 
+/// F1: the command is cut short.
+pub const HULLPIPPIN_FAULT_SHORT_COMMAND: u32 = 1;
+
+/// F2: no such command.
+pub const HULLPIPPIN_FAULT_UNKNOWN_COMMAND: u32 = 2;
+
+/// F3: the command is not supported.
+pub const HULLPIPPIN_FAULT_REFUSED_COMMAND: u32 = 3;
+
+/// F4: the seat has no process.
+pub const HULLPIPPIN_FAULT_NO_PROCESS: u32 = 4;
+
+/// F5: the seat has a process.
+pub const HULLPIPPIN_FAULT_HAS_PROCESS: u32 = 5;
+
+/// F6: a live process has this pid.
+pub const HULLPIPPIN_FAULT_PID_TAKEN: u32 = 6;
+
+/// F7: the pid is out of range.
+pub const HULLPIPPIN_FAULT_PID_RANGE: u32 = 7;
+
+/// F8: the size of the window is out of range.
+pub const HULLPIPPIN_FAULT_WINDOW_SIZE: u32 = 8;
+
+/// F9: no live process has this pid.
+pub const HULLPIPPIN_FAULT_NO_SUCH_PID: u32 = 9;
+
+/// F10: there is a manager.
+pub const HULLPIPPIN_FAULT_MANAGER_BUSY: u32 = 10;
+
+/// F11: the limit of the read is too small.
+pub const HULLPIPPIN_FAULT_READ_TOO_SMALL: u32 = 11;
+
+/// F12: there is nothing to read.
+pub const HULLPIPPIN_FAULT_AGAIN: u32 = 12;
+
+/// F13: the history is full.
+pub const HULLPIPPIN_FAULT_HISTORY_FULL: u32 = 13;
+
+/// F14: out of memory.
+pub const HULLPIPPIN_FAULT_NO_MEMORY: u32 = 14;
+
+/// F15: the stream is too long.
+pub const HULLPIPPIN_FAULT_STREAM_TOO_LONG: u32 = 15;
+
+/// F16: the number of seats is out of range.
+pub const HULLPIPPIN_FAULT_SEAT_COUNT: u32 = 16;
+
+/// X1: the handle is not strongly named.
+pub const HULLPIPPIN_CAUSE_NOT_STRONGLY_NAMED: u32 = 1;
+
+/// X2: there is no manager.
+pub const HULLPIPPIN_CAUSE_NO_MANAGER: u32 = 2;
+
+/// X3: the manager calls itself.
+pub const HULLPIPPIN_CAUSE_OWN_MANAGER: u32 = 3;
+
+/// X4: the owner has ended.
+pub const HULLPIPPIN_CAUSE_DEAD_OWNER: u32 = 4;
+
+/// X5: the thread does not serve its innermost call.
+pub const HULLPIPPIN_CAUSE_NOT_SERVING: u32 = 5;
+
+/// X6: the thread has a call or a reply to read.
+pub const HULLPIPPIN_CAUSE_UNREAD: u32 = 6;
+
+/// X7: the parcel is outside the area.
+pub const HULLPIPPIN_CAUSE_OUTSIDE_AREA: u32 = 7;
+
+/// X8: the offsets are no whole numbers.
+pub const HULLPIPPIN_CAUSE_OFFSETS_SIZE: u32 = 8;
+
+/// X9: an offset or an object is bad.
+pub const HULLPIPPIN_CAUSE_BAD_OBJECT: u32 = 9;
+
+/// X10: an object is not supported.
+pub const HULLPIPPIN_CAUSE_UNSUPPORTED_OBJECT: u32 = 10;
+
+/// X11: the cookie differs.
+pub const HULLPIPPIN_CAUSE_OTHER_COOKIE: u32 = 11;
+
+/// X12: a sent handle is not held.
+pub const HULLPIPPIN_CAUSE_NOT_HELD: u32 = 12;
+
+/// X13: the window has no room.
+pub const HULLPIPPIN_CAUSE_NO_ROOM: u32 = 13;
+
+/// X14: the one-way buffers take over half of the window.
+pub const HULLPIPPIN_CAUSE_OVER_BUDGET: u32 = 14;
+
+/// X15: there is no call to reply to.
+pub const HULLPIPPIN_CAUSE_NO_CALL: u32 = 15;
+
+/// X16: the caller has ended.
+pub const HULLPIPPIN_CAUSE_CALLER_GONE: u32 = 16;
+
+/// N1: no such handle.
+pub const HULLPIPPIN_NOTE_NO_SUCH_NUMBER: u32 = 1;
+
+/// N2: nothing was asked for.
+pub const HULLPIPPIN_NOTE_NOTHING_ASKED: u32 = 2;
+
+/// N3: there is no strong reference to share.
+pub const HULLPIPPIN_NOTE_NOT_STRONG: u32 = 3;
+
+/// N4: the manager is the caller's own.
+pub const HULLPIPPIN_NOTE_OWN_MANAGER: u32 = 4;
+
+/// N5: no such buffer.
+pub const HULLPIPPIN_NOTE_NO_SUCH_BUFFER: u32 = 5;
+
+/// N6: the buffer is not yet handed out.
+pub const HULLPIPPIN_NOTE_NOT_HANDED_OUT: u32 = 6;
+
+/// N7: no such object.
+pub const HULLPIPPIN_NOTE_NO_SUCH_OBJECT: u32 = 7;
+
+/// N8: nothing is to be acknowledged.
+pub const HULLPIPPIN_NOTE_NO_HANDSHAKE: u32 = 8;
+
+/// N9: a death notification stands already.
+pub const HULLPIPPIN_NOTE_ALREADY_ASKED: u32 = 9;
+
+/// N10: no death notification with that cookie.
+pub const HULLPIPPIN_NOTE_NONE_ASKED: u32 = 10;
+
+/// N11: no death was told with that cookie.
+pub const HULLPIPPIN_NOTE_NONE_TOLD: u32 = 11;
+
+/// HULLPIPPIN_DONE .. HULLPIPPIN_NO_COMMAND.
+pub const HULLPIPPIN_TEXT_STATUS: u32 = 1;
+
+/// HULLPIPPIN_FAULT_SHORT_COMMAND ..
+pub const HULLPIPPIN_TEXT_FAULT: u32 = 2;
+
+/// HULLPIPPIN_CAUSE_NOT_STRONGLY_NAMED ..
+pub const HULLPIPPIN_TEXT_CAUSE: u32 = 3;
+
+/// HULLPIPPIN_NOTE_NO_SUCH_NUMBER ..
+pub const HULLPIPPIN_TEXT_NOTE: u32 = 4;
+
+/// The code of a command, whose text is its name, as BC_TRANSACTION.
+pub const HULLPIPPIN_TEXT_COMMAND: u32 = 5;
+
+/// The code of a return, whose text is its name, as BR_TRANSACTION.
+pub const HULLPIPPIN_TEXT_RETURN: u32 = 6;
+
 /// What a request came to. What a field doesn't apply to has 0 there.
 #[repr(C)]
 #[derive(Clone, Copy, Debug, Default, PartialEq, Eq)]
@@ -182,7 +329,7 @@ pub struct hullpippin_answer {
     pub notes: usize,
     /// Wrote: HULLPIPPIN_AT_END .. HULLPIPPIN_AT_CAUSE.
     pub stop: u32,
-    /// Wrote, refused: the number of the fault or cause; live_command: also that of its note.
+    /// Wrote, refused: HULLPIPPIN_FAULT_.. or HULLPIPPIN_CAUSE_..; live_command: also HULLPIPPIN_NOTE_..
     pub number: u32,
     /// Back: HULLPIPPIN_BACK_TAKEN ..
     pub why: u32,
@@ -200,7 +347,7 @@ pub struct hullpippin_answer {
 pub struct hullpippin_note {
     /// Which command of the stream, from 0.
     pub command: u32,
-    /// Why: N1 to N11.
+    /// Why: HULLPIPPIN_NOTE_..
     pub number: u32,
 }
 
@@ -606,6 +753,14 @@ pub struct hullpippin_walk {
 }
 
 extern "C" {
+    /// The version of the library that is linked, as HULLPIPPIN_VERSION has the header's.
+    pub fn hullpippin_version() -> u32;
+
+    /// Copies the text of a number of this kind (HULLPIPPIN_TEXT_STATUS ..), which is ASCII and has no NUL behind it,
+    /// to `out` if all of it fits in `room` bytes, and else nothing. Answers how many bytes it has, at most 63; 0 where
+    /// there is none.
+    pub fn hullpippin_text_bytes(kind: u32, number: u32, out: *mut u8, room: usize) -> usize;
+
     /// Makes a driver with so many seats, numbered from 0. `driver` must be empty, and stays so unless DONE is
     /// answered. Also NO_MEMORY, SEAT_COUNT.
     pub fn hullpippin_new(seats: u32, driver: *mut hullpippin_driver) -> u32;

@@ -56,6 +56,18 @@ pub use returns::{Return, Returns};
 pub use space::{Buffer, DeathNotification, Frame, Object, ObjectId, Phase, Process, Thread, TodoList, Work};
 pub use status::{Error, Kept};
 
+/// The version of the library that is linked: its three numbers.
+///
+/// ```
+/// let told = hullpippin::library_version().map(|it| it.to_string()).join(".");
+/// assert_eq!(told, env!("CARGO_PKG_VERSION"));
+/// ```
+pub fn library_version() -> [u8; 3] {
+    // SAFETY: it is given nothing.
+    let [_, version @ ..] = unsafe { hullpippin_sys::hullpippin_version() }.to_be_bytes();
+    version
+}
+
 /// All bytes that a call copies, of whatever size.
 fn copied(mut copy: impl FnMut(*mut u8, usize, *mut usize) -> u32) -> Result<Vec<u8>, Error> {
     let (mut bytes, mut size) = (Vec::new(), 0);

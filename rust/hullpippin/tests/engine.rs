@@ -4,6 +4,28 @@ use hullpippin::{
     verdict_on, Answer, Cause, Command, Driver, Error, Fault, FlatObject, Kept, Live, Note, ObjectId, Outcome, Parcel,
     Request, Return, Stop, TodoList, TransactionData, Verdict, Why, Work, ONE_WAY,
 };
+use hullpippin_sys as sys;
+
+/// The text that the library has for a number of a kind.
+fn text_of(kind: u32, number: u32) -> String {
+    let mut room = [0; 64];
+    // SAFETY: there is as much room as is said.
+    let size = unsafe { sys::hullpippin_text_bytes(kind, number, room.as_mut_ptr(), room.len()) };
+    String::from_utf8(room[..size].to_vec()).expect("a text")
+}
+
+#[test]
+fn refusals_have_the_texts_of_the_library() {
+    for it in Fault::ALL {
+        assert_eq!(it.to_string(), text_of(sys::HULLPIPPIN_TEXT_FAULT, it.number()));
+    }
+    for it in Cause::ALL {
+        assert_eq!(it.to_string(), text_of(sys::HULLPIPPIN_TEXT_CAUSE, it.number()));
+    }
+    for it in Note::ALL {
+        assert_eq!(it.to_string(), text_of(sys::HULLPIPPIN_TEXT_NOTE, it.number()));
+    }
+}
 
 fn returns(answer: Answer) -> Vec<Return> {
     answer.returns().map(|it| it.expect("a return")).collect()
