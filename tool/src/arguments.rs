@@ -1,0 +1,151 @@
+// SPDX-License-Identifier: Apache-2.0 OR MIT
+//! The words of the command line.
+use crate::out::When;
+use crate::play::Range;
+use crate::select::Selection;
+use crate::space::ObjectId;
+use clap::{Args, Parser, Subcommand, ValueEnum};
+
+/// Looks at recordings of Binder's transactions: what was sent, why it was refused, who holds what.
+#[derive(Parser)]
+#[command(name = "hullpippin", version, max_term_width = 100)]
+pub struct Arguments {
+    /// Colours: by themselves where a person looks, and never where NO_COLOR is set
+    #[arg(long, global = true, value_enum, default_value = "auto", value_name = "WHEN")]
+    pub color: When,
+    /// Prints to the terminal itself, without HULLPIPPIN_PAGER, PAGER or less
+    #[arg(long, global = true)]
+    pub no_pager: bool,
+    #[command(subcommand)]
+    pub word: Word,
+}
+
+impl Arguments {
+    /// Whether what is printed grows with the journal.
+    pub fn follows(&self) -> bool {
+        matches!(&self.word, Word::Show(Show { follow: true, .. }))
+    }
+}
+
+#[derive(Clone, Copy, Debug, PartialEq, Eq, ValueEnum)]
+pub enum Format {
+    Text,
+    Json,
+}
+
+#[derive(Subcommand)]
+pub enum Word {
+    /// Prints entries, in the header's words, with their parcels
+    Show(Show),
+    /// Tells why an entry was answered so, or what a name means: X6, BadObject, BR_FAILED_REPLY
+    Explain(Explain),
+    /// Prints what each process has at a place: handles, objects, buffers, what is unread
+    State(State),
+    /// Prints all that holds an object
+    Holders(Holders),
+    /// Prints buffers that were read and never freed, references asked for again and again, and what grows
+    Leaks(Leaks),
+    /// Counts commands, returns, refusals, and calls by who calls whom with which code
+    Stats(Stats),
+    /// Prints the calls that took most entries, and those still open
+    Slow(Slow),
+    /// Lays an index beside a journal, JOURNAL.index, by which --from and --at begin near their place
+    Index {
+        /// A journal
+        #[arg(value_name = "JOURNAL")]
+        journal: String,
+    },
+}
+
+#[derive(Args)]
+pub struct Show {
+    /// A journal, or - for standard input
+    #[arg(value_name = "JOURNAL")]
+    pub journal: String,
+    #[command(flatten)]
+    pub range: Range,
+    #[command(flatten)]
+    pub selection: Selection,
+    /// How many bytes of each parcel are printed; 0: nothing of it
+    #[arg(long, value_name = "N", default_value_t = 1024)]
+    pub bytes: usize,
+    /// Waits for further entries at the end, as `tail -f` does
+    #[arg(long, short)]
+    pub follow: bool,
+    /// Text for people, or a value of JSON a line
+    #[arg(long, value_enum, default_value = "text")]
+    pub format: Format,
+}
+
+#[derive(Args)]
+pub struct Explain {
+    /// A name of a refusal or a return; or a journal
+    #[arg(value_name = "NAME|JOURNAL")]
+    pub what: String,
+    /// The place of an entry in that journal
+    #[arg(value_name = "PLACE")]
+    pub place: Option<u64>,
+}
+
+#[derive(Args)]
+pub struct State {
+    /// A journal, or - for standard input
+    #[arg(value_name = "JOURNAL")]
+    pub journal: String,
+    /// After so many entries, in place of all
+    #[arg(long, value_name = "PLACE")]
+    pub at: Option<u64>,
+    /// What differs between two places
+    #[arg(long, value_names = ["PLACE", "PLACE"], num_args = 2, conflicts_with_all = ["at", "format"])]
+    pub diff: Vec<u64>,
+    /// Text for people, or a value of JSON a line
+    #[arg(long, value_enum, default_value = "text")]
+    pub format: Format,
+}
+
+#[derive(Args)]
+pub struct Holders {
+    /// A journal, or - for standard input
+    #[arg(value_name = "JOURNAL")]
+    pub journal: String,
+    /// The object, as `state` prints it
+    #[arg(value_name = "PLACE.INDEX")]
+    pub object: ObjectId,
+    /// After so many entries, in place of all
+    #[arg(long, value_name = "PLACE")]
+    pub at: Option<u64>,
+}
+
+#[derive(Args)]
+pub struct Leaks {
+    /// A journal, or - for standard input
+    #[arg(value_name = "JOURNAL")]
+    pub journal: String,
+    /// After so many entries, in place of all
+    #[arg(long, value_name = "PLACE")]
+    pub at: Option<u64>,
+    /// How many are printed of each kind
+    #[arg(long, value_name = "N", default_value_t = 20)]
+    pub most: usize,
+}
+
+#[derive(Args)]
+pub struct Stats {
+    /// A journal, or - for standard input
+    #[arg(value_name = "JOURNAL")]
+    pub journal: String,
+    #[command(flatten)]
+    pub range: Range,
+}
+
+#[derive(Args)]
+pub struct Slow {
+    /// A journal, or - for standard input
+    #[arg(value_name = "JOURNAL")]
+    pub journal: String,
+    #[command(flatten)]
+    pub range: Range,
+    /// How many are printed
+    #[arg(long, value_name = "N", default_value_t = 20)]
+    pub most: usize,
+}

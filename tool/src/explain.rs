@@ -1,0 +1,518 @@
+// SPDX-License-Identifier: Apache-2.0 OR MIT
+//! Why an entry was answered so, with the facts; and what the names of refusals and returns mean.
+use crate::codes::*;
+use crate::journal::{Answer, Entry, Step};
+use crate::play::Player;
+use crate::record::{Flat, Parcel, Record, OBJECT_SIZE};
+use crate::refusals::{Kind, Reason};
+use crate::show::{object_words, put_entry, Style};
+use crate::space::{About, Facts, Item, ItemKind, ObjectId, Process, Server, Space, Thread, STRONG, WEAK};
+use anyhow::{bail, Result};
+use std::io::{self, Write};
+
+/// The rules themselves: what a name means is told in their words.
+const RULES: &str = include_str!("../../docs/RULES.md");
+
+/// A line of a table without what makes it a table.
+fn cells(line: &str) -> Vec<String> {
+    let plain = |cell: &str| cell.trim().replace('`', "");
+    line.trim_matches('|').split('|').map(plain).collect()
+}
+
+/// When a reason holds, and what it leaves.
+fn meaning(reason: Reason) -> (String, String) {
+    let name = format!("| {} |", reason.name());
+    let row = RULES.lines().find(|it| it.starts_with(&name)).map(cells).unwrap_or_default();
+    let cell = |index: usize| row.get(index).cloned().unwrap_or_default();
+    match reason.kind {
+        Kind::Fault => (cell(2), cell(3)),
+        Kind::Cause => (format!("{}: {}", cell(2), cell(3)), refusal_of(&cell(4))),
+        Kind::Note => (
+            format!("{}: {}", cell(2), cell(3)),
+            "one step, which changes nothing; the commands after it are run".into(),
+        ),
+    }
+}
+
+fn refusal_of(cell: &str) -> String {
+    match cell {
+        "(a)" => "a Refusal that reads as BR_FAILED_REPLY for a transaction's writer; of a reply the writer reads \
+                  BR_TRANSACTION_COMPLETE, the call is closed, and its caller reads BR_FAILED_REPLY"
+            .into(),
+        other => format!("a Refusal on the writer's own list, which reads as {other}"),
+    }
+}
+
+/// Returns by which something went wrong, with what they tell and the reasons that lead to them.
+static RETURNS_TOLD: [(&str, &str, &str); 6] = [
+    (
+        "BR_FAILED_REPLY",
+        "the transaction was refused, or the call's reply was: the call has no reply",
+        "X1 X3 X5 X6 X7 X8 X9 X10 X11 X12 X13 X14 X15",
+    ),
+    (
+        "BR_DEAD_REPLY",
+        "there is nobody to be called, or the thread that was to serve the call has ended",
+        "X2 X4",
+    ),
+    (
+        "BR_TRANSACTION_COMPLETE",
+        "the transaction or reply was taken; so it reads too where a reply was refused, whose caller is told instead",
+        "X16",
+    ),
+    (
+        "BR_ONEWAY_SPAM_SUSPECT",
+        "the one-way call was taken, and the process's one-way buffers take more than a quarter of the receiver's window",
+        "",
+    ),
+    ("BR_DEAD_BINDER", "the process that owns an object has ended; BC_DEAD_BINDER_DONE answers it", ""),
+    ("BR_CLEAR_DEATH_NOTIFICATION_DONE", "a death notification that was cleared is gone", ""),
+];
+
+fn put_reason(to: &mut Vec<u8>, reason: Reason) -> io::Result<()> {
+    let (when, leaves) = meaning(reason);
+    writeln!(to, "{} {}: {}", reason.name(), reason.word(), reason.text())?;
+    writeln!(to, "when: {when}")?;
+    writeln!(to, "leaves: {leaves}")
+}
+
+/// What a name means; false where it is none.
+pub fn put_name(to: &mut Vec<u8>, word: &str) -> io::Result<bool> {
+    let reasons = Reason::named(word);
+    for (index, reason) in reasons.iter().enumerate() {
+        if index > 0 {
+            to.push(b'\n');
+        }
+        put_reason(to, *reason)?;
+    }
+    let told = RETURNS_TOLD.iter().find(|it| it.0.eq_ignore_ascii_case(word));
+    if let Some((name, text, names)) = told {
+        writeln!(to, "{name}: {text}")?;
+        for reason in names.split_whitespace().flat_map(Reason::named) {
+            writeln!(to, "  {} {}: {}", reason.name(), reason.word(), reason.text())?;
+        }
+    }
+    Ok(told.is_some() || !reasons.is_empty())
+}
+
+/// What is looked at to tell why: the entry, and the space before it.
+struct Case<'a> {
+    space: &'a Space,
+    entry: &'a Entry<'a>,
+    thread: Option<&'a Thread>,
+    process: Option<&'a Process>,
+}
+
+impl<'a> Case<'a> {
+    fn new(space: &'a Space, entry: &'a Entry<'a>) -> Case<'a> {
+        let thread = space.threads.get(&entry.seat);
+        let process = thread.and_then(|it| space.processes.get(&it.process));
+        Case { space, entry, thread, process }
+    }
+
+    fn pid(&self) -> u32 {
+        self.process.map_or(0, |it| it.pid)
+    }
+
+    /// All that is known about why it was refused so, as sentences.
+    fn facts(&self, reason: Reason) -> Vec<String> {
+        match (reason.kind, &self.entry.step) {
+            (Kind::Fault, _) => self.of_fault(reason.number),
+            (_, Step::Command { command, parcel }) => match command.payload {
+                Payload::Record(record) => self.of_cause(reason.number, command, &record, parcel.unwrap_or_default()),
+                payload => self.of_note(reason.number, command.code.number, payload),
+            },
+            _ => Vec::new(),
+        }
+    }
+
+    fn of_fault(&self, number: u8) -> Vec<String> {
+        let pids: Vec<_> =
+            self.space.processes.values().map(|it| format!("{} (opened at {})", it.pid, it.opened)).collect();
+        let live = format!("live processes: {}", if pids.is_empty() { "none".into() } else { pids.join(", ") });
+        let seat = self.entry.seat;
+        match number {
+            4 => vec![format!("seat {seat} has no thread: it never opened or attached, or has ended since")],
+            5 => self
+                .thread
+                .map(|it| format!("seat {seat} has a thread of pid {}, since {}", it.pid, it.opened))
+                .into_iter()
+                .collect(),
+            6 | 9 => vec![live],
+            10 => vec![match self.space.manager {
+                Some(it) => format!("the manager is object {}", object_words(self.space, it)),
+                None => format!("pid {} has an object with ptr 0 already", self.pid()),
+            }],
+            12 => self.nothing_to_read(),
+            _ => Vec::new(),
+        }
+    }
+
+    fn nothing_to_read(&self) -> Vec<String> {
+        let (thread, process) = match (self.thread, self.process) {
+            (Some(thread), Some(process)) => (thread, process),
+            _ => return Vec::new(),
+        };
+        let mut facts = vec![format!("nothing stands on the list of seat {}", self.entry.seat)];
+        let waiting = process.todo.iter().filter(|it| self.space.stands(process.opened, it)).count();
+        facts.push(match (thread.looping, thread.frames.last()) {
+            (false, _) => format!(
+                "it isn't in the loop, so it doesn't read the list of pid {}, on which {waiting} stand",
+                process.pid
+            ),
+            (true, Some(call)) => format!(
+                "it is in the call at {call}, so it doesn't read the list of pid {}, on which {waiting} stand",
+                process.pid
+            ),
+            (true, None) => format!("nothing stands on the list of pid {}", process.pid),
+        });
+        facts
+    }
+
+    fn of_cause(&self, number: u8, command: &Message, record: &Record, parcel: Parcel<'_>) -> Vec<String> {
+        match number {
+            1 => self.of_handle(record.handle()),
+            2 => vec!["handle 0 is the context manager, and no process is it now".into()],
+            3 => vec![format!("pid {} is the context manager's own process", self.pid())],
+            4 => self
+                .object_of(record.handle())
+                .into_iter()
+                .map(|it| {
+                    format!(
+                        "handle {} is object {}, whose owner has ended",
+                        record.handle(),
+                        object_words(self.space, it)
+                    )
+                })
+                .collect(),
+            5 | 15 => self.open_calls(),
+            6 => self.unread_answers(),
+            7 | 8 => vec![format!(
+                "the record says data_size {} and offsets_size {}; the step has {} and {} bytes",
+                record.data_size,
+                record.offsets_size,
+                parcel.data.len(),
+                parcel.offsets.len()
+            )],
+            9 | 10 => walk_fault(parcel),
+            11 => self.other_cookie(parcel),
+            12 => self.not_held(parcel),
+            13 | 14 => self.room(command, record),
+            16 => self.open_calls(),
+            _ => Vec::new(),
+        }
+    }
+
+    fn object_of(&self, handle: u32) -> Option<ObjectId> {
+        self.space.addressed(self.process?.opened, handle)
+    }
+
+    /// What the process knows by a handle, or knew.
+    fn of_handle(&self, handle: u32) -> Vec<String> {
+        let process = match self.process {
+            Some(process) => process,
+            None => return Vec::new(),
+        };
+        let pid = process.pid;
+        let mut facts = Vec::new();
+        match (process.names.get(handle), process.names.gone(handle)) {
+            (Some(name), _) => facts.push(format!(
+                "pid {pid} names object {} by handle {handle} since {}, {}; it asked for {} strong and {} weak references",
+                object_words(self.space, name.object), name.since,
+                if name.is_strong() { "strongly" } else { "only weakly" }, name.asked[STRONG], name.asked[WEAK]
+            )),
+            (None, Some(gone)) => facts.push(format!(
+                "pid {pid} had handle {handle} for object {} from {} until it let go of it at {}",
+                gone.object, gone.since, gone.at
+            )),
+            (None, None) => facts.push(format!("pid {pid} never had handle {handle}")),
+        }
+        let has: Vec<_> = process
+            .names
+            .iter()
+            .take(32)
+            .map(|(handle, name)| format!("{handle} ({})", object_words(self.space, name.object)))
+            .collect();
+        let more = process.names.len().saturating_sub(has.len());
+        let list = if has.is_empty() { "none".into() } else { has.join(", ") };
+        facts.push(format!(
+            "its handles are: {list}{}",
+            if more > 0 { format!(", and {more} more") } else { String::new() }
+        ));
+        facts
+    }
+
+    fn open_calls(&self) -> Vec<String> {
+        let thread = match self.thread {
+            Some(thread) if !thread.frames.is_empty() => thread,
+            _ => return vec!["the thread takes part in no open call".into()],
+        };
+        let told = |(depth, place): (usize, &u64)| {
+            let frame = self.space.frames.get(place)?;
+            let inner = if depth == 0 { "innermost" } else { "around it" };
+            let server = match frame.server {
+                Server::Seat(seat) if seat == self.entry.seat => "which it serves".into(),
+                Server::Seat(seat) => format!("in which it waits for seat {seat}"),
+                Server::Pending => "in which it waits, and which nobody has read".into(),
+                Server::Gone => "in which it waits, and whose server is gone".into(),
+            };
+            let gone = if frame.caller.is_none() { ", whose calling thread has ended" } else { "" };
+            Some(format!("{inner}: the call at {place} by pid {}{gone}, {server}", frame.caller_pid))
+        };
+        thread.frames.iter().rev().enumerate().filter_map(told).collect()
+    }
+
+    fn unread_answers(&self) -> Vec<String> {
+        let told = |item: &Item| match item.kind {
+            ItemKind::Call { made, .. } => Some(format!("unread on its list: the call at {made}")),
+            ItemKind::Reply { made, .. } => Some(format!("unread on its list: the reply at {made}")),
+            ItemKind::Verdict { call, reads } => {
+                Some(format!("unread on its list: {} for the call at {call}", return_name(reads)))
+            }
+            _ => None,
+        };
+        self.thread.map_or(Vec::new(), |it| it.todo.iter().filter_map(told).collect())
+    }
+
+    fn other_cookie(&self, parcel: Parcel<'_>) -> Vec<String> {
+        let process = match self.process {
+            Some(process) => process,
+            None => return Vec::new(),
+        };
+        let mut sent = std::collections::HashMap::new();
+        for flat in parcel.objects().filter_map(|it| it.1).filter(|it| it.kind.is_binder()) {
+            let known = process.objects.get(&flat.binder).and_then(|it| Some((*it, self.space.objects.get(it)?)));
+            let Flat { at, binder, cookie, .. } = flat;
+            let here = format!("the object at {at:#x} has ptr {binder:#x} with cookie {cookie:#x}");
+            if let Some((id, object)) = known.filter(|it| it.1.cookie != cookie) {
+                return vec![format!("{here}; object {id} has that ptr with cookie {:#x}", object.cookie)];
+            }
+            if *sent.entry(binder).or_insert(cookie) != cookie {
+                return vec![format!("{here}; an earlier one of the parcel has it with another")];
+            }
+        }
+        Vec::new()
+    }
+
+    fn not_held(&self, parcel: Parcel<'_>) -> Vec<String> {
+        let names = self.process.map(|it| &it.names);
+        let fails = |flat: &Flat| {
+            let name = names.and_then(|it| it.get(flat.binder as u32));
+            flat.kind.is_handle() && !name.map_or(false, |it| it.is_strong() || !flat.kind.is_strong())
+        };
+        let flat = match parcel.objects().filter_map(|it| it.1).find(fails) {
+            Some(flat) => flat,
+            None => return Vec::new(),
+        };
+        let mut facts = vec![format!("the object at {:#x} is {} {}", flat.at, flat.kind.name(), flat.binder as u32)];
+        facts.extend(self.of_handle(flat.binder as u32));
+        facts
+    }
+
+    fn receiver(&self, command: &Message, record: &Record) -> Option<&'a Process> {
+        let owner = if command.code.number == BC_TRANSACTION {
+            self.space.objects.get(&self.object_of(record.handle())?)?.owner
+        } else {
+            let call = self.thread?.frames.last()?;
+            self.space.threads.get(&self.space.frames.get(call)?.caller?)?.process
+        };
+        self.space.processes.get(&owner)
+    }
+
+    fn room(&self, command: &Message, record: &Record) -> Vec<String> {
+        let process = match self.receiver(command, record) {
+            Some(process) => process,
+            None => return Vec::new(),
+        };
+        let (room, pid) = (&process.room, process.pid);
+        let mut facts = vec![format!(
+            "the parcel needs {} bytes; of the {} of pid {pid}'s window {} are taken by {} buffers, and its largest hole has {}",
+            record.needed(), room.size, room.used(), room.len(), room.largest_hole()
+        )];
+        if record.is_one_way() && command.code.number == BC_TRANSACTION {
+            facts.push(format!("one-way buffers take {} of them, and may take {}", room.one_way(), room.size / 2));
+        }
+        let mut read: Vec<_> = room.iter().filter_map(|(at, it)| Some((it.read?, at, it.sent.pid))).collect();
+        read.sort_unstable();
+        facts.extend(read.first().map(|(at, pointer, from)| {
+            format!("its oldest buffer that was read and isn't freed: {pointer:#x}, read at {at}, from pid {from}")
+        }));
+        facts
+    }
+
+    fn of_note(&self, number: u8, code: u32, payload: Payload) -> Vec<String> {
+        match payload {
+            Payload::Handle(handle) | Payload::HandleCookie(handle, _) => {
+                let mut facts = self.of_handle(handle);
+                facts.extend(self.death_of(number, handle));
+                facts
+            }
+            Payload::Buffer(pointer) => self.of_buffer(pointer),
+            Payload::PtrCookie(ptr, cookie) => self.of_object(code, ptr, cookie),
+            Payload::Cookie(cookie) => self.told_deaths(cookie),
+            _ => Vec::new(),
+        }
+    }
+
+    fn death_of(&self, number: u8, handle: u32) -> Option<String> {
+        if !matches!(number, 9 | 10) {
+            return None;
+        }
+        let process = self.process?;
+        let object = self.space.named(process.opened, handle)?;
+        Some(match self.space.death_on(process.opened, object) {
+            Some((made, it)) => {
+                format!("on it stands the notification asked for at {made} with cookie {:#x}", it.cookie)
+            }
+            None => "no uncleared notification stands on it".into(),
+        })
+    }
+
+    fn of_buffer(&self, pointer: u64) -> Vec<String> {
+        let room = match self.process {
+            Some(process) => &process.room,
+            None => return Vec::new(),
+        };
+        vec![match (room.get(pointer), room.freed(pointer)) {
+            (Some(it), _) => format!("the buffer was made at {} and hasn't been read", it.sent.made),
+            (None, Some(at)) => format!("the latest buffer with that pointer was freed at {at}"),
+            (None, None) => "no buffer of this window ever had that pointer".into(),
+        }]
+    }
+
+    fn of_object(&self, code: u32, ptr: u64, cookie: u64) -> Vec<String> {
+        let strength = if code == BC_ACQUIRE_DONE { STRONG } else { WEAK };
+        let process = match self.process {
+            Some(process) => process,
+            None => return Vec::new(),
+        };
+        let object = process.objects.get(&ptr).and_then(|it| Some((*it, self.space.objects.get(it)?)));
+        vec![match object {
+            Some((id, it)) if it.cookie != cookie => format!("object {id} has that ptr, with cookie {:#x}", it.cookie),
+            Some((id, it)) if it.handshakes[strength] => format!("object {id} waits for it"),
+            Some((id, _)) => {
+                format!("object {id} has both; it was told nothing that this acknowledges, or was answered already")
+            }
+            None => format!("pid {} has no object with that ptr", process.pid),
+        }]
+    }
+
+    fn told_deaths(&self, cookie: u64) -> Vec<String> {
+        let deaths = match self.process {
+            Some(process) => &process.deaths,
+            None => return Vec::new(),
+        };
+        let of = deaths.iter().filter(|(_, it)| it.cookie == cookie);
+        let told: Vec<_> =
+            of.map(|(made, it)| format!("the notification asked for at {made} is {}", it.phase.name())).collect();
+        if told.is_empty() {
+            vec!["no notification of this process has that cookie".into()]
+        } else {
+            told
+        }
+    }
+}
+
+/// The first offset of a parcel that is bad, and why.
+fn walk_fault(parcel: Parcel<'_>) -> Vec<String> {
+    let mut end = 0;
+    for (index, (at, flat)) in parcel.objects().enumerate() {
+        let room = (parcel.data.len() as u64).checked_sub(at).map_or(false, |it| it >= OBJECT_SIZE as u64);
+        let why = if at % 4 != 0 {
+            "isn't divisible by 4".into()
+        } else if at < end {
+            format!("lies before {end:#x}, where the object before it ends")
+        } else if !room {
+            format!("leaves no {OBJECT_SIZE} bytes of the {} of data", parcel.data.len())
+        } else {
+            match flat {
+                None => format!("finds the type {:#x}, which is none", crate::record::u32_at(parcel.data, at as usize)),
+                Some(it) if it.kind.is_binder() || it.kind.is_handle() => {
+                    end = at + OBJECT_SIZE as u64;
+                    continue;
+                }
+                Some(it) => format!("finds an object of the type {}", it.kind.name()),
+            }
+        };
+        return vec![format!("offset {index}, {at:#x}, {why}")];
+    }
+    Vec::new()
+}
+
+/// The places that an entry's returns lead back to.
+fn sources(entry: &Entry<'_>, facts: &Facts) -> Vec<u64> {
+    let stream = match entry.answer {
+        Answer::Got { stream, .. } => stream,
+        _ => return Vec::new(),
+    };
+    let returns = Returns(stream).flatten().zip(&facts.about);
+    let back = |(message, about): (Message, &About)| match about {
+        About::Call(place) if message.code.number != BR_TRANSACTION_COMPLETE => Some(*place),
+        _ => None,
+    };
+    returns.filter_map(back).collect()
+}
+
+fn put_facts(to: &mut Vec<u8>, style: &Style, facts: &[String]) -> io::Result<()> {
+    let (about, plain) = (&style.palette.about, &style.palette.plain);
+    facts.iter().try_for_each(|it| writeln!(to, "    {about}{it}{plain}"))
+}
+
+/// One entry with why it was answered so; gives the places that it leads back to.
+fn put_place(to: &mut Vec<u8>, style: &Style, path: &str, place: u64) -> Result<Vec<u64>> {
+    let mut player = Player::open(path, false)?;
+    player.until(place)?;
+    let mut space = player.space.clone();
+    let mut known = Facts::default();
+    let entry = match player.source.next()? {
+        Some(entry) => entry,
+        None => bail!("{path}: there is no place {place}: it has {place} entries"),
+    };
+    let reason = match entry.answer {
+        Answer::Refused(reason) => Some((reason, Case::new(&space, &entry).facts(reason))),
+        _ => None,
+    };
+    space.step(&entry, &mut known);
+    put_entry(to, style, &entry, &space, &known)?;
+    if let Some((reason, facts)) = reason {
+        put_facts(to, style, &facts)?;
+        let (when, leaves) = meaning(reason);
+        writeln!(to, "    {} holds: {when}", reason.name())?;
+        writeln!(to, "    it leaves: {leaves}")?;
+    }
+    Ok(sources(&entry, &known))
+}
+
+/// Why the entry at a place was answered so, and those before it that it comes from.
+pub fn put_entry_at(to: &mut Vec<u8>, style: &Style, path: &str, place: u64) -> Result<()> {
+    for source in put_place(to, style, path, place)? {
+        writeln!(to, "it comes from")?;
+        put_place(to, style, path, source)?;
+    }
+    Ok(())
+}
+
+#[cfg(test)]
+mod tests {
+    use super::*;
+
+    #[test]
+    fn every_reason_has_its_row_in_the_rules() {
+        for reason in Reason::all() {
+            let (when, leaves) = meaning(reason);
+            assert!(when.len() > 8 && leaves.len() > 4, "{}: {when}: {leaves}", reason.name());
+            assert!(RULES.contains(&format!("| {} | {} |", reason.name(), reason.word())), "{}", reason.name());
+        }
+    }
+
+    #[test]
+    fn the_first_bad_offset_is_told() {
+        let data = [0; 24];
+        let offsets = |all: &[u64]| all.iter().flat_map(|it| it.to_le_bytes()).collect::<Vec<u8>>();
+        let told = |all: &[u64]| walk_fault(Parcel { data: &data, offsets: &offsets(all) }).join("");
+        assert_eq!(told(&[2]), "offset 0, 0x2, isn't divisible by 4");
+        assert_eq!(told(&[4]), "offset 0, 0x4, leaves no 24 bytes of the 24 of data");
+        assert_eq!(told(&[0]), "offset 0, 0x0, finds the type 0x0, which is none");
+        assert_eq!(told(&[u64::MAX - 3]), "offset 0, 0xfffffffffffffffc, leaves no 24 bytes of the 24 of data");
+    }
+}

@@ -1,0 +1,363 @@
+// SPDX-License-Identifier: Apache-2.0 OR MIT
+//! Journals as docs/FORMATS.md lays them out: the heading, and entry by entry what stands behind it.
+use crate::codes::{self, Message, Unread};
+use crate::record::{u32_at, Parcel};
+use crate::refusals::{Kind, Reason};
+use std::fmt;
+
+pub const HEADING_SIZE: usize = 16;
+/// What the heading says while entries are still to come.
+pub const STILL_WRITTEN: u32 = u32::MAX;
+
+/// A version of the format: what it begins with, and what it can say. A new one is a row here.
+#[derive(Debug, PartialEq, Eq)]
+pub struct Version {
+    pub mark: &'static [u8; 8],
+    most_seats: u32,
+    says_spam: bool,
+}
+
+pub static VERSIONS: [Version; 2] = [
+    Version { mark: b"BNDJ0001", most_seats: 16, says_spam: false },
+    Version { mark: b"BNDJ0002", most_seats: 31, says_spam: true },
+];
+
+/// What is wrong with a journal, and at which byte of the file.
+#[derive(Debug, PartialEq, Eq)]
+pub struct Fault {
+    pub at: u64,
+    pub what: String,
+}
+
+impl fmt::Display for Fault {
+    fn fmt(&self, f: &mut fmt::Formatter<'_>) -> fmt::Result {
+        write!(f, "byte {}: {}", self.at, self.what)
+    }
+}
+
+impl std::error::Error for Fault {}
+
+fn fault<T>(at: u64, what: impl Into<String>) -> Result<T, Fault> {
+    Err(Fault { at, what: what.into() })
+}
+
+/// What a journal begins with.
+#[derive(Clone, Copy, Debug)]
+pub struct Heading {
+    pub version: &'static Version,
+    pub seats: u32,
+    pub count: u32,
+}
+
+impl Heading {
+    pub fn read(bytes: &[u8]) -> Result<Heading, Fault> {
+        let mark = &bytes[..bytes.len().min(8)];
+        let version = match VERSIONS.iter().find(|it| it.mark[..] == *mark) {
+            Some(version) => version,
+            None => return fault(0, format!("no journal: it begins with \"{}\"", mark.escape_ascii())),
+        };
+        if bytes.len() < HEADING_SIZE {
+            return fault(bytes.len() as u64, format!("the heading has {HEADING_SIZE} bytes, and the file ends here"));
+        }
+        let seats = u32_at(bytes, 8);
+        if seats == 0 || seats > version.most_seats {
+            return fault(8, format!("{seats} seats, where this version has 1 to {}", version.most_seats));
+        }
+        Ok(Heading { version, seats, count: u32_at(bytes, 12) })
+    }
+}
+
+/// What a seat did.
+#[derive(Clone, Copy, Debug, PartialEq)]
+pub enum Step<'a> {
+    Open {
+        pid: u32,
+        euid: u32,
+        window: u32,
+    },
+    Attach {
+        pid: u32,
+    },
+    Manager,
+    /// The parcel is None where the step has none.
+    Command {
+        command: Message,
+        parcel: Option<Parcel<'a>>,
+    },
+    Read {
+        limit: u32,
+    },
+    ExitThread,
+    ExitProcess,
+    Spam {
+        on: bool,
+    },
+}
+
+impl Step<'_> {
+    /// The verb of a script, or the command's name.
+    pub fn name(&self) -> &'static str {
+        match self {
+            Step::Open { .. } => "open",
+            Step::Attach { .. } => "attach",
+            Step::Manager => "manager",
+            Step::Command { command, .. } => command.code.name,
+            Step::Read { .. } => "read",
+            Step::ExitThread => "exitthread",
+            Step::ExitProcess => "exitprocess",
+            Step::Spam { .. } => "spam",
+        }
+    }
+}
+
+/// What it was answered.
+#[derive(Clone, Copy, Debug, PartialEq)]
+pub enum Answer<'a> {
+    Opened,
+    Set,
+    Exited,
+    Accepted,
+    /// Noted, stopped or refused.
+    Refused(Reason),
+    Got {
+        stream: &'a [u8],
+        parcel: Parcel<'a>,
+    },
+}
+
+#[derive(Clone, Copy, Debug)]
+pub struct Entry<'a> {
+    pub place: u64,
+    pub seat: u32,
+    pub step: Step<'a>,
+    pub answer: Answer<'a>,
+}
+
+impl Entry<'_> {
+    pub fn is_refused(&self) -> bool {
+        matches!(self.answer, Answer::Refused(_))
+    }
+}
+
+/// The bytes of one part of an entry, and where in the file they stand.
+struct Part<'a> {
+    bytes: &'a [u8],
+    at: usize,
+    base: u64,
+    place: u64,
+    what: &'static str,
+}
+
+impl<'a> Part<'a> {
+    fn here(&self) -> u64 {
+        self.base + self.at as u64
+    }
+
+    fn fault<T>(&self, back: usize, what: impl fmt::Display) -> Result<T, Fault> {
+        fault(self.here() - back as u64, format!("the {} of entry {} {what}", self.what, self.place))
+    }
+
+    fn take(&mut self, size: usize) -> Result<&'a [u8], Fault> {
+        let taken = self.at.checked_add(size).and_then(|end| self.bytes.get(self.at..end));
+        match taken {
+            Some(taken) => {
+                self.at += size;
+                Ok(taken)
+            }
+            None => self.fault(0, format_args!("wants {size} bytes here, and has {}", self.bytes.len() - self.at)),
+        }
+    }
+
+    fn byte(&mut self) -> Result<u8, Fault> {
+        Ok(self.take(1)?[0])
+    }
+
+    fn number(&mut self) -> Result<u32, Fault> {
+        Ok(u32_at(self.take(4)?, 0))
+    }
+
+    fn block(&mut self) -> Result<&'a [u8], Fault> {
+        let size = self.number()?;
+        self.take(size as usize)
+    }
+
+    fn parcel(&mut self) -> Result<Parcel<'a>, Fault> {
+        Ok(Parcel { data: self.block()?, offsets: self.block()? })
+    }
+
+    /// One byte that is 0 or 1.
+    fn flag(&mut self) -> Result<bool, Fault> {
+        match self.byte()? {
+            0 => Ok(false),
+            1 => Ok(true),
+            other => self.fault(1, format_args!("has {other} where only 0 or 1 may stand")),
+        }
+    }
+
+    fn reason(&mut self, kind: Kind) -> Result<Answer<'a>, Fault> {
+        let number = self.byte()?;
+        match Reason::new(kind, number) {
+            Some(reason) => Ok(Answer::Refused(reason)),
+            None => {
+                let (letter, count) = (kind.letter(), kind.count());
+                self.fault(
+                    1,
+                    format_args!("has {number} where 1 to {count} may stand, for {letter}1 to {letter}{count}"),
+                )
+            }
+        }
+    }
+
+    fn end(&self) -> Result<(), Fault> {
+        match self.bytes.len() - self.at {
+            0 => Ok(()),
+            more => self.fault(0, format_args!("has {more} bytes more than it says")),
+        }
+    }
+}
+
+fn command<'a>(part: &mut Part<'a>) -> Result<Step<'a>, Fault> {
+    let bytes = part.block()?;
+    let command = match codes::command(bytes) {
+        Ok(command) => command,
+        Err(Unread::Unknown(code)) => {
+            return part.fault(bytes.len(), format_args!("has the command {code:#x}, which is none"))
+        }
+        Err(Unread::Short) => {
+            return part.fault(bytes.len(), format_args!("has {} bytes, which are not one command", bytes.len()))
+        }
+    };
+    if !part.flag()? {
+        return Ok(Step::Command { command, parcel: None });
+    }
+    if command.record().is_none() {
+        return part.fault(1, format_args!("has a parcel, and {} sends none", command.code.name));
+    }
+    Ok(Step::Command { command, parcel: Some(part.parcel()?) })
+}
+
+fn step<'a>(part: &mut Part<'a>, version: &Version) -> Result<Step<'a>, Fault> {
+    Ok(match part.byte()? {
+        0 => Step::Open { pid: part.number()?, euid: part.number()?, window: part.number()? },
+        1 => Step::Attach { pid: part.number()? },
+        2 => Step::Manager,
+        3 => command(part)?,
+        4 => Step::Read { limit: part.number()? },
+        5 => Step::ExitThread,
+        6 => Step::ExitProcess,
+        7 if version.says_spam => Step::Spam { on: part.flag()? },
+        other => return part.fault(1, format_args!("begins with {other}, which is no step of this version")),
+    })
+}
+
+fn answer<'a>(part: &mut Part<'a>) -> Result<Answer<'a>, Fault> {
+    Ok(match part.byte()? {
+        0 => Answer::Opened,
+        1 => Answer::Set,
+        2 => Answer::Exited,
+        3 => Answer::Accepted,
+        4 => part.reason(Kind::Note)?,
+        5 => part.reason(Kind::Cause)?,
+        6 => Answer::Got { stream: part.block()?, parcel: part.parcel()? },
+        7 => part.reason(Kind::Fault)?,
+        other => return part.fault(1, format_args!("begins with {other}, which is no answer")),
+    })
+}
+
+/// How much of an entry is there, by the bytes that it begins with.
+#[derive(Clone, Copy, Debug, PartialEq, Eq)]
+pub enum Extent {
+    /// It has so many bytes.
+    Whole(usize),
+    /// At least so many are needed, and fewer are there.
+    Needs(usize),
+}
+
+/// How many bytes the entry has that these begin with.
+pub fn extent(bytes: &[u8]) -> Extent {
+    let mut end = 4;
+    for _ in 0..2 {
+        if bytes.len() < end + 4 {
+            return Extent::Needs(end + 4);
+        }
+        end += 4 + u32_at(bytes, end) as usize;
+    }
+    if bytes.len() < end {
+        Extent::Needs(end)
+    } else {
+        Extent::Whole(end)
+    }
+}
+
+/// The entry that all these bytes are; they stand at `base` in the file.
+pub fn entry<'a>(heading: &Heading, place: u64, base: u64, bytes: &'a [u8]) -> Result<Entry<'a>, Fault> {
+    let seat = u32_at(bytes, 0);
+    if seat >= heading.seats {
+        return fault(base, format!("entry {place} is of seat {seat}, and there are {} seats", heading.seats));
+    }
+    let middle = 8 + u32_at(bytes, 4) as usize;
+    let mut first = Part { bytes: &bytes[8..middle], at: 0, base: base + 8, place, what: "step" };
+    let step = step(&mut first, heading.version)?;
+    first.end()?;
+    let base = base + middle as u64 + 4;
+    let mut second = Part { bytes: &bytes[middle + 4..], at: 0, base, place, what: "answer" };
+    let answer = answer(&mut second)?;
+    second.end()?;
+    Ok(Entry { place, seat, step, answer })
+}
+
+#[cfg(test)]
+mod tests {
+    use super::*;
+
+    /// The shortest run of docs/FORMATS.md.
+    const SHORTEST: [u8; 42] = [
+        0x42, 0x4e, 0x44, 0x4a, 0x30, 0x30, 0x30, 0x32, 1, 0, 0, 0, 1, 0, 0, 0, 0, 0, 0, 0, 13, 0, 0, 0, 0, 0x64, 0, 0,
+        0, 0xe8, 3, 0, 0, 0, 0x10, 0, 0, 1, 0, 0, 0, 0,
+    ];
+
+    #[test]
+    fn the_shortest_run_is_read() {
+        let heading = Heading::read(&SHORTEST).unwrap();
+        assert_eq!((heading.seats, heading.count), (1, 1));
+        assert_eq!(extent(&SHORTEST[16..]), Extent::Whole(26));
+        let entry = entry(&heading, 0, 16, &SHORTEST[16..]).unwrap();
+        assert_eq!(entry.step, Step::Open { pid: 100, euid: 1000, window: 4096 });
+        assert_eq!(entry.answer, Answer::Opened);
+    }
+
+    #[test]
+    fn what_is_cut_says_how_much_it_needs() {
+        assert_eq!(extent(&SHORTEST[16..17]), Extent::Needs(8));
+        assert_eq!(extent(&SHORTEST[16..24]), Extent::Needs(25));
+        assert_eq!(extent(&SHORTEST[16..41]), Extent::Needs(26));
+    }
+
+    #[test]
+    fn faults_are_told_with_their_byte() {
+        let heading = Heading::read(&SHORTEST).unwrap();
+        let told = |at: usize, byte: u8| {
+            let mut bytes = SHORTEST;
+            bytes[at] = byte;
+            entry(&heading, 0, 16, &bytes[16..]).unwrap_err().to_string()
+        };
+        assert_eq!(told(16, 1), "byte 16: entry 0 is of seat 1, and there are 1 seats");
+        assert_eq!(told(24, 9), "byte 24: the step of entry 0 begins with 9, which is no step of this version");
+        assert_eq!(told(24, 1), "byte 29: the step of entry 0 has 8 bytes more than it says");
+        assert_eq!(told(24, 7), "byte 25: the step of entry 0 has 100 where only 0 or 1 may stand");
+        assert_eq!(told(41, 8), "byte 41: the answer of entry 0 begins with 8, which is no answer");
+        assert_eq!(told(41, 7), "byte 42: the answer of entry 0 wants 1 bytes here, and has 0");
+    }
+
+    #[test]
+    fn versions_differ_in_seats_and_in_spam() {
+        let mut bytes = SHORTEST;
+        bytes[8] = 17;
+        assert_eq!(Heading::read(&bytes).unwrap().seats, 17);
+        bytes[7] = b'1';
+        assert_eq!(Heading::read(&bytes).unwrap_err().to_string(), "byte 8: 17 seats, where this version has 1 to 16");
+        bytes[7] = b'9';
+        assert_eq!(Heading::read(&bytes).unwrap_err().to_string(), "byte 0: no journal: it begins with \"BNDJ0009\"");
+        assert_eq!(Heading::read(&SHORTEST[..12]).unwrap_err().at, 12);
+    }
+}

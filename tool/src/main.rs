@@ -1,0 +1,127 @@
+// SPDX-License-Identifier: Apache-2.0 OR MIT
+//! `hullpippin` looks at recordings of Binder's transactions. It proves and judges nothing: `bplay` does.
+#![warn(rust_2018_idioms)]
+
+mod arguments;
+mod calls;
+mod codes;
+#[cfg(test)]
+mod documents;
+mod explain;
+mod holders;
+mod index;
+mod journal;
+mod json;
+mod out;
+mod parcel;
+mod play;
+mod record;
+mod refusals;
+mod select;
+mod show;
+mod source;
+mod space;
+mod state;
+mod stats;
+
+use anyhow::{bail, Result};
+use arguments::{Arguments, Explain, Format, Holders, Show, State, Word};
+use clap::Parser;
+use out::{Out, Palette};
+use play::Player;
+use show::Style;
+use std::io;
+use std::process::ExitCode;
+
+fn show(given: &Show, out: &mut Out, style: &Style) -> Result<()> {
+    let mut player = Player::open(&given.journal, given.follow)?;
+    player.check(given.range)?;
+    player.jump(given.range.from)?;
+    while given.range.to.map_or(true, |to| player.source.place() < to) {
+        let (entry, space, facts) = match player.next(|| Ok(out.flush()?))? {
+            Some(next) => next,
+            None => {
+                out.flush()?;
+                return player.ended(given.range);
+            }
+        };
+        if entry.place < given.range.from || !given.selection.wants(&entry, facts) {
+            continue;
+        }
+        match given.format {
+            Format::Text => show::put_entry(&mut out.held, style, &entry, space, facts)?,
+            Format::Json => json::put_entry(&mut out.held, given.bytes, &entry, space, facts)?,
+        }
+        out.pass()?;
+    }
+    Ok(())
+}
+
+fn state(given: &State, out: &mut Out) -> Result<()> {
+    let to = &mut out.held;
+    if let [before, after] = given.diff[..] {
+        let (before, after) = (state::at(&given.journal, Some(before))?, state::at(&given.journal, Some(after))?);
+        return Ok(state::put_difference(to, &before, &after)?);
+    }
+    let space = state::at(&given.journal, given.at)?;
+    match given.format {
+        Format::Text => Ok(state::put_text(to, &space)?),
+        Format::Json => state::put_json(to, &space),
+    }
+}
+
+fn explain(given: &Explain, out: &mut Out, style: &Style) -> Result<()> {
+    let (to, what) = (&mut out.held, &given.what);
+    match given.place {
+        Some(place) => explain::put_entry_at(to, style, what, place),
+        None if explain::put_name(to, what)? => Ok(()),
+        None => bail!(
+            "nothing is called {what}: there are F1 to F16, X1 to X16 and N1 to N11, also by names as BadObject, and \
+             returns as BR_FAILED_REPLY; of a journal an entry is explained by its place: explain JOURNAL PLACE"
+        ),
+    }
+}
+
+fn holders(given: &Holders, out: &mut Out) -> Result<()> {
+    holders::put_holders(&mut out.held, &state::at(&given.journal, given.at)?, given.object)
+}
+
+fn run(arguments: &Arguments, out: &mut Out) -> Result<()> {
+    let palette = Palette::new(arguments.color);
+    let style = |bytes| Style { palette, bytes };
+    match &arguments.word {
+        Word::Show(given) => show(given, out, &style(given.bytes)),
+        Word::Explain(given) => explain(given, out, &style(1024)),
+        Word::State(given) => state(given, out),
+        Word::Holders(given) => holders(given, out),
+        Word::Leaks(given) => {
+            holders::put_leaks(&mut out.held, &mut Player::open(&given.journal, false)?, given.at, given.most)
+        }
+        Word::Stats(given) => stats::stats(&mut Player::open(&given.journal, false)?, given.range, &mut out.held),
+        Word::Slow(given) => {
+            stats::slow(&mut Player::open(&given.journal, false)?, given.range, given.most, &mut out.held)
+        }
+        Word::Index { journal } => index::make(journal),
+    }
+}
+
+/// Whether nobody reads on, which is no fault: `head` has enough.
+fn is_closed_pipe(error: &anyhow::Error) -> bool {
+    let io = error.chain().filter_map(|it| it.downcast_ref::<io::Error>());
+    io.map(io::Error::kind).any(|it| it == io::ErrorKind::BrokenPipe)
+}
+
+fn main() -> ExitCode {
+    let arguments = Arguments::parse();
+    let mut out = Out::new(!arguments.no_pager && !arguments.follows());
+    let done = run(&arguments, &mut out);
+    let closed = out.close().map_err(anyhow::Error::from);
+    match done.and(closed) {
+        Ok(()) => ExitCode::SUCCESS,
+        Err(error) if is_closed_pipe(&error) => ExitCode::SUCCESS,
+        Err(error) => {
+            eprintln!("hullpippin: {error:#}");
+            ExitCode::FAILURE
+        }
+    }
+}

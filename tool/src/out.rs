@@ -1,0 +1,116 @@
+// SPDX-License-Identifier: Apache-2.0 OR MIT
+//! Standard output, or a pager before it; and colours.
+use crossterm::style::{Color, ResetColor, SetForegroundColor};
+use crossterm::tty::IsTty;
+use std::env;
+use std::io::{self, Write};
+use std::process::{Child, Command, Stdio};
+
+/// How much is held before it is written.
+const ROOM: usize = 1 << 16;
+
+#[derive(Clone, Copy, Debug, PartialEq, Eq, clap::ValueEnum)]
+pub enum When {
+    Auto,
+    Always,
+    Never,
+}
+
+/// What stands before and behind each kind of word; nothing without colours.
+#[derive(Clone, Debug, Default)]
+pub struct Palette {
+    pub place: String,
+    pub name: String,
+    pub refused: String,
+    pub text: String,
+    pub about: String,
+    pub plain: String,
+}
+
+impl Palette {
+    fn colours() -> Palette {
+        let of = |colour| SetForegroundColor(colour).to_string();
+        Palette {
+            place: of(Color::DarkGrey),
+            name: of(Color::Cyan),
+            refused: of(Color::Red),
+            text: of(Color::Green),
+            about: of(Color::Yellow),
+            plain: ResetColor.to_string(),
+        }
+    }
+
+    /// Colours as one wants them: by themselves where a person looks, and nobody has set NO_COLOR.
+    pub fn new(when: When) -> Palette {
+        let is_wanted = match when {
+            When::Always => true,
+            When::Never => false,
+            When::Auto => {
+                let refuses = env::var_os("NO_COLOR").map_or(false, |it| !it.is_empty());
+                !refuses && io::stdout().is_tty() && env::var_os("TERM").map_or(true, |it| it != "dumb")
+            }
+        };
+        if is_wanted {
+            Palette::colours()
+        } else {
+            Palette::default()
+        }
+    }
+}
+
+/// Where output goes.
+pub struct Out {
+    pub held: Vec<u8>,
+    pager: Option<Child>,
+}
+
+impl Out {
+    /// With a pager where a person looks, unless one doesn't want it.
+    pub fn new(with_pager: bool) -> Out {
+        let pager = (with_pager && io::stdout().is_tty()).then(start_pager).flatten();
+        Out { held: Vec::with_capacity(2 * ROOM), pager }
+    }
+
+    /// Writes what is held, once it is much.
+    pub fn pass(&mut self) -> io::Result<()> {
+        if self.held.len() < ROOM {
+            return Ok(());
+        }
+        self.flush()
+    }
+
+    pub fn flush(&mut self) -> io::Result<()> {
+        match self.pager.as_mut().and_then(|it| it.stdin.as_mut()) {
+            Some(pager) => pager.write_all(&self.held)?,
+            None => {
+                let mut stdout = io::stdout().lock();
+                stdout.write_all(&self.held)?;
+                stdout.flush()?;
+            }
+        }
+        self.held.clear();
+        Ok(())
+    }
+
+    /// Writes the rest, and waits for the pager.
+    pub fn close(mut self) -> io::Result<()> {
+        let written = self.flush();
+        if let Some(mut pager) = self.pager.take() {
+            drop(pager.stdin.take());
+            pager.wait()?;
+        }
+        written
+    }
+}
+
+/// HULLPIPPIN_PAGER, else PAGER, else less: as words, without a shell. None where there is none.
+fn start_pager() -> Option<Child> {
+    let words = env::var("HULLPIPPIN_PAGER").or_else(|_| env::var("PAGER")).unwrap_or_else(|_| "less".into());
+    let mut words = words.split_whitespace();
+    let mut command = Command::new(words.next()?);
+    command.args(words).stdin(Stdio::piped());
+    if env::var_os("LESS").is_none() {
+        command.env("LESS", "FRX");
+    }
+    command.spawn().ok()
+}

@@ -1,0 +1,105 @@
+// SPDX-License-Identifier: Apache-2.0 OR MIT
+//! Journals that are cut anywhere and have bits turned: each is shown or named, and none ends the program otherwise.
+mod common;
+use common::*;
+
+/// A sequence that is the same in each run.
+struct Numbers(u64);
+
+impl Numbers {
+    fn below(&mut self, end: usize) -> usize {
+        self.0 ^= self.0 << 13;
+        self.0 ^= self.0 >> 7;
+        self.0 ^= self.0 << 17;
+        (self.0 % end as u64) as usize
+    }
+}
+
+const WORDS: [&[&str]; 7] = [
+    &["show"],
+    &["show", "--format", "json"],
+    &["state"],
+    &["state", "--format", "json"],
+    &["leaks"],
+    &["stats"],
+    &["slow"],
+];
+
+fn journals() -> Vec<Vec<u8>> {
+    let root = concat!(env!("CARGO_MANIFEST_DIR"), "/../");
+    let files = ["tools/data/two_hundred.journal", "bench/journals/w3a.journal", "bench/journals/w4b.journal"];
+    files.iter().map(|it| std::fs::read(format!("{root}{it}")).expect(it)).collect()
+}
+
+fn judge(words: &[&str], bytes: &[u8], name: &str) {
+    let file = kept(name, bytes);
+    let done = run(&[words, &[file.path()]].concat());
+    let said = String::from_utf8_lossy(&done.stderr).into_owned();
+    assert!(matches!(done.status.code(), Some(0 | 1)), "{words:?} {name}: {:?} {said}", done.status);
+    assert!(said.is_empty() || said.starts_with("hullpippin: "), "{words:?} {name}: {said}");
+}
+
+#[test]
+fn whole_journals_are_shown_by_each_word() {
+    for bytes in journals() {
+        for words in WORDS {
+            let file = kept("whole", &bytes);
+            assert!(!printed(&[words, &[file.path()]].concat()).is_empty(), "{words:?}");
+        }
+    }
+}
+
+#[test]
+fn cut_anywhere() {
+    let mut numbers = Numbers(1);
+    for (index, bytes) in journals().iter().enumerate() {
+        for turn in 0..30 {
+            let end = if turn < 20 { turn } else { numbers.below(bytes.len()) };
+            judge(WORDS[turn % WORDS.len()], &bytes[..end], &format!("cut-{index}-{turn}"));
+        }
+    }
+}
+
+#[test]
+fn bits_turned() {
+    let mut numbers = Numbers(2);
+    for (index, bytes) in journals().iter().enumerate() {
+        for turn in 0..60 {
+            let mut bytes = bytes.clone();
+            for _ in 0..=numbers.below(4) {
+                let at = numbers.below(bytes.len());
+                bytes[at] ^= 1 << numbers.below(8);
+            }
+            judge(WORDS[turn % WORDS.len()], &bytes, &format!("turned-{index}-{turn}"));
+        }
+    }
+}
+
+/// Entries in another order make sense one by one, and none together.
+#[test]
+fn entries_that_do_not_follow() {
+    let mut numbers = Numbers(3);
+    for (index, bytes) in journals().iter().enumerate() {
+        let entries = entries(bytes);
+        for turn in 0..20 {
+            let mut mixed = bytes[..16].to_vec();
+            for _ in 0..entries.len() {
+                mixed.extend(entries[numbers.below(entries.len())]);
+            }
+            judge(WORDS[turn % WORDS.len()], &mixed, &format!("mixed-{index}-{turn}"));
+        }
+    }
+}
+
+fn entries(bytes: &[u8]) -> Vec<&[u8]> {
+    let number = |at: usize| u32::from_le_bytes(bytes[at..at + 4].try_into().expect("four")) as usize;
+    let mut found = Vec::new();
+    let mut at = 16;
+    while at < bytes.len() {
+        let answer = at + 8 + number(at + 4);
+        let end = answer + 4 + number(answer);
+        found.push(&bytes[at..end]);
+        at = end;
+    }
+    found
+}
