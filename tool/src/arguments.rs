@@ -25,6 +25,11 @@ impl Arguments {
     pub fn follows(&self) -> bool {
         matches!(&self.word, Word::Show(Show { follow: true, .. }))
     }
+
+    /// Whether what is printed is for a program, and no person would read it page by page.
+    pub fn is_for_programs(&self) -> bool {
+        matches!(&self.word, Word::Export(_) | Word::Diagram(_))
+    }
 }
 
 #[derive(Clone, Copy, Debug, PartialEq, Eq, ValueEnum)]
@@ -49,6 +54,10 @@ pub enum Word {
     Stats(Stats),
     /// Prints the calls that took most entries, and those still open
     Slow(Slow),
+    /// Writes a recording in the form of another program
+    Export(Export),
+    /// Draws a recording as one page of HTML, with search, zoom and hiding
+    Diagram(Diagram),
     /// Lays an index beside a journal, JOURNAL.index, by which --from and --at begin near their place
     Index {
         /// A journal
@@ -131,6 +140,53 @@ pub struct Leaks {
 
 #[derive(Args)]
 pub struct Stats {
+    /// A journal, or - for standard input
+    #[arg(value_name = "JOURNAL")]
+    pub journal: String,
+    #[command(flatten)]
+    pub range: Range,
+}
+
+/// Whose form it is.
+#[derive(Clone, Copy, Debug, PartialEq, Eq, ValueEnum)]
+pub enum Form {
+    /// Trace events as JSON: Perfetto's viewer, chrome://tracing
+    Perfetto,
+    /// Packets: Wireshark, tshark
+    Pcapng,
+}
+
+/// A range of places, where `--to` has another meaning.
+#[derive(Args, Clone, Copy, Debug)]
+pub struct Span {
+    /// From this place on
+    #[arg(long, value_name = "PLACE", default_value_t = 0)]
+    from: u64,
+    /// Up to and without this place
+    #[arg(long, value_name = "PLACE")]
+    until: Option<u64>,
+}
+
+impl Span {
+    pub fn range(self) -> Range {
+        Range { from: self.from, to: self.until }
+    }
+}
+
+#[derive(Args)]
+pub struct Export {
+    /// A journal, or - for standard input
+    #[arg(value_name = "JOURNAL")]
+    pub journal: String,
+    /// The form
+    #[arg(long, value_enum, value_name = "FORM")]
+    pub to: Form,
+    #[command(flatten)]
+    pub span: Span,
+}
+
+#[derive(Args)]
+pub struct Diagram {
     /// A journal, or - for standard input
     #[arg(value_name = "JOURNAL")]
     pub journal: String,

@@ -118,7 +118,7 @@ impl<'a> Case<'a> {
     fn facts(&self, reason: Reason) -> Vec<String> {
         match (reason.kind, &self.entry.step) {
             (Kind::Fault, _) => self.of_fault(reason.number),
-            (_, Step::Command { command, parcel }) => match command.payload {
+            (_, Step::Command { command, parcel, .. }) => match command.payload {
                 Payload::Record(record) => self.of_cause(reason.number, command, &record, parcel.unwrap_or_default()),
                 payload => self.of_note(reason.number, command.code.number, payload),
             },

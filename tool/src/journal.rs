@@ -82,6 +82,7 @@ pub enum Step<'a> {
     /// The parcel is None where the step has none.
     Command {
         command: Message,
+        bytes: &'a [u8],
         parcel: Option<Parcel<'a>>,
     },
     Read {
@@ -228,12 +229,12 @@ fn command<'a>(part: &mut Part<'a>) -> Result<Step<'a>, Fault> {
         }
     };
     if !part.flag()? {
-        return Ok(Step::Command { command, parcel: None });
+        return Ok(Step::Command { command, bytes, parcel: None });
     }
     if command.record().is_none() {
         return part.fault(1, format_args!("has a parcel, and {} sends none", command.code.name));
     }
-    Ok(Step::Command { command, parcel: Some(part.parcel()?) })
+    Ok(Step::Command { command, bytes, parcel: Some(part.parcel()?) })
 }
 
 fn step<'a>(part: &mut Part<'a>, version: &Version) -> Result<Step<'a>, Fault> {

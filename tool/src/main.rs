@@ -5,9 +5,11 @@
 mod arguments;
 mod calls;
 mod codes;
+mod diagram;
 #[cfg(test)]
 mod documents;
 mod explain;
+mod export;
 mod holders;
 mod index;
 mod journal;
@@ -25,7 +27,7 @@ mod state;
 mod stats;
 
 use anyhow::{bail, Result};
-use arguments::{Arguments, Explain, Format, Holders, Show, State, Word};
+use arguments::{Arguments, Explain, Export, Form, Format, Holders, Show, State, Word};
 use clap::Parser;
 use out::{Out, Palette};
 use play::Player;
@@ -86,6 +88,14 @@ fn holders(given: &Holders, out: &mut Out) -> Result<()> {
     holders::put_holders(&mut out.held, &state::at(&given.journal, given.at)?, given.object)
 }
 
+fn export(given: &Export, out: &mut Out) -> Result<()> {
+    let mut player = Player::open(&given.journal, false)?;
+    match given.to {
+        Form::Perfetto => export::perfetto::export(&mut player, given.span.range(), out),
+        Form::Pcapng => export::pcapng::export(&mut player, given.span.range(), out),
+    }
+}
+
 fn run(arguments: &Arguments, out: &mut Out) -> Result<()> {
     let palette = Palette::new(arguments.color);
     let style = |bytes| Style { palette, bytes };
@@ -101,6 +111,8 @@ fn run(arguments: &Arguments, out: &mut Out) -> Result<()> {
         Word::Slow(given) => {
             stats::slow(&mut Player::open(&given.journal, false)?, given.range, given.most, &mut out.held)
         }
+        Word::Export(given) => export(given, out),
+        Word::Diagram(given) => diagram::put(&mut Player::open(&given.journal, false)?, given.range, out),
         Word::Index { journal } => index::make(journal),
     }
 }
@@ -113,7 +125,7 @@ fn is_closed_pipe(error: &anyhow::Error) -> bool {
 
 fn main() -> ExitCode {
     let arguments = Arguments::parse();
-    let mut out = Out::new(!arguments.no_pager && !arguments.follows());
+    let mut out = Out::new(!arguments.no_pager && !arguments.follows() && !arguments.is_for_programs());
     let done = run(&arguments, &mut out);
     let closed = out.close().map_err(anyhow::Error::from);
     match done.and(closed) {

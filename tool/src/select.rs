@@ -99,7 +99,7 @@ fn names_handle(parcel: &Parcel<'_>, handle: u32) -> bool {
 
 fn has_handle(entry: &Entry<'_>, handle: u32) -> bool {
     match (&entry.step, entry.answer) {
-        (Step::Command { command, parcel }, _) => {
+        (Step::Command { command, parcel, .. }, _) => {
             let is_named = match command.payload {
                 Payload::Record(record) => command.code == &COMMANDS[0] && record.handle() == handle,
                 Payload::Handle(it) | Payload::HandleCookie(it, _) => it == handle,

@@ -39,7 +39,7 @@ pub fn code_words(code: u32) -> String {
 
 /// One entry with all that belongs to it.
 pub fn put_entry(to: &mut Lines, style: &Style, entry: &Entry<'_>, space: &Space, facts: &Facts) -> io::Result<()> {
-    put_head(to, style, entry, space, facts)?;
+    put_line(to, style, entry, space, facts)?;
     match (&entry.step, &entry.answer) {
         (Step::Command { parcel: Some(parcel), .. }, _) => {
             let (sender, receiver) = (facts.pid, facts.receiver);
@@ -50,7 +50,8 @@ pub fn put_entry(to: &mut Lines, style: &Style, entry: &Entry<'_>, space: &Space
     }
 }
 
-fn put_head(to: &mut Lines, style: &Style, entry: &Entry<'_>, space: &Space, facts: &Facts) -> io::Result<()> {
+/// The first line of an entry, which says all but what it read and its parcel.
+pub fn put_line(to: &mut Lines, style: &Style, entry: &Entry<'_>, space: &Space, facts: &Facts) -> io::Result<()> {
     let Palette { place, name, refused, plain, .. } = &style.palette;
     write!(to, "{place}{}{plain} seat {} ", entry.place, entry.seat)?;
     match facts.pid {

@@ -9,15 +9,17 @@ use std::process::Command;
 
 const EXAMPLES: &str = concat!(env!("CARGO_MANIFEST_DIR"), "/../examples");
 
+/// Runs the player. A script whose seats wait for one another ends with status 2 where they have no threads.
 fn player(words: &[&str]) -> String {
     let name = std::env::var_os("HULLPIPPIN_PLAYER").expect("HULLPIPPIN_PLAYER names the player");
     let done = Command::new(name).args(words).output().expect("the player");
-    assert!(done.status.success(), "{words:?}: {}", String::from_utf8_lossy(&done.stderr));
+    let is_well = done.status.success() || words[0] == "run" && done.status.code() == Some(2);
+    assert!(is_well, "{words:?}: {}", String::from_utf8_lossy(&done.stderr));
     String::from_utf8(done.stdout).expect("text")
 }
 
-/// The scripts of the worked examples, each played.
-fn journals() -> Vec<Kept> {
+/// The scripts of the worked examples, each played, into files that no other test has.
+fn journals(test: &str) -> Vec<Kept> {
     let files = [EXAMPLES.to_string(), format!("{EXAMPLES}/words")];
     let files = files.iter().flat_map(|it| std::fs::read_dir(it).expect("the examples"));
     let scripts =
@@ -27,8 +29,8 @@ fn journals() -> Vec<Kept> {
     let mut played = Vec::new();
     for script in scripts {
         let name = script.file_stem().and_then(|it| it.to_str()).expect("a name");
-        let file = kept(&format!("{name}.journal"), b"");
-        player(&["run", path(&script), "--journal", file.path()]);
+        let file = kept(&format!("{test}-{name}.journal"), b"");
+        player(&["run", path(&script), "--turns", "1000", "--journal", file.path()]);
         played.push(file);
     }
     assert!(played.len() > 50, "{} examples", played.len());
@@ -65,7 +67,7 @@ fn compare(words: &[&str]) {
 #[test]
 #[ignore = "needs a player"]
 fn entries_are_told_as_the_player_does() {
-    for journal in journals() {
+    for journal in journals("entries") {
         compare(&["show", journal.path()]);
     }
 }
@@ -73,12 +75,11 @@ fn entries_are_told_as_the_player_does() {
 #[test]
 #[ignore = "needs a player"]
 fn states_are_told_as_the_player_does() {
-    for journal in journals() {
+    for journal in journals("states") {
         let count = printed(&["show", journal.path(), "--format", "json"]).lines().count();
-        for place in 0..=count.min(40) {
-            compare(&["state", journal.path(), "--at", &place.to_string()]);
+        for part in 1..=4 {
+            compare(&["state", journal.path(), "--at", &(count * part / 4).to_string()]);
         }
-        compare(&["state", journal.path()]);
     }
 }
 
@@ -86,7 +87,7 @@ fn states_are_told_as_the_player_does() {
 #[ignore = "needs a player"]
 fn replies_answer_the_calls_that_the_player_certifies() {
     let mut replies = 0;
-    for journal in journals() {
+    for journal in journals("replies") {
         for line in printed(&["show", journal.path(), "--format", "json", "--command", "BR_REPLY"]).lines() {
             let told: Value = serde_json::from_str(line).expect("JSON");
             let returns = told["answer"]["returns"].as_array().expect("returns");

@@ -94,7 +94,7 @@ impl Space {
             (Step::ExitThread, Answer::Exited) => self.end_thread(act.seat),
             (Step::ExitProcess, Answer::Exited) => self.end_process(act.process),
             (Step::Read { .. }, Answer::Got { stream, parcel }) => self.read(act, stream, *parcel, facts),
-            (Step::Command { command, parcel }, answer) => {
+            (Step::Command { command, parcel, .. }, answer) => {
                 self.command(act, command, parcel.unwrap_or_default(), answer, facts)
             }
             _ => {}

@@ -1,0 +1,221 @@
+// SPDX-License-Identifier: Apache-2.0 OR MIT
+//! A recording as one page of HTML that stands alone: a lane for each thread's life, arrows for calls and replies, bars for what
+//! is served and waited for. The page draws only what is seen of it, so a long recording can be looked at too.
+use crate::calls::{Call, Calls, Doing, Event};
+use crate::journal::{Answer, Entry, Step};
+use crate::out::Out;
+use crate::play::{Player, Range};
+use crate::show::{code_words, object_words};
+use crate::space::{Facts, Space};
+use anyhow::Result;
+use serde::Serialize;
+use std::collections::HashMap;
+
+const PAGE: &str = include_str!("diagram.html");
+/// What stands in the page where its data belong.
+const DATA: &str = "/*DATA*/";
+
+/// A thread's life.
+#[derive(Clone, Debug, Serialize)]
+struct Lane {
+    pid: u32,
+    seat: u32,
+    /// Where it begins; None where that lies before the range.
+    from: Option<u64>,
+    to: Option<u64>,
+}
+
+/// What is drawn, but for lanes.
+#[derive(Debug, Serialize)]
+#[serde(rename_all = "lowercase")]
+enum Mark<'a> {
+    /// From a lane at a place to another at a later one; None where nobody has read it.
+    Arrow { kind: &'static str, from: (usize, u64), to: Option<(usize, u64)>, text: &'a str },
+    /// Along a lane.
+    Bar { kind: &'static str, lane: usize, from: u64, to: Option<u64>, text: &'a str },
+    /// At one place.
+    Dot { kind: &'static str, lane: usize, at: u64, text: &'a str },
+}
+
+struct Drawing<'a> {
+    out: &'a mut Out,
+    lanes: Vec<Lane>,
+    /// The lane of each live thread, by its pid and seat.
+    live: HashMap<(u32, u32), usize>,
+    /// The lane at a place where an open call was made, taken or replied to: its thread may have ended by the time it is drawn.
+    kept: HashMap<u64, usize>,
+    is_first: bool,
+}
+
+impl Drawing<'_> {
+    fn put(&mut self, mark: &Mark<'_>) -> Result<()> {
+        self.out.held.extend(if self.is_first { &b"\n"[..] } else { &b",\n"[..] });
+        self.is_first = false;
+        let from = self.out.held.len();
+        serde_json::to_writer(&mut self.out.held, mark)?;
+        escape(&mut self.out.held, from);
+        Ok(self.out.pass()?)
+    }
+
+    fn lane(&mut self, pid: u32, seat: u32, from: Option<u64>) -> usize {
+        let lanes = &mut self.lanes;
+        *self.live.entry((pid, seat)).or_insert_with(|| {
+            lanes.push(Lane { pid, seat, from, to: None });
+            lanes.len() - 1
+        })
+    }
+
+    fn lane_of(&mut self, doing: Doing) -> usize {
+        match self.kept.get(&doing.place) {
+            Some(lane) => *lane,
+            None => self.lane(doing.pid, doing.seat, None),
+        }
+    }
+
+    fn keep(&mut self, doing: Doing) {
+        let lane = self.lane_of(doing);
+        self.kept.insert(doing.place, lane);
+    }
+
+    fn dot(&mut self, kind: &'static str, lane: usize, at: u64, text: &str) -> Result<()> {
+        self.put(&Mark::Dot { kind, lane, at, text })
+    }
+
+    fn arrow(&mut self, kind: &'static str, from: Doing, to: Option<Doing>, text: &str) -> Result<()> {
+        let from = (self.lane_of(from), from.place);
+        let to = to.map(|it| (self.lane_of(it), it.place));
+        self.put(&Mark::Arrow { kind, from, to, text })
+    }
+
+    fn bar(&mut self, kind: &'static str, from: Doing, to: Option<u64>, text: &str) -> Result<()> {
+        let lane = self.lane_of(from);
+        self.put(&Mark::Bar { kind, lane, from: from.place, to, text })
+    }
+
+    /// A call that has ended, or is still open at the end.
+    fn call(&mut self, call: &Call, ended: Option<Doing>, space: &Space) -> Result<()> {
+        let object = call.object.map_or(String::new(), |it| object_words(space, it));
+        let text = format!("{object} {} {} bytes", code_words(call.code), call.size);
+        let kind = if call.one_way { "oneway" } else { "call" };
+        self.arrow(kind, call.made, call.taken, &text)?;
+        let replied = call.replied.map(|it| it.0);
+        if !call.one_way {
+            self.bar("waits", call.made, ended.map(|it| it.place), &text)?;
+        }
+        if let Some(taken) = call.taken {
+            let end = replied.or_else(|| ended.filter(|_| call.one_way)).map(|it| it.place);
+            self.bar("serves", taken, end, &text)?;
+        }
+        if let Some(replied) = replied {
+            self.arrow("reply", replied, ended, &text)?;
+        }
+        for doing in [Some(call.made), call.taken, replied].into_iter().flatten() {
+            self.kept.remove(&doing.place);
+        }
+        Ok(())
+    }
+
+    fn event(&mut self, event: &Event, space: &Space) -> Result<()> {
+        match event {
+            Event::Refused(doing, reason) => {
+                let lane = self.lane_of(*doing);
+                self.dot(
+                    "refused",
+                    lane,
+                    doing.place,
+                    &format!("{} {}: {}", reason.name(), reason.word(), reason.text()),
+                )
+            }
+            Event::Done(call, doing) | Event::Freed(call, doing) => self.call(call, Some(*doing), space),
+            Event::Failed(call, doing) => {
+                let lane = self.lane_of(*doing);
+                self.dot("refused", lane, doing.place, &format!("no reply to the call at {}", call.made.place))?;
+                self.call(call, Some(*doing), space)
+            }
+            Event::Made(call) | Event::Taken(call) | Event::Replied(call) => {
+                self.keep(call.replied.map(|it| it.0).or(call.taken).unwrap_or(call.made));
+                Ok(())
+            }
+        }
+    }
+
+    /// Threads that come and go.
+    fn entry(&mut self, entry: &Entry<'_>, facts: &Facts) -> Result<()> {
+        let (pid, place) = match facts.pid {
+            Some(pid) => (pid, entry.place),
+            None => return Ok(()),
+        };
+        match (&entry.step, &entry.answer) {
+            (_, Answer::Opened) => {
+                let lane = self.lane(pid, entry.seat, Some(place));
+                self.dot("life", lane, place, &format!("{} pid {pid}", entry.step.name()))
+            }
+            (Step::Manager, Answer::Set) => {
+                let lane = self.lane(pid, entry.seat, None);
+                self.dot("life", lane, place, "manager")
+            }
+            (Step::ExitThread, Answer::Exited) => self.ends(place, |it| *it == (pid, entry.seat)),
+            (Step::ExitProcess, Answer::Exited) => self.ends(place, |it| it.0 == pid),
+            _ => Ok(()),
+        }
+    }
+
+    fn ends(&mut self, place: u64, which: impl Fn(&(u32, u32)) -> bool) -> Result<()> {
+        let mut ended: Vec<_> = self.live.keys().copied().filter(which).collect();
+        ended.sort_unstable();
+        for thread in ended {
+            if let Some(lane) = self.live.remove(&thread) {
+                self.lanes[lane].to = Some(place);
+                self.dot("life", lane, place, "ends")?;
+            }
+        }
+        Ok(())
+    }
+}
+
+/// Nothing in the data may look like the end of the script that they stand in.
+fn escape(held: &mut Vec<u8>, from: usize) {
+    if held[from..].contains(&b'<') {
+        let safe = String::from_utf8_lossy(&held[from..]).replace('<', "\\u003c");
+        held.truncate(from);
+        held.extend(safe.into_bytes());
+    }
+}
+
+/// Writes the page of a range.
+pub fn put(player: &mut Player, range: Range, out: &mut Out) -> Result<()> {
+    let (before, after) = PAGE.split_once(DATA).unwrap_or((PAGE, ""));
+    out.held.extend(before.as_bytes());
+    out.held.extend(b"{\"marks\":[");
+    let mut calls = Calls::default();
+    let mut drawing = Drawing { out, lanes: Vec::new(), live: HashMap::new(), kept: HashMap::new(), is_first: true };
+    player.each(range, |entry, space, facts| {
+        drawing.entry(entry, facts)?;
+        calls.events(entry, facts).iter().try_for_each(|it| drawing.event(it, space))
+    })?;
+    let mut left: Vec<_> = calls.left().collect();
+    left.sort_by_key(|it| it.made.place);
+    left.iter().try_for_each(|it| drawing.call(it, None, &player.space))?;
+    let lanes = serde_json::to_string(&drawing.lanes)?;
+    let (from, to) = (range.from, player.source.place());
+    out.held.extend(format!("\n],\"lanes\":{lanes},\"from\":{from},\"to\":{to}}}").into_bytes());
+    out.held.extend(after.as_bytes());
+    Ok(())
+}
+
+#[cfg(test)]
+mod tests {
+    use super::*;
+
+    #[test]
+    fn the_page_has_one_place_for_its_data() {
+        assert_eq!(PAGE.matches(DATA).count(), 1);
+    }
+
+    #[test]
+    fn no_text_ends_the_script() {
+        let mut held = b"<!-- {\"text\":\"</script>\"}".to_vec();
+        escape(&mut held, 5);
+        assert_eq!(held, b"<!-- {\"text\":\"\\u003c/script>\"}");
+    }
+}

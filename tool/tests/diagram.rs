@@ -1,0 +1,73 @@
+// SPDX-License-Identifier: Apache-2.0 OR MIT
+//! What a page draws; and that its script goes through, where there is something to run it.
+mod common;
+use common::*;
+use serde_json::{json, Value};
+use std::process::Command;
+
+fn page(path: &str) -> String {
+    printed(&["diagram", path])
+}
+
+fn data(page: &str) -> Value {
+    let begin = "<script type=\"application/json\" id=\"data\">";
+    let from = page.find(begin).expect("the data") + begin.len();
+    let to = from + page[from..].find("</script>").expect("their end");
+    serde_json::from_str(&page[from..to]).expect("JSON")
+}
+
+#[test]
+fn a_call_is_two_arrows_and_two_bars() {
+    let told = data(&page(Journal::registered().file("page").path()));
+    assert_eq!(
+        told["lanes"],
+        json!([{"pid": 100, "seat": 0, "from": 0, "to": null}, {"pid": 200, "seat": 1, "from": 3, "to": null}])
+    );
+    let text = "1.0 \"manager\" of pid 100 0x3 112 bytes";
+    let marks = json!([
+        {"dot": {"kind": "life", "lane": 0, "at": 0, "text": "open pid 100"}},
+        {"dot": {"kind": "life", "lane": 0, "at": 1, "text": "manager"}},
+        {"dot": {"kind": "life", "lane": 1, "at": 3, "text": "open pid 200"}},
+        {"arrow": {"kind": "call", "from": [1, 4], "to": [0, 5], "text": text}},
+        {"bar": {"kind": "waits", "lane": 1, "from": 4, "to": 8, "text": text}},
+        {"bar": {"kind": "serves", "lane": 0, "from": 5, "to": 7, "text": text}},
+        {"arrow": {"kind": "reply", "from": [0, 7], "to": [1, 8], "text": text}},
+    ]);
+    assert_eq!(told["marks"], marks);
+    assert_eq!((&told["from"], &told["to"]), (&json!(0), &json!(9)));
+}
+
+#[test]
+fn a_thread_that_ended_keeps_its_lane() {
+    let mut journal = Journal::one_way();
+    journal.entry(1, &[5], EXITED);
+    let opened = [&[1][..], &200u32.to_le_bytes()].concat();
+    journal.entry(1, &opened, OPENED);
+    journal.command(0, &message(BC_FREE_BUFFER, &65536u64.to_le_bytes()), ACCEPTED);
+    let told = data(&page(journal.file("lanes").path()));
+    let lanes: Vec<_> = told["lanes"].as_array().expect("lanes").iter().map(|it| (&it["from"], &it["to"])).collect();
+    assert_eq!(lanes, [(&json!(0), &Value::Null), (&json!(3), &json!(7)), (&json!(8), &Value::Null)]);
+    // Its buffer was freed after another thread had come onto the seat, and still the call is the first one's.
+    let arrow = told["marks"].as_array().expect("marks").iter().find(|it| it.get("arrow").is_some()).expect("the call");
+    assert_eq!((&arrow["arrow"]["from"], &arrow["arrow"]["to"]), (&json!([1, 4]), &json!([0, 6])));
+}
+
+#[test]
+fn what_nobody_has_read_has_no_end() {
+    let mut journal = Journal::base();
+    journal.send(1, &Record::default().bytes(BC_TRANSACTION), &[], &[], ACCEPTED);
+    let told = data(&page(journal.file("unread").path()));
+    let arrow = told["marks"].as_array().expect("marks").iter().find(|it| it.get("arrow").is_some()).expect("the call");
+    assert_eq!(arrow["arrow"]["to"], Value::Null);
+}
+
+#[test]
+#[ignore = "needs node"]
+fn the_script_draws_and_finds() {
+    let page = kept("page.html", page(Journal::registered().file("run").path()).as_bytes());
+    let script = concat!(env!("CARGO_MANIFEST_DIR"), "/tests/browser.js");
+    let done = Command::new("node").args([script, page.path()]).output().expect("node");
+    assert_eq!(String::from_utf8_lossy(&done.stderr), "");
+    // Seven marks are there, of which five name the manager: two arrows, two bars, and the dot at 1, which is the first.
+    assert_eq!(String::from_utf8_lossy(&done.stdout), "1 of 5; place 1; true\n");
+}
