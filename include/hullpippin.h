@@ -18,16 +18,22 @@
  * A driver keeps its history, which grows with each step. Who can't have that, or wants more seats, makes a live engine in
  * its place (hullpippin_live_new): it keeps what its history has come to, and hands each step's entry out.
  *
- * What the library relies on, since nothing checks a C caller:
+ * A handle that isn't what a call is for is told, and nothing is done: HULLPIPPIN_MISUSE. So it is with an empty handle, as
+ * one is that was let go of, or whose seat went back; with one that has something, where the call would fill it; with a driver
+ * that has ended, where the call needs one that hasn't, and the other way round. What answers a bool answers false then, what
+ * answers a number 0, and what answers nothing does nothing. Letting go of an empty handle is no misuse.
  *
- *  - A handle is HULLPIPPIN_NO_DRIVER, HULLPIPPIN_NO_SEAT or HULLPIPPIN_NO_LIVE where a function wants an empty one, and
- *    else what a function of this header left there. It isn't copied, and its pointer is neither read nor changed. A function that
- *    empties a handle (free, return) says so.
+ * What can't be seen from within is the caller's, and where it isn't kept nothing is said:
+ *
+ *  - Each handle is empty when it is made: HULLPIPPIN_NO_DRIVER, HULLPIPPIN_NO_SEAT, HULLPIPPIN_NO_LIVE, or all zeros, as a
+ *    static one is. From then on it has what a function of this header left there. It isn't copied, and its pointer is neither
+ *    read nor changed.
+ *  - No pointer is wild: each leads to what it says, of the size that is told. NULL is one, but for (NULL, 0), which are no
+ *    bytes or no numbers: so no handle is at NULL, nor an answer or a size that a call fills.
  *  - At most one call at a time is made with a handle. A handle may go to another thread, by whatever orders the
  *    threads: a start, a join, a mutex. Different handles may be used at the same time by different threads, those of
  *    one driver too, which is what they are for.
- *  - No two pointers of one call lead to memory that overlaps, where one of them is written through. A buffer of size 0
- *    may be given as HULLPIPPIN_NOWHERE or HULLPIPPIN_NO_NUMBERS, or as any other aligned pointer but NULL.
+ *  - No two pointers of one call lead to memory that overlaps, where one of them is written through.
  *  - A seat goes back to the driver that it was taken off.
  *  - No call is made in a signal handler, or in the forked child of a process with threads. malloc aligns to 16.
  *
@@ -61,12 +67,18 @@ typedef struct {
     void *at;
 } hullpippin_live;
 
-/* Handles that have nothing. */
-#define HULLPIPPIN_NO_DRIVER { NULL }
-#define HULLPIPPIN_NO_SEAT { NULL }
-#define HULLPIPPIN_NO_LIVE { NULL }
+/* Handles that have nothing: to begin with, or to be assigned. A static handle is one without. */
+#ifdef __cplusplus
+#define HULLPIPPIN_NO_DRIVER hullpippin_driver{ NULL }
+#define HULLPIPPIN_NO_SEAT hullpippin_seat{ NULL }
+#define HULLPIPPIN_NO_LIVE hullpippin_live{ NULL }
+#else
+#define HULLPIPPIN_NO_DRIVER ((hullpippin_driver){ NULL })
+#define HULLPIPPIN_NO_SEAT ((hullpippin_seat){ NULL })
+#define HULLPIPPIN_NO_LIVE ((hullpippin_live){ NULL })
+#endif
 
-/* Where a buffer of no bytes is, and one of no numbers. */
+/* Where a buffer of no bytes may be, and one of no numbers; NULL does as well. */
 #define HULLPIPPIN_NOWHERE ((uint8_t *)1)
 #define HULLPIPPIN_NO_NUMBERS ((uint32_t *)4)
 
@@ -90,6 +102,8 @@ enum {
     HULLPIPPIN_NO_SUCH_SEAT = 10,   /* live: the engine has no seat of that number */
     HULLPIPPIN_HISTORY_FULL = 11,   /* live: the history can take no more (F13) */
     HULLPIPPIN_NO_COMMAND = 12,     /* live_command: the bytes aren't exactly one command */
+    HULLPIPPIN_MISUSE = 13,         /* a handle isn't what the call is for: it is empty, or isn't where it has to be, or
+                                       its driver has ended, or hasn't */
 };
 
 /* What a request came to: the kind of an answer. */
@@ -195,7 +209,7 @@ enum {
 
 /* Kinds of numbers that have a text. */
 enum {
-    HULLPIPPIN_TEXT_STATUS = 1,  /* HULLPIPPIN_DONE .. HULLPIPPIN_NO_COMMAND */
+    HULLPIPPIN_TEXT_STATUS = 1,  /* HULLPIPPIN_DONE .. HULLPIPPIN_MISUSE */
     HULLPIPPIN_TEXT_FAULT = 2,   /* HULLPIPPIN_FAULT_SHORT_COMMAND .. */
     HULLPIPPIN_TEXT_CAUSE = 3,   /* HULLPIPPIN_CAUSE_NOT_STRONGLY_NAMED .. */
     HULLPIPPIN_TEXT_NOTE = 4,    /* HULLPIPPIN_NOTE_NO_SUCH_NUMBER .. */
@@ -259,23 +273,24 @@ uint32_t hullpippin_version(void);
 size_t hullpippin_text_bytes(uint32_t kind, uint32_t number, uint8_t *out, size_t room);
 
 /*
- * Drivers. These calls are made by one thread at a time, as with any handle.
+ * Drivers. These calls are made by one thread at a time, as with any handle. Each also answers MISUSE where it answers a
+ * status; so do those of seats and of live engines. With verdict, which has no handle, there is none.
  */
 
-/* Makes a driver with so many seats, numbered from 0. `driver` must be empty, and stays so unless DONE is answered.
-   Also NO_MEMORY, SEAT_COUNT. */
+/* Makes a driver with so many seats, numbered from 0. `driver` is empty, and stays so unless DONE is answered. Also
+   NO_MEMORY, SEAT_COUNT. */
 uint32_t hullpippin_new(uint32_t seats, hullpippin_driver *driver);
 
-/* Takes a seat off the driver: the first that is there, so of a new driver seat 0, then seat 1. `seat` must be empty,
-   and stays so unless DONE is answered. Also NO_MEMORY, NO_SEAT_LEFT. */
+/* Takes a seat off the driver: the first that is there, so of a new driver seat 0, then seat 1. `seat` is empty, and
+   stays so unless DONE is answered. Also NO_MEMORY, NO_SEAT_LEFT. */
 uint32_t hullpippin_take_seat(hullpippin_driver *driver, hullpippin_seat *seat);
 
 /* Gives a seat back to its own driver, behind those that are there, and empties `seat`. What its latest call answered
    is gone. Also NO_MEMORY, which never comes where the seat was taken off this driver. */
 uint32_t hullpippin_return_seat(hullpippin_driver *driver, hullpippin_seat *seat);
 
-/* Ends a driver whose seats are all back. The handle has its history from then on: of the functions of drivers only
-   journal and free_driver may be called. Takes no memory. Also SEATS_AWAY. */
+/* Ends a driver whose seats are all back. The handle has its history from then on, which is for journal and free_driver
+   alone. Takes no memory. Also SEATS_AWAY. */
 uint32_t hullpippin_finish(hullpippin_driver *driver);
 
 /* Tells in `size` how many bytes the journal of an ended driver has, and copies them to `out` if all of them fit in
@@ -285,11 +300,12 @@ uint32_t hullpippin_journal(hullpippin_driver *driver, uint8_t *out, size_t room
 /* Judges the bytes of a journal, by playing its entries again. Needs no driver. Also NO_MEMORY, NO_JOURNAL. */
 uint32_t hullpippin_verdict(const uint8_t *journal, size_t size, hullpippin_verdict_on *verdict);
 
-/* Lets go of a driver, or of an ended one's history, and empties the handle. Seats that are away stay usable. The
-   handle must not be empty. */
+/* Lets go of a driver, or of an ended one's history, and empties the handle. Seats that are away stay usable. Does
+   nothing where it is empty. */
 void hullpippin_free_driver(hullpippin_driver *driver);
 
-/* Lets go of a seat for good, and empties the handle, which must not be empty. Its driver can't be finished then. */
+/* Lets go of a seat for good, and empties the handle. Its driver can't be finished then. Does nothing where it is
+   empty. */
 void hullpippin_free_seat(hullpippin_seat *seat);
 
 /*
@@ -380,8 +396,8 @@ uint32_t hullpippin_withdraw(hullpippin_seat *seat, hullpippin_answer *answer);
  * is `from` and 1. Also NO_SUCH_SEAT, HISTORY_FULL, NO_MEMORY.
  */
 
-/* Makes a live engine with 1 to 65536 seats. `live` must be empty, and stays so unless DONE is answered. Also
-   NO_MEMORY, SEAT_COUNT. */
+/* Makes a live engine with 1 to 65536 seats. `live` is empty, and stays so unless DONE is answered. Also NO_MEMORY,
+   SEAT_COUNT. */
 uint32_t hullpippin_live_new(uint32_t seats, hullpippin_live *live);
 
 /* As hullpippin_open. */
@@ -457,7 +473,7 @@ uint32_t hullpippin_live_entry(hullpippin_live *live, uint8_t *out, size_t room,
    than 31 seats. */
 uint32_t hullpippin_live_heading(hullpippin_live *live, uint32_t count, uint8_t *out, size_t room, size_t *size);
 
-/* Lets go of a live engine, and empties the handle, which must not be empty. */
+/* Lets go of a live engine, and empties the handle. Does nothing where it is empty. */
 void hullpippin_free_live(hullpippin_live *live);
 
 /*

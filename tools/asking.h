@@ -1,5 +1,5 @@
 /* SPDX-License-Identifier: Apache-2.0 OR MIT */
-/* What bridge.c, flooding.c and looks.c share: commands, what an answer has to be, and the first complaint. */
+/* What bridge.c, flooding.c, looks.c and misuse.c share: commands, what an answer has to be, and the first complaint. */
 #ifndef HULLPIPPIN_TOOLS_ASKING_H
 #define HULLPIPPIN_TOOLS_ASKING_H
 
@@ -18,9 +18,6 @@
 #define BR_NOOP 0x0000720cu
 #define BR_ONEWAY_SPAM_SUSPECT 0x00007213u
 #define TF_ONE_WAY 1u
-
-/* The fault of a write that memory stopped. */
-#define F_NO_MEMORY 14u
 
 #define WINDOW 4096u
 
@@ -47,9 +44,17 @@ static inline bool is_made(uint32_t status, const hullpippin_answer *answer, uin
     if (!is_done(status))
         return false;
     if ((answer->kind == HULLPIPPIN_BACK && answer->why == HULLPIPPIN_BACK_NO_MEMORY)
-        || (answer->stop == HULLPIPPIN_AT_FAULT && answer->number == F_NO_MEMORY))
+        || (answer->stop == HULLPIPPIN_AT_FAULT && answer->number == HULLPIPPIN_FAULT_NO_MEMORY))
         return fails("no memory");
     return (answer->kind == kind && answer->stop == 0 && answer->notes == 0) || fails("another answer to a step");
+}
+
+/* What a call that isn't made would fill. */
+static const hullpippin_answer BLANK = {.kind = 77, .from = 77};
+
+static inline bool is_blank(const hullpippin_answer *answer)
+{
+    return (answer->kind == BLANK.kind && answer->from == BLANK.from) || fails("a call that isn't made fills the answer");
 }
 
 static inline void put32(uint8_t *at, uint32_t value)

@@ -13,7 +13,7 @@ enum { MANAGER, CLIENT, IDLE, SEATS };
 static bool run(hullpippin_live *live, uint32_t seat, const uint8_t *command, size_t size, size_t data, uint32_t *place)
 {
     hullpippin_answer answer = {0};
-    uint32_t status = hullpippin_live_command(live, seat, command, size, (const uint8_t *)"hi", data, HULLPIPPIN_NOWHERE, 0, &answer);
+    uint32_t status = hullpippin_live_command(live, seat, command, size, (const uint8_t *)"hi", data, NULL, 0, &answer);
     bool made = is_made(status, &answer, HULLPIPPIN_WROTE);
     *place = answer.from;
     return made;

@@ -29,14 +29,6 @@ static bool is_no_request(uint32_t status)
     return status == HULLPIPPIN_NO_SUCH_REQUEST || fails("a number other than 0 and 1 isn't refused");
 }
 
-/* What a refused call would have filled. */
-static const hullpippin_answer BLANK = {.kind = 77, .from = 77};
-
-static bool is_blank(const hullpippin_answer *answer)
-{
-    return (answer->kind == BLANK.kind && answer->from == BLANK.from) || fails("a refusal fills the answer");
-}
-
 /* ---- a driver */
 
 struct run {
@@ -65,7 +57,7 @@ static bool opens(struct run *run)
     put32(enter, BC_ENTER_LOOPER);
     return is_made(hullpippin_open(manager, 100, 1000, WINDOW, &answer), &answer, HULLPIPPIN_OPENED)
            && is_made(hullpippin_manager(manager, &answer), &answer, HULLPIPPIN_SET)
-           && is_made(hullpippin_write(manager, enter, sizeof enter, HULLPIPPIN_NOWHERE, 0, &answer), &answer, HULLPIPPIN_WROTE)
+           && is_made(hullpippin_write(manager, enter, sizeof enter, NULL, 0, &answer), &answer, HULLPIPPIN_WROTE)
            && is_made(hullpippin_open(&run->seats[CLIENT], 200, 2000, WINDOW, &answer), &answer, HULLPIPPIN_OPENED);
 }
 
@@ -75,7 +67,7 @@ static bool turns_off(struct run *run)
     hullpippin_request request = {.kind = HULLPIPPIN_SET_SPAM, .on = 0};
     hullpippin_answer answer;
     uint32_t picked = 0;
-    uint32_t status = hullpippin_post(&run->seats[CLIENT], &request, HULLPIPPIN_NOWHERE, 0, HULLPIPPIN_NOWHERE, 0);
+    uint32_t status = hullpippin_post(&run->seats[CLIENT], &request, NULL, 0, NULL, 0);
     if (status == HULLPIPPIN_NO_MEMORY)
         return fails("no memory");
     if (status != HULLPIPPIN_DONE || hullpippin_serve(&run->seats[MANAGER], &picked) != HULLPIPPIN_DONE || picked != 1)
@@ -93,7 +85,7 @@ static bool refuses(struct run *run)
         hullpippin_request request = {.kind = HULLPIPPIN_SET_SPAM, .on = NO_FLAGS[i]};
         hullpippin_answer answer = BLANK;
         if (!is_no_request(hullpippin_set_spam(client, NO_FLAGS[i], &answer)) || !is_blank(&answer)
-            || !is_no_request(hullpippin_post(client, &request, HULLPIPPIN_NOWHERE, 0, HULLPIPPIN_NOWHERE, 0)))
+            || !is_no_request(hullpippin_post(client, &request, NULL, 0, NULL, 0)))
             return false;
     }
     hullpippin_look(client, &after);
@@ -120,8 +112,7 @@ static bool floods_a_driver(void)
     bool done = is_done(hullpippin_take_seat(&run.driver, &run.seats[MANAGER]))
                 && is_done(hullpippin_take_seat(&run.driver, &run.seats[CLIENT])) && floods(&run);
     for (int i = 0; i < 2; i++)
-        if (run.seats[i].at)
-            hullpippin_free_seat(&run.seats[i]);
+        hullpippin_free_seat(&run.seats[i]);
     hullpippin_free_driver(&run.driver);
     return done;
 }
@@ -133,7 +124,7 @@ static bool live_calls(hullpippin_live *live, uint32_t data, uint32_t code)
     uint8_t command[CALL_SIZE], stream[256];
     hullpippin_answer answer;
     spell_call(command, data);
-    if (!is_made(hullpippin_live_command(live, CLIENT, command, sizeof command, zeros, data, HULLPIPPIN_NOWHERE, 0, &answer), &answer,
+    if (!is_made(hullpippin_live_command(live, CLIENT, command, sizeof command, zeros, data, NULL, 0, &answer), &answer,
                  HULLPIPPIN_WROTE))
         return false;
     if (!is_made(hullpippin_live_read(live, CLIENT, sizeof stream, &answer), &answer, HULLPIPPIN_GOT))

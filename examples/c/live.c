@@ -113,7 +113,7 @@ static bool command_line(struct run *run, uint32_t seat, const uint8_t *command,
 {
     hullpippin_answer answer;
     uint32_t status =
-        hullpippin_live_command(&run->live, seat, command, size, data, data_size, HULLPIPPIN_NOWHERE, 0, &answer);
+        hullpippin_live_command(&run->live, seat, command, size, data, data_size, NULL, 0, &answer);
     if (!is_answered(run, status, &answer, HULLPIPPIN_WROTE))
         return false;
     if (answer.stop != HULLPIPPIN_AT_END || answer.notes)
@@ -167,14 +167,14 @@ static bool play(struct run *run)
     put32(enter, BC_ENTER_LOOPER);
     one_way_call(call);
     return write_heading(run, UINT32_MAX) && open_line(run, MANAGER, 100, 1000) && become_manager(run, MANAGER)
-           && command_line(run, MANAGER, enter, sizeof enter, HULLPIPPIN_NOWHERE, 0) && open_line(run, CLIENT, 200, 2000)
+           && command_line(run, MANAGER, enter, sizeof enter, NULL, 0) && open_line(run, CLIENT, 200, 2000)
            && command_line(run, CLIENT, call, sizeof call, (const uint8_t *)"hi", 2) && read_line(run, CLIENT)
            && read_line(run, MANAGER) && write_heading(run, hullpippin_live_len(&run->live));
 }
 
 int main(int count, char **words)
 {
-    static struct run run = {HULLPIPPIN_NO_LIVE, NULL, 1, {0}, 0};
+    static struct run run = {.line = 1};
     if (count != 2)
         return fprintf(stderr, "live JOURNAL\n"), 2;
     run.file = fopen(words[1], "wb");
@@ -182,8 +182,7 @@ int main(int count, char **words)
         return fails("no file"), 1;
     bool done = hullpippin_live_new(SEATS, &run.live) == HULLPIPPIN_DONE || fails("no memory");
     done = done && play(&run);
-    if (run.live.at)
-        hullpippin_free_live(&run.live);
+    hullpippin_free_live(&run.live);
     if (fclose(run.file) && done)
         done = fails("no file");
     if (done)

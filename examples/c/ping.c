@@ -175,7 +175,7 @@ static void *serve(void *given)
     put32(enter, BC_ENTER_LOOPER);
     transaction(reply, BC_REPLY, 0, 0, 1);
     (void)(wait_for(part, 0) && open_line(part, 2, 100, 1000) && become_manager(part, 3)
-           && write_line(part, 4, enter, sizeof enter, HULLPIPPIN_NOWHERE, 0) && wait_for(part, 6) && read_line(part, 8)
+           && write_line(part, 4, enter, sizeof enter, NULL, 0) && wait_for(part, 6) && read_line(part, 8)
            && (!part->two_way
                || (write_line(part, 9, reply, sizeof reply, area, sizeof area) && wait_for(part, 9) && read_line(part, 11))));
     return NULL;
@@ -214,7 +214,7 @@ static bool write_journal(hullpippin_driver *driver, const char *path)
     static uint8_t journal[65536];
     size_t size = 0;
     hullpippin_verdict_on verdict;
-    if (hullpippin_journal(driver, HULLPIPPIN_NOWHERE, 0, &size) != HULLPIPPIN_DONE || size > sizeof journal
+    if (hullpippin_journal(driver, NULL, 0, &size) != HULLPIPPIN_DONE || size > sizeof journal
         || hullpippin_journal(driver, journal, sizeof journal, &size) != HULLPIPPIN_DONE
         || hullpippin_verdict(journal, size, &verdict) != HULLPIPPIN_DONE)
         return fprintf(stderr, "ping: no memory\n"), false;
@@ -240,8 +240,7 @@ int main(int count, char **words)
         fprintf(stderr, "ping: no memory\n");
     done = done && run(parts);
     for (int i = 0; i < 2; i++)
-        if (parts[i].seat.at)
-            hullpippin_return_seat(&driver, &parts[i].seat);
+        hullpippin_return_seat(&driver, &parts[i].seat);
     done = done && !hullpippin_finish(&driver) && write_journal(&driver, count > 2 ? words[2] : NULL);
     hullpippin_free_driver(&driver);
     for (int line = 0; done && line < LINES; line++)

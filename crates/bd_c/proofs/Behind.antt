@@ -1,26 +1,42 @@
 -- What is behind a handle.
-use Rattle.std.proofs.Common.{ℕ, List, refl}
+use Rattle.std.proofs.Common.{◌≡◌, ℕ, refl, sym, subst}
 use Rattle.std.specs.Prelude.{Option, Some, None, ⊤, IsSomeAnd}
+use Rattle.std.proofs.lemmas.Option.{none-some}
 use Rattle.bd_uapi.specs.declared.fault.Fault.{Fault}
 use Rattle.bd_uapi.specs.declared.fault.Fault.TheVariants.{SeatCount, NoMemory}
 use Rattle.bd_driver.specs.Faults.{FaultFits}
 use Rattle.bd_engine.specs.Refusals.{IsLiveSeatFault}
-use Rattle.bd_c.specs.declared.answers.Told.{Told}
+use Rattle.bd_c.specs.declared.handles.Handle.{Handle}
 use Rattle.bd_c.specs.declared.held.Held.{Held}
 use Rattle.bd_c.specs.declared.seat.OwnedSeat.{OwnedSeat}
-use Rattle.bd_c.specs.declared.status.Status.TheVariants as status
-use Rattle.bd_space.specs.declared.step.Request.TheVariants.{Write}
 use Rattle.bd_c.specs.Behind.{Of, Over, IsThere, IsDriver, IsSeat, driver_of, seat_of}
 use Rattle.bd_c.specs.Drivers.{IsOwn}
 use Rattle.bd_c.specs.Hosts.{IsRefusal}
+use Rattle.bd_c.specs.Lending.{holding}
 use Rattle.bd_c.specs.Lives.{IsLiveRefusal}
-use Rattle.bd_c.specs.Seats.{Stays, OverSeat, AsksAt}
+use Rattle.bd_c.specs.Seats.{Stays, OverSeat}
 use Rattle.bd_c.specs.Status.{refusal_of}
 
 -- what is of some kind is there
 pub there : (P : Held → Type 0) (h : Option Held) → IsSomeAnd h P → IsThere h
 there P None is = absurd is
 there P (Some x) is = (x, refl)
+
+-- what is behind a handle is of another kind
+of_none : {T : Type 0} (m : Option T) (P : T → Type 0) → m ≡ None → IsSomeAnd m P → ⊥
+of_none None P none is = is
+of_none (Some x) P none is = none-some x (sym none)
+
+pub not_of : {T : Type 0} (kind : Held → Option T) (h : Option Held) (x : Held) (P : T → Type 0) → h ≡ Some x → kind x ≡ None → Of kind h P → ⊥
+not_of kind h x P there none is = of_none (kind x) P none (subst (λ (o : Option Held). IsSomeAnd o (λ v. IsSomeAnd (kind v) P)) there is)
+
+-- where nothing is, nothing was
+pub none_there : (h k : Option Held) → k ≡ h → k ≡ None → IsThere h → ⊥
+none_there h k same none there = subst (λ (o : Option Held). IsThere o → ⊥) same (subst (λ (o : Option Held). IsThere o → ⊥) (sym none) (λ (t : IsThere None). none-some t.0 t.1)) there
+
+-- what was lent, and is left as it was
+pub lent_back : (h : Handle) (x : Held) → h.held ≡ Some x → holding h x ≡ h
+lent_back h x is = λ i. record h { held = sym is i }
 
 -- a call that does nothing leaves what is there
 unchanged : {T : Type 0} (m : Option T) (P : T → T → Type 0) → IsSomeAnd m (λ x. ⊤) → ((x : T) → P x x) → IsSomeAnd m (λ x. IsSomeAnd m (P x))
@@ -34,10 +50,6 @@ over_same kind (Some v) P is all = unchanged (kind v) P is all
 pub over_seat_same : (h : Option Held) (P : OwnedSeat → OwnedSeat → Type 0) → IsSeat h → ((x : OwnedSeat) → P x x) → OverSeat h h P
 over_seat_same h P is all = over_same seat_of h (λ x y. Stays x y × P x y) is (λ x. ((refl, refl), all x))
 
--- a write without memory for its bytes
-pub write_refused : (h : Option Held) (stream area : List ℕ) (told : Told) → IsSeat h → AsksAt h h (Write stream area) told told status.NoMemory
-write_refused h stream area told is = over_seat_same h _ is (λ x. (tt, (refl, refl)))
-
 -- the handles of a seat and of its own driver have these
 some_kind : {T : Type 0} (m : Option T) (P : T → Type 0) → IsSomeAnd m P → IsSomeAnd m (λ x. ⊤)
 some_kind None P is = absurd is
@@ -46,15 +58,6 @@ some_kind (Some x) P is = tt
 pub own_driver : (h s : Option Held) → IsOwn h s → IsDriver h
 own_driver None s own = absurd own
 own_driver (Some v) s own = some_kind (driver_of v) _ own
-
-none_own : {T : Type 0} (m : Option T) → IsSomeAnd m (λ x. ⊥) → ⊥
-none_own None is = is
-none_own (Some x) is = is
-
-pub own_seat : (h s : Option Held) → IsOwn h s → IsThere s
-own_seat None s own = absurd own
-own_seat (Some v) None own = absurd (none_own (driver_of v) own)
-own_seat (Some v) (Some x) own = (x, refl)
 
 -- a fault of the driver or of the engine is one that C is told as a refusal of that number
 pub refused_fits : (f : Fault) (n : ℕ) → FaultFits f n → IsRefusal n (refusal_of f)

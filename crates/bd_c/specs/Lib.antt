@@ -1,5 +1,6 @@
 pub mod Owned
 pub mod Status
+pub mod Misuse
 pub mod Told
 pub mod Behind
 pub mod Lending

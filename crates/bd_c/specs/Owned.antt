@@ -1,7 +1,7 @@
--- What a handle owns: nothing, or the box that its pointer leads to.
-use base.Fml.{Fml, ftrue}
+-- What a handle owns: nothing, and then its pointer is null, or the box that its pointer leads to.
+use base.Fml.{Fml, feq}
 use mir.Syntax.{Ty}
-use denote.RawPtr.{Ptr}
+use denote.RawPtr.{Ptr, null_ptr}
 use Rattle.std.specs.Prelude.{Option, Some, None}
 use Rattle.std.specs.Coded.{Coded, coded_option}
 use Rattle.std.specs.contracts.impls.GlobalAllocator.TheImpl.{ghosts}
@@ -18,5 +18,5 @@ abbrev pub coded_held : Coded (Option Held)
 coded_held = coded_option held_row.coded
 
 unfoldable pub owned : Option Held → Ptr → Fml
-owned None p = ftrue
+owned None p = feq Ptr p null_ptr
 owned (Some x) p = box_owns chunk held_row p x

@@ -22,6 +22,7 @@ status_texts =
     ∷ (10, codes "there is no such seat")
     ∷ (11, codes "the history is full")
     ∷ (12, codes "the bytes are not one command")
+    ∷ (13, codes "the handle is not what the call is for")
     ∷ []
 
 -- F1 to F16

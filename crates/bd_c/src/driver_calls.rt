@@ -1,36 +1,48 @@
 //! What C calls of a driver.
 ghost use Rattle.std.specs.Prelude.{◌≡◌, None};
-ghost use Rattle.bd_c.specs.{Status.{Reports}, Behind.{Of, IsThere, IsDriver, IsEnded, history_of}};
+ghost use Rattle.bd_c.specs.{Status.{Reports}, Misuse.{IsMisuse}, Behind.{Of, IsThere, IsDriver, IsEnded, IsSeat, history_of}};
 ghost use Rattle.bd_c.specs.{Drivers.{IsOwn, OpensAt, HandsAt, ReturnsAt, Finishes}, Journals.{Journals, Judges}};
 
 use crate::handles::Handle;
 use crate::held::Held;
 use crate::hosts::open_host;
 use crate::judging::{Verdict, judge_bytes, write_to};
-use crate::opening::{put, put_made, take};
+use crate::opening::{free, put, put_made, take};
 use crate::status::Status;
 use std::alloc::Global;
 
-/// Makes a driver with so many seats, 1 to 31. The handle must have nothing.
+/// Makes a driver with so many seats, 1 to 31. The handle has to have nothing.
+#[tactic(auto, using(crate::proofs::Behind::none_there))]
 #[unsafe(no_mangle)]
 pub extern "C" fn hullpippin_new(alloc: Global, seats: u32, driver: &mut Handle) -> u32
-    requires nothing { driver.old.held ≡ None }
-    ensures { Reports result (OpensAt seats driver.new.held) }
+    ensures opens { driver.old.held ≡ None → Reports result (OpensAt seats driver.new.held) }
+    ensures misuse { IsThere driver.old.held → IsMisuse result driver.old.held driver.new.held }
 {
+    if driver.is_there() {
+        return Status::Misuse.number();
+    }
     put_made(driver, open_host(alloc, seats))
 }
 
-/// Takes the first seat off a driver that is there. The seat's handle must have nothing.
+/// Takes the first seat off a driver that is there. The seat's handle has to have nothing.
+#[tactic(auto, using(crate::proofs::Answering::fits_hand, crate::proofs::Answering::hands_refused, crate::proofs::Answering::hands_done))]
 #[unsafe(no_mangle)]
 pub extern "C" fn hullpippin_take_seat(alloc: Global, driver: &mut Handle, seat: &mut Handle) -> u32
-    requires driver { IsDriver driver.old.held }
-    requires nothing { seat.old.held ≡ None }
-    ensures { Reports result (HandsAt driver.old.held driver.new.held seat.new.held) }
+    ensures hands { IsDriver driver.old.held → seat.old.held ≡ None
+        → Reports result (HandsAt driver.old.held driver.new.held seat.new.held) }
+    ensures misuse { (IsDriver driver.old.held → seat.old.held ≡ None → ⊥)
+        → IsMisuse result driver.old.held driver.new.held × (seat.new.held ≡ seat.old.held) }
 {
+    if seat.is_there() {
+        return Status::Misuse.number();
+    }
+    let Some(host) = driver.host() else {
+        return Status::Misuse.number();
+    };
     let Ok(mut room) = Box::new(alloc, Held::Nothing) else {
         return Status::NoMemory.number();
     };
-    match driver.host().take() {
+    match host.take() {
         Ok(taken) => {
             *room = Held::Seat(taken);
             put(seat, room);
@@ -41,17 +53,25 @@ pub extern "C" fn hullpippin_take_seat(alloc: Global, driver: &mut Handle, seat:
 }
 
 /// Gives a seat back to its driver. Its handle then has nothing.
-#[tactic(auto, using(crate::proofs::Behind::own_driver, crate::proofs::Behind::own_seat))]
+#[tactic(auto, using(crate::proofs::Behind::own_driver, crate::proofs::Answering::no_own, crate::proofs::Answering::own_table, crate::proofs::Answering::fits_return, crate::proofs::Answering::returns_full))]
 #[unsafe(no_mangle)]
 pub extern "C" fn hullpippin_return_seat(
     alloc: Global,
     driver: &mut Handle,
     seat: &mut Handle,
 ) -> u32
-    requires own { IsOwn driver.old.held seat.old.held }
-    ensures { Reports result (ReturnsAt driver.old.held driver.new.held seat.old.held seat.new.held) }
+    requires own { IsDriver driver.old.held → IsSeat seat.old.held → IsOwn driver.old.held seat.old.held }
+    ensures returns { IsOwn driver.old.held seat.old.held
+        → Reports result (ReturnsAt driver.old.held driver.new.held seat.old.held seat.new.held) }
+    ensures misuse { (IsDriver driver.old.held → IsSeat seat.old.held → ⊥)
+        → IsMisuse result driver.old.held driver.new.held × (seat.new.held ≡ seat.old.held) }
 {
-    let host = driver.host();
+    if !seat.is_seat() {
+        return Status::Misuse.number();
+    }
+    let Some(host) = driver.host() else {
+        return Status::Misuse.number();
+    };
     if !host.is_seat_away() {
         return Status::NoMemory.number();
     }
@@ -63,13 +83,16 @@ pub extern "C" fn hullpippin_return_seat(
 }
 
 /// Ends a driver whose seats are all there. Its handle then has its history.
-#[tactic(auto, using(crate::proofs::Behind::there))]
+#[tactic(auto, using(crate::proofs::Answering::finishes, crate::proofs::Answering::finishes_none))]
 #[unsafe(no_mangle)]
 pub extern "C" fn hullpippin_finish(driver: &mut Handle) -> u32
-    requires driver { IsDriver driver.old.held }
-    ensures { Reports result (Finishes driver.old.held driver.new.held) }
+    ensures finishes { IsDriver driver.old.held → Reports result (Finishes driver.old.held driver.new.held) }
+    ensures misuse { (IsDriver driver.old.held → ⊥) → IsMisuse result driver.old.held driver.new.held }
 {
-    driver.held().finish().number()
+    match driver.held() {
+        Some(held) => held.finish().number(),
+        None => Status::Misuse.number(),
+    }
 }
 
 /// Tells how many bytes the journal of an ended driver has, and copies them if all of them fit.
@@ -80,12 +103,16 @@ pub extern "C" fn hullpippin_journal(
     out: &mut [u8],
     size: &mut usize,
 ) -> u32
-    requires ended { IsEnded driver.old.held }
     ensures same { driver.new.held ≡ driver.old.held }
-    ensures journals { Reports result (λ s.
+    ensures journals { IsEnded driver.old.held → Reports result (λ s.
         Of history_of driver.old.held (λ r. Journals r out.old out.new size.old size.new s)) }
+    ensures misuse { (IsEnded driver.old.held → ⊥) → IsMisuse result driver.old.held driver.new.held
+        × (out.new ≡ out.old) × (size.new ≡ size.old) }
 {
-    write_to(alloc, driver.history(), out, size).number()
+    match driver.history() {
+        Some(history) => write_to(alloc, history, out, size).number(),
+        None => Status::Misuse.number(),
+    }
 }
 
 /// Judges the bytes of a journal: whether its entries are a history, or else how many of them are.
@@ -96,22 +123,20 @@ pub extern "C" fn hullpippin_verdict(alloc: Global, journal: &[u8], verdict: &mu
     judge_bytes(alloc, journal, verdict).number()
 }
 
-/// Lets go of what is behind a driver's handle, which then has nothing.
+/// Lets go of what is behind a driver's handle, if anything is. It then has nothing.
 #[unsafe(no_mangle)]
 pub extern "C" fn hullpippin_free_driver(alloc: Global, driver: &mut Handle)
-    requires some { IsThere driver.old.held }
     ensures { driver.new.held ≡ None }
 {
-    drop(take(alloc, driver));
+    free(alloc, driver);
 }
 
-/// Lets go of a seat. Its handle then has nothing.
+/// Lets go of a seat, if there is one. Its handle then has nothing.
 #[unsafe(no_mangle)]
 pub extern "C" fn hullpippin_free_seat(alloc: Global, seat: &mut Handle)
-    requires some { IsThere seat.old.held }
     ensures { seat.new.held ≡ None }
 {
-    drop(take(alloc, seat));
+    free(alloc, seat);
 }
 
 fn is_send<T: Send>(x: T) -> T {

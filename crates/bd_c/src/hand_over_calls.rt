@@ -1,7 +1,7 @@
 //! What C calls of a seat to hand requests over, and to serve those of others.
 ghost use Rattle.std.specs.Prelude.{◌≡◌};
 ghost use Rattle.bd_driver.specs.declared.outcome.Served.{Served};
-ghost use Rattle.bd_c.specs.{Status.{Reports}, Behind.{IsSeat}, Seats.{OverSeat, Serves, Collects, Withdraws}};
+ghost use Rattle.bd_c.specs.{Status.{Reports}, Misuse.{IsMisuse}, Behind.{IsSeat}, Seats.{OverSeat, Serves, Collects, Withdraws}};
 ghost use Rattle.bd_c.specs.{Requests.{PostsGiven}, Serving.{TellsServed}};
 
 use crate::answers::Told;
@@ -21,11 +21,15 @@ pub extern "C" fn hullpippin_post(
     stream: &[u8],
     area: &[u8],
 ) -> u32
-    requires { IsSeat seat.old.held }
-    ensures { Reports result (PostsGiven seat.old.held seat.new.held given.now stream.now area.now) }
+    ensures posts { IsSeat seat.old.held
+        → Reports result (PostsGiven seat.old.held seat.new.held given.now stream.now area.now) }
+    ensures misuse { (IsSeat seat.old.held → ⊥) → IsMisuse result seat.old.held seat.new.held }
 {
+    let Some(seat) = seat.seat() else {
+        return Status::Misuse.number();
+    };
     match request_of(alloc, given, stream, area) {
-        Ok(request) => seat.seat().post(request).number(),
+        Ok(request) => seat.post(request).number(),
         Err(status) => status.number(),
     }
 }
@@ -33,11 +37,15 @@ pub extern "C" fn hullpippin_post(
 /// Runs each request that is handed over, and tells how many they were.
 #[unsafe(no_mangle)]
 pub extern "C" fn hullpippin_serve(seat: &mut Handle, picked: &mut u32) -> u32
-    requires { IsSeat seat.old.held }
-    ensures { (served : Served) × OverSeat seat.old.held seat.new.held (λ x y. Serves x y served)
+    ensures serves { IsSeat seat.old.held
+        → (served : Served) × OverSeat seat.old.held seat.new.held (λ x y. Serves x y served)
         × Reports result (TellsServed served picked.old picked.new) }
+    ensures misuse { (IsSeat seat.old.held → ⊥) → IsMisuse result seat.old.held seat.new.held × (picked.new ≡ picked.old) }
 {
-    match seat.seat().serve() {
+    let Some(seat) = seat.seat() else {
+        return Status::Misuse.number();
+    };
+    match seat.serve() {
         Served::Ran { picked: count } => {
             *picked = count;
             Status::Done.number()
@@ -49,17 +57,25 @@ pub extern "C" fn hullpippin_serve(seat: &mut Handle, picked: &mut u32) -> u32
 /// Fetches the answer to what was handed over, if it is there.
 #[unsafe(no_mangle)]
 pub extern "C" fn hullpippin_collect(seat: &mut Handle, told: &mut Told) -> u32
-    requires { IsSeat seat.old.held }
-    ensures { Reports result (λ s. OverSeat seat.old.held seat.new.held (λ x y. Collects x y s told.old told.new)) }
+    ensures collects { IsSeat seat.old.held
+        → Reports result (λ s. OverSeat seat.old.held seat.new.held (λ x y. Collects x y s told.old told.new)) }
+    ensures misuse { (IsSeat seat.old.held → ⊥) → IsMisuse result seat.old.held seat.new.held × (told.new ≡ told.old) }
 {
-    seat.seat().collect(told).number()
+    match seat.seat() {
+        Some(seat) => seat.collect(told).number(),
+        None => Status::Misuse.number(),
+    }
 }
 
 /// Takes back what was handed over, if nobody has picked it.
 #[unsafe(no_mangle)]
 pub extern "C" fn hullpippin_withdraw(seat: &mut Handle, told: &mut Told) -> u32
-    requires { IsSeat seat.old.held }
-    ensures { Reports result (λ s. OverSeat seat.old.held seat.new.held (λ x y. Withdraws x y s told.old told.new)) }
+    ensures withdraws { IsSeat seat.old.held
+        → Reports result (λ s. OverSeat seat.old.held seat.new.held (λ x y. Withdraws x y s told.old told.new)) }
+    ensures misuse { (IsSeat seat.old.held → ⊥) → IsMisuse result seat.old.held seat.new.held × (told.new ≡ told.old) }
 {
-    seat.seat().withdraw(told).number()
+    match seat.seat() {
+        Some(seat) => seat.withdraw(told).number(),
+        None => Status::Misuse.number(),
+    }
 }

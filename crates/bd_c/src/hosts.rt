@@ -1,7 +1,7 @@
 //! A new driver, and the history of one that has ended, as they come behind a handle.
-ghost use Rattle.std.specs.Prelude.{Some, IfOk, IfErr};
+ghost use Rattle.std.specs.Prelude.{◌≡◌, Some, IfOk, IfErr};
 ghost use Rattle.bd_c.specs.{Behind.{Of, IsDriver, driver_of}, Hosts.{Opens, IsRefusal}, Drivers.{Finishes}};
-ghost use Rattle.bd_c.specs.declared.held.Held.TheVariants.{Driver};
+ghost use Rattle.bd_c.specs.{declared.held.Held.TheVariants.{Driver}, declared.status.Status.TheVariants.{Misuse}};
 
 use crate::held::Held;
 use crate::host::Host;
@@ -29,10 +29,10 @@ fn ended(host: Host) -> (Held, Status)
 }
 
 impl Held {
-    /// In the driver's place comes its history, once all seats are there.
+    /// In the driver's place comes its history, once all seats are there. What isn't a driver stays.
     pub(crate) fn finish(&mut self) -> Status
-        requires { IsDriver (Some self.old) }
-        ensures { Finishes (Some self.old) (Some self.new) result }
+        ensures finishes { IsDriver (Some self.old) → Finishes (Some self.old) (Some self.new) result }
+        ensures misuse { (IsDriver (Some self.old) → ⊥) → (result ≡ Misuse) × (self.new ≡ self.old) }
     {
         match std::mem::replace(self, Held::Nothing) {
             Held::Driver(host) => {
@@ -40,7 +40,10 @@ impl Held {
                 *self = held;
                 status
             }
-            _ => unreachable!(),
+            other => {
+                *self = other;
+                Status::Misuse
+            }
         }
     }
 }

@@ -1,5 +1,5 @@
-//! What is behind a handle, lent to a call.
-ghost use Rattle.std.specs.{Prelude.{◌≡◌, Some}, Borrow.{sem}};
+//! What is behind a handle, lent to a call; or that it isn't what the call is for.
+ghost use Rattle.std.specs.{Prelude.{◌≡◌, Some, None, MatchBool, MatchOption}, Borrow.{sem}};
 ghost use Rattle.bd_space.specs.contracts.record.Record.{the_row as record_row};
 ghost use Rattle.bd_c.specs.declared.held.Held.TheVariants.{Driver, History, Live, Seat};
 ghost use Rattle.bd_c.specs.{contracts.held.Held.{the_row as held_row}, contracts.host.Host.{the_row as host_row}};
@@ -16,63 +16,80 @@ use bd_space::Record;
 
 impl Handle {
     /// What is behind it, whatever that is.
-    pub(crate) fn held(&mut self) -> &mut Held
-        requires { IsThere self.old.held }
+    pub(crate) fn held(&mut self) -> Option<&mut Held>
         ensures* lends { sem 𝓛 (LendsAs held_row (λ x. x) self.entry result) }
-        ensures held { self.old.held ≡ Some result.now }
+        ensures held { MatchOption result (self.old.held ≡ None) (λ r. self.old.held ≡ Some r.now) }
     {
-        unsafe { &mut *(self.at as *mut Held) }
+        if self.at.is_null() {
+            return None;
+        }
+        Some(unsafe { &mut *(self.at as *mut Held) })
     }
 
     /// The driver.
-    #[tactic(auto, using(crate::proofs::Behind::there))]
-    pub(crate) fn host(&mut self) -> &mut Host
-        requires { IsDriver self.old.held }
+    pub(crate) fn host(&mut self) -> Option<&mut Host>
         ensures* lends { sem 𝓛 (LendsAs host_row Driver self.entry result) }
-        ensures host { self.old.held ≡ Some (Driver result.now) }
+        ensures host { MatchOption result (IsDriver self.old.held → ⊥) (λ r. self.old.held ≡ Some (Driver r.now)) }
     {
-        match self.held() {
-            Held::Driver(host) => host,
-            _ => unreachable!(),
+        match self.held()? {
+            Held::Driver(host) => Some(host),
+            _ => None,
         }
     }
 
     /// The history of a driver that has ended.
-    #[tactic(auto, using(crate::proofs::Behind::there))]
-    pub(crate) fn history(&mut self) -> &mut Record
-        requires { IsEnded self.old.held }
+    pub(crate) fn history(&mut self) -> Option<&mut Record>
         ensures* lends { sem 𝓛 (LendsAs record_row History self.entry result) }
-        ensures history { self.old.held ≡ Some (History result.now) }
+        ensures history { MatchOption result (IsEnded self.old.held → ⊥) (λ r. self.old.held ≡ Some (History r.now)) }
     {
-        match self.held() {
-            Held::History(history) => history,
-            _ => unreachable!(),
+        match self.held()? {
+            Held::History(history) => Some(history),
+            _ => None,
         }
     }
 
     /// The seat.
-    #[tactic(auto, using(crate::proofs::Behind::there))]
-    pub(crate) fn seat(&mut self) -> &mut OwnedSeat
-        requires { IsSeat self.old.held }
+    pub(crate) fn seat(&mut self) -> Option<&mut OwnedSeat>
         ensures* lends { sem 𝓛 (LendsAs seat_row Seat self.entry result) }
-        ensures seat { self.old.held ≡ Some (Seat result.now) }
+        ensures seat { MatchOption result (IsSeat self.old.held → ⊥) (λ r. self.old.held ≡ Some (Seat r.now)) }
     {
-        match self.held() {
-            Held::Seat(seat) => seat,
-            _ => unreachable!(),
+        match self.held()? {
+            Held::Seat(seat) => Some(seat),
+            _ => None,
         }
     }
 
     /// The live engine.
-    #[tactic(auto, using(crate::proofs::Behind::there))]
-    pub(crate) fn engine(&mut self) -> &mut OwnedLive
-        requires { IsLive self.old.held }
+    pub(crate) fn engine(&mut self) -> Option<&mut OwnedLive>
         ensures* lends { sem 𝓛 (LendsAs live_row Live self.entry result) }
-        ensures engine { self.old.held ≡ Some (Live result.now) }
+        ensures engine { MatchOption result (IsLive self.old.held → ⊥) (λ r. self.old.held ≡ Some (Live r.now)) }
+    {
+        match self.held()? {
+            Held::Live(live) => Some(live),
+            _ => None,
+        }
+    }
+
+    /// Whether something is behind it.
+    pub(crate) fn is_there(&mut self) -> bool
+        ensures same { self.new.held ≡ self.old.held }
+        ensures there { MatchBool result (IsThere self.new.held) (self.new.held ≡ None) }
     {
         match self.held() {
-            Held::Live(live) => live,
-            _ => unreachable!(),
+            Some(_) => true,
+            None => false,
+        }
+    }
+
+    /// Whether a seat is.
+    #[tactic(auto, using(crate::proofs::Behind::there))]
+    pub(crate) fn is_seat(&mut self) -> bool
+        ensures same { self.new.held ≡ self.old.held }
+        ensures seat { MatchBool result (IsSeat self.new.held × IsThere self.new.held) (IsSeat self.new.held → ⊥) }
+    {
+        match self.seat() {
+            Some(_) => true,
+            None => false,
         }
     }
 }

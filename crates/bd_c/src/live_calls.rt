@@ -1,8 +1,8 @@
 //! What C calls of a live engine: one handle, with which all seats' steps are made.
 ghost use Rattle.std.specs.Prelude.{◌≡◌, None};
 ghost use Rattle.bd_space.specs.declared.step.Step.TheVariants.{Open, Attach, SetManager, SetSpam, Read, ExitThread, ExitProcess};
-ghost use Rattle.bd_c.specs.{Status.{Reports}, Behind.{IsLive}, Flags.{ByFlag}, Lives.{LiveOpensAt, StepsAt}};
-ghost use Rattle.bd_c.specs.LiveCommands.{Commands, step_given};
+ghost use Rattle.bd_c.specs.{Status.{Reports}, Misuse.{IsMisuse}, Behind.{IsThere, IsLive}, Flags.{ByFlag}, Lives.{LiveOpensAt, StepsAt}};
+ghost use Rattle.bd_c.specs.LiveCommands.{Commands};
 
 use crate::answers::Told;
 use crate::handles::Handle;
@@ -12,24 +12,30 @@ use crate::opening::put_made;
 use crate::requests::flag_of;
 use crate::status::Status;
 use bd_space::Step;
-use bd_uapi::Command;
 use std::alloc::Global;
 
-/// Makes a live engine for so many seats, 1 to 65536. The handle must have nothing.
+/// Makes a live engine for so many seats, 1 to 65536. The handle has to have nothing.
+#[tactic(auto, using(crate::proofs::Behind::none_there))]
 #[unsafe(no_mangle)]
 pub extern "C" fn hullpippin_live_new(alloc: Global, seats: u32, live: &mut Handle) -> u32
-    requires nothing { live.old.held ≡ None }
-    ensures { Reports result (LiveOpensAt seats live.new.held) }
+    ensures begins { live.old.held ≡ None → Reports result (LiveOpensAt seats live.new.held) }
+    ensures misuse { IsThere live.old.held → IsMisuse result live.old.held live.new.held }
 {
+    if live.is_there() {
+        return Status::Misuse.number();
+    }
     put_made(live, open_live(alloc, seats))
 }
 
 // Makes a step.
 fn make(live: &mut Handle, seat: u32, step: Step, told: &mut Told) -> u32
-    requires { IsLive live.old.held }
-    ensures { Reports result (StepsAt live.old.held live.new.held seat step told.old told.new) }
+    ensures steps { IsLive live.old.held → Reports result (StepsAt live.old.held live.new.held seat step told.old told.new) }
+    ensures misuse { (IsLive live.old.held → ⊥) → IsMisuse result live.old.held live.new.held × (told.new ≡ told.old) }
 {
-    live.engine().step(seat, step, told).number()
+    match live.engine() {
+        Some(engine) => engine.step(seat, step, told).number(),
+        None => Status::Misuse.number(),
+    }
 }
 
 /// Opens a process with one thread, the seat's.
@@ -42,8 +48,8 @@ pub extern "C" fn hullpippin_live_open(
     window: u32,
     told: &mut Told,
 ) -> u32
-    requires { IsLive live.old.held }
-    ensures { Reports result (StepsAt live.old.held live.new.held seat (Open pid euid window) told.old told.new) }
+    ensures steps { IsLive live.old.held → Reports result (StepsAt live.old.held live.new.held seat (Open pid euid window) told.old told.new) }
+    ensures misuse { (IsLive live.old.held → ⊥) → IsMisuse result live.old.held live.new.held × (told.new ≡ told.old) }
 {
     make(live, seat, Step::Open { pid, euid, window }, told)
 }
@@ -56,8 +62,8 @@ pub extern "C" fn hullpippin_live_attach(
     pid: u32,
     told: &mut Told,
 ) -> u32
-    requires { IsLive live.old.held }
-    ensures { Reports result (StepsAt live.old.held live.new.held seat (Attach pid) told.old told.new) }
+    ensures steps { IsLive live.old.held → Reports result (StepsAt live.old.held live.new.held seat (Attach pid) told.old told.new) }
+    ensures misuse { (IsLive live.old.held → ⊥) → IsMisuse result live.old.held live.new.held × (told.new ≡ told.old) }
 {
     make(live, seat, Step::Attach { pid }, told)
 }
@@ -65,13 +71,14 @@ pub extern "C" fn hullpippin_live_attach(
 /// Makes the seat's process the context manager.
 #[unsafe(no_mangle)]
 pub extern "C" fn hullpippin_live_manager(live: &mut Handle, seat: u32, told: &mut Told) -> u32
-    requires { IsLive live.old.held }
-    ensures { Reports result (StepsAt live.old.held live.new.held seat SetManager told.old told.new) }
+    ensures steps { IsLive live.old.held → Reports result (StepsAt live.old.held live.new.held seat SetManager told.old told.new) }
+    ensures misuse { (IsLive live.old.held → ⊥) → IsMisuse result live.old.held live.new.held × (told.new ≡ told.old) }
 {
     make(live, seat, Step::SetManager, told)
 }
 
 /// Has the seat's process told of its own one-way flooding where it is 1, and no longer where it is 0.
+#[tactic(auto, using(crate::proofs::Answering::flag_refused, crate::proofs::Answering::flag_steps))]
 #[unsafe(no_mangle)]
 pub extern "C" fn hullpippin_live_set_spam(
     live: &mut Handle,
@@ -79,36 +86,21 @@ pub extern "C" fn hullpippin_live_set_spam(
     on: u32,
     told: &mut Told,
 ) -> u32
-    requires { IsLive live.old.held }
-    ensures { Reports result (ByFlag on (λ on. StepsAt live.old.held live.new.held seat (SetSpam on))
+    ensures steps { IsLive live.old.held → Reports result (ByFlag on (λ on. StepsAt live.old.held live.new.held seat (SetSpam on))
         live.old.held live.new.held told.old told.new) }
+    ensures misuse { (IsLive live.old.held → ⊥) → IsMisuse result live.old.held live.new.held × (told.new ≡ told.old) }
 {
+    let Some(engine) = live.engine() else {
+        return Status::Misuse.number();
+    };
     match flag_of(on) {
-        Ok(on) => make(live, seat, Step::SetSpam { on }, told),
+        Ok(on) => engine.step(seat, Step::SetSpam { on }, told).number(),
         Err(status) => status.number(),
     }
 }
 
-// Runs a command.
-fn run(
-    alloc: Global,
-    live: &mut Handle,
-    seat: u32,
-    command: Command,
-    bytes: &[u8],
-    offsets: &[u8],
-    told: &mut Told,
-) -> u32
-    requires { IsLive live.old.held }
-    ensures { Reports result (StepsAt live.old.held live.new.held seat (step_given command bytes.now offsets.now) told.old told.new) }
-{
-    let engine = live.engine();
-    engine
-        .command(alloc, seat, command, bytes, offsets, told)
-        .number()
-}
-
 /// Runs one command of the seat. What is given as its parcel is looked at with a transaction or reply alone.
+#[tactic(auto, using(crate::proofs::Answering::no_command, crate::proofs::Answering::commands))]
 #[unsafe(no_mangle)]
 pub extern "C" fn hullpippin_live_command(
     alloc: Global,
@@ -119,12 +111,17 @@ pub extern "C" fn hullpippin_live_command(
     offsets: &[u8],
     told: &mut Told,
 ) -> u32
-    requires { IsLive live.old.held }
-    ensures { Reports result (λ s.
+    ensures commands { IsLive live.old.held → Reports result (λ s.
         Commands live.old.held live.new.held seat command.now bytes.now offsets.now s told.old told.new) }
+    ensures misuse { (IsLive live.old.held → ⊥) → IsMisuse result live.old.held live.new.held × (told.new ≡ told.old) }
 {
+    let Some(engine) = live.engine() else {
+        return Status::Misuse.number();
+    };
     match command_of(command) {
-        Some(command) => run(alloc, live, seat, command, bytes, offsets, told),
+        Some(command) => engine
+            .command(alloc, seat, command, bytes, offsets, told)
+            .number(),
         None => Status::NoCommand.number(),
     }
 }
@@ -137,8 +134,8 @@ pub extern "C" fn hullpippin_live_read(
     limit: u32,
     told: &mut Told,
 ) -> u32
-    requires { IsLive live.old.held }
-    ensures { Reports result (StepsAt live.old.held live.new.held seat (Read limit) told.old told.new) }
+    ensures steps { IsLive live.old.held → Reports result (StepsAt live.old.held live.new.held seat (Read limit) told.old told.new) }
+    ensures misuse { (IsLive live.old.held → ⊥) → IsMisuse result live.old.held live.new.held × (told.new ≡ told.old) }
 {
     make(live, seat, Step::Read { limit }, told)
 }
@@ -146,8 +143,8 @@ pub extern "C" fn hullpippin_live_read(
 /// Ends the seat's thread.
 #[unsafe(no_mangle)]
 pub extern "C" fn hullpippin_live_exit_thread(live: &mut Handle, seat: u32, told: &mut Told) -> u32
-    requires { IsLive live.old.held }
-    ensures { Reports result (StepsAt live.old.held live.new.held seat ExitThread told.old told.new) }
+    ensures steps { IsLive live.old.held → Reports result (StepsAt live.old.held live.new.held seat ExitThread told.old told.new) }
+    ensures misuse { (IsLive live.old.held → ⊥) → IsMisuse result live.old.held live.new.held × (told.new ≡ told.old) }
 {
     make(live, seat, Step::ExitThread, told)
 }
@@ -155,8 +152,8 @@ pub extern "C" fn hullpippin_live_exit_thread(live: &mut Handle, seat: u32, told
 /// Ends the seat's process with all its threads.
 #[unsafe(no_mangle)]
 pub extern "C" fn hullpippin_live_exit_process(live: &mut Handle, seat: u32, told: &mut Told) -> u32
-    requires { IsLive live.old.held }
-    ensures { Reports result (StepsAt live.old.held live.new.held seat ExitProcess told.old told.new) }
+    ensures steps { IsLive live.old.held → Reports result (StepsAt live.old.held live.new.held seat ExitProcess told.old told.new) }
+    ensures misuse { (IsLive live.old.held → ⊥) → IsMisuse result live.old.held live.new.held × (told.new ≡ told.old) }
 {
     make(live, seat, Step::ExitProcess, told)
 }

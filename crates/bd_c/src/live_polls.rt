@@ -1,6 +1,7 @@
 //! What C is told beside the answer of a step: which buffers ended by it, and which seats have come to be ready or unready.
 ghost use Rattle.std.specs.Prelude.{◌≡◌};
-ghost use Rattle.bd_c.specs.{Behind.{Of, Over, IsLive, live_of}, Status.{Reports}, Parts.{Fetches}, LivePolls.{Polls}};
+ghost use Rattle.bd_c.specs.{Behind.{Of, Over, IsLive, live_of}, Status.{Reports}, Misuse.{IsMisuse}};
+ghost use Rattle.bd_c.specs.{Parts.{Fetches}, LivePolls.{Polls}};
 
 use crate::handles::Handle;
 use crate::live::OwnedLive;
@@ -31,30 +32,42 @@ impl OwnedLive {
 /// Answers how many they are.
 #[unsafe(no_mangle)]
 pub extern "C" fn hullpippin_live_ended(live: &mut Handle, out: &mut [u32]) -> usize
-    requires { IsLive live.old.held }
     ensures same { live.new.held ≡ live.old.held }
-    ensures fetches { Of live_of live.old.held (λ x. Fetches x.ended.items out.old out.new result) }
+    ensures fetches { IsLive live.old.held
+        → Of live_of live.old.held (λ x. Fetches x.ended.items out.old out.new result) }
+    ensures misuse { (IsLive live.old.held → ⊥) → (result ≡ 0) × (out.new ≡ out.old) }
 {
-    fill(out, &live.engine().ended)
+    match live.engine() {
+        Some(engine) => fill(out, &engine.ended),
+        None => 0,
+    }
 }
 
 /// Looks at these seats, and tells of how many it has changed since each was last looked at whether they have something to
 /// read.
 #[unsafe(no_mangle)]
 pub extern "C" fn hullpippin_live_poll(live: &mut Handle, seats: &[u32], changed: &mut usize) -> u32
-    requires { IsLive live.old.held }
-    ensures { Reports result (λ s. Over live_of live.old.held live.new.held (λ x y.
+    ensures polls { IsLive live.old.held → Reports result (λ s. Over live_of live.old.held live.new.held (λ x y.
         Polls x y seats.now s changed.old changed.new)) }
+    ensures misuse { (IsLive live.old.held → ⊥) → IsMisuse result live.old.held live.new.held
+        × (changed.new ≡ changed.old) }
 {
-    live.engine().poll(seats, changed).number()
+    match live.engine() {
+        Some(engine) => engine.poll(seats, changed).number(),
+        None => Status::Misuse.number(),
+    }
 }
 
 /// Copies the seats that the latest such look found changed, if all of them fit. Answers how many they are.
 #[unsafe(no_mangle)]
 pub extern "C" fn hullpippin_live_changed(live: &mut Handle, out: &mut [u32]) -> usize
-    requires { IsLive live.old.held }
     ensures same { live.new.held ≡ live.old.held }
-    ensures fetches { Of live_of live.old.held (λ x. Fetches x.changed.items out.old out.new result) }
+    ensures fetches { IsLive live.old.held
+        → Of live_of live.old.held (λ x. Fetches x.changed.items out.old out.new result) }
+    ensures misuse { (IsLive live.old.held → ⊥) → (result ≡ 0) × (out.new ≡ out.old) }
 {
-    fill(out, &live.engine().changed)
+    match live.engine() {
+        Some(engine) => fill(out, &engine.changed),
+        None => 0,
+    }
 }

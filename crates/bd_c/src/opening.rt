@@ -55,6 +55,15 @@ pub(crate) fn take(alloc: Global, handle: &mut Handle) -> Box<Held>
     open(alloc, std::mem::replace(handle, empty())).into_box()
 }
 
+/// Lets go of what is behind the handle, if anything is.
+pub(crate) fn free(alloc: Global, handle: &mut Handle)
+    ensures { handle.new.held ≡ None }
+{
+    if handle.is_there() {
+        drop(take(alloc, handle));
+    }
+}
+
 /// Puts it behind the handle. What was there is forgotten: there must be nothing.
 pub(crate) fn put(handle: &mut Handle, held: Box<Held>)
     requires { handle.old.held ≡ None }

@@ -1,7 +1,7 @@
 //! What C calls of a seat.
-ghost use Rattle.std.specs.Prelude.{◌≡◌};
+ghost use Rattle.std.specs.Prelude.{◌≡◌, false};
 ghost use Rattle.bd_space.specs.declared.step.Request.TheVariants.{Open, Attach, SetManager, SetSpam, Write, Read, ExitThread, ExitProcess};
-ghost use Rattle.bd_c.specs.{Status.{Reports}, Behind.{Of, IsSeat, seat_of}, Flags.{ByFlag}};
+ghost use Rattle.bd_c.specs.{Status.{Reports}, Misuse.{IsMisuse}, Behind.{Of, IsSeat, seat_of}, Flags.{ByFlag}};
 ghost use Rattle.bd_c.specs.{Seats.{OverSeat, AsksAt, Looks}, Parts.{bytes_of, notes_of, Fetches, TellsNote}};
 ghost use Rattle.bd_c.specs.Pages.{page_told};
 ghost use Rattle.bd_driver.specs.declared.page.Page.{Page};
@@ -17,10 +17,13 @@ use std::alloc::Global;
 
 // Makes a request.
 fn ask(seat: &mut Handle, request: Request, told: &mut Told) -> u32
-    requires { IsSeat seat.old.held }
-    ensures { Reports result (AsksAt seat.old.held seat.new.held request told.old told.new) }
+    ensures asks { IsSeat seat.old.held → Reports result (AsksAt seat.old.held seat.new.held request told.old told.new) }
+    ensures misuse { (IsSeat seat.old.held → ⊥) → IsMisuse result seat.old.held seat.new.held × (told.new ≡ told.old) }
 {
-    seat.seat().call(request, told).number()
+    match seat.seat() {
+        Some(seat) => seat.call(request, told).number(),
+        None => Status::Misuse.number(),
+    }
 }
 
 /// Opens a process with one thread, the seat's.
@@ -32,8 +35,8 @@ pub extern "C" fn hullpippin_open(
     window: u32,
     told: &mut Told,
 ) -> u32
-    requires { IsSeat seat.old.held }
-    ensures { Reports result (AsksAt seat.old.held seat.new.held (Open pid euid window) told.old told.new) }
+    ensures asks { IsSeat seat.old.held → Reports result (AsksAt seat.old.held seat.new.held (Open pid euid window) told.old told.new) }
+    ensures misuse { (IsSeat seat.old.held → ⊥) → IsMisuse result seat.old.held seat.new.held × (told.new ≡ told.old) }
 {
     ask(seat, Request::Open { pid, euid, window }, told)
 }
@@ -41,8 +44,8 @@ pub extern "C" fn hullpippin_open(
 /// Makes the seat a further thread of a live process.
 #[unsafe(no_mangle)]
 pub extern "C" fn hullpippin_attach(seat: &mut Handle, pid: u32, told: &mut Told) -> u32
-    requires { IsSeat seat.old.held }
-    ensures { Reports result (AsksAt seat.old.held seat.new.held (Attach pid) told.old told.new) }
+    ensures asks { IsSeat seat.old.held → Reports result (AsksAt seat.old.held seat.new.held (Attach pid) told.old told.new) }
+    ensures misuse { (IsSeat seat.old.held → ⊥) → IsMisuse result seat.old.held seat.new.held × (told.new ≡ told.old) }
 {
     ask(seat, Request::Attach { pid }, told)
 }
@@ -50,27 +53,31 @@ pub extern "C" fn hullpippin_attach(seat: &mut Handle, pid: u32, told: &mut Told
 /// Makes the seat's process the context manager.
 #[unsafe(no_mangle)]
 pub extern "C" fn hullpippin_manager(seat: &mut Handle, told: &mut Told) -> u32
-    requires { IsSeat seat.old.held }
-    ensures { Reports result (AsksAt seat.old.held seat.new.held SetManager told.old told.new) }
+    ensures asks { IsSeat seat.old.held → Reports result (AsksAt seat.old.held seat.new.held SetManager told.old told.new) }
+    ensures misuse { (IsSeat seat.old.held → ⊥) → IsMisuse result seat.old.held seat.new.held × (told.new ≡ told.old) }
 {
     ask(seat, Request::SetManager, told)
 }
 
 /// Has the seat's process told of its own one-way flooding where it is 1, and no longer where it is 0.
+#[tactic(auto, using(crate::proofs::Answering::flag_refused, crate::proofs::Answering::flag_asks))]
 #[unsafe(no_mangle)]
 pub extern "C" fn hullpippin_set_spam(seat: &mut Handle, on: u32, told: &mut Told) -> u32
-    requires { IsSeat seat.old.held }
-    ensures { Reports result (ByFlag on (λ on. AsksAt seat.old.held seat.new.held (SetSpam on))
+    ensures asks { IsSeat seat.old.held → Reports result (ByFlag on (λ on. AsksAt seat.old.held seat.new.held (SetSpam on))
         seat.old.held seat.new.held told.old told.new) }
+    ensures misuse { (IsSeat seat.old.held → ⊥) → IsMisuse result seat.old.held seat.new.held × (told.new ≡ told.old) }
 {
+    let Some(seat) = seat.seat() else {
+        return Status::Misuse.number();
+    };
     match flag_of(on) {
-        Ok(on) => ask(seat, Request::SetSpam { on }, told),
+        Ok(on) => seat.call(Request::SetSpam { on }, told).number(),
         Err(status) => status.number(),
     }
 }
 
 /// Runs the commands of a stream, whose parcels are cut from the area.
-#[tactic(auto, using(crate::proofs::Behind::write_refused))]
+#[tactic(auto, using(crate::proofs::Answering::write_refused))]
 #[unsafe(no_mangle)]
 pub extern "C" fn hullpippin_write(
     alloc: Global,
@@ -79,11 +86,14 @@ pub extern "C" fn hullpippin_write(
     area: &[u8],
     told: &mut Told,
 ) -> u32
-    requires { IsSeat seat.old.held }
-    ensures { Reports result (AsksAt seat.old.held seat.new.held (Write stream.now area.now) told.old told.new) }
+    ensures asks { IsSeat seat.old.held → Reports result (AsksAt seat.old.held seat.new.held (Write stream.now area.now) told.old told.new) }
+    ensures misuse { (IsSeat seat.old.held → ⊥) → IsMisuse result seat.old.held seat.new.held × (told.new ≡ told.old) }
 {
+    let Some(seat) = seat.seat() else {
+        return Status::Misuse.number();
+    };
     match write(alloc, stream, area) {
-        Ok(request) => ask(seat, request, told),
+        Ok(request) => seat.call(request, told).number(),
         Err(_) => Status::NoMemory.number(),
     }
 }
@@ -91,8 +101,8 @@ pub extern "C" fn hullpippin_write(
 /// Reads returns, whose bytes stay with the seat.
 #[unsafe(no_mangle)]
 pub extern "C" fn hullpippin_read(seat: &mut Handle, limit: u32, told: &mut Told) -> u32
-    requires { IsSeat seat.old.held }
-    ensures { Reports result (AsksAt seat.old.held seat.new.held (Read limit) told.old told.new) }
+    ensures asks { IsSeat seat.old.held → Reports result (AsksAt seat.old.held seat.new.held (Read limit) told.old told.new) }
+    ensures misuse { (IsSeat seat.old.held → ⊥) → IsMisuse result seat.old.held seat.new.held × (told.new ≡ told.old) }
 {
     ask(seat, Request::Read { limit }, told)
 }
@@ -100,8 +110,8 @@ pub extern "C" fn hullpippin_read(seat: &mut Handle, limit: u32, told: &mut Told
 /// Ends the seat's thread.
 #[unsafe(no_mangle)]
 pub extern "C" fn hullpippin_exit_thread(seat: &mut Handle, told: &mut Told) -> u32
-    requires { IsSeat seat.old.held }
-    ensures { Reports result (AsksAt seat.old.held seat.new.held ExitThread told.old told.new) }
+    ensures asks { IsSeat seat.old.held → Reports result (AsksAt seat.old.held seat.new.held ExitThread told.old told.new) }
+    ensures misuse { (IsSeat seat.old.held → ⊥) → IsMisuse result seat.old.held seat.new.held × (told.new ≡ told.old) }
 {
     ask(seat, Request::ExitThread, told)
 }
@@ -109,8 +119,8 @@ pub extern "C" fn hullpippin_exit_thread(seat: &mut Handle, told: &mut Told) -> 
 /// Ends the seat's process with all its threads.
 #[unsafe(no_mangle)]
 pub extern "C" fn hullpippin_exit_process(seat: &mut Handle, told: &mut Told) -> u32
-    requires { IsSeat seat.old.held }
-    ensures { Reports result (AsksAt seat.old.held seat.new.held ExitProcess told.old told.new) }
+    ensures asks { IsSeat seat.old.held → Reports result (AsksAt seat.old.held seat.new.held ExitProcess told.old told.new) }
+    ensures misuse { (IsSeat seat.old.held → ⊥) → IsMisuse result seat.old.held seat.new.held × (told.new ≡ told.old) }
 {
     ask(seat, Request::ExitProcess, told)
 }
@@ -119,11 +129,15 @@ pub extern "C" fn hullpippin_exit_process(seat: &mut Handle, told: &mut Told) ->
 /// offsets. Answers how many they are.
 #[unsafe(no_mangle)]
 pub extern "C" fn hullpippin_answer_bytes(seat: &mut Handle, part: u32, out: &mut [u8]) -> usize
-    requires { IsSeat seat.old.held }
     ensures same { seat.new.held ≡ seat.old.held }
-    ensures fetches { Of seat_of seat.old.held (λ x. Fetches (bytes_of part x.latest) out.old out.new result) }
+    ensures fetches { IsSeat seat.old.held
+        → Of seat_of seat.old.held (λ x. Fetches (bytes_of part x.latest) out.old out.new result) }
+    ensures misuse { (IsSeat seat.old.held → ⊥) → (result ≡ 0) × (out.new ≡ out.old) }
 {
-    fill(out, bytes_of(&seat.seat().latest, part))
+    match seat.seat() {
+        Some(seat) => fill(out, bytes_of(&seat.latest, part)),
+        None => 0,
+    }
 }
 
 /// Tells a note of the seat's latest call, if there is one at the index.
@@ -133,27 +147,38 @@ pub extern "C" fn hullpippin_answer_note(
     index: usize,
     note: &mut NoteTold,
 ) -> bool
-    requires { IsSeat seat.old.held }
     ensures same { seat.new.held ≡ seat.old.held }
-    ensures tells { Of seat_of seat.old.held (λ x. TellsNote (notes_of x.latest) index note.old note.new result) }
+    ensures tells { IsSeat seat.old.held
+        → Of seat_of seat.old.held (λ x. TellsNote (notes_of x.latest) index note.old note.new result) }
+    ensures misuse { (IsSeat seat.old.held → ⊥) → (result ≡ false) × (note.new ≡ note.old) }
 {
-    tell_note(notes_of(&seat.seat().latest), index, note)
+    match seat.seat() {
+        Some(seat) => tell_note(notes_of(&seat.latest), index, note),
+        None => false,
+    }
 }
 
 /// The page, as one load finds it.
 #[unsafe(no_mangle)]
 pub extern "C" fn hullpippin_look(seat: &mut Handle, page: &mut PageTold)
-    requires { IsSeat seat.old.held }
-    ensures { (p : Page) × (page.new ≡ page_told p) × OverSeat seat.old.held seat.new.held (λ x y. Looks x y p) }
+    ensures looks { IsSeat seat.old.held
+        → (p : Page) × (page.new ≡ page_told p) × OverSeat seat.old.held seat.new.held (λ x y. Looks x y p) }
+    ensures misuse { (IsSeat seat.old.held → ⊥) → (seat.new.held ≡ seat.old.held) × (page.new ≡ page.old) }
 {
-    *page = PageTold::of(seat.seat().look());
+    if let Some(seat) = seat.seat() {
+        *page = PageTold::of(seat.look());
+    }
 }
 
 /// The seats that have something to read, as one load of the page finds them: bit i for seat i.
 #[unsafe(no_mangle)]
 pub extern "C" fn hullpippin_ready(seat: &mut Handle) -> u32
-    requires { IsSeat seat.old.held }
-    ensures { (p : Page) × (result ≡ p.ready) × OverSeat seat.old.held seat.new.held (λ x y. Looks x y p) }
+    ensures looks { IsSeat seat.old.held
+        → (p : Page) × (result ≡ p.ready) × OverSeat seat.old.held seat.new.held (λ x y. Looks x y p) }
+    ensures misuse { (IsSeat seat.old.held → ⊥) → (result ≡ 0) × (seat.new.held ≡ seat.old.held) }
 {
-    seat.seat().look().ready
+    match seat.seat() {
+        Some(seat) => seat.look().ready,
+        None => 0,
+    }
 }

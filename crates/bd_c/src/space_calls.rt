@@ -1,6 +1,6 @@
 //! What C calls to look at the space that a live engine's history has come to. Each answers whether there is such a thing, and tells
 //! it. None takes memory.
-ghost use Rattle.std.specs.Prelude.{◌≡◌, Some, find, option_map, slice_get};
+ghost use Rattle.std.specs.Prelude.{◌≡◌, false, Some, find, option_map, slice_get};
 ghost use Rattle.bd_space.specs.{Seats.{process_in, thread_in}, References.{object_in}, Returns.{buffer_in}};
 ghost use Rattle.bd_space.specs.{Todo.{work_on}, Deaths.{is_notification}};
 ghost use Rattle.bd_space.specs.declared.space.TodoList.TheVariants.{OfThread, OfProcess};
@@ -21,11 +21,14 @@ pub extern "C" fn hullpippin_live_process(
     made: u32,
     told: &mut ProcessTold,
 ) -> bool
-    requires { IsLive live.old.held }
     ensures same { live.new.held ≡ live.old.held }
-    ensures finds { Of live_of live.old.held (λ x. InSpace x (λ s. Finds (option_map process_told (process_in s.processes made)) told.old told.new result)) }
+    ensures finds { IsLive live.old.held → Of live_of live.old.held (λ x. InSpace x (λ s. Finds (option_map process_told (process_in s.processes made)) told.old told.new result)) }
+    ensures misuse { (IsLive live.old.held → ⊥) → (result ≡ false) × (told.new ≡ told.old) }
 {
-    live.engine().tell_process(made, told)
+    match live.engine() {
+        Some(engine) => engine.tell_process(made, told),
+        None => false,
+    }
 }
 
 /// The live process with this pid, by the place of its Open.
@@ -35,11 +38,14 @@ pub extern "C" fn hullpippin_live_process_of_pid(
     pid: u32,
     told: &mut u32,
 ) -> bool
-    requires { IsLive live.old.held }
     ensures same { live.new.held ≡ live.old.held }
-    ensures finds { Of live_of live.old.held (λ x. InSpace x (λ s. Finds (process_of_pid s pid) told.old told.new result)) }
+    ensures finds { IsLive live.old.held → Of live_of live.old.held (λ x. InSpace x (λ s. Finds (process_of_pid s pid) told.old told.new result)) }
+    ensures misuse { (IsLive live.old.held → ⊥) → (result ≡ false) × (told.new ≡ told.old) }
 {
-    live.engine().tell_process_of_pid(pid, told)
+    match live.engine() {
+        Some(engine) => engine.tell_process_of_pid(pid, told),
+        None => false,
+    }
 }
 
 /// The live thread of a seat.
@@ -49,21 +55,27 @@ pub extern "C" fn hullpippin_live_thread(
     seat: u32,
     told: &mut ThreadTold,
 ) -> bool
-    requires { IsLive live.old.held }
     ensures same { live.new.held ≡ live.old.held }
-    ensures finds { Of live_of live.old.held (λ x. InSpace x (λ s. Finds (option_map thread_told (thread_in s.threads seat)) told.old told.new result)) }
+    ensures finds { IsLive live.old.held → Of live_of live.old.held (λ x. InSpace x (λ s. Finds (option_map thread_told (thread_in s.threads seat)) told.old told.new result)) }
+    ensures misuse { (IsLive live.old.held → ⊥) → (result ≡ false) × (told.new ≡ told.old) }
 {
-    live.engine().tell_thread(seat, told)
+    match live.engine() {
+        Some(engine) => engine.tell_thread(seat, told),
+        None => false,
+    }
 }
 
 /// The context manager's object.
 #[unsafe(no_mangle)]
 pub extern "C" fn hullpippin_live_manager_object(live: &mut Handle, told: &mut IdTold) -> bool
-    requires { IsLive live.old.held }
     ensures same { live.new.held ≡ live.old.held }
-    ensures finds { Of live_of live.old.held (λ x. InSpace x (λ s. Finds (option_map id_told s.manager) told.old told.new result)) }
+    ensures finds { IsLive live.old.held → Of live_of live.old.held (λ x. InSpace x (λ s. Finds (option_map id_told s.manager) told.old told.new result)) }
+    ensures misuse { (IsLive live.old.held → ⊥) → (result ≡ false) × (told.new ≡ told.old) }
 {
-    live.engine().tell_manager(told)
+    match live.engine() {
+        Some(engine) => engine.tell_manager(told),
+        None => false,
+    }
 }
 
 /// An object of the space, by its identity.
@@ -74,11 +86,14 @@ pub extern "C" fn hullpippin_live_object(
     index: u32,
     told: &mut ObjectTold,
 ) -> bool
-    requires { IsLive live.old.held }
     ensures same { live.new.held ≡ live.old.held }
-    ensures finds { Of live_of live.old.held (λ x. InSpace x (λ s. Finds (option_map object_told (object_in s.objects (record { place = place; index = index }))) told.old told.new result)) }
+    ensures finds { IsLive live.old.held → Of live_of live.old.held (λ x. InSpace x (λ s. Finds (option_map object_told (object_in s.objects (record { place = place; index = index }))) told.old told.new result)) }
+    ensures misuse { (IsLive live.old.held → ⊥) → (result ≡ false) × (told.new ≡ told.old) }
 {
-    live.engine().tell_object(ObjectId { place, index }, told)
+    match live.engine() {
+        Some(engine) => engine.tell_object(ObjectId { place, index }, told),
+        None => false,
+    }
 }
 
 /// The object that a handle names for the live process with this pid.
@@ -89,11 +104,14 @@ pub extern "C" fn hullpippin_live_named(
     handle: u32,
     told: &mut IdTold,
 ) -> bool
-    requires { IsLive live.old.held }
     ensures same { live.new.held ≡ live.old.held }
-    ensures finds { Of live_of live.old.held (λ x. InSpace x (λ s. Finds (option_map id_told (named_by s pid handle)) told.old told.new result)) }
+    ensures finds { IsLive live.old.held → Of live_of live.old.held (λ x. InSpace x (λ s. Finds (option_map id_told (named_by s pid handle)) told.old told.new result)) }
+    ensures misuse { (IsLive live.old.held → ⊥) → (result ≡ false) × (told.new ≡ told.old) }
 {
-    live.engine().tell_named(pid, handle, told)
+    match live.engine() {
+        Some(engine) => engine.tell_named(pid, handle, told),
+        None => false,
+    }
 }
 
 /// The live buffer made there.
@@ -103,11 +121,14 @@ pub extern "C" fn hullpippin_live_buffer(
     made: u32,
     told: &mut BufferTold,
 ) -> bool
-    requires { IsLive live.old.held }
     ensures same { live.new.held ≡ live.old.held }
-    ensures finds { Of live_of live.old.held (λ x. InSpace x (λ s. Finds (option_map buffer_told (buffer_in s.buffers made)) told.old told.new result)) }
+    ensures finds { IsLive live.old.held → Of live_of live.old.held (λ x. InSpace x (λ s. Finds (option_map buffer_told (buffer_in s.buffers made)) told.old told.new result)) }
+    ensures misuse { (IsLive live.old.held → ⊥) → (result ≡ false) × (told.new ≡ told.old) }
 {
-    live.engine().tell_buffer(made, told)
+    match live.engine() {
+        Some(engine) => engine.tell_buffer(made, told),
+        None => false,
+    }
 }
 
 /// One of the objects that the live buffer made there carries, in their order.
@@ -118,11 +139,14 @@ pub extern "C" fn hullpippin_live_carried(
     index: usize,
     told: &mut IdTold,
 ) -> bool
-    requires { IsLive live.old.held }
     ensures same { live.new.held ≡ live.old.held }
-    ensures finds { Of live_of live.old.held (λ x. InSpace x (λ s. Finds (option_map id_told (slice_get (carried s made) index)) told.old told.new result)) }
+    ensures finds { IsLive live.old.held → Of live_of live.old.held (λ x. InSpace x (λ s. Finds (option_map id_told (slice_get (carried s made) index)) told.old told.new result)) }
+    ensures misuse { (IsLive live.old.held → ⊥) → (result ≡ false) × (told.new ≡ told.old) }
 {
-    live.engine().tell_carried(made, index, told)
+    match live.engine() {
+        Some(engine) => engine.tell_carried(made, index, told),
+        None => false,
+    }
 }
 
 /// One of what is unread on the list of a seat's thread, oldest first.
@@ -133,12 +157,14 @@ pub extern "C" fn hullpippin_live_unread_of_thread(
     index: usize,
     told: &mut WorkTold,
 ) -> bool
-    requires { IsLive live.old.held }
     ensures same { live.new.held ≡ live.old.held }
-    ensures finds { Of live_of live.old.held (λ x. InSpace x (λ s. Finds (option_map work_told (slice_get (work_on s.todo (Some (OfThread seat))) index)) told.old told.new result)) }
+    ensures finds { IsLive live.old.held → Of live_of live.old.held (λ x. InSpace x (λ s. Finds (option_map work_told (slice_get (work_on s.todo (Some (OfThread seat))) index)) told.old told.new result)) }
+    ensures misuse { (IsLive live.old.held → ⊥) → (result ≡ false) × (told.new ≡ told.old) }
 {
-    live.engine()
-        .tell_unread(TodoList::OfThread(seat), index, told)
+    match live.engine() {
+        Some(engine) => engine.tell_unread(TodoList::OfThread(seat), index, told),
+        None => false,
+    }
 }
 
 /// One of what is unread on the list of a process, told by the place of its Open, oldest first.
@@ -149,12 +175,14 @@ pub extern "C" fn hullpippin_live_unread_of_process(
     index: usize,
     told: &mut WorkTold,
 ) -> bool
-    requires { IsLive live.old.held }
     ensures same { live.new.held ≡ live.old.held }
-    ensures finds { Of live_of live.old.held (λ x. InSpace x (λ s. Finds (option_map work_told (slice_get (work_on s.todo (Some (OfProcess process))) index)) told.old told.new result)) }
+    ensures finds { IsLive live.old.held → Of live_of live.old.held (λ x. InSpace x (λ s. Finds (option_map work_told (slice_get (work_on s.todo (Some (OfProcess process))) index)) told.old told.new result)) }
+    ensures misuse { (IsLive live.old.held → ⊥) → (result ≡ false) × (told.new ≡ told.old) }
 {
-    live.engine()
-        .tell_unread(TodoList::OfProcess(process), index, told)
+    match live.engine() {
+        Some(engine) => engine.tell_unread(TodoList::OfProcess(process), index, told),
+        None => false,
+    }
 }
 
 /// The innermost open call that a seat's thread is in.
@@ -164,19 +192,25 @@ pub extern "C" fn hullpippin_live_innermost(
     seat: u32,
     told: &mut FrameTold,
 ) -> bool
-    requires { IsLive live.old.held }
     ensures same { live.new.held ≡ live.old.held }
-    ensures finds { Of live_of live.old.held (λ x. InSpace x (λ s. Finds (option_map frame_told (innermost_of s seat)) told.old told.new result)) }
+    ensures finds { IsLive live.old.held → Of live_of live.old.held (λ x. InSpace x (λ s. Finds (option_map frame_told (innermost_of s seat)) told.old told.new result)) }
+    ensures misuse { (IsLive live.old.held → ⊥) → (result ≡ false) × (told.new ≡ told.old) }
 {
-    live.engine().tell_innermost(seat, told)
+    match live.engine() {
+        Some(engine) => engine.tell_innermost(seat, told),
+        None => false,
+    }
 }
 
 /// The death notification that was asked for there.
 #[unsafe(no_mangle)]
 pub extern "C" fn hullpippin_live_death(live: &mut Handle, made: u32, told: &mut DeathTold) -> bool
-    requires { IsLive live.old.held }
     ensures same { live.new.held ≡ live.old.held }
-    ensures finds { Of live_of live.old.held (λ x. InSpace x (λ s. Finds (option_map death_told (find (is_notification made) s.deaths)) told.old told.new result)) }
+    ensures finds { IsLive live.old.held → Of live_of live.old.held (λ x. InSpace x (λ s. Finds (option_map death_told (find (is_notification made) s.deaths)) told.old told.new result)) }
+    ensures misuse { (IsLive live.old.held → ⊥) → (result ≡ false) × (told.new ≡ told.old) }
 {
-    live.engine().tell_death(made, told)
+    match live.engine() {
+        Some(engine) => engine.tell_death(made, told),
+        None => false,
+    }
 }

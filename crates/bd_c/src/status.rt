@@ -33,6 +33,8 @@ pub enum Status {
     HistoryFull,
     /// The bytes aren't one command.
     NoCommand,
+    /// A handle hasn't what the call is for, or has something where it has to be empty.
+    Misuse,
 }
 
 impl Status {

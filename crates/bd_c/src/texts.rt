@@ -32,6 +32,7 @@ fn status_text(number: u32) -> &'static str
         10 => "there is no such seat",
         11 => "the history is full",
         12 => "the bytes are not one command",
+        13 => "the handle is not what the call is for",
         _ => "",
     }
 }

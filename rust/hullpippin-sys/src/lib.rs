@@ -88,6 +88,9 @@ pub const HULLPIPPIN_HISTORY_FULL: u32 = 11;
 /// Live_command: the bytes aren't exactly one command.
 pub const HULLPIPPIN_NO_COMMAND: u32 = 12;
 
+/// A handle isn't what the call is for: it is empty, or isn't where it has to be, or its driver has ended, or hasn't.
+pub const HULLPIPPIN_MISUSE: u32 = 13;
+
 /// Collect, withdraw: it is still handed over.
 pub const HULLPIPPIN_HANDED: u32 = 0;
 
@@ -295,7 +298,7 @@ pub const HULLPIPPIN_NOTE_NONE_ASKED: u32 = 10;
 /// N11: no death was told with that cookie.
 pub const HULLPIPPIN_NOTE_NONE_TOLD: u32 = 11;
 
-/// HULLPIPPIN_DONE .. HULLPIPPIN_NO_COMMAND.
+/// HULLPIPPIN_DONE .. HULLPIPPIN_MISUSE.
 pub const HULLPIPPIN_TEXT_STATUS: u32 = 1;
 
 /// HULLPIPPIN_FAULT_SHORT_COMMAND ..
@@ -761,20 +764,20 @@ extern "C" {
     /// there is none.
     pub fn hullpippin_text_bytes(kind: u32, number: u32, out: *mut u8, room: usize) -> usize;
 
-    /// Makes a driver with so many seats, numbered from 0. `driver` must be empty, and stays so unless DONE is
-    /// answered. Also NO_MEMORY, SEAT_COUNT.
+    /// Makes a driver with so many seats, numbered from 0. `driver` is empty, and stays so unless DONE is answered.
+    /// Also NO_MEMORY, SEAT_COUNT.
     pub fn hullpippin_new(seats: u32, driver: *mut hullpippin_driver) -> u32;
 
-    /// Takes a seat off the driver: the first that is there, so of a new driver seat 0, then seat 1. `seat` must be
-    /// empty, and stays so unless DONE is answered. Also NO_MEMORY, NO_SEAT_LEFT.
+    /// Takes a seat off the driver: the first that is there, so of a new driver seat 0, then seat 1. `seat` is empty,
+    /// and stays so unless DONE is answered. Also NO_MEMORY, NO_SEAT_LEFT.
     pub fn hullpippin_take_seat(driver: *mut hullpippin_driver, seat: *mut hullpippin_seat) -> u32;
 
     /// Gives a seat back to its own driver, behind those that are there, and empties `seat`. What its latest call
     /// answered is gone. Also NO_MEMORY, which never comes where the seat was taken off this driver.
     pub fn hullpippin_return_seat(driver: *mut hullpippin_driver, seat: *mut hullpippin_seat) -> u32;
 
-    /// Ends a driver whose seats are all back. The handle has its history from then on: of the functions of drivers
-    /// only journal and free_driver may be called. Takes no memory. Also SEATS_AWAY.
+    /// Ends a driver whose seats are all back. The handle has its history from then on, which is for journal and
+    /// free_driver alone. Takes no memory. Also SEATS_AWAY.
     pub fn hullpippin_finish(driver: *mut hullpippin_driver) -> u32;
 
     /// Tells in `size` how many bytes the journal of an ended driver has, and copies them to `out` if all of them fit
@@ -785,11 +788,12 @@ extern "C" {
     /// Judges the bytes of a journal, by playing its entries again. Needs no driver. Also NO_MEMORY, NO_JOURNAL.
     pub fn hullpippin_verdict(journal: *const u8, size: usize, verdict: *mut hullpippin_verdict_on) -> u32;
 
-    /// Lets go of a driver, or of an ended one's history, and empties the handle. Seats that are away stay usable. The
-    /// handle must not be empty.
+    /// Lets go of a driver, or of an ended one's history, and empties the handle. Seats that are away stay usable. Does
+    /// nothing where it is empty.
     pub fn hullpippin_free_driver(driver: *mut hullpippin_driver);
 
-    /// Lets go of a seat for good, and empties the handle, which must not be empty. Its driver can't be finished then.
+    /// Lets go of a seat for good, and empties the handle. Its driver can't be finished then. Does nothing where it is
+    /// empty.
     pub fn hullpippin_free_seat(seat: *mut hullpippin_seat);
 
     /// Opens a process with one thread, the seat's: `pid` 1 to 2147483647, `window` a multiple of 4096 up to 4194304.
@@ -869,7 +873,7 @@ extern "C" {
     /// Takes back what was posted, if nobody has picked it: BACK with BACK_WITHDRAWN, or HANDED. Also NOT_WAITING.
     pub fn hullpippin_withdraw(seat: *mut hullpippin_seat, answer: *mut hullpippin_answer) -> u32;
 
-    /// Makes a live engine with 1 to 65536 seats. `live` must be empty, and stays so unless DONE is answered. Also
+    /// Makes a live engine with 1 to 65536 seats. `live` is empty, and stays so unless DONE is answered. Also
     /// NO_MEMORY, SEAT_COUNT.
     pub fn hullpippin_live_new(seats: u32, live: *mut hullpippin_live) -> u32;
 
@@ -986,7 +990,7 @@ extern "C" {
         size: *mut usize,
     ) -> u32;
 
-    /// Lets go of a live engine, and empties the handle, which must not be empty.
+    /// Lets go of a live engine, and empties the handle. Does nothing where it is empty.
     pub fn hullpippin_free_live(live: *mut hullpippin_live);
 
     /// The live process that was opened at this place.

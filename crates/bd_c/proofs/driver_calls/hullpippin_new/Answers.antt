@@ -3,7 +3,7 @@ use Rattle.bd_c.specs.Hosts.{Opens, IsRefusal}
 use Rattle.bd_c.proofs.Making.{made}
 use Rattle.bd_c.proofs.driver_calls.hullpippin_new.Goals as goal
 
-pub returns : goal.returns
-returns c =
+pub returns-clause-opens : goal.returns-clause-opens
+returns-clause-opens c = λ _.
     made c.open_host.result (λ b. b.value) c.put_made.result c.put_made.new.handle.held (λ k. Of driver_of k (Opens c.args.seats)) (IsRefusal c.args.seats)
     c.open_host.ensures.ok c.open_host.ensures.refused c.put_made.ensures

@@ -1,21 +1,18 @@
-use Rattle.std.proofs.Common.{◌≡◌, refl, sym, subst, inl, inr}
+use Rattle.std.proofs.Common.{◌≡◌, ◌∙◌, refl}
 use Rattle.std.specs.Prelude.{Option, Some}
 use Rattle.bd_c.specs.declared.held.Held.{Held}
-use Rattle.bd_c.specs.declared.held.Held.TheVariants.{Driver, Seat}
-use Rattle.bd_c.specs.declared.status.Status.TheVariants.{Done, NoMemory}
-use Rattle.bd_c.specs.Behind.{Of, Over, driver_of, seat_of}
-use Rattle.bd_c.specs.Hosts.{Hands, Keeps}
-use Rattle.bd_c.proofs.Behind.{over_same}
+use Rattle.bd_c.specs.declared.held.Held.TheVariants.{Seat}
+use Rattle.bd_c.specs.declared.status.Status.TheVariants.{NoMemory}
+use Rattle.bd_c.proofs.Answering.{hands_refused, hands_done}
 use Rattle.bd_c.proofs.driver_calls.hullpippin_take_seat.Goals as goal
 
-pub returns-in_default : goal.returns-in_default
-returns-in_default c = (NoMemory, c.number.ensures, inr (c.requires.nothing, over_same driver_of c.args.driver.now.held (λ x y. Keeps x y NoMemory) c.requires.driver (λ x. refl)))
+pub returns-in_default-new-clause-hands : goal.returns-in_default-new-clause-hands
+returns-in_default-new-clause-hands c = λ _ empty.
+    let host = c.in-Some.host.now in
+    hands_refused c.args.driver.now.held c.is_there.new.self.held host host NoMemory c.number-in_default-new.result c.in-Some.ensures.host (c.is_there.ensures.same ∙ empty) c.number-in_default-new.ensures refl
 
-pub returns-in-Ok-take : goal.returns-in-Ok-take
-returns-in-Ok-take c =
-    let old = c.host.result.now in
-    let new = c.take.new.self in
+pub returns-in-Ok-take-clause-hands : goal.returns-in-Ok-take-clause-hands
+returns-in-Ok-take-clause-hands c = λ _ _.
     let at : Option Held = c.put.new.handle.held in
     let kept : at ≡ Some (Seat c.in-Ok-take.taken) = cc in
-    let there : Of seat_of at (Hands old new) = subst (λ (m : Option Held). Of seat_of m (Hands old new)) (sym kept) c.in-Ok-take.ensures.ok in
-    (Done, c.number-in-Ok-take.ensures, inl (refl, subst (λ (h : Option Held). Over driver_of h (Some (Driver new)) (λ x y. Of seat_of at (Hands x y))) (sym c.host.ensures.host) there))
+    hands_done c.args.driver.now.held at c.in-Some.host.now c.take.new.self c.in-Ok-take.taken c.number-in-Ok-take.result c.in-Some.ensures.host kept c.number-in-Ok-take.ensures c.in-Ok-take.ensures.ok

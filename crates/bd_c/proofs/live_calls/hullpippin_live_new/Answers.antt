@@ -3,7 +3,7 @@ use Rattle.bd_c.specs.Lives.{Begins, IsLiveRefusal}
 use Rattle.bd_c.proofs.Making.{made}
 use Rattle.bd_c.proofs.live_calls.hullpippin_live_new.Goals as goal
 
-pub returns : goal.returns
-returns c =
+pub returns-clause-begins : goal.returns-clause-begins
+returns-clause-begins c = λ _.
     made c.open_live.result (λ b. b.value) c.put_made.result c.put_made.new.handle.held (λ k. Of live_of k (Begins c.args.seats)) (IsLiveRefusal c.args.seats)
     c.open_live.ensures.ok c.open_live.ensures.refused c.put_made.ensures

@@ -1,6 +1,6 @@
-use Rattle.bd_c.specs.declared.status.Status.TheVariants.{NoMemory}
-use Rattle.bd_c.proofs.Behind.{write_refused}
+use Rattle.bd_c.proofs.Answering.{write_refused}
 use Rattle.bd_c.proofs.seat_calls.hullpippin_write.Goals as goal
 
-pub returns-in-Err : goal.returns-in-Err
-returns-in-Err c = (NoMemory, c.number.ensures, write_refused c.args.seat.now.held c.args.stream.now c.args.area.now c.args.told.now c.requires)
+pub returns-in-Err-clause-asks : goal.returns-in-Err-clause-asks
+returns-in-Err-clause-asks c = λ _.
+    write_refused c.args.seat.now.held c.in-Some.seat.now c.args.stream.now c.args.area.now c.args.told.now c.number-in-Err.result c.in-Some.ensures.seat c.number-in-Err.ensures
