@@ -89,7 +89,8 @@ pub fn nearest(journal: &str, place: u64) -> Result<Option<Found>> {
         Err(_) => return Ok(None),
     };
     let table = table(&file)?;
-    let known = bytes_at(&File::open(journal)?, table.covered - table.known.len() as u64, table.known.len() as u64);
+    let size = table.known.len() as u64;
+    let known = table.covered.checked_sub(size).and_then(|at| bytes_at(&File::open(journal).ok()?, at, size).ok());
     ensure!(known.map_or(false, |it| it == table.known), "it is of another journal; `hullpippin index` makes it anew");
     let key = match table.keys.iter().rev().find(|it| it.place <= place) {
         Some(key) => *key,

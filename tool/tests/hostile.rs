@@ -15,7 +15,7 @@ impl Numbers {
     }
 }
 
-const WORDS: [&[&str]; 7] = [
+const WORDS: [&[&str]; 10] = [
     &["show"],
     &["show", "--format", "json"],
     &["state"],
@@ -23,6 +23,9 @@ const WORDS: [&[&str]; 7] = [
     &["leaks"],
     &["stats"],
     &["slow"],
+    &["diagram"],
+    &["export", "--to", "perfetto"],
+    &["export", "--to", "pcapng"],
 ];
 
 fn journals() -> Vec<Vec<u8>> {
@@ -44,7 +47,8 @@ fn whole_journals_are_shown_by_each_word() {
     for bytes in journals() {
         for words in WORDS {
             let file = kept("whole", &bytes);
-            assert!(!printed(&[words, &[file.path()]].concat()).is_empty(), "{words:?}");
+            let done = run(&[words, &[file.path()]].concat());
+            assert!(done.status.success() && done.stderr.is_empty() && !done.stdout.is_empty(), "{words:?}");
         }
     }
 }
@@ -53,7 +57,7 @@ fn whole_journals_are_shown_by_each_word() {
 fn cut_anywhere() {
     let mut numbers = Numbers(1);
     for (index, bytes) in journals().iter().enumerate() {
-        for turn in 0..30 {
+        for turn in 0..40 {
             let end = if turn < 20 { turn } else { numbers.below(bytes.len()) };
             judge(WORDS[turn % WORDS.len()], &bytes[..end], &format!("cut-{index}-{turn}"));
         }
@@ -72,6 +76,37 @@ fn bits_turned() {
             }
             judge(WORDS[turn % WORDS.len()], &bytes, &format!("turned-{index}-{turn}"));
         }
+    }
+}
+
+/// What is wrong with an index is told, or does no harm.
+#[test]
+fn bits_turned_in_an_index() {
+    let mut numbers = Numbers(4);
+    let mut bytes = journals().remove(1);
+    let entries: Vec<Vec<u8>> = entries(&bytes).into_iter().map(<[u8]>::to_vec).collect();
+    // The last of three rounds, again and again: enough for an index.
+    let round = entries[entries.len() - 12..].concat();
+    let rounds = 1500;
+    (0..rounds).for_each(|_| bytes.extend(&round));
+    let count = (entries.len() + 12 * rounds) as u32;
+    bytes[12..16].copy_from_slice(&count.to_le_bytes());
+    let file = kept("indexed", &bytes);
+    assert_eq!(printed(&["index", file.path()]), "");
+    let index = Kept(format!("{}.index", file.path()).into());
+    let whole = std::fs::read(&index.0).expect("the index");
+    for turn in 0..60 {
+        let mut bytes = whole.clone();
+        let at = numbers.below(bytes.len());
+        bytes[at] ^= 1 << numbers.below(8);
+        if turn % 6 == 0 {
+            bytes.truncate(at);
+        }
+        std::fs::write(&index.0, &bytes).expect("the index");
+        let done = run(&["show", file.path(), "--from", &(count - 3).to_string()]);
+        let said = String::from_utf8_lossy(&done.stderr).into_owned();
+        assert!(matches!(done.status.code(), Some(0 | 1)), "{turn}: {:?} {said}", done.status);
+        assert!(said.is_empty() || said.starts_with("hullpippin: "), "{turn}: {said}");
     }
 }
 

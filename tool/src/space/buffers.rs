@@ -103,14 +103,14 @@ impl Room {
         };
         self.holes.remove(&at);
         if size > needed {
-            self.holes.insert(at + needed, size - needed);
+            self.holes.insert(at.saturating_add(needed), size - needed);
         }
         at
     }
 
     fn end(&self) -> u64 {
         let last = self.buffers.iter().next_back().map_or(0, |(at, it)| at.saturating_add(it.needed));
-        last.max(FIRST_POINTER + self.size)
+        last.max(FIRST_POINTER.saturating_add(self.size))
     }
 
     /// Puts a buffer into the window, and gives its pointer.
@@ -144,7 +144,7 @@ impl Room {
             self.one_way = self.one_way.saturating_sub(buffer.needed);
             self.forget_sender(buffer.sent.process, buffer.needed);
         }
-        if pointer < FIRST_POINTER + self.size {
+        if pointer < FIRST_POINTER.saturating_add(self.size) {
             self.widen(pointer, buffer.needed);
         }
         Some(buffer)

@@ -82,7 +82,7 @@ impl Names {
         if is_manager && !self.by_handle.contains_key(&0) {
             return 0;
         }
-        self.free.iter().next().copied().unwrap_or(self.given + 1)
+        self.free.iter().next().copied().unwrap_or(self.given.saturating_add(1))
     }
 
     fn add(&mut self, handle: u32, object: ObjectId, since: u64) {

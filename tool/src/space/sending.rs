@@ -94,12 +94,13 @@ impl Space {
     /// The thread of a process that waits in one of these calls, the innermost.
     fn waits_above(&self, innermost: Option<u64>, process: ProcessId) -> Option<u32> {
         let mut next = innermost;
-        while let Some(frame) = next.and_then(|it| self.frames.get(&it)) {
+        while let Some((place, frame)) = next.and_then(|it| Some((it, self.frames.get(&it)?))) {
             let is_of = |seat: &u32| self.threads.get(seat).map_or(false, |it| it.process == process);
             if let Some(seat) = frame.caller.filter(is_of) {
                 return Some(seat);
             }
-            next = frame.parent;
+            // A call lies within an older one, also in a space that a broken index has.
+            next = frame.parent.filter(|it| *it < place);
         }
         None
     }
