@@ -131,6 +131,29 @@ fn colours_are_for_who_wants_them() {
     assert!(!done.stdout.contains(&0x1b));
 }
 
+/// What the program prints to a terminal, which `script` of util-linux makes.
+fn on_terminal(words: &str, variable: (&str, &str)) -> String {
+    let command = format!("{} {words}", env!("CARGO_BIN_EXE_hullpippin"));
+    let mut script = std::process::Command::new("script");
+    script.args(["-qec", &command, "/dev/null"]).stdin(Stdio::null()).env("TERM", "xterm");
+    let done = script.env_remove("NO_COLOR").env(variable.0, variable.1).output().expect("script");
+    assert!(done.status.success());
+    String::from_utf8(done.stdout).expect("text")
+}
+
+#[test]
+#[ignore = "needs script"]
+fn a_terminal_gets_colours_and_a_pager() {
+    let file = Journal::one_way().file("terminal");
+    let words = format!("show --to 1 {}", file.path());
+    let line = "0 seat 0 pid 100 open pid 100 euid 1000 window 4096: opened\r\n";
+    let paged = on_terminal(&words, ("HULLPIPPIN_PAGER", "sed s/^/page:/"));
+    assert!(paged.starts_with("page:\x1b[") && paged.contains("\x1b[0m seat 0 pid 100 "), "{paged}");
+    let bare = on_terminal(&format!("--no-pager {words}"), ("NO_COLOR", "1"));
+    assert_eq!(bare, line);
+    assert!(on_terminal(&format!("--no-pager {words}"), ("HULLPIPPIN_PAGER", "false")).contains('\x1b'));
+}
+
 #[test]
 fn a_closed_pipe_is_silent() {
     let mut journal = Journal::one_way();
