@@ -25,6 +25,7 @@ mod source;
 mod space;
 mod state;
 mod stats;
+mod wrapped;
 
 use anyhow::{bail, Result};
 use arguments::{Arguments, Explain, Export, Form, Format, Holders, Show, State, Word};

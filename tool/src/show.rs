@@ -6,6 +6,7 @@ use crate::out::Palette;
 use crate::parcel;
 use crate::record::{Flat, Parcel, Record, FLAGS, OBJECT_SIZE};
 use crate::space::{About, Carried, Facts, ObjectId, Sent, Space};
+use crate::wrapped::Wrapped;
 use std::io::{self, Write};
 
 type Lines = Vec<u8>;
@@ -264,7 +265,22 @@ impl Shown<'_> {
                 None => writeln!(to, "none that is known stands there")?,
             }
         }
+        if let Some(wrapped) = Wrapped::read(parcel) {
+            self.put_wrapped(to, &wrapped)?;
+        }
         parcel::put_dump(to, indent, parcel.data, self.style.bytes);
+        Ok(())
+    }
+
+    /// What a client's own parcel has that the engine's hasn't.
+    fn put_wrapped(&self, to: &mut Lines, wrapped: &Wrapped<'_>) -> io::Result<()> {
+        let indent = self.indent;
+        let Wrapped { data_size, offsets_size, buffers_size, descriptors, euid, .. } = wrapped;
+        write!(to, "{:indent$}wrapped by the daemon: {data_size} bytes of data, {} objects, ", "", offsets_size / 8)?;
+        writeln!(to, "{buffers_size} bytes of buffers, {descriptors} descriptors, euid {euid}")?;
+        for it in wrapped.beside() {
+            writeln!(to, "{:indent$}object at {:#x}: {} {}", "", it.at, it.kind, it.told)?;
+        }
         Ok(())
     }
 

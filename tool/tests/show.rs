@@ -146,3 +146,22 @@ fn entry_at(bytes: &[u8], place: usize) -> usize {
         answer + 4 + number(answer)
     })
 }
+
+#[test]
+fn a_parcel_that_the_daemon_wrapped_is_told_as_its_client_sent_it() {
+    // One descriptor, the offset of it, no buffers, and the trailer of clients/README.md.
+    let mut data = object(0x6664_2a85, 5, 0);
+    data.extend([0u64, 24, 8, 0].map(u64::to_le_bytes).concat());
+    data.extend([4u32, 1, 2000, 0].map(u32::to_le_bytes).concat());
+    data.extend(b"trailer\0");
+    let mut journal = Journal::base();
+    let record = Record { data: data.len() as u64, ..Record::default() };
+    journal.send(1, &record.bytes(BC_TRANSACTION), &data, &[], ACCEPTED);
+    let file = journal.file("wrapped");
+    let lines = printed(&["show", file.path(), "--from", "4", "--bytes", "1"]);
+    let told = "
+    wrapped by the daemon: 24 bytes of data, 1 objects, 0 bytes of buffers, 1 descriptors, euid 2000
+    object at 0x0: FD fd 5
+    0000  85";
+    assert!(lines.contains(told), "{lines}");
+}
