@@ -8,7 +8,6 @@
  */
 #include "raw.h"
 
-#include <signal.h>
 #include <stdio.h>
 #include <stdlib.h>
 #include <string.h>
@@ -97,9 +96,9 @@ static void hold_up(void *with)
     (void)with;
     raw_ready();
     for (;;) {
-        CHECK(!kill(raw_daemon(), SIGSTOP), "can't stop the daemon");
+        raw_stop_daemon();
         usleep(STOPPED);
-        CHECK(!kill(raw_daemon(), SIGCONT), "can't have the daemon go on");
+        raw_continue_daemon();
         usleep(STOPPED);
     }
 }
@@ -146,6 +145,6 @@ int main(int argc, char **argv)
     while (count)
         raw_kill(all[--count]);
     if (raw_daemon())
-        kill(raw_daemon(), SIGCONT);
+        raw_continue_daemon();
     return 0;
 }

@@ -247,6 +247,44 @@ pid_t raw_daemon(void)
     return named ? atoi(named) : 0;
 }
 
+/* As the kernel tells of it behind its name, which stands in brackets. One that has ended is stopped too. */
+static bool is_stopped(const char *thread)
+{
+    char path[320], text[512] = {0};
+    snprintf(path, sizeof path, "/proc/%d/task/%s/stat", (int)raw_daemon(), thread);
+    FILE *file = fopen(path, "r");
+    bool is_read = file && fgets(text, sizeof text, file);
+    const char *name_end = is_read ? strrchr(text, ')') : NULL;
+    if (file)
+        fclose(file);
+    return !name_end || name_end[2] == 'T';
+}
+
+static bool are_all_stopped(void)
+{
+    char path[64];
+    bool are_stopped = true;
+    snprintf(path, sizeof path, "/proc/%d/task", (int)raw_daemon());
+    DIR *folder = opendir(path);
+    CHECK(folder, "%s", path);
+    for (struct dirent *entry; (entry = readdir(folder));)
+        are_stopped = are_stopped && (entry->d_name[0] == '.' || is_stopped(entry->d_name));
+    closedir(folder);
+    return are_stopped;
+}
+
+void raw_stop_daemon(void)
+{
+    CHECK(!kill(raw_daemon(), SIGSTOP), "can't stop the daemon");
+    while (!are_all_stopped())
+        usleep(1000);
+}
+
+void raw_continue_daemon(void)
+{
+    CHECK(!kill(raw_daemon(), SIGCONT), "can't have the daemon go on");
+}
+
 double raw_now(void)
 {
     struct timespec now;

@@ -82,6 +82,10 @@ size_t raw_descriptors(pid_t pid);
 /* The daemon, where the environment names it in RAW_DAEMON; else 0. */
 pid_t raw_daemon(void);
 
+/* Stops all of the daemon's threads, so that it finds at once what comes until it goes on; there has to be one. */
+void raw_stop_daemon(void);
+void raw_continue_daemon(void);
+
 /* Microseconds, on a clock that only goes forward. */
 double raw_now(void);
 

@@ -12,7 +12,6 @@
 #include <poll.h>
 #include <pthread.h>
 #include <semaphore.h>
-#include <signal.h>
 #include <stdio.h>
 #include <string.h>
 #include <sys/ioctl.h>
@@ -187,11 +186,11 @@ static void goes_on_beside_end(pid_t server)
     while (sem_wait(&late.is_there))
         ;
     end_another();
-    CHECK(!kill(raw_daemon(), SIGSTOP), "can't stop the daemon");
+    raw_stop_daemon();
     sem_post(&late.may_call);
     usleep(100000); /* it has called by now; were it later, it would be told that nobody is there */
     raw_kill(server);
-    CHECK(!kill(raw_daemon(), SIGCONT), "can't have the daemon go on");
+    raw_continue_daemon();
     pthread_join(thread, NULL);
     binder_close(&late.client.binder);
 }
