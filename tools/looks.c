@@ -20,9 +20,9 @@ enum { OPENED_MANAGER, MADE_MANAGER, ENTERED, OPENED_CLIENT, SENT, CLIENT_READ, 
 /* What no look fills. */
 #define BLANK 0x5a
 
-#define IS_BLANK(it) is_blank(&(it), sizeof(it))
+#define IS_BLANK(it) is_all_blank(&(it), sizeof(it))
 
-static bool is_blank(const void *it, size_t size)
+static bool is_all_blank(const void *it, size_t size)
 {
     const uint8_t *bytes = it;
     for (size_t i = 0; i < size; i++)
