@@ -67,7 +67,7 @@ typedef struct {
     void *at;
 } hullpippin_live;
 
-/* Handles that have nothing: to begin with, or to be assigned. A static handle is one without. */
+/* Handles that have nothing, to begin with or to be assigned. A static handle that isn't given another value begins as one. */
 #ifdef __cplusplus
 #define HULLPIPPIN_NO_DRIVER hullpippin_driver{ NULL }
 #define HULLPIPPIN_NO_SEAT hullpippin_seat{ NULL }

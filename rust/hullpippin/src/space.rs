@@ -276,13 +276,14 @@ impl Live {
         })
     }
 
-    /// The objects that the live buffer made at this place carries, one for each object of its parcel, in their order.
+    /// The objects that the live buffer made at this place carries, one for each object of its parcel, in their order. The library finds
+    /// each by going along those before it, so the time grows with the square of how many there are.
     pub fn carried(&mut self, made: u32) -> Vec<ObjectId> {
         let told = self.all(|live, index, told| unsafe { sys::hullpippin_live_carried(live, made, index, told) });
         told.into_iter().map(ObjectId::told).collect()
     }
 
-    /// What is still to be read of a list, oldest first.
+    /// What is still to be read of a list, oldest first. The time grows with the square of how much that is, as with [`Live::carried`].
     pub fn unread(&mut self, list: TodoList) -> Vec<Work> {
         let told = self.all(|live, index, told| match list {
             TodoList::OfThread(seat) => unsafe { sys::hullpippin_live_unread_of_thread(live, seat, index, told) },
