@@ -18,15 +18,17 @@ static size_t spell_heading(hullpippin_live *live, uint32_t count, uint8_t *head
     return is_there ? size : 0;
 }
 
-bool journal_open(struct journal *journal, const char *path, hullpippin_live *live)
+bool journal_open(struct journal *journal, const char *path, int file, hullpippin_live *live)
 {
     uint8_t heading[HEADING_ROOM];
     size_t size = spell_heading(live, UINT32_MAX, heading);
     *journal = (struct journal){.path = path, .room = FIRST_ROOM, .entry = malloc(FIRST_ROOM)};
-    if (size && journal->entry)
-        journal->recorder = recorder_begin(path, heading, size);
-    else
+    if (size && journal->entry) {
+        journal->recorder = recorder_begin(path, file, heading, size);
+    } else {
         log_line("%s: no memory for its heading", path);
+        descriptor_close(&file);
+    }
     return journal->recorder != NULL;
 }
 
