@@ -245,13 +245,14 @@ bool recorder_end(struct recorder *recorder, const void *front, size_t size);
 struct journal {
     struct recorder *recorder; /* NULL: there is no journal */
     const char *path;
+    uint32_t seats;
     uint8_t *entry;
     size_t room;
     bool has_broken_off;
 };
 
 /* Closed it has to be in either case. The file is the journal's from then on. */
-bool journal_open(struct journal *journal, const char *path, int file, hullpippin_live *live);
+bool journal_open(struct journal *journal, const char *path, int file, hullpippin_live *live, uint32_t seats);
 /* Appends the latest step's entry. A journal that can't have it breaks off there, and has no more. */
 void journal_append(struct journal *journal, hullpippin_live *live);
 /* Puts the number of entries right, and closes the file. Whether it has all of them. */
@@ -351,7 +352,7 @@ struct engine {
 extern uint64_t history_most;
 
 /* A device's engine. It takes over the file that its journal is to go to. */
-struct engine *engine_new(struct daemon *daemon, struct device *device, uint32_t seats);
+struct engine *engine_new(struct daemon *daemon, struct device *device);
 void engine_free(struct engine *engine);
 /* The last of its thread: puts the journal right, and tells what was done. */
 void engine_conclude(struct engine *engine);

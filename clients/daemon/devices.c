@@ -15,9 +15,6 @@
 /* How often it is looked who has opened nothing, while there are such. */
 #define STRANGERS_SECONDS 1
 
-/* As many as a journal may have. */
-#define JOURNAL_SEATS 31u
-
 static struct device *find(struct daemon *daemon, const char *name, size_t length)
 {
     for (uint32_t i = 0; i < daemon->device_count; i++)
@@ -52,8 +49,7 @@ bool devices_set_journal(struct daemon *daemon, const char *word)
 
 static bool begin(struct daemon *daemon, struct device *device)
 {
-    uint32_t seats = device->journal && daemon->seats > JOURNAL_SEATS ? JOURNAL_SEATS : daemon->seats;
-    device->engine = engine_new(daemon, device, seats);
+    device->engine = engine_new(daemon, device);
     return device->engine != NULL;
 }
 

@@ -28,10 +28,10 @@ static bool begin_journal(struct engine *engine, struct device *device)
 {
     int file = device->journal_file;
     device->journal_file = -1;
-    return !device->journal || journal_open(&engine->journal, device->journal, file, &engine->live);
+    return !device->journal || journal_open(&engine->journal, device->journal, file, &engine->live, engine->seats);
 }
 
-struct engine *engine_new(struct daemon *daemon, struct device *device, uint32_t seats)
+struct engine *engine_new(struct daemon *daemon, struct device *device)
 {
     struct engine *engine = calloc(1, sizeof *engine);
     if (!engine)
@@ -48,8 +48,8 @@ struct engine *engine_new(struct daemon *daemon, struct device *device, uint32_t
     list_begin(&engine->reached);
     for (size_t i = 0; i < sizeof engine->by_pid / sizeof *engine->by_pid; i++)
         list_begin(&engine->by_pid[i]);
-    if (engine->bench && tickets_begin(&engine->tickets) && make_seats(engine, seats)
-        && hullpippin_live_new(seats, &engine->live) == HULLPIPPIN_DONE && begin_journal(engine, device) && engine_start(engine))
+    if (engine->bench && tickets_begin(&engine->tickets) && make_seats(engine, daemon->seats)
+        && hullpippin_live_new(engine->seats, &engine->live) == HULLPIPPIN_DONE && begin_journal(engine, device) && engine_start(engine))
         return engine;
     engine_free(engine);
     return NULL;

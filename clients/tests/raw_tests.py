@@ -53,9 +53,9 @@ for word in ("asked", "unasked"):
 
 @test("raw crossed")
 def crossed(build):
-    """Without a journal, so that there are seats for all."""
-    with Stage(build) as stage:
-        return stage.run([build.raw("crossed"), "3"], 120)
+    with Stage(build, journal=DEVICE, wide=True) as stage:
+        told = stage.run([build.raw("crossed"), "3"], 120)
+    return f"{told}; {stage.entries} steps"
 
 
 @test("raw paths")
@@ -112,7 +112,7 @@ def flat_cost(found, what, slack=SLACK):
 
 @test("raw services")
 def services(build):
-    """Each of a process of its own; with a journal there are only seats for some."""
+    """Each of a process of its own."""
     with Stage(build, journal=DEVICE) as stage:
         stage.manage()
         stage.run([build.raw("services"), "20"])

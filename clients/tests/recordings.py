@@ -15,6 +15,7 @@ import threading
 import time
 from contextlib import contextmanager
 
+from journals import Journal
 from raw_tests import DEVICE, refuses
 from stage import Stage, expect, tail
 from suite import figures, test
@@ -101,6 +102,37 @@ def killed_recordings(build):
 def steps_of(stage):
     """How many steps of the device a daemon that has ended tells of."""
     return int(re.search(rf"{DEVICE}: (\d+) steps", stage.daemon.printed())[1])
+
+
+def recorded(build, programs, least):
+    """What programs print that run while a wide recording is made, in which so many threads have to have a seat at least."""
+    with Stage(build, journal=DEVICE, wide=True) as stage:
+        told = programs(stage)
+        stage.end()
+        with open(stage.journal, "rb") as file:
+            seats = Journal(file.read()).seats_used()
+        expect(stage.entries == steps_of(stage), f"{stage.entries} entries of {steps_of(stage)} steps")
+        expect(len(seats) > least, f"{len(seats)} seats are in the recording, of at least {least} threads and the daemon's own")
+    judged = "lawful" if build.judges_wide() else "not judged"
+    return f"{told}; {len(seats)} seats, {stage.entries} steps, {judged}"
+
+
+@test("raw recorded services")
+def recorded_services(build):
+    """Nobody is refused for being recorded: each service has a thread in the loop, and so has the manager."""
+    told = []
+    for count in (36, 300):
+        def programs(stage, count=count):
+            stage.manage()
+            return stage.run([build.raw("services"), str(count)], 180)
+        told.append(recorded(build, programs, count + 1))
+    return "; ".join(told)
+
+
+@test("raw recorded threads")
+def recorded_threads(build):
+    """200 threads of one process wait for a reply at once, with all that they do recorded."""
+    return recorded(build, lambda stage: stage.run([build.raw("seats"), "200", "200"]), 201)
 
 
 @test("raw recorded in time", timed=True)
