@@ -19,7 +19,7 @@
 #include <stdint.h>
 
 /* Goes up with each change of this file: a library of another build is refused. */
-#define PROTOCOL_VERSION 5u
+#define PROTOCOL_VERSION 6u
 
 /* The largest window, as the kernel's is. */
 #define WINDOW_MAX (4u << 20)
@@ -40,9 +40,10 @@ enum control_op {
     CONTROL_OPEN = 1,    /* the first of each: `device` */
     CONTROL_MAP,         /* mmap: `size`, `base`; answers the window's size and its memory */
     CONTROL_MAX_THREADS, /* BINDER_SET_MAX_THREADS: `size` */
-    CONTROL_THREAD,      /* answers the three descriptors of a thread: link, page, bell */
+    CONTROL_THREAD,      /* `size`: the thread's tid; answers the three descriptors of a thread: link, page, bell */
     CONTROL_LOOK,        /* whether `device` is there, for who doesn't open it */
     CONTROL_SPAM,        /* BINDER_ENABLE_ONEWAY_SPAM_DETECTION: `size`, 0 for off */
+    CONTROL_RING,        /* the latest steps of `device` (ring.h), for the daemon's own user: answers the memory's size, and the memory */
 };
 
 struct control_request {

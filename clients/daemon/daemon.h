@@ -3,7 +3,8 @@
  * daemon.h: what the files of the daemon share.
  *
  * The daemon has a thread that takes connections, and one for each device (handover.c). Each waits for all of its descriptors at
- * once (loop.c), and nothing that it does waits for a client. An engine stands behind each device name (engine.c); an open file is a
+ * once (loop.c), and nothing that it does waits for a client. A device that is recorded has one more, which writes the file and waits
+ * for the disk alone (recorder.c). An engine stands behind each device name (engine.c); an open file is a
  * process of it (processes.c), a client's thread one of its seats (threads.c, seats.c).
  */
 #ifndef HULLPIPPIN_DAEMON_H
@@ -227,8 +228,9 @@ void log_line(const char *format, ...) __attribute__((format(printf, 1, 2)));
 
 struct recorder;
 
-/* Writes a file anew, which begins with these bytes. NULL where it can't, which is told. The path is the caller's, and stays. */
-struct recorder *recorder_begin(const char *path, const void *front, size_t size);
+/* Writes a file anew, which begins with these bytes. NULL where it can't, which is told. The path is the caller's, and stays; the
+   file, which is open and doesn't wait, is the recorder's from then on, in either case. */
+struct recorder *recorder_begin(const char *path, int file, const void *front, size_t size);
 /* The bytes will be in the file behind all before them, a second later at most. False where the recording has broken off, which is
    told: then nothing may be appended any more. */
 bool recorder_append(struct recorder *recorder, const uint8_t *bytes, size_t size);
@@ -243,13 +245,14 @@ bool recorder_end(struct recorder *recorder, const void *front, size_t size);
 struct journal {
     struct recorder *recorder; /* NULL: there is no journal */
     const char *path;
+    uint32_t seats;
     uint8_t *entry;
     size_t room;
     bool has_broken_off;
 };
 
-/* Closed it has to be in either case. */
-bool journal_open(struct journal *journal, const char *path, hullpippin_live *live);
+/* Closed it has to be in either case. The file is the journal's from then on. */
+bool journal_open(struct journal *journal, const char *path, int file, hullpippin_live *live, uint32_t seats);
 /* Appends the latest step's entry. A journal that can't have it breaks off there, and has no more. */
 void journal_append(struct journal *journal, hullpippin_live *live);
 /* Puts the number of entries right, and closes the file. Whether it has all of them. */
@@ -292,6 +295,7 @@ void tickets_see_ended(struct tickets *tickets, hullpippin_live *live);
 /* --- engine.c: the engine of one device name. --- */
 
 struct daemon;
+struct device;
 
 /* How clients come to an engine's thread. */
 struct inbox {
@@ -347,7 +351,8 @@ struct engine {
 /* How many steps a history can have. */
 extern uint64_t history_most;
 
-struct engine *engine_new(struct daemon *daemon, const char *device, uint32_t seats, const char *journal);
+/* A device's engine. It takes over the file that its journal is to go to. */
+struct engine *engine_new(struct daemon *daemon, struct device *device);
 void engine_free(struct engine *engine);
 /* The last of its thread: puts the journal right, and tells what was done. */
 void engine_conclude(struct engine *engine);
@@ -749,7 +754,7 @@ void listener_end(struct daemon *daemon);
 struct device {
     char name[DEVICE_NAME_ROOM];
     const char *journal; /* NULL: none */
-    int journal_lock;    /* by which no other daemon writes it; -1: none */
+    int journal_file;    /* until the engine has it; with its lock, by which no other daemon writes it; -1: none */
     struct engine *engine; /* NULL: nobody has opened it yet */
 };
 

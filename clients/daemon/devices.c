@@ -15,9 +15,6 @@
 /* How often it is looked who has opened nothing, while there are such. */
 #define STRANGERS_SECONDS 1
 
-/* As many as a journal may have. */
-#define JOURNAL_SEATS 31u
-
 static struct device *find(struct daemon *daemon, const char *name, size_t length)
 {
     for (uint32_t i = 0; i < daemon->device_count; i++)
@@ -34,7 +31,7 @@ bool devices_add(struct daemon *daemon, const char *names)
             return false;
         struct device *device = &daemon->devices[daemon->device_count++];
         memcpy(device->name, names, length);
-        device->journal_lock = -1;
+        device->journal_file = -1;
         names += length + (names[length] == ',');
     }
     return daemon->device_count > 0;
@@ -52,19 +49,30 @@ bool devices_set_journal(struct daemon *daemon, const char *word)
 
 static bool begin(struct daemon *daemon, struct device *device)
 {
-    uint32_t seats = device->journal && daemon->seats > JOURNAL_SEATS ? JOURNAL_SEATS : daemon->seats;
-    device->engine = engine_new(daemon, device->name, seats, device->journal);
+    device->engine = engine_new(daemon, device);
     return device->engine != NULL;
 }
 
-/* Makes sure that a journal can be written, and tells which file it is; what is in it stays. */
-static bool look_at(struct device *device, struct stat *file)
+/* Why a journal can't be opened, which an errno alone doesn't tell of a pipe. */
+static const char *why_not_open(const char *path)
 {
-    device->journal_lock = open(device->journal, O_WRONLY | O_CREAT | O_CLOEXEC, 0666);
-    bool is_there = device->journal_lock >= 0 && fstat(device->journal_lock, file) == 0;
-    if (!is_there)
-        log_line("%s: %s", device->journal, strerror(errno));
-    return is_there;
+    int error = errno;
+    struct stat file;
+    bool is_pipe = error == ENXIO && stat(path, &file) == 0 && S_ISFIFO(file.st_mode);
+    return is_pipe ? "nobody reads this pipe" : strerror(error);
+}
+
+/* Opens a journal, once and for good, and tells which file it is; what is in it stays. Nobody is waited for: a pipe has its reader
+   already, or can't be had. */
+static bool open_journal(struct device *device, struct stat *file)
+{
+    int fd = device->journal_file = open(device->journal, O_WRONLY | O_CREAT | O_NONBLOCK | O_NOCTTY | O_CLOEXEC, 0666);
+    const char *why = fd < 0 ? why_not_open(device->journal) : fstat(fd, file) ? strerror(errno) : NULL;
+    if (!why && !S_ISREG(file->st_mode) && !S_ISFIFO(file->st_mode))
+        why = "it is neither a file nor a pipe";
+    if (why)
+        log_line("%s: %s", device->journal, why);
+    return !why;
 }
 
 static bool is_among(const struct stat *file, const struct stat *files, uint32_t count)
@@ -78,14 +86,14 @@ static bool is_among(const struct stat *file, const struct stat *files, uint32_t
 /* No other daemon writes it from now on. A file system without locks can't say so. */
 static bool lock(const struct device *device)
 {
-    if (flock(device->journal_lock, LOCK_EX | LOCK_NB) == 0 || errno != EWOULDBLOCK)
+    if (flock(device->journal_file, LOCK_EX | LOCK_NB) == 0 || errno != EWOULDBLOCK)
         return true;
     log_line("%s: another daemon writes this journal", device->journal);
     return false;
 }
 
 /* Before one journal is written anew, all have to be files of their own, by whatever names. */
-static bool look_at_journals(struct daemon *daemon)
+static bool open_journals(struct daemon *daemon)
 {
     struct stat files[DEVICES_MAX];
     uint32_t count = 0;
@@ -93,17 +101,13 @@ static bool look_at_journals(struct daemon *daemon)
         struct device *device = &daemon->devices[i];
         if (!device->journal)
             continue;
-        if (!look_at(device, &files[count]))
+        if (!open_journal(device, &files[count]))
             return false;
-        if (!S_ISREG(files[count].st_mode)) {
-            descriptor_close(&device->journal_lock);
-            continue;
-        }
         if (is_among(&files[count], files, count)) {
             log_line("%s: two devices can't have one journal", device->journal);
             return false;
         }
-        if (!lock(device))
+        if (S_ISREG(files[count].st_mode) && !lock(device))
             return false;
         count++;
     }
@@ -112,7 +116,7 @@ static bool look_at_journals(struct daemon *daemon)
 
 bool devices_begin(struct daemon *daemon)
 {
-    if (!look_at_journals(daemon))
+    if (!open_journals(daemon))
         return false;
     for (uint32_t i = 0; i < daemon->device_count; i++)
         if (daemon->devices[i].journal && !begin(daemon, &daemon->devices[i]))
@@ -159,6 +163,6 @@ void devices_end(struct daemon *daemon)
         if (device->engine)
             engine_free(device->engine);
         device->engine = NULL;
-        descriptor_close(&device->journal_lock);
+        descriptor_close(&device->journal_file);
     }
 }

@@ -23,7 +23,15 @@ static bool make_seats(struct engine *engine, uint32_t seats)
     return true;
 }
 
-struct engine *engine_new(struct daemon *daemon, const char *device, uint32_t seats, const char *journal)
+/* The journal's file is its recorder's from then on. */
+static bool begin_journal(struct engine *engine, struct device *device)
+{
+    int file = device->journal_file;
+    device->journal_file = -1;
+    return !device->journal || journal_open(&engine->journal, device->journal, file, &engine->live, engine->seats);
+}
+
+struct engine *engine_new(struct daemon *daemon, struct device *device)
 {
     struct engine *engine = calloc(1, sizeof *engine);
     if (!engine)
@@ -32,7 +40,7 @@ struct engine *engine_new(struct daemon *daemon, const char *device, uint32_t se
     engine->inbox.bell.fd = engine->loop.epoll = -1;
     void *bytes = mmap(NULL, sizeof(struct workbench), PROT_READ | PROT_WRITE, MAP_PRIVATE | MAP_ANONYMOUS | MAP_NORESERVE, -1, 0);
     engine->bench = bytes == MAP_FAILED ? NULL : bytes;
-    snprintf(engine->device, sizeof engine->device, "%s", device);
+    snprintf(engine->device, sizeof engine->device, "%s", device->name);
     list_begin(&engine->processes);
     list_begin(&engine->looked_at);
     list_begin(&engine->seatless);
@@ -40,8 +48,8 @@ struct engine *engine_new(struct daemon *daemon, const char *device, uint32_t se
     list_begin(&engine->reached);
     for (size_t i = 0; i < sizeof engine->by_pid / sizeof *engine->by_pid; i++)
         list_begin(&engine->by_pid[i]);
-    if (engine->bench && tickets_begin(&engine->tickets) && make_seats(engine, seats)
-        && hullpippin_live_new(seats, &engine->live) == HULLPIPPIN_DONE && (!journal || journal_open(&engine->journal, journal, &engine->live)) && engine_start(engine))
+    if (engine->bench && tickets_begin(&engine->tickets) && make_seats(engine, daemon->seats)
+        && hullpippin_live_new(engine->seats, &engine->live) == HULLPIPPIN_DONE && begin_journal(engine, device) && engine_start(engine))
         return engine;
     engine_free(engine);
     return NULL;
@@ -80,7 +88,6 @@ void engine_free(struct engine *engine)
 }
 
 uint64_t history_most = UINT32_MAX;
-
 
 /* Told when so many of a hundred steps that a history can have are made. */
 static const uint32_t warnings[] = {50, 90, 99};

@@ -37,7 +37,7 @@ static const char usage[] =
     "  --group GROUP           the socket's group, by its name or number (the daemon's own)\n"
     "  --devices NAME,..       the devices (" DEFAULT_DEVICES ")\n"
     "  --journal [NAME=]FILE   appends the history of a device, else of the first, to a new FILE\n"
-    "  --seats N               seats of a device, 2 to 65536 (16384); with a journal 31 at most\n"
+    "  --seats N               seats of a device, 2 to 65536 (16384)\n"
     "  --log FILE              log there, not on standard error; -v: all that happens\n"
     "  --background            return as soon as clients may come\n"
     "  --no-filter             don't have the kernel refuse what the daemon never asks of it\n"

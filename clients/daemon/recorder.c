@@ -15,6 +15,7 @@
 #include <stdlib.h>
 #include <string.h>
 #include <sys/mman.h>
+#include <sys/stat.h>
 #include <time.h>
 #include <unistd.h>
 
@@ -28,6 +29,9 @@
 #define ROOM_MILLISECONDS 1000
 /* At its end the daemon waits for so long for a disk that takes nothing. */
 #define END_MILLISECONDS 5000
+
+/* The thread writes, and has no memory of its own. */
+#define STACK_BYTES ((size_t)1 << 18)
 
 struct recorder {
     pthread_mutex_t lock; /* held for no longer than it takes to copy an entry, and never while anything is written */
@@ -54,12 +58,18 @@ static struct timespec later(long milliseconds)
     return time;
 }
 
-/* With the lock, as all that follow and take a recorder. */
-static void break_off(struct recorder *recorder, const char *why)
+/* Without the lock, since a log may wait for who reads it, and clients wait for the lock. */
+static void tell(const struct recorder *recorder, const char *why)
 {
-    if (!recorder->is_broken)
-        log_line("%s broke off: %s; `bplay check --cut` judges what is there", recorder->path, why);
+    log_line("%s broke off: %s; `bplay check --cut` judges what is there", recorder->path, why);
+}
+
+/* With the lock, as all that follow and take a recorder. Whether that is to be told. */
+static bool break_off(struct recorder *recorder)
+{
+    bool was_whole = !recorder->is_broken;
     recorder->is_broken = true;
+    return was_whole;
 }
 
 /* Waits until there is something to be written, or nothing comes any more. */
@@ -94,6 +104,17 @@ static void move_on(struct recorder *recorder, size_t size)
     pthread_cond_broadcast(&recorder->has_moved);
 }
 
+/* What isn't written yet never will be. */
+static void give_up(struct recorder *recorder, const char *why)
+{
+    bool is_to_tell = break_off(recorder);
+    move_on(recorder, recorder->count);
+    pthread_mutex_unlock(&recorder->lock);
+    if (is_to_tell)
+        tell(recorder, why);
+    pthread_mutex_lock(&recorder->lock);
+}
+
 /* Writes some of what is there, meanwhile without the lock. */
 static void write_some(struct recorder *recorder)
 {
@@ -105,12 +126,12 @@ static void write_some(struct recorder *recorder)
     if (written > 0)
         give_back(recorder, bytes, (size_t)written);
     pthread_mutex_lock(&recorder->lock);
-    if (written >= 0)
-        return move_on(recorder, (size_t)written);
-    if (error == EINTR)
-        return;
-    break_off(recorder, strerror(error));
-    move_on(recorder, recorder->count);
+    if (written > 0)
+        move_on(recorder, (size_t)written);
+    else if (written == 0)
+        give_up(recorder, "nothing of a write was taken");
+    else if (error != EINTR)
+        give_up(recorder, strerror(error));
 }
 
 static void *write_all(void *with)
@@ -150,24 +171,38 @@ static bool write_front(const struct recorder *recorder, const void *front, size
     return written == (ssize_t)size;
 }
 
+/* A file is written anew; a pipe isn't waited for, and is from then on. */
+static bool begin_file(const struct recorder *recorder, const void *front, size_t size)
+{
+    struct stat file;
+    if (fstat(recorder->file, &file) || (S_ISREG(file.st_mode) && ftruncate(recorder->file, 0)))
+        return false;
+    int flags = fcntl(recorder->file, F_GETFL);
+    return write_front(recorder, front, size) && flags >= 0 && fcntl(recorder->file, F_SETFL, flags & ~O_NONBLOCK) == 0;
+}
+
+static bool start_thread(struct recorder *recorder)
+{
+    pthread_attr_t attributes;
+    pthread_attr_init(&attributes);
+    pthread_attr_setstacksize(&attributes, STACK_BYTES);
+    errno = pthread_create(&recorder->thread, &attributes, write_all, recorder);
+    pthread_attr_destroy(&attributes);
+    return !errno;
+}
+
 static bool start(struct recorder *recorder, const void *front, size_t size)
 {
     void *ring = mmap(NULL, RING_ROOM, PROT_READ | PROT_WRITE, MAP_PRIVATE | MAP_ANONYMOUS | MAP_NORESERVE, -1, 0);
     recorder->ring = ring == MAP_FAILED ? NULL : ring;
-    if (!recorder->ring)
-        return false;
-    recorder->file = open(recorder->path, O_WRONLY | O_CREAT | O_TRUNC | O_CLOEXEC, 0666);
-    if (recorder->file < 0 || !write_front(recorder, front, size))
-        return false;
-    errno = pthread_create(&recorder->thread, NULL, write_all, recorder);
-    return !errno;
+    return recorder->ring && begin_file(recorder, front, size) && start_thread(recorder);
 }
 
-struct recorder *recorder_begin(const char *path, const void *front, size_t size)
+struct recorder *recorder_begin(const char *path, int file, const void *front, size_t size)
 {
     struct recorder *recorder = malloc(sizeof *recorder);
     if (recorder) {
-        *recorder = (struct recorder){.path = path, .file = -1, .lock = PTHREAD_MUTEX_INITIALIZER,
+        *recorder = (struct recorder){.path = path, .file = file, .lock = PTHREAD_MUTEX_INITIALIZER,
                                       .has_more = PTHREAD_COND_INITIALIZER, .has_moved = PTHREAD_COND_INITIALIZER};
         if (start(recorder, front, size))
             return recorder;
@@ -175,6 +210,8 @@ struct recorder *recorder_begin(const char *path, const void *front, size_t size
     log_line("%s: %s", path, strerror(errno));
     if (recorder)
         recorder_free(recorder);
+    else
+        descriptor_close(&file);
     return NULL;
 }
 
@@ -211,17 +248,20 @@ bool recorder_append(struct recorder *recorder, const uint8_t *bytes, size_t siz
     bool is_taken = has_room(recorder, size);
     if (is_taken)
         put(recorder, bytes, size);
-    else
-        break_off(recorder, "more comes than the disk takes");
+    bool is_to_tell = !is_taken && break_off(recorder);
     pthread_mutex_unlock(&recorder->lock);
+    if (is_to_tell)
+        tell(recorder, "more comes than the disk takes");
     return is_taken;
 }
 
 void recorder_break_off(struct recorder *recorder, const char *why)
 {
     pthread_mutex_lock(&recorder->lock);
-    break_off(recorder, why);
+    bool is_to_tell = break_off(recorder);
     pthread_mutex_unlock(&recorder->lock);
+    if (is_to_tell)
+        tell(recorder, why);
 }
 
 /* Waits until all is written, for as long as the disk takes something. */
@@ -251,10 +291,11 @@ bool recorder_end(struct recorder *recorder, const void *front, size_t size)
 {
     pthread_mutex_lock(&recorder->lock);
     bool is_done = await_end(recorder);
-    if (!is_done)
-        break_off(recorder, "the disk takes nothing");
+    bool is_to_tell = !is_done && break_off(recorder);
     bool is_whole = !recorder->is_broken;
     pthread_mutex_unlock(&recorder->lock);
+    if (is_to_tell)
+        tell(recorder, "the disk takes nothing");
     if (!is_done)
         return false; /* its thread is in a write, and may come back any time: nothing of it goes */
     pthread_join(recorder->thread, NULL);

@@ -15,9 +15,10 @@ import threading
 import time
 from contextlib import contextmanager
 
-from raw_tests import DEVICE
+from journals import Journal
+from raw_tests import DEVICE, refuses
 from stage import Stage, expect, tail
-from suite import test
+from suite import figures, test
 
 # seconds after which a step is in the file, as the daemon promises, and so long before a kill was answered what surely is there
 IN_TIME, SURELY = 1, 2
@@ -32,6 +33,8 @@ HEAVY = ["latency", "200", "262144"]
 FULL, SLOW, EACH = 8 << 20, 1 << 20, 0.02
 # the end of a daemon whose disk takes nothing, in seconds
 STUCK_END = 20
+# microseconds that a call may take during which one of its steps has waited for room as long as it may
+LONGEST_WAIT = 1_500_000
 
 
 def entries(build, path):
@@ -79,19 +82,21 @@ def kill_once(build, seconds):
         sure = dict(sure_marks(folder, killed - SURELY))
         lost = [mark for mark, times in sure.items() if there[mark] < times]
         stage.clear()
-    expect(not lost, f"of {len(sure)} calls answered {SURELY} s before the kill {len(lost)} aren't there: {lost[:3]}")
-    expect(count >= sum(sure.values()), f"{count} entries for {len(sure)} calls")
+    expect(build.untimed or not lost, f"of {len(sure)} calls answered {SURELY} s before the kill {len(lost)} aren't there: {lost[:3]}")
+    expect(build.untimed or count >= sum(sure.values()), f"{count} entries for {len(sure)} calls")
     return count, len(sure)
 
 
 @test("raw killed recordings")
 def killed_recordings(build):
-    """A daemon that is killed under load, at any moment, leaves a lawful recording, with all that was answered before."""
+    """A daemon that is killed under load, at any moment, leaves a lawful recording, with all that was answered before; how long
+    before that was, other work can spoil."""
     chance = random.Random(build.seed)
     found = [kill_once(build, chance.uniform(0, LONGEST)) for _ in range(build.kills)]
     counts, sure = zip(*found)
     expect(sum(sure) > 0, "no call was answered in time")
-    return f"{build.kills} killed: {min(counts)} to {max(counts)} entries, lawful, with all {sum(sure)} calls that had to be there"
+    of_them = "of" if build.untimed else "with all"
+    return f"{build.kills} killed: {min(counts)} to {max(counts)} entries, lawful, {of_them} {sum(sure)} calls that had to be there"
 
 
 def steps_of(stage):
@@ -99,7 +104,38 @@ def steps_of(stage):
     return int(re.search(rf"{DEVICE}: (\d+) steps", stage.daemon.printed())[1])
 
 
-@test("raw recorded in time")
+def recorded(build, programs, least):
+    """What programs print that run while a wide recording is made, in which so many threads have to have a seat at least."""
+    with Stage(build, journal=DEVICE, wide=True) as stage:
+        told = programs(stage)
+        stage.end()
+        with open(stage.journal, "rb") as file:
+            seats = Journal(file.read()).seats_used()
+        expect(stage.entries == steps_of(stage), f"{stage.entries} entries of {steps_of(stage)} steps")
+        expect(len(seats) > least, f"{len(seats)} seats are in the recording, of at least {least} threads and the daemon's own")
+    judged = "lawful" if build.judges_wide() else "not judged"
+    return f"{told}; {len(seats)} seats, {stage.entries} steps, {judged}"
+
+
+@test("raw recorded services")
+def recorded_services(build):
+    """Nobody is refused for being recorded: each service has a thread in the loop, and so has the manager."""
+    told = []
+    for count in (36, 300):
+        def programs(stage, count=count):
+            stage.manage()
+            return stage.run([build.raw("services"), str(count)], 180)
+        told.append(recorded(build, programs, count + 1))
+    return "; ".join(told)
+
+
+@test("raw recorded threads")
+def recorded_threads(build):
+    """200 threads of one process wait for a reply at once, with all that they do recorded."""
+    return recorded(build, lambda stage: stage.run([build.raw("seats"), "200", "200"]), 201)
+
+
+@test("raw recorded in time", timed=True)
 def recorded_in_time(build):
     """What was done is in the file a second later, whether little follows or nothing."""
     with Stage(build, journal=DEVICE) as stage:
@@ -118,6 +154,46 @@ def recorded_in_time(build):
         expect(found == steps_of(stage), f"{found} of {steps_of(stage)} steps are there after {IN_TIME} s")
         expect(stage.entries == found, f"{stage.entries} entries in the end, {found} before")
     return f"{early} entries while steps were made, all {found} after {IN_TIME} s"
+
+
+def wait_for_open(process):
+    """A program's first wait is the one for who opens the other end of the pipe that it reads."""
+    end = time.monotonic() + 10
+    words = []
+    while words[:1] != ["S"]:
+        expect(time.monotonic() < end, f"{process.args[0]} doesn't wait for its pipe")
+        time.sleep(0.005)
+        with open(f"/proc/{process.pid}/stat", encoding="ascii") as file:
+            name, words = (part.strip() for part in file.read().split("(", 1)[1].rsplit(")", 1))
+        words = words.split() if name == os.path.basename(process.args[0]) else []
+
+
+@test("raw piped recording")
+def piped_recording(build):
+    """A pipe takes a recording if somebody reads it, and no more is needed of the reader; where that goes, it breaks off."""
+    with tempfile.TemporaryDirectory(prefix="hullpippin-pipe-") as folder:
+        path, read = f"{folder}/pipe", f"{folder}/read"
+        words = ["--journal", f"{DEVICE}={path}"]
+        os.mkfifo(path)
+        refuses(build, ["--socket", f"{folder}/socket", *words], "nobody reads this pipe")
+        for is_read_on in (True, False):
+            with open(read, "wb") as file, subprocess.Popen(["cat", path], stdout=file) as reader:
+                try:
+                    wait_for_open(reader)
+                    with Stage(build, words=words) as stage:
+                        stage.run([build.raw("nested")])
+                        if not is_read_on:
+                            reader.kill()
+                            stage.run([build.raw("nested")])
+                            time.sleep(IN_TIME)
+                            broke_off_once(stage.daemon.printed(), "Broken pipe")
+                        said = end_with(stage, 0 if is_read_on else 1, 10)
+                        expect(not is_read_on or reader.wait(10) == 0, "cat reads on")
+                        found = entries(build, read)
+                        expect(not is_read_on or found == steps_of(stage), f"{found} of {steps_of(stage)} steps came: {tail(said)}")
+                finally:
+                    reader.kill()
+    return "all steps came out of it; without a reader no daemon begins, and where that goes the recording breaks off"
 
 
 @contextmanager
@@ -204,6 +280,18 @@ def stuck_recording(build):
     return f"{found} entries, lawful, and calls went on ({told}); a daemon whose disk takes nothing ended after {took:.1f} s"
 
 
+@test("raw longest recorded step", timed=True)
+def longest_recorded_step(build):
+    """Of a recording that a stuck disk breaks off one step waits, for a second."""
+    with into_pipe(build) as (stage, _):
+        told = stage.run([build.raw(HEAVY[0]), *HEAVY[1:]], 40)
+        broke_off_once(stage.daemon.printed(), "more comes than the disk takes")
+        stage.clear()
+    longest = figures(told)["longest"]
+    expect(IN_TIME * 0.9e6 < longest < LONGEST_WAIT, f"the longest call took {longest / 1e6:.2f} s: {told}")
+    return f"the longest call took {longest / 1e6:.2f} s"
+
+
 @test("raw full recording")
 def full_recording(build):
     """On a full disk the recording breaks off, and what there is of it is lawful; clients notice nothing."""
@@ -217,7 +305,51 @@ def full_recording(build):
         found = entries(build, stage.journal)
         expect(0 < found < steps_of(stage), f"{found} of {steps_of(stage)} steps are there")
     with tempfile.TemporaryDirectory(prefix="hullpippin-full-") as folder:
-        words = [build.daemon, "--socket", f"{folder}/socket", "--journal", "/dev/full"]
-        done = subprocess.run(words, capture_output=True, text=True, env={**os.environ, **build.environment}, timeout=20)
-    expect(done.returncode == 1 and "/dev/full: No space left" in done.stderr, f"on a full disk it begins: {tail(done.stderr)}")
+        refuses(build, ["--socket", f"{folder}/socket", "--journal", f"{folder}/journal"], "No space left",
+                lambda: resource.setrlimit(resource.RLIMIT_FSIZE, (1, 1)))
     return f"{found} entries, lawful, and calls went on ({told})"
+
+
+@test("raw untaken recording")
+def untaken_recording(build):
+    """A disk that takes nothing of a write, and says no more than that, breaks the recording off."""
+    with Stage(build, journal=DEVICE, daemon=build.short, daemon_environment={"SHORT_OF_DISK": "1"}) as stage:
+        stage.run([build.raw("nested")])
+        time.sleep(IN_TIME)
+        broke_off_once(stage.daemon.printed(), "nothing of a write was taken")
+        broke_off_once(end_with(stage, 1, STUCK_END), "nothing of a write was taken")
+        found = entries(build, stage.journal)
+        expect(found == 0, f"{found} entries are in what was never written")
+    return "it broke off, and the daemon ended"
+
+
+@test("raw unread log")
+def unread_log(build):
+    """Where nobody reads the log, clients don't wait while the recorder tells that the recording has broken off."""
+    with tempfile.TemporaryDirectory(prefix="hullpippin-log-") as folder:
+        path = f"{folder}/log"
+        os.mkfifo(path)
+        end = os.open(path, os.O_RDWR | os.O_NONBLOCK)
+        try:
+            with Stage(build, journal=DEVICE, words=["--log", path]) as stage:
+                while fill(end):
+                    pass
+                resource.prlimit(stage.daemon.pid, resource.RLIMIT_FSIZE, (FULL, FULL))
+                told = stage.run([build.raw(HEAVY[0]), *HEAVY[1:]], 30)
+                said = os.read(end, SLOW)
+                expect(b"broke off" not in said, "the log had room")
+                os.set_blocking(end, True)
+                while b"broke off" not in said:
+                    said = os.read(end, SLOW)
+                end_with(stage, 1)
+        finally:
+            os.close(end)
+    return f"calls went on ({told})"
+
+
+def fill(end):
+    """Puts something more into a pipe; whether there was room."""
+    try:
+        return os.write(end, b"x" * 4096) > 0
+    except BlockingIOError:
+        return False
