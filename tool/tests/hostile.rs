@@ -31,7 +31,10 @@ const WORDS: [&[&str]; 10] = [
 fn journals() -> Vec<Vec<u8>> {
     let root = concat!(env!("CARGO_MANIFEST_DIR"), "/../");
     let files = ["tools/data/two_hundred.journal", "bench/journals/w3a.journal", "bench/journals/w4b.journal"];
-    files.iter().map(|it| std::fs::read(format!("{root}{it}")).expect(it)).collect()
+    let mut journals: Vec<_> = files.iter().map(|it| std::fs::read(format!("{root}{it}")).expect(it)).collect();
+    let wide = Journal { bytes: journals[0].clone(), count: entries(&journals[0]).len() as u32 }.widened(200);
+    journals.push(wide.bytes);
+    journals
 }
 
 fn judge(words: &[&str], bytes: &[u8], name: &str) {
@@ -117,7 +120,7 @@ fn entries_that_do_not_follow() {
     for (index, bytes) in journals().iter().enumerate() {
         let entries = entries(bytes);
         for turn in 0..20 {
-            let mut mixed = bytes[..16].to_vec();
+            let mut mixed = bytes[..heading_size(bytes)].to_vec();
             for _ in 0..entries.len() {
                 mixed.extend(entries[numbers.below(entries.len())]);
             }
@@ -129,7 +132,7 @@ fn entries_that_do_not_follow() {
 fn entries(bytes: &[u8]) -> Vec<&[u8]> {
     let number = |at: usize| u32::from_le_bytes(bytes[at..at + 4].try_into().expect("four")) as usize;
     let mut found = Vec::new();
-    let mut at = 16;
+    let mut at = heading_size(bytes);
     while at < bytes.len() {
         let answer = at + 8 + number(at + 4);
         let end = answer + 4 + number(answer);

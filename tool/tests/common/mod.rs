@@ -102,10 +102,29 @@ pub struct Journal {
     pub count: u32,
 }
 
+/// How long the heading of a journal is: the third version counts entries in eight bytes.
+pub fn heading_size(bytes: &[u8]) -> usize {
+    if bytes.starts_with(b"BNDJ0003") {
+        20
+    } else {
+        16
+    }
+}
+
 impl Journal {
     pub fn new(mark: &str, seats: u32) -> Journal {
-        let bytes = [mark.as_bytes(), &seats.to_le_bytes(), &0u32.to_le_bytes()].concat();
+        let mut bytes = [mark.as_bytes(), &seats.to_le_bytes()].concat();
+        bytes.resize(heading_size(&bytes), 0);
         Journal { bytes, count: 0 }
+    }
+
+    /// The same entries in the third version, of so many seats.
+    pub fn widened(&self, seats: u32) -> Journal {
+        let mut wide = Journal::new("BNDJ0003", seats);
+        wide.bytes.extend(&self.bytes[heading_size(&self.bytes)..]);
+        wide.count = self.count;
+        wide.says(self.count);
+        wide
     }
 
     pub fn entry(&mut self, seat: u32, step: &[u8], answer: &[u8]) -> &mut Journal {
@@ -116,9 +135,14 @@ impl Journal {
         self.says(self.count)
     }
 
-    /// Has the heading say so many entries.
+    /// Has the heading say so many entries; u32::MAX: that they are still written.
     pub fn says(&mut self, count: u32) -> &mut Journal {
+        let is_wide = heading_size(&self.bytes) == 20;
+        let high = if count == u32::MAX { count } else { 0 };
         self.bytes[12..16].copy_from_slice(&count.to_le_bytes());
+        if is_wide {
+            self.bytes[16..20].copy_from_slice(&high.to_le_bytes());
+        }
         self
     }
 
