@@ -93,7 +93,7 @@ enum {
     HULLPIPPIN_NOT_WAITING = 3,     /* no request of this seat is handed over */
     HULLPIPPIN_TAKEN = 4,           /* serve: another seat has the engine */
     HULLPIPPIN_NO_SUCH_REQUEST = 5, /* post: there is no such kind of request; post, set_spam, live_set_spam: `on` is
-                                       neither 0 nor 1 */
+                                       neither 0 nor 1; again: none came back */
     HULLPIPPIN_SEAT_COUNT = 6,      /* new: the number of seats isn't 1 to 31; live_new: 1 to 65536 */
     HULLPIPPIN_NO_SEAT_LEFT = 7,    /* take_seat: all seats are taken */
     HULLPIPPIN_SEATS_AWAY = 8,      /* finish: a seat isn't back */
@@ -127,7 +127,7 @@ enum {
 
 /* Why a request comes back. */
 enum {
-    HULLPIPPIN_BACK_TAKEN = 1,        /* another seat has the engine: call again, or post */
+    HULLPIPPIN_BACK_TAKEN = 1,        /* another seat has the engine: hullpippin_again, or post */
     HULLPIPPIN_BACK_NO_MEMORY = 2,    /* the engine found no memory */
     HULLPIPPIN_BACK_HISTORY_FULL = 3, /* the history can take no more */
     HULLPIPPIN_BACK_WITHDRAWN = 4,    /* withdraw: nobody had picked it */
@@ -344,6 +344,11 @@ uint32_t hullpippin_exit_thread(hullpippin_seat *seat, hullpippin_answer *answer
 
 /* Ends the seat's process with all its threads. */
 uint32_t hullpippin_exit_process(hullpippin_seat *seat, hullpippin_answer *answer);
+
+/* Makes the request again that came back with the seat's latest answer, of these calls, hullpippin_collect or
+   hullpippin_withdraw. Its bytes needn't be there any more, and aren't copied anew. Also NO_SUCH_REQUEST, where that
+   answer wasn't BACK, or there was none, and nowhere else. */
+uint32_t hullpippin_again(hullpippin_seat *seat, hullpippin_answer *answer);
 
 /*
  * What the latest answer has besides its numbers. It stays until the seat's next answer, and can be fetched again.

@@ -64,7 +64,8 @@ pub const HULLPIPPIN_NOT_WAITING: u32 = 3;
 /// Serve: another seat has the engine.
 pub const HULLPIPPIN_TAKEN: u32 = 4;
 
-/// Post: there is no such kind of request; post, set_spam, live_set_spam: `on` is neither 0 nor 1.
+/// Post: there is no such kind of request; post, set_spam, live_set_spam: `on` is neither 0 nor 1; again: none came
+/// back.
 pub const HULLPIPPIN_NO_SUCH_REQUEST: u32 = 5;
 
 /// New: the number of seats isn't 1 to 31; live_new: 1 to 65536.
@@ -124,7 +125,7 @@ pub const HULLPIPPIN_AT_FAULT: u32 = 1;
 /// The last command that was run was refused: `number` is the cause, X1 to X16.
 pub const HULLPIPPIN_AT_CAUSE: u32 = 2;
 
-/// Another seat has the engine: call again, or post.
+/// Another seat has the engine: hullpippin_again, or post.
 pub const HULLPIPPIN_BACK_TAKEN: u32 = 1;
 
 /// The engine found no memory.
@@ -839,6 +840,11 @@ extern "C" {
 
     /// Ends the seat's process with all its threads.
     pub fn hullpippin_exit_process(seat: *mut hullpippin_seat, answer: *mut hullpippin_answer) -> u32;
+
+    /// Makes the request again that came back with the seat's latest answer, of these calls, hullpippin_collect or
+    /// hullpippin_withdraw. Its bytes needn't be there any more, and aren't copied anew. Also NO_SUCH_REQUEST, where
+    /// that answer wasn't BACK, or there was none, and nowhere else.
+    pub fn hullpippin_again(seat: *mut hullpippin_seat, answer: *mut hullpippin_answer) -> u32;
 
     /// Copies a part of what a read got to `out`, if all of it fits in `room` bytes, and else nothing. Answers how many
     /// bytes it has, 0 where the latest answer isn't GOT. Takes no memory.

@@ -17,6 +17,8 @@ pub enum Error {
     Taken,
     /// The number of seats isn't 1 to 31, or for a live engine 1 to 65536.
     SeatCount,
+    /// The seat's latest answer gave no request back.
+    NothingBack,
     /// All seats are taken.
     NoSeatLeft,
     /// A seat isn't back.
@@ -43,6 +45,7 @@ impl fmt::Display for Error {
             Error::NotWaiting => "no request is handed over",
             Error::Taken => "another seat has the engine",
             Error::SeatCount => "the number of seats is out of range",
+            Error::NothingBack => "no request came back",
             Error::NoSeatLeft => "all seats are taken",
             Error::SeatsAway => "a seat isn't back",
             Error::NoJournal => "there is no journal",
