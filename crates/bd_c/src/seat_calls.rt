@@ -132,10 +132,10 @@ pub extern "C" fn hullpippin_again(seat: &mut Handle, told: &mut Told) -> u32
         OverSeat seat.old.held seat.new.held (λ x y. AsksAgain x y s told.old told.new)) }
     ensures misuse { (IsSeat seat.old.held → ⊥) → IsMisuse result seat.old.held seat.new.held × (told.new ≡ told.old) }
 {
-    match seat.seat() {
-        Some(seat) => seat.again(told).number(),
-        None => Status::Misuse.number(),
-    }
+    let Some(seat) = seat.seat() else {
+        return Status::Misuse.number();
+    };
+    seat.again(told).number()
 }
 
 /// Copies a part of the bytes that the seat's latest call got, if all of them fit: 0 the returns, 1 the data, 2 the
