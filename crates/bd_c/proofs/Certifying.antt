@@ -1,5 +1,6 @@
 -- Certificates of a record's history, as C is told of them.
 use Rattle.std.proofs.Common.{◌≡◌, ℕ, List, Bool, false, refl, sym}
+use Rattle.std.proofs.lemmas.Bool.{false≢true}
 use Rattle.std.specs.Prelude.{[], ◌∷◌, Option, Some, None, is_some}
 use Rattle.bd_space.specs.declared.record.Record.{Record}
 use Rattle.bd_space.specs.Histories.{history_in, space_after}
@@ -14,7 +15,7 @@ is-chain r pid number (i ∷ is) chain = chain
 
 none-of : {T : Type 0} (m : Option T) → is_some m ≡ false → m ≡ None
 none-of None is = refl
-none-of (Some x) ()
+none-of (Some x) never = absurd (false≢true (sym never))
 
 pub no-chain : (r : Record) (pid number : ℕ) → is_some (named_by (space_after (history_in r)) pid number) ≡ false → IsChain r pid number []
 no-chain r pid number none = none-of (named_by (space_after (history_in r)) pid number) none

@@ -77,7 +77,8 @@ pub const HULLPIPPIN_NO_SEAT_LEFT: u32 = 7;
 /// Finish: a seat isn't back.
 pub const HULLPIPPIN_SEATS_AWAY: u32 = 8;
 
-/// Verdict: the bytes are no journal; journal, live_entry, live_heading: no journal spells it.
+/// Verdict, chain, call_of_reply, turns: the bytes are no journal; journal, live_entry, live_heading: no journal spells
+/// it.
 pub const HULLPIPPIN_NO_JOURNAL: u32 = 9;
 
 /// Live: the engine has no seat of that number.
@@ -91,6 +92,9 @@ pub const HULLPIPPIN_NO_COMMAND: u32 = 12;
 
 /// A handle isn't what the call is for: it is empty, or isn't where it has to be, or its driver has ended, or hasn't.
 pub const HULLPIPPIN_MISUSE: u32 = 13;
+
+/// Chain, call_of_reply, turns: the journal's entries aren't a history.
+pub const HULLPIPPIN_UNLAWFUL: u32 = 14;
 
 /// Collect, withdraw: it is still handed over.
 pub const HULLPIPPIN_HANDED: u32 = 0;
@@ -299,7 +303,7 @@ pub const HULLPIPPIN_NOTE_NONE_ASKED: u32 = 10;
 /// N11: no death was told with that cookie.
 pub const HULLPIPPIN_NOTE_NONE_TOLD: u32 = 11;
 
-/// HULLPIPPIN_DONE .. HULLPIPPIN_MISUSE.
+/// HULLPIPPIN_DONE .. HULLPIPPIN_UNLAWFUL.
 pub const HULLPIPPIN_TEXT_STATUS: u32 = 1;
 
 /// HULLPIPPIN_FAULT_SHORT_COMMAND ..
@@ -393,6 +397,21 @@ pub struct hullpippin_verdict_on {
     pub lawful: bool,
     /// How many of them are one, from the first on: all of them where it is lawful.
     pub entries: usize,
+}
+
+/// No place of a step: none has so many before it.
+pub const HULLPIPPIN_NO_PLACE: u32 = 0xffffffff;
+
+/// A one-way call on an object, by places of steps.
+#[repr(C)]
+#[derive(Clone, Copy, Debug, Default, PartialEq, Eq)]
+pub struct hullpippin_turn {
+    /// Its BC_TRANSACTION.
+    pub made: u32,
+    /// The read that got its BR_TRANSACTION, or HULLPIPPIN_NO_PLACE.
+    pub handed: u32,
+    /// The step with which its buffer ended, or HULLPIPPIN_NO_PLACE.
+    pub ended: u32,
 }
 
 /// An object's identity.
@@ -788,6 +807,36 @@ extern "C" {
 
     /// Judges the bytes of a journal, by playing its entries again. Needs no driver. Also NO_MEMORY, NO_JOURNAL.
     pub fn hullpippin_verdict(journal: *const u8, size: usize, verdict: *mut hullpippin_verdict_on) -> u32;
+
+    /// How what a handle names in the end came to the live process with this pid: the places of the gifts, rising. The
+    /// first is by the object's owner, or asks for the context manager's by 0; each later one is by who received it
+    /// before; the last is to this process. None where there is no such process or it has no such handle, and nowhere
+    /// else.
+    pub fn hullpippin_chain(
+        journal: *const u8,
+        size: usize,
+        pid: u32,
+        handle: u32,
+        out: *mut u32,
+        room: usize,
+        count: *mut usize,
+    ) -> u32;
+
+    /// Which call is answered by the reply that the read at a place got, by the place of its BC_TRANSACTION:
+    /// HULLPIPPIN_NO_PLACE where no reply was read there, and nowhere else.
+    pub fn hullpippin_call_of_reply(journal: *const u8, size: usize, place: u32, call: *mut u32) -> u32;
+
+    /// The one-way calls on an object, in the order in which they were made. The object is the one that the step at
+    /// `place` made, or of several the one of this index, from 0.
+    pub fn hullpippin_turns(
+        journal: *const u8,
+        size: usize,
+        place: u32,
+        index: u32,
+        out: *mut hullpippin_turn,
+        room: usize,
+        count: *mut usize,
+    ) -> u32;
 
     /// Lets go of a driver, or of an ended one's history, and empties the handle. Seats that are away stay usable. Does
     /// nothing where it is empty.
