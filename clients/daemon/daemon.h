@@ -42,6 +42,7 @@
 /* Known further down. */
 struct process;
 struct thread;
+struct device;
 
 #define container_of(pointer, type, member) ((type *)(void *)((char *)(pointer) - offsetof(type, member)))
 
@@ -224,23 +225,45 @@ void log_event(const char *format, ...) __attribute__((format(printf, 1, 2)));
 /* A line that is always shown. */
 void log_line(const char *format, ...) __attribute__((format(printf, 1, 2)));
 
-/* --- recorder.c: a file that a thread of its own writes. --- */
+/* --- recorder.c: files that a thread of its own writes. --- */
+
+/* The files of a recording, in the order in which they are written: what stands beside a journal is there before that. */
+enum track { TRACK_TIMES, TRACK_WHO, TRACK_JOURNAL, TRACKS };
+
+struct span {
+    const void *bytes;
+    size_t size;
+};
 
 struct recorder;
 
-/* Writes a file anew, which begins with these bytes. NULL where it can't, which is told. The path is the caller's, and stays; the
-   file, which is open and doesn't wait, is the recorder's from then on, in either case. */
-struct recorder *recorder_begin(const char *path, int file, const void *front, size_t size);
-/* The bytes will be in the file behind all before them, a second later at most. False where the recording has broken off, which is
-   told: then nothing may be appended any more. */
-bool recorder_append(struct recorder *recorder, const uint8_t *bytes, size_t size);
+/* Writes files anew, each of which begins with these bytes; -1: there is none. NULL where it can't, which is told. The journal's path is
+   the caller's, and stays; the files, which are open and don't wait, are the recorder's then, and -1 here. */
+struct recorder *recorder_begin(const char *path, int files[TRACKS], const struct span fronts[TRACKS]);
+/* The bytes will be in the files behind all before them, a second later at most; those of no file aren't looked at. False where the
+   recording has broken off, which is told: then nothing may be appended any more. */
+bool recorder_append(struct recorder *recorder, const struct span spans[TRACKS]);
 /* It breaks off here, since what follows can't be had. */
 void recorder_break_off(struct recorder *recorder, const char *why);
-/* Waits until all is written, while the disk takes something, puts these bytes in the place of the first, and closes the file.
+/* Waits until all is written, while the disk takes something, puts these bytes in the place of the journal's first, and closes the files.
    Whether all of it is there. */
-bool recorder_end(struct recorder *recorder, const void *front, size_t size);
+bool recorder_end(struct recorder *recorder, struct span front);
 
-/* --- journal.c: the file that an engine's entries go to. --- */
+/* --- names.c: threads of clients by name. --- */
+
+#define COMM_ROOM 16
+
+struct name {
+    pid_t tid;            /* as the daemon's /proc has it; 0: it isn't known */
+    char comm[COMM_ROOM]; /* with a 0 behind it */
+};
+
+struct caller;
+
+/* How a thread of the caller's process is called now, which has told its tid. */
+void name_find(struct name *name, const struct caller *caller, uint64_t told);
+
+/* --- journal.c: the file that an engine's entries go to, with times and names beside it. --- */
 
 struct journal {
     struct recorder *recorder; /* NULL: there is no journal */
@@ -251,10 +274,12 @@ struct journal {
     bool has_broken_off;
 };
 
-/* Closed it has to be in either case. The file is the journal's from then on. */
-bool journal_open(struct journal *journal, const char *path, int file, hullpippin_live *live, uint32_t seats);
-/* Appends the latest step's entry. A journal that can't have it breaks off there, and has no more. */
-void journal_append(struct journal *journal, hullpippin_live *live);
+/* Makes the journal of a device; closed it has to be in either case. The files that it uses are -1 then. */
+bool journal_open(struct journal *journal, struct device *device, hullpippin_live *live, uint32_t seats);
+/* Appends the latest step's entry, and when it was made. A journal that can't have it breaks off there, and has no more. */
+void journal_append(struct journal *journal, hullpippin_live *live, uint64_t time);
+/* From the next step on the seat is that thread's of a process; NULL: nobody's. */
+void journal_note_seat(struct journal *journal, hullpippin_live *live, uint32_t seat, pid_t pid, const struct name *name);
 /* Puts the number of entries right, and closes the file. Whether it has all of them. */
 bool journal_close(struct journal *journal, hullpippin_live *live);
 
@@ -295,7 +320,6 @@ void tickets_see_ended(struct tickets *tickets, hullpippin_live *live);
 /* --- engine.c: the engine of one device name. --- */
 
 struct daemon;
-struct device;
 
 /* How clients come to an engine's thread. */
 struct inbox {
@@ -351,7 +375,7 @@ struct engine {
 /* How many steps a history can have. */
 extern uint64_t history_most;
 
-/* A device's engine. It takes over the file that its journal is to go to. */
+/* A device's engine, with its journal. */
 struct engine *engine_new(struct daemon *daemon, struct device *device);
 void engine_free(struct engine *engine);
 /* The last of its thread: puts the journal right, and tells what was done. */
@@ -550,7 +574,9 @@ struct thread {
     struct list in_process, in_watch, in_callers, in_polling, in_seatless;
     struct page *page;
     uint32_t freed;            /* how many of the page's frees were seen to */
+    uint64_t told_tid;
     uint32_t seat;
+    struct name name;          /* while it has a seat: how it was called when that was lent to it */
 
     bool is_looper;            /* in the loop */
     bool has_looped;           /* .. or was there before */
@@ -582,9 +608,9 @@ struct thread {
     struct sendings *sendings; /* NULL: it has read that all was taken that it has sent */
 };
 
-/* Makes a thread of the process. Tells its end of the link, its page and its bell, of which the first two are the
+/* Makes a thread of the process, which has told its tid. Tells its end of the link, its page and its bell, of which the first two are the
    caller's. */
-int thread_join(struct process *process, int fds[3]);
+int thread_join(struct process *process, uint64_t tid, int fds[3]);
 /* Ends the thread, also in the engine. */
 void thread_end(struct thread *thread);
 /* Lets go of a thread whose process has ended in the engine. */
@@ -754,7 +780,7 @@ void listener_end(struct daemon *daemon);
 struct device {
     char name[DEVICE_NAME_ROOM];
     const char *journal; /* NULL: none */
-    int journal_file;    /* until the engine has it; with its lock, by which no other daemon writes it; -1: none */
+    int files[TRACKS];   /* until its journal has them; with their locks, by which no other daemon writes them; -1: none */
     struct engine *engine; /* NULL: nobody has opened it yet */
 };
 

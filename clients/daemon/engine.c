@@ -23,12 +23,9 @@ static bool make_seats(struct engine *engine, uint32_t seats)
     return true;
 }
 
-/* The journal's file is its recorder's from then on. */
 static bool begin_journal(struct engine *engine, struct device *device)
 {
-    int file = device->journal_file;
-    device->journal_file = -1;
-    return !device->journal || journal_open(&engine->journal, device->journal, file, &engine->live, engine->seats);
+    return !device->journal || journal_open(&engine->journal, device, &engine->live, engine->seats);
 }
 
 struct engine *engine_new(struct daemon *daemon, struct device *device)
@@ -113,8 +110,9 @@ static int stepped(struct engine *engine, uint32_t status)
 {
     switch (status) {
     case HULLPIPPIN_DONE:
+        if (engine->journal.recorder)
+            journal_append(&engine->journal, &engine->live, nanoseconds());
         count_step(engine);
-        journal_append(&engine->journal, &engine->live);
         tickets_see_ended(&engine->tickets, &engine->live);
         return 0;
     case HULLPIPPIN_NO_MEMORY:

@@ -4,13 +4,14 @@
  * are, so that nobody takes a file that was cut off for a journal; the right number is put there at the end.
  *
  * An engine with more than 31 seats has a journal of version three, whose heading is longer (docs/FORMATS.md, "The journal"); the
- * entries are the same.
+ * entries are the same. Beside the journal of a file stand the times of its entries, and who had which seat ("Times and names" there).
  */
 #include "daemon.h"
 
 #include <endian.h>
 #include <stdlib.h>
 #include <string.h>
+#include <time.h>
 
 #define FIRST_ROOM 4096u
 #define HEADING_ROOM 32u
@@ -47,18 +48,58 @@ static size_t spell_heading(const struct journal *journal, hullpippin_live *live
     return is_there ? size : 0;
 }
 
-bool journal_open(struct journal *journal, const char *path, int file, hullpippin_live *live, uint32_t seats)
+/* What the file of times begins with. */
+struct times_front {
+    char mark[8];
+    uint64_t offset;
+};
+
+/* What CLOCK_MONOTONIC is behind CLOCK_REALTIME now, in nanoseconds. */
+static uint64_t realtime_offset(void)
+{
+    struct timespec now;
+    clock_gettime(CLOCK_REALTIME, &now);
+    return (uint64_t)now.tv_sec * 1000000000u + (uint64_t)now.tv_nsec - nanoseconds();
+}
+
+/* A name's bytes so that it is one word in a line, but for spaces: its length. The name has a 0 behind it, the text none. */
+static size_t escape(const char *name, char *text)
+{
+    size_t size = 0;
+    for (; *name; name++) {
+        if (*name < ' ' || *name > '~' || *name == '\\')
+            size += (size_t)sprintf(text + size, "\\x%02x", (unsigned char)*name);
+        else
+            text[size++] = *name;
+    }
+    return size;
+}
+
+/* The longest that a byte of a name becomes. */
+#define ESCAPED 4
+#define WHO_FRONT "HPWHO 1 "
+
+static bool begin(struct journal *journal, struct device *device, hullpippin_live *live)
 {
     uint8_t heading[HEADING_ROOM];
-    *journal = (struct journal){.path = path, .seats = seats, .room = FIRST_ROOM, .entry = malloc(FIRST_ROOM)};
-    size_t size = spell_heading(journal, live, GROWING, heading);
-    if (size && journal->entry) {
-        journal->recorder = recorder_begin(path, file, heading, size);
-    } else {
-        log_line("%s: no memory for its heading", path);
-        descriptor_close(&file);
+    char who[sizeof WHO_FRONT + ESCAPED * DEVICE_NAME_ROOM] = WHO_FRONT;
+    struct times_front times = {.offset = htole64(realtime_offset())};
+    size_t size = spell_heading(journal, live, GROWING, heading), length = strlen(who) + escape(device->name, who + strlen(who));
+    if (!size || !journal->entry) {
+        log_line("%s: no memory for its heading", journal->path);
+        return false;
     }
+    memcpy(times.mark, "HPTIMES1", sizeof times.mark);
+    who[length++] = '\n';
+    const struct span fronts[TRACKS] = {{&times, sizeof times}, {who, length}, {heading, size}};
+    journal->recorder = recorder_begin(journal->path, device->files, fronts);
     return journal->recorder != NULL;
+}
+
+bool journal_open(struct journal *journal, struct device *device, hullpippin_live *live, uint32_t seats)
+{
+    *journal = (struct journal){.path = device->journal, .seats = seats, .room = FIRST_ROOM, .entry = malloc(FIRST_ROOM)};
+    return begin(journal, device, live);
 }
 
 /* Makes room for so many bytes of an entry. */
@@ -85,12 +126,30 @@ static size_t fetch(struct journal *journal, hullpippin_live *live)
     return 0;
 }
 
-void journal_append(struct journal *journal, hullpippin_live *live)
+void journal_append(struct journal *journal, hullpippin_live *live, uint64_t time)
 {
     if (!journal->recorder || journal->has_broken_off)
         return;
+    uint64_t spelled = htole64(time);
     size_t size = fetch(journal, live);
-    journal->has_broken_off = !size || !recorder_append(journal->recorder, journal->entry, size);
+    const struct span spans[TRACKS] = {{&spelled, sizeof spelled}, {NULL, 0}, {journal->entry, size}};
+    journal->has_broken_off = !size || !recorder_append(journal->recorder, spans);
+}
+
+/* The longest line without its name: three numbers of ten digits, one of five, and what is between them. */
+#define LINE_ROOM (64 + ESCAPED * COMM_ROOM)
+
+void journal_note_seat(struct journal *journal, hullpippin_live *live, uint32_t seat, pid_t pid, const struct name *name)
+{
+    char line[LINE_ROOM];
+    uint32_t place = hullpippin_live_len(live);
+    if (!journal->recorder || journal->has_broken_off)
+        return;
+    size_t size = (size_t)(name ? sprintf(line, "%u %u %d %d ", place, seat, pid, name->tid) : sprintf(line, "%u %u -", place, seat));
+    size += name ? escape(name->comm, line + size) : 0;
+    line[size++] = '\n';
+    const struct span spans[TRACKS] = {{NULL, 0}, {line, size}, {NULL, 0}};
+    journal->has_broken_off = !recorder_append(journal->recorder, spans);
 }
 
 bool journal_close(struct journal *journal, hullpippin_live *live)
@@ -100,7 +159,7 @@ bool journal_close(struct journal *journal, hullpippin_live *live)
         uint8_t heading[HEADING_ROOM];
         uint32_t count = hullpippin_live_len(live);
         size_t size = spell_heading(journal, live, count, heading);
-        is_whole = recorder_end(journal->recorder, heading, size) && size;
+        is_whole = recorder_end(journal->recorder, (struct span){heading, size}) && size;
         if (is_whole)
             log_line("%s: %u entries", journal->path, count);
         else if (!size)

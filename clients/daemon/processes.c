@@ -297,7 +297,7 @@ static enum answered answer_control(struct process *process, const struct contro
         answer.error = set_spam(process, request->size != 0);
         break;
     case CONTROL_THREAD:
-        answer.error = thread_join(process, fds);
+        answer.error = thread_join(process, request->size, fds);
         answer.descriptors = answer.error ? 0 : 3;
         break;
     default:
