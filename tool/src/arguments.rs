@@ -1,9 +1,10 @@
 // SPDX-License-Identifier: Apache-2.0 OR MIT
 //! The words of the command line.
 use crate::out::When;
-use crate::play::Range;
+use crate::play::{Range, Spot};
 use crate::select::Selection;
 use crate::space::ObjectId;
+use crate::times::TimeWord;
 use clap::{Args, Parser, Subcommand, ValueEnum};
 
 /// Looks at recordings of Binder's transactions: what was sent, why it was refused, who holds what.
@@ -101,12 +102,12 @@ pub struct State {
     /// A journal, or - for standard input
     #[arg(value_name = "JOURNAL")]
     pub journal: String,
-    /// After so many entries, in place of all
-    #[arg(long, value_name = "PLACE")]
-    pub at: Option<u64>,
-    /// What differs between two places
-    #[arg(long, value_names = ["PLACE", "PLACE"], num_args = 2, conflicts_with_all = ["at", "format"])]
-    pub diff: Vec<u64>,
+    /// After so many entries, or those before a time, in place of all
+    #[arg(long, value_name = "PLACE|TIME")]
+    pub at: Option<Spot>,
+    /// What differs between two places or times
+    #[arg(long, value_names = ["PLACE|TIME", "PLACE|TIME"], num_args = 2, conflicts_with_all = ["at", "format"])]
+    pub diff: Vec<Spot>,
     /// Text for people, or a value of JSON a line
     #[arg(long, value_enum, default_value = "text")]
     pub format: Format,
@@ -120,9 +121,9 @@ pub struct Holders {
     /// The object, as `state` prints it
     #[arg(value_name = "PLACE.INDEX")]
     pub object: ObjectId,
-    /// After so many entries, in place of all
-    #[arg(long, value_name = "PLACE")]
-    pub at: Option<u64>,
+    /// After so many entries, or those before a time, in place of all
+    #[arg(long, value_name = "PLACE|TIME")]
+    pub at: Option<Spot>,
 }
 
 #[derive(Args)]
@@ -130,9 +131,9 @@ pub struct Leaks {
     /// A journal, or - for standard input
     #[arg(value_name = "JOURNAL")]
     pub journal: String,
-    /// After so many entries, in place of all
-    #[arg(long, value_name = "PLACE")]
-    pub at: Option<u64>,
+    /// After so many entries, or those before a time, in place of all
+    #[arg(long, value_name = "PLACE|TIME")]
+    pub at: Option<Spot>,
     /// How many are printed of each kind
     #[arg(long, value_name = "N", default_value_t = 20)]
     pub most: usize,
@@ -156,20 +157,28 @@ pub enum Form {
     Pcapng,
 }
 
-/// A range of places, where `--to` has another meaning.
+/// A range, where `--to` has another meaning.
 #[derive(Args, Clone, Copy, Debug)]
 pub struct Span {
     /// From this place on
     #[arg(long, value_name = "PLACE", default_value_t = 0)]
     from: u64,
-    /// Up to and without this place
-    #[arg(long, value_name = "PLACE")]
-    until: Option<u64>,
+    /// From this time on: 12:03:07.5, 2026-11-28T12:03:07.5, or +1.5 for seconds after the first entry
+    #[arg(long, value_name = "TIME")]
+    since: Option<TimeWord>,
+    /// Up to and without this place, or this time
+    #[arg(long, value_name = "PLACE|TIME")]
+    until: Option<Spot>,
 }
 
 impl Span {
     pub fn range(self) -> Range {
-        Range { from: self.from, to: self.until }
+        let (to, until) = match self.until {
+            Some(Spot::Place(place)) => (Some(place), None),
+            Some(Spot::Time(time)) => (None, Some(time)),
+            None => (None, None),
+        };
+        Range { from: self.from, to, since: self.since, until }
     }
 }
 

@@ -3,6 +3,7 @@
 #![warn(rust_2018_idioms)]
 
 mod arguments;
+mod beside;
 mod calls;
 mod codes;
 mod diagram;
@@ -25,6 +26,8 @@ mod source;
 mod space;
 mod state;
 mod stats;
+mod times;
+mod who;
 mod wrapped;
 
 use anyhow::{bail, Result};
@@ -38,26 +41,25 @@ use std::process::ExitCode;
 
 fn show(given: &Show, out: &mut Out, style: &Style) -> Result<()> {
     let mut player = Player::open(&given.journal, given.follow)?;
-    player.check(given.range)?;
-    player.jump(given.range.from)?;
-    while given.range.to.map_or(true, |to| player.source.place() < to) {
-        let (entry, space, facts) = match player.next(|| Ok(out.flush()?))? {
-            Some(next) => next,
-            None => {
-                out.flush()?;
-                return player.ended(given.range);
-            }
+    if given.selection.is_by_name() {
+        player.check_names()?;
+    }
+    let bounds = player.bounds(given.range)?;
+    player.jump(bounds.from)?;
+    player.each_within(&bounds, |seen| {
+        let (entry, space, facts) = match seen {
+            Some(seen) => seen,
+            None => return Ok(out.flush()?),
         };
-        if entry.place < given.range.from || !given.selection.wants(&entry, facts) {
-            continue;
+        if !given.selection.wants(entry, facts) {
+            return Ok(());
         }
         match given.format {
-            Format::Text => show::put_entry(&mut out.held, style, &entry, space, facts)?,
-            Format::Json => json::put_entry(&mut out.held, given.bytes, &entry, space, facts)?,
+            Format::Text => show::put_entry(&mut out.held, style, entry, space, facts)?,
+            Format::Json => json::put_entry(&mut out.held, given.bytes, entry, space, facts)?,
         }
-        out.pass()?;
-    }
-    Ok(())
+        Ok(out.pass()?)
+    })
 }
 
 fn state(given: &State, out: &mut Out) -> Result<()> {
@@ -66,10 +68,10 @@ fn state(given: &State, out: &mut Out) -> Result<()> {
         let (before, after) = (state::at(&given.journal, Some(before))?, state::at(&given.journal, Some(after))?);
         return Ok(state::put_difference(to, &before, &after)?);
     }
-    let space = state::at(&given.journal, given.at)?;
+    let player = state::at(&given.journal, given.at)?;
     match given.format {
-        Format::Text => Ok(state::put_text(to, &space)?),
-        Format::Json => state::put_json(to, &space),
+        Format::Text => Ok(state::put_text(to, &player)?),
+        Format::Json => state::put_json(to, &player),
     }
 }
 
@@ -86,7 +88,7 @@ fn explain(given: &Explain, out: &mut Out, style: &Style) -> Result<()> {
 }
 
 fn holders(given: &Holders, out: &mut Out) -> Result<()> {
-    holders::put_holders(&mut out.held, &state::at(&given.journal, given.at)?, given.object)
+    holders::put_holders(&mut out.held, &state::at(&given.journal, given.at)?.space, given.object)
 }
 
 fn export(given: &Export, out: &mut Out) -> Result<()> {
@@ -106,7 +108,9 @@ fn run(arguments: &Arguments, out: &mut Out) -> Result<()> {
         Word::State(given) => state(given, out),
         Word::Holders(given) => holders(given, out),
         Word::Leaks(given) => {
-            holders::put_leaks(&mut out.held, &mut Player::open(&given.journal, false)?, given.at, given.most)
+            let mut player = Player::open(&given.journal, false)?;
+            let at = given.at.map(|it| player.place(it)).transpose()?;
+            holders::put_leaks(&mut out.held, &mut player, at, given.most)
         }
         Word::Stats(given) => stats::stats(&mut Player::open(&given.journal, false)?, given.range, &mut out.held),
         Word::Slow(given) => {

@@ -113,6 +113,30 @@ fn bits_turned_in_an_index() {
     }
 }
 
+/// So is what lies beside a journal: times and names.
+#[test]
+fn bits_turned_beside_a_journal() {
+    let mut numbers = Numbers(5);
+    for turn in 0..60 {
+        let file = Recorded::registered("beside");
+        for kept in [&file.times, &file.who] {
+            let mut bytes = std::fs::read(&kept.0).expect("what was written");
+            for _ in 0..=numbers.below(3) {
+                let at = numbers.below(bytes.len());
+                bytes[at] ^= 1 << numbers.below(8);
+            }
+            if turn % 4 == 0 {
+                bytes.truncate(numbers.below(bytes.len()));
+            }
+            std::fs::write(&kept.0, bytes).expect("the file");
+        }
+        let done = run(&[WORDS[turn % WORDS.len()], &[file.path()]].concat());
+        let told = String::from_utf8_lossy(&done.stderr).into_owned();
+        assert!(done.status.success(), "{turn}: {:?} {told}", done.status);
+        assert!(told.lines().all(|it| it.starts_with("hullpippin: ")), "{turn}: {told}");
+    }
+}
+
 /// Entries in another order make sense one by one, and none together.
 #[test]
 fn entries_that_do_not_follow() {

@@ -217,6 +217,63 @@ impl Journal {
     }
 }
 
+/// 2026-11-28, 11:03:07 by universal time, and what the monotonic clock says then.
+pub const EPOCH: u64 = 1_795_863_787_000_000_000;
+pub const STARTED: u64 = 1_000_000_000;
+
+/// What the monotonic clock says after each step of a registration: the call at 4 is read 13.1 us later, and its reply 1.2 ms later.
+pub const CLOCKS: [u64; 9] = [
+    STARTED,
+    1_000_400_000,
+    1_000_900_000,
+    2_500_000_000,
+    4_000_000_000,
+    4_000_013_100,
+    4_000_050_000,
+    4_000_100_000,
+    4_001_200_000,
+];
+
+/// Who sits where in a registration.
+pub const WHO: &str = "HPWHO 1 binder\n0 0 100 100 manager\n3 1 200 215 Binder:200_1 x\n";
+
+/// The file with times that lies beside a journal.
+pub fn times(clocks: &[u64]) -> Vec<u8> {
+    let ahead = (EPOCH - STARTED).to_le_bytes();
+    [&b"HPTIMES1"[..], &ahead, &clocks.iter().flat_map(|it| it.to_le_bytes()).collect::<Vec<_>>()].concat()
+}
+
+/// A registration with times and names beside it.
+pub struct Recorded {
+    pub journal: Kept,
+    pub times: Kept,
+    pub who: Kept,
+}
+
+impl Recorded {
+    pub fn new(name: &str, journal: &Journal, clocks: &[u64], who: &str) -> Recorded {
+        let journal = journal.file(name);
+        let times = beside(&journal, "times", &times(clocks));
+        let who = beside(&journal, "who", who.as_bytes());
+        Recorded { journal, times, who }
+    }
+
+    pub fn registered(name: &str) -> Recorded {
+        Recorded::new(name, &Journal::registered(), &CLOCKS, WHO)
+    }
+
+    pub fn path(&self) -> &str {
+        self.journal.path()
+    }
+}
+
+/// Writes a file beside a journal.
+pub fn beside(journal: &Kept, suffix: &str, bytes: &[u8]) -> Kept {
+    let path = PathBuf::from(format!("{}.{suffix}", journal.path()));
+    fs::write(&path, bytes).expect("a file beside a journal");
+    Kept(path)
+}
+
 /// A file that goes with its name.
 pub struct Kept(pub PathBuf);
 
@@ -240,7 +297,7 @@ pub fn kept(name: &str, bytes: &[u8]) -> Kept {
 
 pub fn program() -> Command {
     let mut command = Command::new(env!("CARGO_BIN_EXE_hullpippin"));
-    command.env_remove("NO_COLOR").env_remove("PAGER").env_remove("HULLPIPPIN_PAGER");
+    command.env_remove("NO_COLOR").env_remove("PAGER").env_remove("HULLPIPPIN_PAGER").env("TZ", "UTC0");
     command
 }
 
