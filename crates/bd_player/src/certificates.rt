@@ -87,7 +87,7 @@ impl fmt::Display for Named {
 }
 
 /// How a process came to a name, if not as the object's owner.
-#[derive(Clone, Copy, Debug, PartialEq, Eq)]
+#[derive(Clone, Copy)]
 pub(crate) struct Gift {
     // The place of the step by which it did.
     place: u32,
