@@ -1,5 +1,6 @@
 /* SPDX-License-Identifier: Apache-2.0 OR MIT */
-/* The requests of a script (docs/FORMATS.md). Lines that have none, looks and what is handed over, are left out. */
+/* The requests of a script (docs/FORMATS.md), which is taken to be a good one. Lines that have none, looks and what is handed over, are
+   left out. */
 #ifndef HULLPIPPIN_STARVED_SCRIPT_H
 #define HULLPIPPIN_STARVED_SCRIPT_H
 
