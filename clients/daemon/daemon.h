@@ -576,6 +576,11 @@ void process_clear_secret(struct process *process, uint64_t place);
 int process_enter(struct process *process);
 int process_leave(struct process *process);
 
+/* --- state.c: what a device's processes and threads are at. --- */
+
+/* A page of that, from a place on that is 0 or what a page has told. */
+void state_tell(struct engine *engine, uint64_t from, struct state_page *page);
+
 /* --- threads.c: a thread of a client. --- */
 
 /* Descriptors of the latest parcel that the thread has read, and where their numbers go in the window. */
@@ -813,6 +818,11 @@ int listener_lock(struct daemon *daemon, const char *path);
 /* Lets clients come. */
 bool listener_begin(struct daemon *daemon);
 void listener_end(struct daemon *daemon);
+
+/* --- asking.c: what a daemon that runs tells of a device. Each prints that, or why it can't be had: a status. --- */
+
+int ask_stats(const char *path, const char *device);
+int ask_state(const char *path, const char *device);
 
 /* --- devices.c --- */
 

@@ -284,6 +284,15 @@ static int open_ring(struct process *process, const struct control_request *requ
 /* What came of a packet: there is nothing to be said to such a client; it was answered; or another thread has it. */
 enum answered { UNANSWERED, ANSWERED, GONE };
 
+static bool answer_state(struct process *process, const struct control_request *request)
+{
+    struct state_page page = {0};
+    page.error = !user_is_own(process->euid) ? EPERM : !process->engine ? EINVAL : 0;
+    if (!page.error)
+        state_tell(process->engine, request->size, &page);
+    return packet_send(process->control.fd, &page, sizeof page, NULL, 0, MSG_DONTWAIT);
+}
+
 /* Of a window and a thread the client has all alone but a thread's bell, which is the third; a ring stays here. */
 static void let_go_of_sent(struct process *process, uint32_t op, int *fds, uint32_t count)
 {
@@ -329,6 +338,8 @@ static enum answered answer_control(struct process *process, const struct contro
         answer.error = open_ring(process, request, &answer, fds);
         answer.descriptors = !answer.error;
         break;
+    case CONTROL_STATE:
+        return answer_state(process, request) ? ANSWERED : UNANSWERED;
     default:
         return UNANSWERED;
     }

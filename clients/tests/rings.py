@@ -2,6 +2,7 @@
 """What one can rely on of a device's ring (../ring.h): that its slots say what the steps were, whoever reads while they are written, and
 that nobody else sees it."""
 import os
+import re
 import shutil
 import struct
 import subprocess
@@ -14,6 +15,10 @@ from raw_tests import DEVICE
 from recordings import contents, neighbours
 from stage import Stage, expect, tail
 from suite import figures, test
+
+# what `--state` prints of a process and of a thread
+PROCESS = re.compile(r"proc (\d+) (.*): euid \d+, window \d+, \d+ threads, of .*")
+THREAD = re.compile(r"  thread (\d+) (.*): seat \d+(?:, .*)?")
 
 # as ring.h has them
 SLOT = struct.Struct("=QQQIIIIBBBBIIIIIIIIIIIQQQQQ16s240s")
@@ -196,6 +201,78 @@ def ring_counts(build):
     return f"{count} steps are counted as they were recorded"
 
 
+# what goes on while the state is told: services, and threads of one more process that wait in a read or for a reply
+SERVICES, THREADS = 40, 100
+CALLS = sum(i % 8 == 1 for i in range(THREADS))
+
+
+def asked(build, stage, words):
+    """What a daemon tells the program that asks it."""
+    environment = {**os.environ, **build.environment, "HULLPIPPIN_SOCKET": stage.socket}
+    done = subprocess.run([build.daemon, *words], env=environment, capture_output=True, text=True, timeout=20)
+    expect(done.returncode == 0, f"{words}: {tail(done.stderr)}")
+    return done.stdout
+
+
+def calls_in(lines):
+    return sum(", calls 1, the innermost from step " in it for it in lines)
+
+
+def threads_of(told):
+    """By pid and by tid what `--state` tells of processes, and of threads with their processes'."""
+    processes, threads, pid = {}, {}, None
+    for line in told.splitlines()[1:]:
+        found = PROCESS.fullmatch(line) or THREAD.fullmatch(line)
+        expect(found, f"a line of another kind: {line}")
+        if found.re is PROCESS:
+            pid = int(found[1])
+            processes[pid] = found
+        else:
+            expect(int(found[1]) not in threads, f"thread {found[1]} is told twice")
+            threads[int(found[1])] = pid, found
+    return processes, threads
+
+
+def wait_for_calls(build, stage, program):
+    """The lines of a program's threads once all its calls are on their way, or after some seconds; and all threads of the device."""
+    end = time.monotonic() + 10
+    while True:
+        _, threads = threads_of(asked(build, stage, ["--state", "/dev/vndbinder"]))
+        lines = [it[0] for pid, it in threads.values() if pid == program.pid]
+        if calls_in(lines) >= CALLS and len(lines) >= THREADS or time.monotonic() > end:
+            return lines, threads
+        time.sleep(0.1)
+
+
+def comm_of(pid, tid):
+    with open(f"/proc/{pid}/task/{tid}/comm", encoding="ascii") as file:
+        return file.read().rstrip("\n")
+
+
+@test("raw state")
+def state(build):
+    """What is told of processes and threads is what goes on, page after page; and of the counts those of the ring are told by name."""
+    with Stage(build, journal=DEVICE, wide=True) as stage:
+        manager = stage.manage()
+        running = [stage.start([build.manager("hello"), f"hello{i}"]).wait_for("ready") for i in range(SERVICES)]
+        other = {"RAW_DEVICE": "/dev/vndbinder"}
+        waiting = stage.start([build.raw("asleep"), str(THREADS)], environment=other).wait_for("ready", 30)
+        told, counted = (asked(build, stage, words) for words in (["--state", DEVICE], ["--stats", DEVICE]))
+        processes, threads = threads_of(told)
+        of_one, many_threads = wait_for_calls(build, stage, waiting)
+        wrong = [(tid, pid, line[2]) for tid, (pid, line) in {**threads, **many_threads}.items() if line[2] != comm_of(pid, tid)]
+        stage.end()
+        journal = Journal(contents(stage.journal))
+    expect(set(processes) == {manager.pid, *(it.pid for it in running)}, f"processes: {sorted(processes)}")
+    expect({pid for pid, _ in threads.values()} == set(processes) and not wrong, f"threads of {threads}, wrong names: {wrong}")
+    expect([pid for pid, it in processes.items() if "context manager" in it[0]] == [manager.pid], "another manager is told of")
+    expect(all("loops, waits" in it[0] for _, it in threads.values()), f"{[it[0] for _, it in threads.values()]}")
+    expect(len(of_one) >= THREADS and calls_in(of_one) == CALLS, f"{len(of_one)} threads, of which {calls_in(of_one)} call: {of_one[:3]}")
+    sent = sum(it.step[0] == COMMAND and said_by(it)["command"] & 0xff == BC_TRANSACTION for it in journal.entries)
+    expect(f"BC_TRANSACTION: {sent}\n" in counted and f"{SERVICES + 1} processes" in counted, counted)
+    return f"{len(processes)} processes and {len(threads) + len(many_threads)} threads, by their names"
+
+
 def as_user(user):
     return {"user": user, "group": user, "extra_groups": []} if user else {}
 
@@ -205,7 +282,9 @@ def follow(build, socket, user):
     words = [build.raw("follow"), DEVICE, "/dev/null", "0"]
     environment = {**os.environ, **build.environment, "HULLPIPPIN_SOCKET": socket}
     done = subprocess.run(words, env=environment, capture_output=True, text=True, timeout=20, **as_user(user))
-    return done.stdout.split("\n")[0] if done.returncode in (0, 2) else tail(done.stdout + done.stderr)
+    asked = subprocess.run([build.daemon, "--state", DEVICE, "--socket", socket], capture_output=True, text=True, timeout=20, **as_user(user))
+    may = (done.returncode, asked.returncode) == (0, 0)
+    return "ready" if may else f"{done.stdout.strip()}, {tail(asked.stderr)}"
 
 
 @test("raw ring users", plain_only=True)
@@ -232,5 +311,6 @@ def ring_users(build):
                     daemon.terminate()
                     said = daemon.communicate(timeout=10)[1].decode()
             expect(daemon.returncode == 0, f"the daemon ended with {daemon.returncode}: {tail(said)}")
-    expect(told == {0: ["ready", "no steps: EPERM", "no steps: EPERM"], NOBODY: ["ready", "ready", "no steps: EPERM"]}, f"{told}")
+    no = f"no steps: EPERM, hullpippind: {DEVICE}: Operation not permitted"
+    expect(told == {0: ["ready", no, no], NOBODY: ["ready", "ready", no]}, f"{told}")
     return "others are told EPERM"

@@ -45,8 +45,8 @@ void act_deaf(void)
     if (!hostile_connect(&hostile) || !hostile_open(&hostile, act_device()) || !hostile_map(&hostile, 65536))
         return;
     for (int i = 0; i < 20 * ROUNDS; i++) {
-        request.op = !below(4) ? CONTROL_THREAD : !below(4) ? CONTROL_RING : below(2) ? CONTROL_SPAM : CONTROL_MAX_THREADS;
-        request.size = below(2);
+        request.op = !below(4) ? CONTROL_THREAD : !below(4) ? CONTROL_STATE : below(2) ? CONTROL_SPAM : CONTROL_MAX_THREADS;
+        request.size = request.op == CONTROL_STATE ? odd_number() : below(2);
         if (!hostile_send(hostile.control, &request, sizeof request, 0))
             usleep(100);
     }

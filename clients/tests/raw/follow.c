@@ -18,7 +18,7 @@
 #include <unistd.h>
 
 /* How often the next slot is tried between two looks at what there is. */
-#define TRIES 8
+#define TRIES 32
 
 void descriptors_close(int *fds, uint32_t count)
 {
@@ -84,17 +84,20 @@ static void copy_step(const struct ring_heading *ring, uint64_t place, FILE *fil
         found->torn++;
 }
 
-/* Copies a step again and again while it is likely that the copy is spoiled. Of each the last copy that is called whole is kept. */
-static void try_step(const struct ring_heading *ring, uint64_t place, struct ring_slot *last, FILE *file, struct found *found)
+/* Copies a step again and again while it is likely that the copy is spoiled. Of those that are called whole the first of a step is kept
+   that is to come, and of the oldest the last: `tried` has it until there is another step's. */
+static void try_step(const struct ring_heading *ring, uint64_t place, bool is_to_come, struct ring_slot *tried, FILE *file,
+                     struct found *found)
 {
     struct ring_slot slot;
     for (int i = 0; i < TRIES; i++) {
         int copied = ring_copy(ring, place, &slot);
+        bool is_another = copied == 1 && tried->sequence != slot.sequence;
         found->torn += copied < 0;
-        if (copied == 1 && last->sequence && last->sequence != slot.sequence)
-            keep(last, file, found);
-        if (copied == 1)
-            *last = slot;
+        if (is_another && tried->sequence)
+            keep(tried, file, found);
+        if (is_another || (copied == 1 && !is_to_come))
+            *tried = slot;
     }
 }
 
@@ -111,8 +114,8 @@ static uint64_t copy_steps(const struct ring_heading *ring, uint64_t next, FILE 
     for (; next < count; next++)
         copy_step(ring, next, file, found);
     if (count >= ring->slot_count)
-        try_step(ring, count - ring->slot_count, &oldest, file, found);
-    try_step(ring, count, &newest, file, found);
+        try_step(ring, count - ring->slot_count, false, &oldest, file, found);
+    try_step(ring, count, true, &newest, file, found);
     return next;
 }
 
