@@ -103,19 +103,19 @@ struct ring_slot {
     uint64_t place;        /*  16: of the step in the history, as a journal counts its entries */
     uint32_t seat;         /*  24: 0 is the daemon's own, by which processes begin and end */
     uint32_t pid;          /*  28: of the client, as the daemon's /proc has it; of seat 0: the daemon's */
-    uint32_t tid;          /*  32: of its thread; 0 where that isn't known */
-    uint32_t process;      /*  36: the client's pid in the history. Of an Open or an Attach: the one that is opened or attached to */
+    uint32_t tid;          /*  32: of its thread; 0 where that isn't known, and of seat 0 */
+    uint32_t process;      /*  36: the client's pid in the history; of seat 0: that of the process which it opens or attaches to, or has last */
     uint8_t kind;          /*  40: enum ring_kind */
     uint8_t answer;        /*  41: enum ring_answer */
     uint8_t number;        /*  42: of the note, cause or fault */
-    uint8_t kept;          /*  43: how many bytes of the data are here: of a parcel with TF_CLEAR_BUF none */
-    uint32_t command;      /*  44: a command: its code, BC_ ..; a read: the code of the last return that it got, or 0 */
+    uint8_t kept;          /*  43: how many bytes of the data are here: of a parcel that is sent, but for one with TF_CLEAR_BUF */
+    uint32_t command;      /*  44: a command: its code, BC_ ..; a read: the code of the last return that it got, which a parcel's is, or 0 */
     uint32_t handle;       /*  48: that a call goes to, or that another command names */
     uint32_t code;         /*  52: of a call, as its sender or receiver has it; of an Open: the window's size */
     uint32_t flags;        /*  56: of a call or reply; of a SetSpam: what was set */
     uint32_t other;        /*  60: the pid in the history of who gets the call or reply that was taken, or has sent the one that is read */
     uint32_t call;         /*  64: the place of the step that has sent the two-way call that is read, or RING_NONE */
-    uint32_t object_place; /*  68: the object that a call that was taken goes to (as in `hullpippin show`, PLACE.INDEX), or RING_NONE */
+    uint32_t object_place; /*  68: the object that a call that was taken goes to, by the step that made it and an index; or RING_NONE */
     uint32_t object_index; /*  72 */
     uint32_t euid;         /*  76: of the sender that a read tells; of an Open: the process's */
     uint32_t limit;        /*  80: of a read */
@@ -126,8 +126,21 @@ struct ring_slot {
     uint64_t pointer;      /* 112: the `ptr` of an object: the target of a call that is read, or what a command or the last return names */
     uint64_t cookie;       /* 120: .. and its cookie; or a death notification's */
     char comm[RING_COMM];  /* 128: the thread's name as its seat was lent to it, 0 behind it; of seat 0: the daemon's */
-    uint8_t data[RING_DATA]; /* 144: the first bytes of the data */
+    uint8_t data[RING_DATA]; /* 144: the first bytes of the data. What is behind them is of another step */
 };
+
+/* Copies the step N. 1: that is it; 0: it isn't there yet; -1: it isn't any more. */
+static inline int ring_copy(const struct ring_heading *heading, uint64_t n, struct ring_slot *copy)
+{
+    const uint8_t *slots = (const uint8_t *)heading + heading->heading_size;
+    const struct ring_slot *slot = (const struct ring_slot *)(slots + n % heading->slot_count * heading->slot_size);
+    uint64_t wanted = 2 * n + 2, before = __atomic_load_n(&slot->sequence, __ATOMIC_ACQUIRE);
+    if (before < wanted)
+        return 0;
+    __builtin_memcpy(copy, slot, sizeof *copy);
+    __atomic_thread_fence(__ATOMIC_ACQUIRE);
+    return before == wanted && __atomic_load_n(&slot->sequence, __ATOMIC_RELAXED) == wanted ? 1 : -1;
+}
 
 _Static_assert(sizeof(struct ring_counts) == 1408 && sizeof(struct ring_heading) == 1600 && sizeof(struct ring_slot) == RING_SLOT,
                "the layout is what its version says");

@@ -13,6 +13,7 @@
 #include "hullpippin.h"
 #include "../packets.h"
 #include "../protocol.h"
+#include "../ring.h"
 
 #include <linux/android/binder.h>
 #include <pthread.h>
@@ -147,6 +148,8 @@ bool turns_is_over(const struct turns *turns);
 /* Whether it has made all the steps that it may, whatever time they took. */
 bool turns_has_made_steps(const struct turns *turns);
 uint64_t nanoseconds(void);
+/* What CLOCK_REALTIME is ahead of CLOCK_MONOTONIC now, in nanoseconds, modulo 2^64. */
+uint64_t realtime_offset(void);
 
 /* --- loop.c: one wait for all descriptors. --- */
 
@@ -198,8 +201,10 @@ enum { CONNECTION_DESCRIPTORS = 3, THREAD_DESCRIPTORS = 2, DOORBELL_DESCRIPTORS 
 
 struct account;
 
-/* So many seats are there for threads. */
+/* So many seats are there for threads. What is asked of the kernel for it is asked here. */
 void shares_begin(uint32_t seats);
+/* Whether it is the daemon's own user, or root. */
+bool user_is_own(uid_t uid);
 /* The account of a user's process, which is the caller's until it is let go of. NULL where there is no memory. */
 struct account *account_hold(uid_t uid, pid_t pid);
 void account_release(struct account *account);
@@ -317,6 +322,50 @@ struct ticket *ticket_take(struct tickets *tickets, uint32_t step);
 /* Frees those whose buffers have ended by the latest step. */
 void tickets_see_ended(struct tickets *tickets, hullpippin_live *live);
 
+/* --- windows.c: memory that only the daemon writes, as a process's window, which the client maps. --- */
+
+struct window {
+    uint8_t *at; /* NULL: not mapped yet */
+    uint64_t size;
+    uint64_t base; /* where the client sees it */
+    int fd;        /* until it has gone to the client, else -1 */
+};
+
+bool window_make(struct window *window, uint64_t size, uint64_t base);
+void window_free(struct window *window);
+
+/* --- ring.c: the latest steps, for whoever looks. --- */
+
+struct ring {
+    struct ring_heading *heading; /* NULL: there is none */
+    struct window memory;
+    uint32_t own_process;         /* that the daemon's own seat has opened or attached to last */
+};
+
+/* What a step was asked with. */
+struct step {
+    enum ring_kind kind;
+    uint32_t seat;
+    uint32_t pid;             /* open, attach */
+    uint32_t euid, window;    /* open */
+    uint32_t on;              /* set_spam */
+    uint32_t limit;           /* read */
+    const void *command;
+    const uint8_t *data;      /* of a command's parcel */
+    size_t data_size;
+};
+
+struct engine;
+
+bool ring_make(struct ring *ring, const char *device, uint32_t seats);
+/* The device makes no more steps. */
+void ring_conclude(struct ring *ring);
+void ring_free(struct ring *ring);
+/* So many seats are lent from now on. */
+void ring_count_lent(struct ring *ring, uint32_t lent);
+/* The engine, which has a ring, has made a step. */
+void ring_put(struct engine *engine, const struct step *step, uint64_t time);
+
 /* --- engine.c: the engine of one device name. --- */
 
 struct daemon;
@@ -334,7 +383,10 @@ struct engine {
     char device[DEVICE_NAME_ROOM];
     hullpippin_live live;
     struct journal journal;
+    struct ring ring;
     hullpippin_answer answer; /* of the latest step */
+    uint8_t returns[PAGE_RETURNS]; /* that it has read, if it is a read */
+    uint32_t returns_size;
     struct loop loop;
     pthread_t thread;
     bool has_thread;
@@ -356,6 +408,7 @@ struct engine {
 
     uint32_t seats;           /* seat 0 is the daemon's own, by which processes begin and end */
     struct thread **lent;     /* by seat: whose it is, or NULL */
+    uint32_t lent_count;
     uint32_t *free_seats;     /* a stack */
     uint32_t free_count;
     uint32_t *lost_seats;     /* a stack: no memory was there to end the engine's thread with that seat */
@@ -425,18 +478,6 @@ void seats_refuse(struct engine *engine);
 void seat_return(struct thread *thread);
 /* The same, where the thread's process has ended. */
 void seat_forget(struct thread *thread);
-
-/* --- windows.c: a process's window, which the client maps and only the daemon writes. --- */
-
-struct window {
-    uint8_t *at; /* NULL: not mapped yet */
-    uint64_t size;
-    uint64_t base; /* where the client sees it */
-    int fd;        /* until it has gone to the client, else -1 */
-};
-
-bool window_make(struct window *window, uint64_t size, uint64_t base);
-void window_free(struct window *window);
 
 /* --- descriptors.c: closing (packets.h has `descriptors_close`). --- */
 
@@ -534,6 +575,11 @@ void process_clear_secret(struct process *process, uint64_t place);
 /* The daemon's own seat has a thread of the process from the one to the other: 0 or an errno. */
 int process_enter(struct process *process);
 int process_leave(struct process *process);
+
+/* --- state.c: what a device's processes and threads are at. --- */
+
+/* A page of that, from a place on that is 0 or what a page has told. */
+void state_tell(struct engine *engine, uint64_t from, struct state_page *page);
 
 /* --- threads.c: a thread of a client. --- */
 
@@ -772,6 +818,11 @@ int listener_lock(struct daemon *daemon, const char *path);
 /* Lets clients come. */
 bool listener_begin(struct daemon *daemon);
 void listener_end(struct daemon *daemon);
+
+/* --- asking.c: what a daemon that runs tells of a device. Each prints that, or why it can't be had: a status. --- */
+
+int ask_stats(const char *path, const char *device);
+int ask_state(const char *path, const char *device);
 
 /* --- devices.c --- */
 

@@ -93,18 +93,18 @@ static bool can_lock(int fd)
     return flock(fd, LOCK_EX | LOCK_NB) == 0 || errno != EWOULDBLOCK;
 }
 
-/* Opens a file, once and for good; what is in it stays. Nobody is waited for: a pipe has its reader already, or can't be had. Why it
-   can't be had, or NULL. */
-static const char *open_file(const char *path, bool may_be_pipe, int *fd, struct opened *opened)
+/* Opens a file, once and for good; what is in it stays. Nobody is waited for: a pipe has its reader already, or can't be had. A name that
+   nobody has chosen is no link to somewhere else. Why it can't be had, or NULL. */
+static const char *open_file(const char *path, bool is_chosen, int *fd, struct opened *opened)
 {
     struct stat *file = &opened->files[opened->count];
-    *fd = open(path, O_WRONLY | O_CREAT | O_NONBLOCK | O_NOCTTY | O_CLOEXEC, 0666);
+    *fd = open(path, O_WRONLY | O_CREAT | O_NONBLOCK | O_NOCTTY | O_CLOEXEC | (is_chosen ? 0 : O_NOFOLLOW), 0666);
     if (*fd < 0)
         return why_not_open(path);
     if (fstat(*fd, file))
         return strerror(errno);
-    if (!S_ISREG(file->st_mode) && !(may_be_pipe && S_ISFIFO(file->st_mode)))
-        return may_be_pipe ? "it is neither a file nor a pipe" : "it is no file";
+    if (!S_ISREG(file->st_mode) && !(is_chosen && S_ISFIFO(file->st_mode)))
+        return is_chosen ? "it is neither a file nor a pipe" : "it is no file";
     if (is_among(file, opened))
         return "two devices can't have one journal, nor may one stand beside another's";
     if (S_ISREG(file->st_mode) && !can_lock(*fd))

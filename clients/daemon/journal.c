@@ -11,7 +11,6 @@
 #include <endian.h>
 #include <stdlib.h>
 #include <string.h>
-#include <time.h>
 
 #define FIRST_ROOM 4096u
 #define HEADING_ROOM 32u
@@ -53,14 +52,6 @@ struct times_front {
     char mark[8];
     uint64_t offset;
 };
-
-/* What CLOCK_MONOTONIC is behind CLOCK_REALTIME now, in nanoseconds. */
-static uint64_t realtime_offset(void)
-{
-    struct timespec now;
-    clock_gettime(CLOCK_REALTIME, &now);
-    return (uint64_t)now.tv_sec * 1000000000u + (uint64_t)now.tv_nsec - nanoseconds();
-}
 
 /* A name's bytes so that it is one word in a line, but for spaces: its length. The name has a 0 behind it, the text none. */
 static size_t escape(const char *name, char *text)

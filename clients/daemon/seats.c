@@ -7,17 +7,19 @@
 
 #include <errno.h>
 
-/* The seat is nobody's from now on. */
-static void give_back(struct engine *engine, uint32_t seat)
+/* The seat is a thread's from now on, or nobody's. */
+static void note(struct engine *engine, uint32_t seat, struct thread *thread)
 {
-    engine->lent[seat] = NULL;
-    journal_note_seat(&engine->journal, &engine->live, seat, 0, NULL);
+    engine->lent[seat] = thread;
+    engine->lent_count += thread ? 1u : -1u;
+    ring_count_lent(&engine->ring, engine->lent_count);
+    journal_note_seat(&engine->journal, &engine->live, seat, thread ? thread->process->pid : 0, thread ? &thread->name : NULL);
 }
 
 /* The thread has no seat any more, and nothing is to be looked at for it. */
 static void take_away(struct thread *thread)
 {
-    give_back(thread->process->engine, thread->seat);
+    note(thread->process->engine, thread->seat, NULL);
     thread->seat = NO_SEAT;
     thread->is_looper = false;
     thread->serving = thread->calling = thread->refusals = thread->completions = thread->untold = 0;
@@ -67,15 +69,14 @@ static bool attach(struct thread *thread, uint32_t seat)
     struct process *process = thread->process;
     struct engine *engine = process->engine;
     name_find(&thread->name, &process->caller, thread->told_tid);
-    journal_note_seat(&engine->journal, &engine->live, seat, process->pid, &thread->name);
-    engine->lent[seat] = thread;
+    note(engine, seat, thread);
     if (engine_attach(engine, seat, process->engine_pid)) {
-        give_back(engine, seat);
+        note(engine, seat, NULL);
         return false;
     }
     engine->free_count--;
     if (engine->answer.kind != HULLPIPPIN_OPENED) { /* a process has it that couldn't be ended for want of memory */
-        give_back(engine, seat);
+        note(engine, seat, NULL);
         lose(engine, seat);
         return false;
     }

@@ -244,6 +244,9 @@ def refused_beginnings(build):
         refuses(build, ["--socket", f"{folder}/socket", "--journal", old, "--journal", f"/dev/hwbinder={again}"], "two devices")
         for path, why in ((f"{folder}/none/new", "No such file"), (folder, "Is a directory"), ("/dev/null", "it is neither a file nor a pipe")):
             refuses(build, ["--socket", f"{folder}/socket", "--journal", old, "--journal", f"/dev/hwbinder={path}"], why)
+        os.symlink(old, f"{folder}/new.who")
+        refuses(build, ["--socket", f"{folder}/socket", "--journal", f"{folder}/new"], "new.who: Too many levels of symbolic links")
+        refuses(build, ["--socket", f"{folder}/socket", "--journal", taken, "--journal", f"/dev/hwbinder={taken}.times"], "two devices")
         with Stage(build, journal=DEVICE) as stage:  # whose journal is judged, so that it wasn't written anew either
             stage.run([build.raw("oneway")], 60)
             refuses(build, ["--socket", f"{folder}/socket", "--journal", stage.journal], "another daemon writes")
