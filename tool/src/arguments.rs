@@ -27,9 +27,9 @@ impl Arguments {
         matches!(&self.word, Word::Show(Show { follow: true, .. }))
     }
 
-    /// Whether what is printed is for a program, and no person would read it page by page.
+    /// Whether no person would read it page by page: it is for a program, or for who types.
     pub fn is_for_programs(&self) -> bool {
-        matches!(&self.word, Word::Export(_) | Word::Diagram(_))
+        matches!(&self.word, Word::Export(_) | Word::Diagram(_) | Word::Script(_) | Word::Repl { .. })
     }
 }
 
@@ -59,12 +59,45 @@ pub enum Word {
     Export(Export),
     /// Draws a recording as one page of HTML, with search, zoom and hiding
     Diagram(Diagram),
+    /// Turns a script with names into one for the player, or plays it
+    Script(Script),
+    /// Plays a script with names as one types it, and shows what comes of each line
+    Repl {
+        /// The player
+        #[arg(long, value_name = "BPLAY", default_value = "bplay")]
+        run: String,
+        /// How often a line that waits looks before it is given up
+        #[arg(long, value_name = "N", default_value_t = TURNS)]
+        turns: u32,
+    },
     /// Lays an index beside a journal, JOURNAL.index, by which --from and --at begin near their place
     Index {
         /// A journal
         #[arg(value_name = "JOURNAL")]
         journal: String,
     },
+}
+
+/// How often a line that waits looks before it is given up.
+const TURNS: u32 = 1000;
+
+#[derive(Args)]
+pub struct Script {
+    /// A script with names, or - for standard input
+    #[arg(value_name = "FILE")]
+    pub file: String,
+    /// Plays it with this player, and says whether what it expects holds
+    #[arg(long, value_name = "BPLAY")]
+    pub run: Option<String>,
+    /// How often a line that waits looks before it is given up
+    #[arg(long, value_name = "N", default_value_t = TURNS, requires = "run")]
+    pub turns: u32,
+    /// Writes the journal of the run there
+    #[arg(long, value_name = "OUT", requires = "run")]
+    pub journal: Option<String>,
+    /// Writes the script that it comes to there, - for standard output
+    #[arg(long, value_name = "OUT")]
+    pub emit: Option<String>,
 }
 
 #[derive(Args)]

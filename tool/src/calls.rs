@@ -71,7 +71,7 @@ impl Calls {
             Some(pid) => pid,
             None => return Vec::new(),
         };
-        let tid = facts.person.as_ref().map(|it| it.tid);
+        let tid = facts.person.as_ref().and_then(|it| it.tid);
         let doing = Doing { place: entry.place, seat: entry.seat, pid, tid, time: facts.time };
         match (&entry.step, &entry.answer) {
             (Step::Command { command, .. }, answer) => match command.record() {

@@ -155,7 +155,10 @@ impl Drawing<'_> {
         };
         self.life(entry, pid, facts.time)?;
         if let (Some(person), Some(lane)) = (&facts.person, self.live.get(&(pid, entry.seat))) {
-            self.lanes[*lane].name.get_or_insert_with(|| format!("{} {}", person.comm, person.tid));
+            self.lanes[*lane].name.get_or_insert_with(|| match person.tid {
+                Some(tid) => format!("{} {tid}", person.comm),
+                None => person.comm.to_string(),
+            });
         }
         Ok(())
     }

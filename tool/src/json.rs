@@ -153,7 +153,7 @@ struct Returned {
 #[derive(Serialize)]
 pub struct ToldPerson {
     pid: u32,
-    tid: u32,
+    tid: Option<u32>,
     comm: String,
 }
 

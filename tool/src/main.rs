@@ -20,6 +20,7 @@ mod parcel;
 mod play;
 mod record;
 mod refusals;
+mod script;
 mod select;
 mod show;
 mod source;
@@ -31,10 +32,11 @@ mod who;
 mod wrapped;
 
 use anyhow::{bail, Result};
-use arguments::{Arguments, Explain, Export, Form, Format, Holders, Show, State, Word};
+use arguments::{Arguments, Explain, Export, Form, Format, Holders, Script, Show, State, Word};
 use clap::Parser;
 use out::{Out, Palette};
 use play::Player;
+use script::Setting;
 use show::Style;
 use std::io;
 use std::process::ExitCode;
@@ -99,6 +101,12 @@ fn export(given: &Export, out: &mut Out) -> Result<()> {
     }
 }
 
+fn script(given: &Script, out: &mut Out) -> Result<()> {
+    let (player, journal) = (given.run.as_deref(), given.journal.as_deref());
+    let emit = given.emit.as_deref();
+    script::script(&script::Asked { path: &given.file, player, turns: given.turns, journal, emit }, &mut out.held)
+}
+
 fn run(arguments: &Arguments, out: &mut Out) -> Result<()> {
     let palette = Palette::new(arguments.color);
     let style = |bytes| Style { palette, bytes };
@@ -119,6 +127,8 @@ fn run(arguments: &Arguments, out: &mut Out) -> Result<()> {
         Word::Export(given) => export(given, out),
         Word::Diagram(given) => diagram::put(&mut Player::open(&given.journal, false)?, given.range, out),
         Word::Index { journal } => index::make(journal),
+        Word::Script(given) => script(given, out),
+        Word::Repl { run, turns } => script::repl(Setting { player: run.clone(), turns: *turns }, style(1024)),
     }
 }
 

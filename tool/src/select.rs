@@ -78,7 +78,7 @@ impl Selection {
     }
 
     fn names(&self, person: &Person) -> bool {
-        (self.tid.is_empty() || self.tid.contains(&person.tid))
+        (self.tid.is_empty() || person.tid.map_or(false, |it| self.tid.contains(&it)))
             && (self.comm.is_empty() || self.comm.iter().any(|it| **it == *person.comm))
     }
 

@@ -32,12 +32,10 @@ pub fn object_words(space: &Space, object: ObjectId) -> String {
 }
 
 /// Behind a pid or a seat: ` (tid 815 "sensors")`, and the system's pid where the history has another one.
-pub fn person_words(pid: u32, tid: u32, comm: &str, process: Option<u32>) -> String {
-    if process == Some(pid) {
-        format!(" (tid {tid} {comm:?})")
-    } else {
-        format!(" (pid {pid} tid {tid} {comm:?})")
-    }
+pub fn person_words(pid: u32, tid: Option<u32>, comm: &str, process: Option<u32>) -> String {
+    let pid = if process == Some(pid) { String::new() } else { format!("pid {pid} ") };
+    let tid = tid.map_or(String::new(), |it| format!("tid {it} "));
+    format!(" ({pid}{tid}{comm:?})")
 }
 
 /// A transaction's or a reply's code, with its letters.

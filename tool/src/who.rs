@@ -16,7 +16,8 @@ const MOST: u64 = 256;
 #[derive(Clone, Debug, PartialEq, Eq)]
 pub struct Person {
     pub pid: u32,
-    pub tid: u32,
+    /// None where the recorder doesn't know it.
+    pub tid: Option<u32>,
     pub comm: Rc<str>,
 }
 
@@ -27,7 +28,7 @@ pub struct Comms(HashMap<u32, Rc<str>>);
 impl Comms {
     pub fn learn(&mut self, facts: &Facts) {
         if let (Some(pid), Some(it)) = (facts.pid, &facts.person) {
-            if it.tid == it.pid {
+            if it.tid == Some(it.pid) {
                 self.0.insert(pid, it.comm.clone());
             } else {
                 self.0.entry(pid).or_insert_with(|| it.comm.clone());
@@ -85,8 +86,8 @@ fn change(line: &str) -> Option<Change> {
     }
     let (pid, rest) = rest.split_once(' ')?;
     let (tid, comm) = rest.split_once(' ')?;
-    let comm = unescaped(comm)?.into();
-    let person = Some(Person { pid: pid.parse().ok()?, tid: tid.parse().ok()?, comm });
+    let (pid, tid) = (pid.parse().ok()?, tid.parse().ok()?);
+    let person = Some(Person { pid, tid: Some(tid).filter(|it| *it != 0), comm: unescaped(comm)?.into() });
     Some(Change { place, seat, person })
 }
 
@@ -156,8 +157,9 @@ impl Who {
             Some(line) => line,
             None => {
                 self.is_over = !self.follows;
-                let is_cut = self.is_over && !self.line.is_empty();
-                ensure!(!is_cut, "{}: line {} broke off", self.path, self.number + 1);
+                if self.is_over && !self.line.is_empty() {
+                    eprintln!("hullpippin: {}: line {} broke off, and is left out", self.path, self.number + 1);
+                }
                 return Ok(None);
             }
         };
@@ -201,8 +203,13 @@ mod tests {
 
     #[test]
     fn lines_are_read() {
-        let person = Some(Person { pid: 812, tid: 815, comm: "Binder:812_1 x".into() });
+        let person = Some(Person { pid: 812, tid: Some(815), comm: "Binder:812_1 x".into() });
         assert_eq!(change("4 1 812 815 Binder:812_1 x"), Some(Change { place: 4, seat: 1, person }));
+        assert_eq!(
+            change("4 1 812 0 x").and_then(|it| it.person).map(|it| it.tid),
+            Some(None),
+            "a tid that isn't known"
+        );
         assert_eq!(change("9 1 -"), Some(Change { place: 9, seat: 1, person: None }));
         let strange = change(r"0 0 7 8 \x5c\x00\xc3\xa9").and_then(|it| it.person).expect("a person");
         assert_eq!(&*strange.comm, "\\\0é");

@@ -233,13 +233,25 @@ fn names_are_used_up_to_a_line_that_makes_no_sense() {
     for (lines, words) in [
         ("0 0 100 100 a\n4 x\n8 1 200 215 b\n", "line 3 makes no sense: \"4 x\""),
         ("4 0 100 100 a\n3 1 200 215 b\n", "line 3 makes no sense: \"3 1 200 215 b\""),
-        ("0 0 100 100 a\n4 1 200 2", "line 3 broke off"),
         (&format!("0 0 100 100 a\n4 1 200 215 {}\n", "b".repeat(256)), "line 3 is longer than any can be"),
     ] {
         let who = beside(&file, "who", format!("HPWHO 1 binder\n{lines}").as_bytes());
         let told = format!("hullpippin: {}: {words}; who sits where isn't known from there on\n", who.path());
         assert_eq!(said(&["show", file.path()]), told);
     }
+}
+
+/// As after a crash, which the journal need not have reached.
+#[test]
+fn a_line_that_broke_off_is_left_out() {
+    let file = Recorded::new("broken", &Journal::registered(), &CLOCKS, "HPWHO 1 binder\n0 0 100 0 a\n4 1 200 2");
+    let words = ["show", file.path(), "--bytes", "0"];
+    assert_eq!(said(&words), format!("hullpippin: {}: line 3 broke off, and is left out\n", file.who.path()));
+    let lines = String::from_utf8(run(&words).stdout).expect("text");
+    assert!(
+        lines.contains("seat 0 pid 100 (\"a\") read") && lines.contains("seat 1 pid 200 BC_TRANSACTION"),
+        "{lines}"
+    );
 }
 
 #[test]

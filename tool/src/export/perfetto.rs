@@ -228,7 +228,7 @@ impl Trace<'_> {
         self.clock = self.clock.map(|it| facts.time.map_or(it, |now| now.clock.max(it)));
         let person = facts.person.as_ref();
         let track = match facts.pid {
-            Some(pid) => (pid, person.map_or(entry.seat, |it| it.tid)),
+            Some(pid) => (pid, person.and_then(|it| it.tid).unwrap_or(entry.seat)),
             None => return Ok(()),
         };
         self.meet(track, person)?;
