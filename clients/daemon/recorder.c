@@ -272,12 +272,13 @@ static bool has_room(const struct recorder *recorder, const struct span spans[TR
     return has;
 }
 
-static void await_room(struct recorder *recorder, const struct span spans[TRACKS])
+static bool await_room(struct recorder *recorder, const struct span spans[TRACKS])
 {
     struct timespec until = later(ROOM_MILLISECONDS);
     int waited = 0;
     while (!has_room(recorder, spans) && !recorder->is_broken && waited != ETIMEDOUT)
         waited = pthread_cond_clockwait(&recorder->has_moved, &recorder->lock, CLOCK_MONOTONIC, &until);
+    return has_room(recorder, spans);
 }
 
 /* There is room, and a file. */
@@ -292,20 +293,21 @@ static void put(struct output *track, struct span span)
 /* There is room. The thread is told of the first bytes, and once there is a piece. */
 static void put_all(struct recorder *recorder, const struct span spans[TRACKS])
 {
-    size_t before = waiting(recorder);
-    for (size_t i = 0; i < TRACKS; i++)
-        if (spans[i].size && recorder->tracks[i].file >= 0)
-            put(&recorder->tracks[i], spans[i]);
-    if (!before || (before < PIECE && waiting(recorder) >= PIECE))
+    size_t before = waiting(recorder), after = before;
+    for (size_t i = 0; i < TRACKS; i++) {
+        if (!spans[i].size || recorder->tracks[i].file < 0)
+            continue;
+        put(&recorder->tracks[i], spans[i]);
+        after += spans[i].size;
+    }
+    if (!before || (before < PIECE && after >= PIECE))
         pthread_cond_signal(&recorder->has_more);
 }
 
 bool recorder_append(struct recorder *recorder, const struct span spans[TRACKS])
 {
     pthread_mutex_lock(&recorder->lock);
-    if (!has_room(recorder, spans))
-        await_room(recorder, spans);
-    bool is_taken = has_room(recorder, spans);
+    bool is_taken = has_room(recorder, spans) || await_room(recorder, spans);
     if (is_taken)
         put_all(recorder, spans);
     bool is_to_tell = !is_taken && break_off(recorder);
