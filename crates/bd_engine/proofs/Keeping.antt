@@ -6,7 +6,6 @@ use Rattle.std.proofs.lemmas.List.{get_or_push}
 use Rattle.std.proofs.lemmas.List.Folds.{list_all-append}
 use Rattle.std.proofs.Math.Seq.{set-append_seam, take-append_seam}
 use Rattle.std.proofs.lemmas.Bool.{lt-ltb, leb-false}
-use Rattle.bd_uapi.specs.Limits.{most_seats}
 use Rattle.bd_space.specs.declared.step.Step.{Step}
 use Rattle.bd_space.specs.declared.step.StepAnswer.{StepAnswer}
 use Rattle.bd_space.specs.declared.step.Entry.{Entry}
@@ -19,7 +18,6 @@ use Rattle.bd_step.specs.declared.tables.Tables.{Tables}
 use Rattle.bd_step.specs.Stands.{Before, Within}
 use Rattle.bd_engine.specs.declared.live.Live.{Live}
 use Rattle.bd_engine.specs.Follows.{Follows}
-use Rattle.bd_engine.specs.Keeps.{Keeps}
 use Rattle.bd_objects.proofs.Fitting.{numbers-fit}
 use Rattle.bd_laws.proofs.Machine.Steps.{always-steps}
 
@@ -117,10 +115,9 @@ more-is h seat x e n es seat_is step_is seats grown =
     ∙ ap (λ (y : Step). let r : Entry = record { seat = seat; step = y; answer = e.answer } in r) step_is in
     ap (history_of n) (grown ∙ ap (λ (y : Entry). h.entries ++ y ∷ []) entry) ∙ ap (λ m. history_of m (extended h seat x e.answer).entries) seats
 
-pub keeps-more : (h : History) (new : Live) (seat : ℕ) (x : Step) (e : Entry) (n : ℕ) (es : List Entry) → h.seats ≤ most_seats → e.seat ≡ seat → e.step ≡ x
-    → Follows new (extended h seat x e.answer) → n ≡ h.seats → es ≡ h.entries ++ e ∷ [] → Keeps (history_of n es) new
-keeps-more h new seat x e n es few seat_is step_is follows seats grown =
-    subst (λ (z : History). Keeps z new) (sym (more-is h seat x e n es seat_is step_is seats grown)) (record { few = few; follows = follows })
+pub follows-entered : (h : History) (new : Live) (seat : ℕ) (x : Step) (e : Entry) (n : ℕ) (es : List Entry) → e.seat ≡ seat → e.step ≡ x
+    → Follows new (extended h seat x e.answer) → n ≡ h.seats → es ≡ h.entries ++ e ∷ [] → Follows new (history_of n es)
+follows-entered h new seat x e n es seat_is step_is follows seats grown = subst (Follows new) (sym (more-is h seat x e n es seat_is step_is seats grown)) follows
 
 -- an entry that was put last, before its step is made
 module _ (es pushed : List Entry) (blank : Entry) (at : ℕ) (grown : pushed ≡ es ++ blank ∷ []) (last : at ≡ length es) where

@@ -1,5 +1,5 @@
 -- A run of one step, and a write of none.
-use Rattle.std.proofs.Common.{◌≡◌, ℕ, List, [], ◌∷◌, length, Some, Result, Ok, Err, IfErr, refl, sym, ap, subst, ◌∙◌, inl, ◌<◌, true, ltb, arith}
+use Rattle.std.proofs.Common.{◌≡◌, ℕ, List, [], ◌∷◌, length, Some, Result, Ok, Err, IfOk, IfErr, OnErr, refl, sym, ap, subst, ◌∙◌, inl, ◌<◌, true, ltb, arith}
 use Rattle.std.proofs.lemmas.Bool.{lt-ltb}
 use Rattle.std.proofs.lemmas.List.{append-nil}
 use Rattle.bd_uapi.specs.declared.fault.Fault.TheVariants.{StreamTooLong}
@@ -16,6 +16,7 @@ use Rattle.bd_space.specs.Histories.{History, space_after, extended, is_at_limit
 use Rattle.bd_space.specs.Writes.{Run, write}
 use Rattle.bd_space.specs.Runs.{run, single, answered, IsRun, HasRun, HasEntry, IsAtLimit}
 use Rattle.bd_step.specs.declared.why.Why.{Why}
+use Rattle.bd_engine.specs.declared.run.Ran.{Ran}
 use Rattle.bd_engine.specs.Refusals.{FullOnly}
 use Rattle.bd_engine.specs.Writing.{IsOneStep}
 
@@ -53,6 +54,12 @@ too_long-has_run h seat stream area at long here =
       starts = here;
       ends = here;
     }
+
+-- no run changes how many seats there are
+pub run-seats : (old new : History) (seat : ℕ) (request : Request) (r : Result Ran Why) → IfOk r (λ x. HasRun old new seat request x.answer x.from x.to) → OnErr r (new ≡ old)
+    → new.seats ≡ old.seats
+run-seats old new seat request (Ok x) ran kept = ran.seats
+run-seats old new seat request (Err why) ran kept = ap (λ (h : History). h.seats) kept
 
 -- ---- a request that is one step
 

@@ -1,5 +1,4 @@
 pub mod Follows
-pub mod Keeps
 pub mod Refusals
 pub mod Readiness
 pub mod Writing

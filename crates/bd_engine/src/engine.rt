@@ -1,53 +1,45 @@
-//! The engine: a history, and the live engine that follows it.
+//! The engine of a driver: one of wide records with few seats, of which it is kept which are ready.
 
-ghost use Rattle.std.specs.Prelude.{◌≡◌, ◌≤◌, ◌<◌, ◌^◌, true, [], length, nat_le, IfOk, IfErr, OnOk, OnErr, MatchResult, Ok, Some};
+ghost use Rattle.std.specs.Prelude.{◌≡◌, ◌≤◌, ◌<◌, ◌^◌, true, [], length, IfOk, IfErr, OnErr, MatchResult, Some};
 ghost use Rattle.bd_uapi.specs.Limits.{most_seats, IsSeats};
 ghost use Rattle.bd_space.specs.Histories as histories;
-ghost use Rattle.bd_space.specs.Histories.{most_steps};
+ghost use Rattle.bd_space.specs.Histories.{HasPlace};
 ghost use Rattle.bd_space.specs.Steps as steps;
-ghost use Rattle.bd_step.specs.{Plain.{IsBrief}, declared.answer.Brief.TheVariants.{Got}};
+ghost use Rattle.bd_space.specs.Runs.{HasRun, HasEntry, IsAtLimit};
 ghost use Rattle.bd_engine.specs.Refusals.{FullOnly, MemoryOnly, IsSeatFault};
 ghost use Rattle.bd_step.specs.declared.why.Why.TheVariants.{NoMemory};
 
-use crate::live::Live;
+use crate::run::Ran;
 use crate::tables::HasTables;
-use bd_space::{Entries, Entry, Record, Step, StepAnswer};
-use bd_step::{Brief, Tables, Why};
-use bd_uapi::{Fault, MOST_SEATS, Note};
+use crate::wide::WideEngine;
+use bd_space::{Record, Request, Step, StepAnswer};
+use bd_step::{Tables, Why};
+use bd_uapi::{Fault, MOST_SEATS};
 use std::alloc::{AllocError, Global};
 use std::marker::Model;
-use std::mem::replace;
-
-/// The most steps that a history has.
-const MOST_STEPS: usize = 4294967295;
 
 /// The history of a driver's steps, and what it has come to.
 pub struct Engine {
-    entries: Vec<Entry>,
-    live: Live,
-    // Room for a write's notes, which mostly has none: it is kept from write to write, so that each asks for no memory.
-    notes: Vec<(u32, Note)>,
+    // Of 1 to 31 seats. It keeps which of them are ready, which is asked after each run.
+    wide: WideEngine,
 }
 
 impl Model for Engine {
-    ghost use Rattle.bd_space.specs.Histories.{History, history_of};
-    ghost use Rattle.bd_engine.specs.Keeps.{Keeps};
+    ghost use Rattle.std.specs.Prelude.{◌≤◌};
+    ghost use Rattle.bd_uapi.specs.Limits.{most_seats};
+    ghost use Rattle.bd_space.specs.Histories.{History};
 
     ghost Value = { History };
 
-    ghost view = { λ e. history_of e.live.seats e.entries.items };
+    ghost view = { λ e. e.wide };
 
-    ghost invariant = { λ e. Keeps (history_of e.live.seats e.entries.items) e.live };
+    ghost invariant = { λ e. e.wide.seats ≤ most_seats };
 }
 
 // Written out: one that is derived would be proved again, with that of each table, in every crate that holds an engine.
 impl Drop for Engine {
     fn drop(self) {
-        let Engine {
-            entries: _,
-            live: _,
-            notes: _,
-        } = self;
+        let Engine { wide: _ } = self;
     }
 }
 
@@ -57,7 +49,7 @@ impl HasTables for Engine {
     ghost concludes = { λ e P Q f p. f e p };
 
     fn tables(&self) -> &Tables {
-        &self.live.tables
+        self.wide.tables()
     }
 }
 
@@ -82,20 +74,26 @@ impl Engine {
         requires { IsSeats seats }
         ensures { IfOk result (λ e. e ≡ record { seats = seats; entries = [] }) }
     {
-        let Ok(mut live) = Live::new(alloc, seats) else {
+        let Ok(mut wide) = WideEngine::new(alloc, seats) else {
             return Err(AllocError);
         };
-        live.keep_ready(alloc)?;
-        Ok(Engine {
-            entries: Vec::new(alloc),
-            live,
-            notes: Vec::new(alloc),
-        })
+        wide.keep_ready(alloc)?;
+        Ok(Engine { wide })
     }
 
-    // What its memory comes from.
-    pub(crate) fn alloc(&self) -> Global {
-        *self.entries.allocator()
+    /// The engine of wide records that it is, to be looked at.
+    pub fn as_wide(&self) -> &WideEngine
+        ensures { result.now ≡ self.now }
+    {
+        &self.wide
+    }
+
+    /// The engine of wide records that it is.
+    pub fn into_wide(self) -> WideEngine
+        ensures { result ≡ self }
+    {
+        let Engine { wide } = self;
+        wide
     }
 
     /// How many seats there are, 1 to 31.
@@ -104,14 +102,14 @@ impl Engine {
         ensures some { 1 ≤ result }
         ensures few { result ≤ most_seats }
     {
-        self.live.seats
+        self.wide.seats()
     }
 
     /// How many steps there were.
     pub fn len(&self) -> u32
         ensures { result ≡ length self.now.entries }
     {
-        self.entries.len() as u32
+        self.wide.len()
     }
 
     /// Makes room for the entries of so many steps more, and changes nothing else. That these entries then ask for no memory
@@ -121,17 +119,7 @@ impl Engine {
         ensures stands { self.new ≡ self.old }
         ensures memory { IfErr result (λ why. why ≡ NoMemory) }
     {
-        match self.entries.reserve(steps) {
-            Ok(()) => Ok(()),
-            Err(_) => Err(Why::NoMemory),
-        }
-    }
-
-    // No step more has a place. It is asked before any growth is, so that a full history is always told as such.
-    pub(crate) fn is_full(&self) -> bool
-        ensures { result ≡ nat_le most_steps (length self.now.entries) }
-    {
-        self.entries.len() >= MOST_STEPS
+        self.wide.reserve(steps)
     }
 
     /// The ready seats, bit i for seat i: those that have something to read.
@@ -139,25 +127,7 @@ impl Engine {
         ensures page { result ≡ histories.ready_bits self.now }
         ensures bits { result < 2 ^ most_seats }
     {
-        self.tables().ready_below(self.live.seats)
-    }
-
-    // Room for the notes of a write, of which there are none yet.
-    pub(crate) fn take_notes(&mut self) -> Vec<(u32, Note)>
-        ensures same { self.new ≡ self.old }
-        ensures none { result.items ≡ [] }
-    {
-        let none = Vec::new(self.alloc());
-        let mut notes = replace(&mut self.notes, none);
-        notes.clear();
-        notes
-    }
-
-    // Keeps this room for the notes of the next write.
-    pub(crate) fn keep_notes(&mut self, notes: Vec<(u32, Note)>)
-        ensures { self.new ≡ self.old }
-    {
-        self.notes = notes;
+        self.wide.ready()
     }
 
     /// The history.
@@ -166,15 +136,8 @@ impl Engine {
         ensures entries { result.entries ≡ self.entries }
         ensures lawful { histories.IsHistory (record { seats = result.seats; entries = result.entries }) }
     {
-        let Engine {
-            entries,
-            live,
-            notes: _,
-        } = self;
-        Record {
-            seats: live.seats,
-            entries: Entries::new(entries),
-        }
+        let Engine { wide } = self;
+        wide.into_record()
     }
 
     /// Makes one step, and answers it. Errors: the history is full, which is found before any memory is asked for;
@@ -192,48 +155,22 @@ impl Engine {
         // Want of memory isn't said of a full history.
         ensures memory { IfErr result (λ why. MemoryOnly why (histories.HasPlace self.old)) }
     {
-        let mut again = StepAnswer::Exited;
-        match self.step_in_place(seat, step, &mut again) {
-            Ok(brief) => Ok(brief.answer(again)),
-            Err(why) => Err(why),
-        }
+        self.wide.step(seat, step)
     }
 
-    // The same, with the answer in brief; what was read is written to `again`. The entry stands in the history before the step
-    // is made, so that neither its step nor its answer is moved any more; of a step that is refused it is taken off again.
-    pub(crate) fn step_in_place(
-        &mut self,
-        seat: u32,
-        step: Step,
-        again: &mut StepAnswer,
-    ) -> Result<Brief, Why>
+    /// Runs a request: makes its steps, and says what they answer it and where they stand. A write that memory or the
+    /// full history stops after some of its commands answers those; refused before its first step, the engine is as it
+    /// was. A write that makes no step is never refused.
+    pub fn run(&mut self, seat: u32, request: &Request) -> Result<Ran, Why>
         requires { seat < self.old.seats }
-        ensures brief { IfOk result (λ x. IsBrief x (steps.step (histories.space_after self.old) seat step).answer) }
-        ensures copied { result ≡ Ok Got → again.new ≡ (steps.step (histories.space_after self.old) seat step).answer }
-        ensures history { OnOk result (self.new ≡ histories.extended self.old seat step
-            (steps.step (histories.space_after self.old) seat step).answer) }
+        ensures ok { IfOk result (λ r. HasRun self.old self.new seat request.now r.answer r.from r.to) }
         ensures err { OnErr result (self.new ≡ self.old) }
-        ensures full { IfErr result (λ why. FullOnly why (histories.is_at_limit self.old seat (Some step) ≡ true)) }
-        ensures memory { IfErr result (λ why. MemoryOnly why (histories.HasPlace self.old)) }
+        ensures full { IfErr result (λ why. FullOnly why (IsAtLimit self.old seat request.now)) }
+        // Want of memory isn't said of a full history.
+        ensures memory { IfErr result (λ why. MemoryOnly why (HasPlace self.old)) }
+        // Only a run that has an entry is refused.
+        ensures some { IfErr result (λ _. HasEntry self.old seat request.now) }
     {
-        if self.is_full() {
-            return Err(Why::HistoryFull);
-        }
-        if self.entries.reserve(1).is_err() {
-            return Err(Why::NoMemory);
-        }
-        let at = self.entries.len();
-        let answer = StepAnswer::Exited;
-        self.entries.push_reserved(Entry { seat, step, answer });
-        match self.live.make(&mut self.entries[at], again, true) {
-            Ok(brief) => {
-                self.live.refresh_ready();
-                Ok(brief)
-            }
-            Err(why) => {
-                self.entries.truncate(at);
-                Err(why)
-            }
-        }
+        self.wide.run(seat, request)
     }
 }

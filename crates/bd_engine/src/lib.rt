@@ -9,6 +9,7 @@ mod parcel;
 mod readiness;
 mod run;
 mod tables;
+mod wide;
 mod write;
 
 pub use bd_links::Works;
@@ -18,3 +19,4 @@ pub use engine::Engine;
 pub use live::Live;
 pub use looks::Looks;
 pub use run::Ran;
+pub use wide::WideEngine;

@@ -10,6 +10,7 @@ ghost use Rattle.bd_engine.specs.Looks as looks;
 use crate::engine::Engine;
 use crate::live::Live;
 use crate::tables::HasTables;
+use crate::wide::WideEngine;
 use bd_calls::serves;
 use bd_links::Works;
 use bd_objects::CarriedObjects;
@@ -169,3 +170,5 @@ pub trait Looks: HasTables {
 impl Looks for Engine {}
 
 impl Looks for Live {}
+
+impl Looks for WideEngine {}

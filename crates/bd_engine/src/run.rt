@@ -9,7 +9,7 @@ ghost use Rattle.bd_space.specs.Runs.{HasRun, HasEntry, IsAtLimit, answered};
 ghost use Rattle.bd_step.specs.{Plain.{IsBrief, IsGot}, declared.answer.Brief.TheVariants.{Got}};
 ghost use Rattle.bd_engine.specs.{Refusals.{FullOnly, MemoryOnly}, Writing.{IsTurnedAway, IsWrite, IsOneStep}};
 
-use crate::engine::Engine;
+use crate::wide::WideEngine;
 use bd_space::{Answer, Request, Step, StepAnswer};
 use bd_step::{Brief, Plain, Why};
 use bd_uapi::Fault;
@@ -80,7 +80,7 @@ fn step_of(request: &Request) -> Option<Step>
     }
 }
 
-impl Engine {
+impl WideEngine {
     // A request that is one step.
     fn single(&mut self, seat: u32, step: Step) -> Result<Ran, Why>
         requires { seat < self.old.seats }
@@ -139,6 +139,8 @@ impl Engine {
         ensures memory { IfErr result (λ why. MemoryOnly why (HasPlace self.old)) }
         // Only a run that has an entry is refused.
         ensures some { IfErr result (λ _. HasEntry self.old seat request.now) }
+        // It has as many seats as before.
+        ensures seats { self.new.seats ≡ self.old.seats }
     {
         match step_of(request) {
             Some(step) => self.single(seat, step),

@@ -13,8 +13,8 @@ ghost use Rattle.bd_step.specs.Plain.{IsBrief};
 ghost use Rattle.bd_engine.specs.Writing.{HasCome, IsSame, IsAt, IsAfter, IsCourse, IsCutAt, IsTurnedAway, IsNext, refused};
 ghost use Rattle.bd_engine.specs.Writing.{Ends, course_of, course_or, ended};
 
-use crate::engine::Engine;
 use crate::parcel::parcel_for;
+use crate::wide::WideEngine;
 use bd_codec::read_command;
 use bd_space::{Answer, Notes, Step, StepAnswer, Stop};
 use bd_step::{Brief, Plain, Why};
@@ -161,7 +161,7 @@ impl Progress {
     }
 }
 
-impl Engine {
+impl WideEngine {
     // Makes the step of a command. There is room for its note by then, so that no step that was made is lost.
     fn attempt(
         &mut self,

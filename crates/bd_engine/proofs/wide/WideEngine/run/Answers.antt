@@ -1,5 +1,5 @@
-use Rattle.bd_engine.proofs.Runs.{one-some, one-full}
-use Rattle.bd_engine.proofs.engine.Engine.run.Goals as goal
+use Rattle.bd_engine.proofs.Runs.{one-some, one-full, run-seats}
+use Rattle.bd_engine.proofs.wide.WideEngine.run.Goals as goal
 
 pub returns-in-Some-clause-ok : goal.returns-in-Some-clause-ok
 returns-in-Some-clause-ok c = c.single.ensures.ok _ (λ s. c.in-Some.ensures.runs s c.args.seat)
@@ -9,3 +9,6 @@ returns-in-Some-clause-full c = one-full _ _ _ _ c.in-Some.ensures _ c.single.en
 
 pub returns-in-Some-clause-some : goal.returns-in-Some-clause-some
 returns-in-Some-clause-some c = one-some _ c.args.seat _ _ c.in-Some.ensures _
+
+pub returns-in-Some-clause-seats : goal.returns-in-Some-clause-seats
+returns-in-Some-clause-seats c = run-seats _ _ _ _ c.single.result (c.single.ensures.ok _ (λ s. c.in-Some.ensures.runs s c.args.seat)) c.single.ensures.err

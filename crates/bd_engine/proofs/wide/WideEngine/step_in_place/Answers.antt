@@ -4,9 +4,8 @@ use Rattle.bd_space.specs.declared.step.StepAnswer.TheVariants.{Exited}
 use Rattle.bd_space.specs.Steps.{step}
 use Rattle.bd_space.specs.Histories.{History, history_of, space_after, extended}
 use Rattle.bd_engine.specs.Follows.{Follows}
-use Rattle.bd_engine.specs.Keeps.{Keeps}
-use Rattle.bd_engine.proofs.Keeping.{keeps-more, more-is, entry-there, entry-filled, entry-taken_off, full-at-length}
-use Rattle.bd_engine.proofs.engine.Engine.step_in_place.Goals as goal
+use Rattle.bd_engine.proofs.Keeping.{follows-entered, more-is, entry-there, entry-filled, entry-taken_off, full-at-length}
+use Rattle.bd_engine.proofs.wide.WideEngine.step_in_place.Goals as goal
 
 pub returns-then-is_full-clause-full : goal.returns-then-is_full-clause-full
 returns-then-is_full-clause-full c = full-at-length _ _ _ (sym c.is_full.ensures ∙ c.if-is_full.true)
@@ -21,8 +20,8 @@ invariant_of-self-in-Ok c =
     let last = counted ∙ ap length c.reserve.ensures.items in
     let is = c.index_mut.ensures.value ∙ entry-there es _ blank _ grown last _ in
     let made = c.in-Ok.ensures in
-    let follows = subst (λ (e : Entry). Follows c.make.new.self (extended h e.seat e.step c.make.new.entry.answer)) is (made.follows h c.self.invariant.follows) in
-    keeps-more h c.refresh_ready.new.self c.args.seat c.args.step c.make.new.entry _ _ c.self.invariant.few
+    let follows = subst (λ (e : Entry). Follows c.make.new.self (extended h e.seat e.step c.make.new.entry.answer)) is (made.follows h c.self.invariant) in
+    follows-entered h c.refresh_ready.new.self c.args.seat c.args.step c.make.new.entry _ _
     (made.seat ∙ ap (λ (e : Entry). e.seat) is) (made.step ∙ ap (λ (e : Entry). e.step) is)
     (c.refresh_ready.ensures.follows _ follows) (c.refresh_ready.ensures.seats ∙ made.seats) (entry-filled es _ blank _ grown last c.make.new.entry)
 
@@ -38,7 +37,7 @@ invariant_of-self-in-Err c =
     let same : history_of c.make.new.self.seats c.truncate.new.self.items ≡ h =
     ap (λ n. history_of n c.truncate.new.self.items) refused.seats
     ∙ ap (history_of c.self.inside.live.seats) (c.truncate.ensures.items ∙ entry-taken_off es _ blank _ grown last c.make.new.entry) in
-    subst (λ (z : History). Keeps z c.make.new.self) (sym same) (record { few = c.self.invariant.few; follows = refused.err h c.self.invariant.follows })
+    subst (Follows c.make.new.self) (sym same) (refused.err h c.self.invariant)
 
 pub returns-in-Ok-clause-copied : goal.returns-in-Ok-clause-copied
 returns-in-Ok-clause-copied c = λ got.
@@ -50,7 +49,7 @@ returns-in-Ok-clause-copied c = λ got.
     let last = counted ∙ ap length c.reserve.ensures.items in
     let is = c.index_mut.ensures.value ∙ entry-there es _ blank _ grown last _ in
     let made = c.in-Ok.ensures in
-    made.copied refl got ∙ made.answer h c.self.invariant.follows
+    made.copied refl got ∙ made.answer h c.self.invariant
     ∙ ap (λ (e : Entry). (step (space_after h) e.seat e.step).answer) is
     ∙ ap (λ (z : History). (step (space_after z) c.args.seat c.args.step).answer) c.self.view_is
 
@@ -64,7 +63,7 @@ returns-in-Ok-clause-history c =
     let last = counted ∙ ap length c.reserve.ensures.items in
     let is = c.index_mut.ensures.value ∙ entry-there es _ blank _ grown last _ in
     let made = c.in-Ok.ensures in
-    let answered = made.answer h c.self.invariant.follows ∙ ap (λ (e : Entry). (step (space_after h) e.seat e.step).answer) is in
+    let answered = made.answer h c.self.invariant ∙ ap (λ (e : Entry). (step (space_after h) e.seat e.step).answer) is in
     more-is h c.args.seat c.args.step c.make.new.entry _ _ (made.seat ∙ ap (λ (e : Entry). e.seat) is) (made.step ∙ ap (λ (e : Entry). e.step) is)
     (c.refresh_ready.ensures.seats ∙ made.seats) (entry-filled es _ blank _ grown last c.make.new.entry)
     ∙ ap (extended h c.args.seat c.args.step) answered

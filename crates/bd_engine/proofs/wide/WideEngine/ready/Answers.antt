@@ -1,6 +1,6 @@
 use Rattle.std.proofs.Common.{ap, ◌∙◌}
 use Rattle.bd_space.specs.Histories.{ready_bits, ready_below, space_after, History}
-use Rattle.bd_engine.proofs.engine.Engine.ready.Goals as goal
+use Rattle.bd_engine.proofs.wide.WideEngine.ready.Goals as goal
 
 pub returns-clause-page : goal.returns-clause-page
 unfolding ready_bits

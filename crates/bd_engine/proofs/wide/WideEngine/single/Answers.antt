@@ -1,6 +1,6 @@
 use Rattle.std.proofs.Common.{Ok, refl, ap}
 use Rattle.bd_engine.proofs.Runs.{single-has_run}
-use Rattle.bd_engine.proofs.engine.Engine.single.Goals as goal
+use Rattle.bd_engine.proofs.wide.WideEngine.single.Goals as goal
 
 pub returns-in-Ok-clause-ok : goal.returns-in-Ok-clause-ok
 returns-in-Ok-clause-ok c = λ request one.

@@ -1,6 +1,6 @@
 use Rattle.std.proofs.Common.{arith}
 use Rattle.bd_engine.proofs.Commands.{begun, finished-end, finished-fault}
-use Rattle.bd_engine.proofs.engine.Engine.run_each.Goals as goal
+use Rattle.bd_engine.proofs.wide.WideEngine.run_each.Goals as goal
 
 pub commands-init : goal.commands-init
 commands-init c = begun _ _ _ _ _ _ _ c.requires.begun.consumed_is c.requires.begun.count_is c.requires.begun.notes_are c.requires.short

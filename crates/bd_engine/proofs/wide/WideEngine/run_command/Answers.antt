@@ -1,6 +1,6 @@
 use Rattle.std.proofs.Common.{refl}
 use Rattle.bd_engine.proofs.Courses.{course-cut, course-on}
-use Rattle.bd_engine.proofs.engine.Engine.run_command.Goals as goal
+use Rattle.bd_engine.proofs.wide.WideEngine.run_command.Goals as goal
 
 pub returns-in-Err : goal.returns-in-Err
 returns-in-Err c = λ old stream come is_next.

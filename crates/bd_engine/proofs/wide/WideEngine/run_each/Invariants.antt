@@ -1,6 +1,6 @@
 use Rattle.std.proofs.Common.{◌-◌, length}
 use Rattle.bd_engine.specs.Writing.{HasCome}
-use Rattle.bd_engine.proofs.engine.Engine.run_each.Given as goal
+use Rattle.bd_engine.proofs.wide.WideEngine.run_each.Given as goal
 
 abbrev pub invariant-commands : goal.invariant-commands
 invariant-commands l = HasCome l.fn.self l.self l.seat l.stream l.area l.progress

@@ -1,0 +1,235 @@
+//! The engine of wide records: a history of any number of seats that a live engine may have, and the live engine that follows it.
+
+ghost use Rattle.std.specs.Prelude.{◌≡◌, ◌≤◌, ◌<◌, ◌^◌, true, [], length, nat_le, IfOk, IfErr, OnOk, OnErr, MatchResult, Ok, Some};
+ghost use Rattle.bd_uapi.specs.Limits.{most_seats};
+ghost use Rattle.bd_space.specs.Histories as histories;
+ghost use Rattle.bd_space.specs.Histories.{most_steps};
+ghost use Rattle.bd_space.specs.Steps as steps;
+ghost use Rattle.bd_step.specs.{Plain.{IsBrief}, declared.answer.Brief.TheVariants.{Got}};
+ghost use Rattle.bd_engine.specs.Refusals.{FullOnly, MemoryOnly, IsLiveSeats, IsLiveSeatFault};
+ghost use Rattle.bd_step.specs.declared.why.Why.TheVariants.{NoMemory};
+
+use crate::live::Live;
+use crate::tables::HasTables;
+use bd_space::{Entries, Entry, Record, Step, StepAnswer};
+use bd_step::{Brief, Tables, Why};
+use bd_uapi::{Fault, Note};
+use std::alloc::{AllocError, Global};
+use std::marker::Model;
+use std::mem::replace;
+
+/// The most steps that a history has.
+const MOST_STEPS: usize = 4294967295;
+
+/// The history of a driver's steps, of 1 to 65536 seats, and what it has come to. An `Engine` is one of few seats, which
+/// keeps besides which of them are ready.
+pub struct WideEngine {
+    entries: Vec<Entry>,
+    live: Live,
+    // Room for a write's notes, which mostly has none: it is kept from write to write, so that each asks for no memory.
+    notes: Vec<(u32, Note)>,
+}
+
+impl Model for WideEngine {
+    ghost use Rattle.bd_space.specs.Histories.{History, history_of};
+    ghost use Rattle.bd_engine.specs.Follows.{Follows};
+
+    ghost Value = { History };
+
+    ghost view = { λ e. history_of e.live.seats e.entries.items };
+
+    ghost invariant = { λ e. Follows e.live (history_of e.live.seats e.entries.items) };
+}
+
+// Written out: one that is derived would be proved again, with that of each table, in every crate that holds an engine.
+impl Drop for WideEngine {
+    fn drop(self) {
+        let WideEngine {
+            entries: _,
+            live: _,
+            notes: _,
+        } = self;
+    }
+}
+
+impl HasTables for WideEngine {
+    ghost says = { λ e P. P e };
+
+    ghost concludes = { λ e P Q f p. f e p };
+
+    fn tables(&self) -> &Tables {
+        &self.live.tables
+    }
+}
+
+impl WideEngine {
+    /// An engine for 1 to 65536 seats, whose history is empty. Errors: F16 where the number of seats is outside of that; else
+    /// F14 alone, where memory was refused.
+    pub fn new(alloc: Global, seats: u32) -> Result<WideEngine, Fault>
+        ensures ok { IfOk result (λ e. e ≡ record { seats = seats; entries = [] }) }
+        ensures fault { MatchResult result (λ _. IsLiveSeats seats) (λ f. IsLiveSeatFault seats f) }
+    {
+        match Live::new(alloc, seats) {
+            Ok(live) => Ok(WideEngine {
+                entries: Vec::new(alloc),
+                live,
+                notes: Vec::new(alloc),
+            }),
+            Err(fault) => Err(fault),
+        }
+    }
+
+    // From now on it is kept which seats are ready. Errors: memory was refused.
+    pub(crate) fn keep_ready(&mut self, alloc: Global) -> Result<(), AllocError>
+        ensures { self.new ≡ self.old }
+    {
+        self.live.keep_ready(alloc)
+    }
+
+    // What its memory comes from.
+    pub(crate) fn alloc(&self) -> Global {
+        *self.entries.allocator()
+    }
+
+    /// How many seats there are, 1 to 65536.
+    pub fn seats(&self) -> u32
+        ensures count { result ≡ self.now.seats }
+        ensures some { 1 ≤ result }
+        ensures few { result ≤ 65536 }
+    {
+        self.live.seats
+    }
+
+    /// How many steps there were.
+    pub fn len(&self) -> u32
+        ensures { result ≡ length self.now.entries }
+    {
+        self.entries.len() as u32
+    }
+
+    /// Makes room for the entries of so many steps more, and changes nothing else. That these entries then ask for no memory
+    /// no clause says, since room is no part of an engine's value, its history: a test sees it of five steps (`tools/starve`,
+    /// its word `reserved`). Errors: memory was refused.
+    pub fn reserve(&mut self, steps: usize) -> Result<(), Why>
+        ensures stands { self.new ≡ self.old }
+        ensures memory { IfErr result (λ why. why ≡ NoMemory) }
+    {
+        match self.entries.reserve(steps) {
+            Ok(()) => Ok(()),
+            Err(_) => Err(Why::NoMemory),
+        }
+    }
+
+    // No step more has a place. It is asked before any growth is, so that a full history is always told as such.
+    pub(crate) fn is_full(&self) -> bool
+        ensures { result ≡ nat_le most_steps (length self.now.entries) }
+    {
+        self.entries.len() >= MOST_STEPS
+    }
+
+    /// The ready seats, bit i for seat i: those that have something to read. Of more than 31 seats ask each.
+    pub fn ready(&self) -> u32
+        requires { self.now.seats ≤ most_seats }
+        ensures page { result ≡ histories.ready_bits self.now }
+        ensures bits { result < 2 ^ most_seats }
+    {
+        self.tables().ready_below(self.live.seats)
+    }
+
+    // Room for the notes of a write, of which there are none yet.
+    pub(crate) fn take_notes(&mut self) -> Vec<(u32, Note)>
+        ensures same { self.new ≡ self.old }
+        ensures none { result.items ≡ [] }
+    {
+        let none = Vec::new(self.alloc());
+        let mut notes = replace(&mut self.notes, none);
+        notes.clear();
+        notes
+    }
+
+    // Keeps this room for the notes of the next write.
+    pub(crate) fn keep_notes(&mut self, notes: Vec<(u32, Note)>)
+        ensures { self.new ≡ self.old }
+    {
+        self.notes = notes;
+    }
+
+    /// The history.
+    pub fn into_record(self) -> Record
+        ensures seats { result.seats ≡ self.seats }
+        ensures entries { result.entries ≡ self.entries }
+        ensures lawful { histories.IsHistory (record { seats = result.seats; entries = result.entries }) }
+    {
+        let WideEngine {
+            entries,
+            live,
+            notes: _,
+        } = self;
+        Record {
+            seats: live.seats,
+            entries: Entries::new(entries),
+        }
+    }
+
+    /// Makes one step, and answers it. Errors: the history is full, which is found before any memory is asked for;
+    /// memory was refused; or a name would have to be numbered above 4294967294.
+    pub fn step(&mut self, seat: u32, step: Step) -> Result<StepAnswer, Why>
+        requires { seat < self.old.seats }
+        // The answer is the space's.
+        ensures answer { IfOk result (λ a. a ≡ (steps.step (histories.space_after self.old) seat step).answer) }
+        // The history then has this step more.
+        ensures history { IfOk result (λ a. self.new ≡ histories.extended self.old seat step a) }
+        // A step refused leaves the engine equal.
+        ensures err { OnErr result (self.new ≡ self.old) }
+        // When a full history is the reason.
+        ensures full { IfErr result (λ why. FullOnly why (histories.is_at_limit self.old seat (Some step) ≡ true)) }
+        // Want of memory isn't said of a full history.
+        ensures memory { IfErr result (λ why. MemoryOnly why (histories.HasPlace self.old)) }
+        // It has as many seats as before.
+        ensures seats { self.new.seats ≡ self.old.seats }
+    {
+        let mut again = StepAnswer::Exited;
+        match self.step_in_place(seat, step, &mut again) {
+            Ok(brief) => Ok(brief.answer(again)),
+            Err(why) => Err(why),
+        }
+    }
+
+    // The same, with the answer in brief; what was read is written to `again`. The entry stands in the history before the step
+    // is made, so that neither its step nor its answer is moved any more; of a step that is refused it is taken off again.
+    pub(crate) fn step_in_place(
+        &mut self,
+        seat: u32,
+        step: Step,
+        again: &mut StepAnswer,
+    ) -> Result<Brief, Why>
+        requires { seat < self.old.seats }
+        ensures brief { IfOk result (λ x. IsBrief x (steps.step (histories.space_after self.old) seat step).answer) }
+        ensures copied { result ≡ Ok Got → again.new ≡ (steps.step (histories.space_after self.old) seat step).answer }
+        ensures history { OnOk result (self.new ≡ histories.extended self.old seat step
+            (steps.step (histories.space_after self.old) seat step).answer) }
+        ensures err { OnErr result (self.new ≡ self.old) }
+        ensures full { IfErr result (λ why. FullOnly why (histories.is_at_limit self.old seat (Some step) ≡ true)) }
+        ensures memory { IfErr result (λ why. MemoryOnly why (histories.HasPlace self.old)) }
+    {
+        if self.is_full() {
+            return Err(Why::HistoryFull);
+        }
+        if self.entries.reserve(1).is_err() {
+            return Err(Why::NoMemory);
+        }
+        let at = self.entries.len();
+        let answer = StepAnswer::Exited;
+        self.entries.push_reserved(Entry { seat, step, answer });
+        match self.live.make(&mut self.entries[at], again, true) {
+            Ok(brief) => {
+                self.live.refresh_ready();
+                Ok(brief)
+            }
+            Err(why) => {
+                self.entries.truncate(at);
+                Err(why)
+            }
+        }
+    }
+}
