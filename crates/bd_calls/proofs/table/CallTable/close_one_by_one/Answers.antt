@@ -6,7 +6,7 @@ use Rattle.bd_calls.proofs.Closing.{closing-begins, closing-left, closing-over}
 use Rattle.bd_calls.proofs.table.CallTable.close_one_by_one.Goals as goal
 
 pub loop-closed-init : goal.loop-closed-init
-loop-closed-init c = record { stands = closing-begins _ _ (λ n. close_among n (is_place_among c.args.chosen.now)); uses = search rules }
+loop-closed-init c = record { stands = closing-begins _ _ (λ n. close_among n (is_place_among c.args.chosen.now)); uses = search rules; told = λ told k. k }
 
 pub loop-closed-preserved : goal.loop-closed-preserved
 loop-closed-preserved c = record {
@@ -15,6 +15,7 @@ loop-closed-preserved c = record {
       let left : length s.frames - i ≡ (length s.frames - (i + 1)) + 1 = omega (arith, c.count_frames-closed-end.ensures.frames s stands) in
       c.close_oldest_among.ensures.goes_on (length s.frames - (i + 1)) _ c.if-not-close_oldest_among.false (closing-left _ _ _ _ _ _ left (c.loop-closed.invariant.stands s stands place));
   uses = uses-both _ _ _ _ _ _ (omega arith) c.loop-closed.invariant.uses c.close_oldest_among.ensures.uses;
+  told = λ told k. c.close_oldest_among.ensures.told told (c.loop-closed.invariant.told told k);
 }
 
 pub returns-clause-stands : goal.returns-clause-stands
@@ -27,3 +28,6 @@ pub returns-then-not-close_oldest_among-clause-stands : goal.returns-then-not-cl
 returns-then-not-close_oldest_among-clause-stands c =
     λ s stands place.
     c.close_oldest_among.ensures.done (length s.frames - c.loop-closed._closed) _ c.if-not-close_oldest_among.true (c.loop-closed.invariant.stands s stands place)
+
+pub returns-then-not-close_oldest_among-clause-told : goal.returns-then-not-close_oldest_among-clause-told
+returns-then-not-close_oldest_among-clause-told c = λ told k. c.close_oldest_among.ensures.told told (c.loop-closed.invariant.told told k)
