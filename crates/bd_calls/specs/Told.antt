@@ -5,7 +5,7 @@ use Rattle.bd_calls.specs.declared.table.CallTable.{CallTable}
 use Rattle.bd_calls.specs.Marks.{RecallsIn}
 
 -- if this was told of each list, then which lists were filled or emptied since is known still, or that too many were
-abbrev pub Recalls : CallTable → (TodoList → Bool) → Type 0
+unfoldable pub Recalls : CallTable → (TodoList → Bool) → Type 0
 Recalls t told = RecallsIn t.marks t.todo told
 
 -- whatever was told: it is known still

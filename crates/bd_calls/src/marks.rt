@@ -94,12 +94,13 @@ impl Marks {
         }
     }
 
-    /// Makes room for so many lists. Fails for want of memory, and then changes nothing.
-    pub(crate) fn reserve(&mut self, more: usize) -> Result<(), AllocError>
+    /// Makes room for so many lists in all. Fails for want of memory, and then changes nothing.
+    pub(crate) fn reserve(&mut self, lists: usize) -> Result<(), AllocError>
         ensures marks { self.new.marks.items ≡ self.old.marks.items }
         ensures all { self.new.all ≡ self.old.all }
-        ensures room { OnOk result (vec_len self.new.marks + more ≤ vec_capacity self.new.marks) }
+        ensures room { OnOk result (lists ≤ vec_capacity self.new.marks) }
     {
+        let more = lists.saturating_sub(self.marks.len());
         self.marks.reserve(more)
     }
 
@@ -167,6 +168,7 @@ impl Marks {
             → (list : lists.TodoList) → spec.is_among reached.new.items list ≡ spec.differs (told list) (has_work_in l list)) }
         ensures told { OnOk result ((l : List works.Work) → links.WorksAre todo.now l
             → spec.RecallsIn self.new todo.now (λ list. has_work_in l list)) }
+        ensures knows { OnOk result (self.new.all ≡ false) }
         ensures err { OnErr result (self.new ≡ self.old) }
     {
         reached.clear();

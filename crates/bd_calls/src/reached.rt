@@ -1,5 +1,5 @@
 //! Which todo lists were filled or emptied.
-#![tactic(auto, unfolding(crate::specs::Room::rooms))]
+#![tactic(auto, unfolding(crate::specs::Room::rooms, crate::specs::Told::Recalls))]
 
 ghost use Rattle.std.specs.Prelude.{◌≡◌, ◌≤◌, Bool, true, IfOk, OnOk, OnErr};
 ghost use Rattle.bd_space.specs.declared.space.TodoList as lists;
@@ -15,14 +15,15 @@ impl CallTable {
     ghost use Rattle.bd_calls.specs.{Marks.{is_among, differs}, Told.{Recalls, KeepsTold, knows_all}};
     ghost use Rattle.bd_calls.specs.{Stands.{Stands, StandsFor}, Room.{Uses, UsesNothing, nothing}};
 
-    /// Makes room for so many todo lists that may be filled or emptied before that is told. Fails for want of memory, and
-    /// then changes nothing.
-    pub fn reserve_reached(&mut self, more: usize) -> Result<(), AllocError>
+    /// Makes room for so many todo lists in all that may be filled or emptied before that is told. Fails for want of memory,
+    /// and then changes nothing.
+    pub fn reserve_reached(&mut self, lists: usize) -> Result<(), AllocError>
         ensures stands { Makes (StandsFor self.old) (StandsFor self.new) (λ s. s) }
         ensures uses { UsesNothing self.old self.new }
         ensures told { KeepsTold self.old self.new }
+        ensures knows { knows_all self.new ≡ knows_all self.old }
     {
-        self.marks.reserve(more)
+        self.marks.reserve(lists)
     }
 
     /// Lists the todo lists that were filled or emptied since this was last called. Whether these are all: else any other
@@ -39,6 +40,7 @@ impl CallTable {
         // From now on this was told.
         ensures afresh { OnOk result ((s : Space) → StandsFor self.old s
             → Recalls self.new (λ list. has_work_in s.todo list)) }
+        ensures knows { OnOk result (knows_all self.new ≡ true) }
         ensures err { OnErr result (KeepsTold self.old self.new) }
     {
         self.marks.tell(&self.todo, reached)

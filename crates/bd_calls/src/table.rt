@@ -1,5 +1,5 @@
 //! The table itself: making it, room in it, and what changes several of its lists at once.
-#![tactic(auto, unfolding(crate::specs::Room::rooms))]
+#![tactic(auto, unfolding(crate::specs::Room::rooms, crate::specs::Told::Recalls))]
 
 ghost use Rattle.std.specs.Prelude.{◌≡◌, ◌+◌, ◌≤◌, ◌^◌, true, IfOk, OnOk, OnErr};
 ghost use Rattle.bd_threads.specs.Room.{thread_room};

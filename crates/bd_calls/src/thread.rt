@@ -1,5 +1,5 @@
 //! Threads.
-#![tactic(auto, unfolding(bd_space::specs::Steps::with_thread, bd_space::specs::Steps::with_looping, crate::specs::Room::rooms))]
+#![tactic(auto, unfolding(bd_space::specs::Steps::with_thread, bd_space::specs::Steps::with_looping, crate::specs::Room::rooms, crate::specs::Told::Recalls))]
 
 ghost use Rattle.std.specs.Prelude.{◌≡◌, ◌==◌, ◌≤◌, map, filter, length, IfOk, OnErr};
 ghost use Rattle.bd_space.specs.{Seats.{thread_in}, ProcessExits.{seat_of}};

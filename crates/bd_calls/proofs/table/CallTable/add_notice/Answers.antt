@@ -12,6 +12,7 @@ use Rattle.bd_calls.proofs.Works.{works-stand}
 use Rattle.bd_calls.proofs.Seats.{kept-seen, pushed-on}
 use Rattle.bd_calls.specs.Ready.{AreSeen, tells_of}
 use Rattle.bd_calls.proofs.Marking.{told-on, pushed-beside}
+use Rattle.bd_calls.specs.Told.{Recalls}
 use Rattle.bd_calls.proofs.table.CallTable.add_notice.Goals as goal
 
 -- a notice that is wanted and missing is made
@@ -31,6 +32,7 @@ returns-then-not-has_notice-clause-stands c = λ s x h at id wanted.
     (kept-seen c.args.self.now.ready c.forget_list.new.self (tells_of c.args.list) s.threads s.todo _ h.ready_are c.forget_list.ensures (λ list seat y. pushed-on s.steps s.todo c.args.list (Notice x.id) list seat y)))
 
 pub returns-then-not-has_notice-clause-told : goal.returns-then-not-has_notice-clause-told
+unfolding Recalls
 returns-then-not-has_notice-clause-told c = λ told k.
     let kind = Notice c.args.object in
     told-on c.mark.new.self _ _ (λ ws. with_work c.args.place ws c.args.list kind) told c.push.ensures.stands

@@ -11,6 +11,7 @@ use Rattle.bd_links.specs.Stands.{WorksAre}
 use Rattle.bd_calls.specs.Ready.{KeepsOnly, tells_of}
 use Rattle.bd_calls.proofs.Seats.{kept-seen, pushed-on}
 use Rattle.bd_calls.proofs.Marking.{told-on, pushed-beside}
+use Rattle.bd_calls.specs.Told.{Recalls}
 use Rattle.bd_calls.proofs.table.CallTable.call_out.Goals as goal
 
 -- a call's frame that nobody has read
@@ -40,6 +41,7 @@ returns-clause-stands c = λ s h k.
     }
 
 pub returns-clause-told : goal.returns-clause-told
+unfolding Recalls
 returns-clause-told c = λ told k.
     let to = c.list_from-list.result in
     told-on c.mark.new.self _ _ (λ ws. with_work c.args.place ws to (Call c.args.place)) told c.push.ensures.stands

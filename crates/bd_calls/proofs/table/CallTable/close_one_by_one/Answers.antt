@@ -28,6 +28,3 @@ pub returns-then-not-close_oldest_among-clause-stands : goal.returns-then-not-cl
 returns-then-not-close_oldest_among-clause-stands c =
     λ s stands place.
     c.close_oldest_among.ensures.done (length s.frames - c.loop-closed._closed) _ c.if-not-close_oldest_among.true (c.loop-closed.invariant.stands s stands place)
-
-pub returns-then-not-close_oldest_among-clause-told : goal.returns-then-not-close_oldest_among-clause-told
-returns-then-not-close_oldest_among-clause-told c = λ told k. c.close_oldest_among.ensures.told told (c.loop-closed.invariant.told told k)

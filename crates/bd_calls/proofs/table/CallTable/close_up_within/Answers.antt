@@ -43,6 +43,3 @@ pub returns-clause-stands : goal.returns-clause-stands
 returns-clause-stands c = λ s stands at.
     let none : c.args.most - c.loop-closed.closed ≡ 0 = omega arith in
     (up-all _ _ _ _ _ _ _ none (c.loop-closed.invariant.goes_up s stands at)).stands
-
-pub returns-in_default-close_if_abandoned-clause-told : goal.returns-in_default-close_if_abandoned-clause-told
-returns-in_default-close_if_abandoned-clause-told c = λ told k. c.close_if_abandoned.ensures.told told (c.loop-closed.invariant.told told k)

@@ -8,6 +8,7 @@ use Rattle.bd_space.specs.declared.space.TodoList.TheVariants.{OfProcess}
 use Rattle.bd_space.specs.declared.space.Work.{Work}
 use Rattle.bd_space.specs.Todo.{is_on}
 use Rattle.bd_calls.proofs.Marking.{told-on, cleared-beside}
+use Rattle.bd_calls.specs.Told.{Recalls}
 use Rattle.bd_calls.proofs.table.CallTable.process_goes.Goals as goal
 
 pub returns-clause-stands : goal.returns-clause-stands
@@ -23,6 +24,7 @@ returns-clause-stands c =
     }
 
 pub returns-clause-told : goal.returns-clause-told
+unfolding Recalls
 returns-clause-told c = λ told k.
     let list = OfProcess c.args.process in
     told-on c.mark.new.self _ _ (λ ws. filter (λ (w : Work). not (is_on list w)) ws) told c.clear_list.ensures.stands

@@ -10,6 +10,7 @@ use Rattle.bd_calls.proofs.Seats.{kept-seen, taken-from}
 use Rattle.bd_calls.specs.Ready.{tells_of}
 use Rattle.bd_space.specs.Todo.{without_taken}
 use Rattle.bd_calls.proofs.Marking.{told-on, taken-beside}
+use Rattle.bd_calls.specs.Told.{Recalls}
 use Rattle.bd_calls.proofs.table.CallTable.read_by.Goals as goal
 
 pub returns-clause-stands : goal.returns-clause-stands
@@ -26,6 +27,7 @@ returns-clause-stands c =
     }
 
 pub returns-clause-told : goal.returns-clause-told
+unfolding Recalls
 returns-clause-told c = λ told k.
     told-on c.mark_lists_of.new.self _ _ (λ ws. without_taken c.args.taken.now ws) told c.remove_taken.ensures.stands
     (λ ws list out. taken-beside c.mark_lists_of.new.self c.args.taken.now ws list c.mark_lists_of.ensures.marked out) (c.mark_lists_of.ensures.recalls told k)

@@ -12,6 +12,7 @@ use Rattle.bd_links.specs.Stands.{WorksAre}
 use Rattle.bd_calls.proofs.Works.{works-stand}
 use Rattle.bd_calls.proofs.Seats.{kept-seen, due-on}
 use Rattle.bd_calls.proofs.Marking.{told-on, due-beside}
+use Rattle.bd_calls.specs.Told.{Recalls}
 use Rattle.bd_calls.proofs.table.CallTable.ripen_on.Goals as goal
 
 pub returns-clause-stands : goal.returns-clause-stands
@@ -27,6 +28,7 @@ returns-clause-stands c = λ s h at.
     (sym turn) (λ list seat x. due-on s.steps s.todo (find (λ t. same t.target c.args.object) (turns_of s.buffers)) list seat x)))
 
 pub returns-clause-told : goal.returns-clause-told
+unfolding Recalls
 returns-clause-told c = λ told k.
     let turn = c.oldest_on-oldest.result in
     told-on c.mark_receiver.new.marks _ _ (λ ws. first_due c.args.place ws turn) told c.push_first.ensures.todo

@@ -8,6 +8,7 @@ use Rattle.bd_calls.proofs.Seats.{none-seen}
 use Rattle.bd_space.specs.declared.space.Work.{Work}
 use Rattle.bd_space.specs.Todo.{is_on}
 use Rattle.bd_calls.proofs.Marking.{told-on, cleared-beside}
+use Rattle.bd_calls.specs.Told.{Recalls}
 use Rattle.bd_calls.proofs.table.CallTable.thread_goes.Goals as goal
 
 pub returns-clause-stands : goal.returns-clause-stands
@@ -26,6 +27,7 @@ returns-clause-stands c =
     }
 
 pub returns-clause-told : goal.returns-clause-told
+unfolding Recalls
 returns-clause-told c = λ told k.
     let list = OfThread c.args.seat in
     told-on c.mark.new.self _ _ (λ ws. filter (λ (w : Work). not (is_on list w)) ws) told c.clear_list.ensures.stands
