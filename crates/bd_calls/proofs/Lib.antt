@@ -4,6 +4,7 @@ pub mod InCalls
 pub mod InList
 pub mod InOrder
 pub mod Losing
+pub mod Marking
 pub mod OneByOne
 pub mod OneWay
 pub mod Plain

@@ -1,7 +1,9 @@
 pub mod Turn
 pub mod Ready
+pub mod Marks
 pub mod Stands
 pub mod Room
+pub mod Told
 pub mod Losing
 pub mod Closing
 pub mod Stacked

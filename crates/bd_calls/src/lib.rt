@@ -2,6 +2,8 @@
 #![tactic(auto)]
 
 mod frame;
+mod marks;
+mod reached;
 mod ready;
 mod table;
 mod thread;

@@ -1,5 +1,5 @@
 //! The table itself: making it, room in it, and what changes several of its lists at once.
-#![tactic(auto, unfolding(crate::specs::Room::rooms))]
+#![tactic(auto, unfolding(crate::specs::Room::rooms, crate::specs::Told::Recalls))]
 
 ghost use Rattle.std.specs.Prelude.{◌≡◌, ◌+◌, ◌≤◌, ◌^◌, true, IfOk, OnOk, OnErr};
 ghost use Rattle.bd_threads.specs.Room.{thread_room};
@@ -8,6 +8,7 @@ ghost use Rattle.bd_turns.specs.Room.{turn_room};
 ghost use Rattle.bd_links.specs.Stands.{work_room};
 
 use crate::frame::{leave_frames, lose_unread, serve};
+use crate::marks::Marks;
 use crate::ready::ReadySeats;
 use crate::turn::{hand_out_taken, lose_turns};
 use bd_frames::FrameTable;
@@ -28,6 +29,7 @@ pub struct CallTable {
     pub(crate) todo: WorkTable,
     pub(crate) turns: TurnTable,
     pub(crate) ready: ReadySeats,
+    pub(crate) marks: Marks,
     // Each list surely has room for so many more: what comes in lowers it, and only `reserve` raises it.
     pub(crate) sure_room: usize,
     ghost threads_fit: { sure_room ≤ thread_room threads },
@@ -43,7 +45,7 @@ impl CallTable {
     ghost use Rattle.bd_space.specs.ReadItems as reading;
     ghost use Rattle.bd_ways.specs.Tables.{Tells, Makes, MakesAt};
     ghost use Rattle.bd_calls.specs.Stands.{Stands, StandsFor};
-    ghost use Rattle.bd_calls.specs.Room.{Uses, UsesNothing, nothing, HasRoom, HasEach, frame_count};
+    ghost use Rattle.bd_calls.specs.{Told.{KeepsTold}, Room.{Uses, UsesNothing, nothing, HasRoom, HasEach, frame_count}};
 
     /// An empty table. Takes no memory.
     pub fn new(alloc: Global) -> CallTable
@@ -55,6 +57,7 @@ impl CallTable {
             todo: WorkTable::new(alloc),
             turns: TurnTable::new(alloc),
             ready: ReadySeats::new(alloc),
+            marks: Marks::new(alloc),
             sure_room: 0,
         }
     }
@@ -74,6 +77,7 @@ impl CallTable {
     fn reserve_each(&mut self, each: u32, works: usize) -> Result<(), AllocError>
         ensures stands { Makes (StandsFor self.old) (StandsFor self.new) (λ s. s) }
         ensures uses { UsesNothing self.old self.new }
+        ensures told { KeepsTold self.old self.new }
         ensures room { OnOk result (HasEach self.new each works) }
         ensures grown { OnErr result (HasEach self.old each works → ⊥) }
     {
@@ -87,6 +91,7 @@ impl CallTable {
     fn reserve_ahead(&mut self, works: usize) -> bool
         ensures stands { Makes (StandsFor self.old) (StandsFor self.new) (λ s. s) }
         ensures uses { UsesNothing self.old self.new }
+        ensures told { KeepsTold self.old self.new }
         ensures sure { result ≡ true → works ≤ self.new.sure_room }
     {
         if works > AHEAD as usize || self.reserve_each(AHEAD, AHEAD as usize).is_err() {
@@ -101,6 +106,7 @@ impl CallTable {
     pub fn reserve(&mut self, works: usize) -> Result<(), AllocError>
         ensures stands { Makes (StandsFor self.old) (StandsFor self.new) (λ s. s) }
         ensures uses { UsesNothing self.old self.new }
+        ensures told { KeepsTold self.old self.new }
         ensures room { OnOk result (HasRoom self.new works) }
         // Memory was asked for, or would have been past what there can be: there was no room.
         ensures grown { OnErr result (HasRoom self.old works → ⊥) }
@@ -117,6 +123,7 @@ impl CallTable {
     pub fn keep_ready(&mut self, alloc: Global, seats: u32) -> Result<(), AllocError>
         ensures stands { Makes (StandsFor self.old) (StandsFor self.new) (λ s. s) }
         ensures uses { UsesNothing self.old self.new }
+        ensures told { KeepsTold self.old self.new }
     {
         self.ready = ReadySeats::for_seats(alloc, seats)?;
         Ok(())
@@ -126,6 +133,7 @@ impl CallTable {
     pub fn refresh_ready(&mut self)
         ensures stands { Makes (StandsFor self.old) (StandsFor self.new) (λ s. s) }
         ensures uses { UsesNothing self.old self.new }
+        ensures told { KeepsTold self.old self.new }
     {
         self.ready.refresh(&self.threads, &self.todo);
     }
@@ -135,8 +143,10 @@ impl CallTable {
     pub fn read_by(&mut self, seat: u32, taken: &[Work])
         ensures stands { Makes (StandsFor self.old) (StandsFor self.new) (λ s. reading.read_by s seat taken.now) }
         ensures uses { UsesNothing self.old self.new }
+        ensures told { KeepsTold self.old self.new }
     {
         self.ready.forget_lists_of(taken);
+        self.marks.mark_lists_of(&self.todo, taken);
         serve(&mut self.frames, seat, taken);
         self.todo.remove_taken(taken);
         hand_out_taken(&mut self.turns, taken);
@@ -146,8 +156,10 @@ impl CallTable {
     pub fn thread_goes(&mut self, seat: u32)
         ensures stands { Makes (StandsFor self.old) (StandsFor self.new) (λ s. thread_exits.thread_goes s seat) }
         ensures uses { UsesNothing self.old self.new }
+        ensures told { KeepsTold self.old self.new }
     {
         let list = TodoList::OfThread(seat);
+        self.marks.mark(&self.todo, list);
         leave_frames(&mut self.frames, &self.todo, seat);
         lose_turns(&mut self.turns, &self.todo, list);
         self.todo.clear_list(list);
@@ -159,8 +171,10 @@ impl CallTable {
     pub fn process_goes(&mut self, process: u32)
         ensures stands { Makes (StandsFor self.old) (StandsFor self.new) (λ s. exits.without_process s process) }
         ensures uses { UsesNothing self.old self.new }
+        ensures told { KeepsTold self.old self.new }
     {
         let list = TodoList::OfProcess(process);
+        self.marks.mark(&self.todo, list);
         lose_unread(&mut self.frames, &self.todo, list);
         self.turns.remove_received(process);
         self.todo.clear_list(list);

@@ -1,5 +1,5 @@
 //! Todo lists: which work items are still to be read, and by whom.
-#![tactic(auto, unfolding(bd_space::specs::Todo::owe, bd_space::specs::Todo::has_unread, bd_space::specs::Todo::list_to_read, crate::specs::Room::rooms))]
+#![tactic(auto, unfolding(bd_space::specs::Todo::owe, bd_space::specs::Todo::has_unread, bd_space::specs::Todo::list_to_read, crate::specs::Room::rooms, crate::specs::Told::Recalls))]
 
 ghost use Rattle.std.specs.Prelude.{ℕ, Bool, List, ◌≡◌, ◌==◌, ◌||◌, ◌&&◌, ◌+◌, ◌<◌, ◌≤◌, ◌^◌, ◌++◌, ◌∷◌, [], false, not, nat_le, map, filter, find, reverse, length, count_by, Option, Some, None, option_map, IfOk, OnOk, OnErr, vec_len, vec_capacity};
 ghost use Rattle.std.specs.{List.{list_any, slice_get}, Option.{is_none}};
@@ -45,7 +45,7 @@ impl CallTable {
     ghost use Rattle.bd_space.specs.{declared.space.Object.{Object}, Space.{Space}, Histories.{is_ready}};
     ghost use Rattle.bd_ways.specs.Tables.{Tells, Makes, MakesAt};
     ghost use Rattle.bd_calls.specs.{Ready.{IsSeen}, Stands.{Stands, StandsFor}};
-    ghost use Rattle.bd_calls.specs.Room.{Uses, UsesNothing, nothing, work_room};
+    ghost use Rattle.bd_calls.specs.{Told.{KeepsTold}, Room.{Uses, UsesNothing, nothing, work_room}};
 
     /// Whether an unread call, reply or verdict on a thread's own list keeps it from calling.
     pub fn has_unread(&self, seat: u32) -> bool
@@ -105,9 +105,11 @@ impl CallTable {
         requires { 1 ≤ work_room self.old }
         ensures stands { MakesAt place (StandsFor self.old) (StandsFor self.new) (λ s. spec.owe s list kind) }
         ensures uses { Uses self.old self.new (record nothing { works = 1 }) }
+        ensures told { KeepsTold self.old self.new }
     {
         self.sure_room = self.sure_room.saturating_sub(1);
         self.ready.forget_list(list);
+        self.marks.mark(&self.todo, list);
         self.todo.push(place, list, kind);
     }
 
@@ -116,11 +118,13 @@ impl CallTable {
         requires { 1 ≤ work_room self.old }
         ensures stands { MakesAt place (StandsFor self.old) (StandsFor self.new) (λ s. spec.tell_caller s frame kind) }
         ensures uses { Uses self.old self.new (record nothing { works = 1 }) }
+        ensures told { KeepsTold self.old self.new }
     {
         if let Some(seat) = frame.caller {
             let list = TodoList::OfThread(seat);
             self.sure_room = self.sure_room.saturating_sub(1);
             self.ready.forget_list(list);
+            self.marks.mark(&self.todo, list);
             self.todo.push(place, list, kind);
         }
     }
@@ -136,8 +140,10 @@ impl CallTable {
             → AnswersBy (λ kind b. F.post f kind b) (notices.still_due s.processes s.objects s.references s.deaths)
             → StandsFor self.new (notices.work_goes s) }
         ensures uses { UsesNothing self.old self.new }
+        ensures told { KeepsTold self.old self.new }
     {
         self.ready.forget_all();
+        self.marks.mark_all();
         self.todo.keep_kinds(f);
     }
 
@@ -150,10 +156,12 @@ impl CallTable {
               todo = notices.with_notice s.steps s.processes s.references list s.todo x;
             }) }
         ensures uses { Uses self.old self.new (record nothing { works = 1 }) }
+        ensures told { KeepsTold self.old self.new }
     {
         if wanted && !self.todo.has_notice(object) {
             self.sure_room = self.sure_room.saturating_sub(1);
             self.ready.forget_list(list);
+            self.marks.mark(&self.todo, list);
             self.todo.push(place, list, WorkKind::Notice(object));
         }
     }
@@ -163,9 +171,11 @@ impl CallTable {
         ensures stands { Makes (StandsFor self.old) (StandsFor self.new)
             (λ s. record s { todo = filter (λ w. not (spec.is_notice object w.kind)) s.todo }) }
         ensures uses { UsesNothing self.old self.new }
+        ensures told { KeepsTold self.old self.new }
     {
         if self.todo.has_notice(object) {
             self.ready.forget_all();
+            self.marks.mark_all();
             self.todo.withdraw_notice(object);
         }
     }
@@ -175,8 +185,10 @@ impl CallTable {
         ensures stands { Makes (StandsFor self.old) (StandsFor self.new)
             (λ s. record s { todo = filter (λ w. not (is_some_and (spec.death_of w.kind) (λ n. n == made))) s.todo }) }
         ensures uses { UsesNothing self.old self.new }
+        ensures told { KeepsTold self.old self.new }
     {
         self.ready.forget_all();
+        self.marks.mark_all();
         self.todo.withdraw_death(made);
     }
 }

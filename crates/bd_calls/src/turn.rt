@@ -1,5 +1,5 @@
 //! One-way calls: of one object's, one is due or handed out at a time, in the order in which they were made.
-#![tactic(auto, unfolding(bd_space::specs::Turns::ripen, bd_ways::specs::Local::ripen_of, crate::specs::Room::rooms))]
+#![tactic(auto, unfolding(bd_space::specs::Turns::ripen, bd_ways::specs::Local::ripen_of, crate::specs::Room::rooms, crate::specs::Told::Recalls))]
 
 ghost use Rattle.std.specs.Prelude.{ℕ, Bool, List, ◌≡◌, ◌==◌, ◌||◌, ◌&&◌, ◌+◌, ◌<◌, ◌≤◌, ◌^◌, ◌++◌, ◌∷◌, [], false, not, nat_le, map, filter, find, reverse, length, count_by, Option, Some, None, option_map, IfOk, OnOk, OnErr, vec_len, vec_capacity};
 ghost use Rattle.std.specs.{Option.{option_to_list}, List.{list_any}};
@@ -15,6 +15,7 @@ ghost use Rattle.bd_turns.specs.Room as turn_rooms;
 ghost use Rattle.bd_calls.specs.Ready as ready_seats;
 ghost use Rattle.bd_calls.specs.Turn.{handed_turns, is_other_than};
 
+use crate::marks::mark_receiver;
 use crate::ready::ReadySeats;
 use crate::table::CallTable;
 use crate::work::handed_by;
@@ -106,7 +107,7 @@ impl CallTable {
     ghost use Rattle.bd_space.specs.Freeing.{without_buffer};
     ghost use Rattle.bd_ways.specs.Tables.{Tells, Makes, MakesAt};
     ghost use Rattle.bd_calls.specs.Stands.{Stands, StandsFor};
-    ghost use Rattle.bd_calls.specs.Room.{Uses, UsesNothing, nothing, turn_room, work_room, turn_count};
+    ghost use Rattle.bd_calls.specs.{Told.{KeepsTold}, Room.{Uses, UsesNothing, nothing, turn_room, work_room, turn_count}};
 
     /// The one-way call of a new buffer comes in, if it is one.
     pub fn add_turn(&mut self, turn: Option<Turn>)
@@ -114,6 +115,7 @@ impl CallTable {
         ensures stands { (s : Space) (b : Buffer) → StandsFor self.old s → turn ≡ spec.turn_of b
             → StandsFor self.new (add_buffer s b) }
         ensures uses { Uses self.old self.new (record nothing { turns = 1 }) }
+        ensures told { KeepsTold self.old self.new }
     {
         self.sure_room = self.sure_room.saturating_sub(1);
         push_turn(&mut self.turns, turn);
@@ -123,6 +125,7 @@ impl CallTable {
     pub fn drop_turn(&mut self, made: u32)
         ensures stands { Makes (StandsFor self.old) (StandsFor self.new) (λ s. without_buffer s made) }
         ensures uses { UsesNothing self.old self.new }
+        ensures told { KeepsTold self.old self.new }
     {
         self.turns.remove(made);
     }
@@ -132,9 +135,11 @@ impl CallTable {
         requires { 1 ≤ work_room self.old }
         ensures stands { MakesAt place (StandsFor self.old) (StandsFor self.new) (local.ripen_of object) }
         ensures uses { Uses self.old self.new (record nothing { works = 1 }) }
+        ensures told { KeepsTold self.old self.new }
     {
         let oldest = self.turns.oldest_on(object);
         forget_receiver(&mut self.ready, oldest);
+        mark_receiver(&mut self.marks, &self.todo, oldest);
         self.sure_room = self.sure_room.saturating_sub(1);
         push_first(&mut self.todo, oldest, place);
     }

@@ -4,7 +4,7 @@ ghost use Rattle.std.specs.Prelude.{◌≡◌, ◌<◌, [], true, Some, IfOk, If
 ghost use Rattle.bd_space.specs.Histories.{History, HasPlace, space_after, extended, is_at_limit};
 ghost use Rattle.bd_space.specs.Steps as steps;
 ghost use Rattle.bd_step.specs.{Refusals.{FullOnly, MemoryOnly}, Ending.{is_gone, ended_between, HasEndings}};
-ghost use Rattle.bd_engine.specs.Follows.{Follows};
+ghost use Rattle.bd_engine.specs.{Follows.{Follows}, Reached.{KeepsTold}};
 
 use crate::live::Live;
 use crate::looks::Looks;
@@ -83,6 +83,8 @@ impl Live {
         ensures memory { IfErr result (λ why. (h : History) → Follows self.old h → MemoryOnly why (HasPlace h)) }
         // It has as many seats as before.
         ensures seats { self.new.seats ≡ self.old.seats }
+        // Whatever was told of the todo lists is known still.
+        ensures told { KeepsTold self.old self.new }
     {
         ended.clear();
         match self.list_endings(seat, &step, ended) {

@@ -5,7 +5,7 @@ ghost use Rattle.bd_space.specs.Histories as histories;
 ghost use Rattle.bd_space.specs.Histories.{History, HasPlace, history_of};
 ghost use Rattle.bd_space.specs.Steps as steps;
 ghost use Rattle.bd_step.specs.{Plain.{IsBrief}, declared.answer.Brief.TheVariants.{Got}};
-ghost use Rattle.bd_engine.specs.Follows.{Follows};
+ghost use Rattle.bd_engine.specs.{Follows.{Follows}, Reached.{KeepsTold}};
 ghost use Rattle.bd_engine.specs.Refusals.{FullOnly, MemoryOnly, IsLiveSeats, IsLiveSeatFault};
 
 use crate::tables::HasTables;
@@ -78,6 +78,7 @@ impl Live {
     pub(crate) fn keep_ready(&mut self, alloc: Global) -> Result<(), AllocError>
         ensures follows { (h : History) → Follows self.old h → Follows self.new h }
         ensures seats { self.new.seats ≡ self.old.seats }
+        ensures told { KeepsTold self.old self.new }
     {
         let tables = &mut *self.tables;
         tables.calls.keep_ready(alloc, self.seats)
@@ -87,6 +88,7 @@ impl Live {
     pub(crate) fn refresh_ready(&mut self)
         ensures follows { (h : History) → Follows self.old h → Follows self.new h }
         ensures seats { self.new.seats ≡ self.old.seats }
+        ensures told { KeepsTold self.old self.new }
     {
         let tables = &mut *self.tables;
         tables.calls.refresh_ready();
@@ -113,6 +115,7 @@ impl Live {
             → FullOnly why (histories.is_at_limit h entry.old.seat (Some entry.old.step) ≡ true)) }
         ensures memory { IfErr result (λ why. (h : History) → Follows self.old h → MemoryOnly why (HasPlace h)) }
         ensures seats { self.new.seats ≡ self.old.seats }
+        ensures told { KeepsTold self.old self.new }
     {
         let Some(steps) = self.tables().steps.checked_add(1) else {
             return Err(Why::HistoryFull);
@@ -150,6 +153,8 @@ impl Live {
         ensures memory { IfErr result (λ why. (h : History) → Follows self.old h → MemoryOnly why (HasPlace h)) }
         // It has as many seats as before.
         ensures seats { self.new.seats ≡ self.old.seats }
+        // Whatever was told of the todo lists is known still.
+        ensures told { KeepsTold self.old self.new }
     {
         let answer = StepAnswer::Exited;
         let mut entry = Entry { seat, step, answer };

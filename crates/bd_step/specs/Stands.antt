@@ -12,6 +12,7 @@ use Rattle.bd_objects.specs.declared.room.Room.{Room}
 use Rattle.bd_calls.specs.Stands as calls
 use Rattle.bd_calls.specs.Room as call_rooms
 use Rattle.bd_calls.specs.Stacked.{IsStacked}
+use Rattle.bd_calls.specs.Told as told
 use Rattle.bd_buffers.specs.WindowsStand.{WindowsOf}
 use Rattle.bd_step.specs.declared.tables.Tables.{Tables}
 
@@ -81,6 +82,12 @@ Begins old new f = tables.Makes (Before old) (Within new) f
 -- what f makes needs a number past the limit
 abbrev pub PassesLimit : Tables → (Space → Space) → Type 0
 PassesLimit t f = (s : Space) → Before t s → has_number_past_limit (f s).names ≡ true
+
+-- ---- what was told of the todo lists
+
+-- whatever was told of them: it is known still
+abbrev pub KeepsTold : Tables → Tables → Type 0
+KeepsTold old new = told.KeepsTold old.calls new.calls
 
 -- ---- room
 

@@ -14,7 +14,7 @@ ghost use Rattle.bd_laws.specs.{Lists.{Pairs}, Objects.{NotLater}};
 ghost use Rattle.bd_calls.specs.Room as call_rooms;
 ghost use Rattle.bd_buffers.specs.{WindowsStand.{CanAdd, buffer_room}, Buffer.{freed_buffer}};
 ghost use Rattle.bd_step.specs.Freed as freed;
-ghost use Rattle.bd_step.specs.Stands.{Before, Within, Tells, TellsWithin, CanFollow, MakesWithin, UsesNothing};
+ghost use Rattle.bd_step.specs.Stands.{Before, Within, Tells, TellsWithin, CanFollow, MakesWithin, UsesNothing, KeepsTold};
 ghost use Rattle.bd_step.specs.{Following.{AreTouched}, Meets.{IsBy, IsKept, IsStep}, Deliveries.{IsInside, Spends}};
 
 use crate::answer::Plain;
@@ -84,6 +84,7 @@ impl Tables {
         ensures stands { (s : Space) → Before self.old s → s.steps ≡ buffer.made
             → Within self.new (delivery.add_buffer s buffer) }
         ensures spends { Spends self.old self.new 0 0 1 0 }
+        ensures told { KeepsTold self.old self.new }
     {
         self.calls.add_turn(turn_of(&buffer));
         self.windows.add(buffer);
@@ -110,6 +111,7 @@ impl Tables {
     fn drop_buffer(&mut self, made: u32)
         ensures stands { MakesWithin self.old self.new (λ s. freeing.without_buffer s made) }
         ensures uses { UsesNothing self.old self.new }
+        ensures told { KeepsTold self.old self.new }
     {
         self.windows.free(made);
         self.objects.without_buffer(made);
@@ -130,6 +132,7 @@ impl Tables {
         ensures touched { IfOk result
             (λ os. (s : Space) → Before self.old s → AreTouched (is_among (freed.referred s made)) os.items) }
         ensures room { IfOk result (λ os. CanFollow self.new (length os.items + 2)) }
+        ensures told { KeepsTold self.old self.new }
     {
         let mut touched = Vec::new(self.alloc);
         self.objects.referred(made, &mut touched)?;
@@ -143,8 +146,9 @@ impl Tables {
     fn lose_buffer(&mut self, p: u32, made: u32, touched: &[ObjectId])
         requires in_order { Pairs NotLater touched.now }
         requires room { CanFollow self.old (length touched.now + 2) }
-        ensures { (s : Space) → Within self.old s → freed.IsFreeing p made touched.now s
+        ensures stands { (s : Space) → Within self.old s → freed.IsFreeing p made touched.now s
             → Within self.new (completed (freeing.without_buffer s made)) }
+        ensures told { KeepsTold self.old self.new }
     {
         let target = self.turn_target_at(made);
         self.drop_buffer(made);
@@ -154,7 +158,8 @@ impl Tables {
 
     /// The step by which a process frees a buffer that was handed out to it.
     pub(crate) fn free(&mut self, a: Actor, pointer: u64) -> Result<Plain, Why>
-        ensures { IsStep self.old self.new (IsBy a) (λ s. freeing.free_step s a.process.made pointer) result }
+        ensures step { IsStep self.old self.new (IsBy a) (λ s. freeing.free_step s a.process.made pointer) result }
+        ensures told { KeepsTold self.old self.new }
     {
         let made = match self.free_check(a.process.made, pointer) {
             Ok(made) => made,

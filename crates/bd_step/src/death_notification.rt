@@ -13,7 +13,7 @@ ghost use Rattle.bd_ways.specs.Tables.{MakesWhere};
 ghost use Rattle.bd_deaths.specs.Due.{is_due};
 ghost use Rattle.bd_objects.specs.{Room.{death_room}, New.{IsNewDeath}};
 ghost use Rattle.bd_calls.specs.Room.{work_room};
-ghost use Rattle.bd_step.specs.{Stands.{Uses, Within, MakesWithin, UsesNothing}, Meets.{IsBy, IsStep}};
+ghost use Rattle.bd_step.specs.{Stands.{Uses, Within, MakesWithin, UsesNothing, KeepsTold}, Meets.{IsBy, IsStep}};
 ghost use Rattle.bd_step.specs.Telling.{owed};
 
 use crate::answer::Plain;
@@ -39,6 +39,7 @@ impl Tables {
         ensures stands { MakesWhere (Within self.old) (IsNewDeath self.old.steps p o) (Within self.new)
             (λ s. deaths.with_death s p o cookie phase) }
         ensures uses { UsesNothing self.old self.new }
+        ensures told { KeepsTold self.old self.new }
     {
         self.objects.with_death(self.steps, p, o, cookie, phase);
     }
@@ -47,8 +48,9 @@ impl Tables {
     fn add_told_death(&mut self, p: u32, o: ObjectId, cookie: u64)
         requires deaths { 1 ≤ death_room self.old.objects }
         requires works { 1 ≤ work_room self.old.calls }
-        ensures { MakesWhere (Within self.old) (IsNewDeath self.old.steps p o) (Within self.new)
+        ensures stands { MakesWhere (Within self.old) (IsNewDeath self.old.steps p o) (Within self.new)
             (λ s. todo.owe (deaths.with_death s p o cookie Queued) (OfProcess p) (Death s.steps)) }
+        ensures told { KeepsTold self.old self.new }
     {
         let place = self.steps;
         self.add_death(p, o, cookie, Phase::Queued);
@@ -59,8 +61,9 @@ impl Tables {
     fn add_request(&mut self, p: u32, o: ObjectId, cookie: u64)
         requires deaths { 1 ≤ death_room self.old.objects }
         requires works { 1 ≤ work_room self.old.calls }
-        ensures { MakesWhere (Within self.old) (IsNewDeath self.old.steps p o) (Within self.new)
+        ensures stands { MakesWhere (Within self.old) (IsNewDeath self.old.steps p o) (Within self.new)
             (λ s. deaths.requested s p o cookie) }
+        ensures told { KeepsTold self.old self.new }
     {
         if self.objects.owner_lives(&self.processes, o) {
             self.add_death(p, o, cookie, Phase::Armed);
@@ -71,7 +74,8 @@ impl Tables {
 
     /// The step by which a process asks to be told of an owner's end. Nothing follows from it.
     pub(crate) fn request_death(&mut self, a: Actor, n: u32, cookie: u64) -> Result<Plain, Why>
-        ensures { IsStep self.old self.new (IsBy a) (λ s. deaths.request_step s a.process.made n cookie) result }
+        ensures step { IsStep self.old self.new (IsBy a) (λ s. deaths.request_step s a.process.made n cookie) result }
+        ensures told { KeepsTold self.old self.new }
     {
         let o = match self.objects.request_check(a.process.made, n) {
             Ok(o) => o,
@@ -91,7 +95,8 @@ impl Tables {
     // A notification goes, and the thread is told.
     fn end_death(&mut self, seat: u32, x: DeathNotification)
         requires { 1 ≤ work_room self.old.calls }
-        ensures { MakesWithin self.old self.new (λ s. deaths.death_ended s seat x) }
+        ensures stands { MakesWithin self.old self.new (λ s. deaths.death_ended s seat x) }
+        ensures told { KeepsTold self.old self.new }
     {
         self.objects.without_death(x.made);
         self.add_work(TodoList::OfThread(seat), WorkKind::Cleared(x.cookie));
@@ -100,7 +105,8 @@ impl Tables {
     // A notification is cleared: marked where it is queued or told; else it goes.
     fn drop_request(&mut self, seat: u32, x: DeathNotification)
         requires { 1 ≤ work_room self.old.calls }
-        ensures { MakesWithin self.old self.new (λ s. deaths.cleared s seat x) }
+        ensures stands { MakesWithin self.old self.new (λ s. deaths.cleared s seat x) }
+        ensures told { KeepsTold self.old self.new }
     {
         if is_out(x.phase) {
             self.objects.mark_cleared(x.made);
@@ -111,8 +117,9 @@ impl Tables {
 
     /// The step by which a process takes back that it asked to be told of an owner's end. Nothing follows from it.
     pub(crate) fn clear_death(&mut self, a: Actor, n: u32, cookie: u64) -> Result<Plain, Why>
-        ensures { IsStep self.old self.new (IsBy a)
+        ensures step { IsStep self.old self.new (IsBy a)
             (λ s. deaths.clear_step s a.thread.seat a.process.made n cookie) result }
+        ensures told { KeepsTold self.old self.new }
     {
         let x = match self.objects.clear_check(a.process.made, n, cookie) {
             Ok(x) => x,
@@ -128,7 +135,8 @@ impl Tables {
     // The process knows of the owner's end: a marked notification goes; else it is done.
     fn know_death(&mut self, seat: u32, x: DeathNotification)
         requires { 1 ≤ work_room self.old.calls }
-        ensures { MakesWithin self.old self.new (λ s. deaths.death_done s seat x) }
+        ensures stands { MakesWithin self.old self.new (λ s. deaths.death_done s seat x) }
+        ensures told { KeepsTold self.old self.new }
     {
         if x.cleared {
             self.end_death(seat, x);
@@ -139,8 +147,9 @@ impl Tables {
 
     /// The step by which a process acknowledges that it was told of an owner's end. Nothing follows from it.
     pub(crate) fn death_done(&mut self, a: Actor, cookie: u64) -> Result<Plain, Why>
-        ensures { IsStep self.old self.new (IsBy a)
+        ensures step { IsStep self.old self.new (IsBy a)
             (λ s. deaths.death_done_step s a.thread.seat a.process.made cookie) result }
+        ensures told { KeepsTold self.old self.new }
     {
         let x = match self.objects.told_death(a.process.made, cookie) {
             Some(x) => x,
@@ -158,6 +167,7 @@ impl Tables {
         requires { length due.now ≤ work_room self.old.calls }
         ensures stands { MakesWithin self.old self.new (λ s. owed s due.now) }
         ensures uses { Uses self.old self.new 0 0 0 (length due.now) }
+        ensures told { KeepsTold self.old self.new }
     {
         for x in due {
             let list = TodoList::OfProcess(x.process);
@@ -171,6 +181,7 @@ impl Tables {
         ensures stands { (s : Space) → Within self.old s → due.now ≡ filter (is_due s.objects p) s.deaths
             → Within self.new (exits.tell_deaths s p) }
         ensures uses { Uses self.old self.new 0 0 0 (length due.now) }
+        ensures told { KeepsTold self.old self.new }
     {
         self.owe_deaths(due);
         self.objects.tell_deaths(p);

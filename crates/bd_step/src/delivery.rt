@@ -13,7 +13,7 @@ ghost use Rattle.bd_ways.specs.{Local.{objects_of_items}, Tables.{MakesWhere}};
 ghost use Rattle.bd_objects.specs.Room as object_rooms;
 ghost use Rattle.bd_calls.specs.Room as call_rooms;
 ghost use Rattle.bd_buffers.specs.WindowsStand.{CanAdd, buffer_room};
-ghost use Rattle.bd_step.specs.{Stands.{Before, Tells, Makes, Begins, PassesLimit}, Meets.{IsKept}};
+ghost use Rattle.bd_step.specs.{Stands.{Before, Tells, Makes, Begins, PassesLimit, KeepsTold}, Meets.{IsKept}};
 ghost use Rattle.bd_step.specs.Following.{AreTouched};
 ghost use Rattle.bd_step.specs.Deliveries.{IsSound, IsDeliverable, IsReady, SendsNew, Delivers, Spends, OnlyWorks, OnlyObjects, sending};
 
@@ -167,6 +167,7 @@ impl Tables {
         ensures ready { OnOk result (IsReady self.new v.now) }
         ensures touched { IfOk result (λ os. AreTouched (objects_of_items v.now.sending.items) os.items) }
         ensures len { IfOk result (λ os. length os.items ≡ length v.now.sending.items) }
+        ensures told { KeepsTold self.old self.new }
     {
         let items = v.items().len();
         let references = items.checked_add(1).ok_or(AllocError)?;
@@ -239,6 +240,7 @@ impl Tables {
         ensures stands { Makes self.old self.new
             (λ s. record s { todo = spec.withdraw_notice s.objects s.todo x.now }) }
         ensures works { OnlyWorks self.old self.new 0 }
+        ensures told { KeepsTold self.old self.new }
     {
         if self.takes_notice(x) {
             self.calls.withdraw_notice(x.object);
@@ -249,6 +251,7 @@ impl Tables {
         ensures stands { Makes self.old self.new
             (λ s. record s { todo = fold (spec.withdraw_notice s.objects) s.todo items.now }) }
         ensures works { OnlyWorks self.old self.new 0 }
+        ensures told { KeepsTold self.old self.new }
     {
         for x in items {
             self.withdraw_notice(x);
@@ -260,6 +263,7 @@ impl Tables {
         requires { 1 ≤ call_rooms.work_room self.old.calls }
         ensures stands { Makes self.old self.new (λ s. record s { todo = spec.add_notice s seat s.todo x.now }) }
         ensures works { OnlyWorks self.old self.new 1 }
+        ensures told { KeepsTold self.old self.new }
     {
         if !x.flat.kind.is_own() {
             return;
@@ -276,6 +280,7 @@ impl Tables {
         ensures stands { Makes self.old self.new
             (λ s. record s { todo = fold (spec.add_notice s seat) s.todo items.now }) }
         ensures works { OnlyWorks self.old self.new (length items.now) }
+        ensures told { KeepsTold self.old self.new }
     {
         for x in items {
             self.add_notice(seat, x);
@@ -287,6 +292,7 @@ impl Tables {
         requires { length items.now ≤ call_rooms.work_room self.old.calls }
         ensures stands { Makes self.old self.new (λ s. spec.own_notices s seat items.now) }
         ensures works { OnlyWorks self.old self.new (length items.now) }
+        ensures told { KeepsTold self.old self.new }
     {
         self.withdraw_notices(items);
         self.add_notices(seat, items);
@@ -301,6 +307,7 @@ impl Tables {
         ensures err { OnErr result (IsKept self.old self.new) }
         ensures full { OnErr result (PassesLimit self.old (λ s. names_go (spec.known_by s v.now))) }
         ensures objects { OnlyObjects self.old self.new (length v.now.sending.made) }
+        ensures told { KeepsTold self.old self.new }
     {
         self.objects.deliver(
             self.steps,
@@ -321,6 +328,7 @@ impl Tables {
         ensures stands { Begins self.old self.new
             (λ s. spec.own_notices (spec.add_buffer s (spec.buffer_of s a d.now v)) a.thread.seat v.sending.items) }
         ensures spends { Spends self.old self.new 0 0 1 (length v.sending.items) }
+        ensures told { KeepsTold self.old self.new }
     {
         self.own_notices(a.thread.seat, v.items());
         let buffer = self.buffer_of(a, d, v);
@@ -340,6 +348,7 @@ impl Tables {
         ensures err { OnErr result (IsKept self.old self.new) }
         ensures full { OnErr result (PassesLimit self.old (λ s. names_go (spec.known_by s v))) }
         ensures spends { OnOk result (Spends self.old self.new (length v.sending.made) 0 1 (length v.sending.items)) }
+        ensures told { KeepsTold self.old self.new }
     {
         match self.known_by(&v) {
             Err(full) => Err(full),

@@ -5,7 +5,7 @@ ghost use Rattle.bd_space.specs.Space.{Space};
 ghost use Rattle.bd_laws.specs.{Lists.{Pairs}, Objects.{NotLater}};
 ghost use Rattle.bd_deaths.specs.Due.{due_in};
 ghost use Rattle.bd_calls.specs.Room.{frame_count, work_room};
-ghost use Rattle.bd_step.specs.{Stands.{Before, TellsBefore}, Meets.{IsKept}};
+ghost use Rattle.bd_step.specs.{Stands.{Before, TellsBefore, KeepsTold}, Meets.{IsKept}};
 ghost use Rattle.bd_step.specs.Exits.{Grows, HasWork, HasList, HasThread, HasThreads, HasProcess};
 
 use crate::tables::Tables;
@@ -109,6 +109,7 @@ impl Tables {
         ensures in_order { IfOk result (λ x. Pairs NotLater x.objects.items) }
         ensures room { IfOk result (λ x.
             frame_count self.new.calls + (length x.objects.items + works) ≤ work_room self.new.calls) }
+        ensures told { KeepsTold self.old self.new }
     {
         exit.objects = in_order(exit.objects);
         let works = exit.objects.len().checked_add(works).ok_or(AllocError)?;
@@ -123,6 +124,7 @@ impl Tables {
         ensures in_order { IfOk result (λ x. Pairs NotLater x.objects.items) }
         ensures room { IfOk result (λ x.
             frame_count self.new.calls + length x.objects.items ≤ work_room self.new.calls) }
+        ensures told { KeepsTold self.old self.new }
     {
         let mut exit = Exit::new(self.alloc);
         self.touch_thread(seat, &mut exit)?;
@@ -137,6 +139,7 @@ impl Tables {
         ensures deaths { IfOk result (λ x. TellsBefore self.old x.deaths.items (λ s. due_in s.objects p s.deaths)) }
         ensures room { IfOk result (λ x.
             frame_count self.new.calls + (length x.objects.items + length x.deaths.items) ≤ work_room self.new.calls) }
+        ensures told { KeepsTold self.old self.new }
     {
         let mut exit = Exit::new(self.alloc);
         self.touch_threads(seats, &mut exit)?;

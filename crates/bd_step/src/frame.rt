@@ -6,7 +6,7 @@ ghost use Rattle.bd_space.specs.Transactions as transactions;
 ghost use Rattle.bd_space.specs.{Frames.{serves, is_frame}, Space.{Space}, Seats.{process_in}};
 ghost use Rattle.bd_space.specs.Replies as replies;
 ghost use Rattle.bd_calls.specs.Room.{work_room, frame_room};
-ghost use Rattle.bd_step.specs.Stands.{Makes, MakesOfStacked, Tells, StandsAt, TellsBefore};
+ghost use Rattle.bd_step.specs.Stands.{Makes, MakesOfStacked, Tells, StandsAt, TellsBefore, KeepsTold};
 ghost use Rattle.bd_step.specs.Deliveries.{Spends, SpendsNothing};
 
 use crate::tables::Tables;
@@ -19,6 +19,7 @@ impl Tables {
         requires works { 1 ≤ work_room self.old.calls }
         ensures stands { MakesOfStacked self.old self.new (λ s. transactions.call_out s seat process) }
         ensures spends { Spends self.old self.new 0 1 0 1 }
+        ensures told { KeepsTold self.old self.new }
     {
         self.calls.call_out(self.steps, seat, process);
     }
@@ -27,6 +28,7 @@ impl Tables {
     pub(crate) fn close(&mut self, made: u32)
         ensures stands { Makes self.old self.new (λ s. frames.closed s made) }
         ensures spends { SpendsNothing self.old self.new }
+        ensures told { KeepsTold self.old self.new }
     {
         self.calls.close(made);
     }

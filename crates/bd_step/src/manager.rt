@@ -4,7 +4,7 @@ ghost use Rattle.std.specs.Prelude.{◌≤◌};
 ghost use Rattle.bd_space.specs.Steps as steps;
 ghost use Rattle.bd_ways.specs.Tables.{MakesWhere};
 ghost use Rattle.bd_objects.specs.{Room.{object_room, reference_room}, New.{IsNewManager}};
-ghost use Rattle.bd_step.specs.{Stands.{TellsBefore, Within}, Meets.{IsBy, IsStep}};
+ghost use Rattle.bd_step.specs.{Stands.{TellsBefore, Within, KeepsTold}, Meets.{IsBy, IsStep}};
 
 use crate::answer::Plain;
 use crate::tables::{NOTHING, Tables};
@@ -27,6 +27,7 @@ impl Tables {
         requires references { 1 ≤ reference_room self.old.objects }
         ensures stands { MakesWhere (Within self.old) (IsNewManager self.old.steps p) (Within self.new)
             (λ s. steps.with_manager s p) }
+        ensures told { KeepsTold self.old self.new }
     {
         self.objects.with_manager(self.steps, p);
         self.manager = Some(ObjectId {
@@ -37,7 +38,8 @@ impl Tables {
 
     /// The step that makes the process the context manager.
     pub(crate) fn set_manager(&mut self, a: Actor) -> Result<Plain, Why>
-        ensures { IsStep self.old self.new (IsBy a) (λ s. steps.manager_step s a) result }
+        ensures step { IsStep self.old self.new (IsBy a) (λ s. steps.manager_step s a) result }
+        ensures told { KeepsTold self.old self.new }
     {
         if self.is_manager_busy(a.process.made) {
             return Ok(Plain::Refused(Fault::ManagerBusy));

@@ -12,7 +12,7 @@ ghost use Rattle.bd_processes.specs.Room.{process_room};
 ghost use Rattle.bd_deaths.specs.Due.{due_in};
 ghost use Rattle.bd_calls.specs.Room.{thread_room, work_room, frame_count};
 ghost use Rattle.bd_buffers.specs.WindowsStand.{Stands, window_room};
-ghost use Rattle.bd_step.specs.Stands.{Tells, Before, Within, TellsBefore, Uses, MakesWithin, UsesNothing};
+ghost use Rattle.bd_step.specs.Stands.{Tells, Before, Within, TellsBefore, Uses, MakesWithin, UsesNothing, KeepsTold};
 ghost use Rattle.bd_step.specs.{Exits.{HasProcess}, Meets.{IsAny, IsBy, IsKept, IsStep}};
 
 use crate::answer::Plain;
@@ -80,6 +80,7 @@ impl Tables {
         ensures stands { (s : Space) → Before self.old s → seats.process_with_pid s.processes pid ≡ None
             → Stands window size [] → Within self.new (steps.with_process s pid euid size) }
         ensures threads { thread_room self.new.calls ≡ thread_room self.old.calls }
+        ensures told { KeepsTold self.old self.new }
     {
         self.processes.add(Process {
             made: self.steps,
@@ -99,6 +100,7 @@ impl Tables {
         ensures processes { OnOk result (1 ≤ process_room self.new.processes) }
         ensures windows { OnOk result (1 ≤ window_room self.new.windows) }
         ensures threads { OnOk result (1 ≤ thread_room self.new.calls) }
+        ensures told { KeepsTold self.old self.new }
     {
         self.reserve(NOTHING, 0)?;
         self.processes.reserve()?;
@@ -108,7 +110,8 @@ impl Tables {
 
     /// The step that opens a process with one thread.
     pub(crate) fn open(&mut self, seat: u32, pid: u32, euid: u32, size: u32) -> Result<Plain, Why>
-        ensures { IsStep self.old self.new IsAny (λ s. steps.open_step s seat pid euid size) result }
+        ensures step { IsStep self.old self.new IsAny (λ s. steps.open_step s seat pid euid size) result }
+        ensures told { KeepsTold self.old self.new }
     {
         if let Some(fault) = self.open_fault(seat, pid, size) {
             return Ok(Plain::Refused(fault));
@@ -125,6 +128,7 @@ impl Tables {
     fn threads_go(&mut self, seats: &[u32])
         ensures stands { MakesWithin self.old self.new (λ s. fold thread_exits.thread_goes s seats.now) }
         ensures uses { UsesNothing self.old self.new }
+        ensures told { KeepsTold self.old self.new }
     {
         for seat in seats {
             self.thread_goes(*seat);
@@ -135,6 +139,7 @@ impl Tables {
     fn without_process(&mut self, p: u32)
         ensures stands { MakesWithin self.old self.new (λ s. exits.without_process s p) }
         ensures uses { UsesNothing self.old self.new }
+        ensures told { KeepsTold self.old self.new }
     {
         self.manager = self.objects.manager_without(self.manager, p);
         self.objects.without_process(p);
@@ -152,6 +157,7 @@ impl Tables {
         ensures deaths { IfOk result (λ x. TellsBefore self.old x.1.deaths.items (λ s. due_in s.objects p s.deaths)) }
         ensures room { IfOk result (λ x. frame_count self.new.calls
             + (length x.1.objects.items + length x.1.deaths.items) ≤ work_room self.new.calls) }
+        ensures told { KeepsTold self.old self.new }
     {
         let seats = self.calls.seats_of(self.alloc, p)?;
         let exit = self.begin_process_exit(seats.as_slice(), p)?;
@@ -166,6 +172,7 @@ impl Tables {
             → due.now ≡ due_in s.objects p s.deaths
             → Within self.new (exits.tell_deaths (exits.without_process (exits.threads_go s p) p) p) }
         ensures uses { Uses self.old self.new 0 0 0 (length due.now) }
+        ensures told { KeepsTold self.old self.new }
     {
         self.threads_go(seats);
         self.without_process(p);
@@ -174,7 +181,8 @@ impl Tables {
 
     /// The step that ends a process with all its threads. What it touches is gathered before anything changes.
     pub(crate) fn exit_process(&mut self, a: Actor) -> Result<Plain, Why>
-        ensures { IsStep self.old self.new (IsBy a) (λ s. exits.exit_process_step s a) result }
+        ensures step { IsStep self.old self.new (IsBy a) (λ s. exits.exit_process_step s a) result }
+        ensures told { KeepsTold self.old self.new }
     {
         let p = a.process.made;
         let Ok((seats, exit)) = self.begin_exit(p) else {

@@ -11,7 +11,7 @@ ghost use Rattle.bd_space.specs.Returns as returns;
 ghost use Rattle.bd_buffers.specs.WindowsStand.{made_of_buffer};
 ghost use Rattle.bd_objects.specs.Room.{reference_room};
 ghost use Rattle.bd_calls.specs.Room.{work_room};
-ghost use Rattle.bd_step.specs.Stands.{Before, Within, TellsBefore, TellsWithin, UsesNothing};
+ghost use Rattle.bd_step.specs.Stands.{Before, Within, TellsBefore, TellsWithin, UsesNothing, KeepsTold};
 ghost use Rattle.bd_step.specs.{Meets.{Meets, IsBy, IsKept, IsStepWritten}, Plain.{IsGot}, Taking.{AreTaken, IsReading}};
 
 use crate::answer::{Brief, Plain, written};
@@ -212,6 +212,7 @@ impl Tables {
         ensures stands { IsKept self.old self.new }
         ensures references { OnOk result (2 * works ≤ reference_room self.new.objects) }
         ensures works { OnOk result (touched ≤ work_room self.new.calls) }
+        ensures told { KeepsTold self.old self.new }
     {
         let references = works.checked_mul(2).ok_or(AllocError)?;
         self.reserve(
@@ -229,6 +230,7 @@ impl Tables {
         ensures stands { (s : Space) → Within self.old s → made ≡ option_map made_of_buffer (spec.buffer_taken s works.now)
             → Within self.new (spec.read_by s seat works.now) }
         ensures uses { UsesNothing self.old self.new }
+        ensures told { KeepsTold self.old self.new }
     {
         self.objects.read_by(self.steps, works);
         self.calls.read_by(seat, works);
@@ -252,6 +254,7 @@ impl Tables {
         ensures got { OnOk result (IsGot answer.new) }
         ensures copied { IsTrue both → OnOk result (again.new ≡ answer.new) }
         ensures err { OnErr result (IsKept self.old self.new) }
+        ensures told { KeepsTold self.old self.new }
     {
         let Taking { works, stream } = self.take(list, limit)?;
         let buffer = self.buffer_taken(works.as_slice());
@@ -274,7 +277,8 @@ impl Tables {
         answer: &mut StepAnswer,
         again: &mut StepAnswer,
     ) -> Result<Brief, Why>
-        ensures { IsStepWritten self.old self.new both (IsBy a) (λ s. spec.read_step s a limit) answer.new again.new result }
+        ensures step { IsStepWritten self.old self.new both (IsBy a) (λ s. spec.read_step s a limit) answer.new again.new result }
+        ensures told { KeepsTold self.old self.new }
     {
         if limit < 72 {
             return written(Ok(Plain::Refused(Fault::ReadTooSmall)), answer);

@@ -7,7 +7,7 @@ ghost use Rattle.bd_space.specs.Asking as asking;
 ghost use Rattle.bd_space.specs.Outcomes.{completed};
 ghost use Rattle.bd_objects.specs.Room.{reference_room, name_room};
 ghost use Rattle.bd_calls.specs.Room.{work_room};
-ghost use Rattle.bd_step.specs.{Stands.{MakesOfTidy, PassesLimit}, Meets.{IsBy, IsKept, IsStep}};
+ghost use Rattle.bd_step.specs.{Stands.{MakesOfTidy, PassesLimit, KeepsTold}, Meets.{IsBy, IsKept, IsStep}};
 
 use crate::answer::Plain;
 use crate::tables::{NOTHING, Tables};
@@ -27,6 +27,7 @@ impl Tables {
         ensures full { OnErr result (PassesLimit self.old (λ s. completed (asking.ask s p o strong))) }
         // There is room by then, so that nothing else is a reason.
         ensures limit { IfErr result (λ why. why ≡ Why.HistoryFull) }
+        ensures told { KeepsTold self.old self.new }
     {
         match self.objects.ask(self.steps, self.manager, p, n, o, strong) {
             Ok(()) => {
@@ -39,7 +40,8 @@ impl Tables {
 
     /// The step by which a process asks for an object, weakly or strongly.
     pub(crate) fn ask(&mut self, a: Actor, n: u32, strong: bool) -> Result<Plain, Why>
-        ensures { IsStep self.old self.new (IsBy a) (λ s. asking.ask_step s a.process.made n strong) result }
+        ensures step { IsStep self.old self.new (IsBy a) (λ s. asking.ask_step s a.process.made n strong) result }
+        ensures told { KeepsTold self.old self.new }
     {
         let o = match self
             .objects
@@ -66,6 +68,7 @@ impl Tables {
     fn lose_asked(&mut self, p: u32, o: ObjectId, strong: bool)
         requires { 1 ≤ work_room self.old.calls }
         ensures stands { MakesOfTidy self.old self.new (λ s. completed (asking.drop_asked s p o strong)) }
+        ensures told { KeepsTold self.old self.new }
     {
         self.objects.drop_asked(p, o, strong);
         self.follow_among(p, &[o]);
@@ -73,7 +76,8 @@ impl Tables {
 
     /// The step by which a process drops a reference that it asked for.
     pub(crate) fn drop_asked(&mut self, a: Actor, n: u32, strong: bool) -> Result<Plain, Why>
-        ensures { IsStep self.old self.new (IsBy a) (λ s. asking.drop_step s a.process.made n strong) result }
+        ensures step { IsStep self.old self.new (IsBy a) (λ s. asking.drop_step s a.process.made n strong) result }
+        ensures told { KeepsTold self.old self.new }
     {
         let o = match self.objects.drop_check(a.process.made, n, strong) {
             Ok(o) => o,
@@ -90,6 +94,7 @@ impl Tables {
     fn lose_handshake(&mut self, o: ObjectId, strong: bool)
         requires { 1 ≤ work_room self.old.calls }
         ensures stands { MakesOfTidy self.old self.new (λ s. completed (asking.acknowledge s o strong)) }
+        ensures told { KeepsTold self.old self.new }
     {
         self.objects.acknowledge(o, strong);
         self.follow_objects(&[o]);
@@ -103,7 +108,8 @@ impl Tables {
         cookie: u64,
         strong: bool,
     ) -> Result<Plain, Why>
-        ensures { IsStep self.old self.new (IsBy a) (λ s. asking.done_step s a.process.made ptr cookie strong) result }
+        ensures step { IsStep self.old self.new (IsBy a) (λ s. asking.done_step s a.process.made ptr cookie strong) result }
+        ensures told { KeepsTold self.old self.new }
     {
         let x = match self.objects.done_check(a.process.made, ptr, cookie, strong) {
             Ok(x) => x,

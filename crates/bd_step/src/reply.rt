@@ -9,7 +9,7 @@ ghost use Rattle.bd_space.specs.Names.{names_go};
 ghost use Rattle.bd_space.specs.Outcomes as outcomes;
 ghost use Rattle.bd_space.specs.Replies as spec;
 ghost use Rattle.bd_calls.specs.Room.{work_room};
-ghost use Rattle.bd_step.specs.Stands.{CanFollow, TellsBefore, Makes, PassesLimit};
+ghost use Rattle.bd_step.specs.Stands.{CanFollow, TellsBefore, Makes, PassesLimit, KeepsTold};
 ghost use Rattle.bd_step.specs.Meets.{IsBy, IsServing, IsReplying, IsKept, IsStep};
 ghost use Rattle.bd_step.specs.Deliveries.{IsDeliverable, IsReady, Delivers, Spends};
 
@@ -48,6 +48,7 @@ impl Tables {
             (λ s. todo.tell_caller (todo.owe (frames.closed s f.made) (OfThread seat) (kinds.Complete false)) f
             (kinds.Reply s.steps)) }
         ensures spends { Spends self.old self.new 0 0 0 2 }
+        ensures told { KeepsTold self.old self.new }
     {
         self.close(f.made);
         self.owe(seat, WorkKind::Complete { spam: false });
@@ -64,6 +65,7 @@ impl Tables {
         ensures follow { OnOk result (CanFollow self.new (length v.sending.items)) }
         // There is room by then, so that nothing else is a reason.
         ensures limit { IfErr result (λ why. why ≡ Why.HistoryFull) }
+        ensures told { KeepsTold self.old self.new }
     {
         match self.delivered(a, d, v) {
             Err(NumbersFull) => Err(Why::HistoryFull),
@@ -84,8 +86,9 @@ impl Tables {
         v: Delivery,
     ) -> Result<Plain, Why>
         requires { IsDeliverable self.old d.now v }
-        ensures { IsStep self.old self.new (IsReplying a d.now f v)
+        ensures step { IsStep self.old self.new (IsReplying a d.now f v)
             (λ s. outcomes.accepted (spec.replied s a d.now f v)) result }
+        ensures told { KeepsTold self.old self.new }
     {
         let parent = f.parent;
         let Ok(touched) = self.make_ready(&v) else {
@@ -106,6 +109,7 @@ impl Tables {
         requires { 2 ≤ work_room self.old.calls }
         ensures stands { Makes self.old self.new (λ s. spec.reply_refused s seat f) }
         ensures spends { Spends self.old self.new 0 0 0 2 }
+        ensures told { KeepsTold self.old self.new }
     {
         self.owe(seat, WorkKind::Refusal(Return::TransactionComplete));
         self.close(f.made);
@@ -117,6 +121,7 @@ impl Tables {
         ensures step { IsStep self.old self.new (IsServing seat f)
             (λ s. outcomes.stopped cause (spec.reply_refused s seat f)) result }
         ensures memory { IfErr result (λ why. why ≡ Why.NoMemory) }
+        ensures told { KeepsTold self.old self.new }
     {
         if self.reserve(NOTHING, 2).is_err() {
             return Err(Why::NoMemory);
@@ -134,8 +139,9 @@ impl Tables {
         parcel: &Option<Parcel>,
         f: Frame,
     ) -> Result<Plain, Why>
-        ensures { IsStep self.old self.new (IsServing a.thread.seat f)
+        ensures step { IsStep self.old self.new (IsServing a.thread.seat f)
             (λ s. spec.reply_to s a d.now parcel.now (Some f)) result }
+        ensures told { KeepsTold self.old self.new }
     {
         match self.reply_check(a, d, parcel, &f) {
             Err(_) => Err(Why::NoMemory),
@@ -151,7 +157,8 @@ impl Tables {
         d: &TransactionData,
         parcel: &Option<Parcel>,
     ) -> Result<Plain, Why>
-        ensures { IsStep self.old self.new (IsBy a) (λ s. spec.reply_step s a d.now parcel.now) result }
+        ensures step { IsStep self.old self.new (IsBy a) (λ s. spec.reply_step s a d.now parcel.now) result }
+        ensures told { KeepsTold self.old self.new }
     {
         match self.calls.served_innermost(a.thread.seat) {
             None => self.stop(a.thread.seat, Cause::NoCall, Return::FailedReply),

@@ -4,7 +4,7 @@ ghost use Rattle.std.specs.Prelude.{◌≡◌, ◌&&◌, Some, Ok};
 ghost use Rattle.bd_space.specs.{Space.{Space}, Seats.{process_in}, Windows.{buffers_of}};
 ghost use Rattle.bd_space.specs.Spam as spec;
 ghost use Rattle.bd_space.specs.declared.space.Process.{Process};
-ghost use Rattle.bd_step.specs.{Stands.{Within}, Meets.{IsBy, IsStep}};
+ghost use Rattle.bd_step.specs.{Stands.{Within, KeepsTold}, Meets.{IsBy, IsStep}};
 
 use crate::answer::Plain;
 use crate::tables::Tables;
@@ -14,7 +14,8 @@ impl Tables {
     /// The step by which a process asks for reports of its own flooding, or no longer. Nothing follows from it, and it
     /// takes no memory.
     pub(crate) fn set_spam_detection(&mut self, a: Actor, on: bool) -> Plain
-        ensures { IsStep self.old self.new (IsBy a) (λ s. spec.spam_step s on a) (Ok result) }
+        ensures step { IsStep self.old self.new (IsBy a) (λ s. spec.spam_step s on a) (Ok result) }
+        ensures told { KeepsTold self.old self.new }
     {
         self.processes.set_spam_detection(a.process.made, on);
         Plain::Set

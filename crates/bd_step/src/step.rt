@@ -1,7 +1,7 @@
 //! Every step of the tables.
 
 ghost use Rattle.bd_space.specs.{Seats.{actor}, Steps.{change, command_step}};
-ghost use Rattle.bd_step.specs.Meets.{IsAny, IsBy, IsNobody, IsStep, IsStepWritten};
+ghost use Rattle.bd_step.specs.{Stands.{KeepsTold}, Meets.{IsAny, IsBy, IsNobody, IsStep, IsStepWritten}};
 
 use crate::answer::{Brief, Plain, written};
 use crate::tables::Tables;
@@ -18,7 +18,8 @@ impl Tables {
         command: &Command,
         parcel: &Option<Parcel>,
     ) -> Result<Plain, Why>
-        ensures { IsStep self.old self.new (IsBy a) (λ s. command_step s a command.now parcel.now) result }
+        ensures step { IsStep self.old self.new (IsBy a) (λ s. command_step s a command.now parcel.now) result }
+        ensures told { KeepsTold self.old self.new }
     {
         match command {
             Command::Transaction(d) => self.transaction(a, d, parcel),
@@ -47,8 +48,9 @@ impl Tables {
         answer: &mut StepAnswer,
         again: &mut StepAnswer,
     ) -> Result<Brief, Why>
-        ensures { IsStepWritten self.old self.new both (IsBy a) (λ s. change s a.thread.seat step.now)
+        ensures step { IsStepWritten self.old self.new both (IsBy a) (λ s. change s a.thread.seat step.now)
             answer.new again.new result }
+        ensures told { KeepsTold self.old self.new }
     {
         match step {
             Step::Open { pid, euid, window } => written(
@@ -67,7 +69,8 @@ impl Tables {
 
     // The step of a seat without a live thread.
     fn change_alone(&mut self, seat: u32, step: &Step) -> Result<Plain, Why>
-        ensures { IsStep self.old self.new (IsNobody seat) (λ s. change s seat step.now) result }
+        ensures step { IsStep self.old self.new (IsNobody seat) (λ s. change s seat step.now) result }
+        ensures told { KeepsTold self.old self.new }
     {
         match step {
             Step::Open { pid, euid, window } => self.open(seat, *pid, *euid, *window),
@@ -87,7 +90,8 @@ impl Tables {
         answer: &mut StepAnswer,
         again: &mut StepAnswer,
     ) -> Result<Brief, Why>
-        ensures { IsStepWritten self.old self.new both IsAny (λ s. change s seat step.now) answer.new again.new result }
+        ensures step { IsStepWritten self.old self.new both IsAny (λ s. change s seat step.now) answer.new again.new result }
+        ensures told { KeepsTold self.old self.new }
     {
         match self.actor(seat) {
             Some(a) => self.change_by(a, step, both, answer, again),

@@ -52,7 +52,7 @@ impl Drop for Tables {
 
 impl Tables {
     ghost use Rattle.bd_space.specs.Space.{Space, opening};
-    ghost use Rattle.bd_step.specs.{Stands.{Before, HasRoom, IsReserved, KeepsRoom}, Meets.{IsKept}};
+    ghost use Rattle.bd_step.specs.{Stands.{Before, HasRoom, IsReserved, KeepsRoom, KeepsTold}, Meets.{IsKept}};
 
     /// The tables of a new engine. Takes no memory.
     pub fn new(alloc: Global) -> Tables
@@ -79,6 +79,7 @@ impl Tables {
         ensures reserved { OnOk result (IsReserved self.new room works) }
         // Memory was asked for: there was no room.
         ensures grown { OnErr result (IsReserved self.old room works → ⊥) }
+        ensures told { KeepsTold self.old self.new }
     {
         self.objects.reserve(room)?;
         self.calls.reserve(works)

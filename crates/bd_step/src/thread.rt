@@ -12,7 +12,7 @@ ghost use Rattle.bd_objects.specs.Room as object_rooms;
 ghost use Rattle.bd_objects.specs.Stands.{StandsFor};
 ghost use Rattle.bd_buffers.specs.WindowsStand.{StandsIn};
 ghost use Rattle.bd_calls.specs.Room.{thread_room};
-ghost use Rattle.bd_step.specs.{Stands.{Tells, Makes, MakesWithin, UsesNothing}, Meets.{IsAny, IsBy, IsStep}};
+ghost use Rattle.bd_step.specs.{Stands.{Tells, Makes, MakesWithin, UsesNothing, KeepsTold}, Meets.{IsAny, IsBy, IsStep}};
 ghost use Rattle.bd_step.specs.Handed.{without_handed, without_all_handed};
 
 use crate::answer::Plain;
@@ -98,13 +98,15 @@ impl Tables {
     pub(crate) fn with_thread(&mut self, seat: u32, process: u32)
         requires { 1 ≤ thread_room self.old.calls }
         ensures stands { Makes self.old self.new (λ s. steps.with_thread s seat process) }
+        ensures told { KeepsTold self.old self.new }
     {
         self.calls.add_thread(self.steps, seat, process);
     }
 
     /// The step that makes the seat a further thread of a live process.
     pub(crate) fn attach(&mut self, seat: u32, pid: u32) -> Result<Plain, Why>
-        ensures { IsStep self.old self.new IsAny (λ s. steps.attach_step s seat pid) result }
+        ensures step { IsStep self.old self.new IsAny (λ s. steps.attach_step s seat pid) result }
+        ensures told { KeepsTold self.old self.new }
     {
         if self.calls.thread(seat).is_some() {
             return Ok(Plain::Refused(Fault::HasProcess));
@@ -121,8 +123,9 @@ impl Tables {
 
     /// The step by which a thread enters the loop, or leaves it. Nothing follows from it, and it takes no memory.
     pub(crate) fn set_looping(&mut self, a: Actor, looping: bool) -> Plain
-        ensures { IsStep self.old self.new (IsBy a)
+        ensures step { IsStep self.old self.new (IsBy a)
             (λ s. accepted (steps.with_looping s a.thread.seat looping)) (Ok result) }
+        ensures told { KeepsTold self.old self.new }
     {
         self.calls.set_looping(a.thread.seat, looping);
         Plain::Accepted
@@ -132,6 +135,7 @@ impl Tables {
     pub(crate) fn thread_goes(&mut self, seat: u32)
         ensures stands { MakesWithin self.old self.new (λ s. exits.thread_goes s seat) }
         ensures uses { UsesNothing self.old self.new }
+        ensures told { KeepsTold self.old self.new }
     {
         let list = TodoList::OfThread(seat);
         let works = self.calls.works_on(list);
@@ -141,7 +145,8 @@ impl Tables {
 
     /// The step that ends a thread. What it touches is gathered before anything changes.
     pub(crate) fn exit_thread(&mut self, a: Actor) -> Result<Plain, Why>
-        ensures { IsStep self.old self.new (IsBy a) (λ s. exits.exit_thread_step s a) result }
+        ensures step { IsStep self.old self.new (IsBy a) (λ s. exits.exit_thread_step s a) result }
+        ensures told { KeepsTold self.old self.new }
     {
         let seat = a.thread.seat;
         let Ok(exit) = self.begin_thread_exit(seat) else {

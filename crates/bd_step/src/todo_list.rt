@@ -6,7 +6,7 @@ ghost use Rattle.bd_space.specs.declared.space.WorkKind.TheVariants as kinds;
 ghost use Rattle.bd_space.specs.Todo as todo;
 ghost use Rattle.bd_space.specs.Outcomes as outcomes;
 ghost use Rattle.bd_calls.specs.Room.{work_room};
-ghost use Rattle.bd_step.specs.{Stands.{Makes, MakesWithin}, Meets.{IsAny, IsStep}, Deliveries.{Spends}};
+ghost use Rattle.bd_step.specs.{Stands.{Makes, MakesWithin, KeepsTold}, Meets.{IsAny, IsStep}, Deliveries.{Spends}};
 
 use crate::answer::Plain;
 use crate::tables::{NOTHING, Tables};
@@ -20,6 +20,7 @@ impl Tables {
         requires { 1 ≤ work_room self.old.calls }
         ensures stands { Makes self.old self.new (λ s. todo.owe s (OfThread seat) kind) }
         ensures spends { Spends self.old self.new 0 0 0 1 }
+        ensures told { KeepsTold self.old self.new }
     {
         self.calls.owe(self.steps, TodoList::OfThread(seat), kind);
     }
@@ -29,6 +30,7 @@ impl Tables {
         requires { 1 ≤ work_room self.old.calls }
         ensures stands { Makes self.old self.new (λ s. todo.tell_caller s f kind) }
         ensures spends { Spends self.old self.new 0 0 0 1 }
+        ensures told { KeepsTold self.old self.new }
     {
         self.calls.tell_caller(self.steps, f, kind);
     }
@@ -38,6 +40,7 @@ impl Tables {
         ensures step { IsStep self.old self.new IsAny
             (λ s. outcomes.stopped cause (todo.owe s (OfThread seat) (kinds.Refusal told))) result }
         ensures memory { IfErr result (λ why. why ≡ Why.NoMemory) }
+        ensures told { KeepsTold self.old self.new }
     {
         if self.reserve(NOTHING, 1).is_err() {
             return Err(Why::NoMemory);
@@ -49,7 +52,8 @@ impl Tables {
     // A work item comes onto a list.
     pub(crate) fn add_work(&mut self, list: TodoList, kind: WorkKind)
         requires { 1 ≤ work_room self.old.calls }
-        ensures { MakesWithin self.old self.new (λ s. todo.owe s list kind) }
+        ensures stands { MakesWithin self.old self.new (λ s. todo.owe s list kind) }
+        ensures told { KeepsTold self.old self.new }
     {
         self.calls.owe(self.steps, list, kind);
     }

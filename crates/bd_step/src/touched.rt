@@ -6,7 +6,7 @@ ghost use Rattle.bd_ways.specs.Local.{follow_of, at_name, at_object, no_name, is
 ghost use Rattle.bd_laws.specs.{Lists.{Pairs}, Objects.{NotLater}};
 ghost use Rattle.bd_objects.specs.Telling.{owner_due};
 ghost use Rattle.bd_calls.specs.Room.{work_room};
-ghost use Rattle.bd_step.specs.Stands.{Within, Uses, MakesWithin, TellsWithin, UsesNothing};
+ghost use Rattle.bd_step.specs.Stands.{Within, Uses, MakesWithin, TellsWithin, UsesNothing, KeepsTold};
 ghost use Rattle.bd_step.specs.Following.{deaths_followed, deaths_withdrawn, followed_at, names_followed, shed_of, told_of, AreTouched, MakesOfOrdered};
 
 use crate::tables::Tables;
@@ -27,6 +27,7 @@ impl Tables {
     fn withdraw_deaths(&mut self, p: u32, o: ObjectId)
         ensures stands { MakesWithin self.old self.new (deaths_withdrawn (at_name p o)) }
         ensures uses { UsesNothing self.old self.new }
+        ensures told { KeepsTold self.old self.new }
     {
         match self.objects.only_lost_death(p, o) {
             Some(made) => self.calls.withdraw_death(made),
@@ -42,6 +43,7 @@ impl Tables {
     fn follow_deaths(&mut self, p: u32, o: ObjectId)
         ensures stands { MakesWithin self.old self.new (deaths_followed (at_name p o)) }
         ensures uses { UsesNothing self.old self.new }
+        ensures told { KeepsTold self.old self.new }
     {
         if !self.objects.has_lost_death(p, o) {
             return;
@@ -54,6 +56,7 @@ impl Tables {
     fn follow_name(&mut self, p: u32, o: ObjectId)
         ensures stands { MakesWithin self.old self.new (names_followed (at_name p o)) }
         ensures uses { UsesNothing self.old self.new }
+        ensures told { KeepsTold self.old self.new }
     {
         self.objects.name_goes(p, o);
         self.follow_deaths(p, o);
@@ -66,6 +69,7 @@ impl Tables {
         ensures owner { TellsWithin self.old result
             (λ s. owner_due s (object_in (shed_of (at_object o) s).objects o)) }
         ensures uses { UsesNothing self.old self.new }
+        ensures told { KeepsTold self.old self.new }
     {
         let owner = self.objects.object_goes(&self.processes, o);
         if owner.is_none() {
@@ -80,6 +84,7 @@ impl Tables {
         ensures stands { (s : Space) → owner ≡ owner_due s (object_in s.objects o) → Within self.old s
             → Within self.new (told_of (o ∷ []) s) }
         ensures uses { Uses self.old self.new 0 0 0 1 }
+        ensures told { KeepsTold self.old self.new }
     {
         if let Some(p) = owner {
             let list = TodoList::OfProcess(p);
@@ -91,6 +96,7 @@ impl Tables {
     fn shed_objects(&mut self, touched: &[ObjectId])
         ensures stands { MakesWithin self.old self.new (shed_of (is_among touched.now)) }
         ensures uses { UsesNothing self.old self.new }
+        ensures told { KeepsTold self.old self.new }
     {
         for o in touched {
             self.shed_object(*o);
@@ -102,6 +108,7 @@ impl Tables {
         requires { length touched.now ≤ work_room self.old.calls }
         ensures stands { MakesWithin self.old self.new (told_of touched.now) }
         ensures uses { Uses self.old self.new 0 0 0 (length touched.now) }
+        ensures told { KeepsTold self.old self.new }
     {
         for o in touched {
             let owner = self.objects.owner_to_tell(&self.processes, *o);
@@ -114,6 +121,7 @@ impl Tables {
         requires { 1 ≤ work_room self.old.calls }
         ensures stands { MakesWithin self.old self.new (followed_at o) }
         ensures uses { Uses self.old self.new 0 0 0 1 }
+        ensures told { KeepsTold self.old self.new }
     {
         let owner = self.shed_object(o);
         self.tell_owner(owner, o);
@@ -125,6 +133,7 @@ impl Tables {
         requires room { length touched.now ≤ work_room self.old.calls }
         ensures stands { MakesOfOrdered self.old self.new (follow_of no_name (is_among touched.now)) }
         ensures uses { Uses self.old self.new 0 0 0 (length touched.now) }
+        ensures told { KeepsTold self.old self.new }
     {
         // Most steps touch one object, which is then looked for once.
         if touched.len() == 1 {
@@ -142,6 +151,7 @@ impl Tables {
         requires room { length touched.now ≤ work_room self.old.calls }
         ensures stands { MakesOfOrdered self.old self.new (follow_of (names_among p touched.now) (is_among touched.now)) }
         ensures uses { Uses self.old self.new 0 0 0 (length touched.now) }
+        ensures told { KeepsTold self.old self.new }
     {
         for o in touched {
             self.follow_name(p, *o);

@@ -9,7 +9,7 @@ ghost use Rattle.bd_space.specs.Outcomes as outcomes;
 ghost use Rattle.bd_space.specs.Frames as frames;
 ghost use Rattle.bd_space.specs.Transactions as spec;
 ghost use Rattle.bd_calls.specs.Room.{work_room, frame_room};
-ghost use Rattle.bd_step.specs.Stands.{StandsAt, CanFollow, Tells, PassesLimit};
+ghost use Rattle.bd_step.specs.Stands.{StandsAt, CanFollow, Tells, PassesLimit, KeepsTold};
 ghost use Rattle.bd_step.specs.Stands.{TellsOfStacked, TellsBeforeOfStacked, MakesOfStacked};
 ghost use Rattle.bd_step.specs.Meets.{IsBy, IsSending, IsKept, IsStep};
 ghost use Rattle.bd_step.specs.Deliveries.{IsDeliverable, IsReady, DeliversCall, Spends};
@@ -169,6 +169,7 @@ impl Tables {
         ensures stands { MakesOfStacked self.old self.new
             (λ s. spec.called (todo.owe s (OfThread seat) (kinds.Complete spam)) seat receiver one_way) }
         ensures spends { Spends self.old self.new 0 1 0 2 }
+        ensures told { KeepsTold self.old self.new }
     {
         self.owe(seat, WorkKind::Complete { spam });
         if !one_way {
@@ -186,6 +187,7 @@ impl Tables {
         ensures follow { OnOk result (CanFollow self.new (length v.sending.items + 1)) }
         // There is room by then, so that nothing else is a reason.
         ensures limit { IfErr result (λ why. why ≡ Why.HistoryFull) }
+        ensures told { KeepsTold self.old self.new }
     {
         let receiver = v.receiver();
         let one_way = v.is_one_way();
@@ -203,8 +205,9 @@ impl Tables {
     // and what follows at the objects of its parcel.
     fn transact(&mut self, a: Actor, d: &TransactionData, v: Delivery) -> Result<Plain, Why>
         requires { IsDeliverable self.old d.now v }
-        ensures { IsStep self.old self.new (IsSending a d.now v)
+        ensures step { IsStep self.old self.new (IsSending a d.now v)
             (λ s. outcomes.accepted (spec.transacted s a d.now v)) result }
+        ensures told { KeepsTold self.old self.new }
     {
         let target = v.one_way_target();
         let Ok(touched) = self.make_ready(&v) else {
@@ -227,7 +230,8 @@ impl Tables {
         d: &TransactionData,
         parcel: &Option<Parcel>,
     ) -> Result<Plain, Why>
-        ensures { IsStep self.old self.new (IsBy a) (λ s. spec.transaction_step s a d.now parcel.now) result }
+        ensures step { IsStep self.old self.new (IsBy a) (λ s. spec.transaction_step s a d.now parcel.now) result }
+        ensures told { KeepsTold self.old self.new }
     {
         match self.transaction_check(a, d, parcel) {
             Err(_) => Err(Why::NoMemory),

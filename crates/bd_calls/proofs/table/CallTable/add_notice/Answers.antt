@@ -11,6 +11,8 @@ use Rattle.bd_links.specs.Stands.{WorksAre}
 use Rattle.bd_calls.proofs.Works.{works-stand}
 use Rattle.bd_calls.proofs.Seats.{kept-seen, pushed-on}
 use Rattle.bd_calls.specs.Ready.{AreSeen, tells_of}
+use Rattle.bd_calls.proofs.Marking.{told-on, pushed-beside}
+use Rattle.bd_calls.specs.Told.{Recalls}
 use Rattle.bd_calls.proofs.table.CallTable.add_notice.Goals as goal
 
 -- a notice that is wanted and missing is made
@@ -28,3 +30,10 @@ returns-then-not-has_notice-clause-stands c = λ s x h at id wanted.
     (subst (λ o. WorksAre c.push.new.self (with_work c.args.place s.todo c.args.list (Notice o))) (sym id) (c.push.ensures.stands s.todo h.todo_are))))
     (subst (AreSeen c.forget_list.new.self s.threads) (sym (missing s.steps s.processes s.references c.args.list s.todo x wants none))
     (kept-seen c.args.self.now.ready c.forget_list.new.self (tells_of c.args.list) s.threads s.todo _ h.ready_are c.forget_list.ensures (λ list seat y. pushed-on s.steps s.todo c.args.list (Notice x.id) list seat y)))
+
+pub returns-then-not-has_notice-clause-told : goal.returns-then-not-has_notice-clause-told
+unfolding Recalls
+returns-then-not-has_notice-clause-told c = λ told k.
+    let kind = Notice c.args.object in
+    told-on c.mark.new.self _ _ (λ ws. with_work c.args.place ws c.args.list kind) told c.push.ensures.stands
+    (λ ws list out. pushed-beside c.mark.new.self c.args.place ws c.args.list kind list c.mark.ensures.marked out) (c.mark.ensures.recalls told k)

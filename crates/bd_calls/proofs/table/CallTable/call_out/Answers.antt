@@ -10,6 +10,8 @@ use Rattle.bd_frames.specs.Stands.{FramesAre}
 use Rattle.bd_links.specs.Stands.{WorksAre}
 use Rattle.bd_calls.specs.Ready.{KeepsOnly, tells_of}
 use Rattle.bd_calls.proofs.Seats.{kept-seen, pushed-on}
+use Rattle.bd_calls.proofs.Marking.{told-on, pushed-beside}
+use Rattle.bd_calls.specs.Told.{Recalls}
 use Rattle.bd_calls.proofs.table.CallTable.call_out.Goals as goal
 
 -- a call's frame that nobody has read
@@ -37,3 +39,10 @@ returns-clause-stands c = λ s h k.
       ready_are = kept-seen c.args.self.now.ready c.forget_list.new.self (tells_of (goes_to s seat p)) s.threads s.todo _ h.ready_are (subst (λ l. KeepsOnly c.args.self.now.ready c.forget_list.new.self (tells_of l)) list c.forget_list.ensures)
           (λ l at x. pushed-on s.steps s.todo (goes_to s seat p) (Call s.steps) l at x);
     }
+
+pub returns-clause-told : goal.returns-clause-told
+unfolding Recalls
+returns-clause-told c = λ told k.
+    let to = c.list_from-list.result in
+    told-on c.mark.new.self _ _ (λ ws. with_work c.args.place ws to (Call c.args.place)) told c.push.ensures.stands
+    (λ ws list out. pushed-beside c.mark.new.self c.args.place ws to (Call c.args.place) list c.mark.ensures.marked out) (c.mark.ensures.recalls told k)

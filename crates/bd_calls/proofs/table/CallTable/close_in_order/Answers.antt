@@ -11,6 +11,7 @@ loop-made-init c = record {
   goes_on = λ s stands at. each-begins _ _ _ c.sort_unstable.new.self s stands at (c.count_frames-left.ensures.frames s stands);
   left = omega (arith, c.count_frames-left.ensures.count);
   uses = uses-none c.args.self.now _;
+  told = λ told k. k;
 }
 
 pub close_up_within-left-requires : goal.close_up_within-left-requires
@@ -27,6 +28,7 @@ loop-made-preserved c =
           (rw (drop_more c.sort_unstable.new.self c.loop-made.made-index 0 (omega arith)) at before.goes_on s stands at) after.stands after.fewer;
       left = omega (arith, before.left, after.left);
       uses = uses-both _ _ _ _ _ _ (omega (arith, before.left, after.left)) before.uses after.uses;
+      told = λ told k. after.told told (before.told told k);
     }
 
 pub returns-clause-stands : goal.returns-clause-stands

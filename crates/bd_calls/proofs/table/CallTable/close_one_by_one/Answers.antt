@@ -6,7 +6,7 @@ use Rattle.bd_calls.proofs.Closing.{closing-begins, closing-left, closing-over}
 use Rattle.bd_calls.proofs.table.CallTable.close_one_by_one.Goals as goal
 
 pub loop-closed-init : goal.loop-closed-init
-loop-closed-init c = record { stands = closing-begins _ _ (λ n. close_among n (is_place_among c.args.chosen.now)); uses = search rules }
+loop-closed-init c = record { stands = closing-begins _ _ (λ n. close_among n (is_place_among c.args.chosen.now)); uses = search rules; told = λ told k. k }
 
 pub loop-closed-preserved : goal.loop-closed-preserved
 loop-closed-preserved c = record {
@@ -15,6 +15,7 @@ loop-closed-preserved c = record {
       let left : length s.frames - i ≡ (length s.frames - (i + 1)) + 1 = omega (arith, c.count_frames-closed-end.ensures.frames s stands) in
       c.close_oldest_among.ensures.goes_on (length s.frames - (i + 1)) _ c.if-not-close_oldest_among.false (closing-left _ _ _ _ _ _ left (c.loop-closed.invariant.stands s stands place));
   uses = uses-both _ _ _ _ _ _ (omega arith) c.loop-closed.invariant.uses c.close_oldest_among.ensures.uses;
+  told = λ told k. c.close_oldest_among.ensures.told told (c.loop-closed.invariant.told told k);
 }
 
 pub returns-clause-stands : goal.returns-clause-stands

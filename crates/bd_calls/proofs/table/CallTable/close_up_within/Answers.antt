@@ -10,6 +10,7 @@ pub loop-closed-init : goal.loop-closed-init
 loop-closed-init c = record {
   goes_up = λ s stands at. let all : c.args.most - 0 ≡ c.args.most = omega arith in rw all (up-begins _ _ c.args.made c.args.most s stands at);
   uses = search rules;
+  told = λ told k. k;
 }
 
 pub loop-closed-preserved : goal.loop-closed-preserved
@@ -20,6 +21,7 @@ loop-closed-preserved c = record {
       up-more _ _ _ c.in-Some.made _ _ _ _ c.in-Some-close_if_abandoned.frame _ left (rw c.in-Some.is at c.loop-closed.invariant.goes_up s stands at)
       c.close_if_abandoned.ensures.stands (rw c.in-Some-close_if_abandoned.is at c.close_if_abandoned.ensures.closed);
   uses = uses-both _ _ _ _ _ _ (omega arith) c.loop-closed.invariant.uses c.close_if_abandoned.ensures.uses;
+  told = λ told k. c.close_if_abandoned.ensures.told told (c.loop-closed.invariant.told told k);
 }
 
 pub returns-in_default-clause-stands : goal.returns-in_default-clause-stands

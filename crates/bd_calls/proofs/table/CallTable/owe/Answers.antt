@@ -4,6 +4,8 @@ use Rattle.bd_links.specs.Stands.{WorksAre}
 use Rattle.bd_calls.proofs.Works.{works-stand}
 use Rattle.bd_calls.proofs.Seats.{kept-seen, pushed-on}
 use Rattle.bd_calls.specs.Ready.{tells_of}
+use Rattle.bd_calls.proofs.Marking.{told-on, pushed-beside}
+use Rattle.bd_calls.specs.Told.{Recalls}
 use Rattle.bd_calls.proofs.table.CallTable.owe.Goals as goal
 
 pub returns-clause-stands : goal.returns-clause-stands
@@ -11,3 +13,9 @@ unfolding owe
 returns-clause-stands c = λ s h at. works-stand _ _ s _ h refl refl refl
     (subst (λ n. WorksAre c.push.new.self (with_work n s.todo c.args.list c.args.kind)) (sym at) (c.push.ensures.stands s.todo h.todo_are))
     (kept-seen c.args.self.now.ready c.forget_list.new.self (tells_of c.args.list) s.threads s.todo _ h.ready_are c.forget_list.ensures (λ list seat x. pushed-on s.steps s.todo c.args.list c.args.kind list seat x))
+
+pub returns-clause-told : goal.returns-clause-told
+unfolding Recalls
+returns-clause-told c = λ told k.
+    told-on c.mark.new.self _ _ (λ ws. with_work c.args.place ws c.args.list c.args.kind) told c.push.ensures.stands
+    (λ ws list out. pushed-beside c.mark.new.self c.args.place ws c.args.list c.args.kind list c.mark.ensures.marked out) (c.mark.ensures.recalls told k)

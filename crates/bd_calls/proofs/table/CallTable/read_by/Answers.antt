@@ -8,6 +8,9 @@ use Rattle.bd_turns.specs.Stands.{TurnsAre}
 use Rattle.bd_calls.proofs.OneWay.{turns-handed}
 use Rattle.bd_calls.proofs.Seats.{kept-seen, taken-from}
 use Rattle.bd_calls.specs.Ready.{tells_of}
+use Rattle.bd_space.specs.Todo.{without_taken}
+use Rattle.bd_calls.proofs.Marking.{told-on, taken-beside}
+use Rattle.bd_calls.specs.Told.{Recalls}
 use Rattle.bd_calls.proofs.table.CallTable.read_by.Goals as goal
 
 pub returns-clause-stands : goal.returns-clause-stands
@@ -22,3 +25,9 @@ returns-clause-stands c =
       turns_are = subst (TurnsAre c.hand_out_taken.new.turns) (sym (turns-handed s.buffers made)) (c.hand_out_taken.ensures.turns _ stands.turns_are);
       ready_are = kept-seen c.args.self.now.ready c.forget_lists_of.new.self (λ at x. list_any (λ (d : Work). tells_of d.list at x) c.args.taken.now) s.threads s.todo _ stands.ready_are c.forget_lists_of.ensures (taken-from c.args.taken.now s.todo);
     }
+
+pub returns-clause-told : goal.returns-clause-told
+unfolding Recalls
+returns-clause-told c = λ told k.
+    told-on c.mark_lists_of.new.self _ _ (λ ws. without_taken c.args.taken.now ws) told c.remove_taken.ensures.stands
+    (λ ws list out. taken-beside c.mark_lists_of.new.self c.args.taken.now ws list c.mark_lists_of.ensures.marked out) (c.mark_lists_of.ensures.recalls told k)

@@ -1,6 +1,8 @@
 use Rattle.std.proofs.Common.{refl}
 use Rattle.bd_space.specs.Notices.{still_due, work_goes}
 use Rattle.bd_calls.proofs.Works.{works-stand-unseen}
+use Rattle.bd_calls.proofs.Marking.{all-marked}
+use Rattle.bd_calls.specs.Told.{Recalls}
 use Rattle.bd_calls.proofs.table.CallTable.retain_work.Goals as goal
 
 pub returns-clause-kept : goal.returns-clause-kept
@@ -12,3 +14,7 @@ returns-clause-stands g c =
     λ s stands answers.
     let due = still_due s.processes s.objects s.references s.deaths in
     works-stand-unseen _ _ s _ stands refl refl refl (c.keep_kinds.ensures.stands due answers s.todo stands.todo_are) c.forget_all.ensures
+
+pub returns-clause-told : goal.returns-clause-told
+unfolding Recalls
+returns-clause-told g c = λ told k. all-marked c.mark_all.new.self _ told c.mark_all.ensures

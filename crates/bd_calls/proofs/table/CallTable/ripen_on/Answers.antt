@@ -11,6 +11,8 @@ use Rattle.bd_ways.specs.Local.{ripen_of, first_due}
 use Rattle.bd_links.specs.Stands.{WorksAre}
 use Rattle.bd_calls.proofs.Works.{works-stand}
 use Rattle.bd_calls.proofs.Seats.{kept-seen, due-on}
+use Rattle.bd_calls.proofs.Marking.{told-on, due-beside}
+use Rattle.bd_calls.specs.Told.{Recalls}
 use Rattle.bd_calls.proofs.table.CallTable.ripen_on.Goals as goal
 
 pub returns-clause-stands : goal.returns-clause-stands
@@ -24,3 +26,10 @@ returns-clause-stands c = λ s h at.
     (subst (λ (o : Option Turn). (list : TodoList) (seat : ℕ) (x : Seen) → is_some_and o (λ t. is_of t.receiver x) ≡ false → tells_of list seat x ≡ true
     → has_work_in (first_due s.steps s.todo (find (λ t. same t.target c.args.object) (turns_of s.buffers))) list ≡ has_work_in s.todo list)
     (sym turn) (λ list seat x. due-on s.steps s.todo (find (λ t. same t.target c.args.object) (turns_of s.buffers)) list seat x)))
+
+pub returns-clause-told : goal.returns-clause-told
+unfolding Recalls
+returns-clause-told c = λ told k.
+    let turn = c.oldest_on-oldest.result in
+    told-on c.mark_receiver.new.marks _ _ (λ ws. first_due c.args.place ws turn) told c.push_first.ensures.todo
+    (λ ws list out. due-beside c.mark_receiver.new.marks c.args.place ws turn list c.mark_receiver.ensures.marked out) (c.mark_receiver.ensures.recalls told k)

@@ -5,6 +5,10 @@ use Rattle.bd_space.specs.ThreadExits.{thread_goes, is_lost_with}
 use Rattle.bd_turns.specs.Stands.{TurnsAre}
 use Rattle.bd_calls.proofs.OneWay.{turns-lost}
 use Rattle.bd_calls.proofs.Seats.{none-seen}
+use Rattle.bd_space.specs.declared.space.Work.{Work}
+use Rattle.bd_space.specs.Todo.{is_on}
+use Rattle.bd_calls.proofs.Marking.{told-on, cleared-beside}
+use Rattle.bd_calls.specs.Told.{Recalls}
 use Rattle.bd_calls.proofs.table.CallTable.thread_goes.Goals as goal
 
 pub returns-clause-stands : goal.returns-clause-stands
@@ -21,3 +25,10 @@ returns-clause-stands c =
           (c.lose_turns.ensures.turns s.todo stands.todo_are _ stands.turns_are);
       ready_are = none-seen c.forget_all.new.self _ _ c.forget_all.ensures;
     }
+
+pub returns-clause-told : goal.returns-clause-told
+unfolding Recalls
+returns-clause-told c = λ told k.
+    let list = OfThread c.args.seat in
+    told-on c.mark.new.self _ _ (λ ws. filter (λ (w : Work). not (is_on list w)) ws) told c.clear_list.ensures.stands
+    (λ ws other out. cleared-beside c.mark.new.self ws list other c.mark.ensures.marked out) (c.mark.ensures.recalls told k)

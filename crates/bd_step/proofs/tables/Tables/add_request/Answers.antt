@@ -15,14 +15,14 @@ abbrev requested_if : Space → ℕ → ObjectId → ℕ → Bool → Space
 requested_if s p o cookie lives =
     if lives then with_death s p o cookie Armed else owe (with_death s p o cookie Queued) (OfProcess p) (Death s.steps)
 
-pub returns-then-owner_lives : goal.returns-then-owner_lives
+pub returns-then-owner_lives-clause-stands : goal.returns-then-owner_lives-clause-stands
 unfolding requested
-returns-then-owner_lives c = λ s h new.
+returns-then-owner_lives-clause-stands c = λ s h new.
     subst (λ lives. Within c.add_death.new.self (requested_if s c.args.p c.args.o c.args.cookie lives))
     (c.if-owner_lives.ensures s h.objects_stand h.own.processes_are) (c.add_death.ensures.stands s h new)
 
-pub returns-else-owner_lives : goal.returns-else-owner_lives
+pub returns-else-owner_lives-clause-stands : goal.returns-else-owner_lives-clause-stands
 unfolding requested
-returns-else-owner_lives c = λ s h new.
+returns-else-owner_lives-clause-stands c = λ s h new.
     subst (λ lives. Within c.add_told_death.new.self (requested_if s c.args.p c.args.o c.args.cookie lives))
-    (c.if-owner_lives.ensures s h.objects_stand h.own.processes_are) (c.add_told_death.ensures s h new)
+    (c.if-owner_lives.ensures s h.objects_stand h.own.processes_are) (c.add_told_death.ensures.stands s h new)

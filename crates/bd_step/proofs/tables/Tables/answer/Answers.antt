@@ -9,15 +9,15 @@ use Rattle.bd_step.proofs.Afterwards.{replied-new, replied-followed, replied-ord
 use Rattle.bd_step.proofs.Meeting.{taken-step}
 use Rattle.bd_step.proofs.tables.Tables.answer.Goals as goal
 
-pub returns-in-Err : goal.returns-in-Err
-returns-in-Err c = record {
+pub returns-in-Err-clause-step : goal.returns-in-Err-clause-step
+returns-in-Err-clause-step c = record {
   ok = tt;
   err = λ s h. c.in-Err.ensures.err s (c.in-Ok.ensures.stands s h);
   full = λ s h p. full-if _ _ (numbers-completed (replied s c.args.a c.args.d.now c.args.f c.args.v) (c.in-Err.ensures.full s (c.in-Ok.ensures.stands s h)));
 }
 
-pub returns : goal.returns
-returns c = taken-step _ _ _ _ _ (
+pub returns-clause-step : goal.returns-clause-step
+returns-clause-step c = taken-step _ _ _ _ _ (
     record {
       answered = λ s h p. refl;
       stands = λ s h p.
@@ -27,6 +27,6 @@ returns c = taken-step _ _ _ _ _ (
           subst (Within c.close_up.new.self)
           (ap (λ (b : ObjectTest). let y : Space = follow_of no_name b z in close_up (length y.frames) f.parent y) looked
           ∙ sym (replied-followed s c.args.a c.args.d.now f c.args.v p))
-          (c.close_up.ensures (follow_of no_name (is_among c.as_slice.result.now) z)
+          (c.close_up.ensures.stands (follow_of no_name (is_among c.as_slice.result.now) z)
           (c.follow_objects.ensures.stands z (c.in-Ok-replied.ensures.ok s (c.in-Ok.ensures.stands s h) (replied-new s c.args.a c.args.d.now f c.args.v p)) (replied-ordered s c.args.a c.args.d.now f c.args.v p)));
     })

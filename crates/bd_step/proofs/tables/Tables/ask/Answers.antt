@@ -7,21 +7,21 @@ use Rattle.bd_step.proofs.Refusals.{full-if}
 use Rattle.bd_step.proofs.Meeting.{taken-step}
 use Rattle.bd_step.proofs.tables.Tables.ask.Goals as goal
 
-pub returns-in-Err : goal.returns-in-Err
+pub returns-in-Err-clause-step : goal.returns-in-Err-clause-step
 unfolding ask_step
-returns-in-Err c = taken-step _ _ _ _ _ (
+returns-in-Err-clause-step c = taken-step _ _ _ _ _ (
     checked-notes _ _ (λ s o. ask s c.args.a.process.made o c.args.strong) (λ s. ask_check s c.args.a.process.made c.args.n c.args.strong) _
     (λ s h. c.in-Err.ensures s h.objects_stand h.own.manager_is))
 
-pub returns-in-Ok-add_asked : goal.returns-in-Ok-add_asked
+pub returns-in-Ok-add_asked-clause-step : goal.returns-in-Ok-add_asked-clause-step
 unfolding ask_step
-returns-in-Ok-add_asked c = taken-step _ _ _ _ _ (
+returns-in-Ok-add_asked-clause-step c = taken-step _ _ _ _ _ (
     checked-accepts _ _ (λ s o. ask s c.args.a.process.made o c.args.strong) (λ s. ask_check s c.args.a.process.made c.args.n c.args.strong) _
     (λ s h. c.in-Ok.ensures s h.objects_stand h.own.manager_is) _ _ c.reserve.ensures.stands (λ s h by. c.in-Ok-add_asked.ensures.stands s h by.tidy))
 
-pub returns-in-Err-add_asked : goal.returns-in-Err-add_asked
+pub returns-in-Err-add_asked-clause-step : goal.returns-in-Err-add_asked-clause-step
 unfolding ask_step
-returns-in-Err-add_asked c = record {
+returns-in-Err-add_asked-clause-step c = record {
   ok = tt;
   err = λ s h. c.in-Err-add_asked.ensures.kept s (c.reserve.ensures.stands s h);
   full = λ s h by. full-if _ _ (subst (λ (o : Outcome). has_number_past_limit o.space.names ≡ true)

@@ -8,25 +8,25 @@ use Rattle.bd_step.proofs.Standing.{within}
 use Rattle.bd_step.proofs.Meeting.{taken-step, meets, in-case, is-refused}
 use Rattle.bd_step.proofs.tables.Tables.attach.Goals as goal
 
-pub returns-then-is_some : goal.returns-then-is_some
+pub returns-then-is_some-clause-step : goal.returns-then-is_some-clause-step
 unfolding attach_step
-returns-then-is_some c = taken-step _ _ _ _ _ (
+returns-then-is_some-clause-step c = taken-step _ _ _ _ _ (
     meets _ _ _ _ _ (λ s h by.
     in-case _ _ (attach_outcome s c.args.seat (process_with_pid s.processes c.args.pid)) _ _
     (ap is_some (sym (c.thread.ensures s h.calls_stand)) ∙ sym c.is_some.ensures ∙ c.if-is_some.true) (is-refused _ s HasProcess h)))
 
-pub returns-in_default : goal.returns-in_default
+pub returns-in_default-clause-step : goal.returns-in_default-clause-step
 unfolding attach_step
-returns-in_default c = taken-step _ _ _ _ _ (
+returns-in_default-clause-step c = taken-step _ _ _ _ _ (
     meets _ _ _ _ _ (λ s h by.
     in-case _ _ (attach_outcome s c.args.seat (process_with_pid s.processes c.args.pid)) _ _
     (ap is_some (sym (c.thread.ensures s h.calls_stand)) ∙ sym c.is_some.ensures ∙ c.if-is_some.false)
     (in-case _ _ (λ (q : Option Process). attach_outcome s c.args.seat q false) _ _ (sym (c.process_with_pid.ensures s.steps s h) ∙ c.in_default.is)
     (is-refused _ s NoSuchPid h))))
 
-pub returns : goal.returns
+pub returns-clause-step : goal.returns-clause-step
 unfolding attach_step with_thread
-returns c = taken-step _ _ _ _ _ (
+returns-clause-step c = taken-step _ _ _ _ _ (
     meets _ _ _ _ _ (λ s h by.
     in-case _ _ (attach_outcome s c.args.seat (process_with_pid s.processes c.args.pid)) _ _
     (ap is_some (sym (c.thread.ensures s h.calls_stand)) ∙ sym c.is_some.ensures ∙ c.if-is_some.false)

@@ -6,15 +6,15 @@ use Rattle.bd_step.proofs.Accepting.{checked-notes, checked-accepts-alone}
 use Rattle.bd_step.proofs.Meeting.{taken-step}
 use Rattle.bd_step.proofs.tables.Tables.clear_death.Goals as goal
 
-pub returns-in-Err : goal.returns-in-Err
+pub returns-in-Err-clause-step : goal.returns-in-Err-clause-step
 unfolding clear_step
-returns-in-Err c = taken-step _ _ _ _ _ (
+returns-in-Err-clause-step c = taken-step _ _ _ _ _ (
     checked-notes _ _ (λ s. cleared s c.args.a.thread.seat) (λ s. clear_check s c.args.a.process.made c.args.n c.args.cookie) _
     (λ s h. c.in-Err.ensures s h.objects_stand))
 
-pub returns : goal.returns
+pub returns-clause-step : goal.returns-clause-step
 unfolding clear_step
-returns c = taken-step _ _ _ _ _ (
+returns-clause-step c = taken-step _ _ _ _ _ (
     checked-accepts-alone _ _ (λ s. cleared s c.args.a.thread.seat) (λ s. clear_check s c.args.a.process.made c.args.n c.args.cookie) _
-    (λ s h. c.in-Ok.ensures s h.objects_stand) _ _ c.reserve.ensures.stands (λ s h by. c.drop_request.ensures s)
+    (λ s h. c.in-Ok.ensures s h.objects_stand) _ _ c.reserve.ensures.stands (λ s h by. c.drop_request.ensures.stands s)
     (λ s h by. cleared-local s c.args.a.thread.seat c.in-Ok.x by.tidy (cleared-there s c.args.a.process.made c.args.n c.args.cookie c.in-Ok.x (sym (c.in-Ok.ensures s h.objects_stand)))))

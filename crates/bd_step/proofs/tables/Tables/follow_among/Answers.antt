@@ -12,6 +12,7 @@ pub loop-o-init : goal.loop-o-init
 loop-o-init c = record {
   stands = λ s h. subst (Within c.args.self.now) (sym (names-none c.args.p s)) h;
   uses = search rules;
+  told = λ told k. k;
 }
 
 pub loop-o-preserved : goal.loop-o-preserved
@@ -19,6 +20,7 @@ loop-o-preserved c = record {
   stands = λ s h. subst (Within c.follow_name.new.self) (names-next c.args.p c.args.touched.now c.loop-o.o-index _ s c.loop-o-test.true)
       (c.follow_name.ensures.stands (names_followed (names_among c.args.p (take c.loop-o.o-index c.args.touched.now)) s) (c.loop-o.invariant.stands s h));
   uses = search rules;
+  told = λ told k. c.follow_name.ensures.told told (c.loop-o.invariant.told told k);
 }
 
 pub returns-clause-stands : goal.returns-clause-stands

@@ -1,6 +1,6 @@
 use Rattle.std.proofs.Common.{take}
 use Rattle.bd_ways.specs.Local.{names_among}
-use Rattle.bd_step.specs.Stands.{MakesWithin, UsesNothing}
+use Rattle.bd_step.specs.Stands.{MakesWithin, UsesNothing, KeepsTold}
 use Rattle.bd_step.specs.Following.{names_followed}
 use Rattle.bd_step.proofs.tables.Tables.follow_among.Given as goal
 
@@ -8,4 +8,5 @@ abbrev pub invariant-loop-o : goal.invariant-loop-o
 invariant-loop-o l = record {
   stands : MakesWithin l.fn.self l.self (names_followed (names_among l.p (take l.o-index l.touched)));
   uses : UsesNothing l.fn.self l.self;
+  told : KeepsTold l.fn.self l.self;
 }

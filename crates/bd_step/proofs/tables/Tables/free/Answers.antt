@@ -37,17 +37,17 @@ by_check : (s : Space) (b : Option Buffer) → freed_outcome s (freed_buffer b) 
 by_check s None = refl
 by_check s (Some b) = if_handed s b.made b.handed
 
-pub returns-in-Err : goal.returns-in-Err
+pub returns-in-Err-clause-step : goal.returns-in-Err-clause-step
 unfolding free_step
-returns-in-Err c = taken-step _ _ _ _ _ (
+returns-in-Err-clause-step c = taken-step _ _ _ _ _ (
     notes _ _ _ _ (λ s h by.
     let p = c.args.a.process.made in
     let checked = c.in-Err.ensures s c.args.a.process (within c.args.self.now s h) (process-of s c.args.a.thread.seat c.args.a by.acts) in
     sym (ap (freed_outcome s) checked ∙ by_check s (buffer_at_pointer s p c.args.pointer))))
 
-pub returns : goal.returns
+pub returns-clause-step : goal.returns-clause-step
 unfolding free_step
-returns c =
+returns-clause-step c =
     let p = c.args.a.process.made in
     let made = c.in-Ok.made in
     record {
@@ -59,7 +59,7 @@ returns c =
           record {
             answered = ap (λ (o : Outcome). o.answer) is;
             stands = subst (λ (o : Outcome). Within c.lose_buffer.new.self o.space) is
-                (c.lose_buffer.ensures s (within _ s (c.in-Ok-ready_to_free.ensures.stands s h)) (record {
+                (c.lose_buffer.ensures.stands s (within _ s (c.in-Ok-ready_to_free.ensures.stands s h)) (record {
                   tidy = by.tidy;
                   buffer = b.0;
                   here = b.1;

@@ -5,8 +5,8 @@ use Rattle.bd_step.specs.Freed.{ripen_next}
 use Rattle.bd_step.proofs.Freeing.{freed-followed, freed-ordered}
 use Rattle.bd_step.proofs.tables.Tables.lose_buffer.Goals as goal
 
-pub returns : goal.returns
-returns c = λ s h k.
+pub returns-clause-stands : goal.returns-clause-stands
+returns-clause-stands c = λ s h k.
     let made = c.args.made in
     let target = c.turn_target_at-target.result in
     subst (Within c.follow_among.new.self)

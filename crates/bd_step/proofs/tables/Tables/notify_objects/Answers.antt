@@ -10,6 +10,7 @@ unfolding told_of
 loop-o-init c = record {
   stands = λ s h. h;
   uses = search rules;
+  told = λ told k. k;
 }
 
 pub loop-o-preserved : goal.loop-o-preserved
@@ -24,6 +25,7 @@ loop-o-preserved c =
           let asked = c.owner_to_tell-owner.ensures z i.objects_stand i.own.processes_are in
           subst (Within _) (told-next os k _ s c.loop-o-test.true) (c.tell_owner.ensures.stands z asked i);
       uses = search rules;
+      told = λ told k. c.tell_owner.ensures.told told (c.loop-o.invariant.told told k);
     }
 
 pub returns-clause-stands : goal.returns-clause-stands

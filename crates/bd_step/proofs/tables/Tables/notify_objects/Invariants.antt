@@ -1,5 +1,5 @@
 use Rattle.std.proofs.Common.{take}
-use Rattle.bd_step.specs.Stands.{MakesWithin, Uses}
+use Rattle.bd_step.specs.Stands.{MakesWithin, Uses, KeepsTold}
 use Rattle.bd_step.specs.Following.{told_of}
 use Rattle.bd_step.proofs.tables.Tables.notify_objects.Given as goal
 
@@ -7,4 +7,5 @@ abbrev pub invariant-loop-o : goal.invariant-loop-o
 invariant-loop-o l = record {
   stands : MakesWithin l.fn.self l.self (told_of (take l.o-index l.touched));
   uses : Uses l.fn.self l.self 0 0 0 l.o-index;
+  told : KeepsTold l.fn.self l.self;
 }

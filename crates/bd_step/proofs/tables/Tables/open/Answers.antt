@@ -5,16 +5,16 @@ use Rattle.bd_step.proofs.Meeting.{taken-step, meets, in-case, is-refused}
 use Rattle.bd_step.proofs.New.{new-pid}
 use Rattle.bd_step.proofs.tables.Tables.open.Goals as goal
 
-pub returns-in-Some : goal.returns-in-Some
+pub returns-in-Some-clause-step : goal.returns-in-Some-clause-step
 unfolding open_step
-returns-in-Some c = taken-step _ _ _ _ _ (
+returns-in-Some-clause-step c = taken-step _ _ _ _ _ (
     meets _ _ _ _ _ (λ s h by.
     in-case _ _ (open_outcome s c.args.seat c.args.pid c.args.euid c.args.size) _ _ (sym (c.open_fault.ensures.fault s h) ∙ c.in-Some.is)
     (is-refused _ s c.in-Some.fault h)))
 
-pub returns : goal.returns
+pub returns-clause-step : goal.returns-clause-step
 unfolding open_step with_process with_thread
-returns c = taken-step _ _ _ _ _ (
+returns-clause-step c = taken-step _ _ _ _ _ (
     meets _ _ _ _ _ (λ s h by.
     let none = sym (c.open_fault.ensures.fault s h) ∙ c.in_default.is in
     let free = new-pid s c.args.seat c.args.pid c.args.size none in

@@ -16,6 +16,7 @@ loop-x-preserved c = record {
       owed-more (s.steps + 1) _ s c.args.due.now c.loop-x.x-index _ (omega arith)
       (with-calls (s.steps + 1) c.loop-x.self told _ _ _ _ stood (c.owe.ensures.stands told stood.calls_stand stood.own.steps_are));
   uses = search rules;
+  told = λ told k. c.owe.ensures.told told (c.loop-x.invariant.told told k);
 }
 
 pub returns-clause-stands : goal.returns-clause-stands

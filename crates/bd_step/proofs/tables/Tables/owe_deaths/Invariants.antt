@@ -1,6 +1,6 @@
 use Rattle.std.proofs.Common.{take}
 use Rattle.bd_space.specs.Space.{Space}
-use Rattle.bd_step.specs.Stands.{Within, Uses}
+use Rattle.bd_step.specs.Stands.{Within, Uses, KeepsTold}
 use Rattle.bd_step.specs.Telling.{owed}
 use Rattle.bd_step.proofs.tables.Tables.owe_deaths.Given as goal
 
@@ -8,4 +8,5 @@ abbrev pub invariant-loop-x : goal.invariant-loop-x
 invariant-loop-x l = record {
   stands : (s : Space) → Within l.fn.self s → Within l.self (owed s (take l.x-index l.due));
   uses : Uses l.fn.self l.self 0 0 0 l.x-index;
+  told : KeepsTold l.fn.self l.self;
 }

@@ -8,22 +8,22 @@ use Rattle.bd_step.proofs.Meeting.{IsOutcome, meets, in-case, is-refused, taken-
 use Rattle.bd_step.proofs.TakingItems.{read_outcome, too-small, nothing, readable}
 use Rattle.bd_step.proofs.tables.Tables.read.Goals as goal
 
-pub returns-then-limit-lt72 : goal.returns-then-limit-lt72
+pub returns-then-limit-lt72-clause-step : goal.returns-then-limit-lt72-clause-step
 unfolding read_step
-returns-then-limit-lt72 c = written-step _ _ _ _ _ _ _ _ _ c.written.ensures (taken-step _ _ _ _ _ (meets _ _ _ _ _ (λ s h by.
+returns-then-limit-lt72-clause-step c = written-step _ _ _ _ _ _ _ _ _ c.written.ensures (taken-step _ _ _ _ _ (meets _ _ _ _ _ (λ s h by.
     let ws = list_to_read s c.args.a.thread in
     in-case _ _ (read_outcome s c.args.a.thread.seat c.args.limit ws) _ _ (too-small c.args.limit ws c.if-limit-lt72.true) (is-refused _ s ReadTooSmall h))))
 
-pub returns-in_default : goal.returns-in_default
+pub returns-in_default-clause-step : goal.returns-in_default-clause-step
 unfolding read_step
-returns-in_default c = written-step _ _ _ _ _ _ _ _ _ c.written-in_default.ensures (taken-step _ _ _ _ _ (meets _ _ _ _ _ (λ s h by.
+returns-in_default-clause-step c = written-step _ _ _ _ _ _ _ _ _ c.written-in_default.ensures (taken-step _ _ _ _ _ (meets _ _ _ _ _ (λ s h by.
     let ws = list_to_read s c.args.a.thread in
     in-case _ _ (read_outcome s c.args.a.thread.seat c.args.limit ws) _ _
     (nothing c.args.limit ws c.if-limit-lt72.false (ap none_due (c.list_to_read.ensures.none c.in_default.is s h))) (is-refused _ s Again h))))
 
-pub returns-in-Ok : goal.returns-in-Ok
+pub returns-in-Ok-clause-step : goal.returns-in-Ok-clause-step
 unfolding read_step
-returns-in-Ok c = record {
+returns-in-Ok-clause-step c = record {
   ok = meets _ _ _ _ _ (λ s h by.
       let t = c.args.a.thread in
       let ok = c.in-Ok.ensures.ok in

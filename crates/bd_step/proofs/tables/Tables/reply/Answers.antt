@@ -5,14 +5,14 @@ use Rattle.bd_step.proofs.Stacked.{tidy-stacked}
 use Rattle.bd_step.proofs.Stepping.{reply-by-frame}
 use Rattle.bd_step.proofs.tables.Tables.reply.Goals as goal
 
-pub returns-in-None : goal.returns-in-None
-returns-in-None c =
+pub returns-in-None-clause-step : goal.returns-in-None-clause-step
+returns-in-None-clause-step c =
     as-step c.args.self.now IsAny (IsBy c.args.a) _ _
     (λ s h q. (q.tidy, reply-by-frame s c.args.a c.args.d.now c.args.parcel.now None (c.in-None.ensures s h.calls_stand (tidy-stacked s q.tidy))))
     c.stop.new.self c.stop.result c.stop.ensures.step
 
-pub returns-in-Some : goal.returns-in-Some
-returns-in-Some c =
+pub returns-in-Some-clause-step : goal.returns-in-Some-clause-step
+returns-in-Some-clause-step c =
     as-step c.args.self.now (IsServing c.args.a.thread.seat c.in-Some.f) (IsBy c.args.a) _ _
     (λ s h q. (record { tidy = q.tidy; serves = sym (c.in-Some.ensures s h.calls_stand (tidy-stacked s q.tidy)) }, reply-by-frame s c.args.a c.args.d.now c.args.parcel.now (Some c.in-Some.f) (c.in-Some.ensures s h.calls_stand (tidy-stacked s q.tidy))))
-    c.reply_to.new.self c.reply_to.result c.reply_to.ensures
+    c.reply_to.new.self c.reply_to.result c.reply_to.ensures.step

@@ -6,16 +6,16 @@ use Rattle.bd_step.proofs.New.{new-death}
 use Rattle.bd_step.proofs.Meeting.{taken-step}
 use Rattle.bd_step.proofs.tables.Tables.request_death.Goals as goal
 
-pub returns-in-Err : goal.returns-in-Err
+pub returns-in-Err-clause-step : goal.returns-in-Err-clause-step
 unfolding request_step
-returns-in-Err c = taken-step _ _ _ _ _ (
+returns-in-Err-clause-step c = taken-step _ _ _ _ _ (
     checked-notes _ _ (λ s o. requested s c.args.a.process.made o c.args.cookie) (λ s. request_check s c.args.a.process.made c.args.n) _
     (λ s h. c.in-Err.ensures s h.objects_stand))
 
-pub returns : goal.returns
+pub returns-clause-step : goal.returns-clause-step
 unfolding request_step
-returns c = taken-step _ _ _ _ _ (
+returns-clause-step c = taken-step _ _ _ _ _ (
     checked-accepts-alone _ _ (λ s o. requested s c.args.a.process.made o c.args.cookie) (λ s. request_check s c.args.a.process.made c.args.n) _
     (λ s h. c.in-Ok.ensures s h.objects_stand) _ _ c.reserve.ensures.stands
-    (λ s h by w. c.add_request.ensures s w (new-death s _ c.args.a.process.made c.args.n c.in-Ok.o w.own.steps_are by.tidy (sym (c.in-Ok.ensures s h.objects_stand))))
+    (λ s h by w. c.add_request.ensures.stands s w (new-death s _ c.args.a.process.made c.args.n c.in-Ok.o w.own.steps_are by.tidy (sym (c.in-Ok.ensures s h.objects_stand))))
     (λ s h by. requested-local s c.args.a.process.made c.args.n c.args.cookie c.in-Ok.o by.tidy.quiet (sym (c.in-Ok.ensures s h.objects_stand))))

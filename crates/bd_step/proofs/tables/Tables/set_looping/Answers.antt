@@ -6,9 +6,9 @@ use Rattle.bd_step.proofs.Accepting.{accepts-alone}
 use Rattle.bd_step.proofs.Meeting.{taken-step}
 use Rattle.bd_step.proofs.tables.Tables.set_looping.Goals as goal
 
-pub returns : goal.returns
+pub returns-clause-step : goal.returns-clause-step
 unfolding with_looping
-returns c = taken-step _ _ _ _ _ (
+returns-clause-step c = taken-step _ _ _ _ _ (
     accepts-alone c.args.self.now c.args.self.now _ _ _ (λ s. with_looping s c.args.a.thread.seat c.args.looping) (λ s h. h)
     (λ s h by w. with-calls (s.steps + 1) c.args.self.now s _ _ _ _ w (c.set_looping.ensures.stands s w.calls_stand))
     (λ s h by. looping-local s c.args.a.thread.seat c.args.looping by.tidy.quiet) (λ s h by. refl))

@@ -6,16 +6,16 @@ use Rattle.bd_step.proofs.Meeting.{taken-step, meets, in-case, is-refused}
 use Rattle.bd_step.proofs.New.{new-manager}
 use Rattle.bd_step.proofs.tables.Tables.set_manager.Goals as goal
 
-pub returns-then-is_manager_busy : goal.returns-then-is_manager_busy
+pub returns-then-is_manager_busy-clause-step : goal.returns-then-is_manager_busy-clause-step
 unfolding manager_step
-returns-then-is_manager_busy c = taken-step _ _ _ _ _ (
+returns-then-is_manager_busy-clause-step c = taken-step _ _ _ _ _ (
     meets _ _ _ _ _ (λ s h by.
     in-case _ _ (manager_outcome s c.args.a.process.made) _ _ (sym (c.is_manager_busy.ensures s h) ∙ c.if-is_manager_busy.true)
     (is-refused _ s ManagerBusy h)))
 
-pub returns : goal.returns
+pub returns-clause-step : goal.returns-clause-step
 unfolding manager_step with_manager
-returns c = taken-step _ _ _ _ _ (
+returns-clause-step c = taken-step _ _ _ _ _ (
     meets _ _ _ _ _ (λ s h by.
     in-case _ _ (manager_outcome s c.args.a.process.made) _ _ (sym (c.is_manager_busy.ensures s h) ∙ c.if-is_manager_busy.false)
     (record {

@@ -10,6 +10,7 @@ pub loop-o-init : goal.loop-o-init
 loop-o-init c = record {
   stands = λ s h. subst (Within c.args.self.now) (sym (shed-none s)) h;
   uses = search rules;
+  told = λ told k. k;
 }
 
 pub loop-o-preserved : goal.loop-o-preserved
@@ -20,6 +21,7 @@ loop-o-preserved c =
       stands = λ s h. subst (Within _) (shed-next os k _ s c.loop-o-test.true)
           (c.shed_object.ensures.stands (shed_of (is_among (take k os)) s) (c.loop-o.invariant.stands s h));
       uses = search rules;
+      told = λ told k. c.shed_object.ensures.told told (c.loop-o.invariant.told told k);
     }
 
 pub returns-clause-stands : goal.returns-clause-stands

@@ -14,5 +14,5 @@ returns-clause-step c = taken-step _ _ _ _ _ (
       answered = λ s h p. refl;
       stands = λ s h p. subst (Within c.close_up.new.self)
           (sym (refused_reply-local s c.args.seat c.args.f p.tidy.quiet (one-frame-each s p.tidy) (served-there s c.args.seat c.args.f p)))
-          (c.close_up.ensures (reply_refused s c.args.seat c.args.f) (refused-stands _ s c.args.seat c.args.f (c.refuse_reply.ensures.stands (s.steps + 1) s (within c.reserve.new.self s (c.reserve.ensures.stands s h)))));
+          (c.close_up.ensures.stands (reply_refused s c.args.seat c.args.f) (refused-stands _ s c.args.seat c.args.f (c.refuse_reply.ensures.stands (s.steps + 1) s (within c.reserve.new.self s (c.reserve.ensures.stands s h)))));
     })

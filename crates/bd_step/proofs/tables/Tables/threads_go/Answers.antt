@@ -12,6 +12,7 @@ loop-seat-preserved c = record {
       subst (λ (z : Space). StandsAt (z.steps + 1) c.thread_goes.new.self z) (sym (fold_more thread_goes s c.args.seats.now c.loop-seat.seat-index 0 c.loop-seat-test.true))
       (c.thread_goes.ensures.stands _ (c.loop-seat.invariant.stands s h));
   uses = search rules;
+  told = λ told k. c.thread_goes.ensures.told told (c.loop-seat.invariant.told told k);
 }
 
 pub returns-clause-stands : goal.returns-clause-stands

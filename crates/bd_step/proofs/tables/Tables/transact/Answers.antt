@@ -10,15 +10,15 @@ use Rattle.bd_step.proofs.Afterwards.{sent-call, sent-followed, sent-ordered, ri
 use Rattle.bd_step.proofs.Meeting.{taken-step}
 use Rattle.bd_step.proofs.tables.Tables.transact.Goals as goal
 
-pub returns-in-Err : goal.returns-in-Err
-returns-in-Err c = record {
+pub returns-in-Err-clause-step : goal.returns-in-Err-clause-step
+returns-in-Err-clause-step c = record {
   ok = tt;
   err = λ s h. c.in-Err.ensures.err s (c.in-Ok.ensures.stands s h);
   full = λ s h p. full-if _ _ (numbers-completed (transacted s c.args.a c.args.d.now c.args.v) (c.in-Err.ensures.full s (c.in-Ok.ensures.stands s h)));
 }
 
-pub returns : goal.returns
-returns c = taken-step _ _ _ _ _ (
+pub returns-clause-step : goal.returns-clause-step
+returns-clause-step c = taken-step _ _ _ _ _ (
     record {
       answered = λ s h p. refl;
       stands = λ s h p.

@@ -5,14 +5,14 @@ use Rattle.bd_step.proofs.Stacked.{tidy-stacked}
 use Rattle.bd_step.proofs.Stepping.{transaction-stops, transaction-sends}
 use Rattle.bd_step.proofs.tables.Tables.transaction.Goals as goal
 
-pub returns-in-Ok-Err : goal.returns-in-Ok-Err
-returns-in-Ok-Err c =
+pub returns-in-Ok-Err-clause-step : goal.returns-in-Ok-Err-clause-step
+returns-in-Ok-Err-clause-step c =
     as-step c.args.self.now IsAny (IsBy c.args.a) _ _
     (λ s h q. (q.tidy, transaction-stops s c.args.a c.args.d.now c.args.parcel.now _ _ (sym c.in-Ok-Err.field-0-is ∙ c.in-Ok-Err.ensures.computed s h (tidy-stacked s q.tidy)) c.refusal.ensures))
     c.stop.new.self c.stop.result c.stop.ensures.step
 
-pub returns-in-Ok-Ok : goal.returns-in-Ok-Ok
-returns-in-Ok-Ok c =
+pub returns-in-Ok-Ok-clause-step : goal.returns-in-Ok-Ok-clause-step
+returns-in-Ok-Ok-clause-step c =
     as-step c.args.self.now (IsSending c.args.a c.args.d.now _) (IsBy c.args.a) _ _
     (λ s h q. (record { tidy = q.tidy; checked = (c.args.parcel.now, sym (c.in-Ok-Ok.ensures.computed s h (tidy-stacked s q.tidy)) ∙ c.in-Ok-Ok.field-0-is) }, transaction-sends s c.args.a c.args.d.now c.args.parcel.now _ (sym c.in-Ok-Ok.field-0-is ∙ c.in-Ok-Ok.ensures.computed s h (tidy-stacked s q.tidy))))
-    c.transact.new.self c.transact.result c.transact.ensures
+    c.transact.new.self c.transact.result c.transact.ensures.step

@@ -1,0 +1,182 @@
+//! Which todo lists may have been filled or emptied since that was last told.
+#![tactic(auto)]
+
+ghost use Rattle.std.specs.Prelude.{◌≡◌, ◌+◌, ◌<◌, ◌≤◌, ◌++◌, ◌∷◌, [], Bool, true, false, not, List, if◌then◌else◌, IfOk, IfSome, OnOk, OnErr, length, vec_len, vec_capacity};
+ghost use Rattle.std.specs.List.{list_all};
+ghost use Rattle.bd_space.specs.declared.space.TodoList as lists;
+ghost use Rattle.bd_space.specs.declared.space.TodoList.TheVariants.{OfProcess};
+ghost use Rattle.bd_space.specs.declared.space.Work as works;
+ghost use Rattle.bd_space.specs.Todo.{same_list, has_work_in};
+ghost use Rattle.bd_links.specs.Stands as links;
+ghost use Rattle.bd_calls.specs.Marks as spec;
+
+use bd_links::WorkTable;
+use bd_space::{TodoList, Turn, Work};
+use std::alloc::{AllocError, Global};
+
+/// A list that may have been filled or emptied.
+#[derive(Clone, Copy)]
+pub(crate) struct Mark {
+    pub(crate) list: TodoList,
+    // Whether anything was on it when that was last told.
+    pub(crate) had: bool,
+}
+
+/// The lists that may have been filled or emptied since that was last told, each marked once.
+#[derive(Drop)]
+pub(crate) struct Marks {
+    pub(crate) marks: Vec<Mark>,
+    // Any other list may have been, too: there were more than there was room for, or nothing was told yet.
+    pub(crate) all: bool,
+}
+
+fn is_of(mark: &Mark, list: TodoList) -> bool
+    ensures { result ≡ same_list list mark.now.list }
+{
+    mark.list == list
+}
+
+fn is_marked_in(marks: &[Mark], list: TodoList) -> bool
+    ensures { result ≡ spec.is_marked_in marks.now list }
+{
+    marks.iter().any(|m| is_of(m, list))
+}
+
+// The list was filled or emptied.
+fn is_changed(mark: &Mark, todo: &WorkTable) -> bool
+    ensures { links.Tells todo.now result (λ l. spec.is_changed l mark.now) }
+{
+    let has = todo.has_any(mark.list);
+    if mark.had { !has } else { has }
+}
+
+fn push_changed(mark: &Mark, todo: &WorkTable, reached: &mut Vec<TodoList>)
+    requires { vec_len reached.old < vec_capacity reached.old }
+    ensures listed { links.Tells todo.now reached.new.items
+        (λ l. reached.old.items ++ (if spec.is_changed l mark.now then mark.now.list ∷ [] else [])) }
+    ensures len { vec_len reached.new ≤ vec_len reached.old + 1 }
+    ensures capacity { vec_capacity reached.new ≡ vec_capacity reached.old }
+{
+    if is_changed(mark, todo) {
+        reached.push_reserved(mark.list);
+    }
+}
+
+// The marked lists that were filled or emptied, put into what has room for them.
+fn list_changed(marks: &[Mark], todo: &WorkTable, reached: &mut Vec<TodoList>)
+    requires none { reached.old.items ≡ [] }
+    requires room { vec_len reached.old + length marks.now ≤ vec_capacity reached.old }
+    ensures { links.Tells todo.now reached.new.items (λ l. spec.changed_lists l marks.now) }
+{
+    for mark in marks {
+        push_changed(mark, todo, reached);
+    }
+}
+
+/// The list of the call's receiver may be filled.
+pub(crate) fn mark_receiver(marks: &mut Marks, todo: &WorkTable, turn: Option<Turn>)
+    ensures marked { IfSome turn (λ t. spec.is_marked marks.new (OfProcess t.receiver) ≡ true) }
+    ensures recalls { spec.Goes marks.old marks.new todo.now }
+{
+    if let Some(turn) = turn {
+        marks.mark(todo, TodoList::OfProcess(turn.receiver));
+    }
+}
+
+impl Marks {
+    /// Nothing was told yet. Takes no memory.
+    pub(crate) fn new(alloc: Global) -> Marks
+        ensures { (list : lists.TodoList) → spec.is_marked result list ≡ true }
+    {
+        Marks {
+            marks: Vec::new(alloc),
+            all: true,
+        }
+    }
+
+    /// Makes room for so many lists in all. Fails for want of memory, and then changes nothing.
+    pub(crate) fn reserve(&mut self, lists: usize) -> Result<(), AllocError>
+        ensures marks { self.new.marks.items ≡ self.old.marks.items }
+        ensures all { self.new.all ≡ self.old.all }
+        ensures room { OnOk result (lists ≤ vec_capacity self.new.marks) }
+    {
+        let more = lists.saturating_sub(self.marks.len());
+        self.marks.reserve(more)
+    }
+
+    fn has(&self, list: TodoList) -> bool
+        ensures { result ≡ spec.is_marked self.now list }
+    {
+        self.all || is_marked_in(&self.marks, list)
+    }
+
+    // Marks a list that isn't marked, with what is on it.
+    fn add(&mut self, todo: &WorkTable, list: TodoList)
+        requires { spec.is_marked self.old list ≡ false }
+        ensures marked { spec.is_marked self.new list ≡ true }
+        ensures stay { spec.Stay self.old self.new }
+        ensures recalls { spec.Goes self.old self.new todo.now }
+        // Others are marked with it only where there is no room.
+        ensures few { vec_len self.old.marks < vec_capacity self.old.marks → self.new.all ≡ false }
+    {
+        if self.marks.len() < self.marks.capacity() {
+            let had = todo.has_any(list);
+            self.marks.push_reserved(Mark { list, had });
+        } else {
+            self.all = true;
+        }
+    }
+
+    /// The list may be filled or emptied from now on. Takes no memory.
+    pub(crate) fn mark(&mut self, todo: &WorkTable, list: TodoList)
+        ensures marked { spec.is_marked self.new list ≡ true }
+        ensures stay { spec.Stay self.old self.new }
+        ensures recalls { spec.Goes self.old self.new todo.now }
+    {
+        if !self.has(list) {
+            self.add(todo, list);
+        }
+    }
+
+    /// The lists of these work items may be emptied from now on.
+    pub(crate) fn mark_lists_of(&mut self, todo: &WorkTable, taken: &[Work])
+        ensures marked { list_all (λ d. spec.is_marked self.new d.list) taken.now ≡ true }
+        ensures recalls { spec.Goes self.old self.new todo.now }
+    {
+        for work in taken {
+            self.mark(todo, work.list);
+        }
+    }
+
+    /// Any list may be filled or emptied from now on.
+    pub(crate) fn mark_all(&mut self)
+        ensures { self.new.all ≡ true }
+    {
+        self.all = true;
+    }
+
+    /// Lists the marked lists that were filled or emptied, and marks none from now on. Whether no others may have been.
+    /// Fails for want of memory, and then leaves the marks.
+    pub(crate) fn tell(
+        &mut self,
+        todo: &WorkTable,
+        reached: &mut Vec<TodoList>,
+    ) -> Result<bool, AllocError>
+        ensures listed { IfOk result (λ whole. whole ≡ not self.old.all) }
+        ensures exact { IfOk result (λ whole. whole ≡ true → (told : lists.TodoList → Bool) (l : List works.Work)
+            → spec.RecallsIn self.old todo.now told → links.WorksAre todo.now l
+            → (list : lists.TodoList) → spec.is_among reached.new.items list ≡ spec.differs (told list) (has_work_in l list)) }
+        ensures told { OnOk result ((l : List works.Work) → links.WorksAre todo.now l
+            → spec.RecallsIn self.new todo.now (λ list. has_work_in l list)) }
+        ensures knows { OnOk result (self.new.all ≡ false) }
+        ensures err { OnErr result (self.new ≡ self.old) }
+    {
+        reached.clear();
+        reached.reserve(self.marks.len())?;
+        list_changed(&self.marks, todo, reached);
+        let whole = !self.all;
+        self.marks.clear();
+        self.all = false;
+        Ok(whole)
+    }
+}

@@ -1,0 +1,42 @@
+-- Whom a step reached, told by the lists that it filled or emptied.
+use Rattle.std.proofs.Common.{◌≡◌, ℕ, Bool, true, false, not, List, ◌⊎◌, inl, inr, refl, sym, subst, ◌∙◌}
+use Rattle.std.specs.Bool.{beq}
+use Rattle.bd_space.specs.declared.step.Entry.{Entry}
+use Rattle.bd_space.specs.declared.space.TodoList.{TodoList}
+use Rattle.bd_space.specs.declared.space.TodoList.TheVariants.{OfThread, OfProcess}
+use Rattle.bd_space.specs.Space.{Space, opening}
+use Rattle.bd_space.specs.Histories.{space_after, is_ready}
+use Rattle.bd_space.specs.Steps.{step}
+use Rattle.bd_laws.specs.Reached.{IsReached, is_filled_or_emptied}
+use Rattle.bd_laws.proofs.WhomAStepReaches.Reached.{whom_reached}
+use Rattle.bd_engine.specs.Reached.{AreReached, IsNamed, TheseNameAll, has_work, differs, is_among}
+use Rattle.bd_engine.proofs.Keeping.{after-more}
+
+differs-unless : (a b : Bool) → differs a b ≡ not (beq a b)
+differs-unless true true = refl
+differs-unless true false = refl
+differs-unless false true = refl
+differs-unless false false = refl
+
+module _ (reached : List TodoList) (s z : Space) (seat : ℕ) (are : AreReached reached (has_work s) z) where
+  listed : (list : TodoList) → is_filled_or_emptied s z list ≡ true → is_among reached list ≡ true
+  listed list e = are list ∙ differs-unless (has_work s list) (has_work z list) ∙ e
+
+  named : IsReached s z seat → IsNamed reached s z seat
+  named (inl own) = inl (listed (OfThread seat) own)
+  named (inr (inl (a, found, of_process))) = inr (inl (a, found, listed (OfProcess a.process) of_process))
+  named (inr (inr ended)) = inr (inr ended)
+
+  as-named : (is_ready z seat ≡ is_ready s seat) ⊎ IsReached s z seat → (is_ready z seat ≡ is_ready s seat) ⊎ IsNamed reached s z seat
+  as-named (inl same) = inl same
+  as-named (inr r) = inr (named r)
+
+pub these-name-all : TheseNameAll
+unfolding space_after
+these-name-all h seat x answer reached other apart are =
+    let s = space_after h in
+    let e : Entry = record { seat = seat; step = x; answer = answer } in
+    let more = after-more opening h.entries e in
+    let at = subst (AreReached reached (has_work s)) more are in
+    subst (λ (z : Space). (is_ready z other ≡ is_ready s other) ⊎ IsNamed reached s z other) (sym more)
+    (as-named reached s (step s seat x).space other at (whom_reached h seat x other apart))
