@@ -5,3 +5,4 @@ pub mod Keeping
 pub mod Commands
 pub mod Courses
 pub mod Runs
+pub mod Handles
