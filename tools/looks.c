@@ -1,7 +1,7 @@
 /* SPDX-License-Identifier: Apache-2.0 OR MIT */
 /* Looks at the space of a live engine: a client sends the context manager an object, calls it, gets a reply, and ends. Each thing that
-   docs/RULES.md says is there then is looked at, and what isn't there. Complains where something is told otherwise, or a look that finds
-   nothing writes to what it would fill. Prints nothing else. */
+   docs/RULES.md says is there then is looked at, and what isn't there, and all processes, handles and buffers are gone through. Complains
+   where something is told otherwise, or a look that finds nothing writes to what it would fill. Prints nothing else. */
 #include "asking.h"
 
 #include <stdio.h>
@@ -194,13 +194,61 @@ static bool replies(hullpippin_live *live)
            && reads(live, MANAGER);
 }
 
+/* ---- all that there is */
+
+/* A look for the next: `of` is the pid of a process whose handles are looked for, or the place of its open where it is for buffers. */
+typedef bool next_look(hullpippin_live *live, uint32_t of, uint32_t from, uint32_t *next);
+
+static bool next_process(hullpippin_live *live, uint32_t of, uint32_t from, uint32_t *place)
+{
+    (void)of;
+    return hullpippin_live_next_process(live, from, place);
+}
+
+/* From 0 on these are told, and no more. */
+static bool lists(hullpippin_live *live, next_look *look, uint32_t of, const uint32_t *known, size_t count)
+{
+    uint32_t from = 0, next = BLANK;
+    for (size_t i = 0; i < count; i++) {
+        if (!look(live, of, from, &next) || next != known[i])
+            return fails("another list of what there is");
+        from = next + 1;
+    }
+    next = BLANK;
+    return is(!look(live, of, from, &next) && next == BLANK && !look(live, of, UINT32_MAX, &next) && next == BLANK,
+              "more is listed than there is");
+}
+
+/* The manager has one name, for what was sent. The client calls number 0 without a name. */
+static bool lists_handles(hullpippin_live *live)
+{
+    static const uint32_t names[] = {1};
+    return lists(live, hullpippin_live_next_handle, MANAGER_PID, names, 1) && lists(live, hullpippin_live_next_handle, CLIENT_PID, NULL, 0)
+           && lists(live, hullpippin_live_next_handle, 300, NULL, 0);
+}
+
+static bool lists_both(hullpippin_live *live)
+{
+    static const uint32_t opened[] = {OPENED_MANAGER, OPENED_CLIENT}, sent[] = {SENT, CALLED}, replied[] = {REPLIED};
+    return lists(live, next_process, 0, opened, 2) && lists_handles(live) && lists(live, hullpippin_live_next_buffer, OPENED_MANAGER, sent, 2)
+           && lists(live, hullpippin_live_next_buffer, OPENED_CLIENT, replied, 1)
+           && lists(live, hullpippin_live_next_buffer, MADE_MANAGER, NULL, 0);
+}
+
+static bool lists_one(hullpippin_live *live)
+{
+    static const uint32_t opened[] = {OPENED_MANAGER}, sent[] = {SENT, CALLED};
+    return lists(live, next_process, 0, opened, 1) && lists_handles(live) && lists(live, hullpippin_live_next_buffer, OPENED_MANAGER, sent, 2)
+           && lists(live, hullpippin_live_next_buffer, OPENED_CLIENT, NULL, 0);
+}
+
 static bool ends(hullpippin_live *live)
 {
     hullpippin_answer answer;
     uint32_t made = BLANK;
     return is_made(hullpippin_live_exit_process(live, CLIENT, &answer), &answer, HULLPIPPIN_EXITED)
            && is(!hullpippin_live_process_of_pid(live, CLIENT_PID, &made) && made == BLANK, "a process that has ended")
-           && tells_death(live, HULLPIPPIN_QUEUED) && reads(live, MANAGER) && tells_death(live, HULLPIPPIN_TOLD);
+           && tells_death(live, HULLPIPPIN_QUEUED) && reads(live, MANAGER) && tells_death(live, HULLPIPPIN_TOLD) && lists_one(live);
 }
 
 static bool plays(hullpippin_live *live)
@@ -208,7 +256,7 @@ static bool plays(hullpippin_live *live)
     return opens(live) && tells_processes(live) && tells_threads(live) && sends(live) && tells_objects(live, false)
            && tells_buffer(live, false) && tells_unread(live) && reads(live, CLIENT) && tells_objects(live, true) && reads(live, MANAGER)
            && tells_buffer(live, true) && asks(live) && tells_death(live, HULLPIPPIN_ARMED) && calls(live) && tells_call(live)
-           && replies(live) && ends(live);
+           && replies(live) && lists_both(live) && ends(live);
 }
 
 int main(void)
