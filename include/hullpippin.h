@@ -651,6 +651,17 @@ bool hullpippin_live_innermost(hullpippin_live *live, uint32_t seat, hullpippin_
 /* The death notification that was asked for at this place. */
 bool hullpippin_live_death(hullpippin_live *live, uint32_t made, hullpippin_death *death);
 
+/* The first live process that was opened at the place `from` or behind it: the place of its open. To go through all that there are,
+   begin with 0, and go on with one more than was told; the same goes for the two looks that follow. */
+bool hullpippin_live_next_process(hullpippin_live *live, uint32_t from, uint32_t *place);
+
+/* The least handle, `from` or above it, that names something for the live process with this pid. Where `from` itself names nothing, it
+   looks at each handle that is noted for the process, those of names that are gone too until room for more is made. */
+bool hullpippin_live_next_handle(hullpippin_live *live, uint32_t pid, uint32_t from, uint32_t *handle);
+
+/* The first live buffer of a process, named by the place of its open, that was made at the place `from` or behind it: where it was made. */
+bool hullpippin_live_next_buffer(hullpippin_live *live, uint32_t process, uint32_t from, uint32_t *made);
+
 /*
  * Commands, returns and parcels as bytes (docs/FORMATS.md): they are read and spelled exactly as the engine does it. These
  * functions have no handle and take no memory, and any thread may call them at any time.

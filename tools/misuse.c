@@ -143,7 +143,9 @@ static bool no_space_is_seen(hullpippin_live *live)
                  || hullpippin_live_object(live, 0, 0, &told.object) || hullpippin_live_named(live, 100, 0, &told.id)
                  || hullpippin_live_buffer(live, 0, &told.buffer) || hullpippin_live_carried(live, 0, 0, &told.id)
                  || hullpippin_live_unread_of_thread(live, 0, 0, &told.work) || hullpippin_live_unread_of_process(live, 0, 0, &told.work)
-                 || hullpippin_live_innermost(live, 0, &told.frame) || hullpippin_live_death(live, 0, &told.death);
+                 || hullpippin_live_innermost(live, 0, &told.frame) || hullpippin_live_death(live, 0, &told.death)
+                 || hullpippin_live_next_process(live, 0, &told.number) || hullpippin_live_next_handle(live, 100, 0, &told.number)
+                 || hullpippin_live_next_buffer(live, 0, 0, &told.number);
     if (finds)
         return fails("something is found in the space of an engine that isn't there");
     return !memcmp(&told, &before, sizeof told) || fails("a look at no engine's space writes");

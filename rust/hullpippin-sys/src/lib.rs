@@ -1111,6 +1111,20 @@ extern "C" {
     /// The death notification that was asked for at this place.
     pub fn hullpippin_live_death(live: *mut hullpippin_live, made: u32, death: *mut hullpippin_death) -> bool;
 
+    /// The first live process that was opened at the place `from` or behind it: the place of its open. To go through
+    /// all that there are, begin with 0, and go on with one more than was told; the same goes for the two looks that
+    /// follow.
+    pub fn hullpippin_live_next_process(live: *mut hullpippin_live, from: u32, place: *mut u32) -> bool;
+
+    /// The least handle, `from` or above it, that names something for the live process with this pid. Where `from`
+    /// itself names nothing, it looks at each handle that is noted for the process, those of names that are gone too
+    /// until room for more is made.
+    pub fn hullpippin_live_next_handle(live: *mut hullpippin_live, pid: u32, from: u32, handle: *mut u32) -> bool;
+
+    /// The first live buffer of a process, named by the place of its open, that was made at the place `from` or behind
+    /// it: where it was made.
+    pub fn hullpippin_live_next_buffer(live: *mut hullpippin_live, process: u32, from: u32, made: *mut u32) -> bool;
+
     /// Reads the command at the head of a stream. Answers 0, or the number of the fault by which none is there, F1 to
     /// F3, and then `command` stays as it was. What comes behind the command isn't looked at.
     pub fn hullpippin_next_command(stream: *const u8, stream_size: usize, command: *mut hullpippin_command) -> u32;
