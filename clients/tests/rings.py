@@ -28,7 +28,7 @@ HEADING = struct.Struct("=8sIIIIQII64s24xQ56x")
 COUNTS = struct.Struct("=32Q32Q8Q32Q32Q32Q8Q")
 NONE = 2**32 - 1
 # steps that are looked at while they are made
-STEPS = 100_000
+STEPS = 40_000
 COMMAND, READ, GOT, ACCEPTED = 3, 4, 6, 3
 # codes of commands and returns with a parcel, by their numbers (_IOC_NR), and the flag of a call without a reply
 BC_TRANSACTION, BC_REPLY, BR_TRANSACTION, BR_REPLY, ONE_WAY = 0, 1, 2, 3, 1
