@@ -97,8 +97,8 @@ enum {
     HULLPIPPIN_SEAT_COUNT = 6,      /* new: the number of seats isn't 1 to 31; live_new: 1 to 65536 */
     HULLPIPPIN_NO_SEAT_LEFT = 7,    /* take_seat: all seats are taken */
     HULLPIPPIN_SEATS_AWAY = 8,      /* finish: a seat isn't back */
-    HULLPIPPIN_NO_JOURNAL = 9,      /* verdict, chain, call_of_reply, turns: the bytes are no journal; journal, live_entry, live_heading: no journal
-                                       spells it */
+    HULLPIPPIN_NO_JOURNAL = 9,      /* verdict, chain, call_of_reply, turns: the bytes are no journal; journal,
+                                       live_entry: no journal spells it */
     HULLPIPPIN_NO_SUCH_SEAT = 10,   /* live: the engine has no seat of that number */
     HULLPIPPIN_HISTORY_FULL = 11,   /* live: the history can take no more (F13) */
     HULLPIPPIN_NO_COMMAND = 12,     /* live_command: the bytes aren't exactly one command */
@@ -503,10 +503,10 @@ size_t hullpippin_live_bytes(hullpippin_live *live, uint32_t part, uint8_t *out,
    them, until the next step. Also NO_MEMORY, NO_JOURNAL: the call may be made again, the entry stays. */
 uint32_t hullpippin_live_entry(hullpippin_live *live, uint8_t *out, size_t room, size_t *size);
 
-/* The same for what a journal of `count` entries begins with. Where the entries are still to come, begin the file
-   with the heading of 4294967295 entries, and write the right one over it at the end, or `count` alone into the four
-   bytes from byte 12, little-endian. Until then no reader takes it for a journal. NO_JOURNAL where there are more
-   than 31 seats. */
+/* The same for what a journal of `count` entries begins with, 16 bytes, or 20 where there are more than 31 seats. Where
+   the entries are still to come, begin the file with the heading of 4294967295 entries, and write the right one over
+   it at the end, or `count` alone into the four bytes from byte 12, little-endian. Until then no reader takes it for
+   a journal. */
 uint32_t hullpippin_live_heading(hullpippin_live *live, uint32_t count, uint8_t *out, size_t room, size_t *size);
 
 /* Lets go of a live engine, and empties the handle. Does nothing where it is empty. */

@@ -153,15 +153,15 @@ static bool live_floods(hullpippin_live *live)
            && live_calls(live, 0, HULLPIPPIN_BR_TRANSACTION_COMPLETE);
 }
 
-/* What a journal of so many seats begins with: there is none for more than a driver may have. */
+/* What a journal of so many seats begins with: another version, of a longer number of entries, for more than a driver may have. */
 static bool has_heading(hullpippin_live *live, uint32_t seats)
 {
-    uint8_t heading[16];
+    uint8_t heading[20];
     size_t size = 0;
     uint32_t status = hullpippin_live_heading(live, 0, heading, sizeof heading, &size);
-    if (seats > MOST_SEATS)
-        return status == HULLPIPPIN_NO_JOURNAL || status == HULLPIPPIN_NO_MEMORY || fails("a heading for too many seats");
-    return is_done(status) && ((size == sizeof heading && !memcmp(heading, "BNDJ0002", 8)) || fails("another heading"));
+    const char *version = seats > MOST_SEATS ? "BNDJ0003" : "BNDJ0002";
+    size_t wanted = seats > MOST_SEATS ? 20 : 16;
+    return is_done(status) && ((size == wanted && !memcmp(heading, version, 8)) || fails("another heading"));
 }
 
 static bool floods_a_live_engine(uint32_t seats)

@@ -1,5 +1,5 @@
 //! Journals: the bytes of a history, and what they are worth.
-ghost use Rattle.bd_uapi.specs.Limits.{IsSeats};
+ghost use Rattle.bd_engine.specs.Refusals.{IsLiveSeats};
 ghost use Rattle.bd_c.specs.Journals.{Journals, Judges, Judged};
 
 use crate::parts::tell_written;
@@ -30,7 +30,7 @@ pub(crate) fn write_to(alloc: Global, history: &Record, out: &mut [u8], size: &m
 
 // What a replay of the record comes to.
 fn judge(alloc: Global, found: &Record, verdict: &mut Verdict) -> Status
-    requires { IsSeats found.now.seats }
+    requires { IsLiveSeats found.now.seats }
     ensures { Judged found.now verdict.old verdict.new result }
 {
     match replay(alloc, found) {

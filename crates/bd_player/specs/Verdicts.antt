@@ -1,6 +1,6 @@
 -- What is said of a journal, and when that is so.
 use Rattle.std.specs.Prelude.{◌≡◌, ◌≤◌, ℕ, List, length, Option, IfSome}
-use Rattle.bd_uapi.specs.Limits.{IsSeats}
+use Rattle.bd_engine.specs.Refusals.{IsLiveSeats}
 use Rattle.bd_space.specs.declared.record.Record.{Record}
 use Rattle.bd_space.specs.Histories.{IsHistory, history_in}
 use Rattle.bd_journal.specs.Spelling.{Tells}
@@ -15,10 +15,10 @@ abbrev pub Holds : Record → Verdict → Type 0
 Holds r (Lawful entries) = IsHistory (history_in r) × (entries ≡ length r.entries)
 Holds r (Unlawful at) = (IsHistory (history_in r) → ⊥) × StopsAt (history_in r) at
 
--- what is said of the record holds, and it is handed out as it is; it has as many seats as a driver may
+-- what is said of the record holds, and it is handed out as it is; it has 1 to 65536 seats
 abbrev pub IsJudged : Record → Judged → Type 0
-IsJudged r (History h) = (h ≡ r) × IsSeats r.seats × IsHistory (history_in r)
-IsJudged r (judged.Unlawful found at) = (found ≡ r) × IsSeats r.seats × Holds r (Unlawful at)
+IsJudged r (History h) = (h ≡ r) × IsLiveSeats r.seats × IsHistory (history_in r)
+IsJudged r (judged.Unlawful found at) = (found ≡ r) × IsLiveSeats r.seats × Holds r (Unlawful at)
 
 -- that is so of the record that the bytes spell
 abbrev pub Judges : List ℕ → Judged → Type 0
@@ -38,5 +38,5 @@ IsLawfulAt0 known status = status ≡ 0 → IfSome known (λ bytes. (r : Record)
 
 -- what is handed out as a history is one, and another record stops being one where it is said to
 abbrev pub IsAsSaid : Judged → Type 0
-IsAsSaid (History h) = IsSeats h.seats × IsHistory (history_in h)
-IsAsSaid (judged.Unlawful found at) = IsSeats found.seats × StopsAt (history_in found) at
+IsAsSaid (History h) = IsLiveSeats h.seats × IsHistory (history_in h)
+IsAsSaid (judged.Unlawful found at) = IsLiveSeats found.seats × StopsAt (history_in found) at

@@ -1,7 +1,7 @@
 //! Certificates of a history: how a process came to a name, which call a reply answers, the turns of an object.
 
 ghost use Rattle.std.specs.Prelude.{◌≡◌, ◌≤◌, All, IfOk, IfSome, is_some};
-ghost use Rattle.bd_uapi.specs.Limits.{IsSeats};
+ghost use Rattle.bd_engine.specs.Refusals.{IsLiveSeats};
 ghost use Rattle.bd_space.specs.Histories.{IsHistory, space_after, history_in};
 ghost use Rattle.bd_engine.specs.Looks as looks;
 ghost use Rattle.bd_audit.specs.{CallOf.{IsAnswerOf}, Gifts.{IsChainOf}, Replays.{with_entry}, Replies.{call_answered}};
@@ -13,7 +13,7 @@ use crate::pids::{owner_of, pid_of, receiver_of};
 use crate::texts::OrDash;
 use crate::untold::Untold;
 use bd_audit::{Turn, advance, call_of_reply, gift_chain, oneway_turns};
-use bd_engine::{Engine, Looks};
+use bd_engine::{Looks, WideEngine};
 use bd_space::{Entry, ObjectId, Record};
 use std::alloc::Global;
 use std::fmt;
@@ -27,7 +27,7 @@ pub(crate) fn chain_of(
     pid: u32,
     number: u32,
 ) -> Result<Option<Vec<u32>>, Untold>
-    requires seats { IsSeats «record».now.seats }
+    requires seats { IsLiveSeats «record».now.seats }
     requires lawful { IsHistory (history_in «record».now) }
     ensures chain { IfOk result (λ c. IfSome c (λ v. IsChainOf (history_in «record».now) pid number v.items)) }
     ensures none { IfOk result (λ c. is_some c ≡ is_some (looks.named_by (space_after (history_in «record».now)) pid number)) }
@@ -37,7 +37,7 @@ pub(crate) fn chain_of(
 
 /// Where the call was made that is answered by the reading at this place; None where that reading handed out no reply.
 pub(crate) fn answered_by(alloc: Global, record: &Record, place: u32) -> Result<Option<u32>, Untold>
-    requires seats { IsSeats «record».now.seats }
+    requires seats { IsLiveSeats «record».now.seats }
     requires lawful { IsHistory (history_in «record».now) }
     ensures answers { IfOk result (IsAnswerOf (history_in «record».now) place) }
     ensures found { IfOk result (λ found. found ≡ call_answered (history_in «record».now) place) }
@@ -51,7 +51,7 @@ pub(crate) fn turns_on(
     record: &Record,
     object: ObjectId,
 ) -> Result<Vec<Turn>, Untold>
-    requires seats { IsSeats «record».now.seats }
+    requires seats { IsLiveSeats «record».now.seats }
     requires lawful { IsHistory (history_in «record».now) }
     ensures { IfOk result (λ v. AreTurns «record».now.entries object v.items) }
 {
@@ -67,7 +67,7 @@ pub(crate) struct Named {
 
 impl Named {
     // What a number names for the process with this pid.
-    fn by(engine: &Engine, entries: &[Entry], pid: u32, number: u32) -> Option<Named>
+    fn by(engine: &WideEngine, entries: &[Entry], pid: u32, number: u32) -> Option<Named>
         ensures { result ≡ named_by (space_after engine.now) entries.now pid number }
     {
         let object = engine.named(pid, number)?;
@@ -110,7 +110,7 @@ impl fmt::Display for Gift {
 
 // Makes the step of an entry. The gift by it, if its place is the one that is asked for.
 fn gift_made(
-    engine: &mut Engine,
+    engine: &mut WideEngine,
     entries: &[Entry],
     entry: &Entry,
     asked: Option<&u32>,
@@ -130,14 +130,18 @@ fn gift_made(
 }
 
 // The gifts at these places, which rise, and the engine after the last entry.
-fn gifts_at(alloc: Global, record: &Record, places: &[u32]) -> Result<(Engine, Vec<Gift>), Untold>
-    requires seats { IsSeats «record».now.seats }
+fn gifts_at(
+    alloc: Global,
+    record: &Record,
+    places: &[u32],
+) -> Result<(WideEngine, Vec<Gift>), Untold>
+    requires seats { IsLiveSeats «record».now.seats }
     requires lawful { IsHistory (history_in «record».now) }
     ensures engine { IfOk result (λ made. made.0 ≡ history_in «record».now) }
     ensures gifts { IfOk result (λ made. All (λ g. g.pid ≡ maker_of (history_in «record».now) g.place) made.1.items) }
 {
     let entries = record.entries.as_slice();
-    let mut engine = Engine::new(alloc, record.seats)?;
+    let mut engine = WideEngine::new(alloc, record.seats)?;
     let mut gifts = Vec::new(alloc);
     for entry in entries {
         let asked = places.get(gifts.len());
@@ -167,7 +171,7 @@ pub(crate) fn tell_chain<W: Write>(
     number: u32,
     out: &mut W,
 ) -> Result<bool, Untold>
-    requires seats { IsSeats «record».now.seats }
+    requires seats { IsLiveSeats «record».now.seats }
     requires lawful { IsHistory (history_in «record».now) }
     ensures { IfOk result (λ b. b ≡ is_some (looks.named_by (space_after (history_in «record».now)) pid number)) }
 {
@@ -190,7 +194,7 @@ pub(crate) fn tell_answered<W: Write>(
     place: u32,
     out: &mut W,
 ) -> Result<bool, Untold>
-    requires seats { IsSeats «record».now.seats }
+    requires seats { IsLiveSeats «record».now.seats }
     requires lawful { IsHistory (history_in «record».now) }
     ensures { IfOk result (λ b. b ≡ is_some (call_answered (history_in «record».now) place)) }
 {
@@ -249,7 +253,7 @@ pub(crate) fn tell_turns<W: Write>(
     object: ObjectId,
     out: &mut W,
 ) -> Result<(), Untold>
-    requires seats { IsSeats «record».now.seats }
+    requires seats { IsLiveSeats «record».now.seats }
     requires lawful { IsHistory (history_in «record».now) }
 {
     let turns = turns_on(alloc, record, object)?;

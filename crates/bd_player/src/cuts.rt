@@ -1,7 +1,7 @@
 //! What is whole of a journal that was cut off, or that is still being written.
 
 ghost use Rattle.std.specs.Prelude.{◌≤◌, IfOk, IfSome};
-ghost use Rattle.bd_uapi.specs.Limits.{IsSeats};
+ghost use Rattle.bd_engine.specs.Refusals.{IsLiveSeats};
 ghost use Rattle.bd_player.specs.Cuts.{IsLawfulCutAt0, IsWhole};
 
 use crate::faults::{DONE, Fault, after_writing, tell};
@@ -32,7 +32,7 @@ pub struct Whole {
 #[tactic(auto, using(crate::proofs::Kept::whole_known))]
 pub fn whole_from<R: Read>(alloc: Global, journal: &mut R) -> Result<Whole, Fault>
     ensures whole { IfOk result (λ w. IfSome (R.remaining journal.old) (λ bytes. IsWhole bytes w)) }
-    ensures seats { IfOk result (λ w. IsSeats w.record.seats) }
+    ensures seats { IfOk result (λ w. IsLiveSeats w.record.seats) }
 {
     let bytes = match journal_from(alloc, journal) {
         Ok(bytes) => bytes,

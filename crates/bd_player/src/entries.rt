@@ -1,7 +1,7 @@
 //! An entry of a history, as it is printed.
 
 ghost use Rattle.std.specs.Prelude.{◌≤◌, IfOk};
-ghost use Rattle.bd_uapi.specs.Limits.{IsSeats};
+ghost use Rattle.bd_engine.specs.Refusals.{IsLiveSeats};
 ghost use Rattle.bd_space.specs.Histories.{IsHistory, history_in};
 ghost use Rattle.bd_player.specs.Entries.{IsEntryAt};
 
@@ -37,7 +37,7 @@ impl fmt::Display for Made<'_> {
 /// # Errors
 /// `OutOfRange` where there is no such place.
 pub(crate) fn entry_at(alloc: Global, record: &Record, place: u32) -> Result<Made<'_>, Untold>
-    requires seats { IsSeats «record».now.seats }
+    requires seats { IsLiveSeats «record».now.seats }
     requires lawful { IsHistory (history_in «record».now) }
     ensures { IfOk result (IsEntryAt (history_in «record».now) place) }
 {

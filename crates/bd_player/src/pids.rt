@@ -7,7 +7,7 @@ ghost use Rattle.bd_player.specs.Pids as spec;
 
 use crate::untold::Untold;
 use bd_audit::advance;
-use bd_engine::{Engine, Looks};
+use bd_engine::{Looks, WideEngine};
 use bd_space::{Entry, ObjectId, Step};
 
 /// The pid of the process that was opened at a place.
@@ -21,21 +21,21 @@ pub(crate) fn pid_at(entries: &[Entry], place: u32) -> Option<u32>
 }
 
 /// The pid of the process that owns an object.
-pub(crate) fn owner_of(engine: &Engine, entries: &[Entry], object: ObjectId) -> Option<u32>
+pub(crate) fn owner_of(engine: &WideEngine, entries: &[Entry], object: ObjectId) -> Option<u32>
     ensures { result ≡ spec.owner_pid (space_after engine.now) entries.now object }
 {
     pid_at(entries, engine.owner(object)?)
 }
 
 /// The pid of the process of a seat's thread.
-pub(crate) fn pid_of(engine: &Engine, entries: &[Entry], seat: u32) -> Option<u32>
+pub(crate) fn pid_of(engine: &WideEngine, entries: &[Entry], seat: u32) -> Option<u32>
     ensures { result ≡ spec.pid_of (space_after engine.now) entries.now seat }
 {
     pid_at(entries, engine.process_of(seat)?)
 }
 
 /// The pid of the process in whose window the buffer made at a place lies.
-pub(crate) fn receiver_of(engine: &Engine, entries: &[Entry], place: u32) -> Option<u32>
+pub(crate) fn receiver_of(engine: &WideEngine, entries: &[Entry], place: u32) -> Option<u32>
     ensures { result ≡ spec.receiver_of (space_after engine.now) entries.now place }
 {
     pid_at(entries, engine.buffer(place)?.receiver)
@@ -43,7 +43,7 @@ pub(crate) fn receiver_of(engine: &Engine, entries: &[Entry], place: u32) -> Opt
 
 /// Makes the step of an entry. The pid of the process that made it: that of the seat's thread before it, or else after it.
 pub(crate) fn step_made(
-    engine: &mut Engine,
+    engine: &mut WideEngine,
     entries: &[Entry],
     entry: &Entry,
 ) -> Result<Option<u32>, Untold>

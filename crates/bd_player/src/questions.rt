@@ -1,7 +1,7 @@
 //! Questions about a history, and what is printed of each.
 
 ghost use Rattle.std.specs.Prelude.{◌≤◌, IfOk};
-ghost use Rattle.bd_uapi.specs.Limits.{IsSeats};
+ghost use Rattle.bd_engine.specs.Refusals.{IsLiveSeats};
 ghost use Rattle.bd_space.specs.Histories.{IsHistory, history_in};
 ghost use Rattle.bd_player.specs.Answered.{IsThere};
 
@@ -42,7 +42,7 @@ pub fn answer<W: Write>(
     question: Question,
     out: &mut W,
 ) -> Result<bool, Untold>
-    requires seats { IsSeats «record».now.seats }
+    requires seats { IsLiveSeats «record».now.seats }
     requires lawful { IsHistory (history_in «record».now) }
     ensures { IfOk result (IsThere (history_in «record».now) question) }
 {

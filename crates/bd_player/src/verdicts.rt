@@ -1,7 +1,7 @@
 //! What a journal's bytes are.
 
 ghost use Rattle.std.specs.Prelude.{◌≡◌, ◌≤◌, length, IfOk, IfErr};
-ghost use Rattle.bd_uapi.specs.Limits.{IsSeats};
+ghost use Rattle.bd_engine.specs.Refusals.{IsLiveSeats};
 ghost use Rattle.bd_space.specs.{Histories.{IsHistory, history_in}, declared.record.Record.{Record}};
 ghost use Rattle.bd_audit.specs.Replays.{StopsAt};
 ghost use Rattle.bd_journal.specs.Spelling.{Tells};
@@ -44,7 +44,7 @@ pub enum Judged {
 
 // What the replay of a record tells of it.
 pub fn judge<P: Watch>(alloc: Global, found: Record, watch: &mut P) -> Result<Judged, Fault>
-    requires seats { IsSeats found.seats }
+    requires seats { IsLiveSeats found.seats }
     ensures judged { IfOk result (IsJudged found) }
     ensures fault { IfErr result (λ f. f ≡ Journal → ⊥) }
 {

@@ -77,8 +77,7 @@ pub const HULLPIPPIN_NO_SEAT_LEFT: u32 = 7;
 /// Finish: a seat isn't back.
 pub const HULLPIPPIN_SEATS_AWAY: u32 = 8;
 
-/// Verdict, chain, call_of_reply, turns: the bytes are no journal; journal, live_entry, live_heading: no journal spells
-/// it.
+/// Verdict, chain, call_of_reply, turns: the bytes are no journal; journal, live_entry: no journal spells it.
 pub const HULLPIPPIN_NO_JOURNAL: u32 = 9;
 
 /// Live: the engine has no seat of that number.
@@ -1033,10 +1032,10 @@ extern "C" {
     /// room has them, until the next step. Also NO_MEMORY, NO_JOURNAL: the call may be made again, the entry stays.
     pub fn hullpippin_live_entry(live: *mut hullpippin_live, out: *mut u8, room: usize, size: *mut usize) -> u32;
 
-    /// The same for what a journal of `count` entries begins with. Where the entries are still to come, begin the file
-    /// with the heading of 4294967295 entries, and write the right one over it at the end, or `count` alone into the
-    /// four bytes from byte 12, little-endian. Until then no reader takes it for a journal. NO_JOURNAL where there are
-    /// more than 31 seats.
+    /// The same for what a journal of `count` entries begins with, 16 bytes, or 20 where there are more than 31 seats.
+    /// Where the entries are still to come, begin the file with the heading of 4294967295 entries, and write the right
+    /// one over it at the end, or `count` alone into the four bytes from byte 12, little-endian. Until then no reader
+    /// takes it for a journal.
     pub fn hullpippin_live_heading(
         live: *mut hullpippin_live,
         count: u32,

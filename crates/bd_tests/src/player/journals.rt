@@ -1,8 +1,10 @@
-//! The journal of the shortest run, written and judged, as it is and as it was before there were reports of flooding.
+//! The journal of the shortest run, written and judged, as it is, as it was before there were reports of flooding, and as it is of many seats.
 
 use super::playing::{checked, history_of, written};
 use crate::same::same;
+use bd_journal::read_journal;
 use bd_uapi::MOST_SEATS;
+use bd_uapi::numbers::put_u32;
 use std::alloc::Global;
 use std::process::Abort;
 use std::test::Fail;
@@ -112,4 +114,52 @@ fn reads_reports_of_flooding_in_the_later_kind_alone(rt: HostRuntime) -> Result<
         see_none(&rt, "no such step", &changed);
     }
     Ok(())
+}
+
+// The same step of the last of 200 seats, as docs/FORMATS.md has it.
+const WIDE: [u8; 46] = [
+    0x42, 0x4e, 0x44, 0x4a, 0x30, 0x30, 0x30, 0x33, 200, 0, 0, 0, 1, 0, 0, 0, 0, 0, 0, 0, 199, 0,
+    0, 0, 13, 0, 0, 0, 0, 100, 0, 0, 0, 0xe8, 3, 0, 0, 0, 0x10, 0, 0, 1, 0, 0, 0, 0,
+];
+
+#[test]
+fn judges_the_record_of_many_seats(rt: HostRuntime) {
+    checked(rt.alloc(), &WIDE).expect(&rt, "lawful", "lawful 1\n", "", 0);
+    let mut unlawful = WIDE;
+    unlawful[29] = 0;
+    checked(rt.alloc(), &unlawful).expect(&rt, "unlawful", "unlawful 0\n", "", 1);
+    for len in 0..WIDE.len() {
+        see_none(&rt, "a beginning", &WIDE[..len]);
+    }
+}
+
+#[test]
+fn writes_the_record_of_many_seats(rt: HostRuntime) -> Result<(), Fail> {
+    let record = read_journal(rt.alloc(), &WIDE)?;
+    let journal = written(rt.alloc(), &record)?;
+    same(&rt, "the journal", journal.as_slice(), WIDE.as_slice());
+    Ok(())
+}
+
+// So many seats, and whether a journal of this kind has them: those of a driver it leaves to the kind before.
+const MANY: [(u32, bool); 5] = [
+    (1, false),
+    (MOST_SEATS, false),
+    (MOST_SEATS + 1, true),
+    (65536, true),
+    (65537, false),
+];
+
+#[test]
+fn reads_more_seats_than_a_driver_s(rt: HostRuntime) {
+    for (seats, is_read) in MANY {
+        let mut journal = WIDE;
+        put_u32(&mut journal, 8, seats);
+        put_u32(&mut journal, 20, seats - 1);
+        if is_read {
+            checked(rt.alloc(), &journal).expect(&rt, "many seats", "lawful 1\n", "", 0);
+        } else {
+            see_none(&rt, "seats", &journal);
+        }
+    }
 }
