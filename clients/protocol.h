@@ -19,7 +19,7 @@
 #include <stdint.h>
 
 /* Goes up with each change of this file: a library of another build is refused. */
-#define PROTOCOL_VERSION 5u
+#define PROTOCOL_VERSION 6u
 
 /* The largest window, as the kernel's is. */
 #define WINDOW_MAX (4u << 20)
@@ -40,9 +40,11 @@ enum control_op {
     CONTROL_OPEN = 1,    /* the first of each: `device` */
     CONTROL_MAP,         /* mmap: `size`, `base`; answers the window's size and its memory */
     CONTROL_MAX_THREADS, /* BINDER_SET_MAX_THREADS: `size` */
-    CONTROL_THREAD,      /* answers the three descriptors of a thread: link, page, bell */
+    CONTROL_THREAD,      /* `size`: the thread's tid; answers the three descriptors of a thread: link, page, bell */
     CONTROL_LOOK,        /* whether `device` is there, for who doesn't open it */
     CONTROL_SPAM,        /* BINDER_ENABLE_ONEWAY_SPAM_DETECTION: `size`, 0 for off */
+    CONTROL_RING,        /* the latest steps of `device` (ring.h), for the daemon's own user: answers the memory's size, and the memory */
+    CONTROL_STATE,       /* what goes on on the device that was opened, for the same: a page from `size` on; answers a state_page */
 };
 
 struct control_request {
@@ -57,6 +59,47 @@ struct control_answer {
     int32_t error; /* 0, or an errno */
     uint32_t descriptors;
     uint64_t size;
+};
+
+/* A process or a thread in a page of CONTROL_STATE. */
+enum state_kind { STATE_PROCESS = 1, STATE_THREAD };
+
+/* Flags of a process, and of a thread. */
+#define STATE_MANAGER 1u
+#define STATE_DETECTS_SPAM 2u
+#define STATE_LOOPS 4u
+#define STATE_WAITS 8u /* in a read */
+
+/* So many things that are to be read are counted, and not what is beyond. */
+#define STATE_UNREAD 16u
+
+/* What a field doesn't apply to has 0 there. */
+struct state_record {
+    uint32_t kind;      /* enum state_kind */
+    uint32_t process;   /* its pid in the history: the process, or that of the thread */
+    uint32_t pid;       /* as the daemon's /proc has it */
+    uint32_t tid;       /* of a thread; 0: it isn't known */
+    uint32_t seat;
+    uint32_t euid;      /* of the opening */
+    uint32_t flags;
+    uint32_t window;    /* its bytes */
+    uint32_t threads;   /* that have made an ioctl */
+    uint32_t max_threads, requested, started; /* by BR_SPAWN_LOOPER */
+    uint32_t serving, calling; /* calls that a thread has to answer, and waits for */
+    uint32_t innermost; /* the place in the history of the innermost of these; UINT32_MAX: there is none */
+    uint32_t unread;    /* what stands on its list to be read, STATE_UNREAD at most */
+    char comm[16];      /* how its main thread is called, or the thread was when it got its seat; 0 behind it */
+};
+
+/* So many records are in a page; a page that isn't the last may have fewer, and none. */
+#define STATE_ROOM 16u
+
+struct state_page {
+    int32_t error;      /* 0, or an errno */
+    uint32_t count;
+    uint64_t place;     /* how many steps the history has */
+    uint64_t next;      /* where the next page begins; 0: this is the last */
+    struct state_record records[STATE_ROOM];
 };
 
 /* Requests in a page. */

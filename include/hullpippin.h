@@ -67,7 +67,7 @@ typedef struct {
     void *at;
 } hullpippin_live;
 
-/* Handles that have nothing: to begin with, or to be assigned. A static handle is one without. */
+/* Handles that have nothing, to begin with or to be assigned. A static handle that isn't given another value begins as one. */
 #ifdef __cplusplus
 #define HULLPIPPIN_NO_DRIVER hullpippin_driver{ NULL }
 #define HULLPIPPIN_NO_SEAT hullpippin_seat{ NULL }
@@ -93,17 +93,18 @@ enum {
     HULLPIPPIN_NOT_WAITING = 3,     /* no request of this seat is handed over */
     HULLPIPPIN_TAKEN = 4,           /* serve: another seat has the engine */
     HULLPIPPIN_NO_SUCH_REQUEST = 5, /* post: there is no such kind of request; post, set_spam, live_set_spam: `on` is
-                                       neither 0 nor 1 */
+                                       neither 0 nor 1; again: none came back */
     HULLPIPPIN_SEAT_COUNT = 6,      /* new: the number of seats isn't 1 to 31; live_new: 1 to 65536 */
     HULLPIPPIN_NO_SEAT_LEFT = 7,    /* take_seat: all seats are taken */
     HULLPIPPIN_SEATS_AWAY = 8,      /* finish: a seat isn't back */
-    HULLPIPPIN_NO_JOURNAL = 9,      /* verdict: the bytes are no journal; journal, live_entry, live_heading: no journal
+    HULLPIPPIN_NO_JOURNAL = 9,      /* verdict, chain, call_of_reply, turns: the bytes are no journal; journal, live_entry, live_heading: no journal
                                        spells it */
     HULLPIPPIN_NO_SUCH_SEAT = 10,   /* live: the engine has no seat of that number */
     HULLPIPPIN_HISTORY_FULL = 11,   /* live: the history can take no more (F13) */
     HULLPIPPIN_NO_COMMAND = 12,     /* live_command: the bytes aren't exactly one command */
     HULLPIPPIN_MISUSE = 13,         /* a handle isn't what the call is for: it is empty, or isn't where it has to be, or
                                        its driver has ended, or hasn't */
+    HULLPIPPIN_UNLAWFUL = 14,       /* chain, call_of_reply, turns: the journal's entries aren't a history */
 };
 
 /* What a request came to: the kind of an answer. */
@@ -127,7 +128,7 @@ enum {
 
 /* Why a request comes back. */
 enum {
-    HULLPIPPIN_BACK_TAKEN = 1,        /* another seat has the engine: call again, or post */
+    HULLPIPPIN_BACK_TAKEN = 1,        /* another seat has the engine: hullpippin_again, or post */
     HULLPIPPIN_BACK_NO_MEMORY = 2,    /* the engine found no memory */
     HULLPIPPIN_BACK_HISTORY_FULL = 3, /* the history can take no more */
     HULLPIPPIN_BACK_WITHDRAWN = 4,    /* withdraw: nobody had picked it */
@@ -209,7 +210,7 @@ enum {
 
 /* Kinds of numbers that have a text. */
 enum {
-    HULLPIPPIN_TEXT_STATUS = 1,  /* HULLPIPPIN_DONE .. HULLPIPPIN_MISUSE */
+    HULLPIPPIN_TEXT_STATUS = 1,  /* HULLPIPPIN_DONE .. HULLPIPPIN_UNLAWFUL */
     HULLPIPPIN_TEXT_FAULT = 2,   /* HULLPIPPIN_FAULT_SHORT_COMMAND .. */
     HULLPIPPIN_TEXT_CAUSE = 3,   /* HULLPIPPIN_CAUSE_NOT_STRONGLY_NAMED .. */
     HULLPIPPIN_TEXT_NOTE = 4,    /* HULLPIPPIN_NOTE_NO_SUCH_NUMBER .. */
@@ -261,6 +262,16 @@ typedef struct {
     size_t entries; /* how many of them are one, from the first on: all of them where it is lawful */
 } hullpippin_verdict_on;
 
+/* No place of a step: none has so many before it. */
+#define HULLPIPPIN_NO_PLACE UINT32_C(0xffffffff)
+
+/* A one-way call on an object, by places of steps. */
+typedef struct {
+    uint32_t made;   /* its BC_TRANSACTION */
+    uint32_t handed; /* the read that got its BR_TRANSACTION, or HULLPIPPIN_NO_PLACE */
+    uint32_t ended;  /* the step with which its buffer ended, or HULLPIPPIN_NO_PLACE */
+} hullpippin_turn;
+
 /*
  * The library itself. Whoever may be anywhere: these need no handle, take no memory, and read nothing that changes.
  */
@@ -299,6 +310,26 @@ uint32_t hullpippin_journal(hullpippin_driver *driver, uint8_t *out, size_t room
 
 /* Judges the bytes of a journal, by playing its entries again. Needs no driver. Also NO_MEMORY, NO_JOURNAL. */
 uint32_t hullpippin_verdict(const uint8_t *journal, size_t size, hullpippin_verdict_on *verdict);
+
+/*
+ * Certificates: what is so of the history whose journal the bytes are. Each reads and judges the journal first. Also NO_JOURNAL,
+ * UNLAWFUL, NO_MEMORY. Where `room` is too little for all that is told, `out` stays as it was and `count` tells how many there are.
+ */
+
+/* How what a handle names in the end came to the live process with this pid: the places of the gifts, rising. The first is by the
+   object's owner, or asks for the context manager's by 0; each later one is by who received it before; the last is to this process.
+   None where there is no such process or it has no such handle, and nowhere else. */
+uint32_t hullpippin_chain(const uint8_t *journal, size_t size, uint32_t pid, uint32_t handle, uint32_t *out, size_t room,
+                          size_t *count);
+
+/* Which call is answered by the reply that the read at a place got, by the place of its BC_TRANSACTION: HULLPIPPIN_NO_PLACE where
+   no reply was read there, and nowhere else. */
+uint32_t hullpippin_call_of_reply(const uint8_t *journal, size_t size, uint32_t place, uint32_t *call);
+
+/* The one-way calls on an object, in the order in which they were made. The object is the one that the step at `place` made, or
+   of several the one of this index, from 0. */
+uint32_t hullpippin_turns(const uint8_t *journal, size_t size, uint32_t place, uint32_t index, hullpippin_turn *out, size_t room,
+                          size_t *count);
 
 /* Lets go of a driver, or of an ended one's history, and empties the handle. Seats that are away stay usable. Does
    nothing where it is empty. */
@@ -344,6 +375,11 @@ uint32_t hullpippin_exit_thread(hullpippin_seat *seat, hullpippin_answer *answer
 
 /* Ends the seat's process with all its threads. */
 uint32_t hullpippin_exit_process(hullpippin_seat *seat, hullpippin_answer *answer);
+
+/* Makes the request again that came back with the seat's latest answer, of these calls, hullpippin_collect or
+   hullpippin_withdraw. Its bytes needn't be there any more, and aren't copied anew. Also NO_SUCH_REQUEST, where that
+   answer wasn't BACK, or there was none, and nowhere else. */
+uint32_t hullpippin_again(hullpippin_seat *seat, hullpippin_answer *answer);
 
 /*
  * What the latest answer has besides its numbers. It stays until the seat's next answer, and can be fetched again.
@@ -641,6 +677,17 @@ bool hullpippin_live_innermost(hullpippin_live *live, uint32_t seat, hullpippin_
 
 /* The death notification that was asked for at this place. */
 bool hullpippin_live_death(hullpippin_live *live, uint32_t made, hullpippin_death *death);
+
+/* The first live process that was opened at the place `from` or behind it: the place of its open. To go through all that there are,
+   begin with 0, and go on with one more than was told; the same goes for the two looks that follow. */
+bool hullpippin_live_next_process(hullpippin_live *live, uint32_t from, uint32_t *place);
+
+/* The least handle, `from` or above it, that names something for the live process with this pid. Where `from` itself names nothing, it
+   looks at each handle that is noted for the process, those of names that are gone too until room for more is made. */
+bool hullpippin_live_next_handle(hullpippin_live *live, uint32_t pid, uint32_t from, uint32_t *handle);
+
+/* The first live buffer of a process, named by the place of its open, that was made at the place `from` or behind it: where it was made. */
+bool hullpippin_live_next_buffer(hullpippin_live *live, uint32_t process, uint32_t from, uint32_t *made);
 
 /*
  * Commands, returns and parcels as bytes (docs/FORMATS.md): they are read and spelled exactly as the engine does it. These

@@ -5,8 +5,8 @@
  * No call of the library waits. Where another seat has the engine a request comes back, and who has nothing to read is told so;
  * what a thread does until then is its own. Most want one of these:
  *
- *  - hullpippin_insist makes a request again until no other seat has the engine. It calls only once a look has found the engine
- *    free, since a call that comes back takes the page's cache line from the seat at work; and pauses longer and longer between
+ *  - hullpippin_insist makes a request again until no other seat has the engine, by hullpippin_again, so that its bytes are copied
+ *    once. It calls only once a look has found the engine free, since a call that comes back takes the page's cache line from the seat at work; and pauses longer and longer between
  *    its looks.
  *  - hullpippin_sleep has a thread sleep until its seat has something to read. It is woken by a bell, one for all seats of a
  *    driver, which hullpippin_insist rings after each request. Requests that are made otherwise have to ring it themselves.
@@ -75,14 +75,14 @@ static inline void hullpippin_ring(hullpippin_bell *bell)
     pthread_mutex_unlock(&bell->lock);
 }
 
-/* Makes a request until no other seat has the engine, and then rings the bell, where there is one. The status and the answer are
-   those of the last call; so the answer may be BACK for another reason. */
+/* Makes a request, and makes the one that comes back again until no other seat has the engine; then rings the bell, where there is
+   one. The status and the answer are those of the last call; so the answer may be BACK for another reason. */
 static inline uint32_t hullpippin_insist(hullpippin_bell *bell, hullpippin_seat *seat, hullpippin_request_of *request, void *given,
                                          hullpippin_answer *answer)
 {
     unsigned looks = 0;
+    uint32_t status = request(seat, given, answer);
     for (;;) {
-        uint32_t status = request(seat, given, answer);
         if (status != HULLPIPPIN_DONE || answer->kind != HULLPIPPIN_BACK || answer->why != HULLPIPPIN_BACK_TAKEN) {
             if (bell)
                 hullpippin_ring(bell);
@@ -93,6 +93,7 @@ static inline uint32_t hullpippin_insist(hullpippin_bell *bell, hullpippin_seat 
             hullpippin_pause(looks++);
             hullpippin_look(seat, &page);
         } while (page.taken);
+        status = hullpippin_again(seat, answer);
     }
 }
 

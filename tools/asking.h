@@ -10,13 +10,7 @@
 #include <stdint.h>
 #include <string.h>
 
-/* Codes of <linux/android/binder.h>. */
-#define BC_TRANSACTION 0x40406300u
-#define BC_FREE_BUFFER 0x40086303u
-#define BC_ENTER_LOOPER 0x0000630cu
-#define BR_TRANSACTION_COMPLETE 0x00007206u
-#define BR_NOOP 0x0000720cu
-#define BR_ONEWAY_SPAM_SUSPECT 0x00007213u
+/* The flag of a one-way call, as <linux/android/binder.h> has it. */
 #define TF_ONE_WAY 1u
 
 #define WINDOW 4096u
@@ -67,7 +61,7 @@ static inline void put32(uint8_t *at, uint32_t value)
 static inline void spell_call(uint8_t command[CALL_SIZE], uint32_t data)
 {
     memset(command, 0, CALL_SIZE);
-    put32(command, BC_TRANSACTION);
+    put32(command, HULLPIPPIN_BC_TRANSACTION);
     put32(command + 4 + 20, TF_ONE_WAY);
     put32(command + 4 + 32, data);
 }

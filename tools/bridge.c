@@ -31,7 +31,7 @@ static bool loop(hullpippin_live *live, uint32_t seat)
 {
     uint8_t command[4];
     uint32_t place;
-    put32(command, BC_ENTER_LOOPER);
+    put32(command, HULLPIPPIN_BC_ENTER_LOOPER);
     return run(live, seat, command, sizeof command, 0, &place);
 }
 
@@ -39,7 +39,7 @@ static bool free_first(hullpippin_live *live)
 {
     uint8_t command[12] = {0};
     uint32_t place;
-    put32(command, BC_FREE_BUFFER);
+    put32(command, HULLPIPPIN_BC_FREE_BUFFER);
     put32(command + 4, FIRST_POINTER);
     return run(live, MANAGER, command, sizeof command, 0, &place);
 }

@@ -12,7 +12,7 @@ enum { MANAGER, CLIENT, MOST_SEATS = 31 };
 static bool is_told(const uint8_t *stream, size_t size, uint32_t code)
 {
     uint8_t wanted[8];
-    put32(wanted, BR_NOOP);
+    put32(wanted, HULLPIPPIN_BR_NOOP);
     put32(wanted + 4, code);
     return (size == sizeof wanted && !memcmp(stream, wanted, size)) || fails("other returns");
 }
@@ -54,7 +54,7 @@ static bool opens(struct run *run)
     hullpippin_answer answer;
     uint8_t enter[4];
     hullpippin_seat *manager = &run->seats[MANAGER];
-    put32(enter, BC_ENTER_LOOPER);
+    put32(enter, HULLPIPPIN_BC_ENTER_LOOPER);
     return is_made(hullpippin_open(manager, 100, 1000, WINDOW, &answer), &answer, HULLPIPPIN_OPENED)
            && is_made(hullpippin_manager(manager, &answer), &answer, HULLPIPPIN_SET)
            && is_made(hullpippin_write(manager, enter, sizeof enter, NULL, 0, &answer), &answer, HULLPIPPIN_WROTE)
@@ -97,9 +97,9 @@ static bool floods(struct run *run)
 {
     hullpippin_answer answer;
     return opens(run) && refuses(run) && is_made(hullpippin_set_spam(&run->seats[CLIENT], 1, &answer), &answer, HULLPIPPIN_SET)
-           && calls(run, WINDOW / 4, BR_TRANSACTION_COMPLETE) && refuses(run) && calls(run, 0, BR_ONEWAY_SPAM_SUSPECT)
+           && calls(run, WINDOW / 4, HULLPIPPIN_BR_TRANSACTION_COMPLETE) && refuses(run) && calls(run, 0, HULLPIPPIN_BR_ONEWAY_SPAM_SUSPECT)
            && turns_off(run)
-           && calls(run, 0, BR_TRANSACTION_COMPLETE);
+           && calls(run, 0, HULLPIPPIN_BR_TRANSACTION_COMPLETE);
 }
 
 static bool floods_a_driver(void)
@@ -147,10 +147,10 @@ static bool live_floods(hullpippin_live *live)
 {
     hullpippin_answer answer;
     return opens_live(live, MANAGER, CLIENT) && is_made(hullpippin_live_set_spam(live, CLIENT, 1, &answer), &answer, HULLPIPPIN_SET)
-           && live_calls(live, WINDOW / 4, BR_TRANSACTION_COMPLETE) && live_refuses(live)
-           && live_calls(live, 0, BR_ONEWAY_SPAM_SUSPECT)
+           && live_calls(live, WINDOW / 4, HULLPIPPIN_BR_TRANSACTION_COMPLETE) && live_refuses(live)
+           && live_calls(live, 0, HULLPIPPIN_BR_ONEWAY_SPAM_SUSPECT)
            && is_made(hullpippin_live_set_spam(live, CLIENT, 0, &answer), &answer, HULLPIPPIN_SET)
-           && live_calls(live, 0, BR_TRANSACTION_COMPLETE);
+           && live_calls(live, 0, HULLPIPPIN_BR_TRANSACTION_COMPLETE);
 }
 
 /* What a journal of so many seats begins with: there is none for more than a driver may have. */

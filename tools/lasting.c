@@ -8,18 +8,6 @@
 #include <stdio.h>
 #include <stdlib.h>
 
-#define BC_REPLY 0x40406301u
-#define BC_INCREFS 0x40046304u
-#define BC_ACQUIRE 0x40046305u
-#define BC_RELEASE 0x40046306u
-#define BC_DECREFS 0x40046307u
-#define BC_INCREFS_DONE 0x40106308u
-#define BC_ACQUIRE_DONE 0x40106309u
-#define BC_REQUEST_DEATH_NOTIFICATION 0x400c630eu
-#define BC_CLEAR_DEATH_NOTIFICATION 0x400c630fu
-#define BC_DEAD_BINDER_DONE 0x40086310u
-#define BINDER_TYPE_BINDER 0x73622a85u
-
 enum { MANAGER, CLIENT, GUEST, SECOND, SEATS };
 
 enum { MANAGER_PID = 100, CLIENT_PID = 200, GUEST_PID = 300 };
@@ -146,7 +134,7 @@ static uint32_t step(hullpippin_live *live, uint32_t seat, struct command comman
 {
     static const uint8_t offsets[8];
     uint8_t data[OBJECT_SIZE] = {0};
-    put32(data, BINDER_TYPE_BINDER);
+    put32(data, HULLPIPPIN_TYPE_BINDER);
     put64(data + 8, object);
     put64(data + 16, COOKIE);
     return hullpippin_live_command(live, seat, command.bytes, command.size, data, object ? sizeof data : 0, offsets,
@@ -167,21 +155,21 @@ static bool is_refused(hullpippin_live *live, uint32_t seat, struct command comm
 
 static bool calls(hullpippin_live *live, uint32_t seat, uint32_t handle, uint32_t flags)
 {
-    return runs(live, seat, of_call(BC_TRANSACTION, handle, flags, false));
+    return runs(live, seat, of_call(HULLPIPPIN_BC_TRANSACTION, handle, flags, false));
 }
 
 /* The object goes with a one-way call to the manager. */
 static bool sends(hullpippin_live *live, uint32_t seat, uint64_t object)
 {
     hullpippin_answer answer = {0};
-    struct command command = of_call(BC_TRANSACTION, 0, TF_ONE_WAY, true);
+    struct command command = of_call(HULLPIPPIN_BC_TRANSACTION, 0, TF_ONE_WAY, true);
     return is_made(step(live, seat, command, object, &answer), &answer, HULLPIPPIN_WROTE);
 }
 
 static bool replies(hullpippin_live *live, uint32_t seat, uint64_t object)
 {
     hullpippin_answer answer = {0};
-    struct command command = of_call(BC_REPLY, 0, 0, object != 0);
+    struct command command = of_call(HULLPIPPIN_BC_REPLY, 0, 0, object != 0);
     return is_made(step(live, seat, command, object, &answer), &answer, HULLPIPPIN_WROTE);
 }
 
@@ -211,13 +199,13 @@ static bool takes(hullpippin_live *live, uint32_t seat, uint64_t *buffer)
 
 static bool frees(hullpippin_live *live, uint32_t seat, uint64_t buffer)
 {
-    return runs(live, seat, of_word(BC_FREE_BUFFER, buffer));
+    return runs(live, seat, of_word(HULLPIPPIN_BC_FREE_BUFFER, buffer));
 }
 
 static bool acknowledges(hullpippin_live *live, uint32_t seat, uint64_t object)
 {
-    return drains(live, seat) && runs(live, seat, of_words(BC_INCREFS_DONE, object, COOKIE))
-           && runs(live, seat, of_words(BC_ACQUIRE_DONE, object, COOKIE));
+    return drains(live, seat) && runs(live, seat, of_words(HULLPIPPIN_BC_INCREFS_DONE, object, COOKIE))
+           && runs(live, seat, of_words(HULLPIPPIN_BC_ACQUIRE_DONE, object, COOKIE));
 }
 
 static bool opens(hullpippin_live *live, uint32_t seat, uint32_t pid)
@@ -235,7 +223,7 @@ static bool attaches(hullpippin_live *live, uint32_t seat, uint32_t pid)
 static bool loops(hullpippin_live *live, uint32_t seat)
 {
     struct command command = {.size = 4};
-    put32(command.bytes, BC_ENTER_LOOPER);
+    put32(command.bytes, HULLPIPPIN_BC_ENTER_LOOPER);
     return runs(live, seat, command);
 }
 
@@ -283,7 +271,7 @@ static bool call(hullpippin_live *live, uint64_t object)
 static bool refused_call(hullpippin_live *live, uint64_t object)
 {
     (void)object;
-    return is_refused(live, CLIENT, of_call(BC_TRANSACTION, 77, 0, false)) && drains(live, CLIENT);
+    return is_refused(live, CLIENT, of_call(HULLPIPPIN_BC_TRANSACTION, 77, 0, false)) && drains(live, CLIENT);
 }
 
 /* Its caller's thread ends before the reply, which is refused for that. */
@@ -292,7 +280,7 @@ static bool call_without_a_caller(hullpippin_live *live, uint64_t object)
     uint64_t buffer;
     (void)object;
     return attaches(live, SECOND, CLIENT_PID) && calls(live, SECOND, 0, 0) && takes(live, MANAGER, &buffer) && leaves(live, SECOND)
-           && is_refused(live, MANAGER, of_call(BC_REPLY, 0, 0, false)) && frees(live, MANAGER, buffer) && drains(live, MANAGER);
+           && is_refused(live, MANAGER, of_call(HULLPIPPIN_BC_REPLY, 0, 0, false)) && frees(live, MANAGER, buffer) && drains(live, MANAGER);
 }
 
 static bool sent(hullpippin_live *live, uint64_t object, uint64_t *buffer)
@@ -304,17 +292,18 @@ static bool sent(hullpippin_live *live, uint64_t object, uint64_t *buffer)
 static bool object_and_name(hullpippin_live *live, uint64_t object)
 {
     uint64_t buffer;
-    return sent(live, object, &buffer) && runs(live, MANAGER, of_handle(BC_INCREFS, HANDLE))
-           && runs(live, MANAGER, of_handle(BC_ACQUIRE, HANDLE)) && frees(live, MANAGER, buffer)
-           && runs(live, MANAGER, of_handle(BC_RELEASE, HANDLE)) && runs(live, MANAGER, of_handle(BC_DECREFS, HANDLE))
-           && drains(live, CLIENT);
+    return sent(live, object, &buffer) && runs(live, MANAGER, of_handle(HULLPIPPIN_BC_INCREFS, HANDLE))
+           && runs(live, MANAGER, of_handle(HULLPIPPIN_BC_ACQUIRE, HANDLE)) && frees(live, MANAGER, buffer)
+           && runs(live, MANAGER, of_handle(HULLPIPPIN_BC_RELEASE, HANDLE))
+           && runs(live, MANAGER, of_handle(HULLPIPPIN_BC_DECREFS, HANDLE)) && drains(live, CLIENT);
 }
 
 static bool death_notification(hullpippin_live *live, uint64_t object)
 {
     uint64_t buffer;
-    return sent(live, object, &buffer) && runs(live, MANAGER, of_handle_and_cookie(BC_REQUEST_DEATH_NOTIFICATION, HANDLE, object))
-           && runs(live, MANAGER, of_handle_and_cookie(BC_CLEAR_DEATH_NOTIFICATION, HANDLE, object)) && drains(live, MANAGER)
+    return sent(live, object, &buffer)
+           && runs(live, MANAGER, of_handle_and_cookie(HULLPIPPIN_BC_REQUEST_DEATH_NOTIFICATION, HANDLE, object))
+           && runs(live, MANAGER, of_handle_and_cookie(HULLPIPPIN_BC_CLEAR_DEATH_NOTIFICATION, HANDLE, object)) && drains(live, MANAGER)
            && frees(live, MANAGER, buffer) && drains(live, CLIENT);
 }
 
@@ -327,8 +316,9 @@ static bool visits(hullpippin_live *live, uint64_t object, uint64_t *buffer)
 static bool death(hullpippin_live *live, uint64_t object)
 {
     uint64_t buffer;
-    return visits(live, object, &buffer) && runs(live, MANAGER, of_handle_and_cookie(BC_REQUEST_DEATH_NOTIFICATION, HANDLE, object))
-           && exits(live, GUEST) && drains(live, MANAGER) && runs(live, MANAGER, of_word(BC_DEAD_BINDER_DONE, object))
+    return visits(live, object, &buffer)
+           && runs(live, MANAGER, of_handle_and_cookie(HULLPIPPIN_BC_REQUEST_DEATH_NOTIFICATION, HANDLE, object))
+           && exits(live, GUEST) && drains(live, MANAGER) && runs(live, MANAGER, of_word(HULLPIPPIN_BC_DEAD_BINDER_DONE, object))
            && frees(live, MANAGER, buffer);
 }
 
@@ -355,7 +345,7 @@ static bool object_that_stays(hullpippin_live *live, uint64_t object)
 {
     uint64_t buffer;
     uint32_t handle = (uint32_t)(object / OBJECT_SIZE);
-    return sent(live, object, &buffer) && runs(live, MANAGER, of_handle(BC_ACQUIRE, handle)) && frees(live, MANAGER, buffer);
+    return sent(live, object, &buffer) && runs(live, MANAGER, of_handle(HULLPIPPIN_BC_ACQUIRE, handle)) && frees(live, MANAGER, buffer);
 }
 
 /* ---- */

@@ -146,7 +146,9 @@ static bool no_space_is_seen(hullpippin_live *live)
                  || hullpippin_live_object(live, 0, 0, &told.object) || hullpippin_live_named(live, 100, 0, &told.id)
                  || hullpippin_live_buffer(live, 0, &told.buffer) || hullpippin_live_carried(live, 0, 0, &told.id)
                  || hullpippin_live_unread_of_thread(live, 0, 0, &told.work) || hullpippin_live_unread_of_process(live, 0, 0, &told.work)
-                 || hullpippin_live_innermost(live, 0, &told.frame) || hullpippin_live_death(live, 0, &told.death);
+                 || hullpippin_live_innermost(live, 0, &told.frame) || hullpippin_live_death(live, 0, &told.death)
+                 || hullpippin_live_next_process(live, 0, &told.number) || hullpippin_live_next_handle(live, 100, 0, &told.number)
+                 || hullpippin_live_next_buffer(live, 0, 0, &told.number);
     if (finds)
         return fails("something is found in the space of an engine that isn't there");
     return !memcmp(&told, &before, sizeof told) || fails("a look at no engine's space writes");
@@ -177,13 +179,14 @@ struct run {
     hullpippin_seat seat, others;
 };
 
-/* What has something isn't filled, and goes on. */
+/* What has something isn't filled, nor taken by nothing, and goes on. */
 static bool full_handles(struct run *run)
 {
+    hullpippin_driver none = HULLPIPPIN_NO_DRIVER;
     hullpippin_answer answer;
     if (!is_misuse(hullpippin_new(1, &run->driver)) || !is_misuse(hullpippin_new(0, &run->driver))
         || !is_done(hullpippin_take_seat(&run->driver, &run->seat)) || !is_misuse(hullpippin_take_seat(&run->driver, &run->seat))
-        || !is_misuse(hullpippin_take_seat(&run->other, &run->seat)))
+        || !is_misuse(hullpippin_take_seat(&run->other, &run->seat)) || !is_misuse(hullpippin_return_seat(&none, &run->seat)))
         return false;
     return is_made(hullpippin_open(&run->seat, 100, 1000, WINDOW, &answer), &answer, HULLPIPPIN_OPENED);
 }
@@ -280,7 +283,7 @@ static bool is_told_without_room(hullpippin_live *live)
     uint8_t command[4];
     hullpippin_answer answer;
     size_t size = 0;
-    put32(command, BC_ENTER_LOOPER);
+    put32(command, HULLPIPPIN_BC_ENTER_LOOPER);
     if (hullpippin_live_command(live, 0, NULL, 0, NULL, 0, NULL, 0, &answer) != HULLPIPPIN_NO_COMMAND)
         return fails("no bytes are a command");
     if (!is_made(hullpippin_live_command(live, 0, command, sizeof command, NULL, 0, NULL, 0, &answer), &answer, HULLPIPPIN_WROTE)
@@ -299,13 +302,36 @@ static bool no_bytes_with_an_engine(void)
     return done;
 }
 
+/* No bytes have no command and no return, and take none. */
+static bool no_bytes_are_spelled(void)
+{
+    hullpippin_command command = {.code = HULLPIPPIN_BC_ACQUIRE, .handle = UNTOUCHED};
+    hullpippin_return returned = {.code = HULLPIPPIN_BR_NOOP, .cookie = UNTOUCHED};
+    if (hullpippin_next_command(NULL, 0, &command) != HULLPIPPIN_FAULT_SHORT_COMMAND || command.handle != UNTOUCHED
+        || hullpippin_next_return(NULL, 0, &returned) != HULLPIPPIN_FAULT_SHORT_COMMAND || returned.cookie != UNTOUCHED)
+        return fails("something is read of no bytes");
+    return (hullpippin_spell_command(&command, NULL, 0) == 8 && hullpippin_spell_return(&returned, NULL, 0) == 4
+            && hullpippin_text_bytes(HULLPIPPIN_TEXT_COMMAND, HULLPIPPIN_BC_ACQUIRE, NULL, 0) == strlen("BC_ACQUIRE"))
+           || fails("another size without room");
+}
+
+/* A parcel of no bytes has no objects, and no place for one. */
+static bool no_bytes_are_a_parcel(void)
+{
+    hullpippin_walk walk = {0, 0, UNTOUCHED};
+    hullpippin_flat_object object = {.kind = HULLPIPPIN_TYPE_BINDER, .flags = UNTOUCHED};
+    if (hullpippin_next_object(NULL, 0, NULL, 0, &walk, &object) || walk.cause || walk.index || object.flags != UNTOUCHED)
+        return fails("an object of no bytes");
+    return hullpippin_put_object(&object, NULL, 0) == HULLPIPPIN_CAUSE_BAD_OBJECT || fails("an object is written nowhere");
+}
+
 static bool no_bytes(void)
 {
     hullpippin_verdict_on verdict;
     uint32_t status = hullpippin_verdict(NULL, 0, &verdict);
     if (status != HULLPIPPIN_NO_JOURNAL)
         return status == HULLPIPPIN_NO_MEMORY ? fails("no memory") : fails("no bytes are a journal");
-    return no_bytes_with_a_driver() && no_bytes_with_an_engine();
+    return no_bytes_with_a_driver() && no_bytes_with_an_engine() && no_bytes_are_spelled() && no_bytes_are_a_parcel();
 }
 
 int main(void)

@@ -20,7 +20,8 @@ pub struct Numbered {
     number: usize,
 }
 
-/// Each request is a call, made again while another seat has the engine.
+/// Each request is a call. Where another seat has the engine, what came back is made again once a look has found it free: a call
+/// that comes back takes the page's cache line from the seat at work.
 pub struct ByCall(Numbered);
 
 /// Each request is posted, and whoever can serves.
@@ -46,7 +47,16 @@ impl Numbered {
 
 impl Hand for ByCall {
     fn ask(&mut self, ask: &Ask, buffer: u64) -> Told {
-        engines::call(&mut self.0.seat, ask, buffer)
+        let seat = &mut self.0.seat;
+        let mut told = engines::call(seat, ask, buffer);
+        let mut turn = 0;
+        while let Told::Taken = told {
+            pause(&mut turn);
+            if !seat.look().taken {
+                told = engines::told(seat.again());
+            }
+        }
+        told
     }
 
     fn is_ready(&mut self) -> bool {
@@ -165,7 +175,7 @@ fn both<H: Hand>(pair: &mut [&mut H; 2], body: &[Op], end: Instant) -> u64 {
     let mut steps = 0;
     for round in 0..MOST_ROUNDS {
         for op in body {
-            let told = insist(pair[op.seat as usize % 2], op, slots[op.slot]);
+            let told = pair[op.seat as usize % 2].ask(&op.ask, slots[op.slot]);
             engines::settle(op, told, &mut slots);
         }
         steps += body.len() as u64;
@@ -194,7 +204,7 @@ fn one<H: Hand>(hand: &mut H, side: &[Op], end: Instant, is_client: bool) -> u64
 // Makes a request, a read when the seat is ready and until it has told a buffer. None where the time is up.
 fn waited<H: Hand>(hand: &mut H, op: &Op, slots: &mut [u64], end: Instant) -> Option<u64> {
     if !matches!(op.ask, Ask::Read(_)) {
-        let told = insist(hand, op, slots[op.slot]);
+        let told = hand.ask(&op.ask, slots[op.slot]);
         engines::settle(op, told, slots);
         return Some(1);
     }
@@ -206,7 +216,7 @@ fn waited<H: Hand>(hand: &mut H, op: &Op, slots: &mut [u64], end: Instant) -> Op
                 return None;
             }
         }
-        match insist(hand, op, 0) {
+        match hand.ask(&op.ask, 0) {
             Told::Got { buffer: Some(buffer), .. } => {
                 slots[op.slot] = buffer;
                 return Some(made);
@@ -216,17 +226,6 @@ fn waited<H: Hand>(hand: &mut H, op: &Op, slots: &mut [u64], end: Instant) -> Op
         }
     }
     None
-}
-
-// Makes a request, and again while another seat has the engine.
-fn insist<H: Hand>(hand: &mut H, op: &Op, buffer: u64) -> Told {
-    let mut turn = 0;
-    loop {
-        match hand.ask(&op.ask, buffer) {
-            Told::Taken => pause(&mut turn),
-            told => return told,
-        }
-    }
 }
 
 /// An engine with all seats of so many pairs, which are introduced.

@@ -3,7 +3,8 @@
  * daemon.h: what the files of the daemon share.
  *
  * The daemon has a thread that takes connections, and one for each device (handover.c). Each waits for all of its descriptors at
- * once (loop.c), and nothing that it does waits for a client. An engine stands behind each device name (engine.c); an open file is a
+ * once (loop.c), and nothing that it does waits for a client. A device that is recorded has one more, which writes the file and waits
+ * for the disk alone (recorder.c). An engine stands behind each device name (engine.c); an open file is a
  * process of it (processes.c), a client's thread one of its seats (threads.c, seats.c).
  */
 #ifndef HULLPIPPIN_DAEMON_H
@@ -12,6 +13,7 @@
 #include "hullpippin.h"
 #include "../packets.h"
 #include "../protocol.h"
+#include "../ring.h"
 
 #include <linux/android/binder.h>
 #include <pthread.h>
@@ -41,6 +43,7 @@
 /* Known further down. */
 struct process;
 struct thread;
+struct device;
 
 #define container_of(pointer, type, member) ((type *)(void *)((char *)(pointer) - offsetof(type, member)))
 
@@ -145,6 +148,8 @@ bool turns_is_over(const struct turns *turns);
 /* Whether it has made all the steps that it may, whatever time they took. */
 bool turns_has_made_steps(const struct turns *turns);
 uint64_t nanoseconds(void);
+/* What CLOCK_REALTIME is ahead of CLOCK_MONOTONIC now, in nanoseconds, modulo 2^64. */
+uint64_t realtime_offset(void);
 
 /* --- loop.c: one wait for all descriptors. --- */
 
@@ -196,8 +201,10 @@ enum { CONNECTION_DESCRIPTORS = 3, THREAD_DESCRIPTORS = 2, DOORBELL_DESCRIPTORS 
 
 struct account;
 
-/* So many seats are there for threads. */
+/* So many seats are there for threads. What is asked of the kernel for it is asked here. */
 void shares_begin(uint32_t seats);
+/* Whether it is the daemon's own user, or root. */
+bool user_is_own(uid_t uid);
 /* The account of a user's process, which is the caller's until it is let go of. NULL where there is no memory. */
 struct account *account_hold(uid_t uid, pid_t pid);
 void account_release(struct account *account);
@@ -223,35 +230,61 @@ void log_event(const char *format, ...) __attribute__((format(printf, 1, 2)));
 /* A line that is always shown. */
 void log_line(const char *format, ...) __attribute__((format(printf, 1, 2)));
 
-/* --- recorder.c: a file that a thread of its own writes. --- */
+/* --- recorder.c: files that a thread of its own writes. --- */
+
+/* The files of a recording, in the order in which they are written: what stands beside a journal is there before that. */
+enum track { TRACK_TIMES, TRACK_WHO, TRACK_JOURNAL, TRACKS };
+
+struct span {
+    const void *bytes;
+    size_t size;
+};
 
 struct recorder;
 
-/* Writes a file anew, which begins with these bytes. NULL where it can't, which is told. The path is the caller's, and stays. */
-struct recorder *recorder_begin(const char *path, const void *front, size_t size);
-/* The bytes will be in the file behind all before them, a second later at most. False where the recording has broken off, which is
-   told: then nothing may be appended any more. */
-bool recorder_append(struct recorder *recorder, const uint8_t *bytes, size_t size);
+/* Writes files anew, each of which begins with these bytes; -1: there is none. NULL where it can't, which is told. The journal's path is
+   the caller's, and stays; the files, which are open and don't wait, are the recorder's then, and -1 here. */
+struct recorder *recorder_begin(const char *path, int files[TRACKS], const struct span fronts[TRACKS]);
+/* The bytes will be in the files behind all before them, a second later at most; those of no file aren't looked at. False where the
+   recording has broken off, which is told: then nothing may be appended any more. */
+bool recorder_append(struct recorder *recorder, const struct span spans[TRACKS]);
 /* It breaks off here, since what follows can't be had. */
 void recorder_break_off(struct recorder *recorder, const char *why);
-/* Waits until all is written, while the disk takes something, puts these bytes in the place of the first, and closes the file.
+/* Waits until all is written, while the disk takes something, puts these bytes in the place of the journal's first, and closes the files.
    Whether all of it is there. */
-bool recorder_end(struct recorder *recorder, const void *front, size_t size);
+bool recorder_end(struct recorder *recorder, struct span front);
 
-/* --- journal.c: the file that an engine's entries go to. --- */
+/* --- names.c: threads of clients by name. --- */
+
+#define COMM_ROOM 16
+
+struct name {
+    pid_t tid;            /* as the daemon's /proc has it; 0: it isn't known */
+    char comm[COMM_ROOM]; /* with a 0 behind it */
+};
+
+struct caller;
+
+/* How a thread of the caller's process is called now, which has told its tid. */
+void name_find(struct name *name, const struct caller *caller, uint64_t told);
+
+/* --- journal.c: the file that an engine's entries go to, with times and names beside it. --- */
 
 struct journal {
     struct recorder *recorder; /* NULL: there is no journal */
     const char *path;
+    uint32_t seats;
     uint8_t *entry;
     size_t room;
     bool has_broken_off;
 };
 
-/* Closed it has to be in either case. */
-bool journal_open(struct journal *journal, const char *path, hullpippin_live *live);
-/* Appends the latest step's entry. A journal that can't have it breaks off there, and has no more. */
-void journal_append(struct journal *journal, hullpippin_live *live);
+/* Makes the journal of a device; closed it has to be in either case. The files that it uses are -1 then. */
+bool journal_open(struct journal *journal, struct device *device, hullpippin_live *live, uint32_t seats);
+/* Appends the latest step's entry, and when it was made. A journal that can't have it breaks off there, and has no more. */
+void journal_append(struct journal *journal, hullpippin_live *live, uint64_t time);
+/* From the next step on the seat is that thread's of a process; NULL: nobody's. */
+void journal_note_seat(struct journal *journal, hullpippin_live *live, uint32_t seat, pid_t pid, const struct name *name);
 /* Puts the number of entries right, and closes the file. Whether it has all of them. */
 bool journal_close(struct journal *journal, hullpippin_live *live);
 
@@ -289,6 +322,50 @@ struct ticket *ticket_take(struct tickets *tickets, uint32_t step);
 /* Frees those whose buffers have ended by the latest step. */
 void tickets_see_ended(struct tickets *tickets, hullpippin_live *live);
 
+/* --- windows.c: memory that only the daemon writes, as a process's window, which the client maps. --- */
+
+struct window {
+    uint8_t *at; /* NULL: not mapped yet */
+    uint64_t size;
+    uint64_t base; /* where the client sees it */
+    int fd;        /* until it has gone to the client, else -1 */
+};
+
+bool window_make(struct window *window, uint64_t size, uint64_t base);
+void window_free(struct window *window);
+
+/* --- ring.c: the latest steps, for whoever looks. --- */
+
+struct ring {
+    struct ring_heading *heading; /* NULL: there is none */
+    struct window memory;
+    uint32_t own_process;         /* that the daemon's own seat has opened or attached to last */
+};
+
+/* What a step was asked with. */
+struct step {
+    enum ring_kind kind;
+    uint32_t seat;
+    uint32_t pid;             /* open, attach */
+    uint32_t euid, window;    /* open */
+    uint32_t on;              /* set_spam */
+    uint32_t limit;           /* read */
+    const void *command;
+    const uint8_t *data;      /* of a command's parcel */
+    size_t data_size;
+};
+
+struct engine;
+
+bool ring_make(struct ring *ring, const char *device, uint32_t seats);
+/* The device makes no more steps. */
+void ring_conclude(struct ring *ring);
+void ring_free(struct ring *ring);
+/* So many seats are lent from now on. */
+void ring_count_lent(struct ring *ring, uint32_t lent);
+/* The engine, which has a ring, has made a step. */
+void ring_put(struct engine *engine, const struct step *step, uint64_t time);
+
 /* --- engine.c: the engine of one device name. --- */
 
 struct daemon;
@@ -306,7 +383,10 @@ struct engine {
     char device[DEVICE_NAME_ROOM];
     hullpippin_live live;
     struct journal journal;
+    struct ring ring;
     hullpippin_answer answer; /* of the latest step */
+    uint8_t returns[PAGE_RETURNS]; /* that it has read, if it is a read */
+    uint32_t returns_size;
     struct loop loop;
     pthread_t thread;
     bool has_thread;
@@ -328,6 +408,7 @@ struct engine {
 
     uint32_t seats;           /* seat 0 is the daemon's own, by which processes begin and end */
     struct thread **lent;     /* by seat: whose it is, or NULL */
+    uint32_t lent_count;
     uint32_t *free_seats;     /* a stack */
     uint32_t free_count;
     uint32_t *lost_seats;     /* a stack: no memory was there to end the engine's thread with that seat */
@@ -347,7 +428,8 @@ struct engine {
 /* How many steps a history can have. */
 extern uint64_t history_most;
 
-struct engine *engine_new(struct daemon *daemon, const char *device, uint32_t seats, const char *journal);
+/* A device's engine, with its journal. */
+struct engine *engine_new(struct daemon *daemon, struct device *device);
 void engine_free(struct engine *engine);
 /* The last of its thread: puts the journal right, and tells what was done. */
 void engine_conclude(struct engine *engine);
@@ -396,18 +478,6 @@ void seats_refuse(struct engine *engine);
 void seat_return(struct thread *thread);
 /* The same, where the thread's process has ended. */
 void seat_forget(struct thread *thread);
-
-/* --- windows.c: a process's window, which the client maps and only the daemon writes. --- */
-
-struct window {
-    uint8_t *at; /* NULL: not mapped yet */
-    uint64_t size;
-    uint64_t base; /* where the client sees it */
-    int fd;        /* until it has gone to the client, else -1 */
-};
-
-bool window_make(struct window *window, uint64_t size, uint64_t base);
-void window_free(struct window *window);
 
 /* --- descriptors.c: closing (packets.h has `descriptors_close`). --- */
 
@@ -506,6 +576,11 @@ void process_clear_secret(struct process *process, uint64_t place);
 int process_enter(struct process *process);
 int process_leave(struct process *process);
 
+/* --- state.c: what a device's processes and threads are at. --- */
+
+/* A page of that, from a place on that is 0 or what a page has told. */
+void state_tell(struct engine *engine, uint64_t from, struct state_page *page);
+
 /* --- threads.c: a thread of a client. --- */
 
 /* Descriptors of the latest parcel that the thread has read, and where their numbers go in the window. */
@@ -545,7 +620,9 @@ struct thread {
     struct list in_process, in_watch, in_callers, in_polling, in_seatless;
     struct page *page;
     uint32_t freed;            /* how many of the page's frees were seen to */
+    uint64_t told_tid;
     uint32_t seat;
+    struct name name;          /* while it has a seat: how it was called when that was lent to it */
 
     bool is_looper;            /* in the loop */
     bool has_looped;           /* .. or was there before */
@@ -577,9 +654,9 @@ struct thread {
     struct sendings *sendings; /* NULL: it has read that all was taken that it has sent */
 };
 
-/* Makes a thread of the process. Tells its end of the link, its page and its bell, of which the first two are the
+/* Makes a thread of the process, which has told its tid. Tells its end of the link, its page and its bell, of which the first two are the
    caller's. */
-int thread_join(struct process *process, int fds[3]);
+int thread_join(struct process *process, uint64_t tid, int fds[3]);
 /* Ends the thread, also in the engine. */
 void thread_end(struct thread *thread);
 /* Lets go of a thread whose process has ended in the engine. */
@@ -742,6 +819,11 @@ int listener_lock(struct daemon *daemon, const char *path);
 bool listener_begin(struct daemon *daemon);
 void listener_end(struct daemon *daemon);
 
+/* --- asking.c: what a daemon that runs tells of a device. Each prints that, or why it can't be had: a status. --- */
+
+int ask_stats(const char *path, const char *device);
+int ask_state(const char *path, const char *device);
+
 /* --- devices.c --- */
 
 #define DEVICES_MAX 16
@@ -749,7 +831,7 @@ void listener_end(struct daemon *daemon);
 struct device {
     char name[DEVICE_NAME_ROOM];
     const char *journal; /* NULL: none */
-    int journal_lock;    /* by which no other daemon writes it; -1: none */
+    int files[TRACKS];   /* until its journal has them; with their locks, by which no other daemon writes them; -1: none */
     struct engine *engine; /* NULL: nobody has opened it yet */
 };
 

@@ -7,16 +7,15 @@
 
 #include <errno.h>
 #include <fcntl.h>
+#include <limits.h>
 #include <string.h>
 #include <sys/file.h>
 #include <sys/stat.h>
 #include <sys/timerfd.h>
+#include <unistd.h>
 
 /* How often it is looked who has opened nothing, while there are such. */
 #define STRANGERS_SECONDS 1
-
-/* As many as a journal may have. */
-#define JOURNAL_SEATS 31u
 
 static struct device *find(struct daemon *daemon, const char *name, size_t length)
 {
@@ -34,7 +33,8 @@ bool devices_add(struct daemon *daemon, const char *names)
             return false;
         struct device *device = &daemon->devices[daemon->device_count++];
         memcpy(device->name, names, length);
-        device->journal_lock = -1;
+        for (size_t i = 0; i < TRACKS; i++)
+            device->files[i] = -1;
         names += length + (names[length] == ',');
     }
     return daemon->device_count > 0;
@@ -52,67 +52,105 @@ bool devices_set_journal(struct daemon *daemon, const char *word)
 
 static bool begin(struct daemon *daemon, struct device *device)
 {
-    uint32_t seats = device->journal && daemon->seats > JOURNAL_SEATS ? JOURNAL_SEATS : daemon->seats;
-    device->engine = engine_new(daemon, device->name, seats, device->journal);
+    device->engine = engine_new(daemon, device);
     return device->engine != NULL;
 }
 
-/* Makes sure that a journal can be written, and tells which file it is; what is in it stays. */
-static bool look_at(struct device *device, struct stat *file)
+/* What a journal's path ends with for what stands beside it. */
+static const char *const endings[TRACKS] = {[TRACK_TIMES] = ".times", [TRACK_WHO] = ".who", [TRACK_JOURNAL] = ""};
+
+/* Why a journal can't be opened, which an errno alone doesn't tell of a pipe. */
+static const char *why_not_open(const char *path)
 {
-    device->journal_lock = open(device->journal, O_WRONLY | O_CREAT | O_CLOEXEC, 0666);
-    bool is_there = device->journal_lock >= 0 && fstat(device->journal_lock, file) == 0;
-    if (!is_there)
-        log_line("%s: %s", device->journal, strerror(errno));
-    return is_there;
+    int error = errno;
+    struct stat file;
+    bool is_pipe = error == ENXIO && stat(path, &file) == 0 && S_ISFIFO(file.st_mode);
+    return is_pipe ? "nobody reads this pipe" : strerror(error);
 }
 
-static bool is_among(const struct stat *file, const struct stat *files, uint32_t count)
+/* What is opened already. */
+struct opened {
+    struct stat files[DEVICES_MAX * TRACKS];
+    uint32_t count;
+};
+
+static bool is_same(const struct stat *file, const struct stat *other)
 {
-    for (uint32_t i = 0; i < count; i++)
-        if (files[i].st_dev == file->st_dev && files[i].st_ino == file->st_ino)
+    return file->st_dev == other->st_dev && file->st_ino == other->st_ino;
+}
+
+static bool is_among(const struct stat *file, const struct opened *opened)
+{
+    for (uint32_t i = 0; i < opened->count; i++)
+        if (is_same(file, &opened->files[i]))
             return true;
     return false;
 }
 
 /* No other daemon writes it from now on. A file system without locks can't say so. */
-static bool lock(const struct device *device)
+static bool can_lock(int fd)
 {
-    if (flock(device->journal_lock, LOCK_EX | LOCK_NB) == 0 || errno != EWOULDBLOCK)
-        return true;
-    log_line("%s: another daemon writes this journal", device->journal);
-    return false;
+    return flock(fd, LOCK_EX | LOCK_NB) == 0 || errno != EWOULDBLOCK;
+}
+
+/* Opens a file, once and for good; what is in it stays. Nobody is waited for: a pipe has its reader already, or can't be had. A name that
+   nobody has chosen is no link to somewhere else. Why it can't be had, or NULL. */
+static const char *open_file(const char *path, bool is_chosen, int *fd, struct opened *opened)
+{
+    struct stat *file = &opened->files[opened->count];
+    *fd = open(path, O_WRONLY | O_CREAT | O_NONBLOCK | O_NOCTTY | O_CLOEXEC | (is_chosen ? 0 : O_NOFOLLOW), 0666);
+    if (*fd < 0)
+        return why_not_open(path);
+    if (fstat(*fd, file))
+        return strerror(errno);
+    if (!S_ISREG(file->st_mode) && !(is_chosen && S_ISFIFO(file->st_mode)))
+        return is_chosen ? "it is neither a file nor a pipe" : "it is no file";
+    if (is_among(file, opened))
+        return "two devices can't have one journal, nor may one stand beside another's";
+    if (S_ISREG(file->st_mode) && !can_lock(*fd))
+        return "another daemon writes this journal";
+    opened->count++;
+    return NULL;
+}
+
+static bool open_track(struct device *device, enum track track, struct opened *opened)
+{
+    char path[PATH_MAX];
+    bool fits = (size_t)snprintf(path, sizeof path, "%s%s", device->journal, endings[track]) < sizeof path;
+    const char *why = fits ? open_file(path, track == TRACK_JOURNAL, &device->files[track], opened) : strerror(ENAMETOOLONG);
+    if (why)
+        log_line("%s: %s", path, why);
+    return !why;
+}
+
+/* Whether a journal is a file of its own name, beside which others may stand: a pipe isn't, nor what the daemon prints to. */
+static bool has_neighbours(const struct stat *journal)
+{
+    struct stat printed;
+    return S_ISREG(journal->st_mode) && !(fstat(STDOUT_FILENO, &printed) == 0 && is_same(journal, &printed));
+}
+
+static bool open_journal(struct device *device, struct opened *opened)
+{
+    if (!open_track(device, TRACK_JOURNAL, opened))
+        return false;
+    return !has_neighbours(&opened->files[opened->count - 1])
+           || (open_track(device, TRACK_TIMES, opened) && open_track(device, TRACK_WHO, opened));
 }
 
 /* Before one journal is written anew, all have to be files of their own, by whatever names. */
-static bool look_at_journals(struct daemon *daemon)
+static bool open_journals(struct daemon *daemon)
 {
-    struct stat files[DEVICES_MAX];
-    uint32_t count = 0;
-    for (uint32_t i = 0; i < daemon->device_count; i++) {
-        struct device *device = &daemon->devices[i];
-        if (!device->journal)
-            continue;
-        if (!look_at(device, &files[count]))
+    struct opened opened = {.count = 0};
+    for (uint32_t i = 0; i < daemon->device_count; i++)
+        if (daemon->devices[i].journal && !open_journal(&daemon->devices[i], &opened))
             return false;
-        if (!S_ISREG(files[count].st_mode)) {
-            descriptor_close(&device->journal_lock);
-            continue;
-        }
-        if (is_among(&files[count], files, count)) {
-            log_line("%s: two devices can't have one journal", device->journal);
-            return false;
-        }
-        if (!lock(device))
-            return false;
-        count++;
-    }
     return true;
 }
 
 bool devices_begin(struct daemon *daemon)
 {
-    if (!look_at_journals(daemon))
+    if (!open_journals(daemon))
         return false;
     for (uint32_t i = 0; i < daemon->device_count; i++)
         if (daemon->devices[i].journal && !begin(daemon, &daemon->devices[i]))
@@ -159,6 +197,7 @@ void devices_end(struct daemon *daemon)
         if (device->engine)
             engine_free(device->engine);
         device->engine = NULL;
-        descriptor_close(&device->journal_lock);
+        for (size_t j = 0; j < TRACKS; j++)
+            descriptor_close(&device->files[j]);
     }
 }

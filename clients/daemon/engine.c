@@ -23,7 +23,12 @@ static bool make_seats(struct engine *engine, uint32_t seats)
     return true;
 }
 
-struct engine *engine_new(struct daemon *daemon, const char *device, uint32_t seats, const char *journal)
+static bool begin_journal(struct engine *engine, struct device *device)
+{
+    return !device->journal || journal_open(&engine->journal, device, &engine->live, engine->seats);
+}
+
+struct engine *engine_new(struct daemon *daemon, struct device *device)
 {
     struct engine *engine = calloc(1, sizeof *engine);
     if (!engine)
@@ -32,7 +37,7 @@ struct engine *engine_new(struct daemon *daemon, const char *device, uint32_t se
     engine->inbox.bell.fd = engine->loop.epoll = -1;
     void *bytes = mmap(NULL, sizeof(struct workbench), PROT_READ | PROT_WRITE, MAP_PRIVATE | MAP_ANONYMOUS | MAP_NORESERVE, -1, 0);
     engine->bench = bytes == MAP_FAILED ? NULL : bytes;
-    snprintf(engine->device, sizeof engine->device, "%s", device);
+    snprintf(engine->device, sizeof engine->device, "%s", device->name);
     list_begin(&engine->processes);
     list_begin(&engine->looked_at);
     list_begin(&engine->seatless);
@@ -40,8 +45,10 @@ struct engine *engine_new(struct daemon *daemon, const char *device, uint32_t se
     list_begin(&engine->reached);
     for (size_t i = 0; i < sizeof engine->by_pid / sizeof *engine->by_pid; i++)
         list_begin(&engine->by_pid[i]);
-    if (engine->bench && tickets_begin(&engine->tickets) && make_seats(engine, seats)
-        && hullpippin_live_new(seats, &engine->live) == HULLPIPPIN_DONE && (!journal || journal_open(&engine->journal, journal, &engine->live)) && engine_start(engine))
+    if (!ring_make(&engine->ring, engine->device, daemon->seats))
+        log_line("%s: there is no memory for the latest steps, and nobody can look at them", engine->device);
+    if (engine->bench && tickets_begin(&engine->tickets) && make_seats(engine, daemon->seats)
+        && hullpippin_live_new(engine->seats, &engine->live) == HULLPIPPIN_DONE && begin_journal(engine, device) && engine_start(engine))
         return engine;
     engine_free(engine);
     return NULL;
@@ -61,6 +68,7 @@ void engine_conclude(struct engine *engine)
 {
     if (!journal_close(&engine->journal, &engine->live))
         engine->daemon->has_failed = true;
+    ring_conclude(&engine->ring);
     tell_counts(engine);
     hullpippin_free_live(&engine->live);
 }
@@ -71,6 +79,7 @@ void engine_free(struct engine *engine)
     if (engine->live.at)
         engine_conclude(engine);
     tickets_end(&engine->tickets);
+    ring_free(&engine->ring);
     if (engine->bench)
         munmap(engine->bench, sizeof *engine->bench);
     free(engine->lent);
@@ -80,7 +89,6 @@ void engine_free(struct engine *engine)
 }
 
 uint64_t history_most = UINT32_MAX;
-
 
 /* Told when so many of a hundred steps that a history can have are made. */
 static const uint32_t warnings[] = {50, 90, 99};
@@ -101,13 +109,25 @@ static void count_step(struct engine *engine)
                  warnings[engine->warnings++]);
 }
 
-/* What a step's status is for the client; a step that was made goes to the journal. */
-static int stepped(struct engine *engine, uint32_t status)
+/* Keeps what was done, for who asks later and who looks now. */
+static void tell_step(struct engine *engine, const struct step *step)
+{
+    if (!engine->journal.recorder && !engine->ring.heading)
+        return;
+    uint64_t time = nanoseconds();
+    if (engine->journal.recorder)
+        journal_append(&engine->journal, &engine->live, time);
+    if (engine->ring.heading)
+        ring_put(engine, step, time);
+}
+
+/* What a step's status is for the client; a step that was made goes to the journal and the ring. */
+static int stepped(struct engine *engine, const struct step *step, uint32_t status)
 {
     switch (status) {
     case HULLPIPPIN_DONE:
+        tell_step(engine, step);
         count_step(engine);
-        journal_append(&engine->journal, &engine->live);
         tickets_see_ended(&engine->tickets, &engine->live);
         return 0;
     case HULLPIPPIN_NO_MEMORY:
@@ -122,12 +142,14 @@ static int stepped(struct engine *engine, uint32_t status)
 
 int engine_open(struct engine *engine, uint32_t seat, uint32_t pid, uint32_t euid, uint32_t window)
 {
-    return stepped(engine, hullpippin_live_open(&engine->live, seat, pid, euid, window, &engine->answer));
+    const struct step step = {.kind = RING_OPEN, .seat = seat, .pid = pid, .euid = euid, .window = window};
+    return stepped(engine, &step, hullpippin_live_open(&engine->live, seat, pid, euid, window, &engine->answer));
 }
 
 int engine_attach(struct engine *engine, uint32_t seat, uint32_t pid)
 {
-    return stepped(engine, hullpippin_live_attach(&engine->live, seat, pid, &engine->answer));
+    const struct step step = {.kind = RING_ATTACH, .seat = seat, .pid = pid};
+    return stepped(engine, &step, hullpippin_live_attach(&engine->live, seat, pid, &engine->answer));
 }
 
 int engine_pass(struct engine *engine)
@@ -138,17 +160,20 @@ int engine_pass(struct engine *engine)
 
 int engine_set_manager(struct engine *engine, uint32_t seat)
 {
-    return stepped(engine, hullpippin_live_manager(&engine->live, seat, &engine->answer));
+    const struct step step = {.kind = RING_SET_MANAGER, .seat = seat};
+    return stepped(engine, &step, hullpippin_live_manager(&engine->live, seat, &engine->answer));
 }
 
 int engine_set_spam(struct engine *engine, uint32_t seat, bool on)
 {
-    return stepped(engine, hullpippin_live_set_spam(&engine->live, seat, on, &engine->answer));
+    const struct step step = {.kind = RING_SET_SPAM, .seat = seat, .on = on};
+    return stepped(engine, &step, hullpippin_live_set_spam(&engine->live, seat, on, &engine->answer));
 }
 
 int engine_exit_thread(struct engine *engine, uint32_t seat)
 {
-    int error = stepped(engine, hullpippin_live_exit_thread(&engine->live, seat, &engine->answer));
+    const struct step step = {.kind = RING_EXIT_THREAD, .seat = seat};
+    int error = stepped(engine, &step, hullpippin_live_exit_thread(&engine->live, seat, &engine->answer));
     if (!error)
         reach_after_end(engine, seat);
     return error;
@@ -156,15 +181,26 @@ int engine_exit_thread(struct engine *engine, uint32_t seat)
 
 int engine_exit_process(struct engine *engine, uint32_t seat)
 {
-    int error = stepped(engine, hullpippin_live_exit_process(&engine->live, seat, &engine->answer));
+    const struct step step = {.kind = RING_EXIT_PROCESS, .seat = seat};
+    int error = stepped(engine, &step, hullpippin_live_exit_process(&engine->live, seat, &engine->answer));
     if (!error)
         reach_after_end(engine, seat);
     return error;
 }
 
+/* Fetches what was read. A page has room for no more than there is for it here. */
+static void fetch_returns(struct engine *engine, bool are_there)
+{
+    size_t size = are_there ? hullpippin_live_bytes(&engine->live, HULLPIPPIN_STREAM, engine->returns, sizeof engine->returns) : 0;
+    engine->returns_size = size <= sizeof engine->returns ? (uint32_t)size : 0;
+}
+
 int engine_read(struct engine *engine, uint32_t seat, uint32_t limit)
 {
-    int error = stepped(engine, hullpippin_live_read(&engine->live, seat, limit, &engine->answer));
+    const struct step step = {.kind = RING_READ, .seat = seat, .limit = limit};
+    uint32_t status = hullpippin_live_read(&engine->live, seat, limit, &engine->answer);
+    fetch_returns(engine, status == HULLPIPPIN_DONE && engine->answer.kind == HULLPIPPIN_GOT);
+    int error = stepped(engine, &step, status);
     if (!error)
         reach_after_read(engine, seat);
     return error;
@@ -172,8 +208,9 @@ int engine_read(struct engine *engine, uint32_t seat, uint32_t limit)
 
 int engine_command(struct engine *engine, uint32_t seat, const void *command, size_t size)
 {
-    int error = stepped(engine, hullpippin_live_command(&engine->live, seat, command, size, HULLPIPPIN_NOWHERE, 0,
-                                                        HULLPIPPIN_NOWHERE, 0, &engine->answer));
+    const struct step step = {.kind = RING_COMMAND, .seat = seat, .command = command};
+    int error = stepped(engine, &step, hullpippin_live_command(&engine->live, seat, command, size, HULLPIPPIN_NOWHERE, 0,
+                                                               HULLPIPPIN_NOWHERE, 0, &engine->answer));
     if (!error)
         reach_after_command(engine, seat, command);
     return error;
@@ -182,9 +219,11 @@ int engine_command(struct engine *engine, uint32_t seat, const void *command, si
 int engine_call(struct engine *engine, uint32_t seat, const void *command, size_t size, const uint8_t *data, size_t data_size,
                 const uint8_t *offsets, size_t offsets_size)
 {
-    int error = stepped(engine, hullpippin_live_command(&engine->live, seat, command, size, data_size ? data : HULLPIPPIN_NOWHERE,
-                                                        data_size, offsets_size ? offsets : HULLPIPPIN_NOWHERE, offsets_size,
-                                                        &engine->answer));
+    const struct step step = {.kind = RING_COMMAND, .seat = seat, .command = command, .data = data, .data_size = data_size};
+    int error = stepped(engine, &step, hullpippin_live_command(&engine->live, seat, command, size,
+                                                               data_size ? data : HULLPIPPIN_NOWHERE, data_size,
+                                                               offsets_size ? offsets : HULLPIPPIN_NOWHERE, offsets_size,
+                                                               &engine->answer));
     if (!error)
         reach_after_call(engine, seat, command, offsets_size > 0);
     return error;

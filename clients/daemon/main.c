@@ -29,7 +29,8 @@ enum { STATUS_FAILED = 1, STATUS_USAGE = 2, STATUS_BUSY = 3 };
 static const char usage[] =
     "usage: hullpippind [--socket PATH] [--mode MODE] [--group GROUP] [--devices NAME,..] [--journal [NAME=]FILE].. [--seats N]\n"
     "                   [--log FILE] [-v] [--background] [--no-filter]\n"
-    "       hullpippind --look [--socket PATH] | --help | --version\n"
+    "       hullpippind --look | --stats NAME | --state NAME [--socket PATH]\n"
+    "       hullpippind --help | --version\n"
     "\n"
     "  --socket PATH           where to listen (else HULLPIPPIN_SOCKET, else $XDG_RUNTIME_DIR/hullpippin/socket,\n"
     "                          else /tmp/hullpippin-UID/socket); not looked at where the socket is given by LISTEN_FDS\n"
@@ -37,16 +38,18 @@ static const char usage[] =
     "  --group GROUP           the socket's group, by its name or number (the daemon's own)\n"
     "  --devices NAME,..       the devices (" DEFAULT_DEVICES ")\n"
     "  --journal [NAME=]FILE   appends the history of a device, else of the first, to a new FILE\n"
-    "  --seats N               seats of a device, 2 to 65536 (16384); with a journal 31 at most\n"
+    "  --seats N               seats of a device, 2 to 65536 (16384)\n"
     "  --log FILE              log there, not on standard error; -v: all that happens\n"
     "  --background            return as soon as clients may come\n"
     "  --no-filter             don't have the kernel refuse what the daemon never asks of it\n"
     "  --look                  only tell whether programs reach a daemon, and where: status 0 or 1\n"
+    "  --stats NAME            only tell what a daemon has counted on a device: commands, returns, refusals, turns\n"
+    "  --state NAME            only tell what the processes and threads of a device are at; both are for its user and root\n"
     "\n"
     "Ends in order on SIGTERM and SIGINT. Status 3: a daemon listens there already.\n";
 
 struct options {
-    const char *socket, *log;
+    const char *socket, *log, *stats, *state;
     bool is_verbose, is_background, is_unfiltered, looks, helps, tells_version;
 };
 
@@ -60,17 +63,19 @@ static bool read_seats(struct daemon *daemon, const char *word)
     return !errno && *word && !*end && seats >= 2 && seats <= SEATS_MOST;
 }
 
+static const struct option names[] = {
+    {"socket", required_argument, NULL, 's'},  {"devices", required_argument, NULL, 'd'},
+    {"journal", required_argument, NULL, 'j'}, {"seats", required_argument, NULL, 'n'},
+    {"log", required_argument, NULL, 'l'},     {"background", no_argument, NULL, 'b'},
+    {"verbose", no_argument, NULL, 'v'},       {"mode", required_argument, NULL, 'm'},
+    {"group", required_argument, NULL, 'g'},   {"look", no_argument, NULL, 'k'},
+    {"help", no_argument, NULL, 'h'},          {"version", no_argument, NULL, 'V'},
+    {"no-filter", no_argument, NULL, 'f'},     {"stats", required_argument, NULL, 't'},
+    {"state", required_argument, NULL, 'p'},   {NULL, 0, NULL, 0},
+};
+
 static bool read_options(struct daemon *daemon, struct options *options, int count, char **words)
 {
-    static const struct option names[] = {
-        {"socket", required_argument, NULL, 's'},  {"devices", required_argument, NULL, 'd'},
-        {"journal", required_argument, NULL, 'j'}, {"seats", required_argument, NULL, 'n'},
-        {"log", required_argument, NULL, 'l'},     {"background", no_argument, NULL, 'b'},
-        {"verbose", no_argument, NULL, 'v'},       {"mode", required_argument, NULL, 'm'},
-        {"group", required_argument, NULL, 'g'},   {"look", no_argument, NULL, 'k'},
-        {"help", no_argument, NULL, 'h'},          {"version", no_argument, NULL, 'V'},
-        {"no-filter", no_argument, NULL, 'f'},     {NULL, 0, NULL, 0},
-    };
     const char *devices = DEFAULT_DEVICES, *journals[DEVICES_MAX];
     int option, journal_count = 0;
     bool is_good = true;
@@ -91,6 +96,8 @@ static bool read_options(struct daemon *daemon, struct options *options, int cou
         case 'g': is_good = is_good && listener_set_group(&daemon->listener, optarg); break;
         case 'f': options->is_unfiltered = true; break;
         case 'k': options->looks = true; break;
+        case 't': options->stats = optarg; break;
+        case 'p': options->state = optarg; break;
         case 'h': options->helps = true; break;
         case 'V': options->tells_version = true; break;
         default: is_good = false;
@@ -264,6 +271,8 @@ int main(int count, char **words)
         return version_tell(stdout), 0;
     if (options.looks)
         return listener_look(options.socket);
+    if (options.stats || options.state)
+        return options.stats ? ask_stats(options.socket, options.stats) : ask_state(options.socket, options.state);
     struct background background = {-1, -1};
     if (options.is_background && !go_to_background(&background))
         return perror("hullpippind"), STATUS_FAILED;

@@ -265,8 +265,42 @@ static int set_spam(struct process *process, bool on)
     return error;
 }
 
+/* The latest steps of a device are for who may know all that its clients say. The device is looked for by the thread of who has opened
+   none yet. */
+static int open_ring(struct process *process, const struct control_request *request, struct control_answer *answer, int *fd)
+{
+    if (!user_is_own(process->euid))
+        return EPERM;
+    if (process->engine || !memchr(request->device, 0, sizeof request->device))
+        return EINVAL;
+    struct engine *engine = device_engine(process->daemon, request->device);
+    if (!engine || !engine->ring.heading)
+        return engine ? ENOMEM : errno;
+    answer->size = engine->ring.memory.size;
+    *fd = engine->ring.memory.fd;
+    return 0;
+}
+
 /* What came of a packet: there is nothing to be said to such a client; it was answered; or another thread has it. */
 enum answered { UNANSWERED, ANSWERED, GONE };
+
+static bool answer_state(struct process *process, const struct control_request *request)
+{
+    struct state_page page = {0};
+    page.error = !user_is_own(process->euid) ? EPERM : !process->engine ? EINVAL : 0;
+    if (!page.error)
+        state_tell(process->engine, request->size, &page);
+    return packet_send(process->control.fd, &page, sizeof page, NULL, 0, MSG_DONTWAIT);
+}
+
+/* Of a window and a thread the client has all alone but a thread's bell, which is the third; a ring stays here. */
+static void let_go_of_sent(struct process *process, uint32_t op, int *fds, uint32_t count)
+{
+    if (op == CONTROL_MAP)
+        process->window.fd = -1;
+    for (uint32_t i = 0; i < count && i < 2 && op != CONTROL_RING; i++)
+        descriptor_close(&fds[i]);
+}
 
 /* Does what a packet asks for. */
 static enum answered answer_control(struct process *process, const struct control_request *request)
@@ -297,17 +331,20 @@ static enum answered answer_control(struct process *process, const struct contro
         answer.error = set_spam(process, request->size != 0);
         break;
     case CONTROL_THREAD:
-        answer.error = thread_join(process, fds);
+        answer.error = thread_join(process, request->size, fds);
         answer.descriptors = answer.error ? 0 : 3;
         break;
+    case CONTROL_RING:
+        answer.error = open_ring(process, request, &answer, fds);
+        answer.descriptors = !answer.error;
+        break;
+    case CONTROL_STATE:
+        return answer_state(process, request) ? ANSWERED : UNANSWERED;
     default:
         return UNANSWERED;
     }
     bool is_sent = packet_send(process->control.fd, &answer, sizeof answer, fds, answer.descriptors, MSG_DONTWAIT);
-    if (request->op == CONTROL_MAP)
-        process->window.fd = -1;
-    for (uint32_t i = 0; i < answer.descriptors && i < 2; i++)
-        descriptor_close(&fds[i]); /* the third is a bell, which stays with its watch */
+    let_go_of_sent(process, request->op, fds, answer.descriptors);
     return is_sent ? ANSWERED : UNANSWERED;
 }
 

@@ -79,19 +79,17 @@ static void take_return(struct thread *thread, uint8_t *bytes, uint32_t size)
 
 static int fetch(struct thread *thread, uint32_t limit)
 {
-    static _Thread_local uint8_t stream[PAGE_RETURNS];
     struct engine *engine = thread->process->engine;
     if (thread->pending_size + limit > sizeof thread->pending)
         return ENOBUFS;
     int error = engine_read(engine, thread->seat, limit);
     if (error || engine->answer.kind != HULLPIPPIN_GOT)
         return error ? error : EAGAIN;
-    size_t size = hullpippin_live_bytes(&engine->live, HULLPIPPIN_STREAM, stream, sizeof stream);
-    for (size_t at = 0; at + sizeof(uint32_t) <= size;) {
+    for (uint32_t at = 0; at + sizeof(uint32_t) <= engine->returns_size;) {
         uint32_t code;
-        memcpy(&code, stream + at, sizeof code);
+        memcpy(&code, engine->returns + at, sizeof code);
         uint32_t length = sizeof code + _IOC_SIZE(code);
-        take_return(thread, stream + at, length);
+        take_return(thread, engine->returns + at, length);
         at += length;
     }
     sendings_sort(thread);

@@ -7,10 +7,19 @@
 
 #include <errno.h>
 
+/* The seat is a thread's from now on, or nobody's. */
+static void note(struct engine *engine, uint32_t seat, struct thread *thread)
+{
+    engine->lent[seat] = thread;
+    engine->lent_count += thread ? 1u : -1u;
+    ring_count_lent(&engine->ring, engine->lent_count);
+    journal_note_seat(&engine->journal, &engine->live, seat, thread ? thread->process->pid : 0, thread ? &thread->name : NULL);
+}
+
 /* The thread has no seat any more, and nothing is to be looked at for it. */
 static void take_away(struct thread *thread)
 {
-    thread->process->engine->lent[thread->seat] = NULL;
+    note(thread->process->engine, thread->seat, NULL);
     thread->seat = NO_SEAT;
     thread->is_looper = false;
     thread->serving = thread->calling = thread->refusals = thread->completions = thread->untold = 0;
@@ -54,6 +63,27 @@ static bool recycle(struct engine *engine)
     return false;
 }
 
+/* Has the thread attach with a seat, which is its own from that step on, where it comes off. */
+static bool attach(struct thread *thread, uint32_t seat)
+{
+    struct process *process = thread->process;
+    struct engine *engine = process->engine;
+    name_find(&thread->name, &process->caller, thread->told_tid);
+    note(engine, seat, thread);
+    if (engine_attach(engine, seat, process->engine_pid)) {
+        note(engine, seat, NULL);
+        return false;
+    }
+    engine->free_count--;
+    if (engine->answer.kind != HULLPIPPIN_OPENED) { /* a process has it that couldn't be ended for want of memory */
+        note(engine, seat, NULL);
+        lose(engine, seat);
+        return false;
+    }
+    thread->seat = seat;
+    return true;
+}
+
 bool seat_lend(struct thread *thread)
 {
     struct engine *engine = thread->process->engine;
@@ -63,17 +93,7 @@ bool seat_lend(struct thread *thread)
         log_event("%s: all %u seats are busy", engine->device, engine->seats - 1);
         return false;
     }
-    uint32_t seat = engine->free_seats[engine->free_count - 1];
-    if (engine_attach(engine, seat, thread->process->engine_pid))
-        return false;
-    engine->free_count--;
-    if (engine->answer.kind != HULLPIPPIN_OPENED) { /* a process has it that couldn't be ended for want of memory */
-        lose(engine, seat);
-        return false;
-    }
-    engine->lent[seat] = thread;
-    thread->seat = seat;
-    return true;
+    return attach(thread, engine->free_seats[engine->free_count - 1]);
 }
 
 void seat_await(struct thread *thread)

@@ -35,12 +35,14 @@ static struct {
     pthread_mutex_t lock;
     struct list buckets[BUCKETS];
     uint64_t limits[SHARED_KINDS], used[SHARED_KINDS];
+    uid_t own; /* the daemon's user, which the kernel tells no more once the daemon is kept to what it needs (filter.c) */
 } shares = {.lock = PTHREAD_MUTEX_INITIALIZER};
 
 void shares_begin(uint32_t seats)
 {
     struct rlimit limit;
     uint64_t pages = (uint64_t)sysconf(_SC_PHYS_PAGES), descriptors = 1024;
+    shares.own = geteuid();
     if (getrlimit(RLIMIT_NOFILE, &limit) == 0)
         descriptors = limit.rlim_cur;
     shares.limits[SHARED_DESCRIPTORS] = descriptors > 2 * OWN_DESCRIPTORS ? descriptors - OWN_DESCRIPTORS : descriptors / 2;
@@ -48,6 +50,11 @@ void shares_begin(uint32_t seats)
     shares.limits[SHARED_WINDOWS] = pages * (uint64_t)sysconf(_SC_PAGESIZE) / 2;
     for (size_t i = 0; i < BUCKETS; i++)
         list_begin(&shares.buckets[i]);
+}
+
+bool user_is_own(uid_t uid)
+{
+    return uid == 0 || uid == shares.own;
 }
 
 static struct list *bucket_of(uid_t uid, pid_t pid)
@@ -114,7 +121,7 @@ static bool is_within(const struct account *account, enum shared what, uint64_t 
     if (shares.used[what] + amount > shares.limits[what])
         return false;
     uint64_t left = shares.limits[what] - shares.used[what] - amount;
-    uint64_t times = account->uid == 0 || account->uid == geteuid() ? 3 : 1;
+    uint64_t times = user_is_own(account->uid) ? 3 : 1;
     return account->used[what] + amount <= left / 4 && account->user->used[what] + amount <= left * times;
 }
 

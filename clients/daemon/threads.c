@@ -102,7 +102,7 @@ static void free_parts(struct parts *parts)
     descriptor_close(&parts->bell);
 }
 
-static struct thread *new_thread(struct process *process, const struct parts *parts)
+static struct thread *new_thread(struct process *process, uint64_t tid, const struct parts *parts)
 {
     struct thread *thread = calloc(1, sizeof *thread);
     if (!thread)
@@ -110,6 +110,7 @@ static struct thread *new_thread(struct process *process, const struct parts *pa
     thread->link = (struct watch){.fd = parts->link[0], .ready = link_ready};
     thread->bell = (struct watch){.fd = parts->bell, .ready = bell_ready};
     thread->process = process;
+    thread->told_tid = tid;
     thread->page = parts->page;
     thread->seat = NO_SEAT;
     thread->doorbell = thread->doorbell_end = -1;
@@ -138,14 +139,14 @@ static bool take_share(struct account *account)
     return false;
 }
 
-int thread_join(struct process *process, int fds[3])
+int thread_join(struct process *process, uint64_t tid, int fds[3])
 {
     struct parts parts;
     if (!process->engine)
         return EINVAL;
     if (process->thread_count >= THREADS_MAX || !take_share(process->account))
         return EMFILE;
-    struct thread *thread = make_parts(&parts) ? new_thread(process, &parts) : NULL;
+    struct thread *thread = make_parts(&parts) ? new_thread(process, tid, &parts) : NULL;
     if (!thread) {
         free_parts(&parts);
         give_share(process->account);

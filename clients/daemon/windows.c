@@ -1,7 +1,7 @@
 /* SPDX-License-Identifier: Apache-2.0 OR MIT */
 /*
- * windows.c: a process's window is memory that the daemon writes and its client can't: it is sealed so that no later
- * mapping may write, and no size may change, before anybody else has it.
+ * windows.c: a process's window is memory that the daemon writes and its client can't, and so is a device's ring: it is sealed so
+ * that no later mapping may write, and no size may change, before anybody else has it.
  */
 #include "daemon.h"
 

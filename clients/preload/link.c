@@ -129,7 +129,7 @@ static struct link *new_link(struct device *device, const int fds[3])
 
 struct link *link_of(struct device *device)
 {
-    struct control_request request = {.op = CONTROL_THREAD};
+    struct control_request request = {.op = CONTROL_THREAD, .size = (uint64_t)gettid()};
     struct control_answer answer;
     struct link *link = find(device);
     int fds[3];

@@ -2,6 +2,9 @@
 """What is tested: the daemon, the preloaded library, the managers and the test clients, built plainly or with sanitizers."""
 import os
 import subprocess
+import tempfile
+
+from journals import heading
 
 HERE = os.path.dirname(os.path.abspath(__file__))
 CLIENTS = os.path.dirname(HERE)
@@ -50,6 +53,13 @@ class Build:
             self.environment = {"ASAN_OPTIONS": "abort_on_error=1:detect_leaks=1", "UBSAN_OPTIONS": "print_stacktrace=1"}
         if not os.path.exists(self.judge):
             raise NotBuilt(f"{self.judge} isn't built, which judges journals: cd crates/bd_play && rt run < stdin")
+
+    def judges_wide(self):
+        """Whether the player knows journals of more than 31 seats."""
+        with tempfile.NamedTemporaryFile() as file:
+            file.write(heading(3, 32, 0))
+            file.flush()
+            return subprocess.run([self.judge, "check", file.name], capture_output=True, text=True).stdout.split() == ["lawful", "0"]
 
     def manager(self, name):
         return f"{CLIENTS}/managers/{self.out}/hullpippin-{name}"

@@ -20,6 +20,8 @@ MOST_LOOKS = 6
 # the longest that a call may take while a thousand callers end, in microseconds
 MOST_ENDING = 20e3
 ROUNDS = 5
+# descriptors of a device that somebody has opened: an epoll, a bell, and its latest steps
+OF_DEVICE = 3
 # so much more memory than before may the daemon have after a rest
 REST_KIB = 512
 
@@ -150,10 +152,10 @@ def shares(build):
         held = open_files(stage.daemon.pid)
         stage.run([build.raw("nested")])
         end = time.monotonic() + 12
-        while open_files(stage.daemon.pid) > before + 2 and time.monotonic() < end:
+        while open_files(stage.daemon.pid) > before + OF_DEVICE and time.monotonic() < end:
             time.sleep(0.1)
         left = open_files(stage.daemon.pid)
-        expect(left <= before + 2, f"the daemon keeps {left} descriptors for who opens nothing, {before} before")
+        expect(left <= before + OF_DEVICE, f"the daemon keeps {left} descriptors for who opens nothing, {before} before")
         told.append(f"{held} descriptors for connections that opened nothing, {left} after seconds")
         for user in ([], [NOBODY]) if os.geteuid() == 0 else ([],):
             taken = hoarders(stage, build, *[["threads", "5000", *user]] * 3)

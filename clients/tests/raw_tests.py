@@ -53,9 +53,9 @@ for word in ("asked", "unasked"):
 
 @test("raw crossed")
 def crossed(build):
-    """Without a journal, so that there are seats for all."""
-    with Stage(build) as stage:
-        return stage.run([build.raw("crossed"), "3"], 120)
+    with Stage(build, journal=DEVICE, wide=True) as stage:
+        told = stage.run([build.raw("crossed"), "3"], 120)
+    return f"{told}; {stage.entries} steps"
 
 
 @test("raw paths")
@@ -112,7 +112,7 @@ def flat_cost(found, what, slack=SLACK):
 
 @test("raw services")
 def services(build):
-    """Each of a process of its own; with a journal there are only seats for some."""
+    """Each of a process of its own."""
     with Stage(build, journal=DEVICE) as stage:
         stage.manage()
         stage.run([build.raw("services"), "20"])
@@ -224,9 +224,10 @@ def short_of_memory(build):
     return f"{told}, {used} s of processor time; lawful, {stage.entries} steps"
 
 
-def refuses(build, words, why):
-    """Whether a daemon that is started with these words ends at once, and says why."""
-    done = subprocess.run([build.daemon, *words], env={**os.environ, **build.environment}, capture_output=True, text=True, timeout=10)
+def refuses(build, words, why, prepare=None):
+    """Whether a daemon that is started with these words ends at once, and says why; `prepare` is called in its process before."""
+    done = subprocess.run([build.daemon, *words], env={**os.environ, **build.environment}, capture_output=True, text=True, timeout=10,
+                          preexec_fn=prepare)
     expect(done.returncode == 1 and why in done.stderr, f"{' '.join(words)}: {done.returncode}, {done.stderr}")
 
 
@@ -241,14 +242,18 @@ def refused_beginnings(build):
         os.symlink(old, again)
         refuses(build, ["--socket", taken, "--journal", old], "Address already in use")
         refuses(build, ["--socket", f"{folder}/socket", "--journal", old, "--journal", f"/dev/hwbinder={again}"], "two devices")
-        refuses(build, ["--socket", f"{folder}/socket", "--journal", old, "--journal", f"/dev/hwbinder={folder}/none/new"], "No such file")
+        for path, why in ((f"{folder}/none/new", "No such file"), (folder, "Is a directory"), ("/dev/null", "it is neither a file nor a pipe")):
+            refuses(build, ["--socket", f"{folder}/socket", "--journal", old, "--journal", f"/dev/hwbinder={path}"], why)
+        os.symlink(old, f"{folder}/new.who")
+        refuses(build, ["--socket", f"{folder}/socket", "--journal", f"{folder}/new"], "new.who: Too many levels of symbolic links")
+        refuses(build, ["--socket", f"{folder}/socket", "--journal", taken, "--journal", f"/dev/hwbinder={taken}.times"], "two devices")
         with Stage(build, journal=DEVICE) as stage:  # whose journal is judged, so that it wasn't written anew either
             stage.run([build.raw("oneway")], 60)
             refuses(build, ["--socket", f"{folder}/socket", "--journal", stage.journal], "another daemon writes")
         with open(old, encoding="ascii") as file:
             expect(file.read() == "old", "the old journal is gone")
         expect(not os.path.exists(f"{folder}/socket"), "a daemon that hasn't begun left its socket")
-    return "where the address is taken, a journal would be two devices' or is another daemon's, or one can't be had, the old journal stays"
+    return "where the address is taken, a journal would be two devices' or is another daemon's, or no file, or can't be had, the old journal stays"
 
 
 @test("raw fuzz")

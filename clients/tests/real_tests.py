@@ -228,7 +228,7 @@ def real_soak(build, packages):
         stage.manage()
 
     def parts(_):
-        """A journal has 31 seats, so not all play at once."""
+        """A journal of version two has 31 seats, so not all play at once."""
         modes = [["time", "100000"], ["threads", "3", "2000"], ["nested", "1000"], ["descriptors", "1000"], ["keep"],
                  ["oneway", "300"], ["big", "100000"], ["death"]]
         choices = [client(build, packages, "test", *words) for words in modes]

@@ -11,6 +11,8 @@ import subprocess
 import tempfile
 import time
 
+from journals import Journal
+
 # seconds that a program is waited for, where nothing else is said
 PATIENCE = 60
 
@@ -114,12 +116,17 @@ def open_files(pid):
     return len(os.listdir(f"/proc/{pid}/fd"))
 
 
-class Stage:
-    """A daemon, started; `journal` names a device whose journal is kept and judged in the end. With `bare` a bare relay stands in its
-    place, which nothing is asked of but times. With `daemon` it is another program; `words` are further ones for it."""
+# seats of a device whose journal is of version two
+NARROW = 31
 
-    def __init__(self, build, journal=None, daemon_environment=(), bare=False, daemon=None, words=()):
-        self.build, self.is_bare = build, bare
+
+class Stage:
+    """A daemon, started; `journal` names a device whose journal is kept and judged in the end: of version two, but with `wide`. With
+    `bare` a bare relay stands in its place, which nothing is asked of but times. With `daemon` it is another program; `words` are
+    further ones for it."""
+
+    def __init__(self, build, journal=None, daemon_environment=(), bare=False, daemon=None, words=(), wide=False):
+        self.build, self.is_bare, self.is_wide = build, bare, wide
         self.folder = tempfile.mkdtemp(prefix="hullpippin-stage-")
         self.socket = f"{self.folder}/socket"
         self.journal = f"{self.folder}/journal" if journal else None
@@ -129,7 +136,7 @@ class Stage:
         self.environment = {**build.environment, "HULLPIPPIN_SOCKET": self.socket, "PATH": os.environ["PATH"], "HOME": self.folder}
         words = [build.bare, self.socket] if bare else [daemon or build.daemon, "--socket", self.socket, *words]
         if journal:
-            words += ["--journal", f"{journal}={self.journal}"]
+            words += ["--journal", f"{journal}={self.journal}", *([] if wide else ["--seats", str(NARROW)])]
         self.daemon = Process(words, {**self.environment, **dict(daemon_environment)}, f"{self.folder}/daemon.log")
         self.environment["RAW_DAEMON"] = str(self.daemon.pid)
 
@@ -206,8 +213,13 @@ class Stage:
             self.judge()
 
     def judge(self):
+        with open(self.journal, "rb") as file:
+            read = Journal(file.read())
+        expect(read.is_whole() and read.version == (3 if self.is_wide else 2), f"the journal: {read.told()}")
+        self.entries = len(read.entries)
+        if self.is_wide and not self.build.judges_wide():
+            return
         done = subprocess.run([self.build.judge, "check", self.journal], capture_output=True, text=True, timeout=1200)
         words = done.stdout.split()
         expect(done.returncode == 0 and words[:1] == ["lawful"], f"the journal: {tail(done.stdout + done.stderr)}")
-        self.entries = int(words[1])
-        expect(self.entries > 0, "the journal is empty")
+        expect(int(words[1]) == self.entries > 0, f"the journal has {self.entries} entries, and the player finds {words[1]}")

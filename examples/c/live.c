@@ -13,9 +13,7 @@
 #include <stdio.h>
 #include <string.h>
 
-/* Codes of <linux/android/binder.h>. */
-#define BC_TRANSACTION 0x40406300u
-#define BC_ENTER_LOOPER 0x0000630cu
+/* The flag of a one-way call, as <linux/android/binder.h> has it. */
 #define TF_ONE_WAY 1u
 
 /* The seats: the context manager's thread, and its client's. */
@@ -153,7 +151,7 @@ static bool read_line(struct run *run, uint32_t seat)
 static void one_way_call(uint8_t command[68])
 {
     memset(command, 0, 68);
-    put32(command, BC_TRANSACTION);
+    put32(command, HULLPIPPIN_BC_TRANSACTION);
     put32(command + 4 + 16, 7);
     put32(command + 4 + 20, TF_ONE_WAY);
     put32(command + 4 + 32, 2);
@@ -164,7 +162,7 @@ static void one_way_call(uint8_t command[68])
 static bool play(struct run *run)
 {
     uint8_t enter[4], call[68];
-    put32(enter, BC_ENTER_LOOPER);
+    put32(enter, HULLPIPPIN_BC_ENTER_LOOPER);
     one_way_call(call);
     return write_heading(run, UINT32_MAX) && open_line(run, MANAGER, 100, 1000) && become_manager(run, MANAGER)
            && command_line(run, MANAGER, enter, sizeof enter, NULL, 0) && open_line(run, CLIENT, 200, 2000)

@@ -18,25 +18,6 @@ enum { MANAGER, CLIENT, SEATS };
 #define TF_ONE_WAY 1u
 #define MOST 256
 
-static const struct {
-    uint32_t code;
-    const char *name;
-} names[] = {
-    {HULLPIPPIN_BR_TRANSACTION, "BR_TRANSACTION"},
-    {HULLPIPPIN_BR_TRANSACTION_COMPLETE, "BR_TRANSACTION_COMPLETE"},
-    {HULLPIPPIN_BR_INCREFS, "BR_INCREFS"},
-    {HULLPIPPIN_BR_ACQUIRE, "BR_ACQUIRE"},
-    {HULLPIPPIN_BR_NOOP, "BR_NOOP"},
-};
-
-static const char *name_of(uint32_t code)
-{
-    for (size_t i = 0; i < sizeof names / sizeof names[0]; i++)
-        if (names[i].code == code)
-            return names[i].name;
-    return "another return";
-}
-
 static bool fails(const char *why)
 {
     fprintf(stderr, "objects: %s\n", why);
@@ -88,10 +69,11 @@ static bool say_objects(const uint8_t *data, size_t data_size, const uint8_t *of
     return !walk.cause || fails("no parcel");
 }
 
+/* Prints a return that was read, which so has a name. */
 static void say_return(const hullpippin_return *returned)
 {
     const hullpippin_transaction *call = &returned->transaction;
-    printf("  %s", name_of(returned->code));
+    printf("  %s", hullpippin_text(HULLPIPPIN_TEXT_RETURN, returned->code));
     if (returned->code == HULLPIPPIN_BR_INCREFS || returned->code == HULLPIPPIN_BR_ACQUIRE)
         printf(" ptr 0x%" PRIx64 " cookie 0x%" PRIx64, returned->pointer, returned->cookie);
     if (returned->code == HULLPIPPIN_BR_TRANSACTION)

@@ -16,10 +16,7 @@
 #include <stdio.h>
 #include <string.h>
 
-/* Codes of <linux/android/binder.h>. */
-#define BC_TRANSACTION 0x40406300u
-#define BC_REPLY 0x40406301u
-#define BC_ENTER_LOOPER 0x0000630cu
+/* The flag of a one-way call, as <linux/android/binder.h> has it. */
 #define TF_ONE_WAY 1u
 
 /* How often a thread looks whether it is its turn. */
@@ -107,7 +104,7 @@ static bool write_line(struct part *part, int line, const uint8_t *stream, size_
     if (!is_answered(status, &answer, HULLPIPPIN_WROTE))
         return false;
     if (answer.stop != HULLPIPPIN_AT_END)
-        return fails(answer.number == 14 ? "no memory" : "the write stopped");
+        return fails(answer.number == HULLPIPPIN_FAULT_NO_MEMORY ? "no memory" : "the write stopped");
     say(line, "wrote %u %u %u", answer.consumed, answer.from, answer.to);
     return true;
 }
@@ -172,8 +169,8 @@ static void *serve(void *given)
 {
     struct part *part = given;
     uint8_t enter[4], reply[68], area[8] = {0x2a};
-    put32(enter, BC_ENTER_LOOPER);
-    transaction(reply, BC_REPLY, 0, 0, 1);
+    put32(enter, HULLPIPPIN_BC_ENTER_LOOPER);
+    transaction(reply, HULLPIPPIN_BC_REPLY, 0, 0, 1);
     (void)(wait_for(part, 0) && open_line(part, 2, 100, 1000) && become_manager(part, 3)
            && write_line(part, 4, enter, sizeof enter, NULL, 0) && wait_for(part, 6) && read_line(part, 8)
            && (!part->two_way
@@ -186,7 +183,7 @@ static void *ask(void *given)
 {
     struct part *part = given;
     uint8_t call[68], area[8] = {1, 2, 3, 4}, word[8] = {'h', 'i'};
-    transaction(call, BC_TRANSACTION, part->two_way ? 9 : 7, part->two_way ? 0 : TF_ONE_WAY, part->two_way ? 4 : 2);
+    transaction(call, HULLPIPPIN_BC_TRANSACTION, part->two_way ? 9 : 7, part->two_way ? 0 : TF_ONE_WAY, part->two_way ? 4 : 2);
     (void)(wait_for(part, 3) && open_line(part, 5, 200, 2000)
            && write_line(part, 6, call, sizeof call, part->two_way ? area : word, 8) && read_line(part, 7)
            && (!part->two_way || (wait_for(part, 8) && read_line(part, 10) && wait_for(part, 10) && look_line(part, 12))));

@@ -16,14 +16,6 @@
 #include <stdlib.h>
 #include <string.h>
 
-/* Codes of <linux/android/binder.h>. */
-#define BC_TRANSACTION 0x40406300u
-#define BC_REPLY 0x40406301u
-#define BC_FREE_BUFFER 0x40086303u
-#define BC_ENTER_LOOPER 0x0000630cu
-#define BR_TRANSACTION 0x80407202u
-#define BR_REPLY 0x80407203u
-
 enum { CLIENTS = 4, SEATS = CLIENTS + 1, RECORD = 64, LONGEST = 256 };
 
 /* A stream of commands with the area that they speak of. */
@@ -67,7 +59,7 @@ static void append_call(struct stream *stream, uint32_t command, uint32_t number
 
 static void append_free(struct stream *stream, uint64_t buffer)
 {
-    uint32_t command = BC_FREE_BUFFER;
+    uint32_t command = HULLPIPPIN_BC_FREE_BUFFER;
     append(stream, &command, sizeof command);
     append(stream, &buffer, sizeof buffer);
 }
@@ -131,9 +123,9 @@ static void *serve(void *given)
     for (uint32_t i = 0; i < CLIENTS * calls_each; i++) {
         struct stream stream = { .size = 0 };
         uint64_t buffer;
-        uint32_t number = receive(part, BR_TRANSACTION, &buffer);
+        uint32_t number = receive(part, HULLPIPPIN_BR_TRANSACTION, &buffer);
         append_free(&stream, buffer);
-        append_call(&stream, BC_REPLY, number + 1);
+        append_call(&stream, HULLPIPPIN_BC_REPLY, number + 1);
         ask(part, write_once, &stream, HULLPIPPIN_WROTE);
         part->calls++;
     }
@@ -146,9 +138,9 @@ static void *call(void *given)
     for (uint32_t i = 0; i < calls_each; i++) {
         struct stream stream = { .size = 0 }, after = { .size = 0 };
         uint64_t buffer;
-        append_call(&stream, BC_TRANSACTION, 1000 * part->number + i);
+        append_call(&stream, HULLPIPPIN_BC_TRANSACTION, 1000 * part->number + i);
         ask(part, write_once, &stream, HULLPIPPIN_WROTE);
-        part->wrong += receive(part, BR_REPLY, &buffer) != 1000 * part->number + i + 1;
+        part->wrong += receive(part, HULLPIPPIN_BR_REPLY, &buffer) != 1000 * part->number + i + 1;
         append_free(&after, buffer);
         ask(part, write_once, &after, HULLPIPPIN_WROTE);
         part->calls++;
@@ -160,7 +152,7 @@ static void *call(void *given)
 static void begin(hullpippin_driver *driver, struct part *parts)
 {
     struct stream enter = { .size = 0 };
-    uint32_t command = BC_ENTER_LOOPER;
+    uint32_t command = HULLPIPPIN_BC_ENTER_LOOPER;
     append(&enter, &command, sizeof command);
     if (hullpippin_new(SEATS, driver))
         fail("there is no driver");

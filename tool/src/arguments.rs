@@ -1,9 +1,10 @@
 // SPDX-License-Identifier: Apache-2.0 OR MIT
 //! The words of the command line.
 use crate::out::When;
-use crate::play::Range;
+use crate::play::{Range, Spot};
 use crate::select::Selection;
 use crate::space::ObjectId;
+use crate::times::TimeWord;
 use clap::{Args, Parser, Subcommand, ValueEnum};
 
 /// Looks at recordings of Binder's transactions: what was sent, why it was refused, who holds what.
@@ -26,9 +27,9 @@ impl Arguments {
         matches!(&self.word, Word::Show(Show { follow: true, .. }))
     }
 
-    /// Whether what is printed is for a program, and no person would read it page by page.
+    /// Whether no person would read it page by page: it is for a program, or for who types.
     pub fn is_for_programs(&self) -> bool {
-        matches!(&self.word, Word::Export(_) | Word::Diagram(_))
+        matches!(&self.word, Word::Export(_) | Word::Diagram(_) | Word::Script(_) | Word::Repl { .. })
     }
 }
 
@@ -58,12 +59,45 @@ pub enum Word {
     Export(Export),
     /// Draws a recording as one page of HTML, with search, zoom and hiding
     Diagram(Diagram),
+    /// Turns a script with names into one for the player, or plays it
+    Script(Script),
+    /// Plays a script with names as one types it, and shows what comes of each line
+    Repl {
+        /// The player
+        #[arg(long, value_name = "BPLAY", default_value = "bplay")]
+        run: String,
+        /// How often a line that waits looks before it is given up
+        #[arg(long, value_name = "N", default_value_t = TURNS)]
+        turns: u32,
+    },
     /// Lays an index beside a journal, JOURNAL.index, by which --from and --at begin near their place
     Index {
         /// A journal
         #[arg(value_name = "JOURNAL")]
         journal: String,
     },
+}
+
+/// How often a line that waits looks before it is given up.
+const TURNS: u32 = 1000;
+
+#[derive(Args)]
+pub struct Script {
+    /// A script with names, or - for standard input
+    #[arg(value_name = "FILE")]
+    pub file: String,
+    /// Plays it with this player, and says whether what it expects holds
+    #[arg(long, value_name = "BPLAY")]
+    pub run: Option<String>,
+    /// How often a line that waits looks before it is given up
+    #[arg(long, value_name = "N", default_value_t = TURNS, requires = "run")]
+    pub turns: u32,
+    /// Writes the journal of the run there
+    #[arg(long, value_name = "OUT", requires = "run")]
+    pub journal: Option<String>,
+    /// Writes the script that it comes to there, - for standard output
+    #[arg(long, value_name = "OUT")]
+    pub emit: Option<String>,
 }
 
 #[derive(Args)]
@@ -101,12 +135,12 @@ pub struct State {
     /// A journal, or - for standard input
     #[arg(value_name = "JOURNAL")]
     pub journal: String,
-    /// After so many entries, in place of all
-    #[arg(long, value_name = "PLACE")]
-    pub at: Option<u64>,
-    /// What differs between two places
-    #[arg(long, value_names = ["PLACE", "PLACE"], num_args = 2, conflicts_with_all = ["at", "format"])]
-    pub diff: Vec<u64>,
+    /// After so many entries, or those before a time, in place of all
+    #[arg(long, value_name = "PLACE|TIME")]
+    pub at: Option<Spot>,
+    /// What differs between two places or times
+    #[arg(long, value_names = ["PLACE|TIME", "PLACE|TIME"], num_args = 2, conflicts_with_all = ["at", "format"])]
+    pub diff: Vec<Spot>,
     /// Text for people, or a value of JSON a line
     #[arg(long, value_enum, default_value = "text")]
     pub format: Format,
@@ -120,9 +154,9 @@ pub struct Holders {
     /// The object, as `state` prints it
     #[arg(value_name = "PLACE.INDEX")]
     pub object: ObjectId,
-    /// After so many entries, in place of all
-    #[arg(long, value_name = "PLACE")]
-    pub at: Option<u64>,
+    /// After so many entries, or those before a time, in place of all
+    #[arg(long, value_name = "PLACE|TIME")]
+    pub at: Option<Spot>,
 }
 
 #[derive(Args)]
@@ -130,9 +164,9 @@ pub struct Leaks {
     /// A journal, or - for standard input
     #[arg(value_name = "JOURNAL")]
     pub journal: String,
-    /// After so many entries, in place of all
-    #[arg(long, value_name = "PLACE")]
-    pub at: Option<u64>,
+    /// After so many entries, or those before a time, in place of all
+    #[arg(long, value_name = "PLACE|TIME")]
+    pub at: Option<Spot>,
     /// How many are printed of each kind
     #[arg(long, value_name = "N", default_value_t = 20)]
     pub most: usize,
@@ -156,20 +190,28 @@ pub enum Form {
     Pcapng,
 }
 
-/// A range of places, where `--to` has another meaning.
+/// A range, where `--to` has another meaning.
 #[derive(Args, Clone, Copy, Debug)]
 pub struct Span {
     /// From this place on
     #[arg(long, value_name = "PLACE", default_value_t = 0)]
     from: u64,
-    /// Up to and without this place
-    #[arg(long, value_name = "PLACE")]
-    until: Option<u64>,
+    /// From this time on: 12:03:07.5, 2026-11-28T12:03:07.5, or +1.5 for seconds after the first entry
+    #[arg(long, value_name = "TIME")]
+    since: Option<TimeWord>,
+    /// Up to and without this place, or this time
+    #[arg(long, value_name = "PLACE|TIME")]
+    until: Option<Spot>,
 }
 
 impl Span {
     pub fn range(self) -> Range {
-        Range { from: self.from, to: self.until }
+        let (to, until) = match self.until {
+            Some(Spot::Place(place)) => (Some(place), None),
+            Some(Spot::Time(time)) => (None, Some(time)),
+            None => (None, None),
+        };
+        Range { from: self.from, to, since: self.since, until }
     }
 }
 

@@ -5,6 +5,7 @@ use crate::journal::{Answer, Entry, Step};
 use crate::record::Record;
 use crate::refusals::Reason;
 use crate::space::{About, Facts, ObjectId};
+use crate::times::Moment;
 use std::collections::HashMap;
 
 /// Who did something, and where.
@@ -13,6 +14,16 @@ pub struct Doing {
     pub place: u64,
     pub seat: u32,
     pub pid: u32,
+    /// What lies beside the journal: its thread, and when that was.
+    pub tid: Option<u32>,
+    pub time: Option<Moment>,
+}
+
+impl Doing {
+    /// How many nanoseconds lie between two, where both have a time.
+    pub fn since(self, earlier: Doing) -> Option<u64> {
+        Some(self.time?.clock.saturating_sub(earlier.time?.clock))
+    }
 }
 
 /// An accepted transaction.
@@ -60,7 +71,8 @@ impl Calls {
             Some(pid) => pid,
             None => return Vec::new(),
         };
-        let doing = Doing { place: entry.place, seat: entry.seat, pid };
+        let tid = facts.person.as_ref().and_then(|it| it.tid);
+        let doing = Doing { place: entry.place, seat: entry.seat, pid, tid, time: facts.time };
         match (&entry.step, &entry.answer) {
             (Step::Command { command, .. }, answer) => match command.record() {
                 Some(record) if command.code.number == BC_TRANSACTION => self.sent(doing, record, answer, facts),

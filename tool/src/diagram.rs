@@ -7,6 +7,7 @@ use crate::out::Out;
 use crate::play::{Player, Range};
 use crate::show::{code_words, object_words};
 use crate::space::{Facts, Space};
+use crate::times::{duration_words, Moment};
 use anyhow::Result;
 use serde::Serialize;
 use std::collections::HashMap;
@@ -20,6 +21,9 @@ const DATA: &str = "/*DATA*/";
 struct Lane {
     pid: u32,
     seat: u32,
+    /// What its thread is called, where that is known.
+    #[serde(skip_serializing_if = "Option::is_none")]
+    name: Option<String>,
     /// Where it begins; None where that lies before the range.
     from: Option<u64>,
     to: Option<u64>,
@@ -60,7 +64,7 @@ impl Drawing<'_> {
     fn lane(&mut self, pid: u32, seat: u32, from: Option<u64>) -> usize {
         let lanes = &mut self.lanes;
         *self.live.entry((pid, seat)).or_insert_with(|| {
-            lanes.push(Lane { pid, seat, from, to: None });
+            lanes.push(Lane { pid, seat, name: None, from, to: None });
             lanes.len() - 1
         })
     }
@@ -95,7 +99,10 @@ impl Drawing<'_> {
     /// A call that has ended, or is still open at the end.
     fn call(&mut self, call: &Call, ended: Option<Doing>, space: &Space) -> Result<()> {
         let object = call.object.map_or(String::new(), |it| object_words(space, it));
-        let text = format!("{object} {} {} bytes", code_words(call.code), call.size);
+        let took = ended.and_then(|it| it.since(call.made));
+        let took = took.map_or(String::new(), |it| format!(", {}", duration_words(it)));
+        let at = at_words(call.made.time);
+        let text = format!("{object} {} {} bytes{at}{took}", code_words(call.code), call.size);
         let kind = if call.one_way { "oneway" } else { "call" };
         self.arrow(kind, call.made, call.taken, &text)?;
         let replied = call.replied.map(|it| it.0);
@@ -123,13 +130,14 @@ impl Drawing<'_> {
                     "refused",
                     lane,
                     doing.place,
-                    &format!("{} {}: {}", reason.name(), reason.word(), reason.text()),
+                    &format!("{} {}: {}{}", reason.name(), reason.word(), reason.text(), at_words(doing.time)),
                 )
             }
             Event::Done(call, doing) | Event::Freed(call, doing) => self.call(call, Some(*doing), space),
             Event::Failed(call, doing) => {
                 let lane = self.lane_of(*doing);
-                self.dot("refused", lane, doing.place, &format!("no reply to the call at {}", call.made.place))?;
+                let text = format!("no reply to the call at {}{}", call.made.place, at_words(doing.time));
+                self.dot("refused", lane, doing.place, &text)?;
                 self.call(call, Some(*doing), space)
             }
             Event::Made(call) | Event::Taken(call) | Event::Replied(call) => {
@@ -139,16 +147,28 @@ impl Drawing<'_> {
         }
     }
 
-    /// Threads that come and go.
+    /// Threads that come and go, and what they are called.
     fn entry(&mut self, entry: &Entry<'_>, facts: &Facts) -> Result<()> {
-        let (pid, place) = match facts.pid {
-            Some(pid) => (pid, entry.place),
+        let pid = match facts.pid {
+            Some(pid) => pid,
             None => return Ok(()),
         };
+        self.life(entry, pid, facts.time)?;
+        if let (Some(person), Some(lane)) = (&facts.person, self.live.get(&(pid, entry.seat))) {
+            self.lanes[*lane].name.get_or_insert_with(|| match person.tid {
+                Some(tid) => format!("{} {tid}", person.comm),
+                None => person.comm.to_string(),
+            });
+        }
+        Ok(())
+    }
+
+    fn life(&mut self, entry: &Entry<'_>, pid: u32, time: Option<Moment>) -> Result<()> {
+        let place = entry.place;
         match (&entry.step, &entry.answer) {
             (_, Answer::Opened) => {
                 let lane = self.lane(pid, entry.seat, Some(place));
-                self.dot("life", lane, place, &format!("{} pid {pid}", entry.step.name()))
+                self.dot("life", lane, place, &format!("{} pid {pid}{}", entry.step.name(), at_words(time)))
             }
             (Step::Manager, Answer::Set) => {
                 let lane = self.lane(pid, entry.seat, None);
@@ -171,6 +191,11 @@ impl Drawing<'_> {
         }
         Ok(())
     }
+}
+
+/// When something was, behind what it was.
+fn at_words(time: Option<Moment>) -> String {
+    time.map_or(String::new(), |it| format!(", at {}", it.of_day()))
 }
 
 /// Nothing in the data may look like the end of the script that they stand in.

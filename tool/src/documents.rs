@@ -54,17 +54,23 @@ fn flags_and_objects_are_those_of_the_document() {
     }
 }
 
+/// The first and the last seat number of a row such as `1 to 16` or `32 to 65,536`.
+fn bounds(cell: &str) -> (u32, u32) {
+    let number = |it: &str| it.trim().replace(',', "").parse().expect("a number of seats");
+    let (least, most) = cell.split_once(" to ").expect("from one number to another");
+    (number(least), number(most))
+}
+
 #[test]
 fn versions_are_those_of_the_document() {
-    for version in &crate::journal::VERSIONS {
-        let mark = String::from_utf8_lossy(version.mark).into_owned();
-        let rows = rows();
-        let row = rows.iter().find(|it| it[0] == mark).expect("a row");
-        let mut bytes = [&version.mark[..], &[0; 8]].concat();
-        let most = row[1].rsplit(' ').next().and_then(|it| it.parse::<u8>().ok()).expect("1 to N");
-        bytes[8] = most;
-        assert!(crate::journal::Heading::read(&bytes).is_ok());
-        bytes[8] = most + 1;
-        assert!(crate::journal::Heading::read(&bytes).is_err());
+    let rows: Vec<_> = rows().into_iter().filter(|it| it[0].len() == 8 && it[0].starts_with("BNDJ")).collect();
+    assert!(rows.len() >= 2, "{rows:?}");
+    for row in rows {
+        let (least, most) = bounds(row[1]);
+        let taken = |seats: u32| {
+            let bytes = [row[0].as_bytes(), &seats.to_le_bytes(), &[0; 8]].concat();
+            crate::journal::Heading::read(&bytes).is_ok()
+        };
+        assert_eq!([least - 1, least, most, most + 1].map(taken), [false, true, true, false], "{row:?}");
     }
 }

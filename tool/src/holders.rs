@@ -5,10 +5,11 @@ use crate::show::{code_words, object_words};
 use crate::space::{Buffer, ObjectId, Process, Space, STRONG, WEAK};
 use anyhow::{bail, Result};
 use std::cmp::Reverse;
+use std::collections::BTreeMap;
 use std::io::{self, Write};
 
 /// At how many places of a journal one looks whether something grows.
-const LOOKS: usize = 8;
+const LOOKS: u64 = 8;
 
 /// Everything that holds an object.
 pub fn put_holders(to: &mut Vec<u8>, space: &Space, object: ObjectId) -> Result<()> {
@@ -91,8 +92,11 @@ fn look(space: &Space, process: &Process) -> Look {
 /// One of the numbers of a look.
 type Count = fn(&Look) -> u64;
 
+/// What was seen of each process, by the place of its Open.
+type Looks = BTreeMap<u64, Vec<Look>>;
+
 /// Looks at all processes of a space.
-fn look_at(space: &Space, looks: &mut std::collections::BTreeMap<u64, Vec<Look>>) {
+fn look_at(space: &Space, looks: &mut Looks) {
     for process in space.processes.values() {
         looks.entry(process.opened).or_default().push(look(space, process));
     }
@@ -165,15 +169,26 @@ fn put_asked(to: &mut Vec<u8>, space: &Space, most: usize) -> io::Result<()> {
     Ok(())
 }
 
+/// Goes to the end, and looks on the way; a journal that breaks off before it has no more looks from there on.
+fn look_often(player: &mut Player, end: u64, looks: &mut Looks) -> Result<()> {
+    for part in 1..=LOOKS {
+        // The heading may claim any number, so the product may not be made before the quotient.
+        let to = end / LOOKS * part + end % LOOKS * part / LOOKS;
+        player.play(to)?;
+        look_at(&player.space, looks);
+        if player.source.place() < to {
+            break;
+        }
+    }
+    Ok(())
+}
+
 /// Buffers that were read and not freed, references that were asked for again and again, and what grows.
 pub fn put_leaks(to: &mut Vec<u8>, player: &mut Player, place: Option<u64>, most: usize) -> Result<()> {
-    let count = u64::from(player.source.heading().count);
-    let end = place.unwrap_or(count);
-    let mut looks = std::collections::BTreeMap::new();
-    for part in 1..=LOOKS as u64 {
-        let to = end * part / LOOKS as u64;
-        player.play(to)?;
-        look_at(&player.space, &mut looks);
+    let mut looks = Looks::new();
+    match place.or(player.source.heading().count) {
+        Some(end) => look_often(player, end, &mut looks)?,
+        None => player.play(u64::MAX)?,
     }
     if let Some(place) = place {
         player.until(place)?;

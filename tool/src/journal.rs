@@ -1,26 +1,59 @@
 // SPDX-License-Identifier: Apache-2.0 OR MIT
 //! Journals as docs/FORMATS.md lays them out: the heading, and entry by entry what stands behind it.
 use crate::codes::{self, Message, Unread};
-use crate::record::{u32_at, Parcel};
+use crate::record::{u32_at, u64_at, Parcel};
 use crate::refusals::{Kind, Reason};
 use std::fmt;
+use std::ops::RangeInclusive;
 
-pub const HEADING_SIZE: usize = 16;
-/// What the heading says while entries are still to come.
-pub const STILL_WRITTEN: u32 = u32::MAX;
+/// What tells the versions apart.
+pub const MARK_SIZE: usize = 8;
+/// The longest heading of all versions.
+pub const MOST_HEADING: usize = 20;
 
 /// A version of the format: what it begins with, and what it can say. A new one is a row here.
 #[derive(Debug, PartialEq, Eq)]
 pub struct Version {
-    pub mark: &'static [u8; 8],
-    most_seats: u32,
+    pub mark: &'static [u8; MARK_SIZE],
+    seats: RangeInclusive<u32>,
     says_spam: bool,
+    /// Whether the heading counts entries in eight bytes, not in four.
+    counts_long: bool,
 }
 
-pub static VERSIONS: [Version; 2] = [
-    Version { mark: b"BNDJ0001", most_seats: 16, says_spam: false },
-    Version { mark: b"BNDJ0002", most_seats: 31, says_spam: true },
+pub static VERSIONS: [Version; 3] = [
+    Version { mark: b"BNDJ0001", seats: 1..=16, says_spam: false, counts_long: false },
+    Version { mark: b"BNDJ0002", seats: 1..=31, says_spam: true, counts_long: false },
+    Version { mark: b"BNDJ0003", seats: 32..=65536, says_spam: true, counts_long: true },
 ];
+
+impl Version {
+    /// The version that these bytes begin with.
+    pub fn of(bytes: &[u8]) -> Result<&'static Version, Fault> {
+        let mark = &bytes[..bytes.len().min(MARK_SIZE)];
+        match VERSIONS.iter().find(|it| it.mark[..] == *mark) {
+            Some(version) => Ok(version),
+            None => fault(0, format!("no journal: it begins with \"{}\"", mark.escape_ascii())),
+        }
+    }
+
+    pub fn heading_size(&self) -> usize {
+        if self.counts_long {
+            MOST_HEADING
+        } else {
+            16
+        }
+    }
+
+    /// How many entries the heading says there are; all ones while they are still to come.
+    fn count(&self, heading: &[u8]) -> Option<u64> {
+        if self.counts_long {
+            Some(u64_at(heading, 12)).filter(|it| *it != u64::MAX)
+        } else {
+            Some(u32_at(heading, 12)).filter(|it| *it != u32::MAX).map(u64::from)
+        }
+    }
+}
 
 /// What is wrong with a journal, and at which byte of the file.
 #[derive(Debug, PartialEq, Eq)]
@@ -46,24 +79,22 @@ fn fault<T>(at: u64, what: impl Into<String>) -> Result<T, Fault> {
 pub struct Heading {
     pub version: &'static Version,
     pub seats: u32,
-    pub count: u32,
+    /// How many entries there are; None while they are still written.
+    pub count: Option<u64>,
 }
 
 impl Heading {
     pub fn read(bytes: &[u8]) -> Result<Heading, Fault> {
-        let mark = &bytes[..bytes.len().min(8)];
-        let version = match VERSIONS.iter().find(|it| it.mark[..] == *mark) {
-            Some(version) => version,
-            None => return fault(0, format!("no journal: it begins with \"{}\"", mark.escape_ascii())),
-        };
-        if bytes.len() < HEADING_SIZE {
-            return fault(bytes.len() as u64, format!("the heading has {HEADING_SIZE} bytes, and the file ends here"));
+        let version = Version::of(bytes)?;
+        let size = version.heading_size();
+        if bytes.len() < size {
+            return fault(bytes.len() as u64, format!("the heading has {size} bytes, and the file ends here"));
         }
-        let seats = u32_at(bytes, 8);
-        if seats == 0 || seats > version.most_seats {
-            return fault(8, format!("{seats} seats, where this version has 1 to {}", version.most_seats));
+        let (seats, has) = (u32_at(bytes, 8), &version.seats);
+        if !has.contains(&seats) {
+            return fault(8, format!("{seats} seats, where this version has {} to {}", has.start(), has.end()));
         }
-        Ok(Heading { version, seats, count: u32_at(bytes, 12) })
+        Ok(Heading { version, seats, count: version.count(bytes) })
     }
 }
 
@@ -320,7 +351,7 @@ mod tests {
     #[test]
     fn the_shortest_run_is_read() {
         let heading = Heading::read(&SHORTEST).unwrap();
-        assert_eq!((heading.seats, heading.count), (1, 1));
+        assert_eq!((heading.seats, heading.count), (1, Some(1)));
         assert_eq!(extent(&SHORTEST[16..]), Extent::Whole(26));
         let entry = entry(&heading, 0, 16, &SHORTEST[16..]).unwrap();
         assert_eq!(entry.step, Step::Open { pid: 100, euid: 1000, window: 4096 });
@@ -360,5 +391,29 @@ mod tests {
         bytes[7] = b'9';
         assert_eq!(Heading::read(&bytes).unwrap_err().to_string(), "byte 0: no journal: it begins with \"BNDJ0009\"");
         assert_eq!(Heading::read(&SHORTEST[..12]).unwrap_err().at, 12);
+    }
+
+    fn third(seats: u32, count: u64) -> Vec<u8> {
+        [&b"BNDJ0003"[..], &seats.to_le_bytes(), &count.to_le_bytes()].concat()
+    }
+
+    #[test]
+    fn the_third_version_counts_seats_and_entries_further() {
+        let told = |seats, count| Heading::read(&third(seats, count)).map(|it| (it.seats, it.count));
+        assert_eq!(told(32, 1 << 40), Ok((32, Some(1 << 40))));
+        assert_eq!(told(65_536, u64::MAX), Ok((65_536, None)));
+        assert_eq!(told(32, u64::from(u32::MAX)), Ok((32, Some(u64::from(u32::MAX)))), "only all ones of eight bytes");
+        let fault = |seats| told(seats, 0).unwrap_err().to_string();
+        assert_eq!(fault(31), "byte 8: 31 seats, where this version has 32 to 65536");
+        assert_eq!(fault(65_537), "byte 8: 65537 seats, where this version has 32 to 65536");
+        let cut = Heading::read(&third(32, 0)[..19]).unwrap_err();
+        assert_eq!(cut.to_string(), "byte 19: the heading has 20 bytes, and the file ends here");
+    }
+
+    #[test]
+    fn the_second_version_is_still_written_with_four_bytes_of_ones() {
+        let mut bytes = SHORTEST;
+        bytes[12..16].copy_from_slice(&[0xff; 4]);
+        assert_eq!(Heading::read(&bytes).unwrap().count, None);
     }
 }

@@ -5,8 +5,10 @@ use crate::journal::{Answer, Entry, Step};
 use crate::parcel;
 use crate::record::{Parcel, Record};
 use crate::refusals::Kind;
-use crate::show::spans;
+use crate::show::{person_words, spans};
 use crate::space::{About, Facts, ObjectId, Sent, Space};
+use crate::times::Moment;
+use crate::who::Person;
 use serde::{Serialize, Serializer};
 
 /// A number as a text in hex, since many readers keep only 53 bits.
@@ -142,6 +144,28 @@ struct Returned {
     said: Said,
     #[serde(skip_serializing_if = "Option::is_none")]
     about: Option<Origin>,
+    /// How many nanoseconds after the call was made.
+    #[serde(skip_serializing_if = "Option::is_none")]
+    age: Option<u64>,
+}
+
+/// Who sits on a seat.
+#[derive(Serialize)]
+pub struct ToldPerson {
+    pid: u32,
+    tid: Option<u32>,
+    comm: String,
+}
+
+impl ToldPerson {
+    pub fn new(person: &Person) -> ToldPerson {
+        ToldPerson { pid: person.pid, tid: person.tid, comm: person.comm.to_string() }
+    }
+
+    /// Behind a seat of this process.
+    pub fn words(&self, process: u32) -> String {
+        person_words(self.pid, self.tid, &self.comm, Some(process))
+    }
 }
 
 /// What a return is about.
@@ -206,7 +230,12 @@ fn answered(space: &Space, answer: &Answer<'_>, facts: &Facts) -> Answered {
         },
         Answer::Got { stream, .. } => {
             let about = |index: usize| facts.about.get(index).and_then(|it| origin(space, it));
-            let returned = |(index, it): (usize, Message)| Returned { said: Said::message(&it), about: about(index) };
+            let age = |index: usize| facts.ages.get(index).copied().flatten();
+            let returned = |(index, it): (usize, Message)| Returned {
+                said: Said::message(&it),
+                about: about(index),
+                age: age(index),
+            };
             let returns = Returns(stream).flatten().enumerate().map(returned).collect();
             Answered { bytes: Some(stream.len()), returns: Some(returns), ..named("got") }
         }
@@ -271,8 +300,12 @@ fn told_parcel<'a>(parcel: &Parcel<'a>, space: &Space, facts: &Facts, most: usiz
 #[derive(Serialize)]
 struct Told<'a> {
     place: u64,
+    #[serde(skip_serializing_if = "Option::is_none")]
+    time: Option<String>,
     seat: u32,
     pid: Option<u32>,
+    #[serde(skip_serializing_if = "Option::is_none")]
+    thread: Option<ToldPerson>,
     step: Said,
     answer: Answered,
     #[serde(skip_serializing_if = "Option::is_none")]
@@ -301,8 +334,10 @@ pub fn put_entry(
     let parcel = parcel.filter(|it| !it.data.is_empty() || !it.offsets.is_empty());
     let told = Told {
         place: entry.place,
+        time: facts.time.map(Moment::universal),
         seat: entry.seat,
         pid: facts.pid,
+        thread: facts.person.as_ref().map(ToldPerson::new),
         step: Said::request(&entry.step),
         answer: answered(space, &entry.answer, facts),
         object: facts.object.map(|it| object(space, it)),

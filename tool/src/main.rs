@@ -3,6 +3,7 @@
 #![warn(rust_2018_idioms)]
 
 mod arguments;
+mod beside;
 mod calls;
 mod codes;
 mod diagram;
@@ -19,45 +20,48 @@ mod parcel;
 mod play;
 mod record;
 mod refusals;
+mod script;
 mod select;
 mod show;
 mod source;
 mod space;
 mod state;
 mod stats;
+mod times;
+mod who;
 mod wrapped;
 
 use anyhow::{bail, Result};
-use arguments::{Arguments, Explain, Export, Form, Format, Holders, Show, State, Word};
+use arguments::{Arguments, Explain, Export, Form, Format, Holders, Script, Show, State, Word};
 use clap::Parser;
 use out::{Out, Palette};
 use play::Player;
+use script::Setting;
 use show::Style;
 use std::io;
 use std::process::ExitCode;
 
 fn show(given: &Show, out: &mut Out, style: &Style) -> Result<()> {
     let mut player = Player::open(&given.journal, given.follow)?;
-    player.check(given.range)?;
-    player.jump(given.range.from)?;
-    while given.range.to.map_or(true, |to| player.source.place() < to) {
-        let (entry, space, facts) = match player.next(|| Ok(out.flush()?))? {
-            Some(next) => next,
-            None => {
-                out.flush()?;
-                return player.ended(given.range);
-            }
+    if given.selection.is_by_name() {
+        player.check_names()?;
+    }
+    let bounds = player.bounds(given.range)?;
+    player.jump(bounds.from)?;
+    player.each_within(&bounds, |seen| {
+        let (entry, space, facts) = match seen {
+            Some(seen) => seen,
+            None => return Ok(out.flush()?),
         };
-        if entry.place < given.range.from || !given.selection.wants(&entry, facts) {
-            continue;
+        if !given.selection.wants(entry, facts) {
+            return Ok(());
         }
         match given.format {
-            Format::Text => show::put_entry(&mut out.held, style, &entry, space, facts)?,
-            Format::Json => json::put_entry(&mut out.held, given.bytes, &entry, space, facts)?,
+            Format::Text => show::put_entry(&mut out.held, style, entry, space, facts)?,
+            Format::Json => json::put_entry(&mut out.held, given.bytes, entry, space, facts)?,
         }
-        out.pass()?;
-    }
-    Ok(())
+        Ok(out.pass()?)
+    })
 }
 
 fn state(given: &State, out: &mut Out) -> Result<()> {
@@ -66,10 +70,10 @@ fn state(given: &State, out: &mut Out) -> Result<()> {
         let (before, after) = (state::at(&given.journal, Some(before))?, state::at(&given.journal, Some(after))?);
         return Ok(state::put_difference(to, &before, &after)?);
     }
-    let space = state::at(&given.journal, given.at)?;
+    let player = state::at(&given.journal, given.at)?;
     match given.format {
-        Format::Text => Ok(state::put_text(to, &space)?),
-        Format::Json => state::put_json(to, &space),
+        Format::Text => Ok(state::put_text(to, &player)?),
+        Format::Json => state::put_json(to, &player),
     }
 }
 
@@ -86,7 +90,7 @@ fn explain(given: &Explain, out: &mut Out, style: &Style) -> Result<()> {
 }
 
 fn holders(given: &Holders, out: &mut Out) -> Result<()> {
-    holders::put_holders(&mut out.held, &state::at(&given.journal, given.at)?, given.object)
+    holders::put_holders(&mut out.held, &state::at(&given.journal, given.at)?.space, given.object)
 }
 
 fn export(given: &Export, out: &mut Out) -> Result<()> {
@@ -95,6 +99,12 @@ fn export(given: &Export, out: &mut Out) -> Result<()> {
         Form::Perfetto => export::perfetto::export(&mut player, given.span.range(), out),
         Form::Pcapng => export::pcapng::export(&mut player, given.span.range(), out),
     }
+}
+
+fn script(given: &Script, out: &mut Out) -> Result<()> {
+    let (player, journal) = (given.run.as_deref(), given.journal.as_deref());
+    let emit = given.emit.as_deref();
+    script::script(&script::Asked { path: &given.file, player, turns: given.turns, journal, emit }, &mut out.held)
 }
 
 fn run(arguments: &Arguments, out: &mut Out) -> Result<()> {
@@ -106,7 +116,9 @@ fn run(arguments: &Arguments, out: &mut Out) -> Result<()> {
         Word::State(given) => state(given, out),
         Word::Holders(given) => holders(given, out),
         Word::Leaks(given) => {
-            holders::put_leaks(&mut out.held, &mut Player::open(&given.journal, false)?, given.at, given.most)
+            let mut player = Player::open(&given.journal, false)?;
+            let at = given.at.map(|it| player.place(it)).transpose()?;
+            holders::put_leaks(&mut out.held, &mut player, at, given.most)
         }
         Word::Stats(given) => stats::stats(&mut Player::open(&given.journal, false)?, given.range, &mut out.held),
         Word::Slow(given) => {
@@ -115,6 +127,8 @@ fn run(arguments: &Arguments, out: &mut Out) -> Result<()> {
         Word::Export(given) => export(given, out),
         Word::Diagram(given) => diagram::put(&mut Player::open(&given.journal, false)?, given.range, out),
         Word::Index { journal } => index::make(journal),
+        Word::Script(given) => script(given, out),
+        Word::Repl { run, turns } => script::repl(Setting { player: run.clone(), turns: *turns }, style(1024)),
     }
 }
 

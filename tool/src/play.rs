@@ -1,13 +1,16 @@
 // SPDX-License-Identifier: Apache-2.0 OR MIT
 //! A journal that is gone through, entry by entry, with what its steps come to.
+use crate::beside::Beside;
 use crate::index;
 use crate::journal::Entry;
 use crate::source::{End, Source};
 use crate::space::{Facts, Space};
+use crate::times::TimeWord;
 use anyhow::{bail, Context, Result};
 use clap::Args;
+use std::str::FromStr;
 
-/// A range of places.
+/// A range of places, and of times where these lie beside the journal.
 #[derive(Args, Clone, Copy, Debug, Default)]
 pub struct Range {
     /// From this place on
@@ -16,19 +19,129 @@ pub struct Range {
     /// Up to and without this place
     #[arg(long, value_name = "PLACE")]
     pub to: Option<u64>,
+    /// From this time on: 12:03:07.5, 2026-11-28T12:03:07.5, or +1.5 for seconds after the first entry
+    #[arg(long, value_name = "TIME")]
+    pub since: Option<TimeWord>,
+    /// Up to and without this time
+    #[arg(long, value_name = "TIME")]
+    pub until: Option<TimeWord>,
 }
+
+/// A place, or the time from which on it is sought.
+#[derive(Clone, Copy, Debug, PartialEq, Eq)]
+pub enum Spot {
+    Place(u64),
+    Time(TimeWord),
+}
+
+impl FromStr for Spot {
+    type Err = String;
+
+    fn from_str(word: &str) -> Result<Spot, String> {
+        match word.parse() {
+            Ok(place) => Ok(Spot::Place(place)),
+            Err(_) => word.parse().map(Spot::Time).map_err(|it| format!("neither a place, nor a time: {it}")),
+        }
+    }
+}
+
+/// A range whose times are those of the monotonic clock.
+#[derive(Clone, Copy, Debug)]
+pub struct Bounds {
+    range: Range,
+    /// The first place that may be wanted.
+    pub from: u64,
+    since: Option<u64>,
+    until: Option<u64>,
+}
+
+/// Where an entry lies.
+#[derive(Clone, Copy, Debug, PartialEq, Eq)]
+pub enum Lies {
+    Before,
+    Within,
+    Behind,
+}
+
+impl Bounds {
+    /// Whether the next entry may be wanted.
+    fn go_on(&self, place: u64) -> bool {
+        self.range.to.map_or(true, |to| place < to)
+    }
+
+    fn lies(&self, place: u64, facts: &Facts) -> Lies {
+        let clock = facts.time.map(|it| it.clock);
+        let is_by = |bound: Option<u64>, is: fn(u64, u64) -> bool| match (bound, clock) {
+            (Some(bound), Some(clock)) => is(clock, bound),
+            // Nobody knows when that was, so it is in no period.
+            (Some(_), None) => false,
+            (None, _) => true,
+        };
+        if self.until.is_some() && clock.is_some() && !is_by(self.until, |clock, until| clock < until) {
+            return Lies::Behind;
+        }
+        let is_within = place >= self.from
+            && is_by(self.since, |clock, since| clock >= since)
+            && is_by(self.until, |clock, until| clock < until);
+        if is_within {
+            Lies::Within
+        } else {
+            Lies::Before
+        }
+    }
+}
+
+/// An entry with what its step has come to.
+pub type Seen<'a> = (&'a Entry<'a>, &'a Space, &'a Facts);
 
 pub struct Player {
     path: String,
     pub source: Source,
     pub space: Space,
+    pub beside: Beside,
     facts: Facts,
 }
 
 impl Player {
     pub fn open(path: &str, follows: bool) -> Result<Player> {
         let source = Source::open(path, follows).with_context(|| name(path))?;
-        Ok(Player { path: path.into(), source, space: Space::default(), facts: Facts::default() })
+        let beside = Beside::open(path, follows);
+        Ok(Player { path: path.into(), source, space: Space::default(), beside, facts: Facts::default() })
+    }
+
+    /// What a range comes to in this journal.
+    pub fn bounds(&mut self, range: Range) -> Result<Bounds> {
+        match range.to {
+            Some(to) if to < range.from => bail!("--to {to} lies before --from {}", range.from),
+            _ => {}
+        }
+        let since = range.since.map(|it| self.clock(it)).transpose()?;
+        let until = range.until.map(|it| self.clock(it)).transpose()?;
+        let first = match since {
+            Some(since) => self.beside.times(&self.path)?.first_at(since),
+            None => 0,
+        };
+        Ok(Bounds { range, from: range.from.max(first), since, until })
+    }
+
+    fn clock(&mut self, word: TimeWord) -> Result<u64> {
+        self.beside.times(&self.path)?.clock(word)
+    }
+
+    /// The place that a word means: of a time how many entries there were before.
+    pub fn place(&mut self, spot: Spot) -> Result<u64> {
+        match spot {
+            Spot::Place(place) => Ok(place),
+            Spot::Time(word) => {
+                let clock = self.clock(word)?;
+                Ok(self.beside.times(&self.path)?.first_at(clock))
+            }
+        }
+    }
+
+    /// Sees that threads have names, where one chooses by them.
+    pub fn check_names(&self) -> Result<()> {
+        self.beside.check_names(&self.path)
     }
 
     /// Goes to the nearest place before this one that an index beside the file knows.
@@ -51,25 +164,40 @@ impl Player {
 
     /// Makes the next step. None behind the last.
     pub fn next(&mut self, idle: impl FnMut() -> Result<()>) -> Result<Option<(Entry<'_>, &Space, &Facts)>> {
-        let Player { path, source, space, facts } = self;
+        let Player { path, source, space, beside, facts } = self;
         let entry = source.next_or(idle).with_context(|| name(path))?;
         Ok(entry.map(|entry| {
             space.step(&entry, facts);
+            beside.tell(entry.place, entry.seat, facts);
             (entry, &*space, &*facts)
         }))
     }
 
-    /// Calls this for each entry of the range, and stops where it says so.
-    pub fn each(&mut self, range: Range, mut call: impl FnMut(&Entry<'_>, &Space, &Facts) -> Result<()>) -> Result<()> {
-        self.check(range)?;
-        while range.to.map_or(true, |to| self.source.place() < to) {
-            match self.next(|| Ok(()))? {
-                Some((entry, space, facts)) if entry.place >= range.from => call(&entry, space, facts)?,
-                Some(_) => {}
-                None => return self.ended(range),
+    /// Calls this for each entry within bounds, and with None before each wait for more and at the end of the journal.
+    pub fn each_within(&mut self, bounds: &Bounds, mut call: impl FnMut(Option<Seen<'_>>) -> Result<()>) -> Result<()> {
+        while bounds.go_on(self.source.place()) {
+            match self.next(|| call(None))? {
+                Some((entry, space, facts)) => match bounds.lies(entry.place, facts) {
+                    Lies::Before => {}
+                    Lies::Within => call(Some((&entry, space, facts)))?,
+                    Lies::Behind => return Ok(()),
+                },
+                None => {
+                    call(None)?;
+                    return self.ended(bounds.range);
+                }
             }
         }
         Ok(())
+    }
+
+    /// Calls this for each entry of the range.
+    pub fn each(&mut self, range: Range, mut call: impl FnMut(&Entry<'_>, &Space, &Facts) -> Result<()>) -> Result<()> {
+        let bounds = self.bounds(range)?;
+        self.each_within(&bounds, |seen| match seen {
+            Some((entry, space, facts)) => call(entry, space, facts),
+            None => Ok(()),
+        })
     }
 
     /// Makes the steps before a place, as far as there are any; at the end of the journal it says how that ends.
@@ -87,17 +215,10 @@ impl Player {
         self.jump(place)?;
         while self.source.place() < place {
             if self.next(|| Ok(()))?.is_none() {
-                return self.ended(Range { from: place, to: None });
+                return self.ended(Range { from: place, ..Range::default() });
             }
         }
         Ok(())
-    }
-
-    pub fn check(&self, range: Range) -> Result<()> {
-        match range.to {
-            Some(to) if to < range.from => bail!("--to {to} lies before --from {}", range.from),
-            _ => Ok(()),
-        }
     }
 
     /// At the end of the journal: whether it was cut off, and whether the range had its places.

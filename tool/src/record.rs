@@ -103,6 +103,10 @@ pub static KINDS: [(Kind, u32, &str); 7] = [
 ];
 
 impl Kind {
+    pub fn number(self) -> u32 {
+        KINDS.iter().find(|it| it.0 == self).map_or(0, |it| it.1)
+    }
+
     pub fn name(self) -> &'static str {
         KINDS.iter().find(|it| it.0 == self).map_or("?", |it| it.2)
     }

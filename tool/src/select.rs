@@ -4,6 +4,7 @@ use crate::codes::{Payload, Returns, COMMANDS, RETURNS};
 use crate::journal::{Answer, Entry, Step};
 use crate::record::Parcel;
 use crate::space::{About, Facts, ObjectId};
+use crate::who::Person;
 use clap::Args;
 use std::num::ParseIntError;
 
@@ -15,6 +16,12 @@ pub struct Selection {
     /// Only entries of this process; may be given again
     #[arg(long, value_name = "PID")]
     pub pid: Vec<u32>,
+    /// Only entries of this thread, where JOURNAL.who has its name; may be given again
+    #[arg(long, value_name = "TID")]
+    pub tid: Vec<u32>,
+    /// Only entries of threads that are called so, where JOURNAL.who has their names; may be given again
+    #[arg(long, value_name = "NAME")]
+    pub comm: Vec<String>,
     /// Only entries of this seat: a journal numbers threads by the seats they sit on; may be given again
     #[arg(long, value_name = "SEAT")]
     pub seat: Vec<u32>,
@@ -65,15 +72,32 @@ fn name(word: &str) -> Result<String, String> {
 }
 
 impl Selection {
+    /// Whether it asks for what lies beside a journal.
+    pub fn is_by_name(&self) -> bool {
+        !self.tid.is_empty() || !self.comm.is_empty()
+    }
+
+    fn names(&self, person: &Person) -> bool {
+        (self.tid.is_empty() || person.tid.map_or(false, |it| self.tid.contains(&it)))
+            && (self.comm.is_empty() || self.comm.iter().any(|it| **it == *person.comm))
+    }
+
     pub fn wants(&self, entry: &Entry<'_>, facts: &Facts) -> bool {
         (!self.refused || entry.is_refused())
-            && (self.pid.is_empty() || facts.pid.map_or(false, |it| self.pid.contains(&it)))
+            && (self.pid.is_empty() || is_of(facts, &self.pid))
+            && (!self.is_by_name() || facts.person.as_ref().map_or(false, |it| self.names(it)))
             && (self.seat.is_empty() || self.seat.contains(&entry.seat))
             && (self.command.is_empty() || self.command.iter().any(|it| is_called(entry, it)))
             && self.code.map_or(true, |it| has_code(entry, it))
             && self.handle.map_or(true, |it| has_handle(entry, it))
             && self.object.map_or(true, |it| is_about(facts, it))
     }
+}
+
+/// Whether a process has one of these pids, in the history or where it ran.
+fn is_of(facts: &Facts, pids: &[u32]) -> bool {
+    let ran = facts.person.as_ref().map(|it| it.pid);
+    facts.pid.into_iter().chain(ran).any(|it| pids.contains(&it))
 }
 
 fn is_called(entry: &Entry<'_>, name: &str) -> bool {

@@ -6,6 +6,7 @@ use crate::out::Palette;
 use crate::parcel;
 use crate::record::{Flat, Parcel, Record, FLAGS, OBJECT_SIZE};
 use crate::space::{About, Carried, Facts, ObjectId, Sent, Space};
+use crate::times::duration_words;
 use crate::wrapped::Wrapped;
 use std::io::{self, Write};
 
@@ -28,6 +29,13 @@ pub fn object_words(space: &Space, object: ObjectId) -> String {
         },
         None => object.to_string(),
     }
+}
+
+/// Behind a pid or a seat: ` (tid 815 "sensors")`, and the system's pid where the history has another one.
+pub fn person_words(pid: u32, tid: Option<u32>, comm: &str, process: Option<u32>) -> String {
+    let pid = if process == Some(pid) { String::new() } else { format!("pid {pid} ") };
+    let tid = tid.map_or(String::new(), |it| format!("tid {it} "));
+    format!(" ({pid}{tid}{comm:?})")
 }
 
 /// A transaction's or a reply's code, with its letters.
@@ -53,12 +61,20 @@ pub fn put_entry(to: &mut Lines, style: &Style, entry: &Entry<'_>, space: &Space
 
 /// The first line of an entry, which says all but what it read and its parcel.
 pub fn put_line(to: &mut Lines, style: &Style, entry: &Entry<'_>, space: &Space, facts: &Facts) -> io::Result<()> {
-    let Palette { place, name, refused, plain, .. } = &style.palette;
-    write!(to, "{place}{}{plain} seat {} ", entry.place, entry.seat)?;
-    match facts.pid {
-        Some(pid) => write!(to, "pid {pid} {name}")?,
-        None => write!(to, "pid - {name}")?,
+    let Palette { place, name, refused, about, plain, .. } = &style.palette;
+    write!(to, "{place}{}{plain} ", entry.place)?;
+    if let Some(time) = facts.time {
+        write!(to, "{place}{}{plain} ", time.of_day())?;
     }
+    write!(to, "seat {} pid ", entry.seat)?;
+    match facts.pid {
+        Some(pid) => write!(to, "{pid}")?,
+        None => to.push(b'-'),
+    }
+    if let Some(it) = &facts.person {
+        write!(to, "{about}{}{plain}", person_words(it.pid, it.tid, &it.comm, facts.pid))?;
+    }
+    write!(to, " {name}")?;
     match &entry.step {
         Step::Open { pid, euid, window } => write!(to, "open{plain} pid {pid} euid {euid} window {window}")?,
         Step::Attach { pid } => write!(to, "attach{plain} pid {pid}")?,
@@ -115,7 +131,7 @@ fn put_command(to: &mut Lines, style: &Style, command: &Message, space: &Space, 
         }
         Payload::Buffer(buffer) => {
             write!(to, " buffer {buffer:#x}")?;
-            facts.about.iter().try_for_each(|it| put_origin(to, style, it, space))
+            facts.about.iter().try_for_each(|it| put_origin(to, style, it, None, space))
         }
         Payload::Handle(handle) => {
             write!(to, " handle {handle}")?;
@@ -150,17 +166,18 @@ fn put_record(to: &mut Lines, record: &Record) -> io::Result<()> {
     write!(to, " data_size {} offsets_size {}", record.data_size, record.offsets_size)
 }
 
-/// What a return is about, in brackets.
-fn put_origin(to: &mut Lines, style: &Style, about: &About, space: &Space) -> io::Result<()> {
+/// What a return is about, in brackets, and how long ago the call was made.
+fn put_origin(to: &mut Lines, style: &Style, about: &About, age: Option<u64>, space: &Space) -> io::Result<()> {
     let Palette { about: colour, plain, .. } = &style.palette;
+    let age = age.map_or(String::new(), |it| format!(", {} ago", duration_words(it)));
     match about {
         About::Nothing => Ok(()),
         About::Sent(sent) => {
             write!(to, " {colour}(")?;
             put_sent(to, sent, space)?;
-            write!(to, "){plain}")
+            write!(to, "{age}){plain}")
         }
-        About::Call(place) => write!(to, " {colour}(for {place}){plain}"),
+        About::Call(place) => write!(to, " {colour}(for {place}{age}){plain}"),
         About::Object(object) => put_about(to, style, space, Some(*object)),
         About::Death(made, object) => {
             write!(to, " {colour}({}, asked for at {made}){plain}", object_words(space, *object))
@@ -197,7 +214,7 @@ fn put_returns(
             }
         };
         put_return(to, style, &message)?;
-        put_origin(to, style, about, space)?;
+        put_origin(to, style, about, facts.ages.get(index).copied().flatten(), space)?;
         to.push(b'\n');
         if message.record().is_some() {
             let sender = if let About::Sent(sent) = about { Some(sent.pid) } else { None };

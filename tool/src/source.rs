@@ -2,7 +2,7 @@
 //! Where entries come from: a file, a pipe, or a file that still grows. One entry is held at a time.
 //!
 //! Nothing is mapped into memory: who writes a recording may cut it, and a mapping of what is gone ends its reader.
-use crate::journal::{entry, extent, Entry, Extent, Fault, Heading, HEADING_SIZE, STILL_WRITTEN};
+use crate::journal::{entry, extent, Entry, Extent, Fault, Heading, Version, MARK_SIZE, VERSIONS};
 use anyhow::{Context, Result};
 use std::fs::File;
 use std::io::{self, ErrorKind, Read, Seek, SeekFrom};
@@ -60,12 +60,14 @@ impl Source {
             "-" => Input::Stdin(io::stdin()),
             _ => Input::File(File::open(path)?),
         };
-        let heading = Heading { version: &crate::journal::VERSIONS[0], seats: 1, count: 0 };
+        let heading = Heading { version: &VERSIONS[0], seats: 1, count: None };
         let mut source = Source { input, heading, held: Vec::new(), filled: 0, used: 0, place: 0, at: 0, follows };
-        source.has(HEADING_SIZE)?;
-        source.heading = Heading::read(&source.held[..source.filled.min(HEADING_SIZE)])?;
-        source.used = HEADING_SIZE;
-        source.at = HEADING_SIZE as u64;
+        source.has(MARK_SIZE)?;
+        let size = Version::of(&source.held[..source.filled])?.heading_size();
+        source.has(size)?;
+        source.heading = Heading::read(&source.held[..source.filled.min(size)])?;
+        source.used = size;
+        source.at = size as u64;
         Ok(source)
     }
 
@@ -148,13 +150,13 @@ impl Source {
 
     /// Whether the heading knows how many entries there are, and they have all been read.
     fn is_done(&self) -> bool {
-        self.heading.count != STILL_WRITTEN && self.place == u64::from(self.heading.count)
+        self.heading.count == Some(self.place)
     }
 
     /// Looks whether who writes has said meanwhile how many entries there are.
     fn look_again(&mut self) -> Result<()> {
         if let Input::File(file) = &self.input {
-            let mut bytes = [0; HEADING_SIZE];
+            let mut bytes = vec![0; self.heading.version.heading_size()];
             file.read_exact_at(&mut bytes, 0)?;
             self.heading = Heading::read(&bytes)?;
         }

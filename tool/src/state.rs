@@ -1,8 +1,8 @@
 // SPDX-License-Identifier: Apache-2.0 OR MIT
 //! What each process has at a place: as lines, as JSON, and as what differs between two places.
 use crate::codes::return_name;
-use crate::json::{Hex, Word};
-use crate::play::Player;
+use crate::json::{Hex, ToldPerson, Word};
+use crate::play::{Player, Spot};
 use crate::space::{Buffer, Item, ItemKind, ObjectId, Process, Server, Space, Thread, Todo, STRONG, WEAK};
 use anyhow::Result;
 use serde::Serialize;
@@ -62,6 +62,8 @@ impl ToldItem {
 #[derive(Serialize)]
 struct ToldThread {
     seat: u32,
+    #[serde(skip_serializing_if = "Option::is_none")]
+    thread: Option<ToldPerson>,
     serves: Option<u64>,
     waits: Option<u64>,
     looping: bool,
@@ -143,11 +145,13 @@ fn items(space: &Space, process: &Process, todo: &Todo) -> Vec<ToldItem> {
     todo.iter().filter(|it| space.stands(process.opened, it)).map(ToldItem::new).collect()
 }
 
-fn thread(space: &Space, process: &Process, seat: u32, it: &Thread) -> ToldThread {
+fn thread(player: &Player, process: &Process, seat: u32, it: &Thread) -> ToldThread {
+    let space = &player.space;
     let innermost = it.frames.last().copied();
     let serves = innermost.filter(|it| space.frames.get(it).map_or(false, |it| it.server == Server::Seat(seat)));
     ToldThread {
         seat,
+        thread: player.beside.sitting(seat).map(ToldPerson::new),
         serves,
         waits: if serves.is_none() { innermost } else { None },
         looping: it.looping,
@@ -225,7 +229,8 @@ fn buffer(pointer: u64, it: &Buffer) -> ToldBuffer {
     }
 }
 
-fn process(space: &Space, it: &Process) -> ToldProcess {
+fn process(player: &Player, it: &Process) -> ToldProcess {
+    let space = &player.space;
     let threads = space.threads.iter().filter(|(_, thread)| thread.process == it.opened);
     let mut buffers: Vec<_> = it.room.iter().map(|(pointer, it)| buffer(pointer, it)).collect();
     buffers.sort_by_key(|it| it.made);
@@ -243,7 +248,7 @@ fn process(space: &Space, it: &Process) -> ToldProcess {
         opened: it.opened,
         spam_detection: it.spam,
         unread: items(space, it, &it.todo),
-        threads: threads.map(|(seat, thread)| self::thread(space, it, *seat, thread)).collect(),
+        threads: threads.map(|(seat, thread)| self::thread(player, it, *seat, thread)).collect(),
         objects: objects(space, it),
         handles: handles(space, it),
         buffers,
@@ -280,7 +285,8 @@ impl ToldProcess {
             |of: &str, it: &ToldItem| (format!("{of}unread since {}: {}", it.since, it.words()), String::new());
         lines.extend(self.unread.iter().map(|it| unread("", it)));
         for it in &self.threads {
-            lines.push((format!("seat {}", it.seat), thread_words(it)));
+            let person = it.thread.as_ref().map_or(String::new(), |person| person.words(self.pid));
+            lines.push((format!("seat {}{person}", it.seat), thread_words(it)));
             let of = format!("seat {} ", it.seat);
             lines.extend(it.unread.iter().map(|it| unread(&of, it)));
         }
@@ -341,16 +347,17 @@ fn buffer_line(it: &ToldBuffer) -> (String, String) {
     (format!("buffer {:#x} made at {}", it.buffer.0, it.made), rest)
 }
 
-fn told(space: &Space) -> impl Iterator<Item = ToldProcess> + '_ {
-    space.processes.values().map(move |it| process(space, it))
+fn told(player: &Player) -> impl Iterator<Item = ToldProcess> + '_ {
+    player.space.processes.values().map(move |it| process(player, it))
 }
 
-pub fn put_text(to: &mut Vec<u8>, space: &Space) -> io::Result<()> {
+pub fn put_text(to: &mut Vec<u8>, player: &Player) -> io::Result<()> {
+    let space = &player.space;
     writeln!(to, "after {} steps", space.steps)?;
     if let Some(manager) = space.manager {
         writeln!(to, "manager object {manager}")?;
     }
-    for process in told(space) {
+    for process in told(player) {
         writeln!(to, "{}", process.head())?;
         for (name, rest) in process.lines() {
             writeln!(to, "  {name}{rest}")?;
@@ -359,10 +366,11 @@ pub fn put_text(to: &mut Vec<u8>, space: &Space) -> io::Result<()> {
     Ok(())
 }
 
-pub fn put_json(to: &mut Vec<u8>, space: &Space) -> Result<()> {
+pub fn put_json(to: &mut Vec<u8>, player: &Player) -> Result<()> {
+    let space = &player.space;
     serde_json::to_writer(&mut *to, &ToldSpace { steps: space.steps, manager: space.manager.map(Word) })?;
     to.push(b'\n');
-    for process in told(space) {
+    for process in told(player) {
         serde_json::to_writer(&mut *to, &process)?;
         to.push(b'\n');
     }
@@ -370,11 +378,11 @@ pub fn put_json(to: &mut Vec<u8>, space: &Space) -> Result<()> {
 }
 
 /// Each line of a state by whose it is and what it is known by.
-fn known(space: &Space) -> BTreeMap<(u64, usize, String), String> {
+fn known(player: &Player) -> BTreeMap<(u64, usize, String), String> {
     let mut lines = BTreeMap::new();
-    let manager = space.manager.map_or("none".into(), |it| format!("object {it}"));
+    let manager = player.space.manager.map_or("none".into(), |it| format!("object {it}"));
     lines.insert((0, 0, "manager".into()), format!(" {manager}"));
-    for process in told(space) {
+    for process in told(player) {
         let of = |order: usize, name: String| (process.opened + 1, order, name);
         lines.insert(of(0, format!("pid {}", process.pid)), format!(": {}", process.head()));
         for (name, rest) in process.lines() {
@@ -385,7 +393,7 @@ fn known(space: &Space) -> BTreeMap<(u64, usize, String), String> {
 }
 
 /// What is different after the second place: lines that are there no more, and those that weren't.
-pub fn put_difference(to: &mut Vec<u8>, before: &Space, after: &Space) -> io::Result<()> {
+pub fn put_difference(to: &mut Vec<u8>, before: &Player, after: &Player) -> io::Result<()> {
     let (before, after) = (known(before), known(after));
     let mut keys: Vec<_> = before.keys().chain(after.keys()).collect();
     keys.sort();
@@ -404,10 +412,10 @@ pub fn put_difference(to: &mut Vec<u8>, before: &Space, after: &Space) -> io::Re
     Ok(())
 }
 
-/// The space after so many steps, or after all of them.
-pub fn at(path: &str, place: Option<u64>) -> Result<Space> {
+/// A journal after so many steps, or after all of them.
+pub fn at(path: &str, spot: Option<Spot>) -> Result<Player> {
     let mut player = Player::open(path, false)?;
-    match place {
+    match spot.map(|it| player.place(it)).transpose()? {
         Some(place) => player.until(place)?,
         None => {
             player.jump(u64::MAX)?;
@@ -415,5 +423,5 @@ pub fn at(path: &str, place: Option<u64>) -> Result<Space> {
             player.ended(Default::default())?;
         }
     }
-    Ok(player.space)
+    Ok(player)
 }

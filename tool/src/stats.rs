@@ -1,5 +1,5 @@
 // SPDX-License-Identifier: Apache-2.0 OR MIT
-//! What there is how often, and which calls took longest. A journal has no times: what is told of is entries.
+//! What there is how often, and which calls took longest: by the clock where the journal has times beside it, else in entries.
 use crate::calls::{Call, Calls, Doing, Event};
 use crate::codes::Returns;
 use crate::journal::{Answer, Entry};
@@ -7,10 +7,60 @@ use crate::play::{Player, Range};
 use crate::refusals::Reason;
 use crate::show::{code_words, object_words};
 use crate::space::{Facts, Space};
+use crate::times::{duration_words, Moment};
+use crate::who::Comms;
 use anyhow::Result;
 use std::cmp::Reverse;
 use std::collections::{BTreeMap, BinaryHeap, HashMap};
 use std::io::{self, Write};
+
+/// In what one tells how long something took.
+#[derive(Clone, Copy, Debug, Default, PartialEq, Eq)]
+enum Measure {
+    #[default]
+    Entries,
+    Nanoseconds,
+}
+
+impl Measure {
+    fn of(player: &Player) -> Measure {
+        if player.beside.has_times() {
+            Measure::Nanoseconds
+        } else {
+            Measure::Entries
+        }
+    }
+
+    /// How long it was; None where it is to be told in times and one of them isn't known.
+    fn between(self, from: Doing, to: Doing) -> Option<u64> {
+        match self {
+            Measure::Entries => Some(to.place - from.place),
+            Measure::Nanoseconds => to.since(from),
+        }
+    }
+
+    fn told(self, took: u64) -> String {
+        match self {
+            Measure::Entries => took.to_string(),
+            Measure::Nanoseconds => duration_words(took),
+        }
+    }
+
+    /// With its unit.
+    fn words(self, took: u64) -> String {
+        match self {
+            Measure::Entries => format!("{took} entries"),
+            Measure::Nanoseconds => duration_words(took),
+        }
+    }
+
+    fn what(self) -> &'static str {
+        match self {
+            Measure::Entries => "how many entries lie",
+            Measure::Nanoseconds => "how much time lies",
+        }
+    }
+}
 
 /// Calls that are counted together.
 #[derive(Clone, Debug, PartialEq, Eq, Hash)]
@@ -29,7 +79,7 @@ struct Sums {
     bytes: u64,
     reply_bytes: u64,
     failed: u64,
-    /// How many entries each took: a two-way call until its reply was read, a one-way call until it was.
+    /// How long each took: a two-way call until its reply was read, a one-way call until it was.
     took: Vec<u64>,
 }
 
@@ -51,11 +101,17 @@ pub struct Stats {
     refusals: BTreeMap<Reason, u64>,
     pairs: HashMap<Pair, Sums>,
     calls: Calls,
+    measure: Measure,
+    comms: Comms,
+    /// When the first entry was, and the last.
+    period: Option<(Moment, Moment)>,
 }
 
 impl Stats {
     fn add(&mut self, entry: &Entry<'_>, space: &Space, facts: &Facts) {
         self.entries += 1;
+        self.comms.learn(facts);
+        self.period = facts.time.map(|now| (self.period.map_or(now, |it| it.0), now)).or(self.period);
         *self.commands.entry(entry.step.name()).or_insert(0) += 1;
         match &entry.answer {
             Answer::Refused(reason) => *self.refusals.entry(*reason).or_insert(0) += 1,
@@ -91,13 +147,18 @@ impl Stats {
             _ => {}
         }
         if let (Some(ended), false) = (ended, matches!(event, Event::Failed(..))) {
-            sums.took.push(ended.place - call.made.place);
+            sums.took.extend(self.measure.between(call.made, ended));
             sums.reply_bytes = sums.reply_bytes.saturating_add(call.replied.map_or(0, |it| it.1));
         }
     }
 
     pub fn put(mut self, to: &mut Vec<u8>) -> io::Result<()> {
-        writeln!(to, "{} entries", self.entries)?;
+        write!(to, "{} entries", self.entries)?;
+        if let Some((first, last)) = self.period {
+            let took = duration_words(last.clock.saturating_sub(first.clock));
+            write!(to, ", from {} to {}, {took}", first.with_date(), last.with_date())?;
+        }
+        to.push(b'\n');
         for (title, counts) in [("commands and requests", &self.commands), ("returns", &self.returns)] {
             writeln!(to, "\n{title}")?;
             for (name, count) in counts {
@@ -108,7 +169,7 @@ impl Stats {
         for (reason, count) in &self.refusals {
             writeln!(to, "{count:>10}  {} {}: {}", reason.name(), reason.word(), reason.text())?;
         }
-        write!(to, "\ncalls, and how many entries lie between a call and the reading of its reply, ")?;
+        write!(to, "\ncalls, and {} between a call and the reading of its reply, ", self.measure.what())?;
         writeln!(to, "or of itself where it is one-way")?;
         writeln!(
             to,
@@ -117,21 +178,22 @@ impl Stats {
         )?;
         let mut pairs: Vec<_> = self.pairs.drain().collect();
         pairs.sort_by_key(|(pair, sums)| (Reverse(sums.calls), pair.from, pair.to, pair.code, pair.one_way));
-        pairs.iter_mut().try_for_each(|(pair, sums)| put_pair(to, pair, sums))
+        pairs.iter_mut().try_for_each(|(pair, sums)| put_pair(to, pair, sums, self.measure, &self.comms))
     }
 }
 
-fn put_pair(to: &mut Vec<u8>, pair: &Pair, sums: &mut Sums) -> io::Result<()> {
-    let told = |it: Option<u64>| it.map_or("-".into(), |it| it.to_string());
+fn put_pair(to: &mut Vec<u8>, pair: &Pair, sums: &mut Sums, measure: Measure, comms: &Comms) -> io::Result<()> {
+    let told = |it: Option<u64>| it.map_or("-".into(), |it| measure.told(it));
     let [median, p99, most] = [50, 99, 100].map(|it| told(sums.share(it)));
     let Sums { calls, bytes, reply_bytes, failed, object, .. } = sums;
     let one_way = if pair.one_way { " one-way" } else { "" };
+    let (caller, server) = (comms.words(pair.from), comms.words(pair.to));
     write!(to, "{calls:>10} {bytes:>10} {reply_bytes:>10} {failed:>8} {median:>8} {p99:>8} {most:>8}  ")?;
-    writeln!(to, "pid {} -> pid {} {}{one_way} {object}", pair.from, pair.to, code_words(pair.code))
+    writeln!(to, "{caller} -> {server} {}{one_way} {object}", code_words(pair.code))
 }
 
 pub fn stats(player: &mut Player, range: Range, to: &mut Vec<u8>) -> Result<()> {
-    let mut stats = Stats::default();
+    let mut stats = Stats { measure: Measure::of(player), ..Stats::default() };
     player.each(range, |entry, space, facts| {
         stats.add(entry, space, facts);
         Ok(())
@@ -147,54 +209,79 @@ struct Slow {
     line: String,
 }
 
-fn slow_line(call: &Call, ended: Option<Doing>, how: &str, space: &Space) -> String {
-    let object = call.object.map_or(String::new(), |it| format!(" on {}", object_words(space, it)));
-    let unread = match call.taken {
-        Some(taken) => format!("unread {} of them", taken.place - call.made.place),
-        None => "never read".into(),
-    };
-    let until = ended.map_or(String::new(), |it| format!(" at {}", it.place));
-    let one_way = if call.one_way { " one-way" } else { "" };
-    let Doing { place, pid, seat } = call.made;
-    format!(
-        "{place}: pid {pid} seat {seat} -> pid {}{object} code {}{one_way}: {how}{until}, {unread}",
-        call.to,
-        code_words(call.code)
-    )
+/// The calls that took longest.
+struct Slowest {
+    most: usize,
+    measure: Measure,
+    comms: Comms,
+    /// The least of those that are kept is the first.
+    kept: BinaryHeap<Reverse<Slow>>,
 }
 
-/// The calls that took most entries, and those that never ended.
+impl Slowest {
+    /// Keeps a call that took so long until something was done, unless others took longer.
+    fn keep(&mut self, call: &Call, ended: Doing, how: &str, space: &Space) {
+        if let Some(took) = self.measure.between(call.made, ended) {
+            let line = self.line(call, how, space);
+            self.kept.push(Reverse(Slow { took, made: Reverse(call.made.place), line }));
+        }
+        if self.kept.len() > self.most {
+            self.kept.pop();
+        }
+    }
+
+    fn line(&self, call: &Call, how: &str, space: &Space) -> String {
+        let object = call.object.map_or(String::new(), |it| format!(" on {}", object_words(space, it)));
+        let unread = match call.taken.map(|it| self.measure.between(call.made, it)) {
+            Some(Some(took)) if self.measure == Measure::Entries => format!("unread {took} of them"),
+            Some(Some(took)) => format!("unread {} of that", self.measure.told(took)),
+            Some(None) => "read at a time that isn't known".into(),
+            None => "never read".into(),
+        };
+        let one_way = if call.one_way { " one-way" } else { "" };
+        let Doing { place, seat, pid, .. } = call.made;
+        let (caller, server) = (self.comms.words(pid), self.comms.words(call.to));
+        format!(
+            "{place}: {caller} seat {seat} -> {server}{object} code {}{one_way}: {how}, {unread}",
+            code_words(call.code)
+        )
+    }
+
+    fn event(&mut self, event: &Event, space: &Space) {
+        let (call, ended, how) = match event {
+            Event::Done(call, doing) => (call, *doing, "its reply was read"),
+            Event::Failed(call, doing) => (call, *doing, "its failure was read"),
+            Event::Taken(call) if call.one_way => (call, call.taken.unwrap_or(call.made), "it was read"),
+            _ => return,
+        };
+        self.keep(call, ended, &format!("{how} at {}", ended.place), space);
+    }
+
+    /// The longest first.
+    fn put(self, to: &mut Vec<u8>) -> io::Result<()> {
+        let mut slowest: Vec<_> = self.kept.into_iter().map(|it| it.0).collect();
+        slowest.sort_by(|left, right| right.cmp(left));
+        slowest.iter().try_for_each(|it| writeln!(to, "{} from {}", self.measure.words(it.took), it.line))
+    }
+}
+
+/// The calls that took longest, and those that never ended.
 pub fn slow(player: &mut Player, range: Range, most: usize, to: &mut Vec<u8>) -> Result<()> {
     let mut calls = Calls::default();
-    // The least of those that are kept is the first.
-    let mut kept: BinaryHeap<Reverse<Slow>> = BinaryHeap::new();
-    let mut keep = |call: &Call, took: u64, line: String| {
-        kept.push(Reverse(Slow { took, made: Reverse(call.made.place), line }));
-        if kept.len() > most {
-            kept.pop();
-        }
-    };
+    let (measure, comms) = (Measure::of(player), Comms::default());
+    let mut slowest = Slowest { most, measure, comms, kept: BinaryHeap::new() };
+    let mut latest = None;
     player.each(range, |entry, space, facts| {
-        for event in calls.events(entry, facts) {
-            let (call, ended, how) = match &event {
-                Event::Done(call, doing) => (call, *doing, "its reply was read"),
-                Event::Failed(call, doing) => (call, *doing, "its failure was read"),
-                Event::Taken(call) if call.one_way => (call, call.taken.unwrap_or(call.made), "it was read"),
-                _ => continue,
-            };
-            keep(call, ended.place - call.made.place, slow_line(call, Some(ended), how, space));
-        }
+        slowest.comms.learn(facts);
+        latest = facts.time.or(latest);
+        calls.events(entry, facts).iter().for_each(|it| slowest.event(it, space));
         Ok(())
     })?;
     let end = player.source.place();
     let is_open = |it: &Call| !it.one_way || it.taken.is_none();
     for call in calls.left().filter(is_open) {
-        keep(&call, end - call.made.place, slow_line(&call, None, "still open", &player.space));
+        let ended = Doing { place: end, time: latest, ..call.made };
+        slowest.keep(&call, ended, "still open", &player.space);
     }
-    let mut slowest: Vec<_> = kept.into_iter().map(|it| it.0).collect();
-    slowest.sort_by(|left, right| right.cmp(left));
-    for it in slowest {
-        writeln!(to, "{} entries from {}", it.took, it.line)?;
-    }
-    Ok(())
+    Ok(slowest.put(to)?)
 }

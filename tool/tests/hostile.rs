@@ -31,7 +31,10 @@ const WORDS: [&[&str]; 10] = [
 fn journals() -> Vec<Vec<u8>> {
     let root = concat!(env!("CARGO_MANIFEST_DIR"), "/../");
     let files = ["tools/data/two_hundred.journal", "bench/journals/w3a.journal", "bench/journals/w4b.journal"];
-    files.iter().map(|it| std::fs::read(format!("{root}{it}")).expect(it)).collect()
+    let mut journals: Vec<_> = files.iter().map(|it| std::fs::read(format!("{root}{it}")).expect(it)).collect();
+    let wide = Journal { bytes: journals[0].clone(), count: entries(&journals[0]).len() as u32 }.widened(200);
+    journals.push(wide.bytes);
+    journals
 }
 
 fn judge(words: &[&str], bytes: &[u8], name: &str) {
@@ -110,6 +113,30 @@ fn bits_turned_in_an_index() {
     }
 }
 
+/// So is what lies beside a journal: times and names.
+#[test]
+fn bits_turned_beside_a_journal() {
+    let mut numbers = Numbers(5);
+    for turn in 0..60 {
+        let file = Recorded::registered("beside");
+        for kept in [&file.times, &file.who] {
+            let mut bytes = std::fs::read(&kept.0).expect("what was written");
+            for _ in 0..=numbers.below(3) {
+                let at = numbers.below(bytes.len());
+                bytes[at] ^= 1 << numbers.below(8);
+            }
+            if turn % 4 == 0 {
+                bytes.truncate(numbers.below(bytes.len()));
+            }
+            std::fs::write(&kept.0, bytes).expect("the file");
+        }
+        let done = run(&[WORDS[turn % WORDS.len()], &[file.path()]].concat());
+        let told = String::from_utf8_lossy(&done.stderr).into_owned();
+        assert!(done.status.success(), "{turn}: {:?} {told}", done.status);
+        assert!(told.lines().all(|it| it.starts_with("hullpippin: ")), "{turn}: {told}");
+    }
+}
+
 /// Entries in another order make sense one by one, and none together.
 #[test]
 fn entries_that_do_not_follow() {
@@ -117,7 +144,7 @@ fn entries_that_do_not_follow() {
     for (index, bytes) in journals().iter().enumerate() {
         let entries = entries(bytes);
         for turn in 0..20 {
-            let mut mixed = bytes[..16].to_vec();
+            let mut mixed = bytes[..heading_size(bytes)].to_vec();
             for _ in 0..entries.len() {
                 mixed.extend(entries[numbers.below(entries.len())]);
             }
@@ -129,7 +156,7 @@ fn entries_that_do_not_follow() {
 fn entries(bytes: &[u8]) -> Vec<&[u8]> {
     let number = |at: usize| u32::from_le_bytes(bytes[at..at + 4].try_into().expect("four")) as usize;
     let mut found = Vec::new();
-    let mut at = 16;
+    let mut at = heading_size(bytes);
     while at < bytes.len() {
         let answer = at + 8 + number(at + 4);
         let end = answer + 4 + number(answer);

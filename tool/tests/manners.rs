@@ -29,6 +29,20 @@ fn what_is_no_journal_is_told() {
 }
 
 #[test]
+fn few_seats_are_no_matter_of_the_third_version() {
+    let file = Journal::one_way().widened(31).file("few");
+    assert_eq!(
+        fault(&["show", file.path()]),
+        format!("hullpippin: {}: byte 8: 31 seats, where this version has 32 to 65536\n", file.path())
+    );
+    let cut = kept("cut-heading", &Journal::new("BNDJ0003", 32).bytes[..16]);
+    assert_eq!(
+        fault(&["show", cut.path()]),
+        format!("hullpippin: {}: byte 16: the heading has 20 bytes, and the file ends here\n", cut.path())
+    );
+}
+
+#[test]
 fn a_bad_byte_is_told_where_it_is() {
     let at = Journal::base().bytes.len();
     let mut bad = Journal::one_way();
@@ -57,10 +71,27 @@ fn a_cut_off_file_is_shown_as_far_as_it_goes() {
 #[test]
 fn a_file_that_is_still_written_is_no_fault() {
     let mut journal = Journal::one_way();
-    let file = journal.says(u32::MAX).file("unended");
-    let done = run(&["state", file.path()]);
-    assert!(done.status.success());
-    assert!(String::from_utf8_lossy(&done.stderr).contains("7 entries are whole, and 0 bytes"));
+    let mut wide = journal.widened(32);
+    for file in [journal.says(u32::MAX).file("unended"), wide.says(u32::MAX).file("unended-wide")] {
+        for word in ["state", "leaks"] {
+            let done = run(&[word, file.path()]);
+            assert!(done.status.success());
+            let said = String::from_utf8_lossy(&done.stderr).into_owned();
+            assert_eq!(said.matches("7 entries are whole, and 0 bytes").count(), 1, "{word}: {said}");
+        }
+    }
+}
+
+/// The heading of the third version may claim more entries than could ever be counted through.
+#[test]
+fn a_count_that_cannot_be_is_told_once() {
+    let mut wide = Journal::one_way().widened(32);
+    wide.bytes[12..20].copy_from_slice(&(u64::MAX - 1).to_le_bytes());
+    let file = wide.file("claims");
+    let done = run(&["leaks", file.path()]);
+    let said = String::from_utf8_lossy(&done.stderr).into_owned();
+    assert!(done.status.success() && said.matches("7 entries are whole").count() == 1, "{said}");
+    assert!(String::from_utf8_lossy(&done.stdout).starts_with("after 7 steps\npid 100: 1 buffers were read"));
 }
 
 #[test]
@@ -177,8 +208,12 @@ fn a_closed_pipe_is_silent() {
 
 #[test]
 fn following_goes_on_while_the_file_grows() {
-    let (mut short, whole) = (Journal::base(), Journal::one_way());
-    let file = short.says(u32::MAX).file("growing");
+    follow(Journal::base(), Journal::one_way(), "growing");
+    follow(Journal::base().widened(32), Journal::one_way().widened(32), "growing-wide");
+}
+
+fn follow(mut short: Journal, whole: Journal, name: &str) {
+    let file = short.says(u32::MAX).file(name);
     let mut child =
         program().args(["show", "--follow", file.path()]).stdout(Stdio::piped()).spawn().expect("the program");
     let mut lines = BufReader::new(child.stdout.take().expect("a pipe")).lines().map(|it| it.expect("a line"));

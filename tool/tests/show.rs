@@ -34,6 +34,46 @@ fn both_versions_tell_the_same() {
 }
 
 #[test]
+fn the_third_version_tells_the_same_to_every_command() {
+    let narrow = Journal::registered();
+    let (third, second) = (narrow.widened(65_536).file("third"), narrow.file("narrow"));
+    for words in [
+        &["show"][..],
+        &["show", "--format", "json"],
+        &["state"],
+        &["state", "--diff", "7", "8"],
+        &["holders", "4.0"],
+        &["leaks"],
+        &["stats"],
+        &["slow"],
+        &["diagram"],
+        &["explain", "8"],
+        &["export", "--to", "perfetto"],
+        &["export", "--to", "pcapng"],
+    ] {
+        let of = |file: &Kept| run(&[&[words[0], file.path()], &words[1..]].concat());
+        let (ours, theirs) = (of(&third), of(&second));
+        assert!(ours.status.success() && !ours.stdout.is_empty(), "{words:?}");
+        assert_eq!((ours.stdout, ours.stderr), (theirs.stdout, theirs.stderr), "{words:?}");
+    }
+}
+
+#[test]
+fn seats_beyond_thirty_one_are_told() {
+    let mut journal = Journal::new("BNDJ0003", 65_536);
+    journal.open(40, 100, 1000).manager(40).entry(65_535, &[&[1][..], &100u32.to_le_bytes()].concat(), OPENED);
+    let file = journal.file("seats");
+    let lines = "\
+0 seat 40 pid 100 open pid 100 euid 1000 window 4096: opened
+1 seat 40 pid 100 manager: set
+2 seat 65535 pid 100 attach pid 100: opened
+";
+    assert_eq!(printed(&["show", file.path()]), lines);
+    assert!(printed(&["show", file.path(), "--seat", "65535"]).starts_with("2 seat 65535"));
+    assert!(printed(&["state", file.path()]).contains("\n  seat 40\n  seat 65535\n"));
+}
+
+#[test]
 fn a_registration_is_told_with_interface_texts_and_objects() {
     let file = Journal::registered().file("registered");
     let lines = printed(&["show", file.path(), "--from", "4", "--bytes", "16"]);
@@ -111,7 +151,11 @@ fn json_has_what_the_formats_say() {
 
 #[test]
 fn an_index_changes_nothing_but_time() {
-    let mut journal = Journal::one_way();
+    indexed(Journal::one_way(), "indexed");
+    indexed(Journal::one_way().widened(32), "indexed-wide");
+}
+
+fn indexed(mut journal: Journal, name: &str) {
     let free = message(BC_FREE_BUFFER, &65536u64.to_le_bytes());
     journal.command(0, &free, ACCEPTED);
     // Rounds of the call, so many that the index has more than one place to begin at.
@@ -121,7 +165,7 @@ fn an_index_changes_nothing_but_time() {
         journal.count += 4;
     }
     let count = journal.count;
-    let file = journal.says(count).file("indexed");
+    let file = journal.says(count).file(name);
     let asked = |words: &[&str]| printed(&[&[words[0], file.path()], &words[1..]].concat());
     let words: [&[&str]; 3] =
         [&["show", "--from", "39990"], &["state", "--at", "30000"], &["show", "--from", "16384", "--to", "16390"]];
@@ -141,7 +185,7 @@ fn an_index_changes_nothing_but_time() {
 /// The byte at which an entry stands.
 fn entry_at(bytes: &[u8], place: usize) -> usize {
     let number = |at: usize| u32::from_le_bytes(bytes[at..at + 4].try_into().expect("four")) as usize;
-    (0..place).fold(16, |at, _| {
+    (0..place).fold(heading_size(bytes), |at, _| {
         let answer = at + 8 + number(at + 4);
         answer + 4 + number(answer)
     })

@@ -21,7 +21,7 @@ void act_garbage_packets(void)
     if (!hostile_connect(&hostile))
         return;
     for (int i = 0; i < ROUNDS; i++) {
-        struct control_request request = {below(8) ? PROTOCOL_VERSION : (uint32_t)odd_number(), below(6), odd_number(), odd_number(), ""};
+        struct control_request request = {below(8) ? PROTOCOL_VERSION : (uint32_t)odd_number(), below(9), odd_number(), odd_number(), ""};
         memset(request.device, below(2) ? 'x' : '/', sizeof request.device);
         if (below(2))
             memcpy(request.device, act_device(), 12);
@@ -45,8 +45,8 @@ void act_deaf(void)
     if (!hostile_connect(&hostile) || !hostile_open(&hostile, act_device()) || !hostile_map(&hostile, 65536))
         return;
     for (int i = 0; i < 20 * ROUNDS; i++) {
-        request.op = !below(4) ? CONTROL_THREAD : below(2) ? CONTROL_SPAM : CONTROL_MAX_THREADS;
-        request.size = below(2);
+        request.op = !below(4) ? CONTROL_THREAD : !below(4) ? CONTROL_STATE : below(2) ? CONTROL_SPAM : CONTROL_MAX_THREADS;
+        request.size = request.op == CONTROL_STATE ? odd_number() : below(2);
         if (!hostile_send(hostile.control, &request, sizeof request, 0))
             usleep(100);
     }

@@ -30,7 +30,7 @@ int main(int argc, char **argv)
         looper_free(&client.looper, &reply);
     }
     struct spread spread = raw_spread(times, calls);
-    printf("median %.1f tenth %.1f last %.1f\n", spread.median, spread.tenth, spread.last);
+    printf("median %.1f tenth %.1f last %.1f longest %.1f\n", spread.median, spread.tenth, spread.last, times[calls - 1]);
     raw_kill(manager);
     free(data);
     free(times);

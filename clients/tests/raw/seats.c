@@ -1,7 +1,7 @@
 /* SPDX-License-Identifier: Apache-2.0 OR MIT */
 /*
- * seats: a device with a journal has 31 seats: the daemon's own, the context manager's, and 29 for callers who wait all at
- * once. One caller more is refused, and is served when the others are done.
+ * seats [CALLERS ANSWERED]: so many threads (30) call at once, and so many of them (29) are answered, since there are seats for them,
+ * the context manager's and the daemon's own. The others are refused; when all are done one more is served.
  */
 #include "raw.h"
 
@@ -9,9 +9,10 @@
 #include <pthread.h>
 #include <stdatomic.h>
 #include <stdio.h>
+#include <stdlib.h>
 #include <unistd.h>
 
-#define CALLERS 30
+#define MOST_CALLERS 1000
 
 static struct client client;
 static atomic_uint answered, refused;
@@ -44,23 +45,25 @@ static void *call(void *with)
 
 static void call_by(size_t count)
 {
-    pthread_t threads[CALLERS];
+    static pthread_t threads[MOST_CALLERS];
     for (size_t i = 0; i < count; i++)
         CHECK(!pthread_create(&threads[i], NULL, call, NULL), "no thread");
     for (size_t i = 0; i < count; i++)
         pthread_join(threads[i], NULL);
 }
 
-int main(void)
+int main(int argc, char **argv)
 {
+    size_t callers = argc == 3 ? strtoul(argv[1], NULL, 10) : 30, served = argc == 3 ? strtoul(argv[2], NULL, 10) : 29;
+    CHECK(callers <= MOST_CALLERS && served <= callers, "usage: seats [CALLERS ANSWERED]");
     raw_begin(30);
     pid_t manager = raw_start_manager(serve);
     raw_open(&client, WINDOW, NULL);
-    call_by(CALLERS);
-    CHECK(answered == CALLERS - 1 && refused == 1, "%u calls were answered, %u refused", answered, refused);
+    call_by(callers);
+    CHECK(answered == served && answered + refused == callers, "%u calls were answered, %u refused", answered, refused);
     call_by(1);
-    CHECK(answered == CALLERS, "the last call was refused again");
-    printf("%u calls at once\n", CALLERS - 1);
+    CHECK(answered == served + 1, "the last call was refused again");
+    printf("%zu calls at once\n", served);
     raw_kill(manager);
     return 0;
 }

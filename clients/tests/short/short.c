@@ -3,7 +3,8 @@
  * short.c: goes into a daemon of the tests, whose histories can take no more after so many steps: what the engine answers after
  * 4294967295, which the daemon knows too. The linker has the daemon call these in the library's place. With SHORT_OF_MEMORY in
  * its environment the kernel has no memory for its clients in the first seconds, and the engine none to end the first threads.
- * With SHORT_CALL it asks the kernel for something that it has no use for, as often as a client comes.
+ * With SHORT_CALL it asks the kernel for something that it has no use for, as often as a client comes. With SHORT_OF_DISK nothing is
+ * taken of what is longer than the heading of a recording, or rings a bell.
  */
 #include <errno.h>
 #include <fcntl.h>
@@ -24,6 +25,8 @@
 /* A daemon that tries so often in them doesn't rest. */
 #define MOST_TRIES 20
 #define THREADS 29
+/* The most that a recording begins with. */
+#define HEADING 20
 
 extern uint64_t history_most;
 
@@ -61,6 +64,13 @@ uint32_t __wrap_hullpippin_live_exit_thread(hullpippin_live *live, uint32_t seat
     if (getenv("SHORT_OF_MEMORY") && seat && kept < THREADS && ++kept)
         return HULLPIPPIN_NO_MEMORY;
     return hullpippin_live_len(live) < STEPS ? __real_hullpippin_live_exit_thread(live, seat, answer) : HULLPIPPIN_HISTORY_FULL;
+}
+
+ssize_t __real_write(int fd, const void *bytes, size_t size);
+ssize_t __wrap_write(int fd, const void *bytes, size_t size);
+ssize_t __wrap_write(int fd, const void *bytes, size_t size)
+{
+    return size > HEADING && getenv("SHORT_OF_DISK") ? 0 : __real_write(fd, bytes, size);
 }
 
 /* Where the kernel lets it, none of them does harm. */

@@ -2,11 +2,15 @@
 -- meet.
 use Rattle.bd_laws.proofs.words.Logic.{◌≡◌, ◌≤◌, ◌<◌, ◌+◌, ℕ, Bool, true, false, ◌||◌, List, [], ◌∷◌, ◌++◌, length, take, drop, get_or, Some, refl, ap, sym, ◌∙◌, subst, arith, length-append, nat_lt, nat_le, list_all, lt-leb, take-append-drop, take_all, take_more, length-take-le}
 use Rattle.bd_laws.proofs.words.Types.{Entry, StepAnswer, Step}
-use Rattle.bd_laws.proofs.words.Space.{Space, opening, step, History, history_of, IsHistory, EntryFollows, Follows, after, next, space_after, is_at_limit}
+use Rattle.bd_laws.proofs.words.Space.{Space, opening, step, History, IsHistory, EntryFollows, Follows, after, next, space_after, is_at_limit}
 use Rattle.bd_engine.specs.Why.{Why}
+use Rattle.bd_engine.specs.Why.TheVariants as why
 use Rattle.bd_engine.specs.Refusals.{FullOnly}
+use Rattle.bd_engine.specs.declared.live.Live.{Live}
+use Rattle.bd_engine.specs.Follows.{Follows as IsFollowed}
 use Rattle.bd_audit.specs.declared.judging.AuditFault.{AuditFault}
-use Rattle.bd_audit.specs.Replays.{with_entry, beginning, IsEntryAt, Begins, IfUnlawful, fault_of, StopsAt}
+use Rattle.bd_audit.specs.declared.judging.AuditFault.TheVariants.{Unlawful, NoMemory}
+use Rattle.bd_audit.specs.Replays.{with_entry, beginning, IsEntryAt, IfUnlawful, fault_of, StopsAt}
 use Rattle.bd_laws.proofs.Tests.{both}
 use Rattle.std.proofs.lemmas.List.Folds.{list_all-append}
 use Rattle.std.proofs.lemmas.Option.{slice_get_within, get_or_from_slice_get}
@@ -69,6 +73,19 @@ pub refused : (h : History) (e : Entry) (at : ℕ) (w : Why) (x : Step) (f : Aud
     → IfUnlawful f (λ at. IsHistory (with_entry h e) → ⊥)
 refused h e at w x f is same_step full = search (arith, past-limit)
 
+-- the same, and where
+pub refused-here : (h : History) (e : Entry) (at : ℕ) (w : Why) (x : Step) (f : AuditFault) → f ≡ fault_of w at → x ≡ e.step → FullOnly w (is_at_limit h e.seat (Some x) ≡ true) → at ≡ length h.entries
+    → IfUnlawful f (λ n. (n ≡ length h.entries) × (IsHistory (with_entry h e) → ⊥))
+refused-here h e at w x f is same_step full so_long = by f is (refused h e at w x f is same_step full)
+  where
+    named : (n : ℕ) (w : Why) → Unlawful n ≡ fault_of w at → n ≡ at
+    named n why.HistoryFull is = cc
+    named n why.NoMemory is = absurd cc
+
+    by : (f : AuditFault) → f ≡ fault_of w at → IfUnlawful f (λ n. IsHistory (with_entry h e) → ⊥) → IfUnlawful f (λ n. (n ≡ length h.entries) × (IsHistory (with_entry h e) → ⊥))
+    by (Unlawful n) is stops = (named n w is ∙ so_long, stops)
+    by NoMemory is stops = tt
+
 -- ---- places
 
 pub take-history : (n : ℕ) (h : History) → IsHistory h → IsHistory (beginning n h)
@@ -92,19 +109,28 @@ next-lawful h g i e es lawful at_i same_es below found = subst IsHistory (sym (o
 pub entry-lawful : (h g : History) (i : ℕ) (e : Entry) → IsHistory h → IsEntryAt h i g e → IsHistory (with_entry g e)
 entry-lawful h g i e lawful at = next-lawful h g i e h.entries lawful at.begins refl (slice_get_within h.entries i e at.stands) (sym (get_or_from_slice_get h.entries i e e at.stands))
 
-pub not-history : (f : AuditFault) (h g : History) (i : ℕ) (e : Entry) → g ≡ beginning i h → (es : List Entry) → es ≡ h.entries → i < length es → e ≡ get_or es i e
-    → IfUnlawful f (λ at. IsHistory (with_entry g e) → ⊥) → IfUnlawful f (λ at. IsHistory h → ⊥)
-not-history f h g i e at_i es same_es below found h2 = search (arith, next-lawful)
+-- what a next entry that isn't taken says of the whole
+abbrev pub IsRefusedAt : History → ℕ → Entry → AuditFault → Type 0
+IsRefusedAt h i e f = IfUnlawful f (λ at. (at ≡ length (beginning i h).entries) × (IsHistory (with_entry (beginning i h) e) → ⊥))
 
-begun : (g k : History) → Begins g k → IsHistory k → IsHistory g
-begun g k b h =
-    let whole : k ≡ history_of g.seats (g.entries ++ b.1.0) = ap (λ n. history_of n k.entries) b.0 ∙ ap (history_of g.seats) b.1.1 in
-    history-front g.seats g.entries b.1.0 (subst IsHistory whole h)
+module _ (h : History) (i : ℕ) (e : Entry) (es : List Entry) (same_es : es ≡ h.entries) (below : i < length es) (found : e ≡ get_or es i e) where
+  next-is : with_entry (beginning i h) e ≡ beginning (i + 1) h
+  next-is = one-next h (beginning i h) i e es refl same_es below found
 
-pub stops-there : (f : AuditFault) (h g k : History) (i : ℕ) (e : Entry) → g ≡ beginning i h → (es : List Entry) → es ≡ h.entries → i < length es → e ≡ get_or es i e
-    → Begins g k → IsHistory k → IfUnlawful f (λ at. at ≡ length g.entries)
-    → IfUnlawful f (λ at. IsHistory (with_entry g e) → ⊥) → IfUnlawful f (StopsAt h)
-stops-there f h g k i e at_i es same_es below found b l place h2 = search (arith, length-take-le, begun, one-next)
+  pub follows-next : (l : Live) → IsFollowed l (with_entry (beginning i h) e) → IsFollowed l (beginning (i + 1) h)
+  follows-next l follows = subst (IsFollowed l) next-is follows
+
+  pub not-history : (f : AuditFault) → IsRefusedAt h i e f → IfUnlawful f (λ at. IsHistory h → ⊥)
+  not-history (Unlawful at) refusal = λ lawful. refusal.1 (subst IsHistory (sym next-is) (take-history (i + 1) h lawful))
+  not-history NoMemory refusal = tt
+
+  pub stops-there : (f : AuditFault) → IsHistory (beginning i h) → IsRefusedAt h i e f → IfUnlawful f (StopsAt h)
+  stops-there (Unlawful at) lawful refusal =
+      let inside : i < length h.entries = subst (λ (xs : List Entry). i < length xs) same_es below in
+      let here : i ≡ at = sym (refusal.0 ∙ length-take-le i h.entries (omega (arith, inside))) in
+      let stops : IsHistory (beginning (i + 1) h) → ⊥ = λ lawful. refusal.1 (subst IsHistory (sym next-is) lawful) in
+      subst (StopsAt h) here (record { inside = inside; before = lawful; stops = stops })
+  stops-there NoMemory lawful refusal = tt
 
 pub next-beginning : (h g k : History) (i : ℕ) (e : Entry) (es : List Entry) → g ≡ beginning i h → es ≡ h.entries → i < length es → e ≡ get_or es i e → k ≡ with_entry g e → k ≡ beginning (i + 1) h
 next-beginning h g k i e es at_i same_es below found is = is ∙ one-next h g i e es at_i same_es below found

@@ -1,7 +1,7 @@
 //! The gifts by which a process came to a name.
 
 ghost use Rattle.std.specs.Prelude.{◌≡◌, ◌≤◌, IfOk, IfErr, IfSome, MatchResult, is_some};
-ghost use Rattle.bd_uapi.specs.Limits.{IsSeats};
+ghost use Rattle.bd_engine.specs.Refusals.{IsLiveSeats};
 ghost use Rattle.bd_uapi.specs.declared.fault.Fault.TheVariants as faults;
 ghost use Rattle.bd_space.specs.Histories.{IsHistory, space_after, history_in};
 ghost use Rattle.bd_engine.specs.Looks as looks;
@@ -9,7 +9,7 @@ ghost use Rattle.bd_audit.specs.{Replays.{with_entry}, Gifts.{IsChainOf}};
 ghost use Rattle.bd_audit.specs.GiftSearch as spec;
 
 use crate::playing::advance;
-use bd_engine::{Engine, Looks};
+use bd_engine::{Looks, WideEngine};
 use bd_space::{Entry, ObjectId, Record};
 use bd_uapi::Fault;
 use std::alloc::Global;
@@ -29,7 +29,7 @@ pub(crate) struct Gift {
 #[derive(Drop)]
 pub(crate) struct Received {
     /// The engine after the last step.
-    engine: Engine,
+    engine: WideEngine,
     /// For each entry, the process in whose window its step made a buffer.
     receivers: Vec<Option<u32>>,
 }
@@ -44,7 +44,7 @@ pub(crate) struct Holder {
 }
 
 // The process of a seat, if it has a name for the object.
-fn giver_of(engine: &Engine, seat: u32, object: ObjectId) -> Option<u32>
+fn giver_of(engine: &WideEngine, seat: u32, object: ObjectId) -> Option<u32>
     ensures { result ≡ spec.giver_in (space_after engine.now) seat object }
 {
     match engine.process_of(seat) {
@@ -60,7 +60,7 @@ fn giver_of(engine: &Engine, seat: u32, object: ObjectId) -> Option<u32>
 }
 
 // The process in whose window the buffer made at this place lies.
-fn receiver_at(engine: &Engine, place: u32) -> Option<u32>
+fn receiver_at(engine: &WideEngine, place: u32) -> Option<u32>
     ensures { result ≡ spec.receiver_at (space_after engine.now) place }
 {
     match engine.buffer(place) {
@@ -71,13 +71,13 @@ fn receiver_at(engine: &Engine, place: u32) -> Option<u32>
 
 // An engine that has made the steps of these entries, and the process that received at each of them.
 fn receivers_of(alloc: Global, seats: u32, entries: &[Entry]) -> Result<Received, Fault>
-    requires seats { IsSeats seats }
+    requires seats { IsLiveSeats seats }
     requires lawful { IsHistory (record { seats = seats; entries = entries.now }) }
     ensures engine { IfOk result (λ r. r.engine ≡ record { seats = seats; entries = entries.now }) }
     ensures receivers { IfOk result (λ r. spec.AreReceivers entries.now r.receivers.items) }
     ensures fault { IfErr result (λ f. f ≡ faults.NoMemory) }
 {
-    let Ok(mut engine) = Engine::new(alloc, seats) else {
+    let Ok(mut engine) = WideEngine::new(alloc, seats) else {
         return Err(Fault::NoMemory);
     };
     let mut receivers = Vec::new(alloc);
@@ -93,7 +93,7 @@ fn receivers_of(alloc: Global, seats: u32, entries: &[Entry]) -> Result<Received
 
 // Makes the step of an entry of a history. Answers its gift, if the receiver's name for the object begins with it.
 fn gift_made(
-    engine: &mut Engine,
+    engine: &mut WideEngine,
     entry: &Entry,
     receiver: u32,
     object: ObjectId,
@@ -120,7 +120,7 @@ fn gift_made(
 // Makes the step of an entry of a history. Answers its gift, if a name for the object begins with it: to the process that
 // receives there, or else to the one that asks.
 fn next_gift(
-    engine: &mut Engine,
+    engine: &mut WideEngine,
     entry: &Entry,
     receiver: Option<u32>,
     object: ObjectId,
@@ -147,12 +147,12 @@ fn gifts_of(
     receivers: &[Option<u32>],
     object: ObjectId,
 ) -> Result<Vec<Gift>, Fault>
-    requires seats { IsSeats history.now.seats }
+    requires seats { IsLiveSeats history.now.seats }
     requires lawful { IsHistory (history_in history.now) }
     requires receivers { spec.AreReceivers history.now.entries receivers.now }
     ensures { MatchResult result (λ v. spec.AreGifts history.now.entries object v.items) (λ f. f ≡ faults.NoMemory) }
 {
-    let Ok(mut engine) = Engine::new(alloc, history.seats) else {
+    let Ok(mut engine) = WideEngine::new(alloc, history.seats) else {
         return Err(Fault::NoMemory);
     };
     let mut gifts = Vec::new(alloc);
@@ -190,7 +190,7 @@ fn way_to(alloc: Global, gifts: Vec<Gift>, receiver: u32) -> Result<Vec<u32>, Fa
 }
 
 // The live process with this pid, with what the number names for it.
-fn holder_in(engine: &Engine, pid: u32, number: u32) -> Option<Holder>
+fn holder_in(engine: &WideEngine, pid: u32, number: u32) -> Option<Holder>
     ensures some { IfSome result (λ k. spec.IsHolder (space_after engine.now) pid number k.process k.object) }
     ensures none { is_some result ≡ is_some (looks.named_by (space_after engine.now) pid number) }
 {
@@ -207,7 +207,7 @@ pub fn gift_chain(
     pid: u32,
     number: u32,
 ) -> Result<Option<Vec<u32>>, Fault>
-    requires seats { IsSeats history.now.seats }
+    requires seats { IsLiveSeats history.now.seats }
     requires lawful { IsHistory (history_in history.now) }
     // The places are a gift chain for what the number names.
     ensures chain { IfOk result (λ c. IfSome c (λ v. IsChainOf (history_in history.now) pid number v.items)) }

@@ -1,14 +1,14 @@
 //! What the rules give for an entry of a record.
 
 ghost use Rattle.std.specs.Prelude.{◌≡◌, ◌≤◌, IfOk, IfErr};
-ghost use Rattle.bd_uapi.specs.Limits.{IsSeats};
+ghost use Rattle.bd_engine.specs.Refusals.{IsLiveSeats};
 ghost use Rattle.bd_uapi.specs.declared.fault.Fault.TheVariants as faults;
 ghost use Rattle.bd_space.specs.Histories.{IsHistory, history_in};
 ghost use Rattle.bd_audit.specs.Given as spec;
 ghost use Rattle.bd_audit.specs.Replays.{beginning};
 
 use crate::playing::entry_at;
-use bd_engine::{Engine, Why};
+use bd_engine::{Why, WideEngine};
 use bd_space::{Entry, Record, StepAnswer};
 use bd_uapi::Fault;
 use std::alloc::Global;
@@ -23,7 +23,7 @@ pub enum Given {
 }
 
 // What the rules give for the entry's step, after the engine's history.
-fn given_to(mut engine: Engine, entry: &Entry) -> Result<Given, Fault>
+fn given_to(mut engine: WideEngine, entry: &Entry) -> Result<Given, Fault>
     ensures given { IfOk result (spec.IsGivenTo engine entry.now) }
     ensures fault { IfErr result (λ f. f ≡ faults.NoMemory) }
 {
@@ -43,7 +43,7 @@ fn given_to(mut engine: Engine, entry: &Entry) -> Result<Given, Fault>
 /// What the rules give for the entry at a place, after those before it, which are a history. The only fault is
 /// `NoMemory`.
 pub fn given_at(alloc: Global, record: &Record, place: u32) -> Result<Given, Fault>
-    requires seats { IsSeats «record».now.seats }
+    requires seats { IsLiveSeats «record».now.seats }
     requires before { IsHistory (beginning place (history_in «record».now)) }
     ensures given { IfOk result (spec.IsGivenAt (history_in «record».now) place) }
     ensures fault { IfErr result (λ f. f ≡ faults.NoMemory) }

@@ -1,13 +1,13 @@
 //! Whether a record is a history.
 
 ghost use Rattle.std.specs.Prelude.{◌≡◌, ◌≤◌, ◌<◌, length, IfOk, IfErr, MatchResult};
-ghost use Rattle.bd_uapi.specs.Limits.{IsSeats};
-ghost use Rattle.bd_space.specs.Histories.{IsHistory, history_in};
+ghost use Rattle.bd_engine.specs.{Follows.{Follows}, Refusals.{IsLiveSeats}};
+ghost use Rattle.bd_space.specs.Histories.{History, IsHistory, history_in};
 ghost use Rattle.bd_audit.specs.Replays as spec;
 ghost use Rattle.bd_audit.specs.Replays.{with_entry, Begins, IfUnlawful, IfNoMemory, StopsAt};
 
 use crate::answers::is_same_answer;
-use bd_engine::{Engine, Why};
+use bd_engine::{Live, Why, WideEngine};
 use bd_space::{Entry, Record};
 use std::alloc::Global;
 
@@ -23,13 +23,6 @@ pub enum AuditFault {
     NoMemory,
 }
 
-/// The engine's entries are a history: it ends as the record of one.
-fn end(engine: Engine)
-    ensures { IsHistory engine }
-{
-    let _ = engine.into_record();
-}
-
 // What the engine's refusal of the entry at this place means for the record.
 fn fault_of(why: Why, at: u32) -> AuditFault
     ensures { result ≡ spec.fault_of why at }
@@ -41,7 +34,7 @@ fn fault_of(why: Why, at: u32) -> AuditFault
 }
 
 /// Makes the entry's step, if its answer is then the entry's.
-pub(crate) fn accept(engine: &mut Engine, entry: &Entry) -> Result<(), AuditFault>
+pub(crate) fn accept(engine: &mut WideEngine, entry: &Entry) -> Result<(), AuditFault>
     ensures ok { IfOk result (λ _. engine.new ≡ with_entry engine.old entry.now) }
     ensures begins { Begins engine.old engine.new }
     ensures place { IfErr result (λ f. IfUnlawful f (λ at. at ≡ length engine.old.entries)) }
@@ -68,6 +61,33 @@ pub(crate) fn accept(engine: &mut Engine, entry: &Entry) -> Result<(), AuditFaul
     }
 }
 
+// Makes the entry's step after whatever history is followed, if its answer is then the entry's.
+fn take(live: &mut Live, entry: &Entry) -> Result<(), AuditFault>
+    ensures ok { IfOk result (λ _. (h : History) → Follows live.old h → Follows live.new (with_entry h entry.now)) }
+    ensures unlawful { IfErr result (λ f. (h : History) → Follows live.old h → IfUnlawful f (λ at.
+        (at ≡ length h.entries) × (IsHistory (with_entry h entry.now) → ⊥))) }
+    // A full history is found before memory is asked for.
+    ensures memory { IfErr result (λ f. (h : History) → Follows live.old h → IfNoMemory f (length h.entries < 4294967295)) }
+{
+    let at = live.len();
+    if entry.seat >= live.seats() || at == u32::MAX {
+        return Err(AuditFault::Unlawful { at });
+    }
+    let Ok(step) = entry.step.copied() else {
+        return Err(AuditFault::NoMemory);
+    };
+    match live.step(entry.seat, step) {
+        Ok(made) => {
+            if is_same_answer(&made.answer, &entry.answer) {
+                Ok(())
+            } else {
+                Err(AuditFault::Unlawful { at })
+            }
+        }
+        Err(why) => Err(fault_of(why, at)),
+    }
+}
+
 /// Is told how far a replay is.
 pub trait Watch {
     /// So many of the record's entries are a history's.
@@ -83,9 +103,10 @@ impl Watch for Unwatched {
 }
 
 /// Judges a record: Ok where it is a history and nowhere else; `Unlawful` tells up to which entry it is one. An entry for
-/// which a history has no place, or no handle left, is unlawful.
+/// which a history has no place, or no handle left, is unlawful. No second copy of the record is made: the entries are
+/// judged one after the other over what those before have come to.
 pub fn replay(alloc: Global, record: &Record) -> Result<(), AuditFault>
-    requires seats { IsSeats «record».now.seats }
+    requires seats { IsLiveSeats «record».now.seats }
     ensures history { MatchResult result (λ _. IsHistory (history_in «record».now)) (λ f. IfUnlawful f (λ at. IsHistory (history_in «record».now) → ⊥)) }
     ensures first { IfErr result (λ f. IfUnlawful f (StopsAt (history_in «record».now))) }
 {
@@ -98,21 +119,19 @@ pub fn replay_watched<W: Watch>(
     record: &Record,
     watch: &mut W,
 ) -> Result<(), AuditFault>
-    requires seats { IsSeats «record».now.seats }
+    requires seats { IsLiveSeats «record».now.seats }
     ensures history { MatchResult result (λ _. IsHistory (history_in «record».now)) (λ f. IfUnlawful f (λ at. IsHistory (history_in «record».now) → ⊥)) }
     ensures first { IfErr result (λ f. IfUnlawful f (StopsAt (history_in «record».now))) }
 {
     let all = record.entries.as_slice().len();
-    let Ok(mut engine) = Engine::new(alloc, record.seats) else {
+    let Ok(mut live) = Live::new(alloc, record.seats) else {
         return Err(AuditFault::NoMemory);
     };
     for entry in record.entries.as_slice() {
-        if let Err(fault) = accept(&mut engine, entry) {
-            end(engine);
-            return Err(fault);
+        match take(&mut live, entry) {
+            Ok(()) => watch.follow(live.len() as usize, all),
+            Err(fault) => return Err(fault),
         }
-        watch.follow(engine.len() as usize, all);
     }
-    end(engine);
     Ok(())
 }

@@ -1,19 +1,19 @@
 //! The steps of a history, made again.
 
 ghost use Rattle.std.specs.{Prelude.{◌≡◌, ◌≤◌, length, None, IfOk, IfErr, MatchOption, MatchResult}, List.{slice_get}};
-ghost use Rattle.bd_uapi.specs.Limits.{IsSeats};
+ghost use Rattle.bd_engine.specs.Refusals.{IsLiveSeats};
 ghost use Rattle.bd_uapi.specs.declared.fault.Fault.TheVariants as faults;
 ghost use Rattle.bd_space.specs.Histories.{IsHistory, history_in};
 ghost use Rattle.bd_audit.specs.Replays.{with_entry, beginning, IsEntryAt};
 
 use crate::judging::{AuditFault, accept};
-use bd_engine::Engine;
+use bd_engine::WideEngine;
 use bd_space::{Entry, Record};
 use bd_uapi::Fault;
 use std::alloc::Global;
 
 /// Makes the step of an entry, with which the engine's history is one. The only fault is `NoMemory`.
-pub fn advance(engine: &mut Engine, entry: &Entry) -> Result<(), Fault>
+pub fn advance(engine: &mut WideEngine, entry: &Entry) -> Result<(), Fault>
     requires lawful { IsHistory (with_entry engine.old entry.now) }
     ensures ok { IfOk result (λ _. engine.new ≡ with_entry engine.old entry.now) }
     ensures fault { IfErr result (λ f. f ≡ faults.NoMemory) }
@@ -26,12 +26,12 @@ pub fn advance(engine: &mut Engine, entry: &Entry) -> Result<(), Fault>
 }
 
 /// An engine that has made the steps of these entries.
-pub(crate) fn played(alloc: Global, seats: u32, entries: &[Entry]) -> Result<Engine, Fault>
-    requires seats { IsSeats seats }
+pub(crate) fn played(alloc: Global, seats: u32, entries: &[Entry]) -> Result<WideEngine, Fault>
+    requires seats { IsLiveSeats seats }
     requires lawful { IsHistory (record { seats = seats; entries = entries.now }) }
     ensures { MatchResult result (λ e. e ≡ record { seats = seats; entries = entries.now }) (λ f. f ≡ faults.NoMemory) }
 {
-    let Ok(mut engine) = Engine::new(alloc, seats) else {
+    let Ok(mut engine) = WideEngine::new(alloc, seats) else {
         return Err(Fault::NoMemory);
     };
     for entry in entries {
@@ -42,8 +42,8 @@ pub(crate) fn played(alloc: Global, seats: u32, entries: &[Entry]) -> Result<Eng
 
 /// The engine before the entry at this place, or after the last entry, where the entries before it are a history. The only
 /// fault is `NoMemory`.
-pub fn played_before(alloc: Global, record: &Record, place: usize) -> Result<Engine, Fault>
-    requires seats { IsSeats «record».now.seats }
+pub fn played_before(alloc: Global, record: &Record, place: usize) -> Result<WideEngine, Fault>
+    requires seats { IsLiveSeats «record».now.seats }
     requires before { IsHistory (beginning place (history_in «record».now)) }
     requires inside { place ≤ length «record».now.entries }
     ensures ok { IfOk result (λ e. e ≡ beginning place (history_in «record».now)) }
@@ -58,8 +58,8 @@ pub(crate) fn entry_at(
     alloc: Global,
     record: &Record,
     place: u32,
-) -> Result<Option<(Engine, &Entry)>, Fault>
-    requires seats { IsSeats «record».now.seats }
+) -> Result<Option<(WideEngine, &Entry)>, Fault>
+    requires seats { IsLiveSeats «record».now.seats }
     requires before { IsHistory (beginning place (history_in «record».now)) }
     ensures found { IfOk result (λ found. MatchOption found (slice_get «record».now.entries place ≡ None)
         (λ x. IsEntryAt (history_in «record».now) place x.0 x.1.now)) }

@@ -1,7 +1,7 @@
 //! The call that a reading answers.
 
 ghost use Rattle.std.specs.Prelude.{◌≡◌, ◌≤◌, length, IfOk, IfErr, MatchResult};
-ghost use Rattle.bd_uapi.specs.Limits.{IsSeats};
+ghost use Rattle.bd_engine.specs.Refusals.{IsLiveSeats};
 ghost use Rattle.bd_uapi.specs.declared.fault.Fault.TheVariants as faults;
 ghost use Rattle.bd_space.specs.Histories.{IsHistory, space_after, history_in};
 ghost use Rattle.bd_audit.specs.Replays.{with_entry, beginning};
@@ -9,15 +9,15 @@ ghost use Rattle.bd_audit.specs.Replies as spec;
 ghost use Rattle.bd_audit.specs.CallOf.{IsAnswerOf};
 
 use crate::playing::{advance, entry_at, played_before};
-use bd_engine::{Engine, Looks};
+use bd_engine::{Looks, WideEngine};
 use bd_space::{Entry, Record, Step};
 use bd_uapi::Fault;
 use std::alloc::Global;
 
 /// The engine before the entry at this place, or after the last entry. The record is a history; the only fault is
 /// `NoMemory`.
-pub fn played_to(alloc: Global, record: &Record, place: usize) -> Result<Engine, Fault>
-    requires seats { IsSeats «record».now.seats }
+pub fn played_to(alloc: Global, record: &Record, place: usize) -> Result<WideEngine, Fault>
+    requires seats { IsLiveSeats «record».now.seats }
     requires lawful { IsHistory (history_in «record».now) }
     requires inside { place ≤ length «record».now.entries }
     ensures ok { IfOk result (λ e. e ≡ beginning place (history_in «record».now)) }
@@ -27,7 +27,7 @@ pub fn played_to(alloc: Global, record: &Record, place: usize) -> Result<Engine,
 }
 
 // The reply that the entry's reading takes: the first on the thread's list, if it is not the first any more after it.
-fn take_reply(engine: &mut Engine, entry: &Entry) -> Result<Option<u32>, Fault>
+fn take_reply(engine: &mut WideEngine, entry: &Entry) -> Result<Option<u32>, Fault>
     requires lawful { IsHistory (with_entry engine.old entry.now) }
     ensures { MatchResult result (λ r. r ≡ spec.reply_taken (space_after engine.old) entry.now) (λ f. f ≡ faults.NoMemory) }
 {
@@ -47,7 +47,7 @@ fn take_reply(engine: &mut Engine, entry: &Entry) -> Result<Option<u32>, Fault>
 
 // The reply that the reading at this place took.
 fn reply_taken_at(alloc: Global, record: &Record, place: u32) -> Result<Option<u32>, Fault>
-    requires seats { IsSeats «record».now.seats }
+    requires seats { IsLiveSeats «record».now.seats }
     requires lawful { IsHistory (history_in «record».now) }
     ensures { MatchResult result (λ r. r ≡ spec.reply_taken_at (history_in «record».now) place) (λ f. f ≡ faults.NoMemory) }
 {
@@ -59,7 +59,7 @@ fn reply_taken_at(alloc: Global, record: &Record, place: u32) -> Result<Option<u
 
 // The call that the reply at this place answers.
 fn call_closed_at(alloc: Global, record: &Record, place: u32) -> Result<Option<u32>, Fault>
-    requires seats { IsSeats «record».now.seats }
+    requires seats { IsLiveSeats «record».now.seats }
     requires lawful { IsHistory (history_in «record».now) }
     ensures { MatchResult result (λ r. r ≡ spec.call_closed_at (history_in «record».now) place) (λ f. f ≡ faults.NoMemory) }
 {
@@ -75,7 +75,7 @@ fn call_closed_at(alloc: Global, record: &Record, place: u32) -> Result<Option<u
 /// The call that is answered by the reading at a place: where it was made. `None` where that reading handed out no reply,
 /// and where no reading stands at the place. The record is a history; the only fault is `NoMemory`.
 pub fn call_of_reply(alloc: Global, record: &Record, step: u32) -> Result<Option<u32>, Fault>
-    requires seats { IsSeats «record».now.seats }
+    requires seats { IsLiveSeats «record».now.seats }
     requires lawful { IsHistory (history_in «record».now) }
     // That call is the one of the reading, and no other is.
     ensures answers { IfOk result (IsAnswerOf (history_in «record».now) step) }

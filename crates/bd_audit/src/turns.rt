@@ -2,14 +2,14 @@
 
 ghost use Rattle.std.specs.Prelude.{◌≡◌, ◌≤◌, true, map, take, length, IfOk, IfErr, MatchResult};
 ghost use Rattle.std.specs.{List.{filter_map, list_all}, Option.{option_to_list}};
-ghost use Rattle.bd_uapi.specs.Limits.{IsSeats};
+ghost use Rattle.bd_engine.specs.Refusals.{IsLiveSeats};
 ghost use Rattle.bd_uapi.specs.declared.fault.Fault.TheVariants as faults;
 ghost use Rattle.bd_space.specs.Histories.{IsHistory, space_after, history_in};
 ghost use Rattle.bd_audit.specs.TurnCalls.{AreTurns};
 ghost use Rattle.bd_audit.specs.TurnSearch as spec;
 
 use crate::playing::advance;
-use bd_engine::{Engine, Looks};
+use bd_engine::{Looks, WideEngine};
 use bd_space::{Buffer, Entry, ObjectId, Record};
 use bd_uapi::Fault;
 use std::alloc::Global;
@@ -44,7 +44,7 @@ fn noted_at(earlier: Option<u32>, place: u32, now: bool) -> Option<u32>
     }
 }
 
-fn is_live(engine: &Engine, made: u32) -> bool
+fn is_live(engine: &WideEngine, made: u32) -> bool
     ensures { result ≡ spec.is_live (space_after engine.now).buffers made }
 {
     match engine.buffer(made) {
@@ -53,7 +53,7 @@ fn is_live(engine: &Engine, made: u32) -> bool
     }
 }
 
-fn is_handed(engine: &Engine, made: u32) -> bool
+fn is_handed(engine: &WideEngine, made: u32) -> bool
     ensures { result ≡ spec.is_handed (space_after engine.now).buffers made }
 {
     match engine.buffer(made) {
@@ -69,7 +69,7 @@ fn is_call_on(buffer: &Buffer, object: ObjectId) -> bool
 }
 
 // The turn after the engine's last step, which stands at this place.
-fn marked(engine: &Engine, place: u32, turn: Turn) -> Turn
+fn marked(engine: &WideEngine, place: u32, turn: Turn) -> Turn
     ensures { result ≡ spec.marked place (space_after engine.now).buffers turn }
 {
     Turn {
@@ -81,7 +81,7 @@ fn marked(engine: &Engine, place: u32, turn: Turn) -> Turn
 
 // Marks these turns, of which the first ones have ended, up to the first that hasn't then: the others wait for it. Answers
 // how many have ended.
-fn mark(turns: &mut [Turn], ended: usize, engine: &Engine, place: u32) -> usize
+fn mark(turns: &mut [Turn], ended: usize, engine: &WideEngine, place: u32) -> usize
     requires { spec.AreInTurn (spec.marked place (space_after engine.now).buffers) ended turns.old }
     ensures all { turns.new ≡ map (spec.marked place (space_after engine.now).buffers) turns.old }
     ensures within { result ≤ length turns.old }
@@ -98,7 +98,7 @@ fn mark(turns: &mut [Turn], ended: usize, engine: &Engine, place: u32) -> usize
 }
 
 // The turn that the step at this place made, if it did.
-fn turn_made(engine: &Engine, place: u32, object: ObjectId) -> Option<Turn>
+fn turn_made(engine: &WideEngine, place: u32, object: ObjectId) -> Option<Turn>
     ensures { option_to_list result ≡ filter_map (spec.turn_made object place) (space_after engine.now).buffers }
 {
     match engine.buffer(place) {
@@ -118,7 +118,7 @@ fn turn_made(engine: &Engine, place: u32, object: ObjectId) -> Option<Turn>
 }
 
 // Notes the engine's last step, which stands at this place.
-fn note(list: &mut TurnList, engine: &Engine, place: u32, object: ObjectId) -> Result<(), Fault>
+fn note(list: &mut TurnList, engine: &WideEngine, place: u32, object: ObjectId) -> Result<(), Fault>
     requires { spec.AreInTurn (spec.marked place (space_after engine.now).buffers)
         list.old.ended list.old.turns.items }
     ensures ok { IfOk result (λ _. list.new.turns.items
@@ -139,11 +139,11 @@ fn note(list: &mut TurnList, engine: &Engine, place: u32, object: ObjectId) -> R
 /// The turns of an object: its one-way calls in the order in which they were made, each once. The record is a history; the
 /// only fault is `NoMemory`.
 pub fn oneway_turns(alloc: Global, record: &Record, object: ObjectId) -> Result<Vec<Turn>, Fault>
-    requires seats { IsSeats «record».now.seats }
+    requires seats { IsLiveSeats «record».now.seats }
     requires lawful { IsHistory (history_in «record».now) }
     ensures { MatchResult result (λ v. AreTurns «record».now.entries object v.items) (λ f. f ≡ faults.NoMemory) }
 {
-    let Ok(mut engine) = Engine::new(alloc, record.seats) else {
+    let Ok(mut engine) = WideEngine::new(alloc, record.seats) else {
         return Err(Fault::NoMemory);
     };
     let turns = Vec::new(alloc);

@@ -19,3 +19,4 @@ pub mod Owners
 pub mod AllWindows
 pub mod WindowLaws
 pub mod Marks
+pub mod Nexts

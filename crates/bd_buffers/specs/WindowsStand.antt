@@ -1,5 +1,5 @@
 -- What the windows of all live processes stand for.
-use Rattle.std.specs.Prelude.{ℕ, ◌≡◌, ◌+◌, ◌<◌, ◌==◌, Bool, true, List, [], map, find, Option, Some, None, Ok, All, AllPairs, min}
+use Rattle.std.specs.Prelude.{ℕ, ◌≡◌, ◌+◌, ◌<◌, ◌==◌, nat_le, Bool, true, List, [], map, find, Option, option_map, Some, None, Ok, All, AllPairs, min}
 use Rattle.bd_ways.specs.Words.{Process, Buffer, Space}
 use Rattle.bd_space.specs.Seats.{lives_in}
 use Rattle.bd_space.specs.Windows.{buffers_of, start_for}
@@ -92,3 +92,7 @@ IsInWindow b = buffer.IsPlaced 4194304 b
 
 abbrev pub made_of_buffer : Buffer → ℕ
 made_of_buffer b = b.made
+
+-- where the first of these that was made at this place or behind it was made
+abbrev pub next_made : List Buffer → ℕ → Option ℕ
+next_made buffers from = option_map made_of_buffer (find (λ b. nat_le from b.made) buffers)

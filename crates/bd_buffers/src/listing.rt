@@ -1,7 +1,7 @@
 //! Where live buffers were made.
 
 ghost use Rattle.std.specs.Prelude.{◌≡◌, ◌++◌, map, OnOk};
-ghost use Rattle.bd_buffers.specs.{Rows.{live}, WindowsStand.{made_of_buffer}};
+ghost use Rattle.bd_buffers.specs.{Rows.{live}, WindowsStand.{made_of_buffer, next_made}};
 
 use crate::rows::Rows;
 use std::alloc::AllocError;
@@ -16,4 +16,16 @@ pub(crate) fn list_made(buffers: &Rows, places: &mut Vec<u32>) -> Result<(), All
         }
     }
     Ok(())
+}
+
+/// Where the first live buffer that was made at this place or behind it was made. Found by halves, past the empty rows there.
+pub(crate) fn next_from(buffers: &Rows, from: u32) -> Option<u32>
+    ensures { result ≡ next_made (live buffers.now.rows) from }
+{
+    for i in buffers.first_from(from)..buffers.len() {
+        if let Some(b) = buffers.in_row(i) {
+            return Some(b.made);
+        }
+    }
+    None
 }

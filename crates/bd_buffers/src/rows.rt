@@ -1,7 +1,7 @@
 //! Buffers in rows, in the order in which they were made.
 
-ghost use Rattle.std.specs.Prelude.{◌≡◌, ◌↔◌, ◌+◌, ◌<◌, ◌≤◌, ◌==◌, ◌++◌, ◌∷◌, [], false, IsTrue, All, AllPairs, MatchOption, OnOk, OnErr, length, slice_index_or, option_map, option_copied, vec_len, vec_capacity};
-ghost use Rattle.std.specs.Option.{option_and_then};
+ghost use Rattle.std.specs.Prelude.{ℕ, ◌≡◌, ◌↔◌, ◌+◌, ◌<◌, ◌≤◌, ◌==◌, ◌++◌, ◌∷◌, [], false, IsTrue, IfSome, All, AllPairs, MatchOption, OnOk, OnErr, length, take, slice_index_or, option_map, option_copied, vec_len, vec_capacity};
+ghost use Rattle.std.specs.{Option.{option_and_then}, List.Sorted.{IsPartitionPoint}};
 ghost use Rattle.bd_space.specs.{Words.{changed}, Freeing.{is_made_at}, ReadItems.{hand_out}, Returns.{buffer_in}};
 ghost use Rattle.bd_buffers.specs.Rows.{live, in_row, ends_empty, refilled, emptied, AreRows, IsTrimmed, IsWithout};
 
@@ -29,6 +29,14 @@ fn index_by_halves(rows: &[Row], made: u32) -> Option<usize>
     } else {
         None
     }
+}
+
+// The index of the first row that was made at a place or behind it.
+fn first_row(rows: &[Row], from: u32) -> usize
+    requires order { AllPairs (λ a b. a.made < b.made) rows.now }
+    ensures { IsPartitionPoint (λ r. r.made < from) (λ r. from ≤ r.made) rows.now result }
+{
+    rows.partition_point(|r| r.made < from)
 }
 
 // The index of the row made there. The last is looked at first: it is what a step mostly speaks of.
@@ -193,6 +201,14 @@ impl Rows {
         ensures { option_and_then (in_row self.now.rows) result ≡ buffer_in (live self.now.rows) made }
     {
         index_among(&self.rows, made)
+    }
+
+    /// The index of a row before which all live buffers were made before this place, and from which on none was. Found by halves.
+    pub(crate) fn first_from(&self, from: u32) -> usize
+        ensures before { All (λ b. b.made < from) (live (take result self.now.rows)) }
+        ensures behind { (i : ℕ) → result ≤ i → IfSome (in_row self.now.rows i) (λ b. from ≤ b.made) }
+    {
+        first_row(&self.rows, from)
     }
 
     /// The live buffer in a row.

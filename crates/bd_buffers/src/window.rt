@@ -10,7 +10,7 @@ use crate::buffer::{needed, one_way_share, pointer_of};
 use crate::ground::{Ground, end_row, key_at};
 use crate::hole::first_place;
 use crate::home::forget;
-use crate::listing::list_made;
+use crate::listing::{list_made, next_from};
 use crate::rows::Rows;
 use crate::senders::{raise, sum_of};
 use bd_space::Buffer;
@@ -49,7 +49,7 @@ impl Window {
     ghost use Rattle.bd_buffers.specs.Buffer.{IsPlaced, at_pointer};
     ghost use Rattle.bd_buffers.specs.{Window.{IsLeastFree, IsInBudget, Refuses, IsWindow}, Holes.{IsHoles}};
     ghost use Rattle.bd_buffers.specs.Stands.{Stands, CanHold, WindowTells, WindowMakes, Uses, UsesNothing};
-    ghost use Rattle.bd_buffers.specs.{Homes.{Forgets}, WindowsStand.{made_of_buffer}};
+    ghost use Rattle.bd_buffers.specs.{Homes.{Forgets}, WindowsStand.{made_of_buffer, next_made}};
 
     /// An empty window of a size in bytes, a multiple of 8 of at most 4194304. Takes no memory.
     pub fn new(alloc: Global, size: u32) -> Result<Window, AllocError>
@@ -228,6 +228,13 @@ impl Window {
         ensures { OnOk result (places.new.items ≡ places.old.items ++ map made_of_buffer self.now.buffers) }
     {
         list_made(&self.buffers, places)
+    }
+
+    /// Where the first live buffer that was made at this place or behind it was made.
+    pub(crate) fn next_from(&self, from: u32) -> Option<u32>
+        ensures { result ≡ next_made self.now.buffers from }
+    {
+        next_from(&self.buffers, from)
     }
 
     /// Ends the buffer made there.

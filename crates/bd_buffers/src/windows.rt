@@ -9,7 +9,7 @@ ghost use Rattle.bd_space.specs.{Freeing.{without_buffer, buffer_at_pointer}, Re
 ghost use Rattle.bd_space.specs.{ReadItems.{buffer_taken, read_by}, Steps.{with_process}};
 ghost use Rattle.bd_space.specs.ProcessExits.{without_process};
 ghost use Rattle.bd_ways.specs.Tables.{Tells, Makes};
-ghost use Rattle.bd_buffers.specs.WindowsStand.{StandsFor, StandsIn, Stands, window_room, buffer_room, made_of_buffer, is_owned_by, CanAdd, IsInWindow};
+ghost use Rattle.bd_buffers.specs.WindowsStand.{StandsFor, StandsIn, Stands, window_room, buffer_room, made_of_buffer, next_made, is_owned_by, CanAdd, IsInWindow};
 
 use crate::home::home_key;
 use crate::owned::{
@@ -200,6 +200,16 @@ impl Windows {
         match self.owned(p) {
             None => Ok(()),
             Some(w) => w.window.list_made(places),
+        }
+    }
+
+    /// Where the first live buffer of a process that was made at this place or behind it was made.
+    pub fn next_from(&self, p: u32, from: u32) -> Option<u32>
+        ensures { Tells (StandsIn self.now) result (λ s. next_made (buffers_of s.buffers p) from) }
+    {
+        match self.owned(p) {
+            None => None,
+            Some(w) => w.window.next_from(from),
         }
     }
 

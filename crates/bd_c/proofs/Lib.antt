@@ -10,3 +10,4 @@ pub mod GivenAgain
 pub mod Walking
 pub mod Ahead
 pub mod Looking
+pub mod Certifying

@@ -1,5 +1,5 @@
 -- What a call with a seat does, by the driver's call of that name.
-use Rattle.std.specs.Prelude.{◌≡◌, Bool, true, false, Option, Some}
+use Rattle.std.specs.Prelude.{◌≡◌, Bool, true, false, Option, Some, None}
 use Rattle.std.specs.Arc.{arc_value}
 use Rattle.bd_space.specs.declared.step.Request.{Request}
 use Rattle.bd_space.specs.declared.step.Request.TheVariants.{Write}
@@ -8,6 +8,7 @@ use Rattle.bd_driver.specs.Driver as driver
 use Rattle.bd_driver.specs.Handing as handing
 use Rattle.bd_driver.specs.Served as served
 use Rattle.bd_driver.specs.declared.outcome.Outcome.{Outcome}
+use Rattle.bd_driver.specs.declared.outcome.Outcome.TheVariants.{Back}
 use Rattle.bd_driver.specs.declared.outcome.Served.{Served}
 use Rattle.bd_driver.specs.declared.page.Page.{Page}
 use Rattle.bd_driver.specs.declared.view.View.{View}
@@ -17,7 +18,7 @@ use Rattle.bd_c.specs.declared.answers.Told.{Told}
 use Rattle.bd_c.specs.declared.seat.OwnedSeat.{OwnedSeat}
 use Rattle.bd_c.specs.declared.held.Held.{Held}
 use Rattle.bd_c.specs.declared.status.Status.{Status}
-use Rattle.bd_c.specs.declared.status.Status.TheVariants.{Done, NoMemory, Waiting, NotWaiting}
+use Rattle.bd_c.specs.declared.status.Status.TheVariants.{Done, NoMemory, NoSuchRequest, Waiting, NotWaiting}
 
 -- it is a seat of the same driver
 abbrev pub Stays : OwnedSeat → OwnedSeat → Type 0
@@ -46,6 +47,19 @@ Asks x y request Done a b = (o : Outcome) × Keeps y o b × driver.Calls x.seat.
 Asks x y request Waiting a b = IsWaiting x true × Nothing x y a b
 Asks x y request NoMemory a b = HasBytes request × Nothing x y a b
 Asks x y request _ a b = ⊥
+
+-- the request that came back, if one did
+abbrev pub given_back : Option Outcome → Option Request
+given_back (Some (Back request why)) = Some request
+given_back _ = None
+
+-- The request that the latest call gave back was made by a call of the driver, whose outcome is kept and told. Or nothing was
+-- done: it gave none back, or a request was handed over.
+abbrev pub AsksAgain : OwnedSeat → OwnedSeat → Status → Told → Told → Type 0
+AsksAgain x y Done a b = (request : Request) × (given_back x.latest ≡ Some request) × (o : Outcome) × Keeps y o b × driver.Calls x.seat.view y.seat.view request o
+AsksAgain x y NoSuchRequest a b = (given_back x.latest ≡ None) × Nothing x y a b
+AsksAgain x y Waiting a b = IsWaiting x true × Nothing x y a b
+AsksAgain x y _ a b = ⊥
 
 abbrev pub Looks : OwnedSeat → OwnedSeat → Page → Type 0
 Looks x y page = (y.latest ≡ x.latest) × driver.LooksOnce x.seat.view y.seat.view page

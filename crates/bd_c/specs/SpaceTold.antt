@@ -94,6 +94,11 @@ abbrev pub Finds : {A : Type 0} → Option A → A → A → Bool → Type 0
 Finds None old new found = (found ≡ false) × (new ≡ old)
 Finds (Some told) old new found = (found ≡ true) × (new ≡ told)
 
+-- the same, where what there is is said by what it is
+abbrev pub FindsBy : {A : Type 0} → (Option A → Type 0) → A → A → Bool → Type 0
+FindsBy Is old new true = Is (Some new)
+FindsBy Is old new false = Is None × (new ≡ old)
+
 -- it is so of the space after each history that the engine follows
 abbrev pub InSpace : OwnedLive → (Space → Type 0) → Type 0
 InSpace x P = (h : History) → Follows x.live h → P (space_after h)

@@ -3,7 +3,7 @@ use Rattle.std.specs.Prelude.{◌≡◌, ℕ}
 use Rattle.bd_uapi.specs.declared.fault.Fault.{Fault}
 use Rattle.bd_uapi.specs.declared.fault.Fault.TheVariants as fault
 use Rattle.bd_c.specs.declared.status.Status.{Status}
-use Rattle.bd_c.specs.declared.status.Status.TheVariants.{Done, NoMemory, Waiting, NotWaiting, Taken, NoSuchRequest, SeatCount, NoSeat, SeatsAway, NoJournal, NoSuchSeat, HistoryFull, NoCommand, Misuse}
+use Rattle.bd_c.specs.declared.status.Status.TheVariants.{Done, NoMemory, Waiting, NotWaiting, Taken, NoSuchRequest, SeatCount, NoSeat, SeatsAway, NoJournal, NoSuchSeat, HistoryFull, NoCommand, Misuse, Unlawful}
 
 abbrev pub number_of : Status → ℕ
 number_of Done = 0
@@ -20,6 +20,7 @@ number_of NoSuchSeat = 10
 number_of HistoryFull = 11
 number_of NoCommand = 12
 number_of Misuse = 13
+number_of Unlawful = 14
 
 -- why neither a driver nor a live engine was made
 abbrev pub refusal_of : Fault → Status

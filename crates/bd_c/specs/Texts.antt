@@ -23,6 +23,7 @@ status_texts =
     ∷ (11, codes "the history is full")
     ∷ (12, codes "the bytes are not one command")
     ∷ (13, codes "the handle is not what the call is for")
+    ∷ (14, codes "the journal is of no history")
     ∷ []
 
 -- F1 to F16

@@ -1,12 +1,27 @@
 //! The calls of a seat, whose answers it keeps.
 ghost use Rattle.std.specs.Prelude.{◌≡◌, Some};
-ghost use Rattle.bd_c.specs.{Told.{told_of}, Seats.{Stays, Asks, Looks, Posts, Serves, Collects, Withdraws}};
+ghost use Rattle.std.specs.Prelude.{None};
+ghost use Rattle.bd_c.specs.{Told.{told_of}, Seats.{Stays, Asks, AsksAgain, given_back, Looks, Posts, Serves, Collects, Withdraws}};
 
 use crate::answers::Told;
 use crate::seat::OwnedSeat;
 use crate::status::Status;
 use bd_driver::{Outcome, Page, Served};
 use bd_space::Request;
+
+// Takes the request that came back, if one did; else what is there stays.
+fn take_back(latest: &mut Option<Outcome>) -> Option<Request>
+    ensures taken { result ≡ given_back latest.old }
+    ensures stays { result ≡ None → latest.new ≡ latest.old }
+{
+    match latest.take() {
+        Some(Outcome::Back { request, why: _ }) => Some(request),
+        other => {
+            *latest = other;
+            None
+        }
+    }
+}
 
 impl OwnedSeat {
     // Keeps what a call came to, and tells it.
@@ -26,6 +41,22 @@ impl OwnedSeat {
         if self.seat.is_waiting() {
             return Status::Waiting;
         }
+        let outcome = self.driver.call(&mut self.seat, request);
+        self.keep(outcome, told);
+        Status::Done
+    }
+
+    /// The driver's call of the request that the latest call gave back. Its bytes aren't copied.
+    pub(crate) fn again(&mut self, told: &mut Told) -> Status
+        ensures stays { Stays self.old self.new }
+        ensures again { AsksAgain self.old self.new result told.old told.new }
+    {
+        if self.seat.is_waiting() {
+            return Status::Waiting;
+        }
+        let Some(request) = take_back(&mut self.latest) else {
+            return Status::NoSuchRequest;
+        };
         let outcome = self.driver.call(&mut self.seat, request);
         self.keep(outcome, told);
         Status::Done

@@ -6,6 +6,7 @@
 
 mod answers;
 mod asking;
+mod certificates;
 mod codec_calls;
 mod driver_calls;
 mod hand_over_calls;

@@ -8,7 +8,11 @@ use crate::parts::{part_of, tell_written};
 use crate::status::Status;
 use bd_journal::{write_entry, write_heading};
 use bd_space::{Entry, StepAnswer};
+use smallvec::SmallVec;
 use std::alloc::Global;
+
+// Nearly all entries are shorter. What is spelled within so many bytes asks for no memory.
+const SHORT: usize = 512;
 
 /// A part of what the latest step got, if it was a read.
 pub(crate) fn got_of(latest: &Option<Entry>, part: u32) -> &[u8]
@@ -37,7 +41,7 @@ impl OwnedLive {
             *size = 0;
             return Status::Done;
         };
-        let mut entry = Vec::new(alloc);
+        let mut entry: SmallVec<u8, SHORT, Global> = SmallVec::new(alloc);
         let written = write_entry(self.live.seats(), latest, &mut entry);
         tell_written(written, entry.as_slice(), out, size)
     }
@@ -53,7 +57,7 @@ impl OwnedLive {
         ensures { Tells (IsHeading self.now.live.seats count) (heading_bytes self.now.live.seats count)
             out.old out.new size.old size.new result }
     {
-        let mut heading = Vec::new(alloc);
+        let mut heading: SmallVec<u8, SHORT, Global> = SmallVec::new(alloc);
         let written = write_heading(self.live.seats(), count as usize, &mut heading);
         tell_written(written, heading.as_slice(), out, size)
     }

@@ -2,7 +2,7 @@
 ghost use Rattle.std.specs.Prelude.{◌≡◌, false};
 ghost use Rattle.bd_space.specs.declared.step.Request.TheVariants.{Open, Attach, SetManager, SetSpam, Write, Read, ExitThread, ExitProcess};
 ghost use Rattle.bd_c.specs.{Status.{Reports}, Misuse.{IsMisuse}, Behind.{Of, IsSeat, seat_of}, Flags.{ByFlag}};
-ghost use Rattle.bd_c.specs.{Seats.{OverSeat, AsksAt, Looks}, Parts.{bytes_of, notes_of, Fetches, TellsNote}};
+ghost use Rattle.bd_c.specs.{Seats.{OverSeat, AsksAt, AsksAgain, Looks}, Parts.{bytes_of, notes_of, Fetches, TellsNote}};
 ghost use Rattle.bd_c.specs.Pages.{page_told};
 ghost use Rattle.bd_driver.specs.declared.page.Page.{Page};
 
@@ -123,6 +123,19 @@ pub extern "C" fn hullpippin_exit_process(seat: &mut Handle, told: &mut Told) ->
     ensures misuse { (IsSeat seat.old.held → ⊥) → IsMisuse result seat.old.held seat.new.held × (told.new ≡ told.old) }
 {
     ask(seat, Request::ExitProcess, told)
+}
+
+/// Makes the request that the seat's latest call gave back.
+#[unsafe(no_mangle)]
+pub extern "C" fn hullpippin_again(seat: &mut Handle, told: &mut Told) -> u32
+    ensures again { IsSeat seat.old.held → Reports result (λ s.
+        OverSeat seat.old.held seat.new.held (λ x y. AsksAgain x y s told.old told.new)) }
+    ensures misuse { (IsSeat seat.old.held → ⊥) → IsMisuse result seat.old.held seat.new.held × (told.new ≡ told.old) }
+{
+    let Some(seat) = seat.seat() else {
+        return Status::Misuse.number();
+    };
+    seat.again(told).number()
 }
 
 /// Copies a part of the bytes that the seat's latest call got, if all of them fit: 0 the returns, 1 the data, 2 the

@@ -4,9 +4,9 @@ ghost use Rattle.std.specs.Prelude.{◌≡◌, false, Some, find, option_map, sl
 ghost use Rattle.bd_space.specs.{Seats.{process_in, thread_in}, References.{object_in}, Returns.{buffer_in}};
 ghost use Rattle.bd_space.specs.{Todo.{work_on}, Deaths.{is_notification}};
 ghost use Rattle.bd_space.specs.declared.space.TodoList.TheVariants.{OfThread, OfProcess};
-ghost use Rattle.bd_engine.specs.Looks.{process_of_pid, named_by, innermost_of, carried};
+ghost use Rattle.bd_engine.specs.Looks.{process_of_pid, named_by, innermost_of, carried, next_process, IsNextHandle, next_buffer};
 ghost use Rattle.bd_c.specs.Behind.{Of, IsLive, live_of};
-ghost use Rattle.bd_c.specs.SpaceTold.{InSpace, Finds, id_told, process_told, thread_told, object_told, buffer_told, frame_told, death_told, work_told};
+ghost use Rattle.bd_c.specs.SpaceTold.{InSpace, Finds, FindsBy, id_told, process_told, thread_told, object_told, buffer_told, frame_told, death_told, work_told};
 
 use crate::handles::Handle;
 use crate::space_told::{
@@ -211,6 +211,60 @@ pub extern "C" fn hullpippin_live_death(live: &mut Handle, made: u32, told: &mut
 {
     match live.engine() {
         Some(engine) => engine.tell_death(made, told),
+        None => false,
+    }
+}
+
+/// The first live process that was opened at this place or behind it, by the place of its Open. Looks of this kind begin with 0, and go on
+/// with one more than was told.
+#[unsafe(no_mangle)]
+pub extern "C" fn hullpippin_live_next_process(
+    live: &mut Handle,
+    from: u32,
+    place: &mut u32,
+) -> bool
+    ensures same { live.new.held ≡ live.old.held }
+    ensures finds { IsLive live.old.held → Of live_of live.old.held (λ x. InSpace x (λ s. Finds (next_process s from) place.old place.new result)) }
+    ensures misuse { (IsLive live.old.held → ⊥) → (result ≡ false) × (place.new ≡ place.old) }
+{
+    match live.engine() {
+        Some(engine) => engine.tell_next_process(from, place),
+        None => false,
+    }
+}
+
+/// The least handle from this one on that names something for the live process with this pid.
+#[unsafe(no_mangle)]
+pub extern "C" fn hullpippin_live_next_handle(
+    live: &mut Handle,
+    pid: u32,
+    from: u32,
+    handle: &mut u32,
+) -> bool
+    ensures same { live.new.held ≡ live.old.held }
+    ensures finds { IsLive live.old.held → Of live_of live.old.held (λ x. InSpace x (λ s. FindsBy (IsNextHandle s pid from) handle.old handle.new result)) }
+    ensures misuse { (IsLive live.old.held → ⊥) → (result ≡ false) × (handle.new ≡ handle.old) }
+{
+    match live.engine() {
+        Some(engine) => engine.tell_next_handle(pid, from, handle),
+        None => false,
+    }
+}
+
+/// The first live buffer of a process that was made at this place or behind it.
+#[unsafe(no_mangle)]
+pub extern "C" fn hullpippin_live_next_buffer(
+    live: &mut Handle,
+    process: u32,
+    from: u32,
+    made: &mut u32,
+) -> bool
+    ensures same { live.new.held ≡ live.old.held }
+    ensures finds { IsLive live.old.held → Of live_of live.old.held (λ x. InSpace x (λ s. Finds (next_buffer s process from) made.old made.new result)) }
+    ensures misuse { (IsLive live.old.held → ⊥) → (result ≡ false) × (made.new ≡ made.old) }
+{
+    match live.engine() {
+        Some(engine) => engine.tell_next_buffer(process, from, made),
         None => false,
     }
 }

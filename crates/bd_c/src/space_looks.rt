@@ -2,8 +2,8 @@
 ghost use Rattle.std.specs.Prelude.{◌≡◌, Some, find, option_map, slice_get};
 ghost use Rattle.bd_space.specs.{Seats.{process_in, thread_in}, References.{object_in}, Returns.{buffer_in}};
 ghost use Rattle.bd_space.specs.{Todo.{work_on}, Deaths.{is_notification}};
-ghost use Rattle.bd_engine.specs.Looks.{process_of_pid, named_by, innermost_of, carried};
-ghost use Rattle.bd_c.specs.SpaceTold.{InSpace, Finds, id_told, process_told, thread_told, object_told, buffer_told, frame_told, death_told, work_told};
+ghost use Rattle.bd_engine.specs.Looks.{process_of_pid, named_by, innermost_of, carried, next_process, IsNextHandle, next_buffer};
+ghost use Rattle.bd_c.specs.SpaceTold.{InSpace, Finds, FindsBy, id_told, process_told, thread_told, object_told, buffer_told, frame_told, death_told, work_told};
 
 use crate::live::OwnedLive;
 use crate::space_told::{
@@ -173,6 +173,47 @@ impl OwnedLive {
         match unread_at(self.live.unread(list), index) {
             Some(work) => {
                 *told = WorkTold::of(&work);
+                true
+            }
+            None => false,
+        }
+    }
+
+    /// The first live process that was opened at this place or behind it, by the place of its Open.
+    #[tactic(auto, using(crate::proofs::Looking::finds_some, crate::proofs::Looking::finds_none))]
+    pub(crate) fn tell_next_process(&self, from: u32, place: &mut u32) -> bool
+        ensures { InSpace self.now (λ s. Finds (next_process s from) place.old place.new result) }
+    {
+        match self.live.next_process(from) {
+            Some(next) => {
+                *place = next;
+                true
+            }
+            None => false,
+        }
+    }
+
+    /// The least handle from this one on that names something for the live process with this pid.
+    pub(crate) fn tell_next_handle(&self, pid: u32, from: u32, handle: &mut u32) -> bool
+        ensures { InSpace self.now (λ s. FindsBy (IsNextHandle s pid from) handle.old handle.new result) }
+    {
+        match self.live.next_handle(pid, from) {
+            Some(next) => {
+                *handle = next;
+                true
+            }
+            None => false,
+        }
+    }
+
+    /// The first live buffer of a process that was made at this place or behind it.
+    #[tactic(auto, using(crate::proofs::Looking::finds_some, crate::proofs::Looking::finds_none))]
+    pub(crate) fn tell_next_buffer(&self, process: u32, from: u32, made: &mut u32) -> bool
+        ensures { InSpace self.now (λ s. Finds (next_buffer s process from) made.old made.new result) }
+    {
+        match self.live.next_buffer(process, from) {
+            Some(next) => {
+                *made = next;
                 true
             }
             None => false,

@@ -35,6 +35,8 @@ pub enum Status {
     NoCommand,
     /// A handle hasn't what the call is for, or has something where it has to be empty.
     Misuse,
+    /// The journal's entries aren't a history.
+    Unlawful,
 }
 
 impl Status {

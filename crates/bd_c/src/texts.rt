@@ -33,6 +33,7 @@ fn status_text(number: u32) -> &'static str
         11 => "the history is full",
         12 => "the bytes are not one command",
         13 => "the handle is not what the call is for",
+        14 => "the journal is of no history",
         _ => "",
     }
 }

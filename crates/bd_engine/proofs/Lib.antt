@@ -6,3 +6,4 @@ pub mod Commands
 pub mod Courses
 pub mod Runs
 pub mod Reaching
+pub mod Handles

@@ -1,9 +1,10 @@
 -- What the calls that read an engine answer of the space of its history.
-use Rattle.std.specs.Prelude.{ℕ, Bool, List, Option, Some, is_some, option_map, option_and_then}
+use Rattle.std.specs.Prelude.{ℕ, ◌≡◌, ◌<◌, ◌≤◌, nat_le, Bool, true, List, Option, Some, None, find, is_some, option_map, option_and_then}
 use Rattle.bd_ways.specs.Words.{list_any, ObjectId, OfThread, is_some_and, Space}
 use Rattle.bd_space.specs.Seats.{thread_in, process_with_pid}
 use Rattle.bd_space.specs.References.{object_in, is_asking}
 use Rattle.bd_space.specs.Names.{named, number_in}
+use Rattle.bd_space.specs.Windows.{buffers_of}
 use Rattle.bd_space.specs.Frames.{innermost, serves}
 use Rattle.bd_space.specs.Todo.{work_on}
 use Rattle.bd_references.specs.Carried.{carried_in}
@@ -17,9 +18,19 @@ process_of s seat = option_map (λ t. t.process) (thread_in s.threads seat)
 abbrev pub process_of_pid : Space → ℕ → Option ℕ
 process_of_pid s pid = option_map (λ q. q.made) (process_with_pid s.processes pid)
 
+-- the first live process that was opened at this place or behind it
+abbrev pub next_process : Space → ℕ → Option ℕ
+next_process s from = option_map (λ q. q.made) (find (λ q. nat_le from q.made) s.processes)
+
 -- what the number names for the live process with this pid
 abbrev pub named_by : Space → ℕ → ℕ → Option ObjectId
 named_by s pid n = option_and_then (λ q. named s q.made n) (process_with_pid s.processes pid)
+
+-- the least number from this one on that names something for the live process with this pid
+abbrev pub IsNextHandle : Space → ℕ → ℕ → Option ℕ → Type 0
+IsNextHandle s pid from None = (n : ℕ) → from ≤ n → named_by s pid n ≡ None
+IsNextHandle s pid from (Some n) =
+    (from ≤ n) × (is_some (named_by s pid n) ≡ true) × ((m : ℕ) → from ≤ m → m < n → named_by s pid m ≡ None)
 
 -- the process that owns an object of the space
 abbrev pub owner_of : Space → ObjectId → Option ℕ
@@ -40,6 +51,10 @@ knows s p o = is_some (number_in s.names p o)
 -- the objects that the live buffer made there carries
 abbrev pub carried : Space → ℕ → List ObjectId
 carried s made = carried_in s.references made
+
+-- the first live buffer of the process that was made at this place or behind it
+abbrev pub next_buffer : Space → ℕ → ℕ → Option ℕ
+next_buffer s p from = option_map (λ b. b.made) (find (λ b. nat_le from b.made) (buffers_of s.buffers p))
 
 -- whether the process has a reference of this strength to what its number names because it asked for one
 abbrev pub has_asked : Space → ℕ → ℕ → Bool → Bool

@@ -44,6 +44,17 @@ pub trait Looks: HasTables {
         }
     }
 
+    /// The first live process that was opened at this place or behind it, by the place of its Open. From 0 on, and each time from one more
+    /// than was told, all are told.
+    final fn next_process(&self, from: u32) -> Option<u32>
+        ensures { Self.says self.now (λ h. result ≡ looks.next_process (space_after h) from) }
+    {
+        match self.tables().processes.next_from(from) {
+            Some(q) => Some(q.made),
+            None => None,
+        }
+    }
+
     /// The live thread of a seat: its process, and whether it is in the loop (looper).
     final fn thread(&self, seat: u32) -> Option<Thread>
         ensures { Self.says self.now (λ h. result ≡ thread_in (space_after h).threads seat) }
@@ -96,6 +107,17 @@ pub trait Looks: HasTables {
         }
     }
 
+    /// The least number (handle) from this one on that names something for the live process with this pid.
+    final fn next_handle(&self, pid: u32, from: u32) -> Option<u32>
+        ensures { Self.says self.now (λ h. looks.IsNextHandle (space_after h) pid from result) }
+    {
+        let tables = self.tables();
+        match tables.processes.with_pid(pid) {
+            Some(q) => tables.objects.next_number(q.made, from),
+            None => None,
+        }
+    }
+
     /// The object that a number (handle) of a process, told by the place of its Open, names strongly.
     final fn strongly_named(&self, process: u32, number: u32) -> Option<ObjectId>
         ensures { Self.says self.now (λ h. result ≡ names.strongly_named (space_after h) process number) }
@@ -126,6 +148,13 @@ pub trait Looks: HasTables {
         ensures { Self.says self.now (λ h. option_copied result ≡ buffer_in (space_after h).buffers made) }
     {
         self.tables().windows.buffer(made)
+    }
+
+    /// The first live buffer of a process, told by the place of its Open, that was made at this place or behind it: where it was made.
+    final fn next_buffer(&self, process: u32, from: u32) -> Option<u32>
+        ensures { Self.says self.now (λ h. result ≡ looks.next_buffer (space_after h) process from) }
+    {
+        self.tables().windows.next_from(process, from)
     }
 
     /// The objects that the live buffer made there carries, one for each object of its parcel, in their order.

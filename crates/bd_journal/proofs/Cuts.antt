@@ -1,20 +1,19 @@
 -- What is read of a journal that was cut off is what is whole of it.
-use Rattle.std.proofs.Common.{arith, ◌≡◌, ℕ, zero, suc, ◌+◌, ◌-◌, ◌^◌, ◌<◌, ◌≤◌, Bool, true, cond, leb, ◌&&◌, List, [], ◌∷◌, ◌++◌, Option, Some, None, Result, Ok, Err, length, refl, ap, sym, subst, ◌∙◌, append_assoc}
+use Rattle.std.proofs.Common.{arith, ◌≡◌, ℕ, zero, suc, ◌+◌, ◌-◌, ◌^◌, ◌<◌, ◌≤◌, List, [], ◌∷◌, ◌++◌, Option, Some, None, Result, Ok, Err, length, refl, ap, sym, subst, ◌∙◌, append_assoc}
 use Rattle.std.specs.Prelude.{IfOk}
 use Rattle.std.specs.List.{flat_map, AllByRecursion}
-use Rattle.std.proofs.lemmas.List.{append-nil, nil_from_length, length-append}
+use Rattle.std.proofs.lemmas.List.{append-nil, length-append}
 use Rattle.std.proofs.lemmas.List.Concat.{flat_map-cons}
 use Rattle.bd_uapi.specs.Bytes.{IsBytes, word}
-use Rattle.bd_uapi.specs.Limits.{IsSeats}
 use Rattle.bd_space.specs.declared.step.Entry.{Entry}
 use Rattle.bd_space.specs.declared.record.Record.{Record}
 use Rattle.bd_journal.specs.declared.fault.ReadError.{ReadError}
 use Rattle.bd_journal.specs.declared.versions.Version.{Version}
-use Rattle.bd_journal.specs.declared.versions.Version.TheVariants.{One, Two}
-use Rattle.bd_journal.specs.Spelling.{magic, block, step_bytes, answer_bytes, entry_bytes, heading_in, most_seats_in, IsEntryIn, Tells}
-use Rattle.bd_journal.specs.Reading.{◌>>=◌, Gives, word_from, entry_from, version_from, seats_from}
+use Rattle.bd_journal.specs.declared.versions.Version.TheVariants.{One, Two, Three}
+use Rattle.bd_journal.specs.Spelling.{magic, block, step_bytes, answer_bytes, entry_bytes, heading_in, count_bytes, count_limit, IsRecordSeats, IsSeatsIn, IsEntryIn, Tells}
+use Rattle.bd_journal.specs.Reading.{◌>>=◌, Gives, word_from, entry_from, version_from, seats_from, count_from}
 use Rattle.bd_journal.specs.Cut.{behind, whole_with, whole_from, cut_in, IsCutIn, IsCut, Continues}
-use Rattle.bd_journal.proofs.FieldLaws.{bind_some, some_is, Takes, Takes-then, words}
+use Rattle.bd_journal.proofs.FieldLaws.{bind_some, some_is, Takes, Takes-then, counts}
 use Rattle.bd_journal.proofs.Laws.{entry_takes, entry_again, magic_takes, magic_again, seats_take, seats_again, seats_small}
 
 -- ---- entries
@@ -114,18 +113,19 @@ no_entry_in_nothing v seats = refl
 abbrev read_behind : Version → ℕ → List ℕ → Option (Record × List ℕ)
 read_behind v seats tail = let read = whole_from v seats (length tail) tail in Some (record { seats = seats; entries = read.0 }, read.1)
 
-heading_read : (v : Version) (seats count : ℕ) (tail : List ℕ) → 1 ≤ seats → seats ≤ most_seats_in v → count < 2 ^ 32
+heading_read : (v : Version) (seats count : ℕ) (tail : List ℕ) → IsSeatsIn v seats → count < count_limit v
     → cut_in (heading_in v seats count ++ tail) ≡ read_behind v seats tail
 unfolding cut_in
-heading_read v seats count tail some few fits =
-    let regrouped : heading_in v seats count ++ tail ≡ magic v ++ (word seats ++ (word count ++ tail)) =
-    append_assoc (magic v ++ word seats) (word count) tail ∙ append_assoc (magic v) (word seats) (word count ++ tail) in
-    ap cut_in regrouped ∙ rw (magic_again v (word seats ++ (word count ++ tail)), seats_again v seats (word count ++ tail) some few, words.again count tail fits) refl
+heading_read v seats count tail are fits =
+    let counted = count_bytes v count ++ tail in
+    let regrouped : heading_in v seats count ++ tail ≡ magic v ++ (word seats ++ counted) =
+    append_assoc (magic v ++ word seats) (count_bytes v count) tail ∙ append_assoc (magic v) (word seats) counted in
+    ap cut_in regrouped ∙ rw (magic_again v (word seats ++ counted), seats_again v seats counted are, (counts v).again count tail fits) refl
 
 -- the same of a cut journal, whatever stands behind
 module _ (v : Version) (count : ℕ) (bytes : List ℕ) (r : Record) (left : List ℕ) (is : IsCutIn v count bytes r left) where
   abbrev few_seats : r.seats < 2 ^ 32
-  few_seats = seats_small v r.seats is.seats
+  few_seats = seats_small v r.seats is.seats.1
 
   read_first : (lost : List ℕ) → (m : ℕ) × (let read = behind r.entries (whole_from v r.seats m (left ++ lost)) in
       cut_in (bytes ++ lost) ≡ Some (record { seats = r.seats; entries = read.0 }, read.1))
@@ -137,7 +137,7 @@ module _ (v : Version) (count : ℕ) (bytes : List ℕ) (r : Record) (left : Lis
       ap (λ (b : List ℕ). b ++ lost) is.parts ∙ append_assoc (heading ++ spelled) left lost ∙ append_assoc heading spelled (left ++ lost) in
       let k = first_of v r.seats r.entries (left ++ lost) few_seats is.entries in (
         k.0,
-        ap cut_in regrouped ∙ heading_read v r.seats count tail is.some_seat is.seats is.count_fits
+        ap cut_in regrouped ∙ heading_read v r.seats count tail is.seats is.count_fits
             ∙ ap (λ (x : List Entry × List ℕ). Some (record { seats = r.seats; entries = x.0 }, x.1)) k.1,
       )
 
@@ -163,26 +163,25 @@ is_told bytes r left is = told is.0 is.1 bytes r left is.2
 found_in : (bytes : List ℕ) (x : Record × List ℕ) → IsBytes bytes → cut_in bytes ≡ Some x → IsCut bytes x.0 x.1
 unfolding cut_in
 found_in bytes x fits e =
-    let p = bind_some (version_from bytes) (λ a. seats_from a.0 a.1 >>= λ b. word_from b.1 >>= λ c. read_behind a.0 b.0 c.1) x e in
+    let p = bind_some (version_from bytes) (λ a. seats_from a.0 a.1 >>= λ b. count_from a.0 b.1 >>= λ c. read_behind a.0 b.0 c.1) x e in
     let v = p.0.0 in
-    let q = bind_some (seats_from v p.0.1) (λ b. word_from b.1 >>= λ c. read_behind v b.0 c.1) x p.2 in
+    let q = bind_some (seats_from v p.0.1) (λ b. count_from v b.1 >>= λ c. read_behind v b.0 c.1) x p.2 in
     let seats = q.0.0 in
-    let u = bind_some (word_from q.0.1) (λ c. read_behind v seats c.1) x q.2 in
+    let u = bind_some (count_from v q.0.1) (λ c. read_behind v seats c.1) x q.2 in
     let tail = u.0.1 in
     let read = whole_from v seats (length tail) tail in
     let begun = magic_takes bytes p.0 fits p.1 in
     let s = seats_take v p.0.1 q.0 begun.rest_fits q.1 in
     let t0 : Takes bytes (magic v ++ word seats) q.0.1 = Takes-then bytes (magic v) p.0.1 (word seats) q.0.1 begun s.0 in
-    let t1 = words.takes q.0.1 u.0 t0.rest_fits u.1 in
-    let t2 = Takes-then bytes (magic v ++ word seats) q.0.1 (word u.0.0) tail t0 t1.0 in
+    let t1 = (counts v).takes q.0.1 u.0 t0.rest_fits u.1 in
+    let t2 = Takes-then bytes (magic v ++ word seats) q.0.1 (count_bytes v u.0.0) tail t0 t1.0 in
     let t3 = whole_takes v seats (length tail) tail t2.rest_fits in
     let all = Takes-then bytes (heading_in v seats u.0.0) tail (flat_map entry_bytes read.0) read.1 t2 t3.0 in
     let made : IsCut bytes (record { seats = seats; entries = read.0 }) read.1 = (
       v,
       u.0.0,
       record {
-        some_seat = s.1;
-        seats = s.2;
+        seats = s.1;
         count_fits = t1.1;
         entries = t3.1;
         parts = all.parts;
@@ -197,7 +196,6 @@ whole_told bytes r is = let fits = is.1 in (
   is.0,
   length r.entries,
   record {
-    some_seat = fits.some_seat;
     seats = fits.seats;
     count_fits = fits.count;
     entries = fits.entries;
@@ -206,9 +204,10 @@ whole_told bytes r is = let fits = is.1 in (
   },
 )
 
-seats_in : (v : Version) (n : ℕ) → 1 ≤ n → n ≤ most_seats_in v → IsSeats n
-seats_in One n some few = (some, omega (arith, few))
-seats_in Two n some few = (some, few)
+seats_in : (v : Version) (n : ℕ) → IsSeatsIn v n → IsRecordSeats n
+seats_in One n are = (are.0, omega (arith, are.1))
+seats_in Two n are = (are.0, omega (arith, are.1))
+seats_in Three n are = (omega (arith, are.0), are.1)
 
 -- ---- of what a reader returned
 
@@ -220,8 +219,8 @@ module _ {X : Type 0} (record_of : X → Record) (left_of : X → List ℕ) (byt
   is_found (Ok x) read = found_in bytes (record_of x, left_of x) fits read
   is_found (Err e) read = tt
 
-  pub seats_found : (result : Result X ReadError) → Reads result → IfOk result (λ x. IsSeats (record_of x).seats)
-  seats_found (Ok x) read = let is = found_in bytes (record_of x, left_of x) fits read in seats_in is.0 (record_of x).seats is.2.some_seat is.2.seats
+  pub seats_found : (result : Result X ReadError) → Reads result → IfOk result (λ x. IsRecordSeats (record_of x).seats)
+  seats_found (Ok x) read = let is = found_in bytes (record_of x, left_of x) fits read in seats_in is.0 (record_of x).seats is.2.seats
   seats_found (Err e) read = tt
 
   pub goes_on : (result : Result X ReadError) → Reads result

@@ -24,13 +24,13 @@ use Rattle.bd_space.specs.declared.record.Record.{Record}
 use Rattle.bd_uapi.specs.declared.fault.Note.{Note}
 use Rattle.bd_uapi.specs.declared.fault.Cause.{Cause}
 use Rattle.bd_journal.specs.declared.versions.Version.{Version}
-use Rattle.bd_journal.specs.declared.versions.Version.TheVariants.{One, Two}
+use Rattle.bd_journal.specs.declared.versions.Version.TheVariants.{One, Two, Three}
 use Rattle.bd_journal.specs.declared.fault.ReadError.{ReadError}
 use Rattle.bd_journal.specs.declared.codes.TheConstants.{NOTES, CAUSES, FAULTS}
 use Rattle.bd_journal.specs.Codes.{numbered, bit, bits, note_number, cause_number, fault_number}
-use Rattle.bd_journal.specs.Spelling.{block, magic, most_seats_in, has_spam, carries, parcel_bytes, step_bytes, answer_bytes, entry_bytes, heading_in, spelling_in, IsBlock, IsParcel, IsStepIn, IsAnswer, IsEntryIn, IsJournalIn, Tells}
-use Rattle.bd_journal.specs.Reading.{◌>>=◌, Gives, byte_from, word_from, block_from, whole, whole_block_from, spelled_by, command_in, blocks_from, parcel_by, parcel_from, command_step_from, open_from, number_step_from, tagged, later_step_rows, step_rows, step_from, got_from, answer_rows, answer_from, entry_from, entries_from, version_from, seats_from, record_from, journal_in}
-use Rattle.bd_journal.proofs.FieldLaws.{bind_some, demand_some, some_is, Takes, Takes-then, Takes-behind, IsBytes-rest, byte_takes, words, blocks, block_bytes}
+use Rattle.bd_journal.specs.Spelling.{block, magic, least_seats_in, most_seats_in, count_bytes, has_spam, carries, parcel_bytes, step_bytes, answer_bytes, entry_bytes, heading_in, spelling_in, IsBlock, IsParcel, IsStepIn, IsAnswer, IsSeatsIn, IsEntryIn, IsJournalIn, Tells}
+use Rattle.bd_journal.specs.Reading.{◌>>=◌, Gives, byte_from, word_from, block_from, whole, whole_block_from, spelled_by, command_in, blocks_from, parcel_by, parcel_from, command_step_from, open_from, number_step_from, numbered_from, tagged, later_step_rows, step_rows, step_from, got_from, answer_rows, answer_from, entry_from, entries_from, version_from, seats_from, count_from, record_from, journal_in}
+use Rattle.bd_journal.proofs.FieldLaws.{bind_some, demand_some, some_is, Takes, Takes-then, Takes-behind, IsBytes-rest, byte_takes, words, counts, blocks, block_bytes}
 use Rattle.bd_journal.proofs.Tags.{Row, RowOf, bare_row, once_row, thrice_row, thrice_again, numbered_row, rows_take}
 
 none_is_not_some : {A : Type 0} (x : A) → None ≡ Some x → ⊥
@@ -124,9 +124,13 @@ open_row : (v : Version) → Row step_bytes (IsStepIn v) 0 open_from
 unfolding open_from
 open_row v = thrice_row step_bytes (IsStepIn v) word_from word (λ n. n < 2 ^ 32) words 0 step.Open (λ a b c. refl) (λ a b c p q r. (p, q, r))
 
+spam_row : (v : Version) → has_spam v ≡ true → RowOf step_bytes (IsStepIn v) (7, numbered_from bit bits step.SetSpam)
+spam_row v has = numbered_row step_bytes (IsStepIn v) bit bits 7 step.SetSpam (λ on. refl) (λ on. has)
+
 later_rows_right : (v : Version) → AllByRecursion (RowOf step_bytes (IsStepIn v)) (later_step_rows v)
 later_rows_right One = tt
-later_rows_right Two = (numbered_row step_bytes (IsStepIn Two) bit bits 7 step.SetSpam (λ on. refl) (λ on. refl), tt)
+later_rows_right Two = (spam_row Two refl, tt)
+later_rows_right Three = (spam_row Three refl, tt)
 
 step_rows_right : (v : Version) → AllByRecursion (RowOf step_bytes (IsStepIn v)) (step_rows v)
 step_rows_right v = (
@@ -179,6 +183,7 @@ spam_again : (v : Version) (on : Bool) (rest : List ℕ) → has_spam v ≡ true
 unfolding byte_from
 spam_again One on rest has = absurd cc
 spam_again Two on rest has = ap (λ (o : Option Bool). o >>= λ a. Some (step.SetSpam a, rest)) (bit_again on)
+spam_again Three on rest has = ap (λ (o : Option Bool). o >>= λ a. Some (step.SetSpam a, rest)) (bit_again on)
 
 step_again : (v : Version) (s : Step) (rest : List ℕ) → IsStepIn v s → IsBlock (step_bytes s) → step_from v (step_bytes s ++ rest) ≡ Some (s, rest)
 unfolding step_from byte_from
@@ -338,7 +343,7 @@ both_true false b e = absurd cc
 
 pub magic_takes : (bytes : List ℕ) (x : Version × List ℕ) → IsBytes bytes → version_from bytes ≡ Some x → Takes bytes (magic x.0) x.1
 unfolding version_from
-magic_takes bytes x fits e = by (bytes_eq (take 8 bytes) (magic Two)) (bytes_eq (take 8 bytes) (magic One)) refl refl e
+magic_takes bytes x fits e = by (bytes_eq (take 8 bytes) (magic Three)) (bytes_eq (take 8 bytes) (magic Two)) (bytes_eq (take 8 bytes) (magic One)) refl refl refl e
   where
     begins : (v : Version) → bytes_eq (take 8 bytes) (magic v) ≡ true → Takes bytes (magic v) (drop 8 bytes)
     begins v is = record {
@@ -346,58 +351,64 @@ magic_takes bytes x fits e = by (bytes_eq (take 8 bytes) (magic Two)) (bytes_eq 
       rest_fits = IsBytes-drop 8 bytes fits;
     }
 
-    by : (two one : Bool) → bytes_eq (take 8 bytes) (magic Two) ≡ two → bytes_eq (take 8 bytes) (magic One) ≡ one
-        → cond two (Some (Two, drop 8 bytes)) (cond one (Some (One, drop 8 bytes)) None) ≡ Some x → Takes bytes (magic x.0) x.1
-    by true one p q f = subst (λ (y : Version × List ℕ). Takes bytes (magic y.0) y.1) (some_is (Two, drop 8 bytes) x f) (begins Two p)
-    by false true p q f = subst (λ (y : Version × List ℕ). Takes bytes (magic y.0) y.1) (some_is (One, drop 8 bytes) x f) (begins One q)
-    by false false p q f = let h : None ≡ Some x = f in absurd (none_is_not_some x h)
+    is_begun : (v : Version) → bytes_eq (take 8 bytes) (magic v) ≡ true → Some (v, drop 8 bytes) ≡ Some x → Takes bytes (magic x.0) x.1
+    is_begun v is f = subst (λ (y : Version × List ℕ). Takes bytes (magic y.0) y.1) (some_is (v, drop 8 bytes) x f) (begins v is)
+
+    by : (three two one : Bool) → bytes_eq (take 8 bytes) (magic Three) ≡ three → bytes_eq (take 8 bytes) (magic Two) ≡ two → bytes_eq (take 8 bytes) (magic One) ≡ one
+        → cond three (Some (Three, drop 8 bytes)) (cond two (Some (Two, drop 8 bytes)) (cond one (Some (One, drop 8 bytes)) None)) ≡ Some x → Takes bytes (magic x.0) x.1
+    by true two one o p q f = is_begun Three o f
+    by false true one o p q f = is_begun Two p f
+    by false false true o p q f = is_begun One q f
+    by false false false o p q f = let h : None ≡ Some x = f in absurd (none_is_not_some x h)
 
 pub magic_again : (v : Version) (rest : List ℕ) → version_from (magic v ++ rest) ≡ Some (v, rest)
 unfolding version_from
 magic_again One rest = refl
 magic_again Two rest = refl
+magic_again Three rest = refl
 
 abbrev seats_fit : Version → ℕ → Bool
-seats_fit v n = leb 1 n && leb n (most_seats_in v)
+seats_fit v n = leb (least_seats_in v) n && leb n (most_seats_in v)
 
-pub seats_take : (v : Version) (bytes : List ℕ) (x : ℕ × List ℕ) → IsBytes bytes → seats_from v bytes ≡ Some x → Takes bytes (word x.0) x.1 × (1 ≤ x.0) × (x.0 ≤ most_seats_in v)
+pub seats_take : (v : Version) (bytes : List ℕ) (x : ℕ × List ℕ) → IsBytes bytes → seats_from v bytes ≡ Some x → Takes bytes (word x.0) x.1 × IsSeatsIn v x.0
 unfolding seats_from
 seats_take v bytes x fits e =
     let p = bind_some (word_from bytes) (λ b. cond (seats_fit v b.0) (Some b) None) x e in
     let d = demand_some (seats_fit v p.0.0) (Some p.0) x p.2 in
     let limits = both_true _ _ d.0 in
     let t = words.takes bytes p.0 fits p.1 in
-    let made : Takes bytes (word p.0.0) p.0.1 × (1 ≤ p.0.0) × (p.0.0 ≤ most_seats_in v) = (t.0, leb-true _ _ limits.0, leb-true _ _ limits.1) in
-    subst (λ (y : ℕ × List ℕ). Takes bytes (word y.0) y.1 × (1 ≤ y.0) × (y.0 ≤ most_seats_in v)) (some_is p.0 x d.1) made
+    let made : Takes bytes (word p.0.0) p.0.1 × IsSeatsIn v p.0.0 = (t.0, (leb-true _ _ limits.0, leb-true _ _ limits.1)) in
+    subst (λ (y : ℕ × List ℕ). Takes bytes (word y.0) y.1 × IsSeatsIn v y.0) (some_is p.0 x d.1) made
 
 -- a number of seats has its width
 pub seats_small : (v : Version) (n : ℕ) → n ≤ most_seats_in v → n < 2 ^ 32
 seats_small One n few = omega (arith, few)
 seats_small Two n few = omega (arith, few)
+seats_small Three n few = omega (arith, few)
 
-pub seats_again : (v : Version) (n : ℕ) (rest : List ℕ) → 1 ≤ n → n ≤ most_seats_in v → seats_from v (word n ++ rest) ≡ Some (n, rest)
+pub seats_again : (v : Version) (n : ℕ) (rest : List ℕ) → IsSeatsIn v n → seats_from v (word n ++ rest) ≡ Some (n, rest)
 unfolding seats_from
-seats_again v n rest some few = rw (words.again n rest (seats_small v n few), le-leb 1 n some, le-leb n (most_seats_in v) few) refl
+seats_again v n rest fits = rw (words.again n rest (seats_small v n fits.1), le-leb (least_seats_in v) n fits.0, le-leb n (most_seats_in v) fits.1) refl
 
 -- what is read behind the magic is a journal of this version
 record_takes : (v : Version) (bytes behind : List ℕ) (r : Record) → Takes bytes (magic v) behind → record_from v behind ≡ Some r → IsJournalIn v r × (bytes ≡ spelling_in v r)
 unfolding record_from
 record_takes v bytes behind r begun e =
-    let p = bind_some (seats_from v behind) (λ a. word_from a.1 >>= λ b. entries_from v a.0 b.0 b.1 >>= λ c. cond (eqb (length c.1) 0) (Some (record { seats = a.0; entries = c.0 })) None) r e in
-    let q = bind_some (word_from p.0.1) (λ b. entries_from v p.0.0 b.0 b.1 >>= λ c. cond (eqb (length c.1) 0) (Some (record { seats = p.0.0; entries = c.0 })) None) r p.2 in
+    let p = bind_some (seats_from v behind) (λ a. count_from v a.1 >>= λ b. entries_from v a.0 b.0 b.1 >>= λ c. cond (eqb (length c.1) 0) (Some (record { seats = a.0; entries = c.0 })) None) r e in
+    let q = bind_some (count_from v p.0.1) (λ b. entries_from v p.0.0 b.0 b.1 >>= λ c. cond (eqb (length c.1) 0) (Some (record { seats = p.0.0; entries = c.0 })) None) r p.2 in
     let u = bind_some (entries_from v p.0.0 q.0.0 q.0.1) (λ c. cond (eqb (length c.1) 0) (Some (record { seats = p.0.0; entries = c.0 })) None) r q.2 in
     let found : Record = record { seats = p.0.0; entries = u.0.0 } in
     let d = demand_some (eqb (length u.0.1) 0) (Some found) r u.2 in
     let s = seats_take v behind p.0 begun.rest_fits p.1 in
     let t0 : Takes bytes (magic v ++ word p.0.0) p.0.1 = Takes-then bytes (magic v) behind (word p.0.0) p.0.1 begun s.0 in
-    let t1 = words.takes p.0.1 q.0 t0.rest_fits q.1 in
+    let t1 = (counts v).takes p.0.1 q.0 t0.rest_fits q.1 in
     let t2 = entries_take v p.0.0 q.0.0 q.0.1 u.0 t1.0.rest_fits u.1 in
     let nothing : u.0.1 ≡ [] = nil_from_length u.0.1 (eqb-true _ _ d.0) in
-    let heading : Takes bytes (magic v ++ word p.0.0 ++ word (length u.0.0)) q.0.1 =
-    subst (λ (n : ℕ). Takes bytes (magic v ++ word p.0.0 ++ word n) q.0.1) (sym t2.1) (Takes-then bytes (magic v ++ word p.0.0) p.0.1 (word q.0.0) q.0.1 t0 t1.0) in
+    let heading : Takes bytes (magic v ++ word p.0.0 ++ count_bytes v (length u.0.0)) q.0.1 =
+    subst (λ (n : ℕ). Takes bytes (magic v ++ word p.0.0 ++ count_bytes v n) q.0.1) (sym t2.1) (Takes-then bytes (magic v ++ word p.0.0) p.0.1 (count_bytes v q.0.0) q.0.1 t0 t1.0) in
     let parts = (Takes-then bytes (heading_in v p.0.0 (length u.0.0)) q.0.1 (flat_map entry_bytes u.0.0) u.0.1 heading t2.0).parts in
     let all : bytes ≡ spelling_in v found = parts ∙ ap (λ (t : List ℕ). spelling_in v found ++ t) nothing ∙ append-nil (spelling_in v found) in
-    let made : IsJournalIn v found × (bytes ≡ spelling_in v found) = (record { some_seat = s.1; seats = s.2; count = omega (arith, t1.1, t2.1); entries = t2.2 }, all) in
+    let made : IsJournalIn v found × (bytes ≡ spelling_in v found) = (record { seats = s.1; count = omega (arith, t1.1, t2.1); entries = t2.2 }, all) in
     subst (λ (y : Record). IsJournalIn v y × (bytes ≡ spelling_in v y)) (some_is found r d.1) made
 
 journal_takes : (bytes : List ℕ) (r : Record) → IsBytes bytes → journal_in bytes ≡ Some r → Tells bytes r
@@ -408,22 +419,22 @@ journal_takes bytes r fits e =
     (p.0.0, t.0, t.1)
 
 -- what stands behind the magic
-abbrev behind : Record → List ℕ
-behind r = word r.seats ++ (word (length r.entries) ++ flat_map entry_bytes r.entries)
+abbrev behind : Version → Record → List ℕ
+behind v r = word r.seats ++ (count_bytes v (length r.entries) ++ flat_map entry_bytes r.entries)
 
-record_again : (v : Version) (r : Record) → IsJournalIn v r → record_from v (behind r) ≡ Some r
+record_again : (v : Version) (r : Record) → IsJournalIn v r → record_from v (behind v r) ≡ Some r
 unfolding record_from
 record_again v r fits =
     let rest : entries_from v r.seats (length r.entries) (flat_map entry_bytes r.entries) ≡ Some (r.entries, []) =
-    ap (entries_from v r.seats (length r.entries)) (sym (append-nil (flat_map entry_bytes r.entries))) ∙ entries_again v r.seats r.entries [] (seats_small v r.seats fits.seats) fits.entries in
-    rw (seats_again v r.seats (word (length r.entries) ++ flat_map entry_bytes r.entries) fits.some_seat fits.seats, words.again (length r.entries) (flat_map entry_bytes r.entries) fits.count, rest) refl
+    ap (entries_from v r.seats (length r.entries)) (sym (append-nil (flat_map entry_bytes r.entries))) ∙ entries_again v r.seats r.entries [] (seats_small v r.seats fits.seats.1) fits.entries in
+    rw (seats_again v r.seats (count_bytes v (length r.entries) ++ flat_map entry_bytes r.entries) fits.seats, (counts v).again (length r.entries) (flat_map entry_bytes r.entries) fits.count, rest) refl
 
 journal_again : (v : Version) (r : Record) → IsJournalIn v r → journal_in (spelling_in v r) ≡ Some r
 unfolding journal_in
 journal_again v r fits =
-    let regrouped : spelling_in v r ≡ magic v ++ behind r =
-    append_assoc (magic v ++ word r.seats) (word (length r.entries)) (flat_map entry_bytes r.entries) ∙ append_assoc (magic v) (word r.seats) (word (length r.entries) ++ flat_map entry_bytes r.entries) in
-    ap (λ (bytes : List ℕ). version_from bytes >>= λ x. record_from x.0 x.1) regrouped ∙ rw (magic_again v (behind r)) (record_again v r fits)
+    let regrouped : spelling_in v r ≡ magic v ++ behind v r =
+    append_assoc (magic v ++ word r.seats) (count_bytes v (length r.entries)) (flat_map entry_bytes r.entries) ∙ append_assoc (magic v) (word r.seats) (count_bytes v (length r.entries) ++ flat_map entry_bytes r.entries) in
+    ap (λ (bytes : List ℕ). version_from bytes >>= λ x. record_from x.0 x.1) regrouped ∙ rw (magic_again v (behind v r)) (record_again v r fits)
 
 pub is_told : (bytes : List ℕ) (r : Record) → Tells bytes r → journal_in bytes ≡ Some r
 is_told bytes r told = ap journal_in told.2 ∙ journal_again told.0 r told.1

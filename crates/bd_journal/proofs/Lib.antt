@@ -1,5 +1,6 @@
 pub mod Loop
 pub mod Pieces
+pub mod Headings
 pub mod FieldLaws
 pub mod Tags
 pub mod Laws

@@ -1,11 +1,11 @@
 -- Reading what is whole of a journal that was cut off.
-use Rattle.std.specs.Prelude.{◌≡◌, ℕ, zero, suc, ◌<◌, ◌≤◌, ◌^◌, List, [], ◌∷◌, ◌++◌, length, Option, Some, None}
+use Rattle.std.specs.Prelude.{◌≡◌, ℕ, zero, suc, ◌<◌, List, [], ◌∷◌, ◌++◌, length, Option, Some, None}
 use Rattle.std.specs.List.{flat_map, AllByRecursion}
 use Rattle.bd_space.specs.declared.step.Entry.{Entry}
 use Rattle.bd_space.specs.declared.record.Record.{Record}
 use Rattle.bd_journal.specs.declared.versions.Version.{Version}
-use Rattle.bd_journal.specs.Spelling.{most_seats_in, entry_bytes, heading_in, IsEntryIn}
-use Rattle.bd_journal.specs.Reading.{◌>>=◌, word_from, entry_from, version_from, seats_from}
+use Rattle.bd_journal.specs.Spelling.{count_limit, entry_bytes, heading_in, IsSeatsIn, IsEntryIn}
+use Rattle.bd_journal.specs.Reading.{◌>>=◌, entry_from, version_from, seats_from, count_from}
 
 -- these entries before what is read behind them
 abbrev pub behind : List Entry → List Entry × List ℕ → List Entry × List ℕ
@@ -27,14 +27,13 @@ unfoldable pub cut_in : List ℕ → Option (Record × List ℕ)
 cut_in bytes = do
   begun ← version_from bytes
   seats ← seats_from begun.0 begun.1
-  count ← word_from seats.1
+  count ← count_from begun.0 seats.1
   let read = whole_from begun.0 seats.0 (length count.1) count.1 in Some (record { seats = seats.0; entries = read.0 }, read.1)
 
 -- the bytes are a heading with some count, the spelling of each entry, and then bytes that no entry begins
 pub record IsCutIn (v : Version) (count : ℕ) (bytes : List ℕ) (r : Record) (left : List ℕ) : Type 0 where
-  pub some_seat : 1 ≤ r.seats
-  pub seats : r.seats ≤ most_seats_in v
-  pub count_fits : count < 2 ^ 32
+  pub seats : IsSeatsIn v r.seats
+  pub count_fits : count < count_limit v
   pub entries : AllByRecursion (IsEntryIn v r.seats) r.entries
   pub parts : bytes ≡ heading_in v r.seats count ++ flat_map entry_bytes r.entries ++ left
   pub none_left : entry_from v r.seats left ≡ None

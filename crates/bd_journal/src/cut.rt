@@ -1,15 +1,13 @@
 //! Reading a journal that was cut off, or that is still being written.
 
 ghost use Rattle.std.specs.Prelude.{◌≡◌, List, ℕ, [], ◌++◌, length, IfOk, Some};
-ghost use Rattle.bd_uapi.specs.Limits.{IsSeats};
 ghost use Rattle.bd_space.specs.declared.record.Record.{Record};
 ghost use Rattle.bd_journal.specs.Cut.{Continues, IsCut, cut_in, whole_from};
 ghost use Rattle.bd_journal.specs.Reading.{Gives};
-ghost use Rattle.bd_journal.specs.Spelling.{Tells};
+ghost use Rattle.bd_journal.specs.Spelling.{IsRecordSeats, Tells};
 
 use crate::fault::ReadError;
-use crate::fields::word_at;
-use crate::reading::{entry_at, seats_at};
+use crate::reading::{count_at, entry_at, seats_at};
 use crate::versions::{Version, version_at};
 use bd_space::{Entries, Entry, Record};
 use std::alloc::Global;
@@ -48,7 +46,7 @@ fn cut_of(alloc: Global, bytes: &[u8]) -> Result<(Record, &[u8]), ReadError>
         return Err(ReadError::Malformed);
     };
     let (seats, rest) = seats_at(version, rest)?;
-    let (_, rest) = word_at(rest)?;
+    let (_, rest) = count_at(version, rest)?;
     let (entries, rest) = whole_at(alloc, version, seats, rest)?;
     let record = Record {
         seats,
@@ -57,9 +55,9 @@ fn cut_of(alloc: Global, bytes: &[u8]) -> Result<(Record, &[u8]), ReadError>
     Ok((record, rest))
 }
 
-/// The record of the entries that are whole in a journal of either version which was cut off anywhere behind its heading (16
-/// bytes) or is still being written, and the bytes behind them. The count in its heading isn't looked at: while a journal is
-/// written there is none yet.
+/// The record of the entries that are whole in a journal of any version which was cut off anywhere behind its heading (16
+/// bytes, 20 in the third) or is still being written, and the bytes behind them. The count in its heading isn't looked at:
+/// while a journal is written there is none yet.
 ///
 /// What isn't the end of a cut entry is left in the same way: look how many bytes are left, and wonder where they are more
 /// than an entry has.
@@ -69,8 +67,8 @@ fn cut_of(alloc: Global, bytes: &[u8]) -> Result<(Record, &[u8]), ReadError>
 pub fn read_cut(alloc: Global, bytes: &[u8]) -> Result<(Record, &[u8]), ReadError>
     // Each entry that is read is there, and no entry begins where the bytes that are left do.
     ensures found { IfOk result (λ x. IsCut bytes.now x.0 x.1.now) }
-    // It has as many seats as a driver may.
-    ensures seats { IfOk result (λ x. IsSeats x.0.seats) }
+    // It has as many seats as a record may.
+    ensures seats { IfOk result (λ x. IsRecordSeats x.0.seats) }
     // Nothing else is read of what is so, and it is read unless memory runs out.
     ensures only { (r : Record) (left : List ℕ) → IsCut bytes.now r left
         → Gives {Y = Record × List ℕ} (λ x. (x.0, x.1.now)) result (Some (r, left)) }

@@ -11,3 +11,4 @@ mod Naming
 mod Paging
 mod Places
 mod Singles
+pub mod Nearest

@@ -1,7 +1,7 @@
 -- The numbers (handles) that new names get, and their limit.
-use Rattle.std.specs.Prelude.{ℕ, suc, ◌≡◌, ◌==◌, ◌<◌, ◌&&◌, Bool, not, List, [], ◌∷◌, ◌++◌, length, None, is_some, unwrap_or, if◌then◌else◌}
+use Rattle.std.specs.Prelude.{ℕ, suc, ◌≡◌, ◌==◌, ◌<◌, ◌≤◌, ◌&&◌, Bool, true, not, List, [], ◌∷◌, ◌++◌, length, Option, Some, None, is_some, unwrap_or, if◌then◌else◌}
 use Rattle.bd_ways.specs.Words.{list_any, ObjectId, Name, least}
-use Rattle.bd_space.specs.Names.{number_in}
+use Rattle.bd_space.specs.Names.{named_in, number_in}
 
 -- p has a name with this number
 abbrev pub is_used_in : List Name → ℕ → ℕ → Bool
@@ -26,3 +26,9 @@ with_number from_zero p names o =
 pub record IsFull (from_zero : Bool) (p : ℕ) (names : List Name) (o : ObjectId) : Type 0 where
   pub lacks : number_in names p o ≡ None
   pub past : 4294967294 < new_number from_zero p names
+
+-- the least number from this one on that names something for p
+abbrev pub IsNextNumber : List Name → ℕ → ℕ → Option ℕ → Type 0
+IsNextNumber names p from None = (n : ℕ) → from ≤ n → named_in names p n ≡ None
+IsNextNumber names p from (Some n) =
+    (from ≤ n) × (is_some (named_in names p n) ≡ true) × ((m : ℕ) → from ≤ m → m < n → named_in names p m ≡ None)

@@ -1,9 +1,10 @@
 //! Names, found by number and by object.
 
-ghost use Rattle.std.specs.Prelude.{◌≡◌, ◌==◌, ◌≤◌, ◌<◌, ◌+◌, ◌++◌, ◌∷◌, [], not, filter, None, List, Some, MatchOption, OnOk, OnErr};
+ghost use Rattle.std.specs.Prelude.{◌≡◌, ◌==◌, ◌≤◌, ◌<◌, ◌+◌, ◌&&◌, ◌++◌, ◌∷◌, [], not, nat_le, is_some, filter, None, List, Some, MatchOption, OnOk, OnErr};
 ghost use Rattle.bd_space.specs.declared.space.Name as declared;
 ghost use Rattle.bd_space.specs.Names as names_of;
 ghost use Rattle.bd_names.specs.Numbers as numbers;
+ghost use Rattle.bd_names.specs.Numbers.{IsNextNumber};
 ghost use Rattle.bd_names.specs.{Sound.{has_number, has_object}, Named.{Named, HasNumbers, index_room, place_of}};
 
 use crate::keys::{ObjectKey, number_of, put_number, take_number};
@@ -62,6 +63,27 @@ impl Names {
         ensures { (l : List declared.Name) → Named self.now l → result ≡ names_of.named_in l p n }
     {
         self.pages.at(p, place_of(n))
+    }
+
+    // Whether the number is this one or past it, and names something for the process.
+    fn is_named_from(&self, p: u32, from: u32, n: u32) -> bool
+        ensures { (l : List declared.Name) → Named self.now l → result ≡ nat_le from n && is_some (names_of.named_in l p n) }
+    {
+        from <= n && self.named(p, n).is_some()
+    }
+
+    /// The least number from this one on that names something for the process. Those that do are among these.
+    pub fn next_among(&self, p: u32, from: u32, numbers: Members<'_, u32>) -> Option<u32>
+        ensures { (l : List declared.Name) → Named self.now l → HasNumbers numbers.entry p l
+            → IsNextNumber l p from result }
+    {
+        let mut next = None;
+        for n in numbers {
+            if self.is_named_from(p, from, n) {
+                next = Some(next.unwrap_or(n).min(n));
+            }
+        }
+        next
     }
 
     /// The process's number of the object.

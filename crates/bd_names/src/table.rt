@@ -5,7 +5,7 @@ ghost use Rattle.bd_space.specs.declared.space.Name as declared;
 ghost use Rattle.bd_space.specs.Words as words;
 ghost use Rattle.bd_space.specs.Names as names_of;
 ghost use Rattle.bd_space.specs.Notices as notices;
-ghost use Rattle.bd_names.specs.Numbers.{new_number, with_number, IsFull};
+ghost use Rattle.bd_names.specs.Numbers.{new_number, with_number, IsFull, IsNextNumber};
 ghost use Rattle.bd_names.specs.Stands.{NamesSince, NamesAre, name_room, Uses};
 
 use crate::held::reserve_held;
@@ -59,6 +59,18 @@ impl NameTable {
         ensures { (base l : List declared.Name) → NamesSince self.now base l → result ≡ names_of.named_in l p n }
     {
         self.names.named(p, n)
+    }
+
+    /// The least number from this one on that names something for the process. Where this one itself names nothing, it takes a look
+    /// for each number that is noted for the process, those of names that are gone too.
+    pub fn next_number(&self, p: u32, from: u32) -> Option<u32>
+        ensures { (base l : List declared.Name) → NamesSince self.now base l → IsNextNumber l p from result }
+    {
+        if self.names.named(p, from).is_some() {
+            return Some(from);
+        }
+        self.names
+            .next_among(p, from, self.held.of(Group::Process { made: p }))
     }
 
     /// The process's number of the object.

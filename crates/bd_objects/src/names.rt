@@ -1,6 +1,8 @@
 //! Names: the numbers (handles) by which processes know the objects of others.
 
 ghost use Rattle.bd_space.specs.Names as names_of;
+ghost use Rattle.bd_space.specs.Space.{Space};
+ghost use Rattle.bd_names.specs.Numbers.{IsNextNumber};
 
 use crate::table::ObjectTable;
 use bd_space::ObjectId;
@@ -15,6 +17,14 @@ impl ObjectTable {
         ensures { Tells (StandsFor self.now) result (λ s. names_of.named s p n) }
     {
         self.names.named(p, n)
+    }
+
+    /// The least number from this one on that names something for the process. Where this one itself names nothing, it takes a look
+    /// for each number that is noted for the process, those of names that are gone too.
+    pub fn next_number(&self, p: u32, from: u32) -> Option<u32>
+        ensures { (s : Space) → StandsFor self.now s → IsNextNumber s.names p from result }
+    {
+        self.names.next_number(p, from)
     }
 
     /// Whether the process is to have a name for the object: it is another's, and a reference carries the name.

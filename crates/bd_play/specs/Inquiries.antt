@@ -3,10 +3,8 @@ use Rattle.std.specs.Prelude.{◌≡◌, ℕ, true, false, List, Some, None, cod
 use Rattle.std.specs.Str.Parse.{digits_value, without_leading_plus}
 use Rattle.clap.specs.declared.parser.matches.Found.{Found}
 use Rattle.clap.specs.Matches.{first_value, one_text}
-use Rattle.bd_json.specs.declared.format.Format.{Format}
-use Rattle.bd_json.specs.declared.format.Format.TheVariants as format
-use Rattle.bd_show.specs.declared.questions.Question.{Question}
-use Rattle.bd_show.specs.declared.questions.Question.TheVariants.{Chain}
+use Rattle.bd_player.specs.declared.questions.Question.{Question}
+use Rattle.bd_player.specs.declared.questions.Question.TheVariants.{Chain}
 use Rattle.bd_play.specs.declared.inquiries.Inquiry.{Inquiry}
 use Rattle.bd_play.specs.declared.sources.Source.{Source}
 use Rattle.bd_play.specs.Orders.{IsTurns}
@@ -20,18 +18,12 @@ abbrev pub AskedBy : Found → Question → Type 0
 AskedBy found (Chain pid handle) = IsNumberAt found (codes "pid") pid × IsNumberAt found (codes "handle") handle
 AskedBy found _ = ⊥
 
--- JSON where that was found, and text where nothing or that was
-pub record IsFormat (found : Found) (f : Format) : Type 0 where
-  pub json : first_value found (codes "format") ≡ Some (codes "json") → f ≡ format.Json
-  pub text : first_value found (codes "format") ≡ Some (codes "text") → f ≡ format.Text
-  pub usual : first_value found (codes "format") ≡ None → f ≡ format.Text
-
 -- the journal that was found, watched where the flag was given
 pub record IsSourceFound (found : Found) (s : Source) : Type 0 where
   pub file : first_value found (codes "file") ≡ Some s.file.now
   pub watched : one_text found (codes "progress") ≡ Some (codes "true") → s.progress ≡ true
   pub unwatched : one_text found (codes "progress") ≡ Some (codes "false") → s.progress ≡ false
 
--- of the journal that was found, in the form that was
+-- of the journal that was found
 abbrev pub AsksFound : Found → Inquiry → Type 0
-AsksFound found i = IsSourceFound found i.source × IsFormat found i.format
+AsksFound found i = IsSourceFound found i.source

@@ -6,14 +6,9 @@ ghost use Rattle.bd_play.specs.Orders.{IsManner, PlaysFound, PlaysInput};
 
 use crate::commands::Making;
 use crate::cuts::Mend;
-use crate::inquiries::{
-    Doubt, Inquiry, doubt_in, format_arg, format_in, inquiry_in, progress_arg, source_in,
-    with_inquiries,
-};
+use crate::inquiries::{Inquiry, inquiry_in, progress_arg, source_in, with_inquiries};
 use crate::script_help::SCRIPT_HELP;
-use crate::sketches::{Sketch, diagram_command, sketch_in};
 use crate::sources::Source;
-use bd_json::Format;
 use bd_player::{Fault, Manner};
 use clap::error::ErrorKind;
 use clap::{Arg, ArgAction, ArgMatches, Error, value_parser};
@@ -43,13 +38,13 @@ loop; another makes a one-way call with code 7 and the bytes 6869 to handle 0, a
     1 read 256
     0 read 256
 
-What happened in a run can be looked at and asked for afterwards, where its journal was written:
+What happened in a run can be asked for afterwards, where its journal was written:
 
     bplay run script --journal journal
-    bplay show journal                  all that was done, and what came back
-    bplay state journal --at 5          what each process had after 5 entries
+    bplay check journal                 whether it is a history
     bplay chain journal 200 1           who gave the process with pid 200 what its handle 1 names
-    bplay diagram journal > run.svg     the calls between threads, as a picture
+
+Another program shows all that a journal has: hullpippin show journal.
 
 Statuses: 0 done, or lawful; 1 a fault, or unlawful; 2 turns used up; 3 memory refused.";
 
@@ -94,8 +89,6 @@ pub struct Run<'a> {
     pub journal: Option<&'a str>,
     /// Whether it is told how far it is.
     pub progress: bool,
-    /// In which form it is told what its lines said.
-    pub format: Format,
 }
 
 /// What the words ask for.
@@ -111,10 +104,6 @@ pub enum Order<'a> {
     Mend(Mend<'a>),
     /// Answers a question about a journal.
     Ask(Inquiry<'a>),
-    /// Tells what a name means, or what is with a journal.
-    Explain(Doubt<'a>),
-    /// Draws a journal.
-    Draw(Sketch<'a>),
     /// Tells what scripts are.
     Script,
 }
@@ -164,7 +153,6 @@ fn run_command<'a>(alloc: Global) -> Making<'a> {
                 .value_name("OUT")
                 .help("Write the journal of the run here"),
         )
-        .arg(format_arg(alloc))
         .arg(progress_arg(alloc))
 }
 
@@ -206,9 +194,7 @@ fn program<'a>(alloc: Global) -> Making<'a> {
         .command(run_command(alloc))
         .command(check_command(alloc))
         .command(mend_command(alloc));
-    with_inquiries(alloc, program)
-        .command(diagram_command(alloc))
-        .command(script_command(alloc))
+    with_inquiries(alloc, program).command(script_command(alloc))
 }
 
 fn matches_of<'a>(alloc: Global, words: &'a [String]) -> Result<ArgMatches<'a>, Error> {
@@ -229,17 +215,11 @@ fn manner_in(matches: &ArgMatches<'_>) -> Manner
 fn run_order<'a>(matches: &ArgMatches<'a>) -> Option<Order<'a>>
     ensures { IfSome result (PlaysFound (found_of matches.now)) }
 {
-    let (manner, format) = (manner_in(matches), format_in(matches));
-    // What threads say is told as text alone.
-    if manner.threads && format == Format::Json {
-        return None;
-    }
     Some(Order::Run(Run {
         file: matches.get_str("file")?,
-        manner,
+        manner: manner_in(matches),
         journal: matches.get_str("journal"),
         progress: matches.get_flag("progress"),
-        format,
     }))
 }
 
@@ -265,8 +245,6 @@ fn order_in<'a>(matches: &ArgMatches<'a>) -> Option<Order<'a>> {
         "run" => run_order(inner),
         "check" => Some(check_order(inner, source_in(inner)?)),
         "mend" => Some(Order::Mend(mend_in(inner)?)),
-        "explain" => Some(Order::Explain(doubt_in(inner)?)),
-        "diagram" => Some(Order::Draw(sketch_in(inner)?)),
         "script" => Some(Order::Script),
         _ => Some(Order::Ask(inquiry_in(name, inner)?)),
     }
@@ -294,7 +272,6 @@ pub fn order_of<'a>(alloc: Global, words: &'a [String]) -> Result<Order<'a>, Ref
             manner,
             journal: None,
             progress: false,
-            format: Format::Text,
         }));
     }
     match matches_of(alloc, words) {

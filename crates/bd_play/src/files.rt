@@ -4,8 +4,7 @@ use crate::arguments::Run;
 use crate::draft::{Draft, draft_for};
 use crate::progress::{Counted, Progress, lines_in};
 use crate::sources::{ENTRIES, INPUT, Source, opened};
-use bd_json::play_in;
-use bd_player::{Fault, Played, check_journal, check_watched, tell};
+use bd_player::{Fault, Played, check_journal, check_watched, play_from, tell};
 use bd_space::Record;
 use std::fs;
 use std::io::{Eprint, Read, Write};
@@ -93,14 +92,7 @@ where
     let progress = Progress::new(rt, "lines");
     let all = lines_of(&bytes);
     let mut out = Counted::new(out, progress, all);
-    play_in(
-        rt,
-        &mut bytes.as_slice(),
-        run.manner,
-        run.format,
-        &mut out,
-        err,
-    )
+    play_from(rt, &mut bytes.as_slice(), run.manner, &mut out, err)
 }
 
 // Plays a script that a reader has.
@@ -121,7 +113,7 @@ where
     let played = if run.progress {
         play_counted(rt, script, run, out, err)
     } else {
-        play_in(rt, script, run.manner, run.format, out, err)
+        play_from(rt, script, run.manner, out, err)
     };
     match settle(rt, draft, &played.history) {
         Ok(()) => played.status,

@@ -7,21 +7,21 @@ mod commands;
 mod cuts;
 mod draft;
 mod files;
+mod hints;
 mod inquiries;
 mod output;
 mod progress;
 mod script_help;
-mod sketches;
 mod sources;
 
 use arguments::{Order, Refused, order_of};
-use asking::{ask, explain};
+use asking::ask;
 use bd_player::{DONE, Fault, after_writing, tell};
 use cuts::{check_cut_file, mend_file};
 use files::{check_file, run_file};
+use hints::hint;
 use output::Output;
 use script_help::SCRIPT_HELP;
-use sketches::draw_journal;
 use std::alloc::Global;
 use std::io::{BufWriter, Eprint, Write};
 use std::process::ExitCode;
@@ -55,8 +55,6 @@ where
         Order::CheckCut(check) => check_cut_file(rt, check, out, err),
         Order::Mend(mend) => mend_file(rt, mend, out, err),
         Order::Ask(inquiry) => ask(rt, inquiry, out, err),
-        Order::Explain(doubt) => explain(rt, doubt, out, err),
-        Order::Draw(sketch) => draw_journal(rt, sketch, out, err),
         Order::Script => after_writing(write!(out, "{SCRIPT_HELP}"), DONE),
     };
     status.max(ended(out.end(), err))
@@ -73,9 +71,18 @@ fn words<H: Runtime<A = Global>>(rt: &H) -> Result<Vec<String>, Fault> {
 }
 
 // The status where there is no order: what is amiss is told, or help is printed.
-fn refuse<H: Runtime<A = Global>, E: Write>(rt: &H, refused: Refused, err: &mut E) -> u8 {
+fn refuse<H: Runtime<A = Global>, E: Write>(
+    rt: &H,
+    refused: Refused,
+    words: &[String],
+    err: &mut E,
+) -> u8 {
     match refused {
-        Refused::Fault(fault) => tell(fault, err),
+        Refused::Fault(fault) => {
+            let status = tell(fault, err);
+            hint(words, err);
+            status
+        }
         Refused::Help(help) => ended(help.print(rt).map_err(|_| Fault::Output), err),
     }
 }
@@ -99,7 +106,7 @@ fn run<H: Runtime<A = Global> + Threads + Wait + Sync, E: Write>(rt: &H, err: &m
     };
     match order_of(rt.alloc(), words.as_slice()) {
         Ok(order) => print(rt, order, err),
-        Err(refused) => refuse(rt, refused, err),
+        Err(refused) => refuse(rt, refused, words.as_slice(), err),
     }
 }
 

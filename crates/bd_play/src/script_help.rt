@@ -53,5 +53,5 @@ Each line that runs prints its number and what came of it. FROM TO are the place
     14: turns                   the turns of the line are used up
     15: idle                    nothing was done
 
-bplay explain NAME tells what F12, X6 or N1 means.
+Another program tells what F12, X6 or N1 means: hullpippin explain NAME.
 ";

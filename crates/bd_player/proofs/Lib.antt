@@ -1,4 +1,6 @@
 pub mod Ends
+pub mod Gifts
 pub mod Kept
 pub mod Lines
 pub mod Says
+pub mod Streams

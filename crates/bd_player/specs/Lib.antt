@@ -4,3 +4,9 @@ pub mod Printing
 pub mod Verdicts
 pub mod Workers
 pub mod Cuts
+pub mod Pids
+pub mod Entries
+pub mod Streams
+pub mod Payloads
+pub mod Certified
+pub mod Answered

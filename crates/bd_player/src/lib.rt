@@ -1,17 +1,28 @@
-//! What `bplay` does, apart from its words and files: it plays scripts against a driver, and judges journals.
+//! What `bplay` does, apart from its words and files: it plays scripts against a driver, judges journals, and answers questions
+//! about them.
 #![tactic(auto)]
 
+mod answers;
 mod blocks;
+mod certificates;
 mod cuts;
+mod entries;
 mod faults;
 mod journals;
 mod manner;
+mod names;
+mod pids;
 mod playing;
 mod printing;
+mod questions;
+mod returns;
 mod said;
 mod sink;
+mod texts;
 mod threads;
+mod untold;
 mod verdicts;
+mod words;
 mod worker;
 
 pub use cuts::{Whole, check_cut, print_whole, whole_from};
@@ -23,8 +34,10 @@ pub use journals::{
 pub use manner::{Manner, play_from};
 pub use playing::{Played, laid, play, play_into, play_lines};
 pub use printing::{Printer, print};
+pub use questions::{Question, answer};
 pub use said::Said;
 pub use sink::Sink;
 pub use threads::{Told, gather, play_at, play_threads, print_told};
+pub use untold::Untold;
 pub use verdicts::{Judged, Verdict, verdict_on};
 pub use worker::act;

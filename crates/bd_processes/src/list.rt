@@ -1,6 +1,6 @@
 //! Processes in a list in which identities rise.
 
-ghost use Rattle.std.specs.Prelude.{◌≡◌, ◌<◌, ◌==◌, true, false, All, IfSome, MatchOption, length, slice_index_or};
+ghost use Rattle.std.specs.Prelude.{◌≡◌, ◌<◌, ◌==◌, true, false, nat_le, find, All, IfSome, MatchOption, length, slice_index_or};
 ghost use Rattle.std.specs.List.{list_all};
 ghost use Rattle.bd_space.specs.Seats as seats;
 ghost use Rattle.bd_space.specs.{Steps.{is_pid}, declared.space.Process.{Process}};
@@ -25,4 +25,12 @@ pub(crate) fn made_at(processes: &[Process], made: u32) -> Option<Process>
 {
     let i = index_of(processes, made)?;
     Some(processes[i])
+}
+
+/// The first process that was opened at this place or behind it. Found by halves.
+pub(crate) fn first_from(processes: &[Process], from: u32) -> Option<Process>
+    ensures { IsRising processes.now → result ≡ find (λ q. nat_le from q.made) processes.now }
+{
+    let i = processes.partition_point(|q| q.made < from);
+    processes.get(i).copied()
 }

@@ -1,6 +1,6 @@
 //! Looking at the processes.
 
-ghost use Rattle.std.specs.Prelude.{◌≡◌, ◌<◌, ◌==◌, true, false, All, List, IfSome, MatchOption, length, slice_index_or};
+ghost use Rattle.std.specs.Prelude.{◌≡◌, ◌<◌, ◌==◌, true, false, nat_le, find, All, List, IfSome, MatchOption, length, slice_index_or};
 ghost use Rattle.bd_space.specs.Seats as seats;
 ghost use Rattle.bd_space.specs.Steps.{is_pid};
 
@@ -38,6 +38,14 @@ impl ProcessTable {
     {
         let made = self.by_pid.get(pid_key(pid))?;
         self.made_at(made)
+    }
+
+    /// The first process that was opened at this place or behind it.
+    pub fn next_from(&self, from: u32) -> Option<Process>
+        ensures { (processes : List Process) → ProcessesAre self.now processes
+            → result ≡ find (λ q. nat_le from q.made) processes }
+    {
+        list::first_from(self.list.as_slice(), from)
     }
 
     /// Whether the process with this identity lives.

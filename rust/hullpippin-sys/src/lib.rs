@@ -64,7 +64,8 @@ pub const HULLPIPPIN_NOT_WAITING: u32 = 3;
 /// Serve: another seat has the engine.
 pub const HULLPIPPIN_TAKEN: u32 = 4;
 
-/// Post: there is no such kind of request; post, set_spam, live_set_spam: `on` is neither 0 nor 1.
+/// Post: there is no such kind of request; post, set_spam, live_set_spam: `on` is neither 0 nor 1; again: none came
+/// back.
 pub const HULLPIPPIN_NO_SUCH_REQUEST: u32 = 5;
 
 /// New: the number of seats isn't 1 to 31; live_new: 1 to 65536.
@@ -76,7 +77,8 @@ pub const HULLPIPPIN_NO_SEAT_LEFT: u32 = 7;
 /// Finish: a seat isn't back.
 pub const HULLPIPPIN_SEATS_AWAY: u32 = 8;
 
-/// Verdict: the bytes are no journal; journal, live_entry, live_heading: no journal spells it.
+/// Verdict, chain, call_of_reply, turns: the bytes are no journal; journal, live_entry, live_heading: no journal spells
+/// it.
 pub const HULLPIPPIN_NO_JOURNAL: u32 = 9;
 
 /// Live: the engine has no seat of that number.
@@ -90,6 +92,9 @@ pub const HULLPIPPIN_NO_COMMAND: u32 = 12;
 
 /// A handle isn't what the call is for: it is empty, or isn't where it has to be, or its driver has ended, or hasn't.
 pub const HULLPIPPIN_MISUSE: u32 = 13;
+
+/// Chain, call_of_reply, turns: the journal's entries aren't a history.
+pub const HULLPIPPIN_UNLAWFUL: u32 = 14;
 
 /// Collect, withdraw: it is still handed over.
 pub const HULLPIPPIN_HANDED: u32 = 0;
@@ -124,7 +129,7 @@ pub const HULLPIPPIN_AT_FAULT: u32 = 1;
 /// The last command that was run was refused: `number` is the cause, X1 to X16.
 pub const HULLPIPPIN_AT_CAUSE: u32 = 2;
 
-/// Another seat has the engine: call again, or post.
+/// Another seat has the engine: hullpippin_again, or post.
 pub const HULLPIPPIN_BACK_TAKEN: u32 = 1;
 
 /// The engine found no memory.
@@ -298,7 +303,7 @@ pub const HULLPIPPIN_NOTE_NONE_ASKED: u32 = 10;
 /// N11: no death was told with that cookie.
 pub const HULLPIPPIN_NOTE_NONE_TOLD: u32 = 11;
 
-/// HULLPIPPIN_DONE .. HULLPIPPIN_MISUSE.
+/// HULLPIPPIN_DONE .. HULLPIPPIN_UNLAWFUL.
 pub const HULLPIPPIN_TEXT_STATUS: u32 = 1;
 
 /// HULLPIPPIN_FAULT_SHORT_COMMAND ..
@@ -392,6 +397,21 @@ pub struct hullpippin_verdict_on {
     pub lawful: bool,
     /// How many of them are one, from the first on: all of them where it is lawful.
     pub entries: usize,
+}
+
+/// No place of a step: none has so many before it.
+pub const HULLPIPPIN_NO_PLACE: u32 = 0xffffffff;
+
+/// A one-way call on an object, by places of steps.
+#[repr(C)]
+#[derive(Clone, Copy, Debug, Default, PartialEq, Eq)]
+pub struct hullpippin_turn {
+    /// Its BC_TRANSACTION.
+    pub made: u32,
+    /// The read that got its BR_TRANSACTION, or HULLPIPPIN_NO_PLACE.
+    pub handed: u32,
+    /// The step with which its buffer ended, or HULLPIPPIN_NO_PLACE.
+    pub ended: u32,
 }
 
 /// A list of what is to be read: that of a thread, which it alone reads, or that of a process.
@@ -807,6 +827,36 @@ extern "C" {
     /// Judges the bytes of a journal, by playing its entries again. Needs no driver. Also NO_MEMORY, NO_JOURNAL.
     pub fn hullpippin_verdict(journal: *const u8, size: usize, verdict: *mut hullpippin_verdict_on) -> u32;
 
+    /// How what a handle names in the end came to the live process with this pid: the places of the gifts, rising. The
+    /// first is by the object's owner, or asks for the context manager's by 0; each later one is by who received it
+    /// before; the last is to this process. None where there is no such process or it has no such handle, and nowhere
+    /// else.
+    pub fn hullpippin_chain(
+        journal: *const u8,
+        size: usize,
+        pid: u32,
+        handle: u32,
+        out: *mut u32,
+        room: usize,
+        count: *mut usize,
+    ) -> u32;
+
+    /// Which call is answered by the reply that the read at a place got, by the place of its BC_TRANSACTION:
+    /// HULLPIPPIN_NO_PLACE where no reply was read there, and nowhere else.
+    pub fn hullpippin_call_of_reply(journal: *const u8, size: usize, place: u32, call: *mut u32) -> u32;
+
+    /// The one-way calls on an object, in the order in which they were made. The object is the one that the step at
+    /// `place` made, or of several the one of this index, from 0.
+    pub fn hullpippin_turns(
+        journal: *const u8,
+        size: usize,
+        place: u32,
+        index: u32,
+        out: *mut hullpippin_turn,
+        room: usize,
+        count: *mut usize,
+    ) -> u32;
+
     /// Lets go of a driver, or of an ended one's history, and empties the handle. Seats that are away stay usable. Does
     /// nothing where it is empty.
     pub fn hullpippin_free_driver(driver: *mut hullpippin_driver);
@@ -858,6 +908,11 @@ extern "C" {
 
     /// Ends the seat's process with all its threads.
     pub fn hullpippin_exit_process(seat: *mut hullpippin_seat, answer: *mut hullpippin_answer) -> u32;
+
+    /// Makes the request again that came back with the seat's latest answer, of these calls, hullpippin_collect or
+    /// hullpippin_withdraw. Its bytes needn't be there any more, and aren't copied anew. Also NO_SUCH_REQUEST, where
+    /// that answer wasn't BACK, or there was none, and nowhere else.
+    pub fn hullpippin_again(seat: *mut hullpippin_seat, answer: *mut hullpippin_answer) -> u32;
 
     /// Copies a part of what a read got to `out`, if all of it fits in `room` bytes, and else nothing. Answers how many
     /// bytes it has, 0 where the latest answer isn't GOT. Takes no memory.
@@ -1089,6 +1144,20 @@ extern "C" {
 
     /// The death notification that was asked for at this place.
     pub fn hullpippin_live_death(live: *mut hullpippin_live, made: u32, death: *mut hullpippin_death) -> bool;
+
+    /// The first live process that was opened at the place `from` or behind it: the place of its open. To go through
+    /// all that there are, begin with 0, and go on with one more than was told; the same goes for the two looks that
+    /// follow.
+    pub fn hullpippin_live_next_process(live: *mut hullpippin_live, from: u32, place: *mut u32) -> bool;
+
+    /// The least handle, `from` or above it, that names something for the live process with this pid. Where `from`
+    /// itself names nothing, it looks at each handle that is noted for the process, those of names that are gone too
+    /// until room for more is made.
+    pub fn hullpippin_live_next_handle(live: *mut hullpippin_live, pid: u32, from: u32, handle: *mut u32) -> bool;
+
+    /// The first live buffer of a process, named by the place of its open, that was made at the place `from` or behind
+    /// it: where it was made.
+    pub fn hullpippin_live_next_buffer(live: *mut hullpippin_live, process: u32, from: u32, made: *mut u32) -> bool;
 
     /// Reads the command at the head of a stream. Answers 0, or the number of the fault by which none is there, F1 to
     /// F3, and then `command` stays as it was. What comes behind the command isn't looked at.

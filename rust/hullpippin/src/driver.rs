@@ -219,6 +219,13 @@ impl Seat {
         self.asked(|seat, answer| unsafe { sys::hullpippin_exit_process(seat, answer) })
     }
 
+    /// Makes the request again that the seat's latest answer gave back ([`Outcome::Back`]), without another copy of its bytes.
+    /// [`Error::NothingBack`] where it gave none back.
+    pub fn again(&mut self) -> Result<Outcome, Error> {
+        let outcome = self.asked(|seat, answer| unsafe { sys::hullpippin_again(seat, answer) });
+        outcome.map_err(|error| if error == Error::Status(sys::HULLPIPPIN_NO_SUCH_REQUEST) { Error::NothingBack } else { error })
+    }
+
     /// The page, by one load, whatever other seats do.
     pub fn look(&mut self) -> Page {
         let mut page = sys::hullpippin_page::default();

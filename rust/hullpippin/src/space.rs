@@ -3,6 +3,7 @@
 //! read. Processes, buffers, calls and death notifications are named by the place of the step that made them.
 use crate::Live;
 use hullpippin_sys as sys;
+use std::iter;
 
 /// The identity of an object: the place of the step that made it, and which of that step's objects it is, from 0.
 #[derive(Clone, Copy, Debug, PartialEq, Eq, Hash, PartialOrd, Ord)]
@@ -203,11 +204,45 @@ impl Work {
 ///     Ok(())
 /// }
 /// ```
+///
+/// What there is can be gone through. An iterator has the engine as long as it lasts: gather what it tells before looking at each.
+///
+/// ```
+/// use hullpippin::{Command, Live};
+///
+/// fn main() -> Result<(), hullpippin::Error> {
+///     let mut live = Live::new(2)?;
+///     live.open(0, 100, 1000, 4096)?;
+///     live.manager(0)?;
+///     live.open(1, 200, 2000, 4096)?;
+///     live.command(1, &Command::Increfs(0))?;
+///     let places: Vec<u32> = live.processes().collect();
+///     let pids: Vec<_> = places.iter().filter_map(|place| live.process(*place)).map(|it| it.pid).collect();
+///     assert_eq!(pids, [100, 200]);
+///     assert!(live.handles(200).eq([0]));
+///     assert_eq!(live.handles(100).count() + live.buffers(places[0]).count(), 0);
+///     Ok(())
+/// }
+/// ```
 impl Live {
     /// What a look fills, where it finds something.
     fn found<T: Default>(&mut self, look: impl FnOnce(*mut sys::hullpippin_live, *mut T) -> bool) -> Option<T> {
         let mut told = T::default();
         look(self.handle(), &mut told).then_some(told)
+    }
+
+    /// All that a look tells which has the first from a number on, one after the other.
+    fn each<'a, F>(&'a mut self, mut look: F) -> impl Iterator<Item = u32> + 'a
+    where
+        F: FnMut(*mut sys::hullpippin_live, u32, *mut u32) -> bool + 'a,
+    {
+        let mut from = Some(0);
+        iter::from_fn(move || {
+            let first = from?;
+            let next = self.found(|live, next| look(live, first, next))?;
+            from = next.checked_add(1);
+            Some(next)
+        })
     }
 
     /// All that a look tells, from index 0 on.
@@ -230,6 +265,21 @@ impl Live {
     /// The live process with this pid, by the place of its Open.
     pub fn process_of_pid(&mut self, pid: u32) -> Option<u32> {
         self.found(|live, made| unsafe { sys::hullpippin_live_process_of_pid(live, pid, made) })
+    }
+
+    /// The live processes, each by the place of its Open, in the order in which they were opened.
+    pub fn processes(&mut self) -> impl Iterator<Item = u32> + '_ {
+        self.each(|live, from, place| unsafe { sys::hullpippin_live_next_process(live, from, place) })
+    }
+
+    /// The handles that name something for the live process with this pid, from the least on.
+    pub fn handles(&mut self, pid: u32) -> impl Iterator<Item = u32> + '_ {
+        self.each(move |live, from, handle| unsafe { sys::hullpippin_live_next_handle(live, pid, from, handle) })
+    }
+
+    /// The live buffers of a process, which is named by the place of its Open: where each was made, from the oldest on.
+    pub fn buffers(&mut self, process: u32) -> impl Iterator<Item = u32> + '_ {
+        self.each(move |live, from, made| unsafe { sys::hullpippin_live_next_buffer(live, process, from, made) })
     }
 
     /// The live thread of a seat.
@@ -276,13 +326,14 @@ impl Live {
         })
     }
 
-    /// The objects that the live buffer made at this place carries, one for each object of its parcel, in their order.
+    /// The objects that the live buffer made at this place carries, one for each object of its parcel, in their order. The library finds
+    /// each by going along those before it, so the time grows with the square of how many there are.
     pub fn carried(&mut self, made: u32) -> Vec<ObjectId> {
         let told = self.all(|live, index, told| unsafe { sys::hullpippin_live_carried(live, made, index, told) });
         told.into_iter().map(ObjectId::told).collect()
     }
 
-    /// What is still to be read of a list, oldest first.
+    /// What is still to be read of a list, oldest first. The time grows with the square of how much that is, as with [`Live::carried`].
     pub fn unread(&mut self, list: TodoList) -> Vec<Work> {
         let told = self.all(|live, index, told| match list {
             TodoList::OfThread(seat) => unsafe { sys::hullpippin_live_unread_of_thread(live, seat, index, told) },

@@ -17,12 +17,16 @@ pub enum Error {
     Taken,
     /// The number of seats isn't 1 to 31, or for a live engine 1 to 65536.
     SeatCount,
+    /// The seat's latest answer gave no request back.
+    NothingBack,
     /// All seats are taken.
     NoSeatLeft,
     /// A seat isn't back.
     SeatsAway,
     /// The bytes are no journal, or there is no journal of so many seats.
     NoJournal,
+    /// The journal's entries aren't a history.
+    Unlawful,
     /// The live engine has no such seat.
     NoSuchSeat,
     /// The live engine's history can take no more.
@@ -43,9 +47,11 @@ impl fmt::Display for Error {
             Error::NotWaiting => "no request is handed over",
             Error::Taken => "another seat has the engine",
             Error::SeatCount => "the number of seats is out of range",
+            Error::NothingBack => "no request came back",
             Error::NoSeatLeft => "all seats are taken",
             Error::SeatsAway => "a seat isn't back",
             Error::NoJournal => "there is no journal",
+            Error::Unlawful => "the journal is of no history",
             Error::NoSuchSeat => "there is no such seat",
             Error::HistoryFull => "the history is full",
             Error::NoCommand => "the bytes aren't one command",
@@ -69,6 +75,7 @@ pub(crate) fn checked(status: u32) -> Result<(), Error> {
         sys::HULLPIPPIN_NO_SEAT_LEFT => Error::NoSeatLeft,
         sys::HULLPIPPIN_SEATS_AWAY => Error::SeatsAway,
         sys::HULLPIPPIN_NO_JOURNAL => Error::NoJournal,
+        sys::HULLPIPPIN_UNLAWFUL => Error::Unlawful,
         sys::HULLPIPPIN_NO_SUCH_SEAT => Error::NoSuchSeat,
         sys::HULLPIPPIN_HISTORY_FULL => Error::HistoryFull,
         sys::HULLPIPPIN_NO_COMMAND => Error::NoCommand,

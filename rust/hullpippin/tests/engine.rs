@@ -230,6 +230,9 @@ fn what_the_history_has_come_to_can_be_looked_at() {
     assert_eq!(live.unread(TodoList::OfProcess(0)), [Work::Call(4)]);
     assert_eq!(live.thread(1).map(|it| (it.process, it.looping)), Some((1, false)));
     assert_eq!((live.innermost(0), live.death(4)), (None, None));
+    assert_eq!(live.processes().collect::<Vec<_>>(), [0, 1]);
+    assert_eq!((live.handles(100).collect::<Vec<_>>(), live.handles(200).next()), (vec![1], None));
+    assert_eq!((live.buffers(0).collect::<Vec<_>>(), live.buffers(1).next()), (vec![4], None));
 }
 
 #[test]

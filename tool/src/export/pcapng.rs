@@ -2,8 +2,8 @@
 //! Packets for Wireshark and its like: one for each entry, with the entry's line as its comment.
 //!
 //! A packet begins with the entry's seat and pid; then stand the command, or the returns that were read, and then the data of
-//! the parcel, all as they crossed. The kind of the link is USER0, for which a dissector of one's own may be written. The entry
-//! at place K is stamped K microseconds, as a journal has no times.
+//! the parcel, all as they crossed. The kind of the link is USER0, for which a dissector of one's own may be written. A packet is
+//! stamped with the real time where that lies beside the journal, in nanoseconds; else the entry at place K with K microseconds.
 use crate::journal::{Answer, Entry, Step};
 use crate::out::Out;
 use crate::play::{Player, Range};
@@ -19,6 +19,9 @@ const LINK_USER0: u16 = 147;
 const COMMENT: u16 = 1;
 const NAME: u16 = 2;
 const PROGRAM: u16 = 4;
+/// How fine stamps are: the power of ten by which a second is divided.
+const FINENESS: u16 = 9;
+const NANOSECONDS: u8 = 9;
 /// An option's value has no more bytes.
 const MOST: usize = 65_000;
 
@@ -56,6 +59,7 @@ fn put_heading(to: &mut Vec<u8>) {
     interface.extend([0; 2]);
     interface.extend(0u32.to_le_bytes());
     put_option(&mut interface, NAME, b"binder");
+    put_option(&mut interface, FINENESS, &[NANOSECONDS]);
     interface.extend([0; 4]);
     put_block(to, INTERFACE, interface);
 }
@@ -84,9 +88,10 @@ fn put_packet(to: &mut Vec<u8>, entry: &Entry<'_>, space: &Space, facts: &Facts)
     let size = (bytes.len() as u32).to_le_bytes();
     let mut comment = Vec::new();
     put_line(&mut comment, &Style::default(), entry, space, facts)?;
+    let stamp = facts.time.map_or(entry.place.saturating_mul(1000), |it| it.since_epoch());
     let mut body = 0u32.to_le_bytes().to_vec();
-    body.extend(((entry.place >> 32) as u32).to_le_bytes());
-    body.extend((entry.place as u32).to_le_bytes());
+    body.extend(((stamp >> 32) as u32).to_le_bytes());
+    body.extend((stamp as u32).to_le_bytes());
     body.extend(size);
     body.extend(size);
     body.extend(bytes);

@@ -1,16 +1,17 @@
 // SPDX-License-Identifier: Apache-2.0 OR MIT
-//! Trace events as JSON, which Perfetto's viewer and others read: a track for each seat of each process, a slice for each call
+//! Trace events as JSON, which Perfetto's viewer and others read: a track for each thread of each process, a slice for each call
 //! that is served and for each that is waited for, a flow from a call to its server and from its reply to the caller, an instant
 //! for each refusal.
 //!
-//! A journal has no times. So the entry at place K stands at K microseconds, and what it begins and ends follow one another
-//! within that.
+//! Where times lie beside the journal an entry stands at its time by the monotonic clock, and what it begins and ends follow one
+//! another by a nanosecond each. Else the entry at place K stands at K microseconds, and all follow one another within that.
 use crate::calls::{Call, Calls, Doing, Event};
 use crate::journal::{Answer, Entry, Step};
 use crate::out::Out;
 use crate::play::{Player, Range};
 use crate::show::{code_words, object_words};
 use crate::space::{Facts, Space};
+use crate::who::{Comms, Person};
 use anyhow::Result;
 use serde::Serialize;
 use std::collections::HashMap;
@@ -52,7 +53,7 @@ struct Told {
     why: Option<&'static str>,
 }
 
-/// A process's pid and a seat.
+/// A process's pid, and the tid of its thread, or the seat where that isn't known.
 type Track = (u32, u32);
 
 /// What a slice is of.
@@ -76,10 +77,13 @@ struct Trace<'a> {
     /// The entry that is told of, and how many events it has had.
     place: u64,
     part: u32,
+    /// By the monotonic clock: when the next event may stand at the earliest; None where there are no times.
+    clock: Option<u64>,
+    comms: Comms,
 }
 
 fn track(doing: Doing) -> Track {
-    (doing.pid, doing.seat)
+    (doing.pid, doing.tid.unwrap_or(doing.seat))
 }
 
 /// What a call is called: by the object that it is on, and by its code.
@@ -103,19 +107,26 @@ impl Trace<'_> {
 
     /// An event behind those that the entry has had.
     fn next<'b>(&mut self, ph: &'b str, name: &'b str, track: Track) -> Traced<'b> {
-        let ts = self.place as f64 + f64::from(self.part) / PARTS;
+        let ts = match &mut self.clock {
+            Some(clock) => {
+                *clock += 1;
+                (*clock - 1) as f64 / 1000.0
+            }
+            None => self.place as f64 + f64::from(self.part) / PARTS,
+        };
         self.part += 1;
         Traced { name, ph, ts, pid: track.0, tid: track.1, ..Traced::default() }
     }
 
     /// Names a track when something first happens there.
-    fn meet(&mut self, track: Track) -> Result<()> {
+    fn meet(&mut self, track: Track, person: Option<&Person>) -> Result<()> {
         if self.tracks.contains_key(&track) {
             return Ok(());
         }
         self.tracks.insert(track, Vec::new());
-        for (kind, name) in [("process_name", format!("pid {}", track.0)), ("thread_name", format!("seat {}", track.1))]
-        {
+        let process = self.comms.get(track.0).map_or_else(|| format!("pid {}", track.0), String::from);
+        let thread = person.map_or_else(|| format!("seat {}", track.1), |it| it.comm.to_string());
+        for (kind, name) in [("process_name", process), ("thread_name", thread)] {
             let args = Some(Told { name: Some(name), ..Told::default() });
             let event = self.next("M", kind, track);
             self.put(&Traced { args, ..event })?;
@@ -212,11 +223,15 @@ impl Trace<'_> {
     fn entry(&mut self, entry: &Entry<'_>, events: &[Event], space: &Space, facts: &Facts) -> Result<()> {
         self.place = entry.place;
         self.part = 0;
+        self.comms.learn(facts);
+        // Entries that have no time any more follow the last that had one.
+        self.clock = self.clock.map(|it| facts.time.map_or(it, |now| now.clock.max(it)));
+        let person = facts.person.as_ref();
         let track = match facts.pid {
-            Some(pid) => (pid, entry.seat),
+            Some(pid) => (pid, person.and_then(|it| it.tid).unwrap_or(entry.seat)),
             None => return Ok(()),
         };
-        self.meet(track)?;
+        self.meet(track, person)?;
         events.iter().try_for_each(|it| self.event(it, space))?;
         match (&entry.step, &entry.answer) {
             (Step::ExitThread, Answer::Exited) => self.end_track(track),
@@ -241,7 +256,9 @@ impl Trace<'_> {
 pub fn export(player: &mut Player, range: Range, out: &mut Out) -> Result<()> {
     out.held.extend(b"{\"displayTimeUnit\":\"ns\",\"traceEvents\":[");
     let mut calls = Calls::default();
-    let mut trace = Trace { out, tracks: HashMap::new(), is_first: true, place: 0, part: 0 };
+    let clock = player.beside.has_times().then_some(0);
+    let (tracks, comms) = (HashMap::new(), Comms::default());
+    let mut trace = Trace { out, tracks, is_first: true, place: 0, part: 0, clock, comms };
     player.each(range, |entry, space, facts| trace.entry(entry, &calls.events(entry, facts), space, facts))?;
     trace.place = player.source.place();
     trace.part = 0;

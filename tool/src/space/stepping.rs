@@ -6,6 +6,8 @@ use super::*;
 use crate::codes::*;
 use crate::journal::{Answer, Entry, Step};
 use crate::record::Parcel;
+use crate::times::Moment;
+use crate::who::Person;
 
 /// Who makes a step, and where.
 #[derive(Clone, Copy, Debug)]
@@ -54,14 +56,20 @@ pub struct Facts {
     pub carried: Vec<Option<Carried>>,
     /// For each return that was read what it is about; of a BC_FREE_BUFFER what was in the buffer.
     pub about: Vec<About>,
+    /// When the step was made, and by which thread; that lies beside the journal, or isn't known.
+    pub time: Option<Moment>,
+    pub person: Option<Person>,
+    /// For each of `about` how many nanoseconds after the call was made, where that is known.
+    pub ages: Vec<Option<u64>>,
 }
 
 impl Facts {
     fn clear(&mut self) {
         self.carried.clear();
         self.about.clear();
+        self.ages.clear();
         let (carried, about) = (std::mem::take(&mut self.carried), std::mem::take(&mut self.about));
-        *self = Facts { carried, about, ..Facts::default() };
+        *self = Facts { carried, about, ages: std::mem::take(&mut self.ages), ..Facts::default() };
     }
 }
 

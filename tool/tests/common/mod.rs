@@ -102,10 +102,29 @@ pub struct Journal {
     pub count: u32,
 }
 
+/// How long the heading of a journal is: the third version counts entries in eight bytes.
+pub fn heading_size(bytes: &[u8]) -> usize {
+    if bytes.starts_with(b"BNDJ0003") {
+        20
+    } else {
+        16
+    }
+}
+
 impl Journal {
     pub fn new(mark: &str, seats: u32) -> Journal {
-        let bytes = [mark.as_bytes(), &seats.to_le_bytes(), &0u32.to_le_bytes()].concat();
+        let mut bytes = [mark.as_bytes(), &seats.to_le_bytes()].concat();
+        bytes.resize(heading_size(&bytes), 0);
         Journal { bytes, count: 0 }
+    }
+
+    /// The same entries in the third version, of so many seats.
+    pub fn widened(&self, seats: u32) -> Journal {
+        let mut wide = Journal::new("BNDJ0003", seats);
+        wide.bytes.extend(&self.bytes[heading_size(&self.bytes)..]);
+        wide.count = self.count;
+        wide.says(self.count);
+        wide
     }
 
     pub fn entry(&mut self, seat: u32, step: &[u8], answer: &[u8]) -> &mut Journal {
@@ -116,9 +135,14 @@ impl Journal {
         self.says(self.count)
     }
 
-    /// Has the heading say so many entries.
+    /// Has the heading say so many entries; u32::MAX: that they are still written.
     pub fn says(&mut self, count: u32) -> &mut Journal {
+        let is_wide = heading_size(&self.bytes) == 20;
+        let high = if count == u32::MAX { count } else { 0 };
         self.bytes[12..16].copy_from_slice(&count.to_le_bytes());
+        if is_wide {
+            self.bytes[16..20].copy_from_slice(&high.to_le_bytes());
+        }
         self
     }
 
@@ -193,6 +217,63 @@ impl Journal {
     }
 }
 
+/// 2026-11-28, 11:03:07 by universal time, and what the monotonic clock says then.
+pub const EPOCH: u64 = 1_795_863_787_000_000_000;
+pub const STARTED: u64 = 1_000_000_000;
+
+/// What the monotonic clock says after each step of a registration: the call at 4 is read 13.1 us later, and its reply 1.2 ms later.
+pub const CLOCKS: [u64; 9] = [
+    STARTED,
+    1_000_400_000,
+    1_000_900_000,
+    2_500_000_000,
+    4_000_000_000,
+    4_000_013_100,
+    4_000_050_000,
+    4_000_100_000,
+    4_001_200_000,
+];
+
+/// Who sits where in a registration.
+pub const WHO: &str = "HPWHO 1 binder\n0 0 100 100 manager\n3 1 200 215 Binder:200_1 x\n";
+
+/// The file with times that lies beside a journal.
+pub fn times(clocks: &[u64]) -> Vec<u8> {
+    let ahead = (EPOCH - STARTED).to_le_bytes();
+    [&b"HPTIMES1"[..], &ahead, &clocks.iter().flat_map(|it| it.to_le_bytes()).collect::<Vec<_>>()].concat()
+}
+
+/// A registration with times and names beside it.
+pub struct Recorded {
+    pub journal: Kept,
+    pub times: Kept,
+    pub who: Kept,
+}
+
+impl Recorded {
+    pub fn new(name: &str, journal: &Journal, clocks: &[u64], who: &str) -> Recorded {
+        let journal = journal.file(name);
+        let times = beside(&journal, "times", &times(clocks));
+        let who = beside(&journal, "who", who.as_bytes());
+        Recorded { journal, times, who }
+    }
+
+    pub fn registered(name: &str) -> Recorded {
+        Recorded::new(name, &Journal::registered(), &CLOCKS, WHO)
+    }
+
+    pub fn path(&self) -> &str {
+        self.journal.path()
+    }
+}
+
+/// Writes a file beside a journal.
+pub fn beside(journal: &Kept, suffix: &str, bytes: &[u8]) -> Kept {
+    let path = PathBuf::from(format!("{}.{suffix}", journal.path()));
+    fs::write(&path, bytes).expect("a file beside a journal");
+    Kept(path)
+}
+
 /// A file that goes with its name.
 pub struct Kept(pub PathBuf);
 
@@ -216,7 +297,7 @@ pub fn kept(name: &str, bytes: &[u8]) -> Kept {
 
 pub fn program() -> Command {
     let mut command = Command::new(env!("CARGO_BIN_EXE_hullpippin"));
-    command.env_remove("NO_COLOR").env_remove("PAGER").env_remove("HULLPIPPIN_PAGER");
+    command.env_remove("NO_COLOR").env_remove("PAGER").env_remove("HULLPIPPIN_PAGER").env("TZ", "UTC0");
     command
 }
 

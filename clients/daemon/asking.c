@@ -1,0 +1,205 @@
+/* SPDX-License-Identifier: Apache-2.0 OR MIT */
+/* asking.c: what a daemon that runs tells of a device, for who asks on the command line. It is another daemon than this program. */
+#include "daemon.h"
+
+#include "../address.h"
+
+#include <errno.h>
+#include <stdlib.h>
+#include <string.h>
+#include <sys/mman.h>
+
+static int fail(const char *what, const char *why)
+{
+    fprintf(stderr, "hullpippind: %s: %s\n", what, why);
+    return 1;
+}
+
+/* Asks, with a device's name, for an answer of some size, and what comes with it. Where none comes it is no daemon of this build. */
+static bool ask(int fd, struct control_request *request, const char *device, void *answer, size_t size, int *descriptor)
+{
+    uint32_t count;
+    request->version = PROTOCOL_VERSION;
+    snprintf(request->device, sizeof request->device, "%s", device);
+    return packet_send(fd, request, sizeof *request, NULL, 0, 0)
+           && packet_receive(fd, answer, size, descriptor, descriptor ? 1 : 0, &count, 0) == 1 && (!descriptor || count <= 1);
+}
+
+/* A connection that a daemon answers, if it is one. */
+static int connect_to(const char *path)
+{
+    static const struct timeval patience = {.tv_sec = 5};
+    struct sockaddr_un address = {0};
+    int fd = daemon_dial(path, &address);
+    if (fd >= 0)
+        setsockopt(fd, SOL_SOCKET, SO_RCVTIMEO, &patience, sizeof patience);
+    else
+        fail(address.sun_path, strerror(errno));
+    return fd;
+}
+
+/* Why what an answer begins with is no good one, or NULL: an errno comes first in all of them. */
+static const char *why_not(bool is_answered, const int32_t *error)
+{
+    return !is_answered ? "no daemon of this build answers" : *error ? strerror(*error) : NULL;
+}
+
+/* --- What it has counted --- */
+
+static uint64_t get(const uint64_t *word)
+{
+    return __atomic_load_n(word, __ATOMIC_RELAXED);
+}
+
+/* A line for each number that was counted, as debugfs has them. */
+static void print_numbers(uint32_t kind, const char *letter, const uint64_t *counts)
+{
+    for (uint32_t i = 0; i < 32; i++)
+        if (get(&counts[i]))
+            printf("%s%u %s: %llu\n", letter, i, hullpippin_text(kind, i), (unsigned long long)get(&counts[i]));
+}
+
+/* The same of commands or returns, by their codes. */
+static void print_codes(uint32_t kind, const uint32_t *codes, size_t size, const uint64_t *counts)
+{
+    for (size_t i = 0; i < size / sizeof *codes; i++)
+        if (get(&counts[_IOC_NR(codes[i])]))
+            printf("%s: %llu\n", hullpippin_text(kind, codes[i]), (unsigned long long)get(&counts[_IOC_NR(codes[i])]));
+}
+
+static void print_counts(const struct ring_heading *ring)
+{
+    static const uint32_t commands[] = {BC_TRANSACTION, BC_REPLY, BC_FREE_BUFFER, BC_INCREFS, BC_ACQUIRE, BC_RELEASE, BC_DECREFS,
+                                        BC_INCREFS_DONE, BC_ACQUIRE_DONE, BC_ENTER_LOOPER, BC_EXIT_LOOPER, BC_REQUEST_DEATH_NOTIFICATION,
+                                        BC_CLEAR_DEATH_NOTIFICATION, BC_DEAD_BINDER_DONE};
+    static const uint32_t returns[] = {BR_TRANSACTION, BR_REPLY, BR_DEAD_REPLY, BR_TRANSACTION_COMPLETE, BR_INCREFS, BR_ACQUIRE,
+                                       BR_RELEASE, BR_DECREFS, BR_NOOP, BR_DEAD_BINDER, BR_CLEAR_DEATH_NOTIFICATION_DONE, BR_FAILED_REPLY,
+                                       BR_ONEWAY_SPAM_SUSPECT};
+    const struct ring_counts *counts = &ring->counts;
+    printf("%s: %llu steps, %llu processes, %llu of %u seats lent, %llu at most\n", ring->device, (unsigned long long)get(&ring->count),
+           (unsigned long long)get(&counts->processes), (unsigned long long)get(&counts->seats_lent), ring->seats - 1,
+           (unsigned long long)get(&counts->most_lent));
+    print_codes(HULLPIPPIN_TEXT_COMMAND, commands, sizeof commands, counts->commands);
+    print_codes(HULLPIPPIN_TEXT_RETURN, returns, sizeof returns, counts->returns);
+    print_numbers(HULLPIPPIN_TEXT_FAULT, "F", counts->faults);
+    print_numbers(HULLPIPPIN_TEXT_CAUSE, "X", counts->causes);
+    print_numbers(HULLPIPPIN_TEXT_NOTE, "N", counts->notes);
+    printf("turns: %llu, the longest of %llu steps; one client has waited for %llu\n", (unsigned long long)get(&counts->turns),
+           (unsigned long long)get(&counts->longest_turn), (unsigned long long)get(&counts->longest_wait));
+    printf("looks: %llu\nbytes of parcels: %llu\n", (unsigned long long)get(&counts->looks), (unsigned long long)get(&counts->copied));
+}
+
+int ask_stats(const char *path, const char *device)
+{
+    struct control_request request = {.op = CONTROL_RING};
+    struct control_answer answer = {0};
+    int memory = -1, fd = connect_to(path);
+    if (fd < 0)
+        return 1;
+    const char *why = why_not(ask(fd, &request, device, &answer, sizeof answer, &memory), &answer.error);
+    if (why)
+        return fail(device, why);
+    void *at = mmap(NULL, answer.size, PROT_READ, MAP_SHARED, memory, 0);
+    if (at == MAP_FAILED)
+        return fail(device, strerror(errno));
+    print_counts(at);
+    return 0;
+}
+
+/* --- What its processes and threads are at --- */
+
+struct records {
+    struct state_record *all;
+    size_t count;
+    uint64_t place;
+};
+
+static bool keep(struct records *records, const struct state_page *page)
+{
+    struct state_record *all = realloc(records->all, (records->count + page->count + 1) * sizeof *all);
+    if (!all)
+        return false;
+    memcpy(all + records->count, page->records, page->count * sizeof *all);
+    *records = (struct records){all, records->count + page->count, page->place};
+    return true;
+}
+
+/* Fetches page after page. Why they can't be had, or NULL. */
+static const char *fetch_all(int fd, const char *device, struct records *records)
+{
+    struct control_request request = {.op = CONTROL_STATE};
+    struct state_page page = {.next = 1};
+    const char *why = NULL;
+    while (!why && page.next) {
+        why = why_not(ask(fd, &request, device, &page, sizeof page, NULL), &page.error);
+        if (!why && (page.count > STATE_ROOM || !keep(records, &page)))
+            why = strerror(ENOMEM);
+        request.size = page.next;
+    }
+    return why;
+}
+
+static void print_unread(const struct state_record *record)
+{
+    if (record->unread)
+        printf(", %u%s to read", record->unread, record->unread == STATE_UNREAD ? " or more" : "");
+    putchar('\n');
+}
+
+static void print_process(const struct state_record *process)
+{
+    printf("proc %u %.16s: euid %u, window %u, %u threads", process->pid, process->comm, process->euid, process->window, process->threads);
+    printf(", of %u asked for %u have come", process->max_threads, process->started);
+    if (process->process != process->pid)
+        printf(", in the history %u", process->process);
+    printf("%s%s", process->flags & STATE_MANAGER ? ", context manager" : "", process->flags & STATE_DETECTS_SPAM ? ", detects spam" : "");
+    print_unread(process);
+}
+
+static void print_thread(const struct state_record *thread)
+{
+    printf("  thread %u %.16s: seat %u%s%s", thread->tid, thread->comm, thread->seat, thread->flags & STATE_LOOPS ? ", loops" : "",
+           thread->flags & STATE_WAITS ? ", waits" : "");
+    if (thread->serving)
+        printf(", serves %u", thread->serving);
+    if (thread->calling)
+        printf(", calls %u", thread->calling);
+    if (thread->innermost != RING_NONE)
+        printf(", the innermost from step %u", thread->innermost);
+    print_unread(thread);
+}
+
+static void print_threads_of(const struct records *records, uint32_t process)
+{
+    for (size_t i = 0; i < records->count; i++)
+        if (records->all[i].kind == STATE_THREAD && records->all[i].process == process)
+            print_thread(&records->all[i]);
+}
+
+static void print_all(const char *device, const struct records *records)
+{
+    printf("%s: %llu steps\n", device, (unsigned long long)records->place);
+    for (size_t i = 0; i < records->count; i++) {
+        if (records->all[i].kind != STATE_PROCESS)
+            continue;
+        print_process(&records->all[i]);
+        print_threads_of(records, records->all[i].process);
+    }
+}
+
+int ask_state(const char *path, const char *device)
+{
+    struct control_request request = {.op = CONTROL_OPEN};
+    struct control_answer answer = {0};
+    struct records records = {0};
+    int fd = connect_to(path);
+    if (fd < 0)
+        return 1;
+    const char *why = why_not(ask(fd, &request, device, &answer, sizeof answer, NULL), &answer.error);
+    why = why ? why : fetch_all(fd, device, &records);
+    if (why)
+        return fail(device, why);
+    print_all(device, &records);
+    free(records.all);
+    return 0;
+}

@@ -1,0 +1,103 @@
+/* SPDX-License-Identifier: Apache-2.0 OR MIT */
+/*
+ * state.c: what a device's processes and threads are at, for who asks. It is told a page at a time, each in a turn of who asks, so
+ * that nobody else waits for the whole: the pages are of moments of their own.
+ */
+#include "daemon.h"
+
+#include <string.h>
+
+/* A page looks at so many buckets of processes, or seats, at most. */
+#define BUCKETS_AT_ONCE 64u
+#define SEATS_AT_ONCE 1024u
+
+/* Where a page begins: at a seat; or at a bucket of processes, and so many further on there. */
+#define AT_SEAT (UINT64_C(1) << 32)
+#define BUCKET_SHIFT 24
+#define IN_BUCKET ((UINT64_C(1) << BUCKET_SHIFT) - 1)
+
+static uint32_t unread_of_thread(struct engine *engine, uint32_t seat)
+{
+    hullpippin_work work;
+    uint32_t count = 0;
+    while (count < STATE_UNREAD && hullpippin_live_unread_of_thread(&engine->live, seat, count, &work))
+        count++;
+    return count;
+}
+
+static uint32_t unread_of_process(struct engine *engine, uint32_t pid)
+{
+    hullpippin_work work;
+    uint32_t made, count = 0;
+    if (!hullpippin_live_process_of_pid(&engine->live, pid, &made))
+        return 0;
+    while (count < STATE_UNREAD && hullpippin_live_unread_of_process(&engine->live, made, count, &work))
+        count++;
+    return count;
+}
+
+static void tell_process(struct engine *engine, const struct process *process, struct state_record *record)
+{
+    struct name name;
+    name_find(&name, &process->caller, 0);
+    *record = (struct state_record){.kind = STATE_PROCESS, .process = process->engine_pid, .pid = (uint32_t)process->pid,
+                                    .euid = process->euid, .window = (uint32_t)process->window.size, .threads = process->thread_count,
+                                    .max_threads = process->max_threads, .requested = process->requested, .started = process->started,
+                                    .unread = unread_of_process(engine, process->engine_pid)};
+    record->flags = (process == engine->manager ? STATE_MANAGER : 0) | (process->detects_spam ? STATE_DETECTS_SPAM : 0);
+    memcpy(record->comm, name.comm, sizeof record->comm);
+}
+
+static void tell_thread(struct engine *engine, const struct thread *thread, struct state_record *record)
+{
+    hullpippin_frame frame = {.made = RING_NONE};
+    hullpippin_live_innermost(&engine->live, thread->seat, &frame);
+    *record = (struct state_record){.kind = STATE_THREAD, .process = thread->process->engine_pid, .pid = (uint32_t)thread->process->pid,
+                                    .tid = (uint32_t)thread->name.tid, .seat = thread->seat, .serving = thread->serving,
+                                    .calling = thread->calling, .innermost = frame.made, .unread = unread_of_thread(engine, thread->seat)};
+    record->flags = (thread->is_looper ? STATE_LOOPS : 0) | (thread->is_waiting ? STATE_WAITS : 0);
+    memcpy(record->comm, thread->name.comm, sizeof record->comm);
+}
+
+/* Tells those of a bucket that find room, from one on. Whether that are all. */
+static bool tell_bucket(struct engine *engine, const struct list *bucket, uint64_t from, struct state_page *page)
+{
+    uint64_t index = 0;
+    const struct list *entry = bucket->next;
+    for (; entry != bucket && page->count < STATE_ROOM; entry = entry->next, index++)
+        if (index >= from)
+            tell_process(engine, container_of(entry, struct process, in_bucket), &page->records[page->count++]);
+    return entry == bucket;
+}
+
+static void tell_processes(struct engine *engine, uint64_t from, struct state_page *page)
+{
+    const uint64_t buckets = sizeof engine->by_pid / sizeof *engine->by_pid;
+    uint64_t bucket = from >> BUCKET_SHIFT, index = from & IN_BUCKET, last = bucket + BUCKETS_AT_ONCE;
+    for (; bucket < buckets && bucket < last; bucket++, index = 0) {
+        uint32_t before = page->count;
+        if (!tell_bucket(engine, &engine->by_pid[bucket], index, page)) {
+            page->next = bucket << BUCKET_SHIFT | (index + page->count - before);
+            return;
+        }
+    }
+    page->next = bucket < buckets ? bucket << BUCKET_SHIFT : AT_SEAT;
+}
+
+static void tell_threads(struct engine *engine, uint64_t from, struct state_page *page)
+{
+    uint64_t seat = from, last = from + SEATS_AT_ONCE;
+    for (; seat < engine->seats && seat < last && page->count < STATE_ROOM; seat++)
+        if (engine->lent[seat] && engine->lent[seat]->seat == seat)
+            tell_thread(engine, engine->lent[seat], &page->records[page->count++]);
+    page->next = seat < engine->seats ? AT_SEAT | seat : 0;
+}
+
+void state_tell(struct engine *engine, uint64_t from, struct state_page *page)
+{
+    *page = (struct state_page){.place = hullpippin_live_len(&engine->live)};
+    if (from & AT_SEAT)
+        tell_threads(engine, from & (AT_SEAT - 1), page);
+    else if (from < AT_SEAT)
+        tell_processes(engine, from, page);
+}

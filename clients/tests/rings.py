@@ -1,0 +1,316 @@
+# SPDX-License-Identifier: Apache-2.0 OR MIT
+"""What one can rely on of a device's ring (../ring.h): that its slots say what the steps were, whoever reads while they are written, and
+that nobody else sees it."""
+import os
+import re
+import shutil
+import struct
+import subprocess
+import tempfile
+import time
+from collections import Counter, namedtuple
+
+from journals import Journal, Who
+from raw_tests import DEVICE
+from recordings import contents, neighbours
+from stage import Stage, expect, tail
+from suite import figures, test
+
+# what `--state` prints of a process and of a thread
+PROCESS = re.compile(r"proc (\d+) (.*): euid \d+, window \d+, \d+ threads, of .*")
+THREAD = re.compile(r"  thread (\d+) (.*): seat \d+(?:, .*)?")
+
+# as ring.h has them
+SLOT = struct.Struct("=QQQIIIIBBBBIIIIIIIIIIIQQQQQ16s240s")
+Slot = namedtuple("Slot", "sequence time place seat pid tid process kind answer number kept command handle code flags other call object_place "
+                  "object_index euid limit returns data_size offsets_size buffer pointer cookie comm data")
+HEADING = struct.Struct("=8sIIIIQII64s24xQ56x")
+COUNTS = struct.Struct("=32Q32Q8Q32Q32Q32Q8Q")
+NONE = 2**32 - 1
+# steps that are looked at while they are made
+STEPS = 40_000
+COMMAND, READ, GOT, ACCEPTED = 3, 4, 6, 3
+# codes of commands and returns with a parcel, by their numbers (_IOC_NR), and the flag of a call without a reply
+BC_TRANSACTION, BC_REPLY, BR_TRANSACTION, BR_REPLY, ONE_WAY = 0, 1, 2, 3, 1
+WORD = struct.Struct("=I")
+RECORD = struct.Struct("=QQIIiIQQQQ")
+NOBODY, OTHER = 65534, 65533
+
+
+def number(code):
+    return code & 0xff
+
+
+def returns_of(stream):
+    """The codes of what a read got, and the last one's bytes."""
+    codes, at, last = [], 0, b""
+    while at < len(stream):
+        code, = WORD.unpack_from(stream, at)
+        end = at + WORD.size + (code >> 16 & 0x3fff)
+        codes.append(code)
+        last = stream[at + WORD.size:end]
+        at = end
+    return codes, last
+
+
+def blocks(data):
+    """The blocks that data are made of."""
+    found, at = [], 0
+    while at < len(data):
+        size, = WORD.unpack_from(data, at)
+        found.append(data[at + WORD.size:at + WORD.size + size])
+        at += WORD.size + size
+    return found
+
+
+def said_by(entry):
+    """What a slot has to say of a journal's entry, as far as that knows it."""
+    said = {"seat": entry.seat, "kind": entry.step[0], "answer": entry.answer[0],
+            "number": entry.answer[1] if entry.answer[0] in (4, 5, 7) else 0}
+    if entry.step[0] == COMMAND:
+        command = blocks(entry.step[1:5 + WORD.unpack_from(entry.step, 1)[0]])[0]
+        said["command"], = WORD.unpack_from(command)
+        if number(said["command"]) in (BC_TRANSACTION, BC_REPLY):
+            target, _, said["code"], said["flags"], _, _, said["data_size"], said["offsets_size"], *_ = RECORD.unpack_from(command, WORD.size)
+            said["handle"] = target & NONE if number(said["command"]) == BC_TRANSACTION else 0
+            rest = entry.step[5 + len(command):]
+            said["data"] = blocks(rest[1:])[0][:240] if rest[0] else b""
+    elif entry.step[0] == READ:
+        said["limit"], = WORD.unpack_from(entry.step, 1)
+        stream = blocks(entry.answer[1:])[0] if entry.answer[0] == GOT else b""
+        codes, last = returns_of(stream)
+        said.update(returns=len(stream), command=codes[-1] if codes else 0)
+        if codes and number(codes[-1]) in (BR_TRANSACTION, BR_REPLY):
+            names = None, None, "code", "flags", "other", "euid", "data_size", "offsets_size", "buffer", None
+            said.update((name, value) for name, value in zip(names, RECORD.unpack(last)) if name)
+    return said
+
+
+def read_ring(path):
+    """The slots that raw/follow has found whole, what the heading says, and its counts."""
+    data = contents(path)
+    end = len(data) - HEADING.size - COUNTS.size
+    slots = [Slot(*it) for it in SLOT.iter_unpack(data[:end])]
+    return slots, HEADING.unpack_from(data, end), COUNTS.unpack_from(data, end + HEADING.size)
+
+
+def compare(slots, journal, times):
+    """Each slot says what the entry of its place does."""
+    for slot in slots:
+        said = said_by(journal.entries[slot.place])
+        data = said.pop("data", b"")
+        wrong = {name: (getattr(slot, name), value) for name, value in said.items() if getattr(slot, name) != value}
+        expect(not wrong and slot.time == times.times[slot.place], f"step {slot.place} isn't what its slot says: {wrong}")
+        expect(slot.sequence == 2 * slot.place + 2 and slot.data[:slot.kept] == data[:slot.kept] and slot.kept in (0, len(data)),
+               f"the data of step {slot.place} aren't what its slot says")
+    return len(slots)
+
+
+def compare_names(slots, who):
+    """Each slot says whose its seat was."""
+    at, has = 0, {}
+    for slot in sorted(slots, key=lambda it: it.place):
+        while at < len(who.lines) and who.lines[at].place <= slot.place:
+            has[who.lines[at].seat] = who.lines[at]
+            at += 1
+        line = has.get(slot.seat)
+        if slot.seat and line:
+            found = slot.pid, slot.tid, slot.comm.rstrip(b"\0")
+            expect(found == (line.pid, line.tid, line.comm), f"step {slot.place} is of {found}, and not of {line}")
+
+
+def compare_calls(slots):
+    """A two-way call that is read names the step that has sent it, whose slot names the same process and object."""
+    by_place = {it.place: it for it in slots}
+    sent = {it.place for it in slots if it.kind == COMMAND and number(it.command) == BC_TRANSACTION and it.answer == ACCEPTED}
+    read = [it for it in slots if it.kind == READ and it.command and number(it.command) == BR_TRANSACTION]
+    expect(all((it.call == NONE) == bool(it.flags & ONE_WAY) for it in read), "a one-way call that is read names a step, or another one none")
+    known = [(it, by_place[it.call]) for it in read if it.call in by_place]
+    for got, call in known:
+        expect(call.place in sent and call.other == got.process and got.other == call.process and got.data_size == call.data_size,
+               f"step {got.place} has read another call than {call.place}")
+    objects = {(call.other, call.object_place, call.object_index): (got.pointer, got.cookie) for got, call in known}
+    expect(all(objects[call.other, call.object_place, call.object_index] == (got.pointer, got.cookie) for got, call in known),
+           "one object has two pointers")
+    return len(known)
+
+
+@test("raw ring")
+def ring(build):
+    """What is read of the latest steps while they are made is what the recording says of them, and no slot is torn."""
+    with Stage(build, journal=DEVICE) as stage:
+        folder, path = f"{stage.folder}/marks", f"{stage.folder}/slots"
+        os.mkdir(folder)
+        load = stage.start([build.raw("marked"), folder]).wait_for("ready", 30)
+        told = stage.run([build.raw("follow"), DEVICE, path, str(STEPS)], client=False)
+        load.kill()
+        stage.end()
+        slots, _, _ = read_ring(path)
+        journal = Journal(contents(stage.journal))
+        times, who = neighbours(stage.journal)
+        count = compare(slots, journal, times)
+        compare_names(slots, who)
+        known = compare_calls(slots)
+    found = figures(told)
+    places = {it.place for it in slots}
+    expect(count == found["whole"] and len(places) + found["lost"] + found["torn"] >= STEPS, f"of {STEPS} steps {len(places)}: {told}")
+    expect(known > 1000, f"of {known} calls that were read the sending was seen")
+    return f"{told.splitlines()[-1]}; {known} calls with the steps that sent them"
+
+
+@test("raw ring counts")
+def ring_counts(build):
+    """The ring's heading counts what the recording has, by command, by return and by answer."""
+    with Stage(build, journal=DEVICE) as stage:
+        path = f"{stage.folder}/slots"
+        stage.manage()
+        stage.run([build.raw("services"), "20"])
+        time.sleep(0.5)
+        before = time.time_ns() - time.monotonic_ns()
+        stage.run([build.raw("follow"), DEVICE, path, "0"], client=False)
+        slots, heading, counts = read_ring(path)
+        stage.end()
+        journal = Journal(contents(stage.journal))
+        _, who = neighbours(stage.journal)
+    mark, heading_size, slot_size, slot_count, seats, realtime, daemon, is_over, device, count = heading
+    there = (mark, heading_size, slot_size, slot_count, seats, daemon, is_over, device.rstrip(b"\0"))
+    expect(there == (b"HPRING01", 4096, SLOT.size, 8192, 31, stage.daemon.pid, 0, DEVICE.encode()), f"the heading: {heading}")
+    expect(abs(realtime - before) < 1e9, f"the clocks are {realtime} apart, and not {before}")
+    places = {it.place for it in slots}
+    expect(places == set(range(max(0, count - slot_count), count)), f"{len(places)} slots of {count} steps")
+    found = Counter()
+    for entry in journal.entries[:count]:
+        said = said_by(entry)
+        found[512 // 8 + said["answer"]] += 1
+        if said["kind"] == COMMAND:
+            found[number(said["command"])] += 1
+        elif said["kind"] == READ and said["answer"] == GOT:
+            found.update(32 + number(code) for code in returns_of(blocks(entry.answer[1:])[0])[0])
+        if said["answer"] in (4, 5, 7):
+            found[{4: 72, 5: 104, 7: 136}[said["answer"]] + said["number"]] += 1
+    other = [(i, counts[i], found[i]) for i in range(168) if counts[i] != found[i]]
+    expect(not other, f"counts that differ: {other}")
+    turns, longest_turn, _, looks, copied, processes, lent, most_lent = counts[168:]
+    expect(0 < longest_turn <= 64 and turns and looks and copied, f"turns {turns}, longest {longest_turn}, looks {looks}, copied {copied}")
+    held = [0]
+    for it in who.lines:
+        if it.place <= count:
+            held.append(held[-1] + (1 if it.pid else -1))
+    expect((processes, lent, most_lent) == (1, held[-1], max(held)),
+           f"{processes} processes, {lent} seats lent, most {most_lent}; recorded are {held[-1]} and {max(held)}")
+    return f"{count} steps are counted as they were recorded"
+
+
+# what goes on while the state is told: services, and threads of one more process that wait in a read or for a reply
+SERVICES, THREADS = 40, 100
+CALLS = sum(i % 8 == 1 for i in range(THREADS))
+
+
+def asked(build, stage, words):
+    """What a daemon tells the program that asks it."""
+    environment = {**os.environ, **build.environment, "HULLPIPPIN_SOCKET": stage.socket}
+    done = subprocess.run([build.daemon, *words], env=environment, capture_output=True, text=True, timeout=20)
+    expect(done.returncode == 0, f"{words}: {tail(done.stderr)}")
+    return done.stdout
+
+
+def calls_in(lines):
+    return sum(", calls 1, the innermost from step " in it for it in lines)
+
+
+def threads_of(told):
+    """By pid and by tid what `--state` tells of processes, and of threads with their processes'."""
+    processes, threads, pid = {}, {}, None
+    for line in told.splitlines()[1:]:
+        found = PROCESS.fullmatch(line) or THREAD.fullmatch(line)
+        expect(found, f"a line of another kind: {line}")
+        if found.re is PROCESS:
+            pid = int(found[1])
+            processes[pid] = found
+        else:
+            expect(int(found[1]) not in threads, f"thread {found[1]} is told twice")
+            threads[int(found[1])] = pid, found
+    return processes, threads
+
+
+def wait_for_calls(build, stage, program):
+    """The lines of a program's threads once all its calls are on their way, or after some seconds; and all threads of the device."""
+    end = time.monotonic() + 10
+    while True:
+        _, threads = threads_of(asked(build, stage, ["--state", "/dev/vndbinder"]))
+        lines = [it[0] for pid, it in threads.values() if pid == program.pid]
+        if calls_in(lines) >= CALLS and len(lines) >= THREADS or time.monotonic() > end:
+            return lines, threads
+        time.sleep(0.1)
+
+
+def comm_of(pid, tid):
+    with open(f"/proc/{pid}/task/{tid}/comm", encoding="ascii") as file:
+        return file.read().rstrip("\n")
+
+
+@test("raw state")
+def state(build):
+    """What is told of processes and threads is what goes on, page after page; and of the counts those of the ring are told by name."""
+    with Stage(build, journal=DEVICE, wide=True) as stage:
+        manager = stage.manage()
+        running = [stage.start([build.manager("hello"), f"hello{i}"]).wait_for("ready") for i in range(SERVICES)]
+        other = {"RAW_DEVICE": "/dev/vndbinder"}
+        waiting = stage.start([build.raw("asleep"), str(THREADS)], environment=other).wait_for("ready", 30)
+        told, counted = (asked(build, stage, words) for words in (["--state", DEVICE], ["--stats", DEVICE]))
+        processes, threads = threads_of(told)
+        of_one, many_threads = wait_for_calls(build, stage, waiting)
+        wrong = [(tid, pid, line[2]) for tid, (pid, line) in {**threads, **many_threads}.items() if line[2] != comm_of(pid, tid)]
+        stage.end()
+        journal = Journal(contents(stage.journal))
+    expect(set(processes) == {manager.pid, *(it.pid for it in running)}, f"processes: {sorted(processes)}")
+    expect({pid for pid, _ in threads.values()} == set(processes) and not wrong, f"threads of {threads}, wrong names: {wrong}")
+    expect([pid for pid, it in processes.items() if "context manager" in it[0]] == [manager.pid], "another manager is told of")
+    expect(all("loops, waits" in it[0] for _, it in threads.values()), f"{[it[0] for _, it in threads.values()]}")
+    expect(len(of_one) >= THREADS and calls_in(of_one) == CALLS, f"{len(of_one)} threads, of which {calls_in(of_one)} call: {of_one[:3]}")
+    sent = sum(it.step[0] == COMMAND and said_by(it)["command"] & 0xff == BC_TRANSACTION for it in journal.entries)
+    expect(f"BC_TRANSACTION: {sent}\n" in counted and f"{SERVICES + 1} processes" in counted, counted)
+    return f"{len(processes)} processes and {len(threads) + len(many_threads)} threads, by their names"
+
+
+def as_user(user):
+    return {"user": user, "group": user, "extra_groups": []} if user else {}
+
+
+def follow(build, socket, user):
+    """What a user is told who wants to look."""
+    words = [build.raw("follow"), DEVICE, "/dev/null", "0"]
+    environment = {**os.environ, **build.environment, "HULLPIPPIN_SOCKET": socket}
+    done = subprocess.run(words, env=environment, capture_output=True, text=True, timeout=20, **as_user(user))
+    asked = subprocess.run([build.daemon, "--state", DEVICE, "--socket", socket], capture_output=True, text=True, timeout=20, **as_user(user))
+    may = (done.returncode, asked.returncode) == (0, 0)
+    return "ready" if may else f"{done.stdout.strip()}, {tail(asked.stderr)}"
+
+
+@test("raw ring users", plain_only=True)
+def ring_users(build):
+    """The latest steps are for the daemon's own user and for root alone, and for those also while nobody has opened the device."""
+    if os.geteuid():
+        return "nothing was seen: only root can become another user"
+    told = {}
+    for owner in (0, NOBODY):
+        with tempfile.TemporaryDirectory(prefix="hullpippin-users-") as folder:
+            os.chmod(folder, 0o755)
+            program = shutil.copy(build.daemon, folder)
+            os.makedirs(f"{folder}/own")
+            os.chown(f"{folder}/own", owner, owner)
+            os.chmod(f"{folder}/own", 0o755)
+            socket = f"{folder}/own/socket"
+            with subprocess.Popen([program, "--socket", socket, "--mode", "666"], stderr=subprocess.PIPE, **as_user(owner)) as daemon:
+                try:
+                    end = time.monotonic() + 10
+                    while not os.path.exists(socket) and time.monotonic() < end:
+                        time.sleep(0.01)
+                    told[owner] = [follow(build, socket, user) for user in (0, NOBODY, OTHER)]
+                finally:
+                    daemon.terminate()
+                    said = daemon.communicate(timeout=10)[1].decode()
+            expect(daemon.returncode == 0, f"the daemon ended with {daemon.returncode}: {tail(said)}")
+    no = f"no steps: EPERM, hullpippind: {DEVICE}: Operation not permitted"
+    expect(told == {0: ["ready", no, no], NOBODY: ["ready", "ready", no]}, f"{told}")
+    return "others are told EPERM"

@@ -1,2 +1,0 @@
-pub mod Laned
-pub mod Taken

@@ -1,0 +1,7 @@
+use Rattle.bd_space.specs.Histories.{space_after}
+use Rattle.bd_buffers.proofs.WindowLaws.{stands_in}
+use Rattle.bd_engine.proofs.looks.Looks.next_buffer.Goals as goal
+
+pub returns : goal.returns
+returns g c = g.Self.HasTables.concludes _ _ _
+    (λ h stands. c.next_from.ensures (space_after h) (stands_in c.tables.result.now.windows (space_after h) stands.windows_stand)) c.tables.ensures

@@ -1,0 +1,51 @@
+//! An entry of a history, as it is printed.
+
+ghost use Rattle.std.specs.Prelude.{◌≤◌, IfOk};
+ghost use Rattle.bd_uapi.specs.Limits.{IsSeats};
+ghost use Rattle.bd_space.specs.Histories.{IsHistory, history_in};
+ghost use Rattle.bd_player.specs.Entries.{IsEntryAt};
+
+use crate::answers::AnswerText;
+use crate::pids::step_made;
+use crate::texts::OrDash;
+use crate::untold::Untold;
+use crate::words::Word;
+use bd_audit::played_to;
+use bd_space::{Entry, Record};
+use std::alloc::Global;
+use std::fmt;
+
+/// An entry as it is printed: its place, and the pid of the process that made it.
+#[derive(Clone, Copy)]
+pub(crate) struct Made<'a> {
+    place: u32,
+    entry: &'a Entry,
+    pid: Option<u32>,
+}
+
+impl fmt::Display for Made<'_> {
+    fn fmt<W: fmt::Write>(&self, f: &mut fmt::Formatter<W>) -> fmt::Result {
+        let (place, seat, pid) = (self.place, self.entry.seat, OrDash(self.pid));
+        let step = Word::of_step(&self.entry.step);
+        let answer = AnswerText(&self.entry.answer);
+        write!(f, "{place} seat {seat} pid {pid} {step}: {answer}")
+    }
+}
+
+/// The entry at a place, as it is printed.
+///
+/// # Errors
+/// `OutOfRange` where there is no such place.
+pub(crate) fn entry_at(alloc: Global, record: &Record, place: u32) -> Result<Made<'_>, Untold>
+    requires seats { IsSeats «record».now.seats }
+    requires lawful { IsHistory (history_in «record».now) }
+    ensures { IfOk result (IsEntryAt (history_in «record».now) place) }
+{
+    let entries = record.entries.as_slice();
+    let Some(entry) = entries.get(place as usize) else {
+        return Err(Untold::OutOfRange);
+    };
+    let mut engine = played_to(alloc, record, place as usize)?;
+    let pid = step_made(&mut engine, entries, entry)?;
+    Ok(Made { place, entry, pid })
+}

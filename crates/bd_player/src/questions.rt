@@ -1,0 +1,60 @@
+//! Questions about a history, and what is printed of each.
+
+ghost use Rattle.std.specs.Prelude.{◌≤◌, IfOk};
+ghost use Rattle.bd_uapi.specs.Limits.{IsSeats};
+ghost use Rattle.bd_space.specs.Histories.{IsHistory, history_in};
+ghost use Rattle.bd_player.specs.Answered.{IsThere};
+
+use crate::certificates::{tell_answered, tell_chain, tell_turns};
+use crate::untold::Untold;
+use bd_space::{ObjectId, Record};
+use std::alloc::Global;
+use std::io::Write;
+
+/// What is asked of a history.
+#[derive(Clone, Copy, Debug, PartialEq, Eq)]
+pub enum Question {
+    /// How the process with this pid came to its name (handle).
+    Chain { pid: u32, handle: u32 },
+    /// Which call the reading at this place answers.
+    CallOfReply { place: u32 },
+    /// The one-way calls on an object.
+    Turns { object: ObjectId },
+}
+
+// Whether every place that the question names is one of the history.
+fn is_within(question: Question, record: &Record) -> bool {
+    let len = record.entries.as_slice().len();
+    match question {
+        Question::Chain { .. } => true,
+        Question::CallOfReply { place } => (place as usize) < len,
+        Question::Turns { object } => (object.place as usize) < len,
+    }
+}
+
+/// Prints what is asked of a history. Whether there is what was asked for.
+///
+/// # Errors
+/// `OutOfRange` where the question names a place that the history doesn't have; nothing is printed then.
+pub fn answer<W: Write>(
+    alloc: Global,
+    record: &Record,
+    question: Question,
+    out: &mut W,
+) -> Result<bool, Untold>
+    requires seats { IsSeats «record».now.seats }
+    requires lawful { IsHistory (history_in «record».now) }
+    ensures { IfOk result (IsThere (history_in «record».now) question) }
+{
+    if !is_within(question, record) {
+        return Err(Untold::OutOfRange);
+    }
+    match question {
+        Question::Chain { pid, handle } => tell_chain(alloc, record, pid, handle, out),
+        Question::CallOfReply { place } => tell_answered(alloc, record, place, out),
+        Question::Turns { object } => {
+            tell_turns(alloc, record, object, out)?;
+            Ok(true)
+        }
+    }
+}

@@ -1,2 +1,0 @@
-pub mod Gifts
-pub mod Streams

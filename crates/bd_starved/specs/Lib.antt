@@ -1,2 +1,0 @@
-pub mod Certificates
-pub mod Writes

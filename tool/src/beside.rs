@@ -1,0 +1,93 @@
+// SPDX-License-Identifier: Apache-2.0 OR MIT
+//! What lies beside a journal, and isn't in it: when each step was made, and by which thread.
+use crate::space::{About, Facts};
+use crate::times::{self, Moment, Times};
+use crate::who::{self, Person, Who};
+use anyhow::{bail, Result};
+
+pub struct Beside {
+    times: Option<Times>,
+    who: Option<Who>,
+    /// Whether it was said where the times end, and whether they may still go on.
+    has_said: bool,
+    follows: bool,
+}
+
+/// What is wrong with such a file is said, and it isn't used: the journal is there all the same.
+fn usable<T>(opened: Result<Option<T>>) -> Option<T> {
+    opened.unwrap_or_else(|error| {
+        eprintln!("hullpippin: {error:#}; so it isn't used");
+        None
+    })
+}
+
+impl Beside {
+    /// What lies beside a file; nothing lies beside standard input.
+    pub fn open(journal: &str, follows: bool) -> Beside {
+        let is_file = journal != "-";
+        let times = is_file.then(|| usable(Times::open(journal))).flatten();
+        let who = is_file.then(|| usable(Who::open(journal, follows))).flatten();
+        Beside { times, who, has_said: false, follows }
+    }
+
+    pub fn has_times(&self) -> bool {
+        self.times.is_some()
+    }
+
+    /// The times, for who can't do without.
+    pub fn times(&mut self, journal: &str) -> Result<&mut Times> {
+        match &mut self.times {
+            Some(times) => Ok(times),
+            None => bail!("entries have no times to choose by: there is no {} to be used", times::path_of(journal)),
+        }
+    }
+
+    /// Sees that there are names, for who can't do without.
+    pub fn check_names(&self, journal: &str) -> Result<()> {
+        match self.who {
+            Some(_) => Ok(()),
+            None => bail!("threads have no names to choose by: there is no {} to be used", who::path_of(journal)),
+        }
+    }
+
+    /// Who sits where after the entry that was told of last.
+    pub fn sitting(&self, seat: u32) -> Option<&Person> {
+        self.who.as_ref()?.sitting.get(&seat)
+    }
+
+    /// Adds what is known of an entry.
+    pub fn tell(&mut self, place: u64, seat: u32, facts: &mut Facts) {
+        facts.time = self.time(place);
+        facts.person = self.person(place, seat);
+        facts.ages.clear();
+        if let (Some(now), Some(times)) = (facts.time, &mut self.times) {
+            let begun = |about: &About| match about {
+                About::Sent(sent) => Some(sent.answers.unwrap_or(sent.made)),
+                About::Call(place) => Some(*place),
+                About::Nothing | About::Object(_) | About::Death(..) => None,
+            };
+            let age = |then: Moment| now.clock.saturating_sub(then.clock);
+            facts.ages.extend(facts.about.iter().map(|it| times.at(begun(it)?).map(age)));
+        }
+    }
+
+    fn time(&mut self, place: u64) -> Option<Moment> {
+        let is_over = self.has_said && !self.follows;
+        let times = self.times.as_mut().filter(|_| !is_over)?;
+        let time = times.at(place);
+        if time.is_none() && !self.has_said {
+            eprintln!("hullpippin: {}: it ends here; entries from place {place} on have no time", times.path());
+            self.has_said = true;
+        }
+        time
+    }
+
+    fn person(&mut self, place: u64, seat: u32) -> Option<Person> {
+        let who = self.who.as_mut()?;
+        if let Err(error) = who.advance(place) {
+            eprintln!("hullpippin: {error:#}; who sits where isn't known from there on");
+            who.sitting.clear();
+        }
+        who.sitting.get(&seat).cloned()
+    }
+}
