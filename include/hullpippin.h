@@ -495,6 +495,33 @@ uint32_t hullpippin_live_poll(hullpippin_live *live, const uint32_t *seats, size
    isn't now, or the other way round. Takes no memory. */
 size_t hullpippin_live_changed(hullpippin_live *live, uint32_t *out, size_t room);
 
+/* A list of what is to be read: that of a thread, which it alone reads, or that of a process. */
+typedef struct {
+    uint32_t kind;   /* HULLPIPPIN_LIST_OF_THREAD .. */
+    uint32_t number; /* of a thread: its seat; of a process: the place of its open; any list: 0 */
+} hullpippin_todo_list;
+
+/* A list: its kind. */
+enum {
+    HULLPIPPIN_LIST_OF_THREAD = 0,  /* that of a seat's thread */
+    HULLPIPPIN_LIST_OF_PROCESS = 1, /* that of a process, which any of its threads reads that is in the loop */
+    HULLPIPPIN_ANY_LIST = 2,        /* any list at all: which ones they are isn't known */
+};
+
+/* Asks which lists were filled or emptied since this function was last DONE: something was on them then and nothing is now, or the
+   other way round. Tells in `count` how many they are; each is told by hullpippin_live_reached. Called after a step, it tells whom
+   to look at: besides the step's own seat only those have come to be ready or unready whose list is named, or the list of whose
+   process, or whose thread has ended. A list that got more, or was read and still has something, isn't named: so who wakes one
+   reader of a process looks again once it has read. Where the lists aren't known one is told, of the kind HULLPIPPIN_ANY_LIST, and
+   every seat may be meant: the first time, where more than 64 lists got or lost something, and after a step that took back what was
+   to be read. It takes memory only the first time, or where there are more lists than before, and a step takes none for it. Also
+   NO_MEMORY: then all of them are told the next time. */
+uint32_t hullpippin_live_ask_reached(hullpippin_live *live, size_t *count);
+
+/* Tells the list of an index, from 0, among those that the latest hullpippin_live_ask_reached found; false where there are no more.
+   They stay until its next call that is DONE. Takes no memory. */
+bool hullpippin_live_reached(hullpippin_live *live, size_t index, hullpippin_todo_list *list);
+
 /* As hullpippin_answer_bytes, of the latest step; 0 where that isn't a read, or didn't get anything. */
 size_t hullpippin_live_bytes(hullpippin_live *live, uint32_t part, uint8_t *out, size_t room);
 

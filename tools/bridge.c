@@ -1,6 +1,6 @@
 /* SPDX-License-Identifier: Apache-2.0 OR MIT */
-/* What a bridge to other programs asks a live engine after a step: which buffers ended by it, and which seats have come to be ready
-   or unready. Plays a few one-way calls, and complains where an answer isn't the one that docs/RULES.md gives. Prints nothing else. */
+/* What a bridge to other programs asks a live engine after a step: which buffers ended by it, which seats have come to be ready or
+   unready, and which lists were filled or emptied. Plays a few one-way calls, and complains where an answer isn't the one that docs/RULES.md gives. Prints nothing else. */
 #include "asking.h"
 
 #include <stdio.h>
@@ -87,6 +87,48 @@ static bool have_changed(hullpippin_live *live, const uint32_t *seats, size_t co
     return are_fetched(hullpippin_live_changed, live, changed, changes);
 }
 
+static bool is_found(hullpippin_live *live, hullpippin_todo_list wanted, size_t count)
+{
+    hullpippin_todo_list list = {7, 7};
+    for (size_t index = 0; index < count; index++)
+        if (hullpippin_live_reached(live, index, &list) && list.kind == wanted.kind && list.number == wanted.number)
+            return true;
+    return fails("another list");
+}
+
+/* Whether just these lists are found filled or emptied. The order isn't promised. */
+static bool have_reached(hullpippin_live *live, const hullpippin_todo_list *lists, size_t count)
+{
+    hullpippin_todo_list list = {7, 7};
+    size_t told = 7;
+    uint32_t status = hullpippin_live_ask_reached(live, &told);
+    if (status == HULLPIPPIN_NO_MEMORY)
+        return told == 7 ? fails("no memory") : fails("told without memory");
+    if (status != HULLPIPPIN_DONE || told != count)
+        return fails("another number of lists");
+    if (hullpippin_live_reached(live, count, &list) || list.kind != 7 || list.number != 7)
+        return fails("a list more than were told");
+    for (size_t index = 0; index < count; index++)
+        if (!is_found(live, lists[index], count))
+            return false;
+    return true;
+}
+
+/* At first it isn't known which lists they are. Then a call fills the list of its caller and that of its receiver's process; one more,
+   which waits for its turn, fills none; and a read that leaves nothing empties the list that it reads. */
+static bool names(hullpippin_live *live)
+{
+    static const hullpippin_todo_list any = {HULLPIPPIN_ANY_LIST, 0}, callers = {HULLPIPPIN_LIST_OF_THREAD, CLIENT};
+    hullpippin_thread receiver;
+    uint32_t place;
+    if (!hullpippin_live_thread(live, MANAGER, &receiver))
+        return fails("no thread");
+    hullpippin_todo_list both[] = {callers, {HULLPIPPIN_LIST_OF_PROCESS, receiver.process}};
+    return have_reached(live, &any, 1) && have_reached(live, NULL, 0) && call(live, &place) && have_reached(live, both, 2)
+           && call(live, &place) && have_reached(live, NULL, 0) && reads(live, CLIENT) && have_reached(live, both, 1)
+           && reads(live, MANAGER) && have_reached(live, both + 1, 1);
+}
+
 /* The call makes both seats ready; each is unready once it has read, and is told so when it is asked about. */
 static bool wakes(hullpippin_live *live, uint32_t *place)
 {
@@ -106,15 +148,26 @@ static bool ends(hullpippin_live *live, uint32_t first)
            && loop(live, CLIENT) && has_ended_none(live);
 }
 
-int main(void)
+static bool wakes_and_ends(hullpippin_live *live)
+{
+    uint32_t place = 0;
+    return wakes(live, &place) && ends(live, place);
+}
+
+/* Plays with an engine of its own, in which the manager's thread is in the loop. */
+static bool plays(bool (*part)(hullpippin_live *))
 {
     hullpippin_live live = HULLPIPPIN_NO_LIVE;
-    uint32_t place = 0;
-    if (hullpippin_live_new(SEATS, &live) != HULLPIPPIN_DONE)
-        return fputs("bridge: no memory\n", stderr), 1;
-    bool done = has_ended_none(&live) && opens_live(&live, MANAGER, CLIENT) && loop(&live, MANAGER) && wakes(&live, &place) && ends(&live, place);
+    bool done = is_done(hullpippin_live_new(SEATS, &live)) && has_ended_none(&live) && opens_live(&live, MANAGER, CLIENT)
+                && loop(&live, MANAGER) && part(&live);
     hullpippin_free_live(&live);
-    if (!done)
-        fprintf(stderr, "bridge: %s\n", complaint);
-    return done ? 0 : 1;
+    return done;
+}
+
+int main(void)
+{
+    if (plays(wakes_and_ends) && plays(names))
+        return 0;
+    fprintf(stderr, "bridge: %s\n", complaint);
+    return 1;
 }

@@ -111,13 +111,16 @@ static bool no_engine_is_seen(hullpippin_live *live)
 {
     uint8_t out[4] = {UNTOUCHED};
     uint32_t numbers[1] = {UNTOUCHED}, seat = 0;
+    hullpippin_todo_list list = {UNTOUCHED, UNTOUCHED};
     size_t size = UNTOUCHED;
     if (hullpippin_live_ready(live, 0) || hullpippin_live_len(live) != 0 || hullpippin_live_ended(live, numbers, 1) != 0
-        || hullpippin_live_changed(live, numbers, 1) != 0 || hullpippin_live_bytes(live, HULLPIPPIN_DATA, out, sizeof out) != 0)
+        || hullpippin_live_changed(live, numbers, 1) != 0 || hullpippin_live_bytes(live, HULLPIPPIN_DATA, out, sizeof out) != 0
+        || hullpippin_live_reached(live, 0, &list))
         return fails("something is seen of an engine that isn't there");
     return is_misuse(hullpippin_live_poll(live, &seat, 1, &size)) && is_misuse(hullpippin_live_entry(live, out, sizeof out, &size))
-           && is_misuse(hullpippin_live_heading(live, 0, out, sizeof out, &size))
-           && ((out[0] == UNTOUCHED && numbers[0] == UNTOUCHED && size == UNTOUCHED) || fails("a look at no engine writes"));
+           && is_misuse(hullpippin_live_heading(live, 0, out, sizeof out, &size)) && is_misuse(hullpippin_live_ask_reached(live, &size))
+           && ((out[0] == UNTOUCHED && numbers[0] == UNTOUCHED && size == UNTOUCHED && list.kind == UNTOUCHED && list.number == UNTOUCHED)
+               || fails("a look at no engine writes"));
 }
 
 /* What each look would tell. */

@@ -14,7 +14,16 @@ use Rattle.bd_c.specs.LiveCommands.{IsCommandOf}
 
 -- no step was made, and nothing else
 pub rests : (x : OwnedLive) (told : Told) → Rests x x told told
-rests x told = record { kept = refl; seats = refl; follows = λ h follows. follows; told = refl; ended = refl; notes = record { noted = refl; changed = refl } }
+rests x told = record {
+  kept = refl;
+  seats = refl;
+  follows = λ h follows. follows;
+  told = refl;
+  ended = refl;
+  notes = record { noted = refl; changed = refl };
+  lists = record { reached = refl; whole = refl };
+  recalls = λ before k. k;
+}
 
 -- ---- whether there is a place for one more step, by how many there were
 

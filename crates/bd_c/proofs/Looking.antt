@@ -12,3 +12,9 @@ finds_none o f old is = rw (← is) (refl, refl)
 pub as_it_is : {A : Type 0} (o : Option A) → o ≡ option_map (λ x. x) o
 as_it_is None = refl
 as_it_is (Some x) = refl
+
+pub finds_this : {A : Type 0} (o : Option A) (x old : A) → o ≡ Some x → Finds o old x true
+finds_this o x old is = rw is (refl, refl)
+
+pub finds_nothing : {A : Type 0} (o : Option A) (old : A) → o ≡ None → Finds o old old false
+finds_nothing o old is = rw is (refl, refl)

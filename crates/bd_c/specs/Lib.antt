@@ -18,6 +18,7 @@ pub mod LiveCommands
 pub mod Flags
 pub mod LiveEntries
 pub mod LivePolls
+pub mod LiveReached
 pub mod Spelled
 pub mod Walks
 pub mod SpaceTold

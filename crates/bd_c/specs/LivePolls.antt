@@ -3,7 +3,7 @@ use Rattle.std.specs.Prelude.{◌≡◌, ◌==◌, ◌<◌, ◌≤◌, ℕ, Bool
 use Rattle.bd_space.specs.Histories.{History, space_after, is_ready}
 use Rattle.bd_engine.specs.Follows.{Follows}
 use Rattle.bd_engine.specs.Readiness.{has_seat, flipped}
-use Rattle.bd_c.specs.Lives.{KeepsNotes}
+use Rattle.bd_c.specs.Lives.{KeepsNotes, KeepsLists}
 use Rattle.bd_c.specs.declared.live.OwnedLive.{OwnedLive}
 use Rattle.bd_c.specs.declared.status.Status.{Status}
 use Rattle.bd_c.specs.declared.status.Status.TheVariants.{Done, NoMemory}
@@ -17,6 +17,7 @@ pub record OnlyNotes (x y : OwnedLive) : Type 0 where
   pub live : y.live ≡ x.live
   pub latest : y.latest ≡ x.latest
   pub ended : y.ended.items ≡ x.ended.items
+  pub lists : KeepsLists x y
 
 -- after this history each of these seats is noted as it is, and every other as before; exactly those are listed that changed by
 -- it, each once

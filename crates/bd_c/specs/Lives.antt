@@ -6,6 +6,7 @@ use Rattle.bd_space.specs.Steps.{step}
 use Rattle.bd_space.specs.Histories.{History, history_of, space_after, extended, HasPlace, is_at_limit}
 use Rattle.bd_engine.specs.Follows.{Follows}
 use Rattle.bd_engine.specs.Ending.{ended_between}
+use Rattle.bd_engine.specs.Reached.{KeepsTold}
 use Rattle.bd_engine.specs.Refusals.{IsLiveSeats}
 use Rattle.bd_c.specs.Behind.{Of, Over, IsMade, live_of}
 use Rattle.bd_c.specs.Told.{told_of_step}
@@ -23,6 +24,8 @@ pub record Begins (seats : ℕ) (x : OwnedLive) : Type 0 where
   pub ended : x.ended.items ≡ []
   pub noted : x.noted.items ≡ []
   pub changed : x.changed.items ≡ []
+  pub reached : x.reached.items ≡ []
+  pub whole : x.whole ≡ true
 
 -- the number is out of its limits, or there was no memory
 abbrev pub IsLiveRefusal : ℕ → Status → Type 0
@@ -35,6 +38,11 @@ pub record KeepsNotes (x y : OwnedLive) : Type 0 where
   pub noted : y.noted.items ≡ x.noted.items
   pub changed : y.changed.items ≡ x.changed.items
 
+-- what was found of the todo lists is the same
+pub record KeepsLists (x y : OwnedLive) : Type 0 where
+  pub reached : y.reached.items ≡ x.reached.items
+  pub whole : y.whole ≡ x.whole
+
 -- after this history the answer is the space's, and is told, and those buffers are listed that ended; the history with the entry
 -- more is then followed
 pub record IsAnswered (h : History) (y : OwnedLive) (seat : ℕ) (x : Step) (answer : StepAnswer) (told : Told) : Type 0 where
@@ -43,13 +51,16 @@ pub record IsAnswered (h : History) (y : OwnedLive) (seat : ℕ) (x : Step) (ans
   pub ended : y.ended.items ≡ ended_between (space_after h) (space_after (extended h seat x answer))
   pub follows : Follows y.live (extended h seat x answer)
 
--- the step was made, and its entry is kept: so is every history that was followed answered
+-- the step was made, and its entry is kept: so is every history that was followed answered, and whatever was told of the todo lists is
+-- known still
 pub record Makes (x y : OwnedLive) (seat : ℕ) (z : Step) (told : Told) : Type 0 where
   pub answer : StepAnswer
   pub kept : y.latest ≡ Some (record { seat = seat; step = z; answer = answer })
   pub seats : y.live.seats ≡ x.live.seats
   pub answered : (h : History) → Follows x.live h → IsAnswered h y seat z answer told
   pub notes : KeepsNotes x y
+  pub lists : KeepsLists x y
+  pub recalls : KeepsTold x.live y.live
 
 -- no step was made: what was followed is followed, the entry and the lists are the same, and nothing is told
 pub record Rests (x y : OwnedLive) (a b : Told) : Type 0 where
@@ -59,6 +70,8 @@ pub record Rests (x y : OwnedLive) (a b : Told) : Type 0 where
   pub told : b ≡ a
   pub ended : y.ended.items ≡ x.ended.items
   pub notes : KeepsNotes x y
+  pub lists : KeepsLists x y
+  pub recalls : KeepsTold x.live y.live
 
 -- A step was made. Or none was: there is no such seat; the history is full, or would need a number past the limit; or there
 -- was no memory, which isn't said of a full history.

@@ -23,6 +23,7 @@ mod live_commands;
 mod live_entries;
 mod live_looks;
 mod live_polls;
+mod live_reached;
 mod lives;
 mod loose;
 mod numbers;

@@ -1,11 +1,12 @@
-//! A live engine that C has, the entry of its latest step, which buffers ended by it, and which seats had something to read.
+//! A live engine that C has, the entry of its latest step, which buffers ended by it, which seats had something to read, and which
+//! todo lists were filled or emptied.
 ghost use Rattle.std.specs.Prelude.{◌≡◌, ◌<◌, IfOk, IfErr};
 ghost use Rattle.bd_c.specs.Lives.{Begins, IsLiveRefusal, Steps};
 
 use crate::answers::Told;
 use crate::status::Status;
 use bd_engine::{Live, Why};
-use bd_space::{Entry, Step};
+use bd_space::{Entry, Step, TodoList};
 use std::alloc::Global;
 
 /// A live engine, and the entry of its latest step, which nobody else has.
@@ -21,6 +22,12 @@ pub struct OwnedLive {
     pub(crate) changed: Vec<u32>,
     // What the next of these lists is put into.
     pub(crate) spare: Vec<u32>,
+    /// Which todo lists were found filled or emptied when that was last asked.
+    pub(crate) reached: Vec<TodoList>,
+    /// Whether these were all.
+    pub(crate) whole: bool,
+    // What the next of these are put into.
+    pub(crate) spare_lists: Vec<TodoList>,
 }
 
 impl OwnedLive {
@@ -38,6 +45,9 @@ impl OwnedLive {
                 noted: Vec::new(alloc),
                 changed: Vec::new(alloc),
                 spare: Vec::new(alloc),
+                reached: Vec::new(alloc),
+                whole: true,
+                spare_lists: Vec::new(alloc),
             }),
             Err(fault) => Err(Status::of_fault(fault)),
         }

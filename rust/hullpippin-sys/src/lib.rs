@@ -413,6 +413,25 @@ pub struct hullpippin_turn {
     pub ended: u32,
 }
 
+/// A list of what is to be read: that of a thread, which it alone reads, or that of a process.
+#[repr(C)]
+#[derive(Clone, Copy, Debug, Default, PartialEq, Eq)]
+pub struct hullpippin_todo_list {
+    /// HULLPIPPIN_LIST_OF_THREAD ..
+    pub kind: u32,
+    /// Of a thread: its seat; of a process: the place of its open; any list: 0.
+    pub number: u32,
+}
+
+/// That of a seat's thread.
+pub const HULLPIPPIN_LIST_OF_THREAD: u32 = 0;
+
+/// That of a process, which any of its threads reads that is in the loop.
+pub const HULLPIPPIN_LIST_OF_PROCESS: u32 = 1;
+
+/// Any list at all: which ones they are isn't known.
+pub const HULLPIPPIN_ANY_LIST: u32 = 2;
+
 /// An object's identity.
 #[repr(C)]
 #[derive(Clone, Copy, Debug, Default, PartialEq, Eq)]
@@ -1023,6 +1042,21 @@ extern "C" {
     /// numbers, and else nothing. Answers how many there are; they stay until its next call that is DONE. Each was
     /// noted ready and isn't now, or the other way round. Takes no memory.
     pub fn hullpippin_live_changed(live: *mut hullpippin_live, out: *mut u32, room: usize) -> usize;
+
+    /// Asks which lists were filled or emptied since this function was last DONE: something was on them then and
+    /// nothing is now, or the other way round. Tells in `count` how many they are; each is told by
+    /// hullpippin_live_reached. Called after a step, it tells whom to look at: besides the step's own seat only those
+    /// have come to be ready or unready whose list is named, or the list of whose process, or whose thread has ended. A
+    /// list that got more, or was read and still has something, isn't named: so who wakes one reader of a process looks
+    /// again once it has read. Where the lists aren't known one is told, of the kind HULLPIPPIN_ANY_LIST, and every
+    /// seat may be meant: the first time, where more than 64 lists got or lost something, and after a step that took
+    /// back what was to be read. It takes memory only the first time, or where there are more lists than before, and a
+    /// step takes none for it. Also NO_MEMORY: then all of them are told the next time.
+    pub fn hullpippin_live_ask_reached(live: *mut hullpippin_live, count: *mut usize) -> u32;
+
+    /// Tells the list of an index, from 0, among those that the latest hullpippin_live_ask_reached found; false where
+    /// there are no more. They stay until its next call that is DONE. Takes no memory.
+    pub fn hullpippin_live_reached(live: *mut hullpippin_live, index: usize, list: *mut hullpippin_todo_list) -> bool;
 
     /// As hullpippin_answer_bytes, of the latest step; 0 where that isn't a read, or didn't get anything.
     pub fn hullpippin_live_bytes(live: *mut hullpippin_live, part: u32, out: *mut u8, room: usize) -> usize;

@@ -2,7 +2,7 @@
 //! An engine that keeps no history.
 use crate::answers::{note, Fetched};
 use crate::status::checked;
-use crate::{copied, Answer, Command, Error, Parcel, TransactionData};
+use crate::{copied, Answer, Command, Error, Parcel, TodoList, TransactionData};
 use hullpippin_sys as sys;
 use std::fmt;
 
@@ -153,6 +153,42 @@ impl Live {
         // SAFETY: the slice's pointer isn't null and is aligned.
         checked(unsafe { sys::hullpippin_live_poll(&mut self.handle, seats.as_ptr(), seats.len(), &mut count) })?;
         Ok(self.numbers(|live, out, room| unsafe { sys::hullpippin_live_changed(live, out, room) }))
+    }
+
+    /// Which todo lists were filled or emptied since this was last asked; `None` where they aren't known and any may have been: the
+    /// first time, where more than 64 lists got or lost something, and after a step that took back what was to be read. Asked
+    /// after a step, it tells whom to look at: besides the step's own seat only those have come to be ready or unready whose list
+    /// is named, or the list of whose process, or whose thread has ended. A list that got more, or still has something, isn't named.
+    ///
+    /// ```
+    /// use hullpippin::{Live, TodoList};
+    ///
+    /// # fn main() -> Result<(), hullpippin::Error> {
+    /// let mut live = Live::new(2)?;
+    /// assert_eq!(live.reached()?, None);
+    /// live.open(0, 100, 1000, 4096)?;
+    /// assert_eq!(live.reached()?, Some(vec![]));
+    /// # Ok(())
+    /// # }
+    /// ```
+    pub fn reached(&mut self) -> Result<Option<Vec<TodoList>>, Error> {
+        let mut count = 0;
+        // SAFETY: the count has a place.
+        checked(unsafe { sys::hullpippin_live_ask_reached(&mut self.handle, &mut count) })?;
+        Ok((0..count).map(|index| self.list(index)).collect())
+    }
+
+    /// The list of an index, unless it stands for any.
+    fn list(&mut self, index: usize) -> Option<TodoList> {
+        let mut told = sys::hullpippin_todo_list { kind: 0, number: 0 };
+        // SAFETY: the list has a place.
+        let found = unsafe { sys::hullpippin_live_reached(&mut self.handle, index, &mut told) };
+        debug_assert!(found);
+        match told.kind {
+            sys::HULLPIPPIN_LIST_OF_THREAD => Some(TodoList::OfThread(told.number)),
+            sys::HULLPIPPIN_LIST_OF_PROCESS => Some(TodoList::OfProcess(told.number)),
+            _ => None,
+        }
     }
 
     /// The bytes of the latest step's entry, for a journal; none before the first step.

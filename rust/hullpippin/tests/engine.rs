@@ -234,3 +234,19 @@ fn what_the_history_has_come_to_can_be_looked_at() {
     assert_eq!((live.handles(100).collect::<Vec<_>>(), live.handles(200).next()), (vec![1], None));
     assert_eq!((live.buffers(0).collect::<Vec<_>>(), live.buffers(1).next()), (vec![4], None));
 }
+
+#[test]
+fn whom_a_step_reached_is_told() {
+    let mut live = introduced();
+    let manager = live.thread(0).expect("a thread").process;
+    assert_eq!(live.reached(), Ok(None)); // nothing was told before
+    assert_eq!(live.reached(), Ok(Some(vec![])));
+    live.transact(1, 0, 1, 0, &Parcel::new()).expect("a step");
+    let mut lists = live.reached().expect("memory").expect("known lists");
+    lists.sort_by_key(|list| matches!(list, TodoList::OfProcess(_)));
+    assert_eq!(lists, [TodoList::OfThread(1), TodoList::OfProcess(manager)]);
+    live.read(0, 256).expect("a step");
+    assert_eq!(live.reached(), Ok(Some(vec![TodoList::OfProcess(manager)])));
+    live.read(1, 256).expect("a step");
+    assert_eq!(live.reached(), Ok(Some(vec![TodoList::OfThread(1)])));
+}

@@ -13,7 +13,7 @@ returns c =
     let is = c.as_mut_slice.ensures.value ∙ c.in-Ok-resize.ensures.items ∙ ap (λ n. take n x.noted.items ++ replicate (n - vec_len x.noted) false) c.seats.ensures.field in
     let all : x.live.seats ≡ length mid = omega (arith, c.as_mut_slice.ensures.len, c.in-Ok-resize.ensures.len, c.seats.ensures.field) in
     record {
-      only = record { live = refl; latest = refl; ended = refl };
+      only = record { live = refl; latest = refl; ended = refl; lists = record { reached = refl; whole = refl } };
       noted = λ h follows.
           polled h x _ c.args.seats.now mid new c.note_ready.new.changed.items (x.live.seats - vec_len x.noted) is all
           (ap (λ (k : ℕ). take k (new ++ rest)) len ∙ take-append_seam new rest) (ap (λ v. v.items) c.swap.ensures.x_after)
