@@ -1,6 +1,6 @@
 //! Certificates: what is so of the history whose journal some bytes are.
 ghost use Rattle.std.specs.Prelude.{◌≡◌, ℕ, List, Option, map, IfOk, IfErr};
-ghost use Rattle.bd_uapi.specs.Limits.{IsSeats};
+ghost use Rattle.bd_engine.specs.Refusals.{IsLiveSeats};
 ghost use Rattle.bd_space.specs.{Histories.{history_in}, declared.record.Record.{Record}};
 ghost use Rattle.bd_journal.specs.Spelling.{Tells as IsJournalOf};
 ghost use Rattle.bd_audit.specs.{CallOf.{IsAnswerOf}, TurnCalls.{AreTurns}};
@@ -55,7 +55,7 @@ fn turns_told(alloc: Global, turns: &[Turn]) -> Result<Vec<TurnTold>, AllocError
 // The record whose journal the bytes are.
 fn record_of(alloc: Global, journal: &[u8]) -> Result<Record, Status>
     ensures ok { IfOk result (IsJournalOf journal.now) }
-    ensures seats { IfOk result (λ r. IsSeats r.seats) }
+    ensures seats { IfOk result (λ r. IsLiveSeats r.seats) }
     ensures refused { IfErr result (IsNoHistory journal.now) }
 {
     match read_journal(alloc, journal) {
@@ -68,7 +68,7 @@ fn record_of(alloc: Global, journal: &[u8]) -> Result<Record, Status>
 // The record whose journal the bytes are, where its entries are a history.
 fn history_of(alloc: Global, journal: &[u8]) -> Result<Record, Status>
     ensures ok { IfOk result (IsHistoryOf journal.now) }
-    ensures seats { IfOk result (λ r. IsSeats r.seats) }
+    ensures seats { IfOk result (λ r. IsLiveSeats r.seats) }
     ensures refused { IfErr result (IsNoHistory journal.now) }
 {
     let found = record_of(alloc, journal)?;
