@@ -116,7 +116,6 @@ static int run_call(struct run *run, uint32_t code, const uint8_t *payload)
     if (!is_reply && calls_own_manager(run, &record.transaction_data))
         record.transaction_data.target.handle = NO_HANDLE;
     parcel.may_have_descriptors = reach_takes_descriptors(run->thread, is_reply, record.transaction_data.target.handle);
-    reach_before_call(run->thread, is_reply, &record.transaction_data);
     if (may_fit(run->thread, &record, is_reply))
         parcel_fetch(&parcel, run->thread, &record, run->fds, run->fd_count);
     else
@@ -139,10 +138,12 @@ int command_free(struct thread *thread, uint64_t pointer)
     struct process *process = thread->process;
     uint64_t place = pointer - process->window.base;
     struct free_command command = {BC_FREE_BUFFER, place + WINDOW_BASE};
-    if (process_handed(process, place) == NOT_HANDED)
+    unsigned handed = process_handed(process, place);
+    if (handed == NOT_HANDED)
         return engine_pass(process->engine);
     int error = engine_command(process->engine, thread->seat, &command, sizeof command);
     if (!error) {
+        process->objects_let_go += handed == HANDED_WITH_OBJECTS;
         process_note_handed(process, place, NOT_HANDED);
         process_clear_secret(process, place);
     }

@@ -397,12 +397,12 @@ struct engine {
     uint32_t warnings;        /* of a history that gets full, how many were told */
 
     /* Whom the steps since then may have made ready (reach.c). */
-    struct list reached;      /* processes that are to be looked at */
+    struct list reached;      /* processes that are to be looked at .. */
+    struct list reached_threads; /* .. and threads */
     struct list resting;      /* all processes with threads that wait for whatever comes to the process */
     struct list looked_at;    /* all threads that are looked at one by one (settle.c) */
     uint32_t resting_count, looked_at_count;
     uint32_t resting_left, looked_at_left; /* how many of these are still to be looked at, from the first on */
-    bool is_learning;         /* nobody was ready before this call, so that who is now is its receiver */
     uint64_t steps, looks;
     uint64_t copied, trimmed; /* bytes of parcels: all, and those after which memory was last given back */
 
@@ -531,14 +531,11 @@ struct process {
     bool is_refused;      /* its user or process has its share of descriptors already, and it is told so */
     struct list in_engine, in_bucket;
     struct list threads;
-    struct list idle, callers, polling; /* some of its threads (settle.c) */
+    struct list idle, polling; /* some of its threads (settle.c) */
     struct list senders;                /* what some of its threads have sent (sendings.c) */
     struct list in_resting, in_reached;
-    bool callers_are_reached; /* they are to be looked at too */
     bool is_ending;           /* it has no place in the engine any more, and its threads are let go of */
-    struct owner *owners;     /* reach.c; NULL: nothing is known yet */
     uint32_t objects_let_go;  /* how often it has let go of what may have carried objects */
-    uint32_t tries_wait, tries_apart; /* how many calls go by before it is tried again to learn a receiver, and before the one after that */
     pid_t pid;
     uid_t euid;           /* of the opening */
     struct caller caller;
@@ -617,7 +614,8 @@ struct served {
 struct thread {
     struct watch link, bell;
     struct process *process;
-    struct list in_process, in_watch, in_callers, in_polling, in_seatless;
+    struct list in_process, in_watch, in_reached, in_polling, in_seatless;
+    bool is_counted;           /* among those that are looked at one by one */
     struct page *page;
     uint32_t freed;            /* how many of the page's frees were seen to */
     uint64_t told_tid;
@@ -732,16 +730,10 @@ void returns_clear(struct process *process, binder_uintptr_t cookie);
 
 /* --- reach.c: whom the engine's steps have reached. --- */
 
-/* Where it isn't known who is called, all who are ready are seen to before, so that the receiver can be told from them. Their
-   steps come before the call's, and their parcels over the workbench: so nothing of the call may have been fetched yet. */
-void reach_before_call(struct thread *thread, bool is_reply, const struct binder_transaction_data *data);
-/* These follow the steps of that name. */
-void reach_after_command(struct engine *engine, uint32_t seat, const void *command);
-void reach_after_call(struct engine *engine, uint32_t seat, const void *command, bool has_objects);
-void reach_after_read(struct engine *engine, uint32_t seat);
-void reach_after_end(struct engine *engine, uint32_t seat);
-/* The process, and its threads that wait for a reply. */
-void reach_process(struct process *process, bool callers);
+/* Follows each step of a seat. */
+void reach_after_step(struct engine *engine, uint32_t seat);
+/* The thread is to be looked at; NULL: nobody. */
+void reach_thread(struct thread *thread);
 /* The process that the thread's next call or reply goes to; NULL where that isn't known. */
 struct process *reach_target(const struct thread *thread, bool is_reply, uint32_t handle);
 /* The size of the window that the thread's next call or reply goes to: the largest where that isn't known. */
@@ -774,10 +766,6 @@ void settle_end(struct process *process);
 void settle(struct engine *engine, struct thread *acting);
 /* Looks at some of those that all have to be looked at: false where none are left. */
 bool settle_some(struct engine *engine);
-/* The same where a thread is at work. */
-void settle_more(struct engine *engine, const struct thread *acting);
-/* Whether something has come to a process some thread of which waits for that. */
-bool settle_is_ready(struct process *process);
 /* A thread of the process that waits in a read for what comes to the process, and isn't this one; NULL where there is none. */
 struct thread *settle_waiting_one(struct process *process, const struct thread *but);
 /* Puts a thread's doorbell right. */

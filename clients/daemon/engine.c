@@ -43,6 +43,7 @@ struct engine *engine_new(struct daemon *daemon, struct device *device)
     list_begin(&engine->seatless);
     list_begin(&engine->resting);
     list_begin(&engine->reached);
+    list_begin(&engine->reached_threads);
     for (size_t i = 0; i < sizeof engine->by_pid / sizeof *engine->by_pid; i++)
         list_begin(&engine->by_pid[i]);
     if (!ring_make(&engine->ring, engine->device, daemon->seats))
@@ -129,6 +130,7 @@ static int stepped(struct engine *engine, const struct step *step, uint32_t stat
         tell_step(engine, step);
         count_step(engine);
         tickets_see_ended(&engine->tickets, &engine->live);
+        reach_after_step(engine, step->seat);
         return 0;
     case HULLPIPPIN_NO_MEMORY:
         return ENOMEM;
@@ -170,22 +172,20 @@ int engine_set_spam(struct engine *engine, uint32_t seat, bool on)
     return stepped(engine, &step, hullpippin_live_set_spam(&engine->live, seat, on, &engine->answer));
 }
 
+/* With what a thread leaves unread, handles of its process may go. */
 int engine_exit_thread(struct engine *engine, uint32_t seat)
 {
     const struct step step = {.kind = RING_EXIT_THREAD, .seat = seat};
     int error = stepped(engine, &step, hullpippin_live_exit_thread(&engine->live, seat, &engine->answer));
-    if (!error)
-        reach_after_end(engine, seat);
+    if (!error && engine->lent[seat])
+        engine->lent[seat]->process->objects_let_go++;
     return error;
 }
 
 int engine_exit_process(struct engine *engine, uint32_t seat)
 {
     const struct step step = {.kind = RING_EXIT_PROCESS, .seat = seat};
-    int error = stepped(engine, &step, hullpippin_live_exit_process(&engine->live, seat, &engine->answer));
-    if (!error)
-        reach_after_end(engine, seat);
-    return error;
+    return stepped(engine, &step, hullpippin_live_exit_process(&engine->live, seat, &engine->answer));
 }
 
 /* Fetches what was read. A page has room for no more than there is for it here. */
@@ -200,31 +200,22 @@ int engine_read(struct engine *engine, uint32_t seat, uint32_t limit)
     const struct step step = {.kind = RING_READ, .seat = seat, .limit = limit};
     uint32_t status = hullpippin_live_read(&engine->live, seat, limit, &engine->answer);
     fetch_returns(engine, status == HULLPIPPIN_DONE && engine->answer.kind == HULLPIPPIN_GOT);
-    int error = stepped(engine, &step, status);
-    if (!error)
-        reach_after_read(engine, seat);
-    return error;
+    return stepped(engine, &step, status);
 }
 
 int engine_command(struct engine *engine, uint32_t seat, const void *command, size_t size)
 {
     const struct step step = {.kind = RING_COMMAND, .seat = seat, .command = command};
-    int error = stepped(engine, &step, hullpippin_live_command(&engine->live, seat, command, size, HULLPIPPIN_NOWHERE, 0,
-                                                               HULLPIPPIN_NOWHERE, 0, &engine->answer));
-    if (!error)
-        reach_after_command(engine, seat, command);
-    return error;
+    return stepped(engine, &step, hullpippin_live_command(&engine->live, seat, command, size, HULLPIPPIN_NOWHERE, 0,
+                                                         HULLPIPPIN_NOWHERE, 0, &engine->answer));
 }
 
 int engine_call(struct engine *engine, uint32_t seat, const void *command, size_t size, const uint8_t *data, size_t data_size,
                 const uint8_t *offsets, size_t offsets_size)
 {
     const struct step step = {.kind = RING_COMMAND, .seat = seat, .command = command, .data = data, .data_size = data_size};
-    int error = stepped(engine, &step, hullpippin_live_command(&engine->live, seat, command, size,
-                                                               data_size ? data : HULLPIPPIN_NOWHERE, data_size,
-                                                               offsets_size ? offsets : HULLPIPPIN_NOWHERE, offsets_size,
-                                                               &engine->answer));
-    if (!error)
-        reach_after_call(engine, seat, command, offsets_size > 0);
-    return error;
+    return stepped(engine, &step, hullpippin_live_command(&engine->live, seat, command, size,
+                                                         data_size ? data : HULLPIPPIN_NOWHERE, data_size,
+                                                         offsets_size ? offsets : HULLPIPPIN_NOWHERE, offsets_size,
+                                                         &engine->answer));
 }

@@ -463,7 +463,6 @@ void process_accept(struct daemon *daemon, int fd)
     list_begin(&process->in_bucket);
     list_begin(&process->threads);
     list_begin(&process->idle);
-    list_begin(&process->callers);
     list_begin(&process->polling);
     list_begin(&process->senders);
     list_begin(&process->in_resting);
@@ -517,7 +516,6 @@ static void let_go(struct process *process)
     free(process->handed);
     free(process->secret);
     free(process->cleared.cookies);
-    free(process->owners);
     free(process);
 }
 

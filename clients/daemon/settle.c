@@ -5,14 +5,11 @@
  * A thread that is in no call of its own gets nothing on its own list by what others do (docs/RULES.md, "Work items
  * and reading"). If it is in the loop and serves nothing, it waits for its process's list, and one such thread of a
  * process is asked for in place of them all. A thread that waits for a reply, or whose doorbell rings, is asked for
- * itself. The completion of its call stays unread until the reply is there.
+ * itself. The completion of its call is read at once, so that the reply finds its list empty, and waits with it for the reply.
  */
 #include "daemon.h"
 
-/* Who waits for a reply is looked for among so many of a process at once .. */
-#define LOOKS_AT_CALLERS 64
-
-/* .. and of those that all have to be looked at these are so many in a turn and between two. */
+/* Where all have to be looked at, these are so many in a turn and between two. */
 #define LOOKS_AT_ONCE 16
 
 static bool is_ready(const struct thread *thread)
@@ -48,23 +45,21 @@ static bool is_looked_at(const struct thread *thread)
 /* Out of the list that it is in. */
 static void leave(struct thread *thread)
 {
-    struct process *process = thread->process;
-    if (!list_is_empty(&thread->in_callers))
-        process->engine->looked_at_count--;
-    list_remove(&thread->in_callers);
+    thread->process->engine->looked_at_count -= thread->is_counted;
+    thread->is_counted = false;
     list_remove(&thread->in_watch);
 }
 
 void settle_forget(struct thread *thread)
 {
     leave(thread);
+    list_remove(&thread->in_reached);
     list_remove(&thread->in_polling);
     if (list_is_empty(&thread->process->idle))
         rest_no_more(thread->process);
 }
 
-/* The last to call is the first to be looked for; and as in the kernel the last to wait for its process's list is the first to
-   get what comes there. */
+/* As in the kernel the last to wait for its process's list is the first to get what comes there. */
 void settle_watch(struct thread *thread)
 {
     struct process *process = thread->process;
@@ -72,8 +67,8 @@ void settle_watch(struct thread *thread)
     leave(thread);
     if (waits && is_looked_at(thread)) {
         list_append(&process->engine->looked_at, &thread->in_watch);
-        list_append(process->callers.next, &thread->in_callers);
         process->engine->looked_at_count++;
+        thread->is_counted = true;
     } else if (waits && thread->is_looper && !thread->serving) {
         list_append(process->idle.next, &thread->in_watch);
     }
@@ -148,7 +143,7 @@ struct thread *settle_waiting_one(struct process *process, const struct thread *
     return NULL;
 }
 
-bool settle_is_ready(struct process *process)
+static bool has_ready(struct process *process)
 {
     return !list_is_empty(&process->idle) && is_ready(container_of(process->idle.next, struct thread, in_watch));
 }
@@ -157,7 +152,7 @@ bool settle_is_ready(struct process *process)
    there may be more. */
 static bool look_at_idle(struct process *process)
 {
-    if (!settle_is_ready(process))
+    if (!has_ready(process))
         return false;
     struct thread *thread = settle_waiting_one(process, NULL);
     if (thread)
@@ -166,34 +161,9 @@ static bool look_at_idle(struct process *process)
     return false;
 }
 
-/* Looks at those of a process that wait for replies until one has it. */
-static void look_at_callers(struct process *process, const struct thread *acting)
+static void look_at_process(struct process *process)
 {
-    struct engine *engine = process->engine;
-    uint32_t looks = 0;
-    for (struct list *entry = process->callers.next, *next; entry != &process->callers; entry = next) {
-        struct thread *thread = container_of(entry, struct thread, in_callers);
-        next = entry->next;
-        if (thread == acting)
-            continue;
-        if (looks++ == LOOKS_AT_CALLERS) {
-            engine->looked_at_left = engine->looked_at_count;
-            return;
-        }
-        bool waited = thread->is_waiting;
-        look(thread);
-        if (waited && !thread->is_waiting && !engine->looked_at_left)
-            return;
-    }
-}
-
-static void look_at_process(struct process *process, const struct thread *acting)
-{
-    bool callers = process->callers_are_reached;
     list_remove(&process->in_reached);
-    process->callers_are_reached = false;
-    if (callers)
-        look_at_callers(process, acting);
     settle_doorbells(process);
     while (look_at_idle(process))
         ;
@@ -219,10 +189,21 @@ static bool look_at_next_process(struct engine *engine)
     return look_at_idle(process);
 }
 
+/* Those that the engine has named. Who is acting is looked at behind all others. */
 static void look_at_reached(struct engine *engine, const struct thread *acting)
 {
-    while (!list_is_empty(&engine->reached))
-        look_at_process(container_of(engine->reached.next, struct process, in_reached), acting);
+    for (;;) {
+        if (!list_is_empty(&engine->reached_threads)) {
+            struct thread *thread = container_of(engine->reached_threads.next, struct thread, in_reached);
+            list_remove(&thread->in_reached);
+            while (thread != acting && look(thread) && thread->is_waiting)
+                ;
+        } else if (!list_is_empty(&engine->reached)) {
+            look_at_process(container_of(engine->reached.next, struct process, in_reached));
+        } else {
+            return;
+        }
+    }
 }
 
 /* Some of them, and whom these reach. What each read takes is told by the clock of the turn. */
@@ -246,12 +227,6 @@ static void look_at_some(struct engine *engine, const struct thread *acting)
         engine->resting_left = 0;
 }
 
-void settle_more(struct engine *engine, const struct thread *acting)
-{
-    look_at_reached(engine, acting);
-    look_at_some(engine, acting);
-}
-
 bool settle_some(struct engine *engine)
 {
     if (engine->looked_at_left || engine->resting_left)
@@ -259,13 +234,15 @@ bool settle_some(struct engine *engine)
     return engine->looked_at_left || engine->resting_left;
 }
 
-/* The completion of a call is left unread until a step of others may have brought the reply. */
 void settle(struct engine *engine, struct thread *acting)
 {
-    bool looks = acting && acting->seat != NO_SEAT && !(acting->is_waiting && acting->defers);
+    bool looks = acting && acting->seat != NO_SEAT;
     do {
         look_at_reached(engine, acting);
         if (engine->looked_at_left || engine->resting_left)
             look_at_some(engine, acting);
+        if (looks && acting->is_waiting && acting->defers)
+            looks = has_something(acting);
     } while (looks && look(acting));
+    look_at_reached(engine, NULL);
 }

@@ -116,7 +116,7 @@ static struct thread *new_thread(struct process *process, uint64_t tid, const st
     thread->doorbell = thread->doorbell_end = -1;
     list_append(&process->threads, &thread->in_process);
     list_begin(&thread->in_watch);
-    list_begin(&thread->in_callers);
+    list_begin(&thread->in_reached);
     list_begin(&thread->in_polling);
     list_begin(&thread->in_seatless);
     process->thread_count++;
