@@ -127,7 +127,7 @@ static void put_sent(struct engine *engine, struct ring_slot *slot, const struct
     put_record(slot, &record);
     put_target(engine, slot);
     slot->handle = slot->command == BC_TRANSACTION ? record.target.handle : 0;
-    if (record.flags & TF_CLEAR_BUF)
+    if (record.flags & TF_CLEAR_BUF || !step->data_size)
         return;
     slot->kept = (uint8_t)(step->data_size < RING_DATA ? step->data_size : RING_DATA);
     memcpy(slot->data, step->data, slot->kept);

@@ -277,12 +277,12 @@ def as_user(user):
     return {"user": user, "group": user, "extra_groups": []} if user else {}
 
 
-def follow(build, socket, user):
-    """What a user is told who wants to look."""
-    words = [build.raw("follow"), DEVICE, "/dev/null", "0"]
-    environment = {**os.environ, **build.environment, "HULLPIPPIN_SOCKET": socket}
-    done = subprocess.run(words, env=environment, capture_output=True, text=True, timeout=20, **as_user(user))
-    asked = subprocess.run([build.daemon, "--state", DEVICE, "--socket", socket], capture_output=True, text=True, timeout=20, **as_user(user))
+def look(programs, socket, user):
+    """What a user is told who wants to look, by programs of copies that all may run."""
+    daemon, follow = programs
+    how = {"env": {**os.environ, "HULLPIPPIN_SOCKET": socket}, "capture_output": True, "text": True, "timeout": 20, **as_user(user)}
+    done = subprocess.run([follow, DEVICE, "/dev/null", "0"], **how)
+    asked = subprocess.run([daemon, "--state", DEVICE, "--socket", socket], **how)
     may = (done.returncode, asked.returncode) == (0, 0)
     return "ready" if may else f"{done.stdout.strip()}, {tail(asked.stderr)}"
 
@@ -296,17 +296,18 @@ def ring_users(build):
     for owner in (0, NOBODY):
         with tempfile.TemporaryDirectory(prefix="hullpippin-users-") as folder:
             os.chmod(folder, 0o755)
-            program = shutil.copy(build.daemon, folder)
+            programs = [shutil.copy(it, folder) for it in (build.daemon, build.raw("follow"))]
             os.makedirs(f"{folder}/own")
             os.chown(f"{folder}/own", owner, owner)
             os.chmod(f"{folder}/own", 0o755)
             socket = f"{folder}/own/socket"
-            with subprocess.Popen([program, "--socket", socket, "--mode", "666"], stderr=subprocess.PIPE, **as_user(owner)) as daemon:
+            words = [programs[0], "--socket", socket, "--mode", "666"]
+            with subprocess.Popen(words, stderr=subprocess.PIPE, **as_user(owner)) as daemon:
                 try:
                     end = time.monotonic() + 10
                     while not os.path.exists(socket) and time.monotonic() < end:
                         time.sleep(0.01)
-                    told[owner] = [follow(build, socket, user) for user in (0, NOBODY, OTHER)]
+                    told[owner] = [look(programs, socket, user) for user in (0, NOBODY, OTHER)]
                 finally:
                     daemon.terminate()
                     said = daemon.communicate(timeout=10)[1].decode()
