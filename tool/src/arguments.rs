@@ -1,5 +1,7 @@
 // SPDX-License-Identifier: Apache-2.0 OR MIT
 //! The words of the command line.
+use crate::live::top::Top;
+use crate::live::trace::Trace;
 use crate::out::When;
 use crate::play::{Range, Spot};
 use crate::select::Selection;
@@ -29,7 +31,8 @@ impl Arguments {
 
     /// Whether no person would read it page by page: it is for a program, or for who types.
     pub fn is_for_programs(&self) -> bool {
-        matches!(&self.word, Word::Export(_) | Word::Diagram(_) | Word::Script(_) | Word::Repl { .. })
+        let is_live = matches!(&self.word, Word::Trace(_) | Word::Top(_) | Word::Repl { .. });
+        is_live || matches!(&self.word, Word::Export(_) | Word::Diagram(_) | Word::Script(_))
     }
 }
 
@@ -59,6 +62,10 @@ pub enum Word {
     Export(Export),
     /// Draws a recording as one page of HTML, with search, zoom and hiding
     Diagram(Diagram),
+    /// Tells the calls of a daemon that runs, a line each: of a program that is run for that, or of all
+    Trace(Trace),
+    /// Shows who calls whom how often in a daemon that runs, and how long that takes
+    Top(Top),
     /// Turns a script with names into one for the player, or plays it
     Script(Script),
     /// Plays a script with names as one types it, and shows what comes of each line

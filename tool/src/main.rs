@@ -15,6 +15,7 @@ mod holders;
 mod index;
 mod journal;
 mod json;
+mod live;
 mod out;
 mod parcel;
 mod play;
@@ -107,7 +108,17 @@ fn script(given: &Script, out: &mut Out) -> Result<()> {
     script::script(&script::Asked { path: &given.file, player, turns: given.turns, journal, emit }, &mut out.held)
 }
 
-fn run(arguments: &Arguments, out: &mut Out) -> Result<()> {
+/// The status with which it ends.
+fn run(arguments: &Arguments, out: &mut Out) -> Result<u8> {
+    match &arguments.word {
+        Word::Trace(given) => live::trace::trace(given, Palette::new(arguments.color)),
+        Word::Top(given) => live::top::top(given).map(|()| 0),
+        _ => look(arguments, out).map(|()| 0),
+    }
+}
+
+/// What is looked at in journals, and what scripts come to.
+fn look(arguments: &Arguments, out: &mut Out) -> Result<()> {
     let palette = Palette::new(arguments.color);
     let style = |bytes| Style { palette, bytes };
     match &arguments.word {
@@ -128,6 +139,7 @@ fn run(arguments: &Arguments, out: &mut Out) -> Result<()> {
         Word::Diagram(given) => diagram::put(&mut Player::open(&given.journal, false)?, given.range, out),
         Word::Index { journal } => index::make(journal),
         Word::Script(given) => script(given, out),
+        Word::Trace(_) | Word::Top(_) => Ok(()),
         Word::Repl { run, turns } => script::repl(Setting { player: run.clone(), turns: *turns }, style(1024)),
     }
 }
@@ -143,8 +155,8 @@ fn main() -> ExitCode {
     let mut out = Out::new(!arguments.no_pager && !arguments.follows() && !arguments.is_for_programs());
     let done = run(&arguments, &mut out);
     let closed = out.close().map_err(anyhow::Error::from);
-    match done.and(closed) {
-        Ok(()) => ExitCode::SUCCESS,
+    match done.and_then(|status| closed.map(|()| status)) {
+        Ok(status) => ExitCode::from(status),
         Err(error) if is_closed_pipe(&error) => ExitCode::SUCCESS,
         Err(error) => {
             eprintln!("hullpippin: {error:#}");

@@ -1,6 +1,8 @@
 // SPDX-License-Identifier: Apache-2.0 OR MIT
 //! Journals spelled by hand, as docs/FORMATS.md lays them out, and the program's runs over them.
 #![allow(dead_code)]
+pub mod ring;
+
 use std::fs;
 use std::io::Write;
 use std::path::PathBuf;

@@ -1,0 +1,200 @@
+// SPDX-License-Identifier: Apache-2.0 OR MIT
+//! A line for each call, as strace has one for each call of the system.
+use super::calls::{short_code, Call, Calls, End, Ended};
+use super::daemon::{needed_ring, ring};
+use super::program::{self, Program};
+use super::ring::Ring;
+use super::slot::Party;
+use super::Where;
+use crate::out::Palette;
+use crate::times::{duration_words, Moment};
+use anyhow::{Context, Result};
+use clap::Args;
+use std::fs::File;
+use std::io::{self, Write};
+use std::thread::sleep;
+use std::time::Duration;
+
+/// How long one waits before the next look.
+const PAUSE: Duration = Duration::from_millis(20);
+
+#[derive(Args)]
+pub struct Trace {
+    #[command(flatten)]
+    pub place: Where,
+    /// Only calls that this process makes or serves; may be given again
+    #[arg(long, value_name = "PID")]
+    pub pid: Vec<u32>,
+    /// Also what the daemon still has of before
+    #[arg(long)]
+    pub past: bool,
+    /// Ends with what there is, and waits for nothing
+    #[arg(long, conflicts_with = "program")]
+    pub once: bool,
+    /// Writes the lines there; else standard output has them, or standard error where a program is run
+    #[arg(long, short, value_name = "FILE")]
+    pub output: Option<String>,
+    /// A program and its words, which hullpippin-run runs; without one all calls of the device are told
+    #[arg(value_name = "PROGRAM", trailing_var_arg = true, allow_hyphen_values = true)]
+    pub program: Vec<String>,
+}
+
+/// `sensors(812/815)`.
+fn thread_words(party: &Party) -> String {
+    match party.tid {
+        Some(tid) => format!("{}({}/{tid})", party.comm.escape_debug(), party.pid),
+        None => format!("{}({})", party.comm.escape_debug(), party.pid),
+    }
+}
+
+/// Who is called: the thread that has read it, or the process.
+fn server_words(call: &Call, calls: &Calls) -> String {
+    match (&call.server, call.to) {
+        (Some(server), _) => thread_words(server),
+        (None, Some(to)) => match calls.party(to) {
+            Some(party) => format!("{}({})", party.comm.escape_debug(), party.pid),
+            None => format!("pid {to}"),
+        },
+        (None, None) => "nobody".into(),
+    }
+}
+
+struct Tracing {
+    calls: Calls,
+    ahead: u64,
+    palette: Palette,
+}
+
+impl Tracing {
+    /// The beginning of a line: when, who calls whom, what, with how much.
+    fn head(&self, call: &Call) -> String {
+        let Palette { place, name, text, plain, .. } = &self.palette;
+        let time = Moment::new(call.made, self.ahead).of_day();
+        let (from, to) = (thread_words(&call.from), server_words(call, &self.calls));
+        let (what, code) = (call.what.escape_debug(), short_code(call.code));
+        let one_way = if call.one_way { " one-way" } else { "" };
+        let size = call.size;
+        format!(
+            "{place}{time}{plain} {name}{from}{plain} -> {name}{to}{plain} {text}{what}{code}{plain}{one_way} {size} B"
+        )
+    }
+
+    fn line(&self, ended: &Ended) -> String {
+        let Palette { refused, plain, .. } = &self.palette;
+        let call = &ended.call;
+        let end = match ended.end {
+            End::Done if call.one_way => String::new(),
+            End::Done => format!(" = {} B", call.reply_size),
+            End::Failed => format!(" = {refused}no reply{plain}"),
+            End::Left => format!(" = {refused}nobody waits any more{plain}"),
+            End::Refused(it) => format!(" = {refused}{} {}: {}{plain}", it.name(), it.word(), it.text()),
+        };
+        let took = duration_words(ended.took());
+        let lasted = match (ended.end, ended.unread()) {
+            (End::Refused(_), _) => String::new(),
+            (End::Done, Some(_)) if call.one_way => format!(" <{took} unread>"),
+            (_, Some(unread)) => format!(" <{took}, {} unread>", duration_words(unread)),
+            (_, None) => format!(" <{took}, never read>"),
+        };
+        format!("{}{end}{lasted}\n", self.head(call))
+    }
+
+    /// What is still open at the end, oldest first.
+    fn unended(&self) -> Vec<(&Call, String)> {
+        let mut open: Vec<_> = self.calls.open().collect();
+        open.sort_by_key(|it| it.place);
+        open.into_iter().map(|it| (it, format!("{} = open\n", self.head(it)))).collect()
+    }
+}
+
+/// Whose calls are told.
+struct Wanted<'a> {
+    pids: &'a [u32],
+    program: Option<Program>,
+}
+
+impl Wanted<'_> {
+    fn has(&mut self, call: &Call, calls: &Calls) -> bool {
+        let server = call.server.as_ref().or_else(|| calls.party(call.to?)).map(|it| it.pid);
+        let pids = [Some(call.from.pid), server];
+        let mut pids = pids.iter().flatten();
+        match &mut self.program {
+            Some(program) => pids.any(|it| program.has(*it)),
+            None => self.pids.is_empty() || pids.any(|it| self.pids.contains(it)),
+        }
+    }
+}
+
+/// Takes what is new, and gives the lines of that.
+fn look(ring: &mut Ring, tracing: &mut Tracing, wanted: &mut Wanted<'_>) -> Result<String> {
+    let mut lines = String::new();
+    ring.each(|slot| {
+        for ended in tracing.calls.step(slot) {
+            if wanted.has(&ended.call, &tracing.calls) {
+                lines.push_str(&tracing.line(&ended));
+            }
+        }
+    })?;
+    Ok(lines)
+}
+
+/// The ring; where a program is run, of a daemon that is started for that if need be.
+fn open(given: &Trace) -> Result<Ring> {
+    if given.program.is_empty() {
+        return needed_ring(&given.place);
+    }
+    program::check(&given.program)?;
+    match ring(&given.place)? {
+        Some(ring) => Ok(ring),
+        None => {
+            program::start_daemon(&given.place)?;
+            needed_ring(&given.place)
+        }
+    }
+}
+
+fn output(given: &Trace) -> Result<Box<dyn Write>> {
+    Ok(match &given.output {
+        Some(path) => Box::new(File::create(path).with_context(|| path.clone())?),
+        None if given.program.is_empty() => Box::new(io::stdout()),
+        None => Box::new(io::stderr()),
+    })
+}
+
+/// Tells calls as they end, until the program ends that is run, or the daemon. The program's status, or 0.
+pub fn trace(given: &Trace, palette: Palette) -> Result<u8> {
+    let (mut ring, mut to) = (open(given)?, output(given)?);
+    let palette = if given.output.is_some() { Palette::default() } else { palette };
+    let mut tracing = Tracing { calls: Calls::default(), ahead: ring.ahead, palette };
+    let mut wanted = Wanted { pids: &given.pid, program: None };
+    // What was before tells what things are called, whether its calls are wanted or not.
+    let past = look(&mut ring, &mut tracing, &mut wanted)?;
+    ring.lost = 0;
+    if given.past {
+        to.write_all(past.as_bytes())?;
+    }
+    if !given.program.is_empty() {
+        wanted.program = Some(Program::start(&given.place, &given.program)?);
+    }
+    let status = loop {
+        // Both are asked before the last look, so that it sees all there was by then.
+        let ended = wanted.program.as_mut().map(Program::ended).transpose()?.flatten();
+        let is_over = given.once || ring.is_over()?;
+        let lines = look(&mut ring, &mut tracing, &mut wanted)?;
+        to.write_all(lines.as_bytes())?;
+        to.flush()?;
+        if ended.is_some() || is_over {
+            break ended.map_or(0, program::status_of);
+        }
+        sleep(PAUSE);
+    };
+    for (call, line) in tracing.unended() {
+        if wanted.has(call, &tracing.calls) {
+            to.write_all(line.as_bytes())?;
+        }
+    }
+    if ring.lost > 0 {
+        eprintln!("hullpippin: {} steps were written over before they were read", ring.lost);
+    }
+    Ok(status)
+}

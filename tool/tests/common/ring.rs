@@ -1,0 +1,125 @@
+// SPDX-License-Identifier: Apache-2.0 OR MIT
+//! A daemon that has nothing but a ring of steps, which are spelled by hand as clients/ring.h lays them out.
+use super::{kept, Kept, EPOCH, STARTED};
+use nix::sys::socket::{
+    accept, bind, listen, recv, sendmsg, socket, AddressFamily, ControlMessage, MsgFlags, SockFlag, SockType, UnixAddr,
+};
+use nix::unistd::close;
+use std::fs::{File, OpenOptions};
+use std::io::IoSlice;
+use std::os::unix::fs::FileExt;
+use std::os::unix::io::AsRawFd;
+use std::path::PathBuf;
+use std::thread;
+
+pub const HEADING: usize = 4096;
+pub const SLOT: usize = 384;
+const COUNT_AT: u64 = 128;
+const IS_OVER_AT: u64 = 36;
+
+/// Who makes a step: a seat, the pid in the history, that of the system, the tid and the name.
+pub type Who = (u32, u32, u32, u32, &'static str);
+
+/// One of a step's four-byte fields, by where it stands.
+pub mod field {
+    pub const COMMAND: usize = 44;
+    pub const HANDLE: usize = 48;
+    pub const CODE: usize = 52;
+    pub const FLAGS: usize = 56;
+    pub const OTHER: usize = 60;
+    pub const CALL: usize = 64;
+    pub const OBJECT_PLACE: usize = 68;
+    pub const OBJECT_INDEX: usize = 72;
+    pub const DATA_SIZE: usize = 88;
+    pub const OFFSETS_SIZE: usize = 96;
+}
+
+/// What was done and what came of it, as a journal's first bytes have it, and a number.
+pub type Kind = (u8, u8, u8);
+
+pub const SENT: Kind = (3, 3, 0);
+pub const GOT: Kind = (4, 6, 0);
+
+pub struct Step {
+    pub after: u64,
+    pub who: Who,
+    pub kind: Kind,
+    pub fields: Vec<(usize, u32)>,
+    pub data: Vec<u8>,
+}
+
+/// The bytes of a slot; `after` is in nanoseconds from the beginning.
+fn slot(place: u64, step: &Step) -> Vec<u8> {
+    let mut bytes = vec![0; SLOT];
+    let (seat, process, pid, tid, comm) = step.who;
+    bytes[0..8].copy_from_slice(&(2 * place + 2).to_le_bytes());
+    bytes[8..16].copy_from_slice(&(STARTED + step.after).to_le_bytes());
+    bytes[16..24].copy_from_slice(&place.to_le_bytes());
+    let absent = [(field::CALL, u32::MAX), (field::OBJECT_PLACE, u32::MAX), (field::OBJECT_INDEX, u32::MAX)];
+    let whose = [(24, seat), (28, pid), (32, tid), (36, process)];
+    for (at, number) in absent.iter().chain(&whose).chain(&step.fields) {
+        bytes[*at..*at + 4].copy_from_slice(&number.to_le_bytes());
+    }
+    bytes[40..43].copy_from_slice(&[step.kind.0, step.kind.1, step.kind.2]);
+    bytes[43] = step.data.len().min(240) as u8;
+    bytes[128..128 + comm.len()].copy_from_slice(comm.as_bytes());
+    let kept = step.data.len().min(240);
+    bytes[144..144 + kept].copy_from_slice(&step.data[..kept]);
+    bytes
+}
+
+/// The ring, in a file.
+pub struct Ring {
+    pub file: Kept,
+    memory: File,
+    slots: u64,
+    pub count: u64,
+}
+
+impl Ring {
+    pub fn new(name: &str, slots: u32) -> Ring {
+        let mut heading = b"HPRING01".to_vec();
+        heading.extend([HEADING as u32, SLOT as u32, slots, 9].map(u32::to_le_bytes).concat());
+        heading.extend((EPOCH - STARTED).to_le_bytes());
+        heading.resize(HEADING + SLOT * slots as usize, 0);
+        // Two processes, of three threads.
+        heading[1576] = 2;
+        heading[1584] = 3;
+        let file = kept(name, &heading);
+        let memory = OpenOptions::new().write(true).open(&file.0).expect("the ring");
+        Ring { file, memory, slots: slots.into(), count: 0 }
+    }
+
+    pub fn put(&mut self, step: &Step) {
+        let at = HEADING as u64 + self.count % self.slots * SLOT as u64;
+        self.memory.write_all_at(&slot(self.count, step), at).expect("a slot");
+        self.count += 1;
+        self.memory.write_all_at(&self.count.to_le_bytes(), COUNT_AT).expect("the count");
+    }
+
+    pub fn end(&self) {
+        self.memory.write_all_at(&[1], IS_OVER_AT).expect("the heading");
+    }
+}
+
+/// Answers every request for a ring at a socket with this one, or with an error.
+pub fn daemon(name: &str, ring: &Ring, error: i32) -> Kept {
+    let path = PathBuf::from(format!("/tmp/hullpippin-test-{}-{name}", std::process::id()));
+    let _ = std::fs::remove_file(&path);
+    let end = socket(AddressFamily::Unix, SockType::SeqPacket, SockFlag::SOCK_CLOEXEC, None).expect("a socket");
+    bind(end, &UnixAddr::new(&path).expect("an address")).and_then(|()| listen(end, 4)).expect("the address");
+    let memory = File::open(&ring.file.0).expect("the ring");
+    thread::spawn(move || loop {
+        let peer = accept(end).expect("a connection");
+        let mut request = [0; 256];
+        let size = recv(peer, &mut request, MsgFlags::empty()).expect("a request");
+        assert_eq!((size, &request[4..8], &request[24..36]), (88, &7u32.to_le_bytes()[..], &b"/dev/binder\0"[..]));
+        let answer = [&error.to_le_bytes()[..], &1u32.to_le_bytes(), &4096u64.to_le_bytes()].concat();
+        let fds = [memory.as_raw_fd()];
+        let rights = [ControlMessage::ScmRights(&fds)];
+        let rights = if error == 0 { &rights[..] } else { &[] };
+        sendmsg::<()>(peer, &[IoSlice::new(&answer)], rights, MsgFlags::MSG_NOSIGNAL, None).expect("an answer");
+        close(peer).expect("a connection");
+    });
+    Kept(path)
+}

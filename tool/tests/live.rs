@@ -1,0 +1,293 @@
+// SPDX-License-Identifier: Apache-2.0 OR MIT
+//! What goes on in a daemon: told of one that has a ring of steps and nothing else.
+mod common;
+use common::ring::{daemon, field, Kind, Ring, Step, Who, GOT, SENT};
+use common::*;
+use std::fs;
+use std::io::{BufRead, BufReader};
+use std::os::unix::fs::PermissionsExt;
+use std::process::{Command, Stdio};
+use std::thread::sleep;
+use std::time::{Duration, Instant};
+
+// Pids that no process of this machine can have.
+const DAEMON: Who = (0, 100, 9_000_000, 0, "hullpippind");
+const MANAGER: Who = (1, 100, 9_000_100, 9_000_100, "manager");
+const SERVICE: Who = (2, 200, 9_000_200, 9_000_201, "Binder:1");
+const CLIENT: Who = (3, 300, 9_000_300, 9_000_300, "cl\x1bent");
+const PNG: u32 = 0x5f50_4e47;
+const BR_DEAD_REPLY: u32 = 0x7205;
+
+fn step(after: u64, who: Who, kind: Kind, fields: &[(usize, u32)]) -> Step {
+    Step { after, who, kind, fields: fields.to_vec(), data: Vec::new() }
+}
+
+fn call(after: u64, who: Who, kind: Kind, fields: &[(usize, u32)]) -> Step {
+    step(after, who, kind, &[&[(field::COMMAND, BC_TRANSACTION)], fields].concat())
+}
+
+/// A service that is registered with the manager: a call of 112 bytes, which is read after 13.1 us; its reply of 4 after 1.2 ms.
+fn registration(object: u32) -> Vec<Step> {
+    use field::*;
+    let data = [&[0xff; 12][..], &text("android.os.IServiceManager"), &text("hello")].concat();
+    let to_manager =
+        [(HANDLE, 0), (CODE, 3), (OTHER, 100), (OBJECT_PLACE, object), (OBJECT_INDEX, 0), (DATA_SIZE, 112)];
+    let registers = call(1_000_000, SERVICE, SENT, &[&to_manager[..], &[(OFFSETS_SIZE, 8)]].concat());
+    let made = object + 1;
+    vec![
+        Step { data, ..registers },
+        step(
+            1_013_100,
+            MANAGER,
+            GOT,
+            &[(COMMAND, BR_TRANSACTION), (CODE, 3), (OTHER, 200), (CALL, made), (DATA_SIZE, 112)],
+        ),
+        step(1_900_000, MANAGER, SENT, &[(COMMAND, BC_REPLY), (OTHER, 200), (DATA_SIZE, 4)]),
+        step(2_200_000, SERVICE, GOT, &[(COMMAND, BR_REPLY), (DATA_SIZE, 4)]),
+    ]
+}
+
+/// And what a client does with it: a one-way call, one that is refused, one that fails, one that isn't answered.
+fn steps() -> Vec<Step> {
+    use field::*;
+    let service = [(HANDLE, 1), (OTHER, 200), (OBJECT_PLACE, 2), (OBJECT_INDEX, 0)];
+    let on_service = |after, more: &[(usize, u32)]| call(after, CLIENT, SENT, &[&service[..], more].concat());
+    let mut steps = vec![step(0, DAEMON, (0, 0, 0), &[]), step(1, MANAGER, (2, 1, 0), &[])];
+    steps.extend(registration(1));
+    steps.extend([
+        on_service(3_000_000, &[(CODE, PNG), (FLAGS, 1), (DATA_SIZE, 76)]),
+        step(3_031_200, SERVICE, GOT, &[(COMMAND, BR_TRANSACTION), (CODE, PNG), (FLAGS, 1), (DATA_SIZE, 76)]),
+        call(4_000_000, CLIENT, (3, 5, 1), &[(HANDLE, 5), (CODE, 9)]),
+        step(4_000_900, CLIENT, GOT, &[(COMMAND, BR_FAILED_REPLY)]),
+        on_service(5_000_000, &[(CODE, 7)]),
+        step(5_001_000, SERVICE, GOT, &[(COMMAND, BR_TRANSACTION), (CODE, 7), (OTHER, 300), (CALL, 10)]),
+        step(5_002_000, DAEMON, (6, 2, 0), &[]),
+        step(5_500_000, CLIENT, GOT, &[(COMMAND, BR_DEAD_REPLY)]),
+        on_service(6_000_000, &[(CODE, 8)]),
+    ]);
+    steps
+}
+
+const LINES: [&str; 5] = [
+    "11:03:07.001000 Binder:1(9000200/9000201) -> manager(9000100/9000100) android.os.IServiceManager#3 112 B = 4 B <1.2 ms, 13.1 us unread>",
+    "11:03:07.003000 cl\\u{1b}ent(9000300/9000300) -> Binder:1(9000200/9000201) hello _PNG one-way 76 B <31.2 us unread>",
+    "11:03:07.004000 cl\\u{1b}ent(9000300/9000300) -> nobody handle 5#9 0 B = X1 NotStronglyNamed: the handle is not strongly named",
+    "11:03:07.005000 cl\\u{1b}ent(9000300/9000300) -> Binder:1(9000200/9000201) hello#7 0 B = no reply <500.0 us, 1.0 us unread>",
+    "11:03:07.006000 cl\\u{1b}ent(9000300/9000300) -> Binder:1(9000200) hello#8 0 B = open",
+];
+
+fn filled(name: &str) -> Ring {
+    let mut ring = Ring::new(name, 64);
+    steps().iter().for_each(|it| ring.put(it));
+    ring
+}
+
+#[test]
+fn calls_are_told_a_line_each() {
+    let ring = filled("calls");
+    let socket = daemon("calls", &ring, 0);
+    let words = ["trace", "--socket", socket.path(), "--past", "--once"];
+    assert_eq!(printed(&words), LINES.join("\n") + "\n");
+    let of = |pid: &str| printed(&[&words[..], &["--pid", pid]].concat());
+    assert_eq!(of("9000100"), LINES[0].to_string() + "\n");
+    assert_eq!(of("9000300"), LINES[1..].join("\n") + "\n");
+    assert_eq!(of("7"), "");
+    let later = printed(&["trace", "--socket", socket.path(), "--once"]);
+    assert_eq!(later, LINES[4].to_string() + "\n", "what was over before isn't told unless one wants the past");
+    let done =
+        program().args(["trace", "--past", "--once"]).env("HULLPIPPIN_SOCKET", socket.path()).output().expect("it");
+    assert_eq!(String::from_utf8_lossy(&done.stdout), LINES.join("\n") + "\n");
+    assert!(printed(&[&words[..], &["--color", "always"]].concat()).contains("\x1b["));
+}
+
+#[test]
+fn calls_are_told_as_they_come() {
+    let steps = steps();
+    let mut ring = Ring::new("come", 64);
+    steps[..3].iter().for_each(|it| ring.put(it));
+    let socket = daemon("come", &ring, 0);
+    let mut child = program();
+    // The first call may be over before it looks for the first time.
+    child.args(["trace", "--past", "--socket", socket.path()]).stdout(Stdio::piped());
+    let mut child = child.spawn().expect("the program");
+    let mut lines = BufReader::new(child.stdout.take().expect("a pipe")).lines().map(|it| it.expect("a line"));
+    steps[3..6].iter().for_each(|it| ring.put(it));
+    assert_eq!(lines.next().expect("a line"), LINES[0]);
+    steps[6..8].iter().for_each(|it| ring.put(it));
+    assert_eq!(lines.next().expect("a line"), LINES[1]);
+    ring.end();
+    assert_eq!(lines.next(), None);
+    assert!(child.wait().expect("its end").success());
+}
+
+/// Steps that were written over before they were looked at are gone, and that is told.
+#[test]
+fn what_is_lost_is_no_call() {
+    let mut ring = Ring::new("lost", 4);
+    steps().iter().for_each(|it| ring.put(it));
+    let socket = daemon("lost", &ring, 0);
+    let lines = printed(&["trace", "--socket", socket.path(), "--past", "--once"]);
+    // The last four have the end of the service's process, a reply to a call that nobody saw, and a call.
+    assert_eq!(lines, "11:03:07.006000 cl\\u{1b}ent(9000300/9000300) -> pid 200 2.0#8 0 B = open\n");
+}
+
+#[test]
+fn what_has_no_ring_is_told() {
+    let ring = Ring::new("none", 4);
+    for (error, told) in [
+        (1, "the daemon shows its steps to its own user and to root, and to nobody else"),
+        (2, "the daemon has no device /dev/binder"),
+        (12, "the daemon has no steps to show: ENOMEM"),
+    ] {
+        let socket = daemon(&format!("error-{error}"), &ring, error);
+        for word in ["trace", "top"] {
+            let said = fault(&[word, "--once", "--socket", socket.path()]);
+            assert!(said.starts_with(&format!("hullpippin: {told}")), "{said}");
+        }
+    }
+    let said = fault(&["top", "--socket", "/no/such/socket"]);
+    assert_eq!(said, "hullpippin: there is no daemon at /no/such/socket; hullpippin-run starts one\n");
+    for (at, bytes, told) in [
+        (0, &b"HPRING02"[..], "the daemon's ring is of another version: \"HPRING02\""),
+        (12, &[1, 0, 0, 0], "the daemon's ring has 64 slots of 1 bytes behind 4096"),
+        (16, &[0, 0, 0, 0], "the daemon's ring has 0 slots of 384 bytes behind 4096"),
+    ] {
+        let bad = filled(&format!("bad-{at}"));
+        let mut memory = fs::read(&bad.file.0).expect("the ring");
+        memory[at..at + bytes.len()].copy_from_slice(bytes);
+        fs::write(&bad.file.0, memory).expect("the ring");
+        let socket = daemon(&format!("bad-{at}"), &bad, 0);
+        assert_eq!(fault(&["trace", "--once", "--socket", socket.path()]), format!("hullpippin: {told}\n"));
+    }
+}
+
+/// A runner that tells its pid and waits until it may go on.
+fn runner(name: &str) -> (Kept, Kept, Kept) {
+    let (pid, go) = (kept(&format!("{name}-pid"), b""), kept(&format!("{name}-go"), b""));
+    let text =
+        format!("#!/bin/sh\necho $$ > {}\nuntil [ -s {} ]; do sleep 0.02; done\nexec \"$@\"\n", pid.path(), go.path());
+    let run = kept(&format!("{name}-run"), text.as_bytes());
+    fs::set_permissions(&run.0, fs::Permissions::from_mode(0o755)).expect("a program");
+    (run, pid, go)
+}
+
+fn number_in(file: &Kept) -> u32 {
+    let until = Instant::now() + Duration::from_secs(60);
+    while Instant::now() < until {
+        match fs::read_to_string(&file.0).expect("a file").trim().parse() {
+            Ok(number) => return number,
+            Err(_) => sleep(Duration::from_millis(20)),
+        }
+    }
+    panic!("nothing was written to {}", file.path());
+}
+
+#[test]
+fn the_calls_of_a_program_are_told_and_its_status() {
+    let mut ring = filled("program");
+    let socket = daemon("program", &ring, 0);
+    let (run, pid, go) = runner("program");
+    let mut child = program();
+    child.args(["trace", "--socket", socket.path(), "sh", "-c", "exit 3"]).env("HULLPIPPIN_RUN", run.path());
+    let child = child.stdout(Stdio::piped()).stderr(Stdio::piped()).spawn().expect("the program");
+    let pid = number_in(&pid);
+    let who: Who = (5, 500, pid, pid, "own");
+    let refused = |who| call(7_000_000, who, (3, 5, 1), &[(field::HANDLE, 5), (field::CODE, 9)]);
+    ring.put(&refused(CLIENT));
+    ring.put(&refused(who));
+    fs::write(&go.0, "go").expect("a file");
+    let done = child.wait_with_output().expect("its end");
+    let told = format!("11:03:07.007000 own({pid}/{pid}) -> nobody handle 5#9 0 B = X1 NotStronglyNamed: the handle is not strongly named\n");
+    assert_eq!(String::from_utf8_lossy(&done.stderr), told);
+    assert_eq!((done.status.code(), done.stdout.len()), (Some(3), 0));
+}
+
+#[test]
+fn a_program_that_cannot_be_run_is_told() {
+    let ring = filled("no-program");
+    let socket = daemon("no-program", &ring, 0);
+    let mut command = program();
+    command.args(["trace", "--socket", socket.path(), "true"]).env("HULLPIPPIN_RUN", "/no/such/runner");
+    let done = command.output().expect("the program");
+    let told = "hullpippin: /no/such/runner, which HULLPIPPIN_RUN may name: No such file or directory (os error 2)\n";
+    assert_eq!((String::from_utf8_lossy(&done.stderr).as_ref(), done.status.code()), (told, Some(1)));
+    let said = fault(&["trace", "--socket", socket.path(), "--nothing"]);
+    assert_eq!(said, "hullpippin: --nothing: options stand before the program\n");
+}
+
+/// Has calls go on until somebody has seen enough.
+fn busy(ring: &mut Ring, mut is_over: impl FnMut() -> bool) {
+    let until = Instant::now() + Duration::from_secs(60);
+    while !is_over() {
+        assert!(Instant::now() < until, "nobody has seen enough");
+        let object = ring.count as u32 - 1;
+        registration(object).iter().for_each(|it| ring.put(it));
+        sleep(Duration::from_millis(10));
+    }
+}
+
+#[test]
+fn one_screen_is_printed() {
+    let mut ring = filled("once");
+    let socket = daemon("once", &ring, 0);
+    let mut child = program();
+    child.args(["top", "--once", "--interval", "0.5", "--socket", socket.path()]).stdout(Stdio::piped());
+    let mut child = child.spawn().expect("the program");
+    busy(&mut ring, || child.try_wait().expect("the program").is_some());
+    let done = child.wait_with_output().expect("its end");
+    let screen = String::from_utf8(done.stdout).expect("text");
+    check_screen(&screen);
+    assert!(screen.lines().all(|it| !it.ends_with(' ')), "{screen}");
+}
+
+/// The words of each line of a screen; rates are of the machine, all else is what the steps say.
+fn check_screen(screen: &str) {
+    let lines: Vec<Vec<&str>> = screen.lines().map(|it| it.split_whitespace().collect()).collect();
+    let rest = |first: &str, from: usize| {
+        let line = lines.iter().find(|it| it.contains(&first)).unwrap_or_else(|| panic!("{first}: {screen}"));
+        line[from..].join(" ")
+    };
+    assert!(screen.contains(" calls/s, 2 processes, 3 threads"), "{screen}");
+    assert_eq!(rest("mean", 0), "calls/s bytes/s mean most failed from -> to what");
+    assert_eq!(
+        rest("android.os.IServiceManager#3", 2),
+        "1.2 ms 1.2 ms 0 Binder:1 -> manager android.os.IServiceManager#3"
+    );
+    assert_eq!(rest("unread", 0), "made/s served/s failed waits unread process");
+    assert_eq!(rest("manager(9000100)", 2), "0 0 0 manager(9000100)");
+    // The client has a call that nobody has read, from before.
+    assert_eq!(rest("cl\\u{1b}ent(9000300)", 0), "0 0 0 1 0 cl\\u{1b}ent(9000300)");
+    let number = |word: &str| word.parse::<f64>().unwrap_or_else(|_| panic!("{word}: {screen}"));
+    let made = rest("Binder:1(9000200)", 0);
+    assert!(number(made.split(' ').next().expect("a rate")) > 0.0, "{screen}");
+    assert_eq!(made.split(' ').skip(1).collect::<Vec<_>>().join(" "), "0 0 0 1 Binder:1(9000200)");
+}
+
+fn tmux(words: &[&str]) -> String {
+    let name = format!("hullpippin-test-{}", std::process::id());
+    let done = Command::new("tmux").args(["-L", &name]).args(words).env("TERM", "xterm").output().expect("tmux");
+    String::from_utf8_lossy(&done.stdout).into_owned()
+}
+
+#[test]
+#[ignore = "needs tmux"]
+fn a_screen_is_drawn_on_a_terminal() {
+    let mut ring = filled("screen");
+    let socket = daemon("screen", &ring, 0);
+    let command = format!("{} top --interval 0.3 --socket {}", env!("CARGO_BIN_EXE_hullpippin"), socket.path());
+    tmux(&["-f", "/dev/null", "new-session", "-d", "-x", "130", "-y", "24", &command]);
+    let mut screen = String::new();
+    busy(&mut ring, || {
+        screen = tmux(&["capture-pane", "-p"]);
+        screen.contains("1.2 ms")
+    });
+    check_screen(&screen);
+    assert_eq!(screen.lines().nth(23), Some("q: end"), "{screen}");
+    tmux(&["send-keys", "q"]);
+    // With its only program the terminal ends too.
+    let until = Instant::now() + Duration::from_secs(60);
+    while !tmux(&["list-sessions"]).is_empty() {
+        assert!(Instant::now() < until, "it doesn't end");
+        sleep(Duration::from_millis(20));
+    }
+}
