@@ -8,7 +8,9 @@ from raw_tests import DEVICE, GIVES_BACK
 from stage import Failed, Stage, expect, open_files, resident
 from suite import test
 
+# how long a soak takes, unless --soak says otherwise; one that takes longer pauses behind each call, so that its journal can be judged
 SECONDS = 20
+PAUSE = 100000
 # from this second on the daemon's memory has to be flat
 WARM = 10
 KIB = 256
@@ -24,7 +26,7 @@ class Player(threading.Thread):
         super().__init__(daemon=True)
         self.stage, self.choices, self.longest, self.honest = stage, choices, longest, honest
         self.chance = random.Random(seed)
-        self.until = time.monotonic() + SECONDS
+        self.until = time.monotonic() + stage.build.soak_seconds
         self.kills, self.why = 0, None
 
     def run(self):
@@ -65,9 +67,9 @@ def watched(stage, players):
     return memory
 
 
-def is_flat(memory):
+def is_flat(memory, seconds):
     """Whether memory grows no more: at its least. What comes and goes with unread parcels is above that."""
-    early, late = memory[WARM - 1:WARM + 5], memory[WARM + 4:SECONDS]
+    early, late = memory[WARM - 1:WARM + 5], memory[max(WARM + 4, seconds - SECONDS):seconds]
     expect(len(late) > 3, f"the soak was over after {len(memory)} seconds")
     return min(late) <= min(early) + KIB
 
@@ -89,17 +91,21 @@ def soak(build, begin, parts, honest):
         before = open_files(stage.daemon.pid)
         players = [Player(stage, choices, longest, honest, seed) for seed, (choices, longest) in enumerate(parts(stage))]
         memory = watched(stage, players)
-        kills = sum(player.kills for player in players)
-        expect(build.sanitized or is_flat(memory), f"the daemon's memory by seconds: {memory} KiB")
-        expect(kills > SECONDS, f"only {kills} were killed")
+        kills, seconds = sum(player.kills for player in players), build.soak_seconds
+        told = memory[WARM - 1:seconds:max(1, seconds // SECONDS)]
+        expect(build.sanitized or is_flat(memory, seconds), f"the daemon's memory by seconds: {told} KiB")
+        expect(kills > seconds, f"only {kills} were killed")
         took = wait_for_descriptors(stage, before)
-    return f"{kills} killed in {SECONDS} s; KiB of memory from second {WARM} on: {memory[WARM - 1:SECONDS]}; descriptors were back after {took:.1f} s; \
+    return f"{kills} killed in {seconds} s; KiB of memory from second {WARM} on: {told}; descriptors were back after {took:.1f} s; \
 lawful, {stage.entries} steps"
 
 
 def raw_parts(stage):
+    seconds = stage.build.soak_seconds
+    pause = PAUSE if seconds > 3 * SECONDS else 0
+
     def busy(part, longest):
-        return [[stage.build.raw("busy"), part, str(SECONDS)]], longest
+        return [[stage.build.raw("busy"), part, str(seconds), str(pause)]], longest
     return [busy("serve", 3), busy("serve", 3), *[busy("call", 2)] * 4, *[busy("hold", 1)] * 2]
 
 

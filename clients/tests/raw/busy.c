@@ -1,10 +1,10 @@
 /* SPDX-License-Identifier: Apache-2.0 OR MIT */
 /*
- * busy serve|call|hold [SECONDS]: a part of a soak, to be killed at any time. `serve` becomes the context manager,
+ * busy serve|call|hold [SECONDS [PAUSE]]: a part of a soak, to be killed at any time. `serve` becomes the context manager,
  * however often another has to go first; `call` calls in turn one-way and two-way, with objects, descriptors and
  * parcels of all sizes; `hold` gives its object to the server, which calls it now and then, and waits for deaths.
- * What others' deaths do to them is no failure, so they end with 0; a wrong answer is one. Prints how many calls were
- * answered.
+ * Both pause for so many microseconds behind each call. What others' deaths do to them is no failure, so they end with 0; a wrong
+ * answer is one. Prints how many calls were answered.
  */
 #include "raw.h"
 
@@ -20,6 +20,7 @@ enum { ECHO = 1, KEEP, COUNT };
 #define LARGEST 200000
 
 static double until;
+static useconds_t pause_us;
 static unsigned long answered;
 
 /* Which handles the server holds: once each, until it hears of a death. */
@@ -88,8 +89,10 @@ static void run_caller(void)
     static uint8_t bytes[LARGEST];
     struct client client;
     raw_open(&client, WINDOW, NULL);
-    while (raw_now() < until)
+    while (raw_now() < until) {
         call_once(&client, bytes, rand() % 50 ? (size_t)(rand() % 300) : (size_t)(rand() % LARGEST));
+        usleep(pause_us);
+    }
 }
 
 static void give(struct client *client, uint64_t pointer)
@@ -109,14 +112,17 @@ static void run_holder(void)
 {
     struct client client;
     raw_open(&client, WINDOW, NULL);
-    for (uint64_t i = 0; raw_now() < until; i++)
+    for (uint64_t i = 0; raw_now() < until; i++) {
         give(&client, 0x1000 + 16 * (i % 8));
+        usleep(pause_us);
+    }
 }
 
 int main(int argc, char **argv)
 {
     unsigned seconds = argc > 2 ? (unsigned)atoi(argv[2]) : 10;
-    CHECK(argc > 1, "usage: busy serve|call|hold [SECONDS]");
+    CHECK(argc > 1, "usage: busy serve|call|hold [SECONDS [PAUSE]]");
+    pause_us = argc > 3 ? (useconds_t)atoi(argv[3]) : 0;
     raw_begin(seconds + 2);
     srand((unsigned)getpid());
     until = raw_now() + seconds * 1e6;
