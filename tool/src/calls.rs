@@ -37,8 +37,8 @@ pub struct Call {
     pub size: u64,
     /// Where its BR_TRANSACTION was read.
     pub taken: Option<Doing>,
-    /// Where its reply was accepted, or refused so that the call closed, and how large it was.
-    pub replied: Option<(Doing, u64)>,
+    /// Where its reply was accepted, or refused so that the call closed, and how large it was; None: it was refused.
+    pub replied: Option<(Doing, Option<u64>)>,
 }
 
 /// What an entry does to calls.
@@ -114,12 +114,12 @@ impl Calls {
         let call = facts.answers.and_then(|it| self.open.get_mut(&it));
         if let Answer::Refused(reason) = answer {
             if let Some(call) = call {
-                call.replied = Some((doing, 0));
+                call.replied = Some((doing, None));
             }
             return Some(Event::Refused(doing, *reason));
         }
         let call = call?;
-        call.replied = Some((doing, record.data_size));
+        call.replied = Some((doing, Some(record.data_size)));
         Some(Event::Replied(call.clone()))
     }
 

@@ -113,7 +113,7 @@ impl Drawing<'_> {
             let end = replied.or_else(|| ended.filter(|_| call.one_way)).map(|it| it.place);
             self.bar("serves", taken, end, &text)?;
         }
-        if let Some(replied) = replied {
+        if let Some((replied, Some(_))) = call.replied {
             self.arrow("reply", replied, ended, &text)?;
         }
         for doing in [Some(call.made), call.taken, replied].into_iter().flatten() {
@@ -173,6 +173,12 @@ impl Drawing<'_> {
             (Step::Manager, Answer::Set) => {
                 let lane = self.lane(pid, entry.seat, None);
                 self.dot("life", lane, place, "manager")
+            }
+            // Refused calls and replies are events; a read that finds nothing is no news.
+            (Step::Command { command, .. }, Answer::Refused(it)) if command.record().is_none() => {
+                let lane = self.lane(pid, entry.seat, None);
+                let text = format!("{} {}: {}{}", it.name(), it.word(), it.text(), at_words(time));
+                self.dot("refused", lane, place, &text)
             }
             (Step::ExitThread, Answer::Exited) => self.ends(place, |it| *it == (pid, entry.seat)),
             (Step::ExitProcess, Answer::Exited) => self.ends(place, |it| it.0 == pid),

@@ -2,6 +2,7 @@
 //! Why an entry was answered so, with the facts; and what the names of refusals and returns mean.
 use crate::codes::*;
 use crate::journal::{Answer, Entry, Step};
+use crate::order;
 use crate::play::Player;
 use crate::record::{Flat, Parcel, Record, OBJECT_SIZE};
 use crate::refusals::{Kind, Reason};
@@ -11,10 +12,10 @@ use anyhow::{bail, Result};
 use std::io::{self, Write};
 
 /// The rules themselves: what a name means is told in their words.
-const RULES: &str = include_str!("../../docs/RULES.md");
+pub const RULES: &str = include_str!("../../docs/RULES.md");
 
 /// A line of a table without what makes it a table.
-fn cells(line: &str) -> Vec<String> {
+pub fn cells(line: &str) -> Vec<String> {
     let plain = |cell: &str| cell.trim().replace('`', "");
     line.trim_matches('|').split('|').map(plain).collect()
 }
@@ -458,6 +459,15 @@ fn put_facts(to: &mut Vec<u8>, style: &Style, facts: &[String]) -> io::Result<()
     facts.iter().try_for_each(|it| writeln!(to, "    {about}{it}{plain}"))
 }
 
+/// What the rules look at for such a step, up to what held, and where they say so.
+fn put_order(to: &mut Vec<u8>, step: &Step<'_>, held: Option<Reason>) -> io::Result<()> {
+    let answer = |it: &Reason| format!("{} {}", it.name(), if Some(*it) == held { "yes" } else { "no" });
+    let looked: Vec<_> = order::looked(step, held).iter().map(answer).collect();
+    let refusals = if held.is_some() { ", Refusals" } else { "" };
+    writeln!(to, "    looked at, up to the first that holds: {}", looked.join(", "))?;
+    writeln!(to, "    rules: {}{refusals}", order::section(step))
+}
+
 /// One entry with why it was answered so; gives the places that it leads back to.
 fn put_place(to: &mut Vec<u8>, style: &Style, path: &str, place: u64) -> Result<Vec<u64>> {
     let mut player = Player::open(path, false)?;
@@ -474,6 +484,7 @@ fn put_place(to: &mut Vec<u8>, style: &Style, path: &str, place: u64) -> Result<
     };
     space.step(&entry, &mut known);
     put_entry(to, style, &entry, &space, &known)?;
+    put_order(to, &entry.step, reason.as_ref().map(|it| it.0))?;
     if let Some((reason, facts)) = reason {
         put_facts(to, style, &facts)?;
         let (when, leaves) = meaning(reason);

@@ -16,6 +16,7 @@ mod index;
 mod journal;
 mod json;
 mod live;
+mod order;
 mod out;
 mod parcel;
 mod play;

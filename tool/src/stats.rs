@@ -148,7 +148,7 @@ impl Stats {
         }
         if let (Some(ended), false) = (ended, matches!(event, Event::Failed(..))) {
             sums.took.extend(self.measure.between(call.made, ended));
-            sums.reply_bytes = sums.reply_bytes.saturating_add(call.replied.map_or(0, |it| it.1));
+            sums.reply_bytes = sums.reply_bytes.saturating_add(call.replied.and_then(|it| it.1).unwrap_or(0));
         }
     }
 

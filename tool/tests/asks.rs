@@ -75,6 +75,8 @@ fn a_refused_call_is_explained_by_what_became_of_the_handle() {
     let file = refused_call().file("refused");
     let told = "\
 11 seat 0 pid 100 BC_TRANSACTION handle 1 cookie 0x0 code 0x9 flags 0x0 data_size 0 offsets_size 0: stopped X1 NotStronglyNamed: the handle is not strongly named
+    looked at, up to the first that holds: F4 no, X1 yes
+    rules: Calls and replies, Refusals
     pid 100 had handle 1 for object 4.0 from 4 until it let go of it at 10
     its handles are: none
     X1 holds: transaction, handle not 0: the writer's process has no strong name with that handle
@@ -83,7 +85,8 @@ fn a_refused_call_is_explained_by_what_became_of_the_handle() {
     assert_eq!(printed(&["explain", file.path(), "11"]), told);
     let read = printed(&["explain", file.path(), "12"]);
     assert!(read.starts_with("12 seat 0 pid 100 read limit 256: got 12\n"), "{read}");
-    assert!(read.ends_with(&format!("    BR_FAILED_REPLY (for 11)\nit comes from\n{told}")), "{read}");
+    let order = "    looked at, up to the first that holds: F4 no, F11 no, F12 no\n    rules: Work items and reading\n";
+    assert!(read.ends_with(&format!("    BR_FAILED_REPLY (for 11)\n{order}it comes from\n{told}")), "{read}");
     let freed = printed(&["explain", file.path(), "13"]);
     assert!(freed.contains("    the latest buffer with that pointer was freed at 10\n"), "{freed}");
     let again = printed(&["explain", file.path(), "14"]);

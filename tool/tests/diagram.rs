@@ -9,16 +9,9 @@ fn page(path: &str) -> String {
     printed(&["diagram", path])
 }
 
-fn data(page: &str) -> Value {
-    let begin = "<script type=\"application/json\" id=\"data\">";
-    let from = page.find(begin).expect("the data") + begin.len();
-    let to = from + page[from..].find("</script>").expect("their end");
-    serde_json::from_str(&page[from..to]).expect("JSON")
-}
-
 #[test]
 fn a_call_is_two_arrows_and_two_bars() {
-    let told = data(&page(Journal::registered().file("page").path()));
+    let told = page_data(&page(Journal::registered().file("page").path()));
     assert_eq!(
         told["lanes"],
         json!([{"pid": 100, "seat": 0, "from": 0, "to": null}, {"pid": 200, "seat": 1, "from": 3, "to": null}])
@@ -44,7 +37,7 @@ fn a_thread_that_ended_keeps_its_lane() {
     let opened = [&[1][..], &200u32.to_le_bytes()].concat();
     journal.entry(1, &opened, OPENED);
     journal.command(0, &message(BC_FREE_BUFFER, &65536u64.to_le_bytes()), ACCEPTED);
-    let told = data(&page(journal.file("lanes").path()));
+    let told = page_data(&page(journal.file("lanes").path()));
     let lanes: Vec<_> = told["lanes"].as_array().expect("lanes").iter().map(|it| (&it["from"], &it["to"])).collect();
     assert_eq!(lanes, [(&json!(0), &Value::Null), (&json!(3), &json!(7)), (&json!(8), &Value::Null)]);
     // Its buffer was freed after another thread had come onto the seat, and still the call is the first one's.
@@ -53,10 +46,39 @@ fn a_thread_that_ended_keeps_its_lane() {
 }
 
 #[test]
+fn what_is_noted_is_a_dot() {
+    let mut journal = Journal::base();
+    journal.command(1, &message(BC_FREE_BUFFER, &9u64.to_le_bytes()), &noted(5)).read(1, &refused(12));
+    let told = page_data(&page(journal.file("noted").path()));
+    let dots: Vec<_> =
+        told["marks"].as_array().expect("marks").iter().filter(|it| it["dot"]["kind"] == "refused").collect();
+    let text = "N5 NoSuchBuffer: no such buffer";
+    assert_eq!(dots, [&json!({"dot": {"kind": "refused", "lane": 1, "at": 4, "text": text}})]);
+}
+
+/// A reply that was refused goes to nobody: the call has no second arrow, and what served it ends there.
+#[test]
+fn a_refused_reply_is_no_arrow() {
+    let mut journal = Journal::base();
+    let sent = Record { code: 7, ..Record::default() };
+    journal.send(1, &sent.bytes(BC_TRANSACTION), &[], &[], ACCEPTED);
+    let read = Record { pid: 200, euid: 2000, buffer: 65536, ..sent };
+    journal.read(0, &got(&[message(BR_NOOP, &[]), read.bytes(BR_TRANSACTION)], &[], &[]));
+    journal.send(0, &Record { data: 4096, ..Record::default() }.bytes(BC_REPLY), &[0; 4096], &[], &stopped(13));
+    journal.read(1, &got(&[BR_NOOP, BR_TRANSACTION_COMPLETE, BR_FAILED_REPLY].map(|it| message(it, &[])), &[], &[]));
+    let told = page_data(&page(journal.file("refused-reply").path()));
+    let marks = told["marks"].as_array().expect("marks");
+    let arrows: Vec<_> = marks.iter().filter_map(|it| it.get("arrow")).map(|it| (&it["kind"], &it["to"])).collect();
+    assert_eq!(arrows, [(&json!("call"), &json!([0, 5]))]);
+    let serves = marks.iter().filter_map(|it| it.get("bar")).find(|it| it["kind"] == "serves").expect("a server");
+    assert_eq!((&serves["from"], &serves["to"]), (&json!(5), &json!(6)));
+}
+
+#[test]
 fn what_nobody_has_read_has_no_end() {
     let mut journal = Journal::base();
     journal.send(1, &Record::default().bytes(BC_TRANSACTION), &[], &[], ACCEPTED);
-    let told = data(&page(journal.file("unread").path()));
+    let told = page_data(&page(journal.file("unread").path()));
     let arrow = told["marks"].as_array().expect("marks").iter().find(|it| it.get("arrow").is_some()).expect("the call");
     assert_eq!(arrow["arrow"]["to"], Value::Null);
 }

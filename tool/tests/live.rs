@@ -150,15 +150,30 @@ fn what_has_no_ring_is_told() {
     for (at, bytes, told) in [
         (0, &b"HPRING02"[..], "the daemon's ring is of another version: \"HPRING02\""),
         (12, &[1, 0, 0, 0], "the daemon's ring has 64 slots of 1 bytes behind 4096"),
+        (12, &[0xff; 4], "the daemon's ring has 64 slots of 4294967295 bytes behind 4096"),
         (16, &[0, 0, 0, 0], "the daemon's ring has 0 slots of 384 bytes behind 4096"),
+        // It claims steps that it has no memory for.
+        (16, &[0xff; 4], "the daemon's ring: failed to fill whole buffer"),
     ] {
-        let bad = filled(&format!("bad-{at}"));
+        let mut bad = filled(&format!("bad-{at}"));
+        (0..60).for_each(|_| bad.put(&step(0, MANAGER, (2, 1, 0), &[])));
         let mut memory = fs::read(&bad.file.0).expect("the ring");
         memory[at..at + bytes.len()].copy_from_slice(bytes);
         fs::write(&bad.file.0, memory).expect("the ring");
         let socket = daemon(&format!("bad-{at}"), &bad, 0);
         assert_eq!(fault(&["trace", "--once", "--socket", socket.path()]), format!("hullpippin: {told}\n"));
     }
+}
+
+/// A count that no device can have come to leads to no step.
+#[test]
+fn a_count_that_cannot_be_is_no_step() {
+    let ring = filled("count");
+    let mut memory = fs::read(&ring.file.0).expect("the ring");
+    memory[128..136].copy_from_slice(&[0xff; 8]);
+    fs::write(&ring.file.0, memory).expect("the ring");
+    let socket = daemon("count", &ring, 0);
+    assert_eq!(printed(&["trace", "--once", "--past", "--socket", socket.path()]), "");
 }
 
 /// A runner that tells its pid and waits until it may go on.

@@ -16,6 +16,8 @@ const IS_OVER_AT: u64 = 36;
 /// Two of the daemon's counters, of the last that stand there.
 const PROCESSES_AT: u64 = 192 + 1384;
 const THREADS_AT: u64 = 192 + 1392;
+/// No ring has larger slots, so no more memory is asked for than for some of these.
+const MOST_SLOT: u64 = 65536;
 /// How many slots are read together.
 const TOGETHER: u64 = 64;
 
@@ -39,7 +41,8 @@ impl Ring {
         ensure!(head[..8] == MAGIC[..], "the daemon's ring is of another version: \"{}\"", head[..8].escape_ascii());
         let sizes = [8, 12, 16].map(|at| u64::from(u32_at(&head, at)));
         let [heading_size, slot_size, slot_count] = sizes;
-        let is_sound = heading_size >= HEAD as u64 && slot_size >= SLOT_SIZE as u64 && slot_count > 0;
+        let is_slot = (SLOT_SIZE as u64..=MOST_SLOT).contains(&slot_size);
+        let is_sound = heading_size >= HEAD as u64 && is_slot && slot_count > 0;
         ensure!(is_sound, "the daemon's ring has {slot_count} slots of {slot_size} bytes behind {heading_size}");
         Ok(Ring { memory, heading_size, slot_size, slot_count, ahead: u64_at(&head, 24), next: 0, lost: 0 })
     }
@@ -89,7 +92,8 @@ impl Ring {
         let count = self.count()?;
         for (index, slot) in bytes.chunks_exact(self.slot_size as usize).enumerate() {
             let place = self.next + index as u64;
-            let is_whole = place + self.slot_count > count && u64_at(slot, 0) == place.wrapping_mul(2).wrapping_add(2);
+            let is_whole = place.saturating_add(self.slot_count) > count
+                && u64_at(slot, 0) == place.wrapping_mul(2).wrapping_add(2);
             match <&[u8; SLOT_SIZE]>::try_from(&slot[..SLOT_SIZE]) {
                 Ok(slot) if is_whole => call(&Slot::read(slot)),
                 _ => self.lost += 1,

@@ -315,6 +315,14 @@ pub fn printed(words: &[&str]) -> String {
     String::from_utf8(done.stdout).expect("text")
 }
 
+/// The data that stand in a page of `diagram`.
+pub fn page_data(page: &str) -> serde_json::Value {
+    let begin = "<script type=\"application/json\" id=\"data\">";
+    let from = page.find(begin).expect("the data") + begin.len();
+    let to = from + page[from..].find("</script>").expect("their end");
+    serde_json::from_str(&page[from..to]).expect("JSON")
+}
+
 /// What it says of why it can't; it has to end with status 1.
 pub fn fault(words: &[&str]) -> String {
     let done = run(words);
