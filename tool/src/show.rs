@@ -59,9 +59,9 @@ pub fn put_entry(to: &mut Lines, style: &Style, entry: &Entry<'_>, space: &Space
     }
 }
 
-/// The first line of an entry, which says all but what it read and its parcel.
-pub fn put_line(to: &mut Lines, style: &Style, entry: &Entry<'_>, space: &Space, facts: &Facts) -> io::Result<()> {
-    let Palette { place, name, refused, about, plain, .. } = &style.palette;
+/// Where a line begins: the place, the time, who it was.
+fn put_head(to: &mut Lines, style: &Style, entry: &Entry<'_>, facts: &Facts) -> io::Result<()> {
+    let Palette { place, about, plain, .. } = &style.palette;
     write!(to, "{place}{}{plain} ", entry.place)?;
     if let Some(time) = facts.time {
         write!(to, "{place}{}{plain} ", time.of_day())?;
@@ -71,10 +71,17 @@ pub fn put_line(to: &mut Lines, style: &Style, entry: &Entry<'_>, space: &Space,
         Some(pid) => write!(to, "{pid}")?,
         None => to.push(b'-'),
     }
-    if let Some(it) = &facts.person {
-        write!(to, "{about}{}{plain}", person_words(it.pid, it.tid, &it.comm, facts.pid))?;
+    match &facts.person {
+        Some(it) => write!(to, "{about}{}{plain} ", person_words(it.pid, it.tid, &it.comm, facts.pid)),
+        None => write!(to, " "),
     }
-    write!(to, " {name}")?;
+}
+
+/// The first line of an entry, which says all but what it read and its parcel.
+pub fn put_line(to: &mut Lines, style: &Style, entry: &Entry<'_>, space: &Space, facts: &Facts) -> io::Result<()> {
+    let Palette { name, refused, plain, .. } = &style.palette;
+    put_head(to, style, entry, facts)?;
+    to.extend(name.as_bytes());
     match &entry.step {
         Step::Open { pid, euid, window } => write!(to, "open{plain} pid {pid} euid {euid} window {window}")?,
         Step::Attach { pid } => write!(to, "attach{plain} pid {pid}")?,
