@@ -146,13 +146,9 @@ mod tests {
         bytes
     }
 
-    /// The header is there once the daemon has a ring.
     #[test]
     fn fields_stand_where_the_header_has_them() {
-        let header = match std::fs::read_to_string(HEADER) {
-            Ok(header) => header,
-            Err(_) => return,
-        };
+        let header = std::fs::read_to_string(HEADER).expect(HEADER);
         let (word, long) = (0x0403_0201, 0x0807_0605_0403_0201);
         let read = |field: &str, size: usize| Slot::read(&counted(documented(&header, field).expect(field), size));
         assert_eq!((read("time", 8).time, read("place", 8).place), (long, long));
