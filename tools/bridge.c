@@ -1,6 +1,7 @@
 /* SPDX-License-Identifier: Apache-2.0 OR MIT */
 /* What a bridge to other programs asks a live engine after a step: which buffers ended by it, which seats have come to be ready or
-   unready, and which lists were filled or emptied. Plays a few one-way calls, and complains where an answer isn't the one that docs/RULES.md gives. Prints nothing else. */
+   unready, and which lists were filled or emptied. Plays a few one-way calls, and complains where an answer isn't the one that
+   docs/RULES.md gives. Prints nothing else. */
 #include "asking.h"
 
 #include <stdio.h>

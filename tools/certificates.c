@@ -21,12 +21,12 @@ static bool is(bool so, const char *otherwise)
     return so || fails(otherwise);
 }
 
-/* Puts what the library has spelled behind the journal. */
-static bool grows(uint32_t status, size_t more)
+/* Puts what the library has spelled behind the journal. Arguments are evaluated in any order, so the size is read here, once it is told. */
+static bool grows(uint32_t status, const size_t *more)
 {
     if (!is_done(status))
         return false;
-    size += more;
+    size += *more;
     return is(size <= sizeof journal, "the journal has no room");
 }
 
@@ -36,7 +36,7 @@ static bool is_noted(hullpippin_live *live)
     size_t more = 0;
     uint32_t place = hullpippin_live_len(live) - 1;
     begins[place] = size;
-    return grows(hullpippin_live_entry(live, journal + size, sizeof journal - size, &more), more);
+    return grows(hullpippin_live_entry(live, journal + size, sizeof journal - size, &more), &more);
 }
 
 static bool runs(hullpippin_live *live, uint32_t seat, const hullpippin_command *command, const uint8_t *data)
@@ -93,7 +93,7 @@ static bool plays(hullpippin_live *live)
     static const hullpippin_command acquire = {.code = HULLPIPPIN_BC_ACQUIRE, .handle = HANDLE};
     static const hullpippin_command call = {.code = HULLPIPPIN_BC_TRANSACTION}, reply = {.code = HULLPIPPIN_BC_REPLY};
     size_t more = 0;
-    if (!grows(hullpippin_live_heading(live, STEPS, journal, sizeof journal, &more), more) || !opens(live) || !sends(live))
+    if (!grows(hullpippin_live_heading(live, STEPS, journal, sizeof journal, &more), &more) || !opens(live) || !sends(live))
         return false;
     if (!reads(live, CLIENT) || !reads(live, MANAGER))
         return false;

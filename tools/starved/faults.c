@@ -22,6 +22,8 @@ uint32_t __real_hullpippin_journal(hullpippin_driver *driver, uint8_t *out, size
 uint32_t __wrap_hullpippin_journal(hullpippin_driver *driver, uint8_t *out, size_t room, size_t *size);
 bool __real_hullpippin_live_thread(hullpippin_live *live, uint32_t seat, hullpippin_thread *thread);
 bool __wrap_hullpippin_live_thread(hullpippin_live *live, uint32_t seat, hullpippin_thread *thread);
+uint32_t __real_hullpippin_live_ask_reached(hullpippin_live *live, size_t *count);
+uint32_t __wrap_hullpippin_live_ask_reached(hullpippin_live *live, size_t *count);
 
 static bool is_fault(const char *name)
 {
@@ -87,4 +89,14 @@ bool __wrap_hullpippin_live_thread(hullpippin_live *live, uint32_t seat, hullpip
     void *volatile block = is_fault("live_thread") ? malloc(1) : NULL;
     free(block);
     return __real_hullpippin_live_thread(live, seat, thread);
+}
+
+/* Lists that weren't found for want of memory are forgotten. */
+uint32_t __wrap_hullpippin_live_ask_reached(hullpippin_live *live, size_t *count)
+{
+    size_t forgotten;
+    uint32_t status = __real_hullpippin_live_ask_reached(live, count);
+    if (is_fault("live_ask_reached") && status == HULLPIPPIN_NO_MEMORY)
+        __real_hullpippin_live_ask_reached(live, &forgotten);
+    return status;
 }

@@ -4,7 +4,7 @@
 #include "run.h"
 #include "space.h"
 
-enum { MOST_STREAM = 4096, HEADING = 16 };
+enum { MOST_STREAM = 4096, HEADING = 16, UNTOLD = 7777 };
 
 /* ---- what comes behind each step */
 
@@ -47,6 +47,25 @@ static uint32_t poll(struct run *run, uint32_t unused)
     return status;
 }
 
+/* Which lists were filled or emptied. Their order isn't promised, so each is summed up by itself. */
+static uint32_t ask_reached(struct run *run, uint32_t unused)
+{
+    hullpippin_todo_list list = {UNTOLD, UNTOLD};
+    size_t count = UNTOLD;
+    uint64_t lists = 0;
+    (void)unused;
+    uint32_t status = hullpippin_live_ask_reached(&run->live, &count);
+    if (status != HULLPIPPIN_DONE)
+        return count == UNTOLD || fails("lists are counted that aren't found") ? status : HULLPIPPIN_MISUSE;
+    long before = requests();
+    for (size_t i = 0; i < count && hullpippin_live_reached(&run->live, i, &list); i++)
+        lists += added(added(NO_SUM, list.kind), list.number);
+    if (hullpippin_live_reached(&run->live, count, &list))
+        fails("another number of lists");
+    run->reached = added(added(run->reached, lists), count);
+    return took_none(before) ? status : HULLPIPPIN_MISUSE;
+}
+
 /* All looks, which take no memory. */
 static uint64_t looked(struct run *run)
 {
@@ -63,7 +82,9 @@ static bool comes_after(struct run *run)
         return fails("too many steps");
     if (!run->undisturbed)
         run->sums[length] = looked(run);
-    return length == 0 || (makes(run, "live_entry", append_entry, 0) && makes(run, "live_poll", poll, 0));
+    return length == 0
+           || (makes(run, "live_entry", append_entry, 0) && makes(run, "live_poll", poll, 0)
+               && makes(run, "live_ask_reached", ask_reached, 0));
 }
 
 /* ---- begin and end */
@@ -75,7 +96,7 @@ static uint32_t make_live(struct run *run, uint32_t seats)
 
 static bool begin(struct run *run)
 {
-    run->polled = NO_SUM;
+    run->polled = run->reached = NO_SUM;
     run->journal_size = HEADING;
     return makes(run, "live_new", make_live, run->script->seats) && makes(run, "live_heading", write_heading, UINT32_MAX)
            && comes_after(run);

@@ -57,7 +57,8 @@ static void try_request(const struct run *wanted, long request, bool all)
     refuse(request, all);
     refused++;
     bool is_well = play(&disturbed) && is_same_text(&disturbed, wanted) && is_same_journal(&disturbed, wanted)
-                   && (disturbed.polled == wanted->polled || fails("other seats were told to be ready"));
+                   && (disturbed.polled == wanted->polled || fails("other seats were told to be ready"))
+                   && (disturbed.reached == wanted->reached || fails("other lists were told to be filled or emptied"));
     snprintf(refusal, sizeof refusal, "request %ld%s refused", request, all ? " and all behind it" : "");
     tell(wanted, is_well, refusal);
 }

@@ -26,6 +26,8 @@ struct run {
     uint64_t sums[MOST_STEPS + 1];
     /* All that a live engine's polls tell, as a sum. */
     uint64_t polled;
+    /* The same of the lists that it tells to have been filled or emptied. */
+    uint64_t reached;
     /* A live engine was given a parcel of other lengths, where a driver's seat gives none. */
     bool has_other_parcels;
     /* What came of it: a line for each request, the number of steps, and the journal. */
