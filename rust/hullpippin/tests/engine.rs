@@ -1,8 +1,8 @@
 // SPDX-License-Identifier: Apache-2.0 OR MIT
 //! Runs over the library: what this crate spells is what the engine reads, and the other way round.
 use hullpippin::{
-    verdict_on, Answer, Cause, Command, Driver, Error, Fault, FlatObject, Kept, Live, Note, ObjectId, Outcome, Parcel,
-    Request, Return, Stop, TodoList, TransactionData, Verdict, Why, Work, ONE_WAY,
+    call_of_reply, chain_of, turns_of, verdict_on, Answer, Cause, Command, Driver, Error, Fault, FlatObject, Kept, Live, Note,
+    ObjectId, Outcome, Parcel, Request, Return, Stop, TodoList, TransactionData, Turn, Verdict, Why, Work, ONE_WAY,
 };
 use hullpippin_sys as sys;
 
@@ -202,6 +202,52 @@ fn a_posted_request_waits() {
 }
 
 #[test]
+fn what_came_back_is_made_again() {
+    let mut driver = Driver::new(1).expect("a driver");
+    let mut seat = driver.take_seat().expect("a seat");
+    assert_eq!(seat.again(), Err(Error::NothingBack));
+    seat.post(Request::Open { pid: 5, euid: 6, window: 4096 }).expect("a post");
+    assert_eq!(seat.again(), Err(Error::Waiting));
+    assert_eq!(seat.withdraw(), Ok(Outcome::Back(Why::Withdrawn)));
+    assert_eq!(seat.again().expect("a call").answer(), Some(Answer::Opened));
+    assert_eq!(seat.again(), Err(Error::NothingBack));
+}
+
+/// The manager is sent an object one-way and keeps it; it is called and replies.
+fn recorded() -> Vec<u8> {
+    let mut driver = Driver::new(2).expect("a driver");
+    let (mut manager, mut client) = (driver.take_seat().expect("a seat"), driver.take_seat().expect("a seat"));
+    let mut sent = Parcel::from(&b""[..]);
+    sent.push(FlatObject::binder(0x1000, 0x20));
+    let none = Parcel::from(&b""[..]);
+    manager.open(100, 1000, 65536).expect("step 0");
+    manager.manager().expect("step 1");
+    manager.command(&Command::EnterLooper).expect("step 2");
+    client.open(200, 2000, 65536).expect("step 3");
+    client.transact(0, 7, ONE_WAY, &sent).expect("step 4");
+    client.read(256).expect("step 5");
+    manager.read(256).expect("step 6");
+    manager.command(&Command::Acquire(1)).expect("step 7");
+    client.transact(0, 8, 0, &none).expect("step 8");
+    manager.read(256).expect("step 9");
+    manager.reply(0, 0, &none).expect("step 10");
+    client.read(256).expect("step 11");
+    driver.return_seat(manager).expect("its own");
+    driver.return_seat(client).expect("its own");
+    driver.finish().expect("all are back").journal().expect("a journal")
+}
+
+#[test]
+fn certificates_tell_what_a_history_comes_to() {
+    let journal = recorded();
+    assert_eq!(verdict_on(&journal), Ok(Verdict::Lawful(12)));
+    assert_eq!((chain_of(&journal, 100, 1), chain_of(&journal, 100, 2)), (Ok(vec![4]), Ok(vec![])));
+    assert_eq!((call_of_reply(&journal, 11), call_of_reply(&journal, 6)), (Ok(Some(8)), Ok(None)));
+    assert_eq!(turns_of(&journal, 1, 0), Ok(vec![Turn { made: 4, handed: Some(6), ended: None }]));
+    assert_eq!(call_of_reply(&journal[1..], 11), Err(Error::NoJournal));
+}
+
+#[test]
 fn a_changed_journal_is_unlawful() {
     let mut live = introduced();
     let mut journal = live.heading(1).expect("a heading");
@@ -210,6 +256,7 @@ fn a_changed_journal_is_unlawful() {
     // An exit of a seat that has no process, where the history begins with it.
     journal.extend(live.entry().expect("an entry"));
     assert_eq!(verdict_on(&journal), Ok(Verdict::Unlawful(0)));
+    assert_eq!(turns_of(&journal, 1, 0), Err(Error::Unlawful));
     assert_eq!(verdict_on(&journal[..journal.len() - 1]), Err(Error::NoJournal));
 }
 
