@@ -18,11 +18,14 @@ struct run {
 static bool opens(struct run *run)
 {
     hullpippin_answer answer;
+    uint8_t enter[4];
+    put32(enter, HULLPIPPIN_BC_ENTER_LOOPER);
     hullpippin_seat *manager = &run->seats[MANAGER], *client = &run->seats[CLIENT];
     return is_done(hullpippin_new(SEATS, &run->driver)) && is_done(hullpippin_take_seat(&run->driver, manager))
            && is_done(hullpippin_take_seat(&run->driver, client))
            && is_made(hullpippin_open(manager, 100, 1000, WINDOW, &answer), &answer, HULLPIPPIN_OPENED)
            && is_made(hullpippin_manager(manager, &answer), &answer, HULLPIPPIN_SET)
+           && is_made(hullpippin_write(manager, enter, sizeof enter, HULLPIPPIN_NOWHERE, 0, &answer), &answer, HULLPIPPIN_WROTE)
            && is_made(hullpippin_open(client, 200, 2000, WINDOW, &answer), &answer, HULLPIPPIN_OPENED);
 }
 
