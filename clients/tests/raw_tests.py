@@ -289,7 +289,7 @@ def linger(build):
 
 @test("raw ghost")
 def ghost(build):
-    """A context manager that is dead is none, whoever has its connection."""
+    """A context manager that is dead is none, whoever has its connection, and whatever it asks for as it goes."""
     with Stage(build, journal="/dev/vndbinder") as stage:
         return f"{stage.run([build.fuzz('ghost')], client=False)}"
 
