@@ -268,6 +268,13 @@ struct caller;
 /* How a thread of the caller's process is called now, which has told its tid. */
 void name_find(struct name *name, const struct caller *caller, uint64_t told);
 
+/* The longest that a byte of a name becomes. */
+#define ESCAPED 4
+
+/* A name's bytes so that it is one word in a line, but for spaces, and tells a terminal nothing: its length. The name has a 0 behind it,
+   the text none. */
+size_t name_escape(const char *name, char *text);
+
 /* --- journal.c: the file that an engine's entries go to, with times and names beside it. --- */
 
 struct journal {
