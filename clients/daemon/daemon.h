@@ -739,8 +739,6 @@ void returns_clear(struct process *process, binder_uintptr_t cookie);
 
 /* Follows each step of a seat. */
 void reach_after_step(struct engine *engine, uint32_t seat);
-/* The thread is to be looked at; NULL: nobody. */
-void reach_thread(struct thread *thread);
 /* The process that the thread's next call or reply goes to; NULL where that isn't known. */
 struct process *reach_target(const struct thread *thread, bool is_reply, uint32_t handle);
 /* The size of the window that the thread's next call or reply goes to: the largest where that isn't known. */
