@@ -6,8 +6,8 @@
  * what a thread does until then is its own. Most want one of these:
  *
  *  - hullpippin_insist makes a request again until no other seat has the engine, by hullpippin_again, so that its bytes are copied
- *    once. It calls only once a look has found the engine free, since a call that comes back takes the page's cache line from the seat at work; and pauses longer and longer between
- *    its looks.
+ *    once. It calls only once a look has found the engine free, since a call that comes back takes the page's cache line from the seat
+ *    at work; and pauses longer and longer between its looks.
  *  - hullpippin_sleep has a thread sleep until its seat has something to read. It is woken by a bell, one for all seats of a
  *    driver, which hullpippin_insist rings after each request. Requests that are made otherwise have to ring it themselves.
  *

@@ -146,9 +146,19 @@ static void print_unread(const struct state_record *record)
     putchar('\n');
 }
 
+/* Clients choose their names, which aren't to be taken for a line of their own, or do what a terminal is told. */
+static const char *spell(const struct state_record *record, char text[ESCAPED * COMM_ROOM + 1])
+{
+    char name[sizeof record->comm + 1] = "";
+    memcpy(name, record->comm, sizeof record->comm);
+    text[name_escape(name, text)] = 0;
+    return text;
+}
+
 static void print_process(const struct state_record *process)
 {
-    printf("proc %u %.16s: euid %u, window %u, %u threads", process->pid, process->comm, process->euid, process->window, process->threads);
+    char name[ESCAPED * COMM_ROOM + 1];
+    printf("proc %u %s: euid %u, window %u, %u threads", process->pid, spell(process, name), process->euid, process->window, process->threads);
     printf(", of %u asked for %u have come", process->max_threads, process->started);
     if (process->process != process->pid)
         printf(", in the history %u", process->process);
@@ -158,7 +168,8 @@ static void print_process(const struct state_record *process)
 
 static void print_thread(const struct state_record *thread)
 {
-    printf("  thread %u %.16s: seat %u%s%s", thread->tid, thread->comm, thread->seat, thread->flags & STATE_LOOPS ? ", loops" : "",
+    char name[ESCAPED * COMM_ROOM + 1];
+    printf("  thread %u %s: seat %u%s%s", thread->tid, spell(thread, name), thread->seat, thread->flags & STATE_LOOPS ? ", loops" : "",
            thread->flags & STATE_WAITS ? ", waits" : "");
     if (thread->serving)
         printf(", serves %u", thread->serving);

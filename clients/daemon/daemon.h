@@ -268,6 +268,13 @@ struct caller;
 /* How a thread of the caller's process is called now, which has told its tid. */
 void name_find(struct name *name, const struct caller *caller, uint64_t told);
 
+/* The longest that a byte of a name becomes. */
+#define ESCAPED 4
+
+/* A name's bytes so that it is one word in a line, but for spaces, and tells a terminal nothing: its length. The name has a 0 behind it,
+   the text none. */
+size_t name_escape(const char *name, char *text);
+
 /* --- journal.c: the file that an engine's entries go to, with times and names beside it. --- */
 
 struct journal {
@@ -732,8 +739,6 @@ void returns_clear(struct process *process, binder_uintptr_t cookie);
 
 /* Follows each step of a seat. */
 void reach_after_step(struct engine *engine, uint32_t seat);
-/* The thread is to be looked at; NULL: nobody. */
-void reach_thread(struct thread *thread);
 /* The process that the thread's next call or reply goes to; NULL where that isn't known. */
 struct process *reach_target(const struct thread *thread, bool is_reply, uint32_t handle);
 /* The size of the window that the thread's next call or reply goes to: the largest where that isn't known. */

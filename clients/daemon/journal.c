@@ -53,21 +53,6 @@ struct times_front {
     uint64_t offset;
 };
 
-/* A name's bytes so that it is one word in a line, but for spaces: its length. The name has a 0 behind it, the text none. */
-static size_t escape(const char *name, char *text)
-{
-    size_t size = 0;
-    for (; *name; name++) {
-        if (*name < ' ' || *name > '~' || *name == '\\')
-            size += (size_t)sprintf(text + size, "\\x%02x", (unsigned char)*name);
-        else
-            text[size++] = *name;
-    }
-    return size;
-}
-
-/* The longest that a byte of a name becomes. */
-#define ESCAPED 4
 #define WHO_FRONT "HPWHO 1 "
 
 static bool begin(struct journal *journal, struct device *device, hullpippin_live *live)
@@ -75,7 +60,7 @@ static bool begin(struct journal *journal, struct device *device, hullpippin_liv
     uint8_t heading[HEADING_ROOM];
     char who[sizeof WHO_FRONT + ESCAPED * DEVICE_NAME_ROOM] = WHO_FRONT;
     struct times_front times = {.offset = htole64(realtime_offset())};
-    size_t size = spell_heading(journal, live, GROWING, heading), length = strlen(who) + escape(device->name, who + strlen(who));
+    size_t size = spell_heading(journal, live, GROWING, heading), length = strlen(who) + name_escape(device->name, who + strlen(who));
     if (!size || !journal->entry) {
         log_line("%s: no memory for its heading", journal->path);
         return false;
@@ -137,7 +122,7 @@ void journal_note_seat(struct journal *journal, hullpippin_live *live, uint32_t 
     if (!journal->recorder || journal->has_broken_off)
         return;
     size_t size = (size_t)(name ? sprintf(line, "%u %u %d %d ", place, seat, pid, name->tid) : sprintf(line, "%u %u -", place, seat));
-    size += name ? escape(name->comm, line + size) : 0;
+    size += name ? name_escape(name->comm, line + size) : 0;
     line[size++] = '\n';
     const struct span spans[TRACKS] = {{NULL, 0}, {line, size}, {NULL, 0}};
     journal->has_broken_off = !recorder_append(journal->recorder, spans);

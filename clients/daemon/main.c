@@ -143,7 +143,7 @@ static void patience_is_over(struct watch *watch)
         daemon->strangers_are_timed = false;
 }
 
-/* The timer runs while somebody has opened nothing yet (devices_between). */
+/* The timer runs while somebody has opened nothing yet (devices.c). */
 static bool watch_strangers(struct daemon *daemon)
 {
     daemon->patience = (struct watch){.fd = timerfd_create(CLOCK_MONOTONIC, TFD_CLOEXEC | TFD_NONBLOCK), .ready = patience_is_over};

@@ -42,3 +42,15 @@ void name_find(struct name *name, const struct caller *caller, uint64_t told)
     else if (!read_comm(caller, "comm", name->comm))
         name->comm[0] = 0;
 }
+
+size_t name_escape(const char *name, char *text)
+{
+    size_t size = 0;
+    for (; *name; name++) {
+        if (*name < ' ' || *name > '~' || *name == '\\')
+            size += (size_t)sprintf(text + size, "\\x%02x", (unsigned char)*name);
+        else
+            text[size++] = *name;
+    }
+    return size;
+}

@@ -157,13 +157,14 @@ static int write_read(struct thread *thread, const struct page_request *request)
     return write_on(thread, &writing);
 }
 
-/* As with the kernel's driver, all context managers of a device are of one user: the first one's. */
+/* As with the kernel's driver, all context managers of a device are of one user: the first one's. One that has gone makes room for
+   another; who asks is ended here by nobody but its own turn. */
 static int set_manager(struct thread *thread, uint32_t flags)
 {
     struct process *process = thread->process;
     struct engine *engine = process->engine;
     uid_t euid;
-    if (engine->manager && process_has_gone(engine->manager))
+    if (engine->manager && engine->manager != process && process_has_gone(engine->manager))
         process_end(engine->manager);
     bool may = caller_euid(&process->caller, &euid) && (!engine->has_had_manager || euid == engine->manager_euid);
     if (!may && !engine->manager)

@@ -9,7 +9,8 @@
  */
 #include "daemon.h"
 
-void reach_thread(struct thread *thread)
+/* The thread is to be looked at; NULL: nobody. */
+static void reach_thread(struct thread *thread)
 {
     if (thread && !thread->process->is_ending && list_is_empty(&thread->in_reached))
         list_append(&thread->process->engine->reached_threads, &thread->in_reached);

@@ -161,12 +161,21 @@ static bool look_at_idle(struct process *process)
     return false;
 }
 
+/* Until none waits any more or there is nothing left, since a list that still has something after a read isn't named. Whether one has
+   read. */
+static bool look_at_all_idle(struct process *process)
+{
+    bool has_read = false;
+    while (look_at_idle(process))
+        has_read = true;
+    return has_read;
+}
+
 static void look_at_process(struct process *process)
 {
     list_remove(&process->in_reached);
     settle_doorbells(process);
-    while (look_at_idle(process))
-        ;
+    look_at_all_idle(process);
 }
 
 /* --- Those that all have to be looked at, some at a time: the first is looked at and goes last. --- */
@@ -186,7 +195,7 @@ static bool look_at_next_process(struct engine *engine)
     engine->resting_left--;
     list_remove(&process->in_resting);
     list_append(&engine->resting, &process->in_resting);
-    return look_at_idle(process);
+    return look_at_all_idle(process);
 }
 
 /* Those that the engine has named. Who is acting is looked at behind all others. */

@@ -19,6 +19,8 @@ SLACK, SLACK_OF_OBJECTS = 1.25, 3
 ROUNDS, MOST_ROUNDS = 12, 40
 # hostile clients may leave so much behind in the daemon
 FUZZ_KIB = 65536
+# callers of who ends: so few that the engine names whom that reaches, and so many that it doesn't
+MOURNED = (4, 100)
 
 DEVICE = "/dev/binder"
 # malloc gives what isn't used back at once, so that what is measured is used
@@ -55,6 +57,14 @@ for word in ("asked", "unasked"):
 def crossed(build):
     with Stage(build, journal=DEVICE, wide=True) as stage:
         told = stage.run([build.raw("crossed"), "3"], 120)
+    return f"{told}; {stage.entries} steps"
+
+
+@test("raw mourners")
+def mourners(build):
+    """An end that reaches more lists than the engine names at once is heard of by as many threads as wait and have something to read."""
+    with Stage(build, journal=DEVICE, wide=True) as stage:
+        told = "; ".join(stage.run([build.raw("mourners"), str(callers)], 120) for callers in MOURNED)
     return f"{told}; {stage.entries} steps"
 
 
@@ -289,7 +299,7 @@ def linger(build):
 
 @test("raw ghost")
 def ghost(build):
-    """A context manager that is dead is none, whoever has its connection."""
+    """A context manager that is dead is none, whoever has its connection, and whatever it asks for as it goes."""
     with Stage(build, journal="/dev/vndbinder") as stage:
         return f"{stage.run([build.fuzz('ghost')], client=False)}"
 

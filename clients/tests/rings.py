@@ -204,6 +204,8 @@ def ring_counts(build):
 # what goes on while the state is told: services, and threads of one more process that wait in a read or for a reply
 SERVICES, THREADS = 40, 100
 CALLS = sum(i % 8 == 1 for i in range(THREADS))
+# what one of the services is called: it would be lines of its own, and clear a terminal
+ODD = "\\\n\x1b[2Jproc 1"
 
 
 def asked(build, stage, words):
@@ -245,8 +247,9 @@ def wait_for_calls(build, stage, program):
 
 
 def comm_of(pid, tid):
-    with open(f"/proc/{pid}/task/{tid}/comm", encoding="ascii") as file:
-        return file.read().rstrip("\n")
+    """A thread's name as it is told: what isn't printed, and the backslash, by their numbers."""
+    name = contents(f"/proc/{pid}/task/{tid}/comm")[:-1]
+    return "".join(chr(it) if 32 <= it <= 126 and it != ord("\\") else f"\\x{it:02x}" for it in name)
 
 
 @test("raw state")
@@ -254,7 +257,9 @@ def state(build):
     """What is told of processes and threads is what goes on, page after page; and of the counts those of the ring are told by name."""
     with Stage(build, journal=DEVICE, wide=True) as stage:
         manager = stage.manage()
-        running = [stage.start([build.manager("hello"), f"hello{i}"]).wait_for("ready") for i in range(SERVICES)]
+        odd = shutil.copy(build.manager("hello"), f"{stage.folder}/{ODD}")
+        running = [stage.start([build.manager("hello"), f"hello{i}"]).wait_for("ready") for i in range(SERVICES - 1)]
+        running.append(stage.start([odd, "odd"]).wait_for("ready"))
         other = {"RAW_DEVICE": "/dev/vndbinder"}
         waiting = stage.start([build.raw("asleep"), str(THREADS)], environment=other).wait_for("ready", 30)
         told, counted = (asked(build, stage, words) for words in (["--state", DEVICE], ["--stats", DEVICE]))

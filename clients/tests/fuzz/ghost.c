@@ -1,7 +1,8 @@
 /* SPDX-License-Identifier: Apache-2.0 OR MIT */
 /*
  * ghost: a context manager's connection is sent to the manager itself, which never reads the parcel, and is killed. So the daemon has
- * the other end of what it waits for. The manager goes all the same, and another can be it.
+ * the other end of what it waits for. The manager goes all the same, and another can be it. So it is with one that hangs up and asks to
+ * be the manager once more, both at the same moment.
  */
 #include "../raw/raw.h"
 #include "hostile.h"
@@ -59,17 +60,33 @@ static void manage(void *with)
     pause();
 }
 
-int main(void)
+static void inherit(struct hostile *heir)
 {
-    struct hostile heir;
-    raw_begin(30);
-    raw_kill(raw_start(manage, NULL));
     double start = raw_now();
-    CHECK(hostile_begin(&heir, DEVICE), "no daemon");
-    while (!becomes_manager(&heir)) {
+    CHECK(hostile_begin(heir, DEVICE), "no daemon");
+    while (!becomes_manager(heir)) {
         CHECK(raw_now() - start < SECONDS * 1e6, "the dead one is the context manager still");
         usleep(1000);
     }
+}
+
+/* The daemon finds both at once, and hears of the request first. */
+static void hang_up_asking(struct hostile *manager)
+{
+    raw_stop_daemon();
+    hostile_ask(manager, 0);
+    shutdown(manager->control, SHUT_WR);
+    raw_continue_daemon();
+}
+
+int main(void)
+{
+    struct hostile first_heir, last_heir;
+    raw_begin(30);
+    raw_kill(raw_start(manage, NULL));
+    inherit(&first_heir);
+    hang_up_asking(&first_heir);
+    inherit(&last_heir);
     printf("another is the manager\n");
     return 0;
 }
