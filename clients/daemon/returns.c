@@ -215,6 +215,13 @@ static void take_cleared(struct thread *thread)
     memmove(cleared->cookies, cleared->cookies + taken, cleared->count * sizeof *cleared->cookies);
 }
 
+/* Whether there is more that doesn't wait for a reply: without a call of its own that is each completion that it hasn't been told. */
+static bool has_more(const struct thread *thread)
+{
+    bool is_left = thread->calling ? hullpippin_live_ready(&thread->process->engine->live, thread->seat) : thread->untold;
+    return thread->has_no_room || is_left;
+}
+
 /* What fits is handed over, behind BR_NOOP. The doorbells of the process, some of whose work this may have been, are
    right before. */
 void returns_deliver(struct thread *thread)
@@ -231,8 +238,7 @@ void returns_deliver(struct thread *thread)
         memmove(thread->pending, thread->pending + size, thread->pending_size);
         size += sizeof first;
     }
-    bool has_more = thread->has_no_room || (thread->calling && hullpippin_live_ready(&thread->process->engine->live, thread->seat));
-    thread->is_prompt = thread->pending_size || (thread->is_prompt && has_more);
+    thread->is_prompt = thread->pending_size || (thread->is_prompt && has_more(thread));
     thread->is_waiting = thread->has_no_room = thread->is_behind = false;
     settle_watch(thread);
     settle_doorbells(thread->process);

@@ -37,9 +37,10 @@ static void rest_no_more(struct process *process)
     process->engine->resting_count--;
 }
 
+/* One that waits in the loop is asked for along with its process, also where its doorbell still rings. */
 static bool is_looked_at(const struct thread *thread)
 {
-    return thread->calling || thread->is_rung;
+    return thread->calling || (thread->is_rung && !thread->is_waiting);
 }
 
 /* Out of the list that it is in. */

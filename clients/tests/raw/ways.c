@@ -2,8 +2,8 @@
 /*
  * ways: small ways of Linux's driver. A two-way call leaves nothing to be read or polled before its reply, also where it carries
  * an object; a thread that never was in the loop isn't told that a death notification was taken back, but another of its process
- * is, which waits, or polls, or comes later; the manager can't have a reference on itself. And a reply comes, however much its
- * call's write goes on with.
+ * is, which waits, or polls, or comes later, and hears of its own one-way call all the same; the manager can't have a reference on
+ * itself. And a reply comes, however much its call's write goes on with.
  */
 #include "raw.h"
 
@@ -199,20 +199,21 @@ static void goes_on_beside_end(pid_t server)
 static struct client both;
 static uint32_t handle;
 
-static void take_back(void)
+static void *take_back(void *with)
 {
     struct looper looper;
     raw_looper(&looper, &both, NULL);
     put_death(&looper.commands, BC_REQUEST_DEATH_NOTIFICATION, handle, COOKIE);
     put_death(&looper.commands, BC_CLEAR_DEATH_NOTIFICATION, handle, COOKIE);
     CHECK(looper_flush(&looper), "can't take a death notification back");
-    read_nothing(both.binder.fd);
+    return with;
 }
 
 static void *take_back_later(void *with)
 {
     usleep(100000); /* the other waits by then; were it later, it would be told the same */
-    take_back();
+    take_back(with);
+    read_nothing(both.binder.fd);
     return with;
 }
 
@@ -221,6 +222,28 @@ static void is_told(const char *how)
     uint32_t codes[8];
     ssize_t count = read_codes(both.binder.fd, codes);
     CHECK(count == 1 && codes[0] == BR_CLEAR_DEATH_NOTIFICATION_DONE, "who %s read %zd returns, %x", how, count, codes[0]);
+}
+
+/* One that polls hears of a one-way call that it has written, and of what another takes back before it reads, in as many reads. */
+static void is_told_behind_call(void)
+{
+    const struct binder_transaction_data call = {.code = GIVE, .flags = TF_ONE_WAY};
+    struct pollfd file = {.fd = both.binder.fd, .events = POLLIN};
+    bool is_done = false, is_complete = false;
+    pthread_t thread;
+    put_record(&both.looper.commands, BC_TRANSACTION, &call);
+    CHECK(looper_flush(&both.looper), "can't write");
+    CHECK(!pthread_create(&thread, NULL, take_back, NULL), "no thread");
+    pthread_join(thread, NULL);
+    while (!is_done || !is_complete) {
+        uint32_t codes[8];
+        CHECK(poll(&file, 1, 5000) == 1, "poll doesn't tell of all");
+        ssize_t count = read_codes(both.binder.fd, codes);
+        for (ssize_t i = 0; i < count; i++) {
+            is_done |= codes[i] == BR_CLEAR_DEATH_NOTIFICATION_DONE;
+            is_complete |= codes[i] == BR_TRANSACTION_COMPLETE;
+        }
+    }
 }
 
 static void tells_another(void)
@@ -232,7 +255,8 @@ static void tells_another(void)
     handle = raw_keep(&both.looper, &reply);
     looper_free(&both.looper, &reply);
     CHECK(looper_flush(&both.looper), "can't write");
-    take_back();
+    take_back(NULL);
+    read_nothing(both.binder.fd);
     put_code(&both.looper.commands, BC_ENTER_LOOPER);
     CHECK(looper_flush(&both.looper), "can't enter the loop");
     is_told("comes later");
@@ -245,6 +269,7 @@ static void tells_another(void)
     is_told("polls");
     pthread_join(thread, NULL);
     read_nothing(both.binder.fd);
+    is_told_behind_call();
     binder_close(&both.binder);
 }
 
