@@ -514,8 +514,8 @@ enum {
    process, or whose thread has ended. A list that got more, or was read and still has something, isn't named: so who wakes one
    reader of a process looks again once it has read. Where the lists aren't known one is told, of the kind HULLPIPPIN_ANY_LIST, and
    every seat may be meant: the first time, where more than 64 lists got or lost something, and after a step that took back what was
-   to be read. It takes memory only the first time, or where there are more lists than before, and a step takes none for it. Also
-   NO_MEMORY: then all of them are told the next time. */
+   to be read. It takes memory where it has too little room for the lists, and a step takes none for it. Also NO_MEMORY: then all of
+   them are told the next time. */
 uint32_t hullpippin_live_ask_reached(hullpippin_live *live, size_t *count);
 
 /* Tells the list of an index, from 0, among those that the latest hullpippin_live_ask_reached found; false where there are no more.

@@ -1,8 +1,9 @@
 /* SPDX-License-Identifier: Apache-2.0 OR MIT */
 /*
  * reach.c: whom the engine's steps have reached. After each step the engine names the lists of what is to be read that it has filled or
- * emptied, and it is proved that besides the acting thread those alone have come to be ready, or aren't any more, whose own list or
- * whose process's list is named, or who have ended (docs/LIBRARY.md). So nobody else is looked at.
+ * emptied. Where these are all, it is proved that besides the acting thread those alone have come to be ready, or aren't any more, whose
+ * own list or whose process's list is named, or who have ended (docs/LIBRARY.md); so nobody else is looked at then. Where they aren't
+ * known, or there was no memory, all who wait are. That this file does so isn't proved.
  *
  * A list that has something and gets more isn't named. Therefore nothing is left on the list of a thread that waits: what its call has
  * left there, which it is to be told together with the reply, is read at once and waits here (settle.c).

@@ -224,7 +224,7 @@ static void is_told(const char *how)
     CHECK(count == 1 && codes[0] == BR_CLEAR_DEATH_NOTIFICATION_DONE, "who %s read %zd returns, %x", how, count, codes[0]);
 }
 
-/* One that polls hears of a one-way call that it has written, and of what another takes back before it reads, in as many reads. */
+/* One that polls hears of a one-way call that it has written, and of what another takes back before it reads. */
 static void is_told_behind_call(void)
 {
     const struct binder_transaction_data call = {.code = GIVE, .flags = TF_ONE_WAY};
@@ -239,6 +239,7 @@ static void is_told_behind_call(void)
         uint32_t codes[8];
         CHECK(poll(&file, 1, 5000) == 1, "poll doesn't tell of all");
         ssize_t count = read_codes(both.binder.fd, codes);
+        CHECK(count > 0, "poll tells of what can't be read");
         for (ssize_t i = 0; i < count; i++) {
             is_done |= codes[i] == BR_CLEAR_DEATH_NOTIFICATION_DONE;
             is_complete |= codes[i] == BR_TRANSACTION_COMPLETE;
