@@ -14,6 +14,8 @@ PAUSE = 100000
 # from this second on the daemon's memory has to be flat
 WARM = 10
 KIB = 256
+# the longest time of those who live for long
+LONG = 30
 # seconds in which the daemon lets go of what those have left who were killed last
 PATIENCE = 10
 SAMPLES = 10
@@ -84,8 +86,9 @@ def wait_for_descriptors(stage, before):
     return time.monotonic() - begin
 
 
-def soak(build, begin, parts, honest):
-    """Begins, and plays parts, each some commands and the longest time of one life; judges memory, descriptors and the journal."""
+def soak(build, begin, parts, honest, then=lambda stage: None):
+    """Begins, and plays parts, each some commands and the longest time of one life; judges memory, descriptors and the journal, and
+    what is played then."""
     with Stage(build, journal=DEVICE, daemon_environment=GIVES_BACK) as stage:
         begin(stage)
         before = open_files(stage.daemon.pid)
@@ -96,19 +99,21 @@ def soak(build, begin, parts, honest):
         expect(build.sanitized or is_flat(memory, seconds), f"the daemon's memory by seconds: {told} KiB")
         expect(kills > seconds, f"only {kills} were killed")
         took = wait_for_descriptors(stage, before)
+        then(stage)
     return f"{kills} killed in {seconds} s; KiB of memory from second {WARM} on: {told}; descriptors were back after {took:.1f} s; \
 lawful, {stage.entries} steps"
 
 
 def raw_parts(stage):
+    """Some live for long, so that they see who hangs: they fail where a call isn't answered, or a death isn't told, in five seconds."""
     seconds = stage.build.soak_seconds
     pause = PAUSE if seconds > 3 * SECONDS else 0
 
     def busy(part, longest):
         return [[stage.build.raw("busy"), part, str(seconds), str(pause)]], longest
-    return [busy("serve", 3), busy("serve", 3), *[busy("call", 2)] * 4, *[busy("hold", 1)] * 2]
+    return [busy("serve", 3), busy("serve", 3), *[busy("call", 2)] * 3, busy("call", LONG), *[busy("hold", 1)] * 2, busy("hold", LONG)]
 
 
 @test("raw soak of kills", timed=True)
 def raw_soak(build):
-    return soak(build, lambda stage: None, raw_parts, honest=True)
+    return soak(build, lambda stage: None, raw_parts, honest=True, then=lambda stage: stage.run([build.raw("nested")]))
