@@ -11,7 +11,8 @@ from suite import test
 # how long a soak takes, unless --soak says otherwise; one that takes longer pauses behind each call, so that its journal can be judged
 SECONDS = 20
 PAUSE = 100000
-# from this second on the daemon's memory has to be flat
+# from this second on the daemon's memory has to be flat; of a long soak, whose clients pause, from its half on: its tables grow until they
+# have met the most of each kind that there is at once
 WARM = 10
 KIB = 256
 # the longest time of those who live for long
@@ -69,9 +70,14 @@ def watched(stage, players):
     return memory
 
 
+def is_long(seconds):
+    return seconds > 3 * SECONDS
+
+
 def is_flat(memory, seconds):
     """Whether memory grows no more: at its least. What comes and goes with unread parcels is above that."""
-    early, late = memory[WARM - 1:WARM + 5], memory[max(WARM + 4, seconds - SECONDS):seconds]
+    warm = seconds // 2 if is_long(seconds) else WARM
+    early, late = memory[warm - 1:warm + 5], memory[max(warm + 4, seconds - SECONDS):seconds]
     expect(len(late) > 3, f"the soak was over after {len(memory)} seconds")
     return min(late) <= min(early) + KIB
 
@@ -107,7 +113,7 @@ lawful, {stage.entries} steps"
 def raw_parts(stage):
     """Some live for long, so that they see who hangs: they fail where a call isn't answered, or a death isn't told, in five seconds."""
     seconds = stage.build.soak_seconds
-    pause = PAUSE if seconds > 3 * SECONDS else 0
+    pause = PAUSE if is_long(seconds) else 0
 
     def busy(part, longest):
         return [[stage.build.raw("busy"), part, str(seconds), str(pause)]], longest
