@@ -3,8 +3,8 @@
  * busy serve|call|hold [SECONDS [PAUSE]]: a part of a soak, to be killed at any time. `serve` becomes the context manager,
  * however often another has to go first; `call` calls in turn one-way and two-way, with parcels of all sizes, buffers,
  * descriptors alone and in arrays, and weak objects, and is handed objects of others, which it calls, hands back and lets go of again,
- * and whose deaths it asks to be told; `hold` gives its object to the server, which calls it, one-way and two-way. Most of the latter
- * two have a second thread in the loop, which waits or polls, and hears of deaths there.
+ * and whose deaths it asks to be told; `hold` gives its object to the server, which calls it, one-way and two-way. The latter, and most
+ * of those who call, have a second thread in the loop, which waits or polls, answers others, and hears of deaths there.
  *
  * Both pause for so many microseconds behind each call. What others' deaths do to them is no failure, so they end with 0; a wrong
  * answer is one, and so is a call that isn't answered in time, or a death that isn't told. Prints how many calls were answered.
@@ -439,14 +439,14 @@ static void *listen_in(void *with)
     raw_fail(__FILE__, __LINE__, "the device failed");
 }
 
-static void begin(struct client *client)
+static void begin(struct client *client, bool listens)
 {
     pthread_t thread;
     uint32_t wants_warnings = rand() % 2;
     raw_open(client, WINDOW, answer_others);
     CHECK(!ioctl(client->binder.fd, BINDER_ENABLE_ONEWAY_SPAM_DETECTION, &wants_warnings), "it can't be warned of flooding");
-    has_listener = rand() % 4;
-    if (has_listener)
+    has_listener = listens;
+    if (listens)
         CHECK(!pthread_create(&thread, NULL, listen_in, client), "no thread");
 }
 
@@ -526,7 +526,7 @@ static void leave(struct client *client)
 static void run_caller(void)
 {
     struct client client;
-    for (begin(&client); raw_now() < until; usleep(pause_us)) {
+    for (begin(&client, rand() % 4); raw_now() < until; usleep(pause_us)) {
         int what = rand() % 100;
         if (what < 50)
             echo(&client);
@@ -544,10 +544,11 @@ static void run_caller(void)
     }
 }
 
+/* Others may call its object, which somebody has to answer. */
 static void run_holder(void)
 {
     struct client client;
-    begin(&client);
+    begin(&client, true);
     for (uint64_t i = 0; raw_now() < until; i++, usleep(pause_us))
         give(&client, i % 8 == 7 ? GLANCE : KEEP, 0x1000 + 16 * (i % 8));
 }
