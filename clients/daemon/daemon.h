@@ -642,7 +642,7 @@ struct thread {
 
     bool is_waiting;           /* in a read */
     bool has_no_room;          /* .. in which no return finds room, and there is one */
-    bool defers;               /* .. after a call, of which only the completion can be there yet */
+    bool defers;               /* .. after a call, whose completion waits for the reply */
     uint32_t room;             /* of that read */
     struct page_answer answer; /* what its request has come to so far */
 
