@@ -18,6 +18,9 @@
 /* A command of a call, with its code. */
 #define CALL_SIZE 68
 
+/* An object in a parcel. */
+#define OBJECT_SIZE 24u
+
 static const char *complaint;
 
 static inline bool fails(const char *why)
@@ -25,6 +28,12 @@ static inline bool fails(const char *why)
     if (!complaint)
         complaint = why;
     return false;
+}
+
+/* Whether it is as it has to be; else what it is otherwise. */
+static inline bool is(bool so, const char *otherwise)
+{
+    return so || fails(otherwise);
 }
 
 static inline bool is_done(uint32_t status)
@@ -64,6 +73,31 @@ static inline void spell_call(uint8_t command[CALL_SIZE], uint32_t data)
     put32(command, HULLPIPPIN_BC_TRANSACTION);
     put32(command + 4 + 20, TF_ONE_WAY);
     put32(command + 4 + 32, data);
+}
+
+/* The offsets of all parcels: of as many objects as there are, one behind the other. */
+static const uint8_t OFFSETS[2 * 8] = {[8] = OBJECT_SIZE};
+
+/* A step of a live engine by a command, with the data and as many offsets as its record says. */
+static inline uint32_t step(hullpippin_live *live, uint32_t seat, const hullpippin_command *command, const uint8_t *data,
+                            hullpippin_answer *answer)
+{
+    uint8_t bytes[CALL_SIZE];
+    size_t size = hullpippin_spell_command(command, bytes, sizeof bytes);
+    return hullpippin_live_command(live, seat, bytes, size, data, (size_t)command->transaction.data_size, OFFSETS,
+                                   (size_t)command->transaction.offsets_size, answer);
+}
+
+static inline bool runs(hullpippin_live *live, uint32_t seat, const hullpippin_command *command, const uint8_t *data)
+{
+    hullpippin_answer answer;
+    return is_made(step(live, seat, command, data, &answer), &answer, HULLPIPPIN_WROTE);
+}
+
+static inline bool reads(hullpippin_live *live, uint32_t seat)
+{
+    hullpippin_answer answer;
+    return is_made(hullpippin_live_read(live, seat, 256, &answer), &answer, HULLPIPPIN_GOT);
 }
 
 /* Two processes of a live engine, the first the context manager's. */

@@ -45,13 +45,6 @@ static bool free_first(hullpippin_live *live)
     return run(live, MANAGER, command, sizeof command, 0, &place);
 }
 
-static bool reads(hullpippin_live *live, uint32_t seat)
-{
-    hullpippin_answer answer;
-    uint32_t status = hullpippin_live_read(live, seat, 256, &answer);
-    return is_made(status, &answer, HULLPIPPIN_GOT);
-}
-
 /* Whether these numbers are fetched: with no room and with too little nothing is copied, and nothing is lost. */
 static bool are_fetched(size_t (*fetch)(hullpippin_live *, uint32_t *, size_t), hullpippin_live *live, const uint32_t *numbers, size_t count)
 {

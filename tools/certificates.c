@@ -16,11 +16,6 @@ enum { MANAGER_PID = 100, CLIENT_PID = 200, NOBODY = 300, HANDLE = 1 };
 static uint8_t journal[8192];
 static size_t size, begins[STEPS + 1];
 
-static bool is(bool so, const char *otherwise)
-{
-    return so || fails(otherwise);
-}
-
 /* Puts what the library has spelled behind the journal. Arguments are evaluated in any order, so the size is read here, once it is told. */
 static bool grows(uint32_t status, const size_t *more)
 {
@@ -39,22 +34,14 @@ static bool is_noted(hullpippin_live *live)
     return grows(hullpippin_live_entry(live, journal + size, sizeof journal - size, &more), &more);
 }
 
-static bool runs(hullpippin_live *live, uint32_t seat, const hullpippin_command *command, const uint8_t *data)
+static bool is_run(hullpippin_live *live, uint32_t seat, const hullpippin_command *command, const uint8_t *data)
 {
-    static const uint8_t offsets[8];
-    uint8_t bytes[CALL_SIZE];
-    hullpippin_answer answer;
-    size_t spelled = hullpippin_spell_command(command, bytes, sizeof bytes);
-    return is_made(hullpippin_live_command(live, seat, bytes, spelled, data, (size_t)command->transaction.data_size, offsets,
-                                           (size_t)command->transaction.offsets_size, &answer),
-                   &answer, HULLPIPPIN_WROTE)
-           && is_noted(live);
+    return runs(live, seat, command, data) && is_noted(live);
 }
 
-static bool reads(hullpippin_live *live, uint32_t seat)
+static bool is_read(hullpippin_live *live, uint32_t seat)
 {
-    hullpippin_answer answer;
-    return is_made(hullpippin_live_read(live, seat, 256, &answer), &answer, HULLPIPPIN_GOT) && is_noted(live);
+    return reads(live, seat) && is_noted(live);
 }
 
 static bool opens(hullpippin_live *live)
@@ -63,7 +50,7 @@ static bool opens(hullpippin_live *live)
     hullpippin_answer answer;
     return is_made(hullpippin_live_open(live, MANAGER, MANAGER_PID, 1000, WINDOW, &answer), &answer, HULLPIPPIN_OPENED) && is_noted(live)
            && is_made(hullpippin_live_manager(live, MANAGER, &answer), &answer, HULLPIPPIN_SET) && is_noted(live)
-           && runs(live, MANAGER, &enter, NULL)
+           && is_run(live, MANAGER, &enter, NULL)
            && is_made(hullpippin_live_open(live, CLIENT, CLIENT_PID, 2000, WINDOW, &answer), &answer, HULLPIPPIN_OPENED) && is_noted(live);
 }
 
@@ -73,7 +60,7 @@ static bool sends(hullpippin_live *live)
     uint8_t data[24];
     hullpippin_flat_object object = {.kind = HULLPIPPIN_TYPE_BINDER, .binder = 0x1000, .cookie = 0x2000};
     hullpippin_command command = {.code = HULLPIPPIN_BC_TRANSACTION, .transaction = {.flags = TF_ONE_WAY, .data_size = 24, .offsets_size = 8}};
-    return is(!hullpippin_put_object(&object, data, sizeof data), "the object has no place") && runs(live, CLIENT, &command, data);
+    return is(!hullpippin_put_object(&object, data, sizeof data), "the object has no place") && is_run(live, CLIENT, &command, data);
 }
 
 /* Where the buffer begins that the latest read got. */
@@ -95,11 +82,11 @@ static bool plays(hullpippin_live *live)
     size_t more = 0;
     if (!grows(hullpippin_live_heading(live, STEPS, journal, sizeof journal, &more), &more) || !opens(live) || !sends(live))
         return false;
-    if (!reads(live, CLIENT) || !reads(live, MANAGER))
+    if (!is_read(live, CLIENT) || !is_read(live, MANAGER))
         return false;
     hullpippin_command release = {.code = HULLPIPPIN_BC_FREE_BUFFER, .pointer = buffer_read(live)};
-    return runs(live, MANAGER, &acquire, NULL) && runs(live, CLIENT, &call, NULL) && reads(live, MANAGER)
-           && runs(live, MANAGER, &reply, NULL) && reads(live, CLIENT) && runs(live, MANAGER, &release, NULL)
+    return is_run(live, MANAGER, &acquire, NULL) && is_run(live, CLIENT, &call, NULL) && is_read(live, MANAGER)
+           && is_run(live, MANAGER, &reply, NULL) && is_read(live, CLIENT) && is_run(live, MANAGER, &release, NULL)
            && is(hullpippin_live_len(live) == STEPS, "another number of steps");
 }
 

@@ -14,7 +14,6 @@ enum { MANAGER_PID = 100, CLIENT_PID = 200, GUEST_PID = 300 };
 
 enum { FIRST = 1000, ALL = 100000, LEFT = 5000 };
 
-#define OBJECT_SIZE 24
 #define COOKIE 7u
 
 /* The one handle that a process has here beside 0. */
@@ -130,7 +129,7 @@ static struct command of_call(uint32_t code, uint32_t handle, uint32_t flags, bo
     return command;
 }
 
-static uint32_t step(hullpippin_live *live, uint32_t seat, struct command command, uint64_t object, hullpippin_answer *answer)
+static uint32_t make(hullpippin_live *live, uint32_t seat, struct command command, uint64_t object, hullpippin_answer *answer)
 {
     static const uint8_t offsets[8];
     uint8_t data[OBJECT_SIZE] = {0};
@@ -141,21 +140,21 @@ static uint32_t step(hullpippin_live *live, uint32_t seat, struct command comman
                                    object ? sizeof offsets : 0, answer);
 }
 
-static bool runs(hullpippin_live *live, uint32_t seat, struct command command)
+static bool makes(hullpippin_live *live, uint32_t seat, struct command command)
 {
     hullpippin_answer answer = {0};
-    return is_made(step(live, seat, command, 0, &answer), &answer, HULLPIPPIN_WROTE);
+    return is_made(make(live, seat, command, 0, &answer), &answer, HULLPIPPIN_WROTE);
 }
 
 static bool is_refused(hullpippin_live *live, uint32_t seat, struct command command)
 {
     hullpippin_answer answer = {0};
-    return is_done(step(live, seat, command, 0, &answer)) && (answer.stop == HULLPIPPIN_AT_CAUSE || fails("a call isn't refused"));
+    return is_done(make(live, seat, command, 0, &answer)) && (answer.stop == HULLPIPPIN_AT_CAUSE || fails("a call isn't refused"));
 }
 
 static bool calls(hullpippin_live *live, uint32_t seat, uint32_t handle, uint32_t flags)
 {
-    return runs(live, seat, of_call(HULLPIPPIN_BC_TRANSACTION, handle, flags, false));
+    return makes(live, seat, of_call(HULLPIPPIN_BC_TRANSACTION, handle, flags, false));
 }
 
 /* The object goes with a one-way call to the manager. */
@@ -163,14 +162,14 @@ static bool sends(hullpippin_live *live, uint32_t seat, uint64_t object)
 {
     hullpippin_answer answer = {0};
     struct command command = of_call(HULLPIPPIN_BC_TRANSACTION, 0, TF_ONE_WAY, true);
-    return is_made(step(live, seat, command, object, &answer), &answer, HULLPIPPIN_WROTE);
+    return is_made(make(live, seat, command, object, &answer), &answer, HULLPIPPIN_WROTE);
 }
 
 static bool replies(hullpippin_live *live, uint32_t seat, uint64_t object)
 {
     hullpippin_answer answer = {0};
     struct command command = of_call(HULLPIPPIN_BC_REPLY, 0, 0, object != 0);
-    return is_made(step(live, seat, command, object, &answer), &answer, HULLPIPPIN_WROTE);
+    return is_made(make(live, seat, command, object, &answer), &answer, HULLPIPPIN_WROTE);
 }
 
 /* Reads until nothing is left. */
@@ -199,13 +198,13 @@ static bool takes(hullpippin_live *live, uint32_t seat, uint64_t *buffer)
 
 static bool frees(hullpippin_live *live, uint32_t seat, uint64_t buffer)
 {
-    return runs(live, seat, of_word(HULLPIPPIN_BC_FREE_BUFFER, buffer));
+    return makes(live, seat, of_word(HULLPIPPIN_BC_FREE_BUFFER, buffer));
 }
 
 static bool acknowledges(hullpippin_live *live, uint32_t seat, uint64_t object)
 {
-    return drains(live, seat) && runs(live, seat, of_words(HULLPIPPIN_BC_INCREFS_DONE, object, COOKIE))
-           && runs(live, seat, of_words(HULLPIPPIN_BC_ACQUIRE_DONE, object, COOKIE));
+    return drains(live, seat) && makes(live, seat, of_words(HULLPIPPIN_BC_INCREFS_DONE, object, COOKIE))
+           && makes(live, seat, of_words(HULLPIPPIN_BC_ACQUIRE_DONE, object, COOKIE));
 }
 
 static bool opens(hullpippin_live *live, uint32_t seat, uint32_t pid)
@@ -224,7 +223,7 @@ static bool loops(hullpippin_live *live, uint32_t seat)
 {
     struct command command = {.size = 4};
     put32(command.bytes, HULLPIPPIN_BC_ENTER_LOOPER);
-    return runs(live, seat, command);
+    return makes(live, seat, command);
 }
 
 static bool leaves(hullpippin_live *live, uint32_t seat)
@@ -292,18 +291,18 @@ static bool sent(hullpippin_live *live, uint64_t object, uint64_t *buffer)
 static bool object_and_name(hullpippin_live *live, uint64_t object)
 {
     uint64_t buffer;
-    return sent(live, object, &buffer) && runs(live, MANAGER, of_handle(HULLPIPPIN_BC_INCREFS, HANDLE))
-           && runs(live, MANAGER, of_handle(HULLPIPPIN_BC_ACQUIRE, HANDLE)) && frees(live, MANAGER, buffer)
-           && runs(live, MANAGER, of_handle(HULLPIPPIN_BC_RELEASE, HANDLE))
-           && runs(live, MANAGER, of_handle(HULLPIPPIN_BC_DECREFS, HANDLE)) && drains(live, CLIENT);
+    return sent(live, object, &buffer) && makes(live, MANAGER, of_handle(HULLPIPPIN_BC_INCREFS, HANDLE))
+           && makes(live, MANAGER, of_handle(HULLPIPPIN_BC_ACQUIRE, HANDLE)) && frees(live, MANAGER, buffer)
+           && makes(live, MANAGER, of_handle(HULLPIPPIN_BC_RELEASE, HANDLE))
+           && makes(live, MANAGER, of_handle(HULLPIPPIN_BC_DECREFS, HANDLE)) && drains(live, CLIENT);
 }
 
 static bool death_notification(hullpippin_live *live, uint64_t object)
 {
     uint64_t buffer;
     return sent(live, object, &buffer)
-           && runs(live, MANAGER, of_handle_and_cookie(HULLPIPPIN_BC_REQUEST_DEATH_NOTIFICATION, HANDLE, object))
-           && runs(live, MANAGER, of_handle_and_cookie(HULLPIPPIN_BC_CLEAR_DEATH_NOTIFICATION, HANDLE, object)) && drains(live, MANAGER)
+           && makes(live, MANAGER, of_handle_and_cookie(HULLPIPPIN_BC_REQUEST_DEATH_NOTIFICATION, HANDLE, object))
+           && makes(live, MANAGER, of_handle_and_cookie(HULLPIPPIN_BC_CLEAR_DEATH_NOTIFICATION, HANDLE, object)) && drains(live, MANAGER)
            && frees(live, MANAGER, buffer) && drains(live, CLIENT);
 }
 
@@ -317,8 +316,8 @@ static bool death(hullpippin_live *live, uint64_t object)
 {
     uint64_t buffer;
     return visits(live, object, &buffer)
-           && runs(live, MANAGER, of_handle_and_cookie(HULLPIPPIN_BC_REQUEST_DEATH_NOTIFICATION, HANDLE, object))
-           && exits(live, GUEST) && drains(live, MANAGER) && runs(live, MANAGER, of_word(HULLPIPPIN_BC_DEAD_BINDER_DONE, object))
+           && makes(live, MANAGER, of_handle_and_cookie(HULLPIPPIN_BC_REQUEST_DEATH_NOTIFICATION, HANDLE, object))
+           && exits(live, GUEST) && drains(live, MANAGER) && makes(live, MANAGER, of_word(HULLPIPPIN_BC_DEAD_BINDER_DONE, object))
            && frees(live, MANAGER, buffer);
 }
 
@@ -345,7 +344,7 @@ static bool object_that_stays(hullpippin_live *live, uint64_t object)
 {
     uint64_t buffer;
     uint32_t handle = (uint32_t)(object / OBJECT_SIZE);
-    return sent(live, object, &buffer) && runs(live, MANAGER, of_handle(HULLPIPPIN_BC_ACQUIRE, handle)) && frees(live, MANAGER, buffer);
+    return sent(live, object, &buffer) && makes(live, MANAGER, of_handle(HULLPIPPIN_BC_ACQUIRE, handle)) && frees(live, MANAGER, buffer);
 }
 
 /* ---- */

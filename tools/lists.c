@@ -13,29 +13,12 @@ enum { OPENED_MANAGER, MADE_MANAGER, OPENED_CLIENT, ENTERED, SENT, CLIENT_READ, 
 
 enum { MANAGER_PID = 100, CLIENT_PID = 200, NOBODY = 300, UNTOLD = 77 };
 
-static bool runs(hullpippin_live *live, uint32_t seat, const hullpippin_command *command, const uint8_t *data)
-{
-    static const uint8_t offsets[8];
-    uint8_t bytes[CALL_SIZE];
-    hullpippin_answer answer;
-    size_t size = hullpippin_spell_command(command, bytes, sizeof bytes);
-    return is_made(hullpippin_live_command(live, seat, bytes, size, data, (size_t)command->transaction.data_size, offsets,
-                                           (size_t)command->transaction.offsets_size, &answer),
-                   &answer, HULLPIPPIN_WROTE);
-}
-
-static bool reads(hullpippin_live *live, uint32_t seat)
-{
-    hullpippin_answer answer;
-    return is_made(hullpippin_live_read(live, seat, 256, &answer), &answer, HULLPIPPIN_GOT);
-}
-
 static bool sends(hullpippin_live *live)
 {
     uint8_t data[24];
     hullpippin_flat_object object = {.kind = HULLPIPPIN_TYPE_BINDER, .binder = 0x1000, .cookie = 0x2000};
     hullpippin_command command = {.code = HULLPIPPIN_BC_TRANSACTION, .transaction = {.flags = TF_ONE_WAY, .data_size = 24, .offsets_size = 8}};
-    return (!hullpippin_put_object(&object, data, sizeof data) || fails("the object has no place")) && runs(live, CLIENT, &command, data);
+    return is(!hullpippin_put_object(&object, data, sizeof data), "the object has no place") && runs(live, CLIENT, &command, data);
 }
 
 static bool plays(hullpippin_live *live)

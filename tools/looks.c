@@ -59,7 +59,6 @@ enum {
 #define WEAK_COOKIE 0x4000u
 #define DEATH_COOKIE 0x77u
 #define SECOND_COOKIE 0x88u
-#define OBJECT_SIZE 24u
 
 /* The handles by which the manager comes to know the two objects, and one that nobody has. */
 enum { HANDLE = 1, WEAK_HANDLE, NO_HANDLE = 77 };
@@ -78,41 +77,12 @@ static bool is_all_filler(const void *it, size_t size)
     return true;
 }
 
-static bool is(bool so, const char *otherwise)
-{
-    return so || fails(otherwise);
-}
-
-/* The offsets of all parcels here: of as many objects as there are, one behind the other. */
-static const uint8_t OFFSETS[16] = {[8] = OBJECT_SIZE};
-
-static uint32_t step(hullpippin_live *live, uint32_t seat, const hullpippin_command *command, const uint8_t *data,
-                     hullpippin_answer *answer)
-{
-    uint8_t bytes[CALL_SIZE];
-    size_t size = hullpippin_spell_command(command, bytes, sizeof bytes);
-    return hullpippin_live_command(live, seat, bytes, size, data, (size_t)command->transaction.data_size, OFFSETS,
-                                   (size_t)command->transaction.offsets_size, answer);
-}
-
-static bool runs(hullpippin_live *live, uint32_t seat, const hullpippin_command *command, const uint8_t *data)
-{
-    hullpippin_answer answer;
-    return is_made(step(live, seat, command, data, &answer), &answer, HULLPIPPIN_WROTE);
-}
-
 /* A command that is refused for this cause. */
 static bool is_refused(hullpippin_live *live, uint32_t seat, const hullpippin_command *command, uint32_t cause)
 {
     hullpippin_answer answer;
     return is_done(step(live, seat, command, HULLPIPPIN_NOWHERE, &answer))
            && is(answer.kind == HULLPIPPIN_WROTE && answer.stop == HULLPIPPIN_AT_CAUSE && answer.number == cause, "another refusal");
-}
-
-static bool reads(hullpippin_live *live, uint32_t seat)
-{
-    hullpippin_answer answer;
-    return is_made(hullpippin_live_read(live, seat, 256, &answer), &answer, HULLPIPPIN_GOT);
 }
 
 static bool is_id(const hullpippin_object_id *id, uint32_t place, uint32_t index)

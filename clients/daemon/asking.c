@@ -1,13 +1,18 @@
 /* SPDX-License-Identifier: Apache-2.0 OR MIT */
-/* asking.c: what a daemon that runs tells of a device, for who asks on the command line. It is another daemon than this program. */
+/* asking.c: what a daemon that runs tells of a device, for who asks on the command line. It is another program than this one, and whoever
+   listens there may be none at all: what it sends is looked at before it is relied on. */
 #include "daemon.h"
 
 #include "../address.h"
 
 #include <errno.h>
+#include <fcntl.h>
 #include <stdlib.h>
 #include <string.h>
 #include <sys/mman.h>
+#include <sys/stat.h>
+
+static const char no_daemon[] = "no daemon of this build answers";
 
 static int fail(const char *what, const char *why)
 {
@@ -41,7 +46,7 @@ static int connect_to(const char *path)
 /* Why what an answer begins with is no good one, or NULL: an errno comes first in all of them. */
 static const char *why_not(bool is_answered, const int32_t *error)
 {
-    return !is_answered ? "no daemon of this build answers" : *error ? strerror(*error) : NULL;
+    return !is_answered ? no_daemon : *error ? strerror(*error) : NULL;
 }
 
 /* --- What it has counted --- */
@@ -67,7 +72,7 @@ static void print_codes(uint32_t kind, const uint32_t *codes, size_t size, const
             printf("%s: %llu\n", hullpippin_text(kind, codes[i]), (unsigned long long)get(&counts[_IOC_NR(codes[i])]));
 }
 
-static void print_counts(const struct ring_heading *ring)
+static void print_counts(const struct ring_heading *ring, const char *device)
 {
     static const uint32_t commands[] = {BC_TRANSACTION, BC_REPLY, BC_FREE_BUFFER, BC_INCREFS, BC_ACQUIRE, BC_RELEASE, BC_DECREFS,
                                         BC_INCREFS_DONE, BC_ACQUIRE_DONE, BC_ENTER_LOOPER, BC_EXIT_LOOPER, BC_REQUEST_DEATH_NOTIFICATION,
@@ -76,7 +81,7 @@ static void print_counts(const struct ring_heading *ring)
                                        BR_RELEASE, BR_DECREFS, BR_NOOP, BR_DEAD_BINDER, BR_CLEAR_DEATH_NOTIFICATION_DONE, BR_FAILED_REPLY,
                                        BR_ONEWAY_SPAM_SUSPECT};
     const struct ring_counts *counts = &ring->counts;
-    printf("%s: %llu steps, %llu processes, %llu of %u seats lent, %llu at most\n", ring->device, (unsigned long long)get(&ring->count),
+    printf("%s: %llu steps, %llu processes, %llu of %u seats lent, %llu at most\n", device, (unsigned long long)get(&ring->count),
            (unsigned long long)get(&counts->processes), (unsigned long long)get(&counts->seats_lent), ring->seats - 1,
            (unsigned long long)get(&counts->most_lent));
     print_codes(HULLPIPPIN_TEXT_COMMAND, commands, sizeof commands, counts->commands);
@@ -89,6 +94,20 @@ static void print_counts(const struct ring_heading *ring)
     printf("looks: %llu\nbytes of parcels: %llu\n", (unsigned long long)get(&counts->looks), (unsigned long long)get(&counts->copied));
 }
 
+/* Whether so much memory is there, and stays: else a look at it would end this program. */
+static bool is_whole(int memory, uint64_t size)
+{
+    struct stat file;
+    int seals = fcntl(memory, F_GET_SEALS);
+    return size >= RING_HEADING && !fstat(memory, &file) && (uint64_t)file.st_size == size && seals >= 0 && seals & F_SEAL_SHRINK;
+}
+
+static bool is_ring(const struct ring_heading *ring, uint64_t size, const char *device)
+{
+    return !memcmp(ring->magic, RING_MAGIC, sizeof ring->magic) && ring->heading_size == RING_HEADING && ring->slot_size == RING_SLOT
+           && size == RING_HEADING + (uint64_t)ring->slot_count * RING_SLOT && !strncmp(ring->device, device, sizeof ring->device);
+}
+
 int ask_stats(const char *path, const char *device)
 {
     struct control_request request = {.op = CONTROL_RING};
@@ -99,10 +118,14 @@ int ask_stats(const char *path, const char *device)
     const char *why = why_not(ask(fd, &request, device, &answer, sizeof answer, &memory), &answer.error);
     if (why)
         return fail(device, why);
-    void *at = mmap(NULL, answer.size, PROT_READ, MAP_SHARED, memory, 0);
+    if (!is_whole(memory, answer.size))
+        return fail(device, no_daemon);
+    const void *at = mmap(NULL, answer.size, PROT_READ, MAP_SHARED, memory, 0);
     if (at == MAP_FAILED)
         return fail(device, strerror(errno));
-    print_counts(at);
+    if (!is_ring(at, answer.size, device))
+        return fail(device, no_daemon);
+    print_counts(at, device);
     return 0;
 }
 
@@ -124,6 +147,12 @@ static bool keep(struct records *records, const struct state_page *page)
     return true;
 }
 
+/* Whether it is one that a daemon tells: each begins behind the one before it. */
+static bool is_page(const struct state_page *page, uint64_t from)
+{
+    return page->count <= STATE_ROOM && (!page->next || page->next > from);
+}
+
 /* Fetches page after page. Why they can't be had, or NULL. */
 static const char *fetch_all(int fd, const char *device, struct records *records)
 {
@@ -132,7 +161,9 @@ static const char *fetch_all(int fd, const char *device, struct records *records
     const char *why = NULL;
     while (!why && page.next) {
         why = why_not(ask(fd, &request, device, &page, sizeof page, NULL), &page.error);
-        if (!why && (page.count > STATE_ROOM || !keep(records, &page)))
+        if (!why && !is_page(&page, request.size))
+            why = no_daemon;
+        if (!why && !keep(records, &page))
             why = strerror(ENOMEM);
         request.size = page.next;
     }

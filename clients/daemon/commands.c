@@ -11,6 +11,9 @@
 
 #define OWN_SEAT 0u
 
+/* So much of what a thread has unread is looked at for one that it has taken back. */
+#define UNREAD_MOST 16u
+
 /* A process that reads of no death notification that it has taken back can't take back more than these. */
 #define CLEARED_MOST 65536u
 
@@ -207,12 +210,27 @@ static int clear_for_process(struct run *run, const uint8_t *command, uint32_t s
     return error ? error : left;
 }
 
+/* Whether the thread's list has that a notification was taken back. Where much is unread it is taken to be so. */
+static bool is_clearing_unread(const struct run *run)
+{
+    hullpippin_work work;
+    for (size_t index = 0; index < UNREAD_MOST; index++) {
+        if (!hullpippin_live_unread_of_thread(&run->engine->live, run->thread->seat, index, &work))
+            return false;
+        if (work.kind == HULLPIPPIN_CLEARED)
+            return true;
+    }
+    return true;
+}
+
+/* Where the thread is told, that doesn't wait for a reply. */
 static int run_clearing(struct run *run, const uint8_t *command, uint32_t size)
 {
     if (!run->thread->has_looped)
         return clear_for_process(run, command, size);
-    run->thread->is_prompt = true; /* BR_CLEAR_DEATH_NOTIFICATION_DONE doesn't wait for a reply */
-    return engine_command(run->engine, run->thread->seat, command, size);
+    int error = engine_command(run->engine, run->thread->seat, command, size);
+    run->thread->is_prompt = run->thread->is_prompt || (!error && is_clearing_unread(run));
+    return error;
 }
 
 /* The kernel doesn't let the manager have references on itself. */

@@ -642,7 +642,7 @@ struct thread {
 
     bool is_waiting;           /* in a read */
     bool has_no_room;          /* .. in which no return finds room, and there is one */
-    bool defers;               /* .. after a call, of which only the completion can be there yet */
+    bool defers;               /* .. after a call, whose completion waits for the reply */
     uint32_t room;             /* of that read */
     struct page_answer answer; /* what its request has come to so far */
 
@@ -732,13 +732,16 @@ bool returns_are_left(const struct thread *thread);
 int returns_fetch_sent(struct thread *thread);
 /* Answers the thread's read with what is there. */
 void returns_deliver(struct thread *thread);
-/* The process is to be told of one death notification more; there is room. */
+/* The process is to be told of one death notification more, for which there is room; who waits there is told as it is settled. */
 void returns_clear(struct process *process, binder_uintptr_t cookie);
 
 /* --- reach.c: whom the engine's steps have reached. --- */
 
 /* Follows each step of a seat. */
 void reach_after_step(struct engine *engine, uint32_t seat);
+/* The thread, or who waits for what comes to the process, is to be looked at; NULL: nobody. */
+void reach_thread(struct thread *thread);
+void reach_process(struct process *process);
 /* The process that the thread's next call or reply goes to; NULL where that isn't known. */
 struct process *reach_target(const struct thread *thread, bool is_reply, uint32_t handle);
 /* The size of the window that the thread's next call or reply goes to: the largest where that isn't known. */
@@ -769,7 +772,7 @@ void settle_end(struct process *process);
 /* Answers the reads that can be answered, and puts all doorbells right. Follows each request that makes steps; the
    thread that has made them, if there is one, comes last. */
 void settle(struct engine *engine, struct thread *acting);
-/* Looks at some of those that all have to be looked at: false where none are left. */
+/* Looks at some of those who are still to be looked at: false where none are left. */
 bool settle_some(struct engine *engine);
 /* A thread of the process that waits in a read for what comes to the process, and isn't this one; NULL where there is none. */
 struct thread *settle_waiting_one(struct process *process, const struct thread *but);

@@ -104,6 +104,7 @@ static bool read_options(struct daemon *daemon, struct options *options, int cou
         }
     }
     is_good = is_good && optind == count && devices_add(daemon, devices);
+    is_good = is_good && options->looks + !!options->stats + !!options->state <= 1; /* each prints what it alone is asked for */
     for (int i = 0; i < journal_count && is_good; i++)
         is_good = devices_set_journal(daemon, journals[i]);
     return is_good;

@@ -134,10 +134,9 @@ static int write_on(struct thread *thread, struct writing *writing)
         return put_off(thread, writing);
     descriptors_close(writing->fds, writing->fd_count);
     if (!error && request->room) {
-        bool is_divided = writing == thread->writing; /* the reply may have come between two turns */
         thread->is_waiting = true;
         thread->room = request->room;
-        thread->defers = !is_divided && thread->calling > writing->calling && !thread->answer.refused && !thread->pending_size
+        thread->defers = thread->calling > writing->calling && !thread->answer.refused && !thread->pending_size
                          && !thread->is_prompt && !(request->flags & PAGE_NONBLOCK) && !is_to_return(thread);
     }
     return error;

@@ -10,14 +10,13 @@
  */
 #include "daemon.h"
 
-/* The thread is to be looked at; NULL: nobody. */
-static void reach_thread(struct thread *thread)
+void reach_thread(struct thread *thread)
 {
     if (thread && !thread->process->is_ending && list_is_empty(&thread->in_reached))
         list_append(&thread->process->engine->reached_threads, &thread->in_reached);
 }
 
-static void reach_process(struct process *process)
+void reach_process(struct process *process)
 {
     if (process && !process->is_ending && list_is_empty(&process->in_reached))
         list_append(&process->engine->reached, &process->in_reached);

@@ -248,12 +248,5 @@ void returns_deliver(struct thread *thread)
 void returns_clear(struct process *process, binder_uintptr_t cookie)
 {
     process->cleared.cookies[process->cleared.count++] = cookie;
-    for (struct list *entry = process->threads.next; entry != &process->threads; entry = entry->next) {
-        struct thread *thread = container_of(entry, struct thread, in_process);
-        if (thread->is_waiting && reads_for_process(thread)) {
-            returns_deliver(thread);
-            return;
-        }
-    }
-    settle_doorbells(process);
+    reach_process(process);
 }

@@ -239,7 +239,7 @@ static void put_counts(const struct engine *engine, struct ring_counts *counts, 
     set(&counts->looks, engine->looks);
     set(&counts->copied, engine->copied);
     if (step->kind == RING_OPEN && engine->answer.kind == HULLPIPPIN_OPENED)
-        set(&counts->processes, counts->processes + 1);
+        count(&counts->processes);
     else if (step->kind == RING_EXIT_PROCESS && engine->answer.kind == HULLPIPPIN_EXITED)
         set(&counts->processes, counts->processes - 1);
 }

@@ -7,19 +7,24 @@
 
 #include <errno.h>
 
-/* The seat is a thread's from now on, or nobody's. */
+/* The seat is a thread's from the next step on, or nobody's: what stands beside a journal, and in the ring, says of that step whose it is. */
 static void note(struct engine *engine, uint32_t seat, struct thread *thread)
 {
     engine->lent[seat] = thread;
-    engine->lent_count += thread ? 1u : -1u;
-    ring_count_lent(&engine->ring, engine->lent_count);
     journal_note_seat(&engine->journal, &engine->live, seat, thread ? thread->process->pid : 0, thread ? &thread->name : NULL);
+}
+
+static void count_lent(struct engine *engine, bool is_one_more)
+{
+    engine->lent_count += is_one_more ? 1u : -1u;
+    ring_count_lent(&engine->ring, engine->lent_count);
 }
 
 /* The thread has no seat any more, and nothing is to be looked at for it. */
 static void take_away(struct thread *thread)
 {
     note(thread->process->engine, thread->seat, NULL);
+    count_lent(thread->process->engine, false);
     thread->seat = NO_SEAT;
     thread->is_looper = false;
     thread->serving = thread->calling = thread->refusals = thread->completions = thread->untold = 0;
@@ -80,6 +85,7 @@ static bool attach(struct thread *thread, uint32_t seat)
         lose(engine, seat);
         return false;
     }
+    count_lent(engine, true);
     thread->seat = seat;
     return true;
 }

@@ -9,7 +9,8 @@
  */
 #include "daemon.h"
 
-/* Where all have to be looked at, these are so many in a turn and between two. */
+/* So many looks, each at one thread or at the doorbells of one process, are made whatever they take, in a turn and between two; further
+   ones while the turn has time. Who is left is looked at later. */
 #define LOOKS_AT_ONCE 16
 
 static bool is_ready(const struct thread *thread)
@@ -149,34 +150,23 @@ static bool has_ready(struct process *process)
     return !list_is_empty(&process->idle) && is_ready(container_of(process->idle.next, struct thread, in_watch));
 }
 
-/* Looks at the idle threads of a process: one that waits reads; where none does, all their doorbells ring. Whether one has read, and
-   there may be more. */
-static bool look_at_idle(struct process *process)
+/* Looks at one thread that waits for what comes to the process. Where it has read, the next one has to be looked at, since a list that
+   still has something after a read isn't named. */
+static bool look_at_waiting_one(struct process *process)
 {
-    if (!has_ready(process))
-        return false;
     struct thread *thread = settle_waiting_one(process, NULL);
-    if (thread)
-        return look(thread);
-    settle_doorbells(process);
-    return false;
+    bool has_changed = thread && look(thread);
+    if (has_changed)
+        reach_process(process);
+    return has_changed;
 }
 
-/* Until none waits any more or there is nothing left, since a list that still has something after a read isn't named. Whether one has
-   read. */
-static bool look_at_all_idle(struct process *process)
-{
-    bool has_read = false;
-    while (look_at_idle(process))
-        has_read = true;
-    return has_read;
-}
-
+/* What no thread reads that waits, the doorbells tell. */
 static void look_at_process(struct process *process)
 {
     list_remove(&process->in_reached);
-    settle_doorbells(process);
-    look_at_all_idle(process);
+    if (!look_at_waiting_one(process))
+        settle_doorbells(process);
 }
 
 /* --- Those that all have to be looked at, some at a time: the first is looked at and goes last. --- */
@@ -196,23 +186,38 @@ static bool look_at_next_process(struct engine *engine)
     engine->resting_left--;
     list_remove(&process->in_resting);
     list_append(&engine->resting, &process->in_resting);
-    return look_at_all_idle(process);
+    if (settle_waiting_one(process, NULL))
+        return look_at_waiting_one(process);
+    if (has_ready(process))
+        settle_doorbells(process);
+    return false;
+}
+
+static bool are_reached(const struct engine *engine)
+{
+    return !list_is_empty(&engine->reached_threads) || !list_is_empty(&engine->reached);
+}
+
+/* The first that the engine has named. A thread that has read and waits on is looked at again. */
+static void look_at_first(struct engine *engine, const struct thread *acting)
+{
+    if (list_is_empty(&engine->reached_threads)) {
+        look_at_process(container_of(engine->reached.next, struct process, in_reached));
+        return;
+    }
+    struct thread *thread = container_of(engine->reached_threads.next, struct thread, in_reached);
+    list_remove(&thread->in_reached);
+    if (thread != acting && look(thread) && thread->is_waiting)
+        reach_thread(thread);
 }
 
 /* Those that the engine has named. Who is acting is looked at behind all others. */
 static void look_at_reached(struct engine *engine, const struct thread *acting)
 {
-    for (;;) {
-        if (!list_is_empty(&engine->reached_threads)) {
-            struct thread *thread = container_of(engine->reached_threads.next, struct thread, in_reached);
-            list_remove(&thread->in_reached);
-            while (thread != acting && look(thread) && thread->is_waiting)
-                ;
-        } else if (!list_is_empty(&engine->reached)) {
-            look_at_process(container_of(engine->reached.next, struct process, in_reached));
-        } else {
+    for (int looks = 0; are_reached(engine); looks++) {
+        if (looks >= LOOKS_AT_ONCE && turns_is_over(&engine->loop.turns))
             return;
-        }
+        look_at_first(engine, acting);
     }
 }
 
@@ -239,9 +244,10 @@ static void look_at_some(struct engine *engine, const struct thread *acting)
 
 bool settle_some(struct engine *engine)
 {
+    look_at_reached(engine, NULL);
     if (engine->looked_at_left || engine->resting_left)
         look_at_some(engine, NULL);
-    return engine->looked_at_left || engine->resting_left;
+    return engine->looked_at_left || engine->resting_left || are_reached(engine);
 }
 
 void settle(struct engine *engine, struct thread *acting)

@@ -16,6 +16,11 @@
 #define BUCKET_SHIFT 24
 #define IN_BUCKET ((UINT64_C(1) << BUCKET_SHIFT) - 1)
 
+/* A place among the buckets is below that of any seat, and a bucket has no more processes than there are pids for it. */
+#define BUCKETS (sizeof ((struct engine *)0)->by_pid / sizeof *((struct engine *)0)->by_pid)
+_Static_assert(BUCKETS << BUCKET_SHIFT <= AT_SEAT && ((UINT64_C(1) << 31) + BUCKETS - 1) / BUCKETS <= IN_BUCKET + 1,
+               "places of pages are told apart");
+
 static uint32_t unread_of_thread(struct engine *engine, uint32_t seat)
 {
     hullpippin_work work;
@@ -72,16 +77,15 @@ static bool tell_bucket(struct engine *engine, const struct list *bucket, uint64
 
 static void tell_processes(struct engine *engine, uint64_t from, struct state_page *page)
 {
-    const uint64_t buckets = sizeof engine->by_pid / sizeof *engine->by_pid;
     uint64_t bucket = from >> BUCKET_SHIFT, index = from & IN_BUCKET, last = bucket + BUCKETS_AT_ONCE;
-    for (; bucket < buckets && bucket < last; bucket++, index = 0) {
+    for (; bucket < BUCKETS && bucket < last; bucket++, index = 0) {
         uint32_t before = page->count;
         if (!tell_bucket(engine, &engine->by_pid[bucket], index, page)) {
             page->next = bucket << BUCKET_SHIFT | (index + page->count - before);
             return;
         }
     }
-    page->next = bucket < buckets ? bucket << BUCKET_SHIFT : AT_SEAT;
+    page->next = bucket < BUCKETS ? bucket << BUCKET_SHIFT : AT_SEAT;
 }
 
 static void tell_threads(struct engine *engine, uint64_t from, struct state_page *page)

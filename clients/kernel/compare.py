@@ -14,7 +14,7 @@ as the named differences have it, and in how many neither.
 
 The kernel is fetched into FOLDER (clients/out/kernel). What was played stays in --keep FOLDER: the same words go on where a run was
 broken off, or had no more than --seconds. --only plays what has WORD in its name, as "kind". --document writes what was seen into
-docs/KERNEL.md. With --model the driver is left out, and with it the network and the machine: only the model is judged, beside
+docs/DIFFERENCES.md. With --model the driver is left out, and with it the network and the machine: only the model is judged, beside
 the player.
 """
 import argparse

@@ -169,7 +169,7 @@ def judge_driver(given, all_cases):
 
 
 def text_of(given, version, all_cases, judged):
-    """What docs/KERNEL.md has of it."""
+    """What docs/DIFFERENCES.md has of it."""
     lines = sum(len(it.rules) for it in all_cases)
     rows = [(names, str(len(those)), f"{those[0][0].name}, line {those[0][1][0].number}") for names, those in
             sorted(judged.names.items(), key=lambda it: -len(it[1]))]

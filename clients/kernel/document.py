@@ -1,5 +1,5 @@
 # SPDX-License-Identifier: Apache-2.0 OR MIT
-"""Writes what was seen into docs/KERNEL.md, each part of it between its two marks."""
+"""Writes what was seen into docs/DIFFERENCES.md, each part of it between its two marks."""
 from collections import namedtuple
 
 from differences import DIFFERENCES
@@ -67,7 +67,7 @@ def table(head, lines):
 
 def write(root, part, text):
     """Puts a part's text in the place of what stands between its marks."""
-    path, begin, end = f"{root}/docs/KERNEL.md", f"<!-- {part}: begin -->", f"<!-- {part}: end -->"
+    path, begin, end = f"{root}/docs/DIFFERENCES.md", f"<!-- {part}: begin -->", f"<!-- {part}: end -->"
     with open(path, encoding="utf-8") as file:
         before, found, rest = file.read().partition(begin)
     after = rest.partition(end)

@@ -7,7 +7,7 @@
 
 Each test's line says whether it passes there, and the last one how many don't though no reason is known; libgbinder is fetched into FOLDER (clients/out/packages) where it isn't yet. A cost is told
 in thousands of instructions of the one processor, the whole machine's, as its clock counts them: the median of one client's round
-trips, and what one takes of eight callers on four threads. --document writes what was seen into docs/KERNEL.md.
+trips, and what one takes of eight callers on four threads. --document writes what was seen into docs/DIFFERENCES.md.
 """
 import argparse
 import os

@@ -21,6 +21,9 @@ ROUNDS, MOST_ROUNDS = 12, 40
 FUZZ_KIB = 65536
 # callers of who ends: so few that the engine names whom that reaches, and so many that it doesn't
 MOURNED = (4, 100)
+# threads that wait to hear of that: a few, and more than there are steps in a turn
+MOURNERS = (2, 200)
+TURN_STEPS = 64
 
 DEVICE = "/dev/binder"
 # malloc gives what isn't used back at once, so that what is measured is used
@@ -62,10 +65,13 @@ def crossed(build):
 
 @test("raw mourners")
 def mourners(build):
-    """An end that reaches more lists than the engine names at once is heard of by as many threads as wait and have something to read."""
+    """An end that reaches more lists than the engine names at once is heard of by as many threads as wait and have something to read;
+    where these are many, they are told in more turns than one."""
     with Stage(build, journal=DEVICE, wide=True) as stage:
-        told = "; ".join(stage.run([build.raw("mourners"), str(callers)], 120) for callers in MOURNED)
-    return f"{told}; {stage.entries} steps"
+        told = "; ".join(stage.run([build.raw("mourners"), str(callers), str(threads)], 120) for callers in MOURNED for threads in MOURNERS)
+        longest = counts(stage)["longest"]
+    expect(longest <= TURN_STEPS, f"a turn has made {longest} steps: {told}")
+    return f"{told}; {stage.entries} steps, {longest} in a turn at most"
 
 
 @test("raw paths")
@@ -256,6 +262,10 @@ def refused_beginnings(build):
             refuses(build, ["--socket", f"{folder}/socket", "--journal", old, "--journal", f"/dev/hwbinder={path}"], why)
         os.symlink(old, f"{folder}/new.who")
         refuses(build, ["--socket", f"{folder}/socket", "--journal", f"{folder}/new"], "new.who: Too many levels of symbolic links")
+        for ending in ("who", "times"):
+            os.unlink(f"{folder}/new.{ending}")
+            os.link(old, f"{folder}/new.{ending}")
+            refuses(build, ["--socket", f"{folder}/socket", "--journal", f"{folder}/new"], f"new.{ending}: it is a file that has other names")
         refuses(build, ["--socket", f"{folder}/socket", "--journal", taken, "--journal", f"/dev/hwbinder={taken}.times"], "two devices")
         with Stage(build, journal=DEVICE) as stage:  # whose journal is judged, so that it wasn't written anew either
             stage.run([build.raw("oneway")], 60)

@@ -1,12 +1,15 @@
 # SPDX-License-Identifier: Apache-2.0 OR MIT
 """What one can rely on of a device's ring (../ring.h): that its slots say what the steps were, whoever reads while they are written, and
 that nobody else sees it."""
+import fcntl
 import os
 import re
 import shutil
+import socket
 import struct
 import subprocess
 import tempfile
+import threading
 import time
 from collections import Counter, namedtuple
 
@@ -32,6 +35,8 @@ STEPS = 40_000
 COMMAND, READ, GOT, ACCEPTED = 3, 4, 6, 3
 # codes of commands and returns with a parcel, by their numbers (_IOC_NR), and the flag of a call without a reply
 BC_TRANSACTION, BC_REPLY, BR_TRANSACTION, BR_REPLY, ONE_WAY = 0, 1, 2, 3, 1
+# the flag of a parcel that is to be cleared, of which nothing is kept
+CLEAR_BUF = 0x20
 WORD = struct.Struct("=I")
 RECORD = struct.Struct("=QQIIiIQQQQ")
 NOBODY, OTHER = 65534, 65533
@@ -101,8 +106,8 @@ def compare(slots, journal, times):
         data = said.pop("data", b"")
         wrong = {name: (getattr(slot, name), value) for name, value in said.items() if getattr(slot, name) != value}
         expect(not wrong and slot.time == times.times[slot.place], f"step {slot.place} isn't what its slot says: {wrong}")
-        expect(slot.sequence == 2 * slot.place + 2 and slot.data[:slot.kept] == data[:slot.kept] and slot.kept in (0, len(data)),
-               f"the data of step {slot.place} aren't what its slot says")
+        kept = b"" if slot.flags & CLEAR_BUF else data
+        expect(slot.sequence == 2 * slot.place + 2 and slot.data[:slot.kept] == kept, f"the data of step {slot.place} aren't what its slot says")
     return len(slots)
 
 
@@ -113,10 +118,9 @@ def compare_names(slots, who):
         while at < len(who.lines) and who.lines[at].place <= slot.place:
             has[who.lines[at].seat] = who.lines[at]
             at += 1
-        line = has.get(slot.seat)
-        if slot.seat and line:
-            found = slot.pid, slot.tid, slot.comm.rstrip(b"\0")
-            expect(found == (line.pid, line.tid, line.comm), f"step {slot.place} is of {found}, and not of {line}")
+        if slot.seat:
+            line, found = has.get(slot.seat), (slot.pid, slot.tid, slot.comm.rstrip(b"\0"))
+            expect(line and found == (line.pid, line.tid, line.comm), f"step {slot.place} is of {found}, and not of {line}")
 
 
 def compare_calls(slots):
@@ -278,16 +282,85 @@ def state(build):
     return f"{len(processes)} processes and {len(threads) + len(many_threads)} threads, by their names"
 
 
+# what a daemon answers (../protocol.h), and a page of `--state` with so many records
+ANSWER, PAGE, RECORDS, RECORD_SIZE = struct.Struct("=iIQ"), struct.Struct("=iIQQ"), 16, 80
+LATEST = 4096 + 8192 * SLOT.size
+NO_DAEMON = "no daemon of this build answers"
+
+
+def memory_of(heading, size, seals=fcntl.F_SEAL_SHRINK):
+    """Memory as a daemon gives it with its latest steps, or nearly."""
+    memory = os.memfd_create("lie", os.MFD_ALLOW_SEALING)
+    os.ftruncate(memory, size)
+    os.pwrite(memory, heading[:size], 0)
+    fcntl.fcntl(memory, fcntl.F_ADD_SEALS, seals)
+    return memory
+
+
+def page_of(count, after):
+    return PAGE.pack(0, count, 0, after) + bytes(RECORDS * RECORD_SIZE)
+
+
+def answer_all(listener, answers, memory):
+    """Answers who comes first, packet by packet; the memory goes with the first."""
+    client, _ = listener.accept()
+    with client:
+        for answer in answers:
+            if not client.recv(4096):
+                break
+            socket.send_fds(client, [answer], [memory] if memory is not None else [])
+            memory = None
+
+
+def told_by(build, folder, words, answers, memory=None):
+    """What the program says of one that listens, and isn't a daemon."""
+    path = f"{folder}/lies"
+    with socket.socket(socket.AF_UNIX, socket.SOCK_SEQPACKET) as listener:
+        listener.bind(path)
+        listener.listen()
+        answering = threading.Thread(target=answer_all, args=(listener, answers, memory), daemon=True)
+        answering.start()
+        done = subprocess.run([build.daemon, *words, "--socket", path], env={**os.environ, **build.environment}, capture_output=True, text=True,
+                              timeout=20)
+        answering.join(20)
+    os.unlink(path)
+    if memory is not None:
+        os.close(memory)
+    return done.returncode, tail(done.stderr)
+
+
+@test("raw ring lies")
+def ring_lies(build):
+    """Who asks what a daemon tells isn't led astray by what listens in its place; and asks for one thing."""
+    def heading(magic=b"HPRING01", slots=8192, device=DEVICE):
+        return HEADING.pack(magic, 4096, SLOT.size, slots, 31, 0, 1, 0, device.encode(), 0)
+    ring = [ANSWER.pack(0, 1, LATEST)]
+    lies = [(heading(), 0), (heading(), 4096), (heading(), LATEST, 0), (heading(b"HPRING00"), LATEST), (heading(slots=1 << 31), LATEST),
+            (heading(device="/dev/other"), LATEST)]
+    with tempfile.TemporaryDirectory(prefix="hullpippin-lies-") as folder:
+        told = [told_by(build, folder, ["--stats", DEVICE], ring, memory_of(*lie)) for lie in lies]
+        good = told_by(build, folder, ["--stats", DEVICE], ring, memory_of(heading(), LATEST))
+        opened, last = ANSWER.pack(0, 0, 0), page_of(0, 0)
+        told += [told_by(build, folder, ["--state", DEVICE], [opened, page, last]) for page in (page_of(RECORDS + 1, 0), page_of(RECORDS + 1, 1))]
+        told.append(told_by(build, folder, ["--state", DEVICE], [opened, page_of(0, 7), page_of(0, 7), last]))
+    expect(good[0] == 0, f"what a daemon tells is refused: {good}")
+    expect(all(status == 1 and NO_DAEMON in why for status, why in told), f"{told}")
+    for words in (["--stats", DEVICE, "--state", DEVICE], ["--look", "--stats", DEVICE], ["--look", "--state", DEVICE]):
+        done = subprocess.run([build.daemon, *words], env={**os.environ, **build.environment}, capture_output=True, text=True, timeout=20)
+        expect(done.returncode == 2 and "usage" in done.stderr, f"{words}: {done.returncode}, {tail(done.stderr)}")
+    return f"{len(told)} lies are seen through, and two questions at once are none"
+
+
 def as_user(user):
     return {"user": user, "group": user, "extra_groups": []} if user else {}
 
 
-def look(programs, socket, user):
+def look(programs, path, user):
     """What a user is told who wants to look, by programs of copies that all may run."""
     daemon, follow = programs
-    how = {"env": {**os.environ, "HULLPIPPIN_SOCKET": socket}, "capture_output": True, "text": True, "timeout": 20, **as_user(user)}
+    how = {"env": {**os.environ, "HULLPIPPIN_SOCKET": path}, "capture_output": True, "text": True, "timeout": 20, **as_user(user)}
     done = subprocess.run([follow, DEVICE, "/dev/null", "0"], **how)
-    asked = subprocess.run([daemon, "--state", DEVICE, "--socket", socket], **how)
+    asked = subprocess.run([daemon, "--state", DEVICE, "--socket", path], **how)
     may = (done.returncode, asked.returncode) == (0, 0)
     return "ready" if may else f"{done.stdout.strip()}, {tail(asked.stderr)}"
 
@@ -305,14 +378,14 @@ def ring_users(build):
             os.makedirs(f"{folder}/own")
             os.chown(f"{folder}/own", owner, owner)
             os.chmod(f"{folder}/own", 0o755)
-            socket = f"{folder}/own/socket"
-            words = [programs[0], "--socket", socket, "--mode", "666"]
+            path = f"{folder}/own/socket"
+            words = [programs[0], "--socket", path, "--mode", "666"]
             with subprocess.Popen(words, stderr=subprocess.PIPE, **as_user(owner)) as daemon:
                 try:
                     end = time.monotonic() + 10
-                    while not os.path.exists(socket) and time.monotonic() < end:
+                    while not os.path.exists(path) and time.monotonic() < end:
                         time.sleep(0.01)
-                    told[owner] = [look(programs, socket, user) for user in (0, NOBODY, OTHER)]
+                    told[owner] = [look(programs, path, user) for user in (0, NOBODY, OTHER)]
                 finally:
                     daemon.terminate()
                     said = daemon.communicate(timeout=10)[1].decode()

@@ -11,9 +11,12 @@ from suite import test
 # how long a soak takes, unless --soak says otherwise; one that takes longer pauses behind each call, so that its journal can be judged
 SECONDS = 20
 PAUSE = 100000
-# from this second on the daemon's memory has to be flat
+# from this second on the daemon's memory has to be flat; of a long soak, whose clients pause, from its half on: its tables grow until they
+# have met the most of each kind that there is at once
 WARM = 10
 KIB = 256
+# the longest time of those who live for long
+LONG = 30
 # seconds in which the daemon lets go of what those have left who were killed last
 PATIENCE = 10
 SAMPLES = 10
@@ -67,9 +70,14 @@ def watched(stage, players):
     return memory
 
 
+def is_long(seconds):
+    return seconds > 3 * SECONDS
+
+
 def is_flat(memory, seconds):
     """Whether memory grows no more: at its least. What comes and goes with unread parcels is above that."""
-    early, late = memory[WARM - 1:WARM + 5], memory[max(WARM + 4, seconds - SECONDS):seconds]
+    warm = seconds // 2 if is_long(seconds) else WARM
+    early, late = memory[warm - 1:warm + 5], memory[max(warm + 4, seconds - SECONDS):seconds]
     expect(len(late) > 3, f"the soak was over after {len(memory)} seconds")
     return min(late) <= min(early) + KIB
 
@@ -84,8 +92,9 @@ def wait_for_descriptors(stage, before):
     return time.monotonic() - begin
 
 
-def soak(build, begin, parts, honest):
-    """Begins, and plays parts, each some commands and the longest time of one life; judges memory, descriptors and the journal."""
+def soak(build, begin, parts, honest, then=lambda stage: None):
+    """Begins, and plays parts, each some commands and the longest time of one life; judges memory, descriptors and the journal, and
+    what is played then."""
     with Stage(build, journal=DEVICE, daemon_environment=GIVES_BACK) as stage:
         begin(stage)
         before = open_files(stage.daemon.pid)
@@ -96,19 +105,21 @@ def soak(build, begin, parts, honest):
         expect(build.sanitized or is_flat(memory, seconds), f"the daemon's memory by seconds: {told} KiB")
         expect(kills > seconds, f"only {kills} were killed")
         took = wait_for_descriptors(stage, before)
+        then(stage)
     return f"{kills} killed in {seconds} s; KiB of memory from second {WARM} on: {told}; descriptors were back after {took:.1f} s; \
 lawful, {stage.entries} steps"
 
 
 def raw_parts(stage):
+    """Some live for long, so that they see who hangs: they fail where a call isn't answered, or a death isn't told, in five seconds."""
     seconds = stage.build.soak_seconds
-    pause = PAUSE if seconds > 3 * SECONDS else 0
+    pause = PAUSE if is_long(seconds) else 0
 
     def busy(part, longest):
         return [[stage.build.raw("busy"), part, str(seconds), str(pause)]], longest
-    return [busy("serve", 3), busy("serve", 3), *[busy("call", 2)] * 4, *[busy("hold", 1)] * 2]
+    return [busy("serve", 3), busy("serve", 3), *[busy("call", 2)] * 3, busy("call", LONG), *[busy("hold", 1)] * 2, busy("hold", LONG)]
 
 
 @test("raw soak of kills", timed=True)
 def raw_soak(build):
-    return soak(build, lambda stage: None, raw_parts, honest=True)
+    return soak(build, lambda stage: None, raw_parts, honest=True, then=lambda stage: stage.run([build.raw("nested")]))

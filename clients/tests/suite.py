@@ -1,5 +1,6 @@
 # SPDX-License-Identifier: Apache-2.0 OR MIT
 """The list of tests, and how they are run: one line for each."""
+import os
 import re
 import time
 
@@ -20,6 +21,22 @@ def test(name, real=False, plain_only=False, timed=False):
         TESTS.append(Test(name, play, real, plain_only, timed))
         return play
     return put
+
+
+def wanted():
+    """What each test fails unless, by its name."""
+    with open(os.path.join(os.path.dirname(os.path.abspath(__file__)), "wanted.txt"), encoding="utf-8") as file:
+        return dict(line.rstrip("\n").split(": ", 1) for line in file)
+
+
+def listed():
+    """Prints each test with what it fails unless; whether each has its line in wanted.txt, and each line its test."""
+    lines, names = wanted(), [it.name for it in TESTS]
+    for name in names:
+        print(f"{name}: {lines.get(name, 'NOTHING IS SAID of it in wanted.txt')}")
+    gone = [it for it in lines if it not in names]
+    print(*(f"{it}: there is no such test, but a line in wanted.txt" for it in gone), sep="\n", end="\n" * bool(gone))
+    return not gone and all(it in lines for it in names)
 
 
 def figures(text):

@@ -5,7 +5,7 @@
  *
  *     live JOURNAL
  *
- * Prints what the player prints for the same run (docs/EXAMPLES.md), and writes the journal that it writes.
+ * Prints what the player prints for the same run (examples/), and writes the journal that it writes.
  */
 #include "hullpippin.h"
 

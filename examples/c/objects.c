@@ -5,7 +5,7 @@
  *
  *     objects
  *
- * Prints each return that is read, and the objects of a transaction: the run *object sent* of docs/EXAMPLES.md, in words.
+ * Prints each return that is read, and the objects of a transaction: the run *object sent* of examples/, in words.
  */
 #include "hullpippin.h"
 

@@ -5,7 +5,7 @@
  *
  *     ping one-way|call [JOURNAL]
  *
- * Prints what the player prints for the runs of those names (docs/EXAMPLES.md), and writes the journal of the history.
+ * Prints what the player prints for the runs of those names (examples/), and writes the journal of the history.
  */
 #include "hullpippin.h"
 

@@ -3,6 +3,10 @@
  * beside idle|callers COUNT [CALLS]: what a call takes beside so many others who do nothing: processes whose looper waits, or threads
  * of one process that wait for the reply of a call which nobody answers. Prints medians alone and beside them, and the longest of the
  * calls while all of them end, in microseconds.
+ *
+ * beside idle|callers|services COUNT CALLS counted: makes so many calls beside them, for who counts what these take: a line tells that the
+ * crowd is there, one that the calls are made, and behind each it waits for one. Services are processes that have given their object
+ * away, one of which is called.
  */
 #include "raw.h"
 
@@ -20,7 +24,11 @@ enum { PLAIN, TAKE, GIVE };
 
 #define STACK ((size_t)128 << 10)
 
-static uint32_t taken; /* the manager's handle of the object that nobody serves */
+/* Calls that aren't counted: the first find nothing mapped yet. */
+#define WARM 100
+
+static uint32_t taken; /* the manager's handle of the object that it was given last, which is one that nobody serves, or a service's */
+static uint32_t called; /* the handle that calls go to */
 
 static void give(struct looper *looper)
 {
@@ -65,10 +73,31 @@ static void wait_idle(void *with)
     looper_run(&client.looper);
 }
 
+static void serve_others(void *with)
+{
+    struct client client;
+    (void)with;
+    raw_open(&client, WINDOW, NULL);
+    raw_give(&client, TAKE);
+    raw_ready();
+    looper_run(&client.looper);
+}
+
 struct crowd {
     struct client client;
     uint32_t handle;
 };
+
+/* The object that the manager was given. */
+static uint32_t fetch_taken(struct client *client)
+{
+    struct binder_transaction_data reply;
+    CHECK(raw_call(&client->looper, (struct call){.code = GIVE}, &reply) == BR_REPLY, "no object came");
+    uint32_t handle = raw_keep(&client->looper, &reply);
+    looper_free(&client->looper, &reply);
+    CHECK(looper_flush(&client->looper), "can't keep the object");
+    return handle;
+}
 
 static void *call_for_ever(void *with)
 {
@@ -84,14 +113,10 @@ static void be_callers(void *with)
 {
     size_t count = *(size_t *)with;
     struct crowd crowd;
-    struct binder_transaction_data reply;
     pthread_attr_t attributes;
     pthread_t thread;
     raw_open(&crowd.client, WINDOW, NULL);
-    CHECK(raw_call(&crowd.client.looper, (struct call){.code = GIVE}, &reply) == BR_REPLY, "no object came");
-    crowd.handle = raw_keep(&crowd.client.looper, &reply);
-    looper_free(&crowd.client.looper, &reply);
-    CHECK(looper_flush(&crowd.client.looper), "can't keep the object");
+    crowd.handle = fetch_taken(&crowd.client);
     pthread_attr_init(&attributes);
     pthread_attr_setstacksize(&attributes, STACK);
     for (size_t i = 0; i < count; i++)
@@ -105,7 +130,7 @@ static double call_once(struct client *client)
 {
     struct binder_transaction_data reply;
     double start = raw_now();
-    CHECK(raw_call(&client->looper, (struct call){.code = PLAIN}, &reply) == BR_REPLY, "a call failed");
+    CHECK(raw_call(&client->looper, (struct call){.handle = called, .code = PLAIN}, &reply) == BR_REPLY, "a call failed");
     double took = raw_now() - start;
     looper_free(&client->looper, &reply);
     return took;
@@ -130,29 +155,59 @@ static double longest_while(struct client *client, const pid_t *pids, size_t cou
     return longest;
 }
 
+/* Starts so many others: how many processes these are. */
+static size_t start_crowd(const char *kind, size_t count, pid_t *pids)
+{
+    bool are_callers = !strcmp(kind, "callers");
+    size_t processes = are_callers ? count > 0 : count;
+    for (size_t i = 0; i < processes; i++)
+        pids[i] = raw_start(are_callers ? be_callers : !strcmp(kind, "services") ? serve_others : wait_idle, &count);
+    return processes;
+}
+
+static void measure(struct client *client, const char *kind, size_t count, pid_t *pids, double *times, size_t calls)
+{
+    median(client, times, WARM);
+    double alone = median(client, times, calls);
+    size_t started = start_crowd(kind, count, pids);
+    double beside = median(client, times, calls);
+    double ending = longest_while(client, pids, started);
+    printf("alone %.1f beside %.1f ending %.1f with %zu %s\n", alone, beside, ending, count, kind);
+}
+
+static void tell_and_await(const char *told)
+{
+    char line[16];
+    puts(told);
+    CHECK(fgets(line, sizeof line, stdin), "nobody counts");
+}
+
+static void be_counted(struct client *client, const char *kind, size_t count, pid_t *pids, double *times, size_t calls)
+{
+    start_crowd(kind, count, pids);
+    called = strcmp(kind, "services") ? 0 : fetch_taken(client);
+    median(client, times, WARM);
+    tell_and_await("ready");
+    median(client, times, calls);
+    tell_and_await("done");
+}
+
 int main(int argc, char **argv)
 {
-    CHECK(argc >= 3, "beside idle|callers COUNT [CALLS]");
-    size_t count = strtoul(argv[2], NULL, 10), calls = argc > 3 ? strtoul(argv[3], NULL, 10) : 2000, started = 0;
-    bool is_idle = !strcmp(argv[1], "idle");
+    CHECK(argc >= 3, "beside idle|callers|services COUNT [CALLS [counted]]");
+    size_t count = strtoul(argv[2], NULL, 10), calls = argc > 3 ? strtoul(argv[3], NULL, 10) : 2000;
+    bool is_counted = argc > 4;
     pid_t *pids = calloc(count + 1, sizeof *pids);
-    double *times = calloc(calls + 1, sizeof *times);
+    double *times = calloc(calls + WARM, sizeof *times);
     struct client client;
-    CHECK(pids && times && calls && count, "nothing to be measured");
-    raw_begin(150);
-    pid_t manager = raw_start_manager(serve);
-    pid_t owner = raw_start(own_object, NULL);
+    CHECK(pids && times && calls && (count || is_counted), "nothing to be measured");
+    raw_begin(is_counted ? 1200 : 150);
+    pid_t manager = raw_start_manager(serve), owner = raw_start(own_object, NULL);
     raw_open(&client, WINDOW, NULL);
-    median(&client, times, 100); /* nothing is mapped yet */
-    double alone = median(&client, times, calls);
-    if (is_idle)
-        for (; started < count; started++)
-            pids[started] = raw_start(wait_idle, NULL);
+    if (is_counted)
+        be_counted(&client, argv[1], count, pids, times, calls);
     else
-        pids[started++] = raw_start(be_callers, &count);
-    double beside = median(&client, times, calls);
-    double ending = longest_while(&client, pids, started);
-    printf("alone %.1f beside %.1f ending %.1f with %zu %s\n", alone, beside, ending, count, is_idle ? "idle" : "callers");
+        measure(&client, argv[1], count, pids, times, calls);
     raw_kill(owner);
     raw_kill(manager);
     free(pids);

@@ -1,21 +1,16 @@
 /* SPDX-License-Identifier: Apache-2.0 OR MIT */
 /*
  * follow DEVICE FILE [STEPS]: looks at the latest steps of a device until there were so many more (1), and appends each that it has found
- * whole to FILE. Tells how many these were, how many were written over before, and how often one was written over while it was
- * copied. Where the daemon doesn't let it, it tells the error and ends with 2.
+ * whole to FILE. Tells how many these were, how many were written over before, and how many while they were copied; and, of those that are
+ * tried again and again where that is likely, how often a copy was found spoiled. Where the daemon doesn't let it, it tells the error and ends with 2.
  */
+#include "../../address.h"
 #include "../../packets.h"
 #include "../../protocol.h"
 #include "../../ring.h"
 
-#include <errno.h>
 #include <fcntl.h>
-#include <stdio.h>
-#include <stdlib.h>
-#include <string.h>
 #include <sys/mman.h>
-#include <sys/un.h>
-#include <unistd.h>
 
 /* How often the next slot is tried between two looks at what there is. */
 #define TRIES 32
@@ -33,12 +28,11 @@ static void end(const char *what, int error, int status)
     exit(status);
 }
 
-static int dial(const char *path)
+static int dial(void)
 {
-    struct sockaddr_un address = {.sun_family = AF_UNIX};
-    int fd = socket(AF_UNIX, SOCK_SEQPACKET | SOCK_CLOEXEC, 0);
-    snprintf(address.sun_path, sizeof address.sun_path, "%s", path ? path : "");
-    if (fd < 0 || connect(fd, (struct sockaddr *)&address, sizeof address))
+    struct sockaddr_un address;
+    int fd = daemon_dial(NULL, &address);
+    if (fd < 0)
         end("the daemon", errno, 1);
     return fd;
 }
@@ -49,7 +43,7 @@ static const struct ring_heading *open_ring(const char *device)
     struct control_request request = {.version = PROTOCOL_VERSION, .op = CONTROL_RING};
     struct control_answer answer;
     uint32_t count;
-    int memory, control = dial(getenv("HULLPIPPIN_SOCKET"));
+    int memory, control = dial();
     snprintf(request.device, sizeof request.device, "%s", device);
     if (!packet_send(control, &request, sizeof request, NULL, 0, 0) || packet_receive(control, &answer, sizeof answer, &memory, 1, &count, 0) != 1)
         end("no answer", errno, 1);
@@ -65,7 +59,7 @@ static const struct ring_heading *open_ring(const char *device)
 }
 
 struct found {
-    uint64_t whole, lost, torn;
+    uint64_t whole, lost, torn, spoiled;
 };
 
 static void keep(const struct ring_slot *slot, FILE *file, struct found *found)
@@ -93,7 +87,7 @@ static void try_step(const struct ring_heading *ring, uint64_t place, bool is_to
     for (int i = 0; i < TRIES; i++) {
         int copied = ring_copy(ring, place, &slot);
         bool is_another = copied == 1 && tried->sequence != slot.sequence;
-        found->torn += copied < 0;
+        found->spoiled += copied < 0;
         if (is_another && tried->sequence)
             keep(tried, file, found);
         if (is_another || (copied == 1 && !is_to_come))
@@ -136,6 +130,7 @@ int main(int argc, char **argv)
         next = copy_steps(ring, next, file, &found);
     if (fwrite(ring, sizeof *ring, 1, file) != 1 || fclose(file))
         end("the heading can't be written", errno, 1);
-    printf("whole %llu lost %llu torn %llu\n", (unsigned long long)found.whole, (unsigned long long)found.lost, (unsigned long long)found.torn);
+    printf("whole %llu lost %llu torn %llu spoiled %llu\n", (unsigned long long)found.whole, (unsigned long long)found.lost,
+           (unsigned long long)found.torn, (unsigned long long)found.spoiled);
     return 0;
 }

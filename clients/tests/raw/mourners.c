@@ -1,8 +1,8 @@
 /* SPDX-License-Identifier: Apache-2.0 OR MIT */
 /*
- * mourners CALLERS: two threads wait for what comes to their process, each in a read with room for one return, and two objects die at
- * once of whose end the process is to be told. Each of the two hears of one, and doesn't wait for the other to read again, however many
- * callers hear of the same end.
+ * mourners CALLERS [THREADS]: some threads (2) wait for what comes to their process, each in a read with room for one return, and as
+ * many objects die at once of whose end the process is to be told. Each of the threads hears of one, and doesn't wait for another to read
+ * again, however many callers hear of the same end.
  */
 #include "raw.h"
 
@@ -15,7 +15,6 @@
 
 enum { GIVE = 1, HANG };
 
-#define MOURNERS 2
 #define STACK ((size_t)128 << 10)
 /* The least that a return is handed over in. */
 #define ROOM 80
@@ -26,27 +25,28 @@ static sem_t called, heard;
 
 static void serve(struct looper *looper, const struct binder_transaction_data *call)
 {
+    static binder_uintptr_t pointer = 0x4000;
     struct writer object = {0};
     if (call->code == HANG)
         pause();
-    write_own_object(&object, 0x4000, 0x4000);
+    pointer += 16;
+    write_own_object(&object, pointer, pointer);
     struct binder_transaction_data answer = record_of(&object);
     CHECK(looper_answer(looper, &answer, 0), "can't answer");
     writer_free(&object);
 }
 
-/* Of the context manager's object, and of another one that it gives. */
-static void ask_to_be_told(void)
+/* Of so many objects that the server gives. */
+static void ask_to_be_told(int count)
 {
     struct binder_transaction_data reply;
-    struct commands *commands = &mourner.looper.commands;
-    CHECK(raw_call(&mourner.looper, (struct call){.code = GIVE}, &reply) == BR_REPLY, "no object came");
-    uint32_t handle = raw_keep(&mourner.looper, &reply);
-    looper_free(&mourner.looper, &reply);
-    put_handle(commands, BC_ACQUIRE, 0);
-    put_death(commands, BC_REQUEST_DEATH_NOTIFICATION, 0, 1);
-    put_death(commands, BC_REQUEST_DEATH_NOTIFICATION, handle, 2);
-    CHECK(looper_flush(&mourner.looper), "can't write");
+    for (int i = 0; i < count; i++) {
+        CHECK(raw_call(&mourner.looper, (struct call){.code = GIVE}, &reply) == BR_REPLY, "no object came");
+        uint32_t handle = raw_keep(&mourner.looper, &reply);
+        looper_free(&mourner.looper, &reply);
+        put_death(&mourner.looper.commands, BC_REQUEST_DEATH_NOTIFICATION, handle, handle);
+        CHECK(looper_flush(&mourner.looper), "can't write");
+    }
 }
 
 static void *mourn(void *with)
@@ -94,15 +94,15 @@ static void start(void *(*body)(void *with), int count)
 
 int main(int argc, char **argv)
 {
-    int count = argc > 1 ? atoi(argv[1]) : 0;
+    int count = argc > 1 ? atoi(argv[1]) : 0, mourners = argc > 2 ? atoi(argv[2]) : 2;
     struct timespec end;
     raw_begin(60);
     CHECK(!sem_init(&called, 0, 0) && !sem_init(&heard, 0, 0), "no semaphores");
     pid_t server = raw_start_manager(serve);
     raw_open(&mourner, WINDOW, NULL);
     raw_open(&callers, WINDOW, NULL);
-    ask_to_be_told();
-    start(mourn, MOURNERS);
+    ask_to_be_told(mourners);
+    start(mourn, mourners);
     start(call, count);
     for (int i = 0; i < count; i++)
         sem_wait(&called);
@@ -110,8 +110,8 @@ int main(int argc, char **argv)
     raw_kill(server);
     clock_gettime(CLOCK_REALTIME, &end);
     end.tv_sec += SECONDS;
-    for (int i = 0; i < MOURNERS; i++)
-        CHECK(!sem_timedwait(&heard, &end), "%d of %d threads have heard of the end beside %d callers", i, MOURNERS, count);
-    printf("%d threads hear of an end beside %d callers\n", MOURNERS, count);
+    for (int i = 0; i < mourners; i++)
+        CHECK(!sem_timedwait(&heard, &end), "%d of %d threads have heard of the end beside %d callers", i, mourners, count);
+    printf("%d threads hear of an end beside %d callers\n", mourners, count);
     return 0;
 }

@@ -1,9 +1,11 @@
 /* SPDX-License-Identifier: Apache-2.0 OR MIT */
 /*
  * ways: small ways of Linux's driver. A two-way call leaves nothing to be read or polled before its reply, also where it carries
- * an object; a thread that never was in the loop isn't told that a death notification was taken back, but another of its process
- * is, which waits, or polls, or comes later, and hears of its own one-way call all the same; the manager can't have a reference on
- * itself. And a reply comes, however much its call's write goes on with.
+ * an object, or a death notification was to be taken back before that wasn't there; a thread that never was in the loop isn't told that
+ * a death notification was taken back, but another of its process is, which waits, or polls, or comes later, and hears of its own
+ * one-way call all the same; the manager can't have a reference on itself. And a reply comes, however much its call's write goes on with.
+ *
+ * Of the daemon alone: of two that wait who has room is told that a notification was taken back, though one without waits too.
  */
 #include "raw.h"
 
@@ -15,9 +17,10 @@
 #include <stdio.h>
 #include <string.h>
 #include <sys/ioctl.h>
+#include <time.h>
 #include <unistd.h>
 
-enum { GIVE = 1, TAKE, ASK_ITSELF, ANSWER };
+enum { GIVE = 1, TAKE, TAKE_TIME, ASK_ITSELF, ANSWER };
 
 /* Commands that take some turns of the daemon. */
 #define GOING_ON 480
@@ -26,6 +29,15 @@ enum { GIVE = 1, TAKE, ASK_ITSELF, ANSWER };
 #define ENDS 3
 
 #define COOKIE 0x777000
+
+/* A handle that nobody has. */
+#define NOBODY 77
+
+/* Too little for any return but BR_NOOP. */
+#define TIGHT 72
+#define ROOMY 256
+
+#define SECONDS 5
 
 /* A bare write of some bytes: the ioctl's errno, or 0. */
 static int written(int fd, const struct commands *commands)
@@ -56,6 +68,8 @@ static void serve(struct looper *looper, const struct binder_transaction_data *c
         raw_keep(looper, call); /* what is let go of by then nobody is told of */
         usleep(200000);
     }
+    if (call->code == TAKE_TIME)
+        usleep(200000);
     if (call->code == ASK_ITSELF)
         write_number(&object, asks_itself(looper));
     struct binder_transaction_data answer = record_of(&object);
@@ -117,6 +131,20 @@ static void defers(void (*before)(int fd))
     ssize_t count = read_codes(client.binder.fd, codes);
     CHECK(count == 4 && !memcmp(codes, wanted, sizeof wanted), "%zd returns came with the reply, of which the first is %x", count, codes[0]);
     writer_free(&object);
+    binder_close(&client.binder);
+}
+
+/* Nothing comes of taking a notification back that isn't there, so the call behind it leaves nothing either. */
+static void defers_behind_clearing_in_vain(void)
+{
+    const struct binder_transaction_data call = {.code = TAKE_TIME};
+    struct client client;
+    raw_open(&client, WINDOW, NULL);
+    put_code(&client.looper.commands, BC_ENTER_LOOPER);
+    put_death(&client.looper.commands, BC_CLEAR_DEATH_NOTIFICATION, NOBODY, COOKIE);
+    put_record(&client.looper.commands, BC_TRANSACTION, &call);
+    CHECK(looper_flush(&client.looper), "can't write");
+    read_nothing(client.binder.fd);
     binder_close(&client.binder);
 }
 
@@ -199,6 +227,16 @@ static void goes_on_beside_end(pid_t server)
 static struct client both;
 static uint32_t handle;
 
+static void begin_both(void)
+{
+    struct binder_transaction_data reply;
+    raw_open(&both, WINDOW, NULL);
+    CHECK(raw_call(&both.looper, (struct call){.code = GIVE}, &reply) == BR_REPLY, "no object came");
+    handle = raw_keep(&both.looper, &reply);
+    looper_free(&both.looper, &reply);
+    CHECK(looper_flush(&both.looper), "can't write");
+}
+
 static void *take_back(void *with)
 {
     struct looper looper;
@@ -247,15 +285,71 @@ static void is_told_behind_call(void)
     }
 }
 
+/* Two that wait: one without room for anything, which comes first to the process and last to wait; and one with room. */
+static sem_t tight_may_wait, is_in_loop, is_heard;
+
+static void enter_loop(struct looper *looper)
+{
+    raw_looper(looper, &both, NULL);
+    put_code(&looper->commands, BC_ENTER_LOOPER);
+    CHECK(looper_flush(looper), "can't enter the loop"); /* a thread's first ioctl reads nothing, so that it isn't the one that waits */
+    sem_post(&is_in_loop);
+}
+
+static void *wait_without_room(void *with)
+{
+    struct looper looper;
+    uint8_t room[TIGHT];
+    enter_loop(&looper);
+    while (sem_wait(&tight_may_wait))
+        ;
+    ssize_t size = binder_exchange(&both.binder, &looper.commands, room, sizeof room);
+    CHECK(size == sizeof(uint32_t), "who has no room read %zd bytes", size);
+    return with;
+}
+
+static void *wait_with_room(void *with)
+{
+    struct looper looper;
+    uint32_t codes[8];
+    enter_loop(&looper);
+    ssize_t count = read_codes(both.binder.fd, codes);
+    CHECK(count == 1 && codes[0] == BR_CLEAR_DEATH_NOTIFICATION_DONE, "who has room read %zd returns, %x", count, codes[0]);
+    sem_post(&is_heard);
+    return with;
+}
+
+static void start_in_loop(pthread_t *thread, void *(*body)(void *with))
+{
+    CHECK(!pthread_create(thread, NULL, body, NULL), "no thread");
+    while (sem_wait(&is_in_loop))
+        ;
+    usleep(100000); /* it waits by then, if it may */
+}
+
+static void tells_who_has_room(void)
+{
+    struct timespec end;
+    pthread_t tight, roomy;
+    CHECK(!sem_init(&tight_may_wait, 0, 0) && !sem_init(&is_in_loop, 0, 0) && !sem_init(&is_heard, 0, 0), "no semaphore");
+    begin_both();
+    start_in_loop(&tight, wait_without_room);
+    start_in_loop(&roomy, wait_with_room);
+    sem_post(&tight_may_wait);
+    usleep(100000);
+    take_back(NULL);
+    clock_gettime(CLOCK_REALTIME, &end);
+    end.tv_sec += SECONDS;
+    CHECK(!sem_timedwait(&is_heard, &end), "who has room isn't told");
+    pthread_join(tight, NULL);
+    pthread_join(roomy, NULL);
+    binder_close(&both.binder);
+}
+
 static void tells_another(void)
 {
-    struct binder_transaction_data reply;
     pthread_t thread;
-    raw_open(&both, WINDOW, NULL);
-    CHECK(raw_call(&both.looper, (struct call){.code = GIVE}, &reply) == BR_REPLY, "no object came");
-    handle = raw_keep(&both.looper, &reply);
-    looper_free(&both.looper, &reply);
-    CHECK(looper_flush(&both.looper), "can't write");
+    begin_both();
     take_back(NULL);
     read_nothing(both.binder.fd);
     put_code(&both.looper.commands, BC_ENTER_LOOPER);
@@ -281,7 +375,10 @@ int main(void)
     pid_t manager = raw_start_manager(serve);
     defers(read_nothing);
     defers(poll_for_reply);
+    defers_behind_clearing_in_vain();
     tells_another();
+    if (raw_daemon())
+        tells_who_has_room();
     goes_on();
     raw_open(&client, WINDOW, NULL);
     CHECK(raw_ask(&client.looper, (struct call){.code = ASK_ITSELF}) == 0, "the manager has a reference on itself");

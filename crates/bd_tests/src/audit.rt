@@ -1,4 +1,4 @@
-//! Certificates, with ample memory: of a reply, by the worked example 'call and reply' (docs/EXAMPLES.md), what the rules
+//! Certificates, with ample memory: of a reply, by the worked example 'call and reply' (examples/), what the rules
 //! give there, and of a name by ten gifts, where an object goes to and fro between two processes.
 
 ghost use Rattle.std.specs.Prelude.{◌≡◌, ◌≤◌, IfOk};

@@ -1,5 +1,5 @@
 // SPDX-License-Identifier: Apache-2.0 OR MIT
-//! The worked runs of docs/EXAMPLES.md by two seats of one driver, each in a thread of its own.
+//! The worked runs of examples/ by two seats of one driver, each in a thread of its own.
 //!
 //!     ping one-way|call [JOURNAL]
 use hullpippin::{verdict_on, Answer, Command, Driver, Error, Outcome, Parcel, Seat, Verdict, ONE_WAY};

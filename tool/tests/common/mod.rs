@@ -179,7 +179,7 @@ impl Journal {
         journal
     }
 
-    /// A one-way call, with code 7 and two bytes, as docs/EXAMPLES.md has it.
+    /// A one-way call, with code 7 and two bytes, as examples/ has it.
     pub fn one_way() -> Journal {
         let mut journal = Journal::base();
         let sent = Record { code: 7, flags: 1, data: 2, ..Record::default() };

@@ -1,4 +1,4 @@
-//! Worked examples (docs/EXAMPLES.md), with ample memory: writes of which several commands run, a thread that attaches, one
+//! Worked examples (examples/), with ample memory: writes of which several commands run, a thread that attaches, one
 //! that leaves the loop, references asked for and given back, and news of a death.
 
 use super::playing::played;
