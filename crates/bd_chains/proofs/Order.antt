@@ -131,9 +131,11 @@ apart_less p o (y ∷ ys) x apart off = at (y == x) refl o off (λ q h. apart_le
     tail : (o : Option ℕ) → has_end o (y ∷ ys) ≡ false → has_end o (y ∷ without x ys) ≡ false
     tail None h = refl
     tail (Some z) h = grind (arith, has_less z x ys)
+
     rest : (o : Option ℕ) → has_end o (y ∷ ys) ≡ false → has_end o ys ≡ false
     rest None h = refl
     rest (Some z) h = grind arith
+
     at : (b : Bool) → (y == x) ≡ b → (o : Option ℕ) → has_end o (y ∷ ys) ≡ false → ((q : Option ℕ) → has_end q ys ≡ false → Apart q (without x ys))
         → Apart o (cond (not b) (y ∷ without x ys) (without x ys))
     at true e o off more = more o (rest o off)
