@@ -1,0 +1,122 @@
+-- The items in order, as one comes and one goes.
+use Rattle.std.proofs.Common.{◌≡◌, ◌⊎◌, inl, inr, ℕ, ◌+◌, ◌≤◌, ◌==◌, ◌&&◌, length, is_some, Bool, true, false, not, ◌||◌, cond, List, [], ◌∷◌, ◌++◌, filter, Option, Some, None, refl, sym, ap, ◌∙◌, arith}
+use Rattle.std.proofs.lemmas.Bool.{eqb-true, false≢true, eq-eqb}
+use Rattle.bd_chains.specs.declared.links.Held.{Held}
+use Rattle.bd_chains.specs.Chain.{is_at, same_end, has, has_end, next_from, last_of, prev_from, Apart, without}
+use Rattle.bd_chains.specs.Rows.{Row, keys, ring, row_at, counted_on, drop_key, is_end, Stands, hits}
+use Rattle.bd_chains.proofs.Order.{same_true, next_has, without_none, prev_has, adjoint, next_without, prev_without, next_more, prev_more, next_off, has_more, has_less, has_none, last_in, apart_more, apart_less, restart}
+
+module _ {T : Type 0} where
+  pub ring_more : (l : ℕ) (rs : List (Row T)) (r : Row T) → ring l (rs ++ r ∷ []) ≡ cond (r.list == l) (ring l rs ++ r.key ∷ []) (ring l rs)
+  ring_more l [] r = grind arith
+  ring_more l (q ∷ rs) r = grind (arith, ring_more l rs r)
+
+  pub ring_less : (l x : ℕ) (rs : List (Row T)) → ring l (drop_key x rs) ≡ without x (ring l rs)
+  ring_less l x [] = refl
+  ring_less l x (q ∷ rs) = grind (arith, ring_less l x rs)
+
+  pub keys_more : (rs : List (Row T)) (r : Row T) → keys (rs ++ r ∷ []) ≡ keys rs ++ r.key ∷ []
+  keys_more [] r = refl
+  keys_more (q ∷ rs) r = ap (λ ks. q.key ∷ ks) (keys_more rs r)
+
+  pub keys_less : (x : ℕ) (rs : List (Row T)) → keys (drop_key x rs) ≡ without x (keys rs)
+  keys_less x [] = refl
+  keys_less x (q ∷ rs) = grind (arith, keys_less x rs)
+
+  pub at_more : (k : ℕ) (rs : List (Row T)) (r : Row T) → row_at r.key rs ≡ None → row_at k (rs ++ r ∷ []) ≡ cond (r.key == k) (Some (r.list, r.held)) (row_at k rs)
+  at_more k [] r new = refl
+  at_more k (q ∷ rs) r new = at (q.key == k) (q.key == r.key) refl refl new (λ h. at_more k rs r h)
+    where
+      at : (b d : Bool) → (q.key == k) ≡ b → (q.key == r.key) ≡ d → cond d (Some (q.list, q.held)) (row_at r.key rs) ≡ None
+          → (row_at r.key rs ≡ None → row_at k (rs ++ r ∷ []) ≡ cond (r.key == k) (Some (r.list, r.held)) (row_at k rs))
+          → cond b (Some (q.list, q.held)) (row_at k (rs ++ r ∷ [])) ≡ cond (r.key == k) (Some (r.list, r.held)) (cond b (Some (q.list, q.held)) (row_at k rs))
+      at b true e f h more = absurd (cc)
+      at true false e f h more = rw (other) refl
+        where
+          other : (r.key == k) ≡ false
+          other = grind arith
+      at false false e f h more = more h
+
+  pub at_less : (k x : ℕ) (rs : List (Row T)) → row_at k (drop_key x rs) ≡ cond (x == k) None (row_at k rs)
+  at_less k x [] = grind arith
+  at_less k x (q ∷ rs) = grind (arith, at_less k x rs)
+
+  pub counted_more : (l : ℕ) (rs : List (Row T)) (r : Row T) → counted_on l (rs ++ r ∷ []) ≡ cond ((r.list == l) && r.held.counted) (counted_on l rs + 1) (counted_on l rs)
+  counted_more l [] r = grind arith
+  counted_more l (q ∷ rs) r = grind (arith, counted_more l rs r)
+
+  -- a key that has nothing is on no list
+  pub off_keys : (x : ℕ) (rs : List (Row T)) → row_at x rs ≡ None → has x (keys rs) ≡ false
+  off_keys x [] h = refl
+  off_keys x (q ∷ rs) h = grind (arith, off_keys x rs)
+
+  pub off_ring : (l x : ℕ) (rs : List (Row T)) → has x (keys rs) ≡ false → has x (ring l rs) ≡ false
+  off_ring l x [] h = refl
+  off_ring l x (q ∷ rs) h = grind (arith, off_ring l x rs)
+
+  pub on_ring : (l x : ℕ) (w : Held T) (rs : List (Row T)) → row_at x rs ≡ Some (l, w) → has x (ring l rs) ≡ true
+  on_ring l x w [] h = grind arith
+  on_ring l x w (q ∷ rs) h = grind (arith, on_ring l x w rs)
+
+  -- a key on one list is on no other
+  pub one_ring : (l m x : ℕ) (p : Option ℕ) (rs : List (Row T)) → Apart p (keys rs) → has x (ring l rs) ≡ true → (l == m) ≡ false → has x (ring m rs) ≡ false
+  one_ring l m x p [] apart h differ = refl
+  one_ring l m x p (q ∷ rs) apart h differ = grind (arith, one_ring l m x (Some q.key) rs apart.1, off_ring m x rs, off_ring l x rs, apart.1, restart)
+
+  pub apart_ring : (l : ℕ) (p o : Option ℕ) (rs : List (Row T)) → Apart p (keys rs) → has_end o (keys rs) ≡ false → Apart o (ring l rs)
+  apart_ring l p o [] apart off = tt
+  apart_ring l p o (q ∷ rs) apart off = at (q.list == l) refl o off (λ z h. apart_ring l (Some q.key) z rs apart.1 h)
+    where
+      tail : (o : Option ℕ) → has_end o (q.key ∷ keys rs) ≡ false → has_end o (q.key ∷ ring l rs) ≡ false
+      tail None h = refl
+      tail (Some z) h = grind (arith, off_ring l z rs)
+
+      rest : (o : Option ℕ) → has_end o (q.key ∷ keys rs) ≡ false → has_end o (keys rs) ≡ false
+      rest None h = refl
+      rest (Some z) h = grind arith
+
+      at : (b : Bool) → (q.list == l) ≡ b → (o : Option ℕ) → has_end o (q.key ∷ keys rs) ≡ false → ((z : Option ℕ) → has_end z (keys rs) ≡ false → Apart z (ring l rs))
+          → Apart o (cond b (q.key ∷ ring l rs) (ring l rs))
+      at true e o off more = (tail o off, more (Some q.key) (restart q.key (keys rs) apart.1))
+      at false e o off more = more o (rest o off)
+
+  -- one goes: so many fewer keep from calling
+  pub counted_less : (l x m : ℕ) (w : Held T) (p : Option ℕ) (rs : List (Row T)) → Apart p (keys rs) → row_at x rs ≡ Some (m, w)
+      → counted_on l rs ≡ cond ((m == l) && w.counted) (counted_on l (drop_key x rs) + 1) (counted_on l (drop_key x rs))
+  counted_less l x m w p [] apart h = grind arith
+  counted_less l x m w p (q ∷ rs) apart h = grind (arith, counted_less l x m w (Some q.key) rs apart.1, drop_none x rs, restart q.key (keys rs) apart.1)
+    where
+      drop_none : (x : ℕ) (rs : List (Row T)) → has x (keys rs) ≡ false → drop_key x rs ≡ rs
+      drop_none x [] h = refl
+      drop_none x (q ∷ rs) h = grind (arith, drop_none x rs)
+
+  pub drop_none : (x : ℕ) (rs : List (Row T)) → has x (keys rs) ≡ false → drop_key x rs ≡ rs
+  drop_none x [] h = refl
+  drop_none x (q ∷ rs) h = grind (arith, drop_none x rs)
+
+  pub on_keys : (l x : ℕ) (rs : List (Row T)) → has x (ring l rs) ≡ true → is_some (row_at x rs) ≡ true
+  on_keys l x [] h = grind arith
+  on_keys l x (q ∷ rs) h = grind (arith, on_keys l x rs)
+
+  pub counted_within : (l : ℕ) (rs : List (Row T)) → counted_on l rs ≤ length rs
+  counted_within l [] = omega arith
+  counted_within l (q ∷ rs) = grind (arith, counted_within l rs)
+
+  pub length_less : (x l : ℕ) (w : Held T) (p : Option ℕ) (rs : List (Row T)) → Apart p (keys rs) → row_at x rs ≡ Some (l, w) → length (drop_key x rs) + 1 ≡ length rs
+  length_less x l w p [] apart h = grind arith
+  length_less x l w p (q ∷ rs) apart h = grind (arith, length_less x l w (Some q.key) rs apart.1, drop_none x rs, restart q.key (keys rs) apart.1)
+
+  -- on a list on which nothing is, none is counted, and no slot is
+  pub none_counted : (l : ℕ) (rs : List (Row T)) → ring l rs ≡ [] → counted_on l rs ≡ 0
+  none_counted l [] h = refl
+  none_counted l (q ∷ rs) h = grind (arith, none_counted l rs)
+
+  pub none_on : (l x : ℕ) (w : Held T) (rs : List (Row T)) → ring l rs ≡ [] → row_at x rs ≡ Some (l, w) → ⊥
+  none_on l x w rs h is = clash (ap (has x) (sym h) ∙ on_ring l x w rs is)
+    where
+      clash : false ≡ true → ⊥
+      clash e = cc
+
+  pub ring_within : (l : ℕ) (rs : List (Row T)) → length (ring l rs) ≤ length rs
+  ring_within l [] = omega arith
+  ring_within l (q ∷ rs) = grind (arith, ring_within l rs)

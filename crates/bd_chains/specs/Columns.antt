@@ -1,0 +1,69 @@
+-- What a table of lists says of each slot, and when that is the values in their order.
+use Rattle.std.specs.Prelude.{ℕ, ◌≡◌, ◌-◌, Bool, true, List, length, Option, Some, None, is_some, option_map, min}
+use Rattle.slab.specs.Slab.{Slab, get, slab_len}
+use Rattle.bd_chains.specs.declared.links.Held.{Held}
+use Rattle.bd_chains.specs.declared.links.Item.{Item}
+use Rattle.bd_chains.specs.declared.links.Ends.{Ends}
+use Rattle.bd_chains.specs.declared.chains.Chains.{Chains}
+use Rattle.bd_chains.specs.Rows.{Row, Stands}
+
+abbrev pub first_of : Option Ends → Option ℕ
+first_of None = None
+first_of (Some e) = e.first
+
+abbrev pub end_of : Option Ends → Option ℕ
+end_of None = None
+end_of (Some e) = e.last
+
+abbrev pub count_of : Option Ends → ℕ
+count_of None = 0
+count_of (Some e) = e.counted
+
+module _ {T : Type 0} where
+  abbrev pub next_of : Option (Item T) → Option ℕ
+  next_of None = None
+  next_of (Some i) = i.next
+
+  abbrev pub prev_of : Option (Item T) → Option ℕ
+  prev_of None = None
+  prev_of (Some i) = i.prev
+
+  -- what comes after a key on a list, or first on it
+  abbrev pub next_at : Chains T → ℕ → Option ℕ → Option ℕ
+  next_at t l None = first_of (get t.ends l)
+  next_at t l (Some y) = next_of (get t.items y)
+
+  -- what comes before a key on a list, or last on it
+  abbrev pub prev_at : Chains T → ℕ → Option ℕ → Option ℕ
+  prev_at t l None = end_of (get t.ends l)
+  prev_at t l (Some y) = prev_of (get t.items y)
+
+  abbrev pub shown : Chains T → ℕ → Option (ℕ × Held T)
+  shown t k = option_map (λ i. (i.list, i.held)) (get t.items k)
+
+  abbrev pub count_at : Chains T → ℕ → ℕ
+  count_at t l = count_of (get t.ends l)
+
+  abbrev pub is_open : Chains T → ℕ → Bool
+  is_open t l = is_some (get t.ends l)
+
+  abbrev pub is_there : Chains T → Option ℕ → Bool
+  is_there t None = true
+  is_there t (Some x) = is_some (get t.items x)
+
+  -- the table holds these values in this order, each on a list that was opened
+  pub record Holds (t : Chains T) (rs : List (Row T)) : Type 0 where
+    pub stands : Stands (next_at t) (prev_at t) (shown t) (count_at t) rs
+    pub within : (k l : ℕ) (v : Held T) → shown t k ≡ Some (l, v) → is_open t l ≡ true
+    pub len : slab_len t.items ≡ length rs
+
+  -- how many values more take no memory
+  abbrev pub item_room : Chains T → ℕ
+  item_room t = t.items.capacity - slab_len t.items
+
+  -- how many lists more
+  abbrev pub list_room : Chains T → ℕ
+  list_room t = t.ends.capacity - slab_len t.ends
+
+  abbrev pub room_of : Chains T → ℕ
+  room_of t = min (item_room t) (list_room t)

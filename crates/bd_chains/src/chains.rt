@@ -1,0 +1,306 @@
+//! The table: its lists, what comes and what goes.
+
+ghost use Rattle.std.specs.Prelude.{ℕ, ◌≡◌, ◌<◌, ◌≤◌, ◌==◌, ◌+◌, ◌-◌, ◌++◌, ◌∷◌, [], true, false, List, length, Option, Some, None, option_map, OnSome, IfNone, OnOk, OnErr, if◌then◌else◌, nat_lt};
+
+use crate::items::Items;
+use crate::links::{Ends, Held, Item};
+use slab::Slab;
+use std::alloc::{AllocError, Global};
+
+/// Values in numbered lists.
+#[derive(Drop)]
+pub struct Chains<T> {
+    pub(crate) items: Slab<Item<T>>,
+    // By the numbers of the lists.
+    pub(crate) ends: Slab<Ends>,
+}
+
+// One more, if it is so.
+fn raised(count: u64, is_so: bool) -> u64
+    ensures { count < 18446744073709551615 → result ≡ (if is_so then count + 1 else count) }
+{
+    if is_so {
+        count.saturating_add(1)
+    } else {
+        count
+    }
+}
+
+// One less, if it is so.
+fn lowered(count: u64, is_so: bool) -> u64
+    ensures { result ≡ (if is_so then count - 1 else count) }
+{
+    if is_so {
+        count.saturating_sub(1)
+    } else {
+        count
+    }
+}
+
+impl<T: Copy> Chains<T> {
+    ghost use Rattle.slab.specs.Slab.{get, slab_len, HasRoomFor};
+    ghost use Rattle.bd_chains.specs.Chain.{is_at, next_from};
+    ghost use Rattle.bd_chains.specs.Rows.{Row, ring, values_on, counted_on, hits, drop_key};
+    ghost use Rattle.bd_chains.specs.Columns.{next_at, prev_at, shown, count_at, is_open, is_there, Holds, item_room, list_room, room_of};
+
+    /// No lists. Takes no memory.
+    pub fn new(alloc: Global) -> Chains<T>
+        ensures stands { Holds result [] }
+        ensures none { (l : ℕ) → is_open result l ≡ false }
+    {
+        Chains {
+            items: Slab::new(alloc),
+            ends: Slab::new(alloc),
+        }
+    }
+
+    /// How many values more, and how many lists, take no memory.
+    pub fn room(&self) -> usize
+        ensures { result ≡ room_of self.now }
+    {
+        let items = self.items.capacity() - self.items.len();
+        let lists = self.ends.capacity() - self.ends.len();
+        items.min(lists)
+    }
+
+    /// Makes room for so many values more, and so many lists. Fails for want of memory, and then changes nothing either.
+    pub fn reserve(&mut self, more: usize) -> Result<(), AllocError>
+        ensures stands { (rs : List (Row T)) → Holds self.old rs → Holds self.new rs }
+        ensures open { (l : ℕ) → is_open self.new l ≡ is_open self.old l }
+        ensures room { OnOk result (more ≤ room_of self.new) }
+        ensures uses { room_of self.old ≤ room_of self.new }
+        ensures grown { OnErr result (more ≤ room_of self.old → ⊥) }
+    {
+        if more <= self.room() {
+            return Ok(());
+        }
+        self.items.reserve(more)?;
+        self.ends.reserve(more)
+    }
+
+    // What comes after `at` on a list is this from now on.
+    fn set_next(&mut self, list: usize, at: Option<usize>, to: Option<usize>)
+        ensures nexts { is_open self.old list ≡ true → is_there self.old at ≡ true → (m : ℕ) (o : Option ℕ) → next_at self.new m o
+            ≡ (if hits list at m o then to else next_at self.old m o) }
+        ensures prevs { (m : ℕ) (o : Option ℕ) → prev_at self.new m o ≡ prev_at self.old m o }
+        ensures shown { (k : ℕ) → shown self.new k ≡ shown self.old k }
+        ensures counts { (m : ℕ) → count_at self.new m ≡ count_at self.old m }
+        ensures open { (m : ℕ) → is_open self.new m ≡ is_open self.old m }
+        ensures len { slab_len self.new.items ≡ slab_len self.old.items }
+        ensures items { item_room self.new ≡ item_room self.old }
+        ensures lists { list_room self.new ≡ list_room self.old }
+    {
+        match at {
+            None => {
+                if let Some(ends) = self.ends.get_mut(list) {
+                    ends.first = to;
+                }
+            }
+            Some(x) => {
+                if let Some(item) = self.items.get_mut(x) {
+                    item.next = to;
+                }
+            }
+        }
+    }
+
+    // What comes before `at` on a list is this from now on.
+    fn set_prev(&mut self, list: usize, at: Option<usize>, to: Option<usize>)
+        ensures prevs { is_open self.old list ≡ true → is_there self.old at ≡ true → (m : ℕ) (o : Option ℕ) → prev_at self.new m o
+            ≡ (if hits list at m o then to else prev_at self.old m o) }
+        ensures nexts { (m : ℕ) (o : Option ℕ) → next_at self.new m o ≡ next_at self.old m o }
+        ensures shown { (k : ℕ) → shown self.new k ≡ shown self.old k }
+        ensures counts { (m : ℕ) → count_at self.new m ≡ count_at self.old m }
+        ensures open { (m : ℕ) → is_open self.new m ≡ is_open self.old m }
+        ensures len { slab_len self.new.items ≡ slab_len self.old.items }
+        ensures items { item_room self.new ≡ item_room self.old }
+        ensures lists { list_room self.new ≡ list_room self.old }
+    {
+        match at {
+            None => {
+                if let Some(ends) = self.ends.get_mut(list) {
+                    ends.last = to;
+                }
+            }
+            Some(x) => {
+                if let Some(item) = self.items.get_mut(x) {
+                    item.prev = to;
+                }
+            }
+        }
+    }
+
+    // So many on a list are counted.
+    fn set_count(&mut self, list: usize, count: u64)
+        ensures nexts { (m : ℕ) (o : Option ℕ) → next_at self.new m o ≡ next_at self.old m o }
+        ensures prevs { (m : ℕ) (o : Option ℕ) → prev_at self.new m o ≡ prev_at self.old m o }
+        ensures counts { is_open self.old list ≡ true → (m : ℕ) → count_at self.new m ≡ (if list == m then count else count_at self.old m) }
+        ensures items { self.new.items ≡ self.old.items }
+        ensures open { (m : ℕ) → is_open self.new m ≡ is_open self.old m }
+        ensures lists { list_room self.new ≡ list_room self.old }
+    {
+        if let Some(ends) = self.ends.get_mut(list) {
+            ends.counted = count;
+        }
+    }
+
+    // A value comes into a slot, whose neighbours aren't told.
+    fn enter(&mut self, item: Item<T>) -> usize
+        requires { 1 ≤ item_room self.old }
+        ensures fresh { shown self.old result ≡ None }
+        ensures shown { (k : ℕ) → shown self.new k ≡ (if result == k then Some (item.list, item.held) else shown self.old k) }
+        ensures nexts { (m : ℕ) (o : Option ℕ) → next_at self.new m o ≡ (if is_at result o then item.next else next_at self.old m o) }
+        ensures prevs { (m : ℕ) (o : Option ℕ) → prev_at self.new m o ≡ (if is_at result o then item.prev else prev_at self.old m o) }
+        ensures ends { self.new.ends ≡ self.old.ends }
+        ensures len { slab_len self.new.items ≡ slab_len self.old.items + 1 }
+        ensures few { slab_len self.new.items < 18446744073709551616 }
+        ensures items { item_room self.new + 1 ≡ item_room self.old }
+    {
+        let x = self.items.insert_reserved(item);
+        // Only so that it is known to be a number of the machine.
+        let _len = self.items.len();
+        x
+    }
+
+    // A value leaves its slot, whose neighbours aren't told.
+    fn leave(&mut self, x: usize) -> Option<Item<T>>
+        ensures was { result ≡ get self.old.items x }
+        ensures shown { (k : ℕ) → shown self.new k ≡ (if x == k then None else shown self.old k) }
+        ensures nexts { (m : ℕ) (o : Option ℕ) → next_at self.new m o ≡ (if is_at x o then None else next_at self.old m o) }
+        ensures prevs { (m : ℕ) (o : Option ℕ) → prev_at self.new m o ≡ (if is_at x o then None else prev_at self.old m o) }
+        ensures ends { self.new.ends ≡ self.old.ends }
+        ensures len { OnSome result (slab_len self.new.items + 1 ≡ slab_len self.old.items) }
+        ensures items { item_room self.old ≤ item_room self.new }
+        ensures absent { IfNone result (self.new ≡ self.old) }
+    {
+        self.items.try_remove(x)
+    }
+
+    fn count(&self, list: usize) -> u64
+        ensures { result ≡ count_at self.now list }
+    {
+        match self.ends.get(list) {
+            Some(ends) => ends.counted,
+            None => 0,
+        }
+    }
+
+    fn last(&self, list: usize) -> Option<usize>
+        ensures { result ≡ prev_at self.now list None }
+    {
+        match self.ends.get(list) {
+            Some(ends) => ends.last,
+            None => None,
+        }
+    }
+
+    /// The slot of the first value on a list.
+    pub fn first(&self, list: usize) -> Option<usize>
+        ensures { (rs : List (Row T)) → Holds self.now rs → result ≡ next_from None (ring list rs) None }
+    {
+        match self.ends.get(list) {
+            Some(ends) => ends.first,
+            None => None,
+        }
+    }
+
+    /// Whether any value on a list is counted.
+    pub fn has_counted(&self, list: usize) -> bool
+        ensures { (rs : List (Row T)) → Holds self.now rs → result ≡ nat_lt 0 (counted_on list rs) }
+    {
+        self.count(list) > 0
+    }
+
+    /// What stands in a slot.
+    pub fn held(&self, x: usize) -> Option<Held<T>>
+        ensures { result ≡ option_map (λ p. p.1) (shown self.now x) }
+    {
+        match self.items.get(x) {
+            Some(item) => Some(item.held),
+            None => None,
+        }
+    }
+
+    /// The values on a list, in the order in which they came.
+    pub fn items_on(&self, list: usize) -> Items<'_, T>
+        ensures { (rs : List (Row T)) → Holds self.now rs → result ≡ values_on list rs }
+    {
+        Items {
+            items: &self.items,
+            at: self.first(list),
+            left: self.items.len(),
+        }
+    }
+
+    /// A slot's number is below this.
+    pub fn slots(&self) -> usize
+        ensures { (k : ℕ) → is_there self.now (Some k) ≡ true → k < result }
+    {
+        self.items.capacity()
+    }
+
+    /// A list more, on which nothing is. Takes no memory.
+    pub fn open(&mut self) -> usize
+        requires { 1 ≤ list_room self.old }
+        ensures stands { (rs : List (Row T)) → Holds self.old rs → Holds self.new rs }
+        ensures fresh { is_open self.old result ≡ false }
+        ensures open { (m : ℕ) → is_open self.new m ≡ (if result == m then true else is_open self.old m) }
+        ensures items { item_room self.new ≡ item_room self.old }
+        ensures lists { list_room self.new + 1 ≡ list_room self.old }
+    {
+        self.ends.insert_reserved(Ends {
+            first: None,
+            last: None,
+            counted: 0,
+        })
+    }
+
+    /// A list on which nothing is goes: its number may be another's from now on.
+    pub fn close(&mut self, list: usize)
+        ensures stands { (rs : List (Row T)) → Holds self.old rs → ring list rs ≡ [] → Holds self.new rs }
+        ensures open { (m : ℕ) → is_open self.new m ≡ (if list == m then false else is_open self.old m) }
+        ensures items { item_room self.new ≡ item_room self.old }
+        ensures lists { list_room self.old ≤ list_room self.new }
+    {
+        let _gone = self.ends.try_remove(list);
+    }
+
+    /// A value comes to the end of a list. Takes no memory.
+    pub fn push(&mut self, list: usize, value: T, counted: bool) -> usize
+        requires { 1 ≤ item_room self.old }
+        ensures stands { (rs : List (Row T)) → Holds self.old rs → is_open self.old list ≡ true
+            → Holds self.new (rs ++ record { key = result; list = list; held = record { value = value; counted = counted } } ∷ []) }
+        ensures open { (m : ℕ) → is_open self.new m ≡ is_open self.old m }
+        ensures items { item_room self.new + 1 ≡ item_room self.old }
+        ensures lists { list_room self.new ≡ list_room self.old }
+    {
+        let held = Held { value, counted };
+        let last = self.last(list);
+        let count = raised(self.count(list), counted);
+        let x = self.enter(Item {
+            held,
+            list,
+            prev: last,
+            next: None,
+        });
+        self.set_next(list, last, Some(x));
+        self.set_prev(list, None, Some(x));
+        self.set_count(list, count);
+        x
+    }
+
+    /// The value in a slot goes, if there is one.
+    pub fn remove(&mut self, x: usize)
+        ensures stands { (rs : List (Row T)) → Holds self.old rs → Holds self.new (drop_key x rs) }
+        ensures open { (m : ℕ) → is_open self.new m ≡ is_open self.old m }
+        ensures items { item_room self.old ≤ item_room self.new }
+        ensures lists { list_room self.new ≡ list_room self.old }
+    {
+        if let Some(item) = self.leave(x) {
+            let count = lowered(self.count(item.list), item.held.counted);
+            self.set_next(item.list, item.prev, item.next);
+            self.set_prev(item.list, item.next, item.prev);
+            self.set_count(item.list, count);
+        }
+    }
+}

@@ -1,0 +1,9 @@
+//! Values in numbered lists: each has a slot of one slab, and names the one before it and the one after it on its list.
+#![tactic(auto)]
+
+mod chains;
+mod items;
+mod links;
+
+pub use chains::Chains;
+pub use items::Items;
