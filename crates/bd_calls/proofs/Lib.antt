@@ -1,5 +1,6 @@
 pub mod Choosing
 pub mod Closing
+pub mod Few
 pub mod InCalls
 pub mod InList
 pub mod InOrder

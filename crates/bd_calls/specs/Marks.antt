@@ -1,5 +1,5 @@
 -- What was told of the todo lists, as far as it is kept: which may have been filled or emptied since.
-use Rattle.std.specs.Prelude.{◌≡◌, Bool, true, false, not, ◌||◌, ◌&&◌, List, [], ◌∷◌, if◌then◌else◌}
+use Rattle.std.specs.Prelude.{◌≡◌, ◌≤◌, ◌+◌, ℕ, Bool, true, false, not, ◌||◌, ◌&&◌, List, [], ◌∷◌, if◌then◌else◌, vec_len, vec_capacity}
 use Rattle.bd_ways.specs.Words.{list_any, Work, TodoList}
 use Rattle.bd_space.specs.Todo.{same_list, has_work_in}
 use Rattle.bd_links.specs.declared.table.WorkTable.{WorkTable}
@@ -59,3 +59,13 @@ Stay old new = (list : TodoList) → is_marked old list ≡ true → is_marked n
 -- what was told is known still
 abbrev pub Goes : Marks → Marks → WorkTable → Type 0
 Goes old new t = (told : TodoList → Bool) → RecallsIn old t told → RecallsIn new t told
+
+-- ---- how many lists are marked
+
+-- not all lists are marked, and for so many more there is room
+abbrev pub HasMarkRoom : ℕ → Marks → Type 0
+HasMarkRoom lists m = (m.all ≡ false) × (vec_len m.marks + lists ≤ vec_capacity m.marks)
+
+-- so many lists at most are marked, and all others with them only where there was no room
+abbrev pub MarksFew : ℕ → Marks → Marks → Type 0
+MarksFew lists old new = (more : ℕ) → HasMarkRoom (lists + more) old → HasMarkRoom more new

@@ -1,8 +1,8 @@
 -- What is kept of the seats from step to step.
-use Rattle.std.specs.Prelude.{ℕ, ◌≡◌, ◌==◌, Bool, true, false, ◌||◌, List, Option, Some, None, if◌then◌else◌, get_or, IfSome}
-use Rattle.bd_ways.specs.Words.{list_any, Thread, Work, TodoList, OfThread, OfProcess, is_some_and}
+use Rattle.std.specs.Prelude.{ℕ, ◌≡◌, ◌==◌, Bool, false, List, Option, Some, None, if◌then◌else◌, get_or, IfSome}
+use Rattle.bd_ways.specs.Words.{Thread, Work, TodoList, OfThread, OfProcess, is_some_and}
 use Rattle.bd_space.specs.Seats.{thread_in}
-use Rattle.bd_space.specs.Todo.{has_work_in, same_list}
+use Rattle.bd_space.specs.Todo.{has_work_in}
 use Rattle.bd_calls.specs.declared.ready.Seen.{Seen}
 use Rattle.bd_calls.specs.declared.ready.ReadySeats.{ReadySeats}
 

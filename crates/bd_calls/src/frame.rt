@@ -1,5 +1,5 @@
 //! Frames: open two-way calls. A thread's innermost frame is its newest, as its frames are a stack.
-#![tactic(auto, unfolding(bd_space::specs::Frames::innermost, bd_space::specs::Frames::served_innermost, bd_space::specs::Frames::goes_to, bd_space::specs::Frames::closed, bd_space::specs::Transactions::call_out, bd_space::specs::Todo::owe, crate::specs::Room::rooms, crate::specs::Told::Recalls))]
+#![tactic(auto, unfolding(bd_space::specs::Frames::innermost, bd_space::specs::Frames::served_innermost, bd_space::specs::Frames::goes_to, bd_space::specs::Frames::closed, bd_space::specs::Transactions::call_out, bd_space::specs::Todo::owe, crate::specs::Room::rooms, crate::specs::Told::Recalls, crate::specs::Told::HasRoomToTell))]
 
 ghost use Rattle.std.specs.Prelude.{ℕ, List, ◌≡◌, ◌==◌, ◌&&◌, ◌+◌, ◌-◌, ◌≤◌, ◌++◌, true, false, map, filter, find, reverse, length, Option, Some, None, option_map, OnOk};
 ghost use Rattle.std.specs.Option.{is_none};
@@ -163,7 +163,7 @@ impl CallTable {
     ghost use Rattle.bd_space.specs.{Space.{Space}, Transactions.{call_out}};
     ghost use Rattle.bd_ways.specs.Tables.{IsAt, Tells, Makes, MakesAt, MakesWhere};
     ghost use Rattle.bd_calls.specs.{Stands.{Stands, StandsFor}, Stacked.{TellsOfStacked, MakesOfStackedAt}};
-    ghost use Rattle.bd_calls.specs.{Told.{KeepsTold}, Room.{Uses, UsesNothing, nothing, frame_room, work_room, frame_count}};
+    ghost use Rattle.bd_calls.specs.{Told.{KeepsTold, ReachesFew}, Room.{Uses, UsesNothing, nothing, frame_room, work_room, frame_count}};
     ghost use Rattle.bd_calls.specs.Closing.{IsAmongAt};
     ghost use Rattle.bd_frames.specs.InOrder.{IsInOrder};
 
@@ -206,6 +206,7 @@ impl CallTable {
         ensures stands { MakesOfStackedAt place self.old self.new (λ s. call_out s seat process) }
         ensures uses { Uses self.old self.new (record nothing { frames = 1; works = 1 }) }
         ensures told { KeepsTold self.old self.new }
+        ensures few { ReachesFew 1 self.old self.new }
     {
         let parent = newest_made(&self.frames, seat);
         let list = list_from(&self.threads, &self.frames, parent, process);
@@ -227,6 +228,7 @@ impl CallTable {
         ensures stands { Makes (StandsFor self.old) (StandsFor self.new) (λ s. spec.closed s made) }
         ensures uses { UsesNothing self.old self.new }
         ensures told { KeepsTold self.old self.new }
+        ensures few { ReachesFew 0 self.old self.new }
     {
         self.frames.close(made);
     }
@@ -246,6 +248,7 @@ impl CallTable {
             (λ s. settling.settle_one s (Some frame)) }
         ensures uses { Uses self.old self.new (record nothing { works = 1 }) }
         ensures told { KeepsTold self.old self.new }
+        ensures few { ReachesFew 1 self.old self.new }
     {
         self.close(frame.made);
         self.tell_caller(place, frame, WorkKind::Verdict(Return::DeadReply));
@@ -267,6 +270,7 @@ impl CallTable {
         ensures kept { result ≡ None → self.new ≡ self.old }
         ensures uses { Uses self.old self.new (record nothing { works = 1 }) }
         ensures told { KeepsTold self.old self.new }
+        ensures few { ReachesFew 1 self.old self.new }
     {
         let frame = self.abandoned_at(made)?;
         self.abandon(place, frame);
@@ -285,6 +289,7 @@ impl CallTable {
             → length (local.close_up most made s).frames + most ≤ length s.frames + result }
         ensures uses { Uses self.old self.new (record nothing { works = most - result }) }
         ensures told { KeepsTold self.old self.new }
+        ensures few { ReachesFew (most - result) self.old self.new }
     {
         let mut next = made;
         for closed in 0..most {
@@ -308,6 +313,7 @@ impl CallTable {
             (λ s. local.close_up (length s.frames) made s) }
         ensures uses { Uses self.old self.new (record nothing { works = frame_count self.old }) }
         ensures told { KeepsTold self.old self.new }
+        ensures few { ReachesFew (frame_count self.old) self.old self.new }
     {
         let count = self.count_frames();
         let _ = self.close_up_within(place, made, count);
@@ -322,6 +328,7 @@ impl CallTable {
             (λ s. local.close_among (length s.frames) (is_place_among chosen.old) s) }
         ensures uses { Uses self.old self.new (record nothing { works = frame_count self.old }) }
         ensures told { KeepsTold self.old self.new }
+        ensures few { ReachesFew (frame_count self.old) self.old self.new }
     {
         chosen.sort_unstable();
         let mut left = self.count_frames();
@@ -341,6 +348,7 @@ impl CallTable {
             → StandsFor self.new whole }
         ensures uses { Uses self.old self.new (record nothing { works = 1 }) }
         ensures told { KeepsTold self.old self.new }
+        ensures few { ReachesFew 1 self.old self.new }
     {
         let Some(oldest) = self.frames.oldest_abandoned_among(chosen) else {
             return false;
@@ -360,6 +368,7 @@ impl CallTable {
             (λ s. local.close_among (length s.frames) (is_place_among chosen.old) s) }
         ensures uses { Uses self.old self.new (record nothing { works = frame_count self.old }) }
         ensures told { KeepsTold self.old self.new }
+        ensures few { ReachesFew (frame_count self.old) self.old self.new }
     {
         for _closed in 0..self.count_frames() {
             if !self.close_oldest_among(place, chosen) {
@@ -377,6 +386,7 @@ impl CallTable {
             (λ s. local.close_among (length s.frames) (is_place_among chosen.old) s) }
         ensures uses { Uses self.old self.new (record nothing { works = frame_count self.old }) }
         ensures told { KeepsTold self.old self.new }
+        ensures few { ReachesFew (frame_count self.old) self.old self.new }
     {
         if self.frames.is_in_order() {
             self.close_in_order(place, chosen);

@@ -26,7 +26,8 @@ pub(crate) struct Mark {
 #[derive(Drop)]
 pub(crate) struct Marks {
     pub(crate) marks: Vec<Mark>,
-    // Any other list may have been, too: there were more than there was room for, or nothing was told yet.
+    // Any other list may have been, too: there were more than there was room for, a change was of any lists, or nothing was
+    // told yet.
     pub(crate) all: bool,
 }
 
@@ -47,7 +48,7 @@ fn is_changed(mark: &Mark, todo: &WorkTable) -> bool
     ensures { links.Tells todo.now result (λ l. spec.is_changed l mark.now) }
 {
     let has = todo.has_any(mark.list);
-    if mark.had { !has } else { has }
+    mark.had != has
 }
 
 fn push_changed(mark: &Mark, todo: &WorkTable, reached: &mut Vec<TodoList>)
@@ -77,6 +78,7 @@ fn list_changed(marks: &[Mark], todo: &WorkTable, reached: &mut Vec<TodoList>)
 pub(crate) fn mark_receiver(marks: &mut Marks, todo: &WorkTable, turn: Option<Turn>)
     ensures marked { IfSome turn (λ t. spec.is_marked marks.new (OfProcess t.receiver) ≡ true) }
     ensures recalls { spec.Goes marks.old marks.new todo.now }
+    ensures few { spec.MarksFew 1 marks.old marks.new }
 {
     if let Some(turn) = turn {
         marks.mark(todo, TodoList::OfProcess(turn.receiver));
@@ -99,6 +101,7 @@ impl Marks {
         ensures marks { self.new.marks.items ≡ self.old.marks.items }
         ensures all { self.new.all ≡ self.old.all }
         ensures room { OnOk result (lists ≤ vec_capacity self.new.marks) }
+        ensures few { spec.MarksFew 0 self.old self.new }
     {
         let more = lists.saturating_sub(self.marks.len());
         self.marks.reserve(more)
@@ -117,7 +120,7 @@ impl Marks {
         ensures stay { spec.Stay self.old self.new }
         ensures recalls { spec.Goes self.old self.new todo.now }
         // Others are marked with it only where there is no room.
-        ensures few { vec_len self.old.marks < vec_capacity self.old.marks → self.new.all ≡ false }
+        ensures few { spec.MarksFew 1 self.old self.new }
     {
         if self.marks.len() < self.marks.capacity() {
             let had = todo.has_any(list);
@@ -132,6 +135,7 @@ impl Marks {
         ensures marked { spec.is_marked self.new list ≡ true }
         ensures stay { spec.Stay self.old self.new }
         ensures recalls { spec.Goes self.old self.new todo.now }
+        ensures few { spec.MarksFew 1 self.old self.new }
     {
         if !self.has(list) {
             self.add(todo, list);
@@ -142,6 +146,7 @@ impl Marks {
     pub(crate) fn mark_lists_of(&mut self, todo: &WorkTable, taken: &[Work])
         ensures marked { list_all (λ d. spec.is_marked self.new d.list) taken.now ≡ true }
         ensures recalls { spec.Goes self.old self.new todo.now }
+        ensures few { spec.MarksFew (length taken.now) self.old self.new }
     {
         for work in taken {
             self.mark(todo, work.list);
@@ -169,6 +174,7 @@ impl Marks {
         ensures told { OnOk result ((l : List works.Work) → links.WorksAre todo.now l
             → spec.RecallsIn self.new todo.now (λ list. has_work_in l list)) }
         ensures knows { OnOk result (self.new.all ≡ false) }
+        ensures room { OnOk result (spec.HasMarkRoom (vec_capacity self.old.marks) self.new) }
         ensures err { OnErr result (self.new ≡ self.old) }
     {
         reached.clear();

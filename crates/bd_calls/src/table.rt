@@ -1,7 +1,7 @@
 //! The table itself: making it, room in it, and what changes several of its lists at once.
-#![tactic(auto, unfolding(crate::specs::Room::rooms, crate::specs::Told::Recalls))]
+#![tactic(auto, unfolding(crate::specs::Room::rooms, crate::specs::Told::Recalls, crate::specs::Told::HasRoomToTell))]
 
-ghost use Rattle.std.specs.Prelude.{◌≡◌, ◌+◌, ◌≤◌, ◌^◌, true, IfOk, OnOk, OnErr};
+ghost use Rattle.std.specs.Prelude.{◌≡◌, ◌+◌, ◌≤◌, ◌^◌, true, length, IfOk, OnOk, OnErr};
 ghost use Rattle.bd_threads.specs.Room.{thread_room};
 ghost use Rattle.bd_frames.specs.Room.{frame_room};
 ghost use Rattle.bd_turns.specs.Room.{turn_room};
@@ -45,7 +45,7 @@ impl CallTable {
     ghost use Rattle.bd_space.specs.ReadItems as reading;
     ghost use Rattle.bd_ways.specs.Tables.{Tells, Makes, MakesAt};
     ghost use Rattle.bd_calls.specs.Stands.{Stands, StandsFor};
-    ghost use Rattle.bd_calls.specs.{Told.{KeepsTold}, Room.{Uses, UsesNothing, nothing, HasRoom, HasEach, frame_count}};
+    ghost use Rattle.bd_calls.specs.{Told.{KeepsTold, ReachesFew}, Room.{Uses, UsesNothing, nothing, HasRoom, HasEach, frame_count}};
 
     /// An empty table. Takes no memory.
     pub fn new(alloc: Global) -> CallTable
@@ -78,6 +78,7 @@ impl CallTable {
         ensures stands { Makes (StandsFor self.old) (StandsFor self.new) (λ s. s) }
         ensures uses { UsesNothing self.old self.new }
         ensures told { KeepsTold self.old self.new }
+        ensures few { ReachesFew 0 self.old self.new }
         ensures room { OnOk result (HasEach self.new each works) }
         ensures grown { OnErr result (HasEach self.old each works → ⊥) }
     {
@@ -92,6 +93,7 @@ impl CallTable {
         ensures stands { Makes (StandsFor self.old) (StandsFor self.new) (λ s. s) }
         ensures uses { UsesNothing self.old self.new }
         ensures told { KeepsTold self.old self.new }
+        ensures few { ReachesFew 0 self.old self.new }
         ensures sure { result ≡ true → works ≤ self.new.sure_room }
     {
         if works > AHEAD as usize || self.reserve_each(AHEAD, AHEAD as usize).is_err() {
@@ -107,6 +109,7 @@ impl CallTable {
         ensures stands { Makes (StandsFor self.old) (StandsFor self.new) (λ s. s) }
         ensures uses { UsesNothing self.old self.new }
         ensures told { KeepsTold self.old self.new }
+        ensures few { ReachesFew 0 self.old self.new }
         ensures room { OnOk result (HasRoom self.new works) }
         // Memory was asked for, or would have been past what there can be: there was no room.
         ensures grown { OnErr result (HasRoom self.old works → ⊥) }
@@ -124,6 +127,7 @@ impl CallTable {
         ensures stands { Makes (StandsFor self.old) (StandsFor self.new) (λ s. s) }
         ensures uses { UsesNothing self.old self.new }
         ensures told { KeepsTold self.old self.new }
+        ensures few { ReachesFew 0 self.old self.new }
     {
         self.ready = ReadySeats::for_seats(alloc, seats)?;
         Ok(())
@@ -134,6 +138,7 @@ impl CallTable {
         ensures stands { Makes (StandsFor self.old) (StandsFor self.new) (λ s. s) }
         ensures uses { UsesNothing self.old self.new }
         ensures told { KeepsTold self.old self.new }
+        ensures few { ReachesFew 0 self.old self.new }
     {
         self.ready.refresh(&self.threads, &self.todo);
     }
@@ -144,6 +149,7 @@ impl CallTable {
         ensures stands { Makes (StandsFor self.old) (StandsFor self.new) (λ s. reading.read_by s seat taken.now) }
         ensures uses { UsesNothing self.old self.new }
         ensures told { KeepsTold self.old self.new }
+        ensures few { ReachesFew (length taken.now) self.old self.new }
     {
         self.ready.forget_lists_of(taken);
         self.marks.mark_lists_of(&self.todo, taken);
@@ -157,6 +163,7 @@ impl CallTable {
         ensures stands { Makes (StandsFor self.old) (StandsFor self.new) (λ s. thread_exits.thread_goes s seat) }
         ensures uses { UsesNothing self.old self.new }
         ensures told { KeepsTold self.old self.new }
+        ensures few { ReachesFew 1 self.old self.new }
     {
         let list = TodoList::OfThread(seat);
         self.marks.mark(&self.todo, list);
@@ -172,6 +179,7 @@ impl CallTable {
         ensures stands { Makes (StandsFor self.old) (StandsFor self.new) (λ s. exits.without_process s process) }
         ensures uses { UsesNothing self.old self.new }
         ensures told { KeepsTold self.old self.new }
+        ensures few { ReachesFew 1 self.old self.new }
     {
         let list = TodoList::OfProcess(process);
         self.marks.mark(&self.todo, list);

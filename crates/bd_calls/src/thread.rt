@@ -1,5 +1,5 @@
 //! Threads.
-#![tactic(auto, unfolding(bd_space::specs::Steps::with_thread, bd_space::specs::Steps::with_looping, crate::specs::Room::rooms, crate::specs::Told::Recalls))]
+#![tactic(auto, unfolding(bd_space::specs::Steps::with_thread, bd_space::specs::Steps::with_looping, crate::specs::Room::rooms, crate::specs::Told::Recalls, crate::specs::Told::HasRoomToTell))]
 
 ghost use Rattle.std.specs.Prelude.{◌≡◌, ◌==◌, ◌≤◌, map, filter, length, IfOk, OnErr};
 ghost use Rattle.bd_space.specs.{Seats.{thread_in}, ProcessExits.{seat_of}};
@@ -11,7 +11,7 @@ use std::alloc::{AllocError, Global};
 impl CallTable {
     ghost use Rattle.bd_space.specs.{Space.{Space}, Steps.{with_thread, with_looping}};
     ghost use Rattle.bd_ways.specs.Tables.{Tells, Makes, MakesAt};
-    ghost use Rattle.bd_calls.specs.{Stands.{StandsFor}, Told.{KeepsTold}, Room.{Uses, UsesNothing, nothing, thread_room}};
+    ghost use Rattle.bd_calls.specs.{Stands.{StandsFor}, Told.{KeepsTold, ReachesFew}, Room.{Uses, UsesNothing, nothing, thread_room}};
 
     /// The live thread of a seat.
     pub fn thread(&self, seat: u32) -> Option<Thread>
@@ -37,6 +37,7 @@ impl CallTable {
         ensures stands { MakesAt place (StandsFor self.old) (StandsFor self.new) (λ s. with_thread s seat process) }
         ensures uses { Uses self.old self.new (record nothing { threads = 1 }) }
         ensures told { KeepsTold self.old self.new }
+        ensures few { ReachesFew 0 self.old self.new }
     {
         self.sure_room = self.sure_room.saturating_sub(1);
         self.ready.forget_all();
@@ -53,6 +54,7 @@ impl CallTable {
         ensures stands { Makes (StandsFor self.old) (StandsFor self.new) (λ s. with_looping s seat looping) }
         ensures uses { UsesNothing self.old self.new }
         ensures told { KeepsTold self.old self.new }
+        ensures few { ReachesFew 0 self.old self.new }
     {
         self.ready.forget_all();
         self.threads.set_looping(seat, looping);

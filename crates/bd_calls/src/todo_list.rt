@@ -1,5 +1,5 @@
 //! Todo lists: which work items are still to be read, and by whom.
-#![tactic(auto, unfolding(bd_space::specs::Todo::owe, bd_space::specs::Todo::has_unread, bd_space::specs::Todo::list_to_read, crate::specs::Room::rooms, crate::specs::Told::Recalls))]
+#![tactic(auto, unfolding(bd_space::specs::Todo::owe, bd_space::specs::Todo::has_unread, bd_space::specs::Todo::list_to_read, crate::specs::Room::rooms, crate::specs::Told::Recalls, crate::specs::Told::HasRoomToTell))]
 
 ghost use Rattle.std.specs.Prelude.{ℕ, Bool, List, ◌≡◌, ◌==◌, ◌||◌, ◌&&◌, ◌+◌, ◌<◌, ◌≤◌, ◌^◌, ◌++◌, ◌∷◌, [], false, not, nat_le, map, filter, find, reverse, length, count_by, Option, Some, None, option_map, IfOk, OnOk, OnErr, vec_len, vec_capacity};
 ghost use Rattle.std.specs.{List.{list_any, slice_get}, Option.{is_none}};
@@ -45,7 +45,7 @@ impl CallTable {
     ghost use Rattle.bd_space.specs.{declared.space.Object.{Object}, Space.{Space}, Histories.{is_ready}};
     ghost use Rattle.bd_ways.specs.Tables.{Tells, Makes, MakesAt};
     ghost use Rattle.bd_calls.specs.{Ready.{IsSeen}, Stands.{Stands, StandsFor}};
-    ghost use Rattle.bd_calls.specs.{Told.{KeepsTold}, Room.{Uses, UsesNothing, nothing, work_room}};
+    ghost use Rattle.bd_calls.specs.{Told.{KeepsTold, ReachesFew}, Room.{Uses, UsesNothing, nothing, work_room}};
 
     /// Whether an unread call, reply or verdict on a thread's own list keeps it from calling.
     pub fn has_unread(&self, seat: u32) -> bool
@@ -106,6 +106,7 @@ impl CallTable {
         ensures stands { MakesAt place (StandsFor self.old) (StandsFor self.new) (λ s. spec.owe s list kind) }
         ensures uses { Uses self.old self.new (record nothing { works = 1 }) }
         ensures told { KeepsTold self.old self.new }
+        ensures few { ReachesFew 1 self.old self.new }
     {
         self.sure_room = self.sure_room.saturating_sub(1);
         self.ready.forget_list(list);
@@ -119,6 +120,7 @@ impl CallTable {
         ensures stands { MakesAt place (StandsFor self.old) (StandsFor self.new) (λ s. spec.tell_caller s frame kind) }
         ensures uses { Uses self.old self.new (record nothing { works = 1 }) }
         ensures told { KeepsTold self.old self.new }
+        ensures few { ReachesFew 1 self.old self.new }
     {
         if let Some(seat) = frame.caller {
             let list = TodoList::OfThread(seat);
@@ -157,6 +159,7 @@ impl CallTable {
             }) }
         ensures uses { Uses self.old self.new (record nothing { works = 1 }) }
         ensures told { KeepsTold self.old self.new }
+        ensures few { ReachesFew 1 self.old self.new }
     {
         if wanted && !self.todo.has_notice(object) {
             self.sure_room = self.sure_room.saturating_sub(1);

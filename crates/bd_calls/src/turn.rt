@@ -1,5 +1,5 @@
 //! One-way calls: of one object's, one is due or handed out at a time, in the order in which they were made.
-#![tactic(auto, unfolding(bd_space::specs::Turns::ripen, bd_ways::specs::Local::ripen_of, crate::specs::Room::rooms, crate::specs::Told::Recalls))]
+#![tactic(auto, unfolding(bd_space::specs::Turns::ripen, bd_ways::specs::Local::ripen_of, crate::specs::Room::rooms, crate::specs::Told::Recalls, crate::specs::Told::HasRoomToTell))]
 
 ghost use Rattle.std.specs.Prelude.{ℕ, Bool, List, ◌≡◌, ◌==◌, ◌||◌, ◌&&◌, ◌+◌, ◌<◌, ◌≤◌, ◌^◌, ◌++◌, ◌∷◌, [], false, not, nat_le, map, filter, find, reverse, length, count_by, Option, Some, None, option_map, IfOk, OnOk, OnErr, vec_len, vec_capacity};
 ghost use Rattle.std.specs.{Option.{option_to_list}, List.{list_any}};
@@ -107,7 +107,7 @@ impl CallTable {
     ghost use Rattle.bd_space.specs.Freeing.{without_buffer};
     ghost use Rattle.bd_ways.specs.Tables.{Tells, Makes, MakesAt};
     ghost use Rattle.bd_calls.specs.Stands.{Stands, StandsFor};
-    ghost use Rattle.bd_calls.specs.{Told.{KeepsTold}, Room.{Uses, UsesNothing, nothing, turn_room, work_room, turn_count}};
+    ghost use Rattle.bd_calls.specs.{Told.{KeepsTold, ReachesFew}, Room.{Uses, UsesNothing, nothing, turn_room, work_room, turn_count}};
 
     /// The one-way call of a new buffer comes in, if it is one.
     pub fn add_turn(&mut self, turn: Option<Turn>)
@@ -116,6 +116,7 @@ impl CallTable {
             → StandsFor self.new (add_buffer s b) }
         ensures uses { Uses self.old self.new (record nothing { turns = 1 }) }
         ensures told { KeepsTold self.old self.new }
+        ensures few { ReachesFew 0 self.old self.new }
     {
         self.sure_room = self.sure_room.saturating_sub(1);
         push_turn(&mut self.turns, turn);
@@ -126,6 +127,7 @@ impl CallTable {
         ensures stands { Makes (StandsFor self.old) (StandsFor self.new) (λ s. without_buffer s made) }
         ensures uses { UsesNothing self.old self.new }
         ensures told { KeepsTold self.old self.new }
+        ensures few { ReachesFew 0 self.old self.new }
     {
         self.turns.remove(made);
     }
@@ -136,6 +138,7 @@ impl CallTable {
         ensures stands { MakesAt place (StandsFor self.old) (StandsFor self.new) (local.ripen_of object) }
         ensures uses { Uses self.old self.new (record nothing { works = 1 }) }
         ensures told { KeepsTold self.old self.new }
+        ensures few { ReachesFew 1 self.old self.new }
     {
         let oldest = self.turns.oldest_on(object);
         forget_receiver(&mut self.ready, oldest);

@@ -12,7 +12,7 @@ pub use Rattle.bd_calls.specs.Marks.{is_among, differs}
 abbrev pub has_work : Space → TodoList → Bool
 has_work s list = has_work_in s.todo list
 
--- if this was told of each list, then which lists were filled or emptied since is known still, or that too many were
+-- if this was told of each list, then which lists were filled or emptied since is known still, or that any may have been
 abbrev pub Recalls : Live → (TodoList → Bool) → Type 0
 Recalls l told = calls.Recalls l.tables.value.calls told
 

@@ -1,4 +1,4 @@
-use Rattle.std.proofs.Common.{◌∙◌, ◌||◌, ap, sym, subst, refl}
+use Rattle.std.proofs.Common.{◌∙◌, ◌||◌, ap, sym, subst, refl, arith}
 use Rattle.std.proofs.lemmas.Bool.{or_parts}
 use Rattle.bd_calls.specs.Marks.{is_marked_in, IsRecalled}
 use Rattle.bd_calls.proofs.Marking.{clash, add-marked, add-stays, recalled-more}
@@ -18,7 +18,8 @@ returns-then-len-capacity-clause-recalls c = λ told k one.
     (recalled-more c.args.self.now.marks.items (record { list = c.args.list; had = c.has_any-had.result }) c.args.todo.now told c.has_any-had.ensures (or_parts _ _ c.requires).1 (k one))
 
 pub returns-then-len-capacity-clause-few : goal.returns-then-len-capacity-clause-few
-returns-then-len-capacity-clause-few c = λ room. (or_parts _ _ c.requires).0
+returns-then-len-capacity-clause-few c = λ more room.
+    ((or_parts _ _ c.requires).0, (let fits = room.1 in omega (arith, fits, c.push_reserved.ensures.len, c.push_reserved.ensures.capacity)))
 
 pub returns-else-len-capacity-clause-recalls : goal.returns-else-len-capacity-clause-recalls
 returns-else-len-capacity-clause-recalls c = λ told k one. absurd (clash refl one)

@@ -2,6 +2,7 @@ use Rattle.std.proofs.Common.{get_or, subst, sym, arith}
 use Rattle.std.proofs.lemmas.List.{drop_all, drop_more}
 use Rattle.std.proofs.lemmas.List.Sorted.{IsNonDecreasingBy-from_sort}
 use Rattle.bd_calls.specs.Stands.{StandsFor}
+use Rattle.bd_calls.proofs.Few.{few-same, few-less, few-both}
 use Rattle.bd_calls.proofs.Rooms.{uses-none, uses-both}
 use Rattle.bd_calls.proofs.InOrder.{each-begins, each-next, each-done, in-order_after}
 use Rattle.bd_calls.proofs.table.CallTable.close_in_order.Goals as goal
@@ -12,6 +13,7 @@ loop-made-init c = record {
   left = omega (arith, c.count_frames-left.ensures.count);
   uses = uses-none c.args.self.now _;
   told = λ told k. k;
+  few = few-same _ _;
 }
 
 pub close_up_within-left-requires : goal.close_up_within-left-requires
@@ -29,6 +31,7 @@ loop-made-preserved c =
       left = omega (arith, before.left, after.left);
       uses = uses-both _ _ _ _ _ _ (omega (arith, before.left, after.left)) before.uses after.uses;
       told = λ told k. after.told told (before.told told k);
+      few = few-both _ _ _ _ _ _ (omega (arith, before.left, after.left)) before.few after.few;
     }
 
 pub returns-clause-stands : goal.returns-clause-stands
@@ -39,3 +42,6 @@ returns-clause-stands c = λ s stands h.
 
 pub returns-clause-uses : goal.returns-clause-uses
 returns-clause-uses c = uses-both _ _ _ _ 0 _ (omega arith) c.loop-made.invariant.uses (uses-none c.loop-made.self 0)
+
+pub returns-clause-few : goal.returns-clause-few
+returns-clause-few c = few-less _ _ _ _ (omega arith) c.loop-made.invariant.few

@@ -2,7 +2,7 @@ use Rattle.std.proofs.Common.{◌≡◌, ◌-◌, ◌≤◌, drop}
 use Rattle.bd_space.specs.Space.{Space}
 use Rattle.bd_calls.specs.Stands.{StandsFor}
 use Rattle.bd_calls.specs.Room.{Uses, nothing, frame_count}
-use Rattle.bd_calls.specs.Told.{KeepsTold}
+use Rattle.bd_calls.specs.Told.{KeepsTold, ReachesFew}
 use Rattle.bd_calls.proofs.InOrder.{IsEachAt, each_up}
 use Rattle.bd_calls.proofs.table.CallTable.close_in_order.Given as goal
 
@@ -12,4 +12,5 @@ invariant-loop-made l = record {
   left : l.left ≤ frame_count l.fn.self;
   uses : Uses l.fn.self l.self (record nothing { works = frame_count l.fn.self - l.left });
   told : KeepsTold l.fn.self l.self;
+  few : ReachesFew (frame_count l.fn.self - l.left) l.fn.self l.self;
 }

@@ -1,4 +1,5 @@
 use Rattle.std.proofs.Common.{◌≡◌, ◌+◌, suc, sym, ◌∙◌, arith}
+use Rattle.bd_calls.proofs.Few.{few-same}
 use Rattle.bd_calls.proofs.Choosing.{closes-up, closes-last, among-closed, among-none}
 use Rattle.bd_calls.proofs.table.CallTable.close_oldest_among.Goals as goal
 
@@ -21,3 +22,6 @@ returns-in_default-parent-clause-goes_on c =
     let one : left + 1 ≡ suc left = omega arith in
     among-closed _ _ _ left _ c.args.chosen.now _ c.in-Some.oldest whole one h (c.abandon.ensures.stands h.mid h.stands h.at)
     (closes-last h.mid c.in-Some.oldest c.args.chosen.now left found c.in_default-parent.is)
+
+pub returns-in_default-clause-few : goal.returns-in_default-clause-few
+returns-in_default-clause-few c = few-same _ _

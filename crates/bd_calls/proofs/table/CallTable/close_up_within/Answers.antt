@@ -2,6 +2,7 @@ use Rattle.std.proofs.Common.{◌≡◌, ◌-◌, ◌+◌, suc, subst, sym, arit
 use Rattle.bd_ways.specs.Local.{close_up}
 use Rattle.bd_calls.specs.declared.table.CallTable.{CallTable}
 use Rattle.bd_calls.specs.Stands.{StandsFor}
+use Rattle.bd_calls.proofs.Few.{few-same, few-both}
 use Rattle.bd_calls.proofs.Rooms.{uses-both}
 use Rattle.bd_calls.proofs.Closing.{up-begins, up-more, up-done, up-all, up-stopped}
 use Rattle.bd_calls.proofs.table.CallTable.close_up_within.Goals as goal
@@ -11,6 +12,7 @@ loop-closed-init c = record {
   goes_up = λ s stands at. let all : c.args.most - 0 ≡ c.args.most = omega arith in rw all (up-begins _ _ c.args.made c.args.most s stands at);
   uses = search rules;
   told = λ told k. k;
+  few = few-same _ _;
 }
 
 pub loop-closed-preserved : goal.loop-closed-preserved
@@ -22,6 +24,7 @@ loop-closed-preserved c = record {
       c.close_if_abandoned.ensures.stands (rw c.in-Some-close_if_abandoned.is at c.close_if_abandoned.ensures.closed);
   uses = uses-both _ _ _ _ _ _ (omega arith) c.loop-closed.invariant.uses c.close_if_abandoned.ensures.uses;
   told = λ told k. c.close_if_abandoned.ensures.told told (c.loop-closed.invariant.told told k);
+  few = few-both _ _ _ _ _ _ (omega arith) c.loop-closed.invariant.few c.close_if_abandoned.ensures.few;
 }
 
 pub returns-in_default-clause-stands : goal.returns-in_default-clause-stands

@@ -1,0 +1,5 @@
+use Rattle.bd_calls.proofs.Few.{few-same}
+use Rattle.bd_calls.proofs.table.CallTable.close_if_abandoned.Goals as goal
+
+pub returns-in_err-frame-clause-few : goal.returns-in_err-frame-clause-few
+returns-in_err-frame-clause-few c = few-same _ _
