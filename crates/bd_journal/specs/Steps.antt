@@ -1,0 +1,28 @@
+-- Reading a journal entry by entry.
+use Rattle.std.specs.Prelude.{ℕ, List, [], ◌∷◌, length, ◌==◌, Option, Some, None, option_map, if◌then◌else◌}
+use Rattle.bd_space.specs.declared.step.Entry.{Entry}
+use Rattle.bd_space.specs.declared.record.Record.{Record}
+use Rattle.bd_journal.specs.declared.versions.Version.{Version}
+use Rattle.bd_journal.specs.declared.steps.JournalReader.{JournalReader}
+use Rattle.bd_journal.specs.Reading.{◌>>=◌, entries_from}
+
+-- so many entries: None where the bytes don't spell as many, and nothing else
+abbrev pub all_from : Version → ℕ → ℕ → List ℕ → Option (List Entry)
+all_from v seats count bytes = entries_from v seats count bytes >>= λ x. if length x.1 == 0 then Some x.0 else None
+
+-- the entries that are still to be read
+abbrev pub entries_left : JournalReader → Option (List Entry)
+entries_left r = all_from r.version r.seats r.left r.rest.now
+
+-- the record of so many seats and these entries
+abbrev pub record_of : ℕ → List Entry → Record
+record_of seats entries = record { seats = seats; entries = entries }
+
+-- what a reader that has read nothing yet comes to
+abbrev pub record_left : JournalReader → Option Record
+record_left r = option_map (record_of r.seats) (entries_left r)
+
+-- what is left with this entry before what is left then; without one nothing is
+abbrev pub with_next : Option Entry → Option (List Entry) → Option (List Entry)
+with_next None left = Some []
+with_next (Some e) left = option_map (λ es. e ∷ es) left

@@ -1,0 +1,92 @@
+//! Reading a journal entry by entry.
+
+ghost use Rattle.std.specs.Prelude.{◌≡◌, ◌<◌, IfOk, IfErr, IfSome, MatchResult};
+ghost use Rattle.bd_journal.specs.Reading.{Fails, Gives, heading_from, journal_in};
+ghost use Rattle.bd_journal.specs.Spelling.{IsRecordSeats};
+ghost use Rattle.bd_journal.specs.Steps.{entries_left, record_left, with_next};
+
+use crate::fault::ReadError;
+use crate::reading::{count_at, entry_at, seats_at};
+use crate::versions::{Version, version_at};
+use bd_space::Entry;
+use std::alloc::Global;
+
+/// The entries of a journal, read one after the other: whoever keeps none of them holds no more than one, however many there
+/// are.
+#[derive(Clone, Copy, Debug)]
+pub struct JournalReader<'a> {
+    version: Version,
+    seats: u32,
+    left: u64,
+    rest: &'a [u8],
+}
+
+impl<'a> JournalReader<'a> {
+    // The heading, read.
+    #[tactic(auto, unfolding(crate::specs::Reading::heading_from))]
+    fn begun(bytes: &'a [u8]) -> Result<JournalReader<'a>, ReadError>
+        ensures { Gives (λ r. (r.version, r.seats, r.left, r.rest.now)) result (heading_from bytes.now) }
+    {
+        let Some((version, rest)) = version_at(bytes) else {
+            return Err(ReadError::Malformed);
+        };
+        let (seats, rest) = seats_at(version, rest)?;
+        let (left, rest) = count_at(version, rest)?;
+        Ok(JournalReader {
+            version,
+            seats,
+            left,
+            rest,
+        })
+    }
+
+    /// A reader of these bytes, which has read the heading.
+    ///
+    /// # Errors
+    /// `Malformed` where they don't begin with one.
+    pub fn new(bytes: &'a [u8]) -> Result<JournalReader<'a>, ReadError>
+        // What it comes to is what the journal spells.
+        ensures reads { MatchResult result (λ r. journal_in bytes.now ≡ record_left r) (λ e. Fails e (journal_in bytes.now)) }
+        // It has as many seats as a record may.
+        ensures seats { IfOk result (λ r. IsRecordSeats r.seats) }
+    {
+        JournalReader::begun(bytes)
+    }
+
+    /// How many seats the record has.
+    pub fn seats(&self) -> u32
+        ensures { result ≡ self.now.seats }
+    {
+        self.seats
+    }
+
+    /// How many entries are still to come, as the heading says.
+    pub fn left(&self) -> u64
+        ensures { result ≡ self.now.left }
+    {
+        self.left
+    }
+
+    /// The next entry; None behind the last.
+    ///
+    /// # Errors
+    /// `Malformed` where the bytes spell no journal: no entry stands here, or something else behind the last. `Memory` where
+    /// memory was refused.
+    pub fn next(&mut self, alloc: Global) -> Result<Option<Entry>, ReadError>
+        ensures entry { IfOk result (λ e. entries_left self.old ≡ with_next e (entries_left self.new)) }
+        ensures error { IfErr result (λ e. Fails e (entries_left self.old)) }
+        ensures seats { self.new.seats ≡ self.old.seats }
+        ensures fewer { IfOk result (λ e. IfSome e (λ _. self.new.left < self.old.left)) }
+    {
+        if self.left == 0 {
+            if !self.rest.is_empty() {
+                return Err(ReadError::Malformed);
+            }
+            return Ok(None);
+        }
+        let (entry, rest) = entry_at(alloc, self.version, self.seats, self.rest)?;
+        self.left -= 1;
+        self.rest = rest;
+        Ok(Some(entry))
+    }
+}
