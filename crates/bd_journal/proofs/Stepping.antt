@@ -9,7 +9,8 @@ use Rattle.bd_journal.specs.declared.fault.ReadError.{ReadError}
 use Rattle.bd_journal.specs.declared.fault.ReadError.TheVariants as errors
 use Rattle.bd_journal.specs.Spelling.{IsRecordSeats}
 use Rattle.bd_journal.specs.Reading.{◌>>=◌, Fails, Gives, entry_from, entries_from, seats_from, count_from, version_from, record_from, heading_from, journal_in}
-use Rattle.bd_journal.specs.Steps.{all_from, record_of, record_left, with_next}
+use Rattle.bd_journal.specs.Cut.{cut_in, whole_from}
+use Rattle.bd_journal.specs.Steps.{all_from, cut_left, record_of, record_left, with_next}
 use Rattle.bd_uapi.specs.Bytes.{IsBytes}
 use Rattle.bd_journal.proofs.FieldLaws.{bind_some, some_is}
 use Rattle.bd_journal.proofs.Laws.{magic_takes, seats_take}
@@ -111,3 +112,35 @@ all_read v seats left bytes none empty = rw (none, empty) refl
 pub more_stands : (v : Version) (seats left : ℕ) (bytes : List ℕ) → left ≡ 0 → (length bytes == 0) ≡ false → all_from v seats left bytes ≡ None
 unfolding entries_from
 more_stands v seats left bytes none more = rw (none, more) refl
+
+-- ---- of a journal that was cut off
+
+abbrev cut_behind : Heading → Option (Record × List ℕ)
+cut_behind x = let read = whole_from x.0 x.1 (length x.3) x.3 in Some (record_of x.1 read.0, read.1)
+
+cut_by_count : (v : Version) (seats : ℕ) (count : Option (ℕ × List ℕ))
+    → (count >>= λ c. let read = whole_from v seats (length c.1) c.1 in Some (record_of seats read.0, read.1)) ≡ ((count >>= λ c. Some (v, seats, c.0, c.1)) >>= cut_behind)
+cut_by_count v seats (Some c) = refl
+cut_by_count v seats None = refl
+
+cut_by_seats : (v : Version) (seats : Option (ℕ × List ℕ))
+    → (seats >>= λ s. count_from v s.1 >>= λ c. let read = whole_from v s.0 (length c.1) c.1 in Some (record_of s.0 read.0, read.1))
+    ≡ ((seats >>= λ s. count_from v s.1 >>= λ c. Some (v, s.0, c.0, c.1)) >>= cut_behind)
+cut_by_seats v (Some s) = cut_by_count v s.0 (count_from v s.1)
+cut_by_seats v None = refl
+
+cut_by_version : (begun : Option (Version × List ℕ))
+    → (begun >>= λ b. seats_from b.0 b.1 >>= λ s. count_from b.0 s.1 >>= λ c. let read = whole_from b.0 s.0 (length c.1) c.1 in Some (record_of s.0 read.0, read.1))
+    ≡ ((begun >>= λ b. seats_from b.0 b.1 >>= λ s. count_from b.0 s.1 >>= λ c. Some (b.0, s.0, c.0, c.1)) >>= cut_behind)
+cut_by_version (Some b) = cut_by_seats b.0 (seats_from b.0 b.1)
+cut_by_version None = refl
+
+cut_by_heading : (bytes : List ℕ) → cut_in bytes ≡ (heading_from bytes >>= cut_behind)
+unfolding cut_in heading_from
+cut_by_heading bytes = cut_by_version (version_from bytes)
+
+pub cuts : (bytes : List ℕ) (begun : Result JournalReader ReadError) → Gives heading_of begun (heading_from bytes)
+    → MatchResult begun (λ r. cut_in bytes ≡ Some (cut_left r)) (λ e. Fails e (cut_in bytes))
+cuts bytes (Ok r) given = cut_by_heading bytes ∙ ap (λ x. x >>= cut_behind) given
+cuts bytes (Err errors.Malformed) given = cut_by_heading bytes ∙ ap (λ x. x >>= cut_behind) given
+cuts bytes (Err errors.Memory) given = tt

@@ -1,10 +1,11 @@
 -- Reading a journal entry by entry.
-use Rattle.std.specs.Prelude.{ℕ, List, [], ◌∷◌, length, ◌==◌, Option, Some, None, option_map, if◌then◌else◌}
+use Rattle.std.specs.Prelude.{◌≡◌, ◌<◌, ℕ, List, [], ◌∷◌, length, ◌==◌, Option, Some, None, option_map, if◌then◌else◌}
 use Rattle.bd_space.specs.declared.step.Entry.{Entry}
 use Rattle.bd_space.specs.declared.record.Record.{Record}
 use Rattle.bd_journal.specs.declared.versions.Version.{Version}
 use Rattle.bd_journal.specs.declared.steps.JournalReader.{JournalReader}
 use Rattle.bd_journal.specs.Reading.{◌>>=◌, entries_from}
+use Rattle.bd_journal.specs.Cut.{behind, whole_from}
 
 -- so many entries: None where the bytes don't spell as many, and nothing else
 abbrev pub all_from : Version → ℕ → ℕ → List ℕ → Option (List Entry)
@@ -26,3 +27,22 @@ record_left r = option_map (record_of r.seats) (entries_left r)
 abbrev pub with_next : Option Entry → Option (List Entry) → Option (List Entry)
 with_next None left = Some []
 with_next (Some e) left = option_map (λ es. e ∷ es) left
+
+-- ---- a journal that was cut off
+
+-- the first entry that is whole in these bytes, and the bytes behind it, which are fewer
+abbrev pub IsFirstWhole : Version → ℕ → List ℕ → Option (Entry × List ℕ) → Type 0
+IsFirstWhole v seats bytes None = whole_from v seats (length bytes) bytes ≡ ([], bytes)
+IsFirstWhole v seats bytes (Some x) = (whole_from v seats (length bytes) bytes ≡ behind (x.0 ∷ []) (whole_from v seats (length x.1) x.1)) × (length x.1 < length bytes)
+
+-- the entries that are whole in what is left, and the bytes behind them
+abbrev pub whole_left : JournalReader → List Entry × List ℕ
+whole_left r = whole_from r.version r.seats (length r.rest.now) r.rest.now
+
+abbrev pub cut_left : JournalReader → Record × List ℕ
+cut_left r = (record_of r.seats (whole_left r).0, (whole_left r).1)
+
+-- what is whole with this entry before what is whole then; without one nothing is
+abbrev pub with_whole : Option Entry → JournalReader → List Entry × List ℕ
+with_whole None r = ([], r.rest.now)
+with_whole (Some e) r = behind (e ∷ []) (whole_left r)

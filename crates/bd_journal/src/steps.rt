@@ -1,15 +1,34 @@
 //! Reading a journal entry by entry.
 
-ghost use Rattle.std.specs.Prelude.{◌≡◌, ◌<◌, IfOk, IfErr, IfSome, MatchResult};
+ghost use Rattle.std.specs.Prelude.{◌≡◌, ◌<◌, length, option_map, Some, IfOk, IfErr, IfSome, MatchResult};
 ghost use Rattle.bd_journal.specs.Reading.{Fails, Gives, heading_from, journal_in};
 ghost use Rattle.bd_journal.specs.Spelling.{IsRecordSeats};
-ghost use Rattle.bd_journal.specs.Steps.{entries_left, record_left, with_next};
+ghost use Rattle.bd_journal.specs.Cut.{cut_in};
+ghost use Rattle.bd_journal.specs.Steps.{IsFirstWhole, cut_left, entries_left, record_left, whole_left, with_next, with_whole};
+ghost use Rattle.bd_journal.specs.declared.fault.ReadError.TheVariants.{Memory};
 
 use crate::fault::ReadError;
 use crate::reading::{count_at, entry_at, seats_at};
 use crate::versions::{Version, version_at};
 use bd_space::Entry;
 use std::alloc::Global;
+
+// The entry that is whole at the front of these bytes, and the bytes behind it. Only memory stops it.
+fn whole_at(
+    alloc: Global,
+    version: Version,
+    seats: u32,
+    bytes: &[u8],
+) -> Result<Option<(Entry, &[u8])>, ReadError>
+    ensures entry { IfOk result (λ x. IsFirstWhole version seats bytes.now (option_map (λ y. (y.0, y.1.now)) x)) }
+    ensures error { IfErr result (λ e. e ≡ Memory) }
+{
+    match entry_at(alloc, version, seats, bytes) {
+        Ok(found) => Ok(Some(found)),
+        Err(ReadError::Malformed) => Ok(None),
+        Err(ReadError::Memory) => Err(ReadError::Memory),
+    }
+}
 
 /// The entries of a journal, read one after the other: whoever keeps none of them holds no more than one, however many there
 /// are.
@@ -49,6 +68,8 @@ impl<'a> JournalReader<'a> {
         ensures reads { MatchResult result (λ r. journal_in bytes.now ≡ record_left r) (λ e. Fails e (journal_in bytes.now)) }
         // It has as many seats as a record may.
         ensures seats { IfOk result (λ r. IsRecordSeats r.seats) }
+        // Of a journal that was cut off it comes to what is whole.
+        ensures cut { MatchResult result (λ r. cut_in bytes.now ≡ Some (cut_left r)) (λ e. Fails e (cut_in bytes.now)) }
     {
         JournalReader::begun(bytes)
     }
@@ -86,6 +107,29 @@ impl<'a> JournalReader<'a> {
         }
         let (entry, rest) = entry_at(alloc, self.version, self.seats, self.rest)?;
         self.left -= 1;
+        self.rest = rest;
+        Ok(Some(entry))
+    }
+    /// How many bytes are still to be read.
+    pub fn bytes_left(&self) -> usize
+        ensures { result ≡ length self.now.rest.now }
+    {
+        self.rest.len()
+    }
+
+    /// The next entry of a journal that was cut off, whose count isn't looked at; None where no whole one stands.
+    ///
+    /// # Errors
+    /// `Memory` where memory was refused.
+    pub fn next_whole(&mut self, alloc: Global) -> Result<Option<Entry>, ReadError>
+        ensures entry { IfOk result (λ e. whole_left self.old ≡ with_whole e self.new) }
+        ensures error { IfErr result (λ e. e ≡ Memory) }
+        ensures seats { self.new.seats ≡ self.old.seats }
+        ensures fewer { IfOk result (λ e. IfSome e (λ _. length self.new.rest.now < length self.old.rest.now)) }
+    {
+        let Some((entry, rest)) = whole_at(alloc, self.version, self.seats, self.rest)? else {
+            return Ok(None);
+        };
         self.rest = rest;
         Ok(Some(entry))
     }
