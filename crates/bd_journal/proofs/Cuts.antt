@@ -15,6 +15,7 @@ use Rattle.bd_journal.specs.Reading.{◌>>=◌, Gives, word_from, entry_from, ve
 use Rattle.bd_journal.specs.Steps.{IsFirstWhole}
 use Rattle.bd_journal.specs.Cut.{behind, whole_with, whole_from, cut_in, IsCutIn, IsCut, Continues}
 use Rattle.bd_journal.proofs.FieldLaws.{bind_some, some_is, Takes, Takes-then, counts}
+use Rattle.bd_journal.proofs.SeatsTold.{seats_in}
 use Rattle.bd_journal.proofs.Laws.{entry_takes, entry_again, magic_takes, magic_again, seats_take, seats_again, seats_small}
 
 -- ---- entries
@@ -194,7 +195,7 @@ pub is_told : (bytes : List ℕ) (r : Record) (left : List ℕ) → IsCut bytes 
 is_told bytes r left is = told is.0 is.1 bytes r left is.2
 
 -- what is read is so
-found_in : (bytes : List ℕ) (x : Record × List ℕ) → IsBytes bytes → cut_in bytes ≡ Some x → IsCut bytes x.0 x.1
+pub found_in : (bytes : List ℕ) (x : Record × List ℕ) → IsBytes bytes → cut_in bytes ≡ Some x → IsCut bytes x.0 x.1
 unfolding cut_in
 found_in bytes x fits e =
     let p = bind_some (version_from bytes) (λ a. seats_from a.0 a.1 >>= λ b. count_from a.0 b.1 >>= λ c. read_behind a.0 b.0 c.1) x e in
@@ -237,11 +238,6 @@ whole_told bytes r is = let fits = is.1 in (
     none_left = no_entry_in_nothing is.0 r.seats;
   },
 )
-
-seats_in : (v : Version) (n : ℕ) → IsSeatsIn v n → IsRecordSeats n
-seats_in One n are = (are.0, omega (arith, are.1))
-seats_in Two n are = (are.0, omega (arith, are.1))
-seats_in Three n are = (omega (arith, are.0), are.1)
 
 -- ---- of what a reader returned
 

@@ -7,13 +7,16 @@ use Rattle.bd_journal.specs.declared.versions.Version.{Version}
 use Rattle.bd_journal.specs.declared.steps.JournalReader.{JournalReader}
 use Rattle.bd_journal.specs.declared.fault.ReadError.{ReadError}
 use Rattle.bd_journal.specs.declared.fault.ReadError.TheVariants as errors
-use Rattle.bd_journal.specs.Spelling.{IsRecordSeats}
+use Rattle.std.proofs.lemmas.Option.{none-some}
+use Rattle.bd_journal.specs.Spelling.{IsRecordSeats, Tells}
 use Rattle.bd_journal.specs.Reading.{◌>>=◌, Fails, Gives, entry_from, entries_from, seats_from, count_from, version_from, record_from, heading_from, journal_in}
-use Rattle.bd_journal.specs.Cut.{cut_in, whole_from}
-use Rattle.bd_journal.specs.Steps.{all_from, cut_left, record_of, record_left, with_next}
+use Rattle.bd_journal.specs.Cut.{IsCut, cut_in, whole_from}
+use Rattle.bd_journal.specs.Steps.{all_from, cut_left, entries_left, record_of, record_left, with_next}
 use Rattle.bd_uapi.specs.Bytes.{IsBytes}
-use Rattle.bd_journal.proofs.FieldLaws.{bind_some, some_is}
-use Rattle.bd_journal.proofs.Laws.{magic_takes, seats_take}
+use Rattle.bd_journal.proofs.FieldLaws.{bind_some, demand_some, some_is}
+use Rattle.bd_journal.proofs.Loop.{so_many}
+use Rattle.bd_journal.proofs.Laws.{is_told, journal_takes, magic_takes, seats_take}
+use Rattle.bd_journal.proofs.Cuts.{found_in, is_told as cut_told}
 use Rattle.bd_journal.proofs.SeatsTold.{seats_in}
 
 -- ---- the heading
@@ -57,11 +60,23 @@ by_heading bytes = by_version (version_from bytes)
 abbrev heading_of : JournalReader → Heading
 heading_of r = (r.version, r.seats, r.left, r.rest.now)
 
-pub reads : (bytes : List ℕ) (begun : Result JournalReader ReadError) → Gives heading_of begun (heading_from bytes)
-    → MatchResult begun (λ r. journal_in bytes ≡ record_left r) (λ e. Fails e (journal_in bytes))
-reads bytes (Ok r) given = by_heading bytes ∙ ap (λ x. x >>= record_behind) given
-reads bytes (Err errors.Malformed) given = by_heading bytes ∙ ap (λ x. x >>= record_behind) given
-reads bytes (Err errors.Memory) given = tt
+reads : (bytes : List ℕ) (r : JournalReader) → heading_from bytes ≡ Some (heading_of r) → journal_in bytes ≡ record_left r
+reads bytes r given = by_heading bytes ∙ ap (λ x. x >>= record_behind) given
+
+-- where there is no heading there is no journal
+none_reads : (bytes : List ℕ) → heading_from bytes ≡ None → journal_in bytes ≡ None
+none_reads bytes given = by_heading bytes ∙ ap (λ x. x >>= record_behind) given
+
+pub found : (bytes : List ℕ) (begun : Result JournalReader ReadError) → IsBytes bytes → Gives heading_of begun (heading_from bytes)
+    → IfOk begun (λ r. (x : Record) → record_left r ≡ Some x → Tells bytes x)
+found bytes (Ok r) fits given = λ x is. journal_takes bytes x fits (reads bytes r given ∙ is)
+found bytes (Err e) fits given = tt
+
+pub only : (bytes : List ℕ) (begun : Result JournalReader ReadError) → Gives heading_of begun (heading_from bytes)
+    → (x : Record) → Tells bytes x → MatchResult begun (λ r. record_left r ≡ Some x) (λ e. e ≡ errors.Memory)
+only bytes (Ok r) given x told = sym (reads bytes r given) ∙ is_told bytes x told
+only bytes (Err errors.Malformed) given x told = absurd (none-some x (sym (none_reads bytes given) ∙ is_told bytes x told))
+only bytes (Err errors.Memory) given x told = refl
 
 seats_of : (bytes : List ℕ) (x : Heading) → IsBytes bytes → heading_from bytes ≡ Some x → IsRecordSeats x.1
 unfolding heading_from
@@ -139,8 +154,27 @@ cut_by_heading : (bytes : List ℕ) → cut_in bytes ≡ (heading_from bytes >>=
 unfolding cut_in heading_from
 cut_by_heading bytes = cut_by_version (version_from bytes)
 
-pub cuts : (bytes : List ℕ) (begun : Result JournalReader ReadError) → Gives heading_of begun (heading_from bytes)
-    → MatchResult begun (λ r. cut_in bytes ≡ Some (cut_left r)) (λ e. Fails e (cut_in bytes))
-cuts bytes (Ok r) given = cut_by_heading bytes ∙ ap (λ x. x >>= cut_behind) given
-cuts bytes (Err errors.Malformed) given = cut_by_heading bytes ∙ ap (λ x. x >>= cut_behind) given
-cuts bytes (Err errors.Memory) given = tt
+cuts : (bytes : List ℕ) (r : JournalReader) → heading_from bytes ≡ Some (heading_of r) → cut_in bytes ≡ Some (cut_left r)
+cuts bytes r given = cut_by_heading bytes ∙ ap (λ x. x >>= cut_behind) given
+
+none_cut : (bytes : List ℕ) → heading_from bytes ≡ None → cut_in bytes ≡ None
+none_cut bytes given = cut_by_heading bytes ∙ ap (λ x. x >>= cut_behind) given
+
+pub cut_found : (bytes : List ℕ) (begun : Result JournalReader ReadError) → IsBytes bytes → Gives heading_of begun (heading_from bytes)
+    → IfOk begun (λ r. IsCut bytes (cut_left r).0 (cut_left r).1)
+cut_found bytes (Ok r) fits given = found_in bytes (cut_left r) fits (cuts bytes r given)
+cut_found bytes (Err e) fits given = tt
+
+pub only_cut : (bytes : List ℕ) (begun : Result JournalReader ReadError) → Gives heading_of begun (heading_from bytes)
+    → (x : Record) (left : List ℕ) → IsCut bytes x left → MatchResult begun (λ r. cut_left r ≡ (x, left)) (λ e. e ≡ errors.Memory)
+only_cut bytes (Ok r) given x left is = some_is (cut_left r) (x, left) (sym (cuts bytes r given) ∙ cut_told bytes x left is)
+only_cut bytes (Err errors.Malformed) given x left is = absurd (none-some (x, left) (sym (none_cut bytes given) ∙ cut_told bytes x left is))
+only_cut bytes (Err errors.Memory) given x left is = refl
+
+-- ---- how many
+
+pub so_many_left : (r : JournalReader) (es : List Entry) → entries_left r ≡ Some es → r.left ≡ length es
+so_many_left r es left =
+    let p = bind_some (entries_from r.version r.seats r.left r.rest.now) (λ x. if length x.1 == 0 then Some x.0 else None) es left in
+    let d = demand_some (length p.0.1 == 0) (Some p.0.0) es p.2 in
+    sym (so_many r.version r.seats r.left r.rest.now p.0 p.1) ∙ ap length (some_is p.0.0 es d.1)

@@ -1,9 +1,10 @@
 //! Reading a journal entry by entry.
 
-ghost use Rattle.std.specs.Prelude.{◌≡◌, ◌<◌, length, option_map, Some, IfOk, IfErr, IfSome, MatchResult};
-ghost use Rattle.bd_journal.specs.Reading.{Fails, Gives, heading_from, journal_in};
-ghost use Rattle.bd_journal.specs.Spelling.{IsRecordSeats};
-ghost use Rattle.bd_journal.specs.Cut.{cut_in};
+ghost use Rattle.std.specs.Prelude.{◌≡◌, ◌<◌, List, ℕ, length, option_map, Some, IfOk, IfErr, IfSome, MatchResult};
+ghost use Rattle.bd_space.specs.declared.{record.Record.{Record}, step.Entry.{Entry}};
+ghost use Rattle.bd_journal.specs.Reading.{Fails, Gives, heading_from};
+ghost use Rattle.bd_journal.specs.Spelling.{IsRecordSeats, Tells};
+ghost use Rattle.bd_journal.specs.Cut.{IsCut};
 ghost use Rattle.bd_journal.specs.Steps.{IsFirstWhole, cut_left, entries_left, record_left, whole_left, with_next, with_whole};
 ghost use Rattle.bd_journal.specs.declared.fault.ReadError.TheVariants.{Memory};
 
@@ -64,12 +65,16 @@ impl<'a> JournalReader<'a> {
     /// # Errors
     /// `Malformed` where they don't begin with one.
     pub fn new(bytes: &'a [u8]) -> Result<JournalReader<'a>, ReadError>
-        // What it comes to is what the journal spells.
-        ensures reads { MatchResult result (λ r. journal_in bytes.now ≡ record_left r) (λ e. Fails e (journal_in bytes.now)) }
+        // What it comes to is spelled so, each byte of it.
+        ensures found { IfOk result (λ r. (x : Record) → record_left r ≡ Some x → Tells bytes.now x) }
+        // What is spelled so is what it comes to, unless memory runs out.
+        ensures only { (x : Record) → Tells bytes.now x → MatchResult result (λ r. record_left r ≡ Some x) (λ e. e ≡ Memory) }
         // It has as many seats as a record may.
         ensures seats { IfOk result (λ r. IsRecordSeats r.seats) }
-        // Of a journal that was cut off it comes to what is whole.
-        ensures cut { MatchResult result (λ r. cut_in bytes.now ≡ Some (cut_left r)) (λ e. Fails e (cut_in bytes.now)) }
+        // Of a journal that was cut off it comes to what is whole,
+        ensures cut { IfOk result (λ r. IsCut bytes.now (cut_left r).0 (cut_left r).1) }
+        // and to nothing else.
+        ensures only_cut { (x : Record) (left : List ℕ) → IsCut bytes.now x left → MatchResult result (λ r. cut_left r ≡ (x, left)) (λ e. e ≡ Memory) }
     {
         JournalReader::begun(bytes)
     }
@@ -82,8 +87,10 @@ impl<'a> JournalReader<'a> {
     }
 
     /// How many entries are still to come, as the heading says.
+    #[tactic(auto, using(crate::proofs::Stepping::so_many_left))]
     pub fn left(&self) -> u64
-        ensures { result ≡ self.now.left }
+        ensures left { result ≡ self.now.left }
+        ensures counted { (es : List Entry) → entries_left self.now ≡ Some es → result ≡ length es }
     {
         self.left
     }
