@@ -7,6 +7,16 @@ use Rattle.bd_journal.specs.declared.steps.JournalReader.{JournalReader}
 use Rattle.bd_journal.specs.Reading.{◌>>=◌, entries_from}
 use Rattle.bd_journal.specs.Cut.{behind, whole_from}
 
+-- how many seats the record has, how many entries are still to be read, and from which bytes
+abbrev pub seats_of : JournalReader → ℕ
+seats_of r = r.seats
+
+abbrev pub count_left : JournalReader → ℕ
+count_left r = r.left
+
+abbrev pub bytes_left : JournalReader → List ℕ
+bytes_left r = r.rest.now
+
 -- so many entries: None where the bytes don't spell as many, and nothing else
 abbrev pub all_from : Version → ℕ → ℕ → List ℕ → Option (List Entry)
 all_from v seats count bytes = entries_from v seats count bytes >>= λ x. if length x.1 == 0 then Some x.0 else None

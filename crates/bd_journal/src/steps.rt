@@ -5,7 +5,7 @@ ghost use Rattle.bd_space.specs.declared.{record.Record.{Record}, step.Entry.{En
 ghost use Rattle.bd_journal.specs.Reading.{Fails, Gives, heading_from};
 ghost use Rattle.bd_journal.specs.Spelling.{IsRecordSeats, Tells};
 ghost use Rattle.bd_journal.specs.Cut.{IsCut};
-ghost use Rattle.bd_journal.specs.Steps.{IsFirstWhole, cut_left, entries_left, record_left, whole_left, with_next, with_whole};
+ghost use Rattle.bd_journal.specs.Steps.{IsFirstWhole, bytes_left, count_left, cut_left, entries_left, record_left, seats_of, whole_left, with_next, with_whole};
 ghost use Rattle.bd_journal.specs.declared.fault.ReadError.TheVariants.{Memory};
 
 use crate::fault::ReadError;
@@ -70,7 +70,7 @@ impl<'a> JournalReader<'a> {
         // What is spelled so is what it comes to, unless memory runs out.
         ensures only { (x : Record) → Tells bytes.now x → MatchResult result (λ r. record_left r ≡ Some x) (λ e. e ≡ Memory) }
         // It has as many seats as a record may.
-        ensures seats { IfOk result (λ r. IsRecordSeats r.seats) }
+        ensures seats { IfOk result (λ r. IsRecordSeats (seats_of r)) }
         // Of a journal that was cut off it comes to what is whole,
         ensures cut { IfOk result (λ r. IsCut bytes.now (cut_left r).0 (cut_left r).1) }
         // and to nothing else.
@@ -81,7 +81,7 @@ impl<'a> JournalReader<'a> {
 
     /// How many seats the record has.
     pub fn seats(&self) -> u32
-        ensures { result ≡ self.now.seats }
+        ensures { result ≡ seats_of self.now }
     {
         self.seats
     }
@@ -89,7 +89,7 @@ impl<'a> JournalReader<'a> {
     /// How many entries are still to come, as the heading says.
     #[tactic(auto, using(crate::proofs::Stepping::so_many_left))]
     pub fn left(&self) -> u64
-        ensures left { result ≡ self.now.left }
+        ensures left { result ≡ count_left self.now }
         ensures counted { (es : List Entry) → entries_left self.now ≡ Some es → result ≡ length es }
     {
         self.left
@@ -103,8 +103,8 @@ impl<'a> JournalReader<'a> {
     pub fn next(&mut self, alloc: Global) -> Result<Option<Entry>, ReadError>
         ensures entry { IfOk result (λ e. entries_left self.old ≡ with_next e (entries_left self.new)) }
         ensures error { IfErr result (λ e. Fails e (entries_left self.old)) }
-        ensures seats { self.new.seats ≡ self.old.seats }
-        ensures fewer { IfOk result (λ e. IfSome e (λ _. self.new.left < self.old.left)) }
+        ensures seats { seats_of self.new ≡ seats_of self.old }
+        ensures fewer { IfOk result (λ e. IfSome e (λ _. count_left self.new < count_left self.old)) }
     {
         if self.left == 0 {
             if !self.rest.is_empty() {
@@ -119,7 +119,7 @@ impl<'a> JournalReader<'a> {
     }
     /// How many bytes are still to be read.
     pub fn bytes_left(&self) -> usize
-        ensures { result ≡ length self.now.rest.now }
+        ensures { result ≡ length (bytes_left self.now) }
     {
         self.rest.len()
     }
@@ -131,8 +131,8 @@ impl<'a> JournalReader<'a> {
     pub fn next_whole(&mut self, alloc: Global) -> Result<Option<Entry>, ReadError>
         ensures entry { IfOk result (λ e. whole_left self.old ≡ with_whole e self.new) }
         ensures error { IfErr result (λ e. e ≡ Memory) }
-        ensures seats { self.new.seats ≡ self.old.seats }
-        ensures fewer { IfOk result (λ e. IfSome e (λ _. length self.new.rest.now < length self.old.rest.now)) }
+        ensures seats { seats_of self.new ≡ seats_of self.old }
+        ensures fewer { IfOk result (λ e. IfSome e (λ _. length (bytes_left self.new) < length (bytes_left self.old))) }
     {
         let Some((entry, rest)) = whole_at(alloc, self.version, self.seats, self.rest)? else {
             return Ok(None);
