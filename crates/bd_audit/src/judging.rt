@@ -88,10 +88,10 @@ pub(crate) fn take(live: &mut Live, entry: &Entry) -> Result<(), AuditFault>
     }
 }
 
-/// Is told how far a replay is.
+/// Is told how far a judgment is.
 pub trait Watch {
-    /// So many of the record's entries are a history's.
-    fn follow(&mut self, entries: usize, all: usize);
+    /// So much of all is done: entries, or bytes where nobody knows how many entries are to come.
+    fn follow(&mut self, done: usize, all: usize);
 }
 
 /// Wants to know nothing.
@@ -99,7 +99,7 @@ pub trait Watch {
 pub struct Unwatched;
 
 impl Watch for Unwatched {
-    fn follow(&mut self, _entries: usize, _all: usize) {}
+    fn follow(&mut self, _done: usize, _all: usize) {}
 }
 
 /// Judges a record: Ok where it is a history and nowhere else; `Unlawful` tells up to which entry it is one. An entry for

@@ -47,7 +47,7 @@ fn show_all<P: Watch>(
     ensures fault { IfErr result (λ f. f ≡ Journal → entries_left reader.old ≡ None) }
 {
     let all = reader.left();
-    loop {
+    'entries: loop {
         match reader.next(alloc) {
             Ok(Some(entry)) => {
                 if judge.see(&entry).is_err() {
@@ -86,10 +86,10 @@ pub fn verdict_watched<P: Watch>(
         Err(fault) => return Err(fault),
     };
     match show_all(alloc, &mut reader, &mut judge, watch) {
-        Ok(()) => Ok(match judge.stopped() {
-            None => Verdict::Lawful { entries },
-            Some(at) => Verdict::Unlawful { at },
-        }),
+        Ok(()) => match judge.stopped() {
+            None => Ok(Verdict::Lawful { entries }),
+            Some(at) => Ok(Verdict::Unlawful { at }),
+        },
         Err(fault) => Err(fault),
     }
 }
@@ -106,7 +106,7 @@ fn show_whole<P: Watch>(
 {
     let all = reader.bytes_left();
     let mut entries = 0;
-    loop {
+    'entries: loop {
         match reader.next_whole(alloc) {
             Ok(Some(entry)) => {
                 if judge.see(&entry).is_err() {
@@ -143,13 +143,10 @@ pub fn cut_verdict<P: Watch>(
         Err(fault) => return Err(fault),
     };
     match show_whole(alloc, &mut reader, &mut judge, watch) {
-        Ok((entries, left)) => {
-            let verdict = match judge.stopped() {
-                None => Verdict::Lawful { entries },
-                Some(at) => Verdict::Unlawful { at },
-            };
-            Ok((verdict, left))
-        }
+        Ok((entries, left)) => match judge.stopped() {
+            None => Ok((Verdict::Lawful { entries }, left)),
+            Some(at) => Ok((Verdict::Unlawful { at }, left)),
+        },
         Err(fault) => Err(fault),
     }
 }
