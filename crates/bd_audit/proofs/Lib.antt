@@ -1,4 +1,5 @@
 pub mod Beginnings
+pub mod Judged
 pub mod ReplyCalls
 pub mod CallsOfReadings
 pub mod Seated

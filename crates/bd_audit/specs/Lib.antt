@@ -1,4 +1,5 @@
 pub mod Replays
+pub mod Judging
 pub mod Laws
 pub mod TurnSearch
 pub mod TurnCalls

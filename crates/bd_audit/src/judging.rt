@@ -62,7 +62,7 @@ pub(crate) fn accept(engine: &mut WideEngine, entry: &Entry) -> Result<(), Audit
 }
 
 // Makes the entry's step after whatever history is followed, if its answer is then the entry's.
-fn take(live: &mut Live, entry: &Entry) -> Result<(), AuditFault>
+pub(crate) fn take(live: &mut Live, entry: &Entry) -> Result<(), AuditFault>
     ensures ok { IfOk result (λ _. (h : History) → Follows live.old h → Follows live.new (with_entry h entry.now)) }
     ensures unlawful { IfErr result (λ f. (h : History) → Follows live.old h → IfUnlawful f (λ at.
         (at ≡ length h.entries) × (IsHistory (with_entry h entry.now) → ⊥))) }
@@ -88,10 +88,10 @@ fn take(live: &mut Live, entry: &Entry) -> Result<(), AuditFault>
     }
 }
 
-/// Is told how far a replay is.
+/// Is told how far a judgment is.
 pub trait Watch {
-    /// So many of the record's entries are a history's.
-    fn follow(&mut self, entries: usize, all: usize);
+    /// So much of all is done: entries, or bytes where nobody knows how many entries are to come.
+    fn follow(&mut self, done: usize, all: usize);
 }
 
 /// Wants to know nothing.
@@ -99,7 +99,7 @@ pub trait Watch {
 pub struct Unwatched;
 
 impl Watch for Unwatched {
-    fn follow(&mut self, _entries: usize, _all: usize) {}
+    fn follow(&mut self, _done: usize, _all: usize) {}
 }
 
 /// Judges a record: Ok where it is a history and nowhere else; `Unlawful` tells up to which entry it is one. An entry for

@@ -4,6 +4,7 @@
 mod answers;
 mod gifts;
 mod given;
+mod judge;
 mod judging;
 mod laws;
 mod playing;
@@ -12,6 +13,7 @@ mod turns;
 
 pub use gifts::gift_chain;
 pub use given::{Given, given_at};
+pub use judge::Judge;
 pub use judging::{AuditFault, Unwatched, Watch, replay, replay_watched};
 pub use laws::{
     calls_end_latest_first, frames_lie_on_one_path, gone_unheld, names_have_gift_chains,

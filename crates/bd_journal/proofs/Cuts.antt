@@ -12,8 +12,10 @@ use Rattle.bd_journal.specs.declared.versions.Version.{Version}
 use Rattle.bd_journal.specs.declared.versions.Version.TheVariants.{One, Two, Three}
 use Rattle.bd_journal.specs.Spelling.{magic, block, step_bytes, answer_bytes, entry_bytes, heading_in, count_bytes, count_limit, IsRecordSeats, IsSeatsIn, IsEntryIn, Tells}
 use Rattle.bd_journal.specs.Reading.{◌>>=◌, Gives, word_from, entry_from, version_from, seats_from, count_from}
+use Rattle.bd_journal.specs.Steps.{IsFirstWhole}
 use Rattle.bd_journal.specs.Cut.{behind, whole_with, whole_from, cut_in, IsCutIn, IsCut, Continues}
 use Rattle.bd_journal.proofs.FieldLaws.{bind_some, some_is, Takes, Takes-then, counts}
+use Rattle.bd_journal.proofs.SeatsTold.{seats_in}
 use Rattle.bd_journal.proofs.Laws.{entry_takes, entry_again, magic_takes, magic_again, seats_take, seats_again, seats_small}
 
 -- ---- entries
@@ -107,6 +109,39 @@ no_entry_in_nothing : (v : Version) (seats : ℕ) → entry_from v seats [] ≡ 
 unfolding entry_from word_from
 no_entry_in_nothing v seats = refl
 
+-- as much is read with any room that there is for all of the bytes
+enough : (v : Version) (seats n m : ℕ) (bytes : List ℕ) → IsBytes bytes → length bytes ≤ n → length bytes ≤ m → whole_from v seats n bytes ≡ whole_from v seats m bytes
+unfolding whole_from
+enough v seats zero m [] fits few_n few_m = sym (nothing_more v seats m [] (no_entry_in_nothing v seats))
+enough v seats zero m (b ∷ bs) fits few_n few_m = absurd (omega (arith, few_n))
+enough v seats (suc n) zero [] fits few_n few_m = nothing_more v seats (suc n) [] (no_entry_in_nothing v seats)
+enough v seats (suc n) zero (b ∷ bs) fits few_n few_m = absurd (omega (arith, few_m))
+enough v seats (suc n) (suc m) bytes fits few_n few_m = at (enough v seats n m) (entry_from v seats bytes) refl
+  where
+    at : ((rest : List ℕ) → IsBytes rest → length rest ≤ n → length rest ≤ m → whole_from v seats n rest ≡ whole_from v seats m rest) → (o : Option (Entry × List ℕ))
+        → entry_from v seats bytes ≡ o → whole_with (whole_from v seats n) bytes o ≡ whole_with (whole_from v seats m) bytes o
+    at go None e = refl
+    at go (Some x) e =
+        let t = entry_takes v seats bytes x fits e in
+        let fewer : length x.1 < length bytes = omega (arith, ap length t.0.parts, entry_has_bytes x.0 x.1) in
+        ap (behind (x.0 ∷ [])) (go x.1 t.0.rest_fits (omega (arith, few_n, fewer)) (omega (arith, few_m, fewer)))
+
+-- one entry, and what is whole behind it
+one_whole : (v : Version) (seats : ℕ) (bytes : List ℕ) (x : Entry × List ℕ) → IsBytes bytes → entry_from v seats bytes ≡ Some x → IsFirstWhole v seats bytes (Some x)
+unfolding whole_from
+one_whole v seats bytes x fits read =
+    let t = entry_takes v seats bytes x fits read in
+    let fewer : length x.1 < length bytes = omega (arith, ap length t.0.parts, entry_has_bytes x.0 x.1) in
+    let k : length bytes ≡ suc (length bytes - 1) = omega (arith, fewer) in
+    let first : whole_from v seats (suc (length bytes - 1)) bytes ≡ behind (x.0 ∷ []) (whole_from v seats (length bytes - 1) x.1) = rw read refl in
+    let behind_it = enough v seats (length bytes - 1) (length x.1) x.1 t.0.rest_fits (omega (arith, fewer)) (omega arith) in
+    (ap (λ (n : ℕ). whole_from v seats n bytes) k ∙ first ∙ ap (behind (x.0 ∷ [])) behind_it, fewer)
+
+-- what is found to begin there, or not
+pub first_whole : (v : Version) (seats : ℕ) (bytes : List ℕ) (o : Option (Entry × List ℕ)) → IsBytes bytes → entry_from v seats bytes ≡ o → IsFirstWhole v seats bytes o
+first_whole v seats bytes None fits read = nothing_more v seats (length bytes) bytes read
+first_whole v seats bytes (Some x) fits read = one_whole v seats bytes x fits read
+
 -- ---- the record
 
 -- what is read behind a heading
@@ -160,7 +195,7 @@ pub is_told : (bytes : List ℕ) (r : Record) (left : List ℕ) → IsCut bytes 
 is_told bytes r left is = told is.0 is.1 bytes r left is.2
 
 -- what is read is so
-found_in : (bytes : List ℕ) (x : Record × List ℕ) → IsBytes bytes → cut_in bytes ≡ Some x → IsCut bytes x.0 x.1
+pub found_in : (bytes : List ℕ) (x : Record × List ℕ) → IsBytes bytes → cut_in bytes ≡ Some x → IsCut bytes x.0 x.1
 unfolding cut_in
 found_in bytes x fits e =
     let p = bind_some (version_from bytes) (λ a. seats_from a.0 a.1 >>= λ b. count_from a.0 b.1 >>= λ c. read_behind a.0 b.0 c.1) x e in
@@ -203,11 +238,6 @@ whole_told bytes r is = let fits = is.1 in (
     none_left = no_entry_in_nothing is.0 r.seats;
   },
 )
-
-seats_in : (v : Version) (n : ℕ) → IsSeatsIn v n → IsRecordSeats n
-seats_in One n are = (are.0, omega (arith, are.1))
-seats_in Two n are = (are.0, omega (arith, are.1))
-seats_in Three n are = (omega (arith, are.0), are.1)
 
 -- ---- of what a reader returned
 

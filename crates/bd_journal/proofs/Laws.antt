@@ -411,7 +411,7 @@ record_takes v bytes behind r begun e =
     let made : IsJournalIn v found × (bytes ≡ spelling_in v found) = (record { seats = s.1; count = omega (arith, t1.1, t2.1); entries = t2.2 }, all) in
     subst (λ (y : Record). IsJournalIn v y × (bytes ≡ spelling_in v y)) (some_is found r d.1) made
 
-journal_takes : (bytes : List ℕ) (r : Record) → IsBytes bytes → journal_in bytes ≡ Some r → Tells bytes r
+pub journal_takes : (bytes : List ℕ) (r : Record) → IsBytes bytes → journal_in bytes ≡ Some r → Tells bytes r
 unfolding journal_in
 journal_takes bytes r fits e =
     let p = bind_some (version_from bytes) (λ x. record_from x.0 x.1) r e in

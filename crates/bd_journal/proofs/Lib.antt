@@ -7,3 +7,4 @@ pub mod Laws
 pub mod SeatsTold
 pub mod Whole
 pub mod Cuts
+pub mod Stepping

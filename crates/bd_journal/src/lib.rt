@@ -7,6 +7,7 @@ mod fault;
 mod fields;
 mod reading;
 mod sending;
+mod steps;
 mod versions;
 mod writing;
 
@@ -14,5 +15,6 @@ pub use codes::{cause_number, fault_number, note_number};
 pub use cut::read_cut;
 pub use fault::{ReadError, WriteError};
 pub use reading::read_journal;
+pub use steps::JournalReader;
 pub use versions::{Version, behind_magic};
 pub use writing::{COUNT_AT, write_entry, write_heading, write_journal};

@@ -3,7 +3,7 @@
 use crate::draft::draft_for;
 use crate::files::is_kept_apart;
 use crate::progress::Progress;
-use crate::sources::{ENTRIES, Source, opened};
+use crate::sources::{BYTES, Source, opened};
 use bd_audit::Unwatched;
 use bd_player::{Fault, Whole, check_cut, print_whole, tell, whole_from};
 use std::io::{Eprint, Write};
@@ -31,7 +31,7 @@ pub fn check_cut_file<H: AllocGlobal + Files + Input + Clock + Eprint, W: Write,
         Err(fault) => return tell(fault, err),
     };
     if source.progress {
-        let mut watch = Progress::new(rt, ENTRIES);
+        let mut watch = Progress::new(rt, BYTES);
         check_cut(rt.alloc(), &mut journal, &mut watch, out, err)
     } else {
         check_cut(rt.alloc(), &mut journal, &mut Unwatched, out, err)

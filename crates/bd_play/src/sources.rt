@@ -16,6 +16,7 @@ pub const INPUT: &str = "-";
 
 /// What is counted of a journal.
 pub const ENTRIES: &str = "entries";
+pub const BYTES: &str = "bytes";
 
 /// A reader of what is in the file of this name, or of standard input.
 pub fn opened<H: Files + Input>(rt: &H, file: &str) -> Result<Either<H::Reader, H::File>, Fault> {

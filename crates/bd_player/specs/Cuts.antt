@@ -3,7 +3,8 @@ use Rattle.std.specs.Prelude.{◌≡◌, ℕ, List, length, Option, IfSome}
 use Rattle.bd_space.specs.declared.record.Record.{Record}
 use Rattle.bd_space.specs.Histories.{IsHistory, history_in}
 use Rattle.bd_journal.specs.Cut.{IsCut}
-use Rattle.bd_player.specs.declared.cuts.Whole.{Whole}
+use Rattle.bd_player.specs.Verdicts.{Holds}
+use Rattle.bd_player.specs.declared.{cuts.Whole.{Whole}, verdicts.Verdict.{Verdict}}
 
 -- the entries are those that are whole in the bytes, and so many bytes are left
 abbrev pub IsWhole : List ℕ → Whole → Type 0
@@ -12,3 +13,7 @@ IsWhole bytes w = (left : List ℕ) × IsCut bytes w.record left × (w.left ≡ 
 -- with the status 0 the entries that are whole in the bytes, where they are known, are a history
 abbrev pub IsLawfulCutAt0 : Option (List ℕ) → ℕ → Type 0
 IsLawfulCutAt0 known status = status ≡ 0 → IfSome known (λ bytes. (r : Record) × (left : List ℕ) × IsCut bytes r left × IsHistory (history_in r))
+
+-- the verdict holds of the entries that are whole in the bytes, and so many bytes are left
+abbrev pub IsCutVerdict : List ℕ → Verdict → ℕ → Type 0
+IsCutVerdict bytes v so_many = (r : Record) × (left : List ℕ) × IsCut bytes r left × Holds r v × (so_many ≡ length left)

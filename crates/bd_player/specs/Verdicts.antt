@@ -32,6 +32,10 @@ JudgesKnown known j = IfSome known (λ bytes. Judges bytes j)
 abbrev pub IsVerdict : List ℕ → Verdict → Type 0
 IsVerdict bytes v = (r : Record) × Tells bytes r × Holds r v
 
+-- so it does where the bytes are known
+abbrev pub IsKnownVerdict : Option (List ℕ) → Verdict → Type 0
+IsKnownVerdict known v = IfSome known (λ bytes. IsVerdict bytes v)
+
 -- with the status 0 the bytes, where they are known, spell a history
 abbrev pub IsLawfulAt0 : Option (List ℕ) → ℕ → Type 0
 IsLawfulAt0 known status = status ≡ 0 → IfSome known (λ bytes. (r : Record) × Tells bytes r × IsHistory (history_in r))

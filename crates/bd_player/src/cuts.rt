@@ -2,11 +2,12 @@
 
 ghost use Rattle.std.specs.Prelude.{◌≤◌, IfOk, IfSome};
 ghost use Rattle.bd_engine.specs.Refusals.{IsLiveSeats};
-ghost use Rattle.bd_player.specs.Cuts.{IsLawfulCutAt0, IsWhole};
+ghost use Rattle.bd_player.specs.Cuts.{IsCutVerdict, IsLawfulCutAt0, IsWhole};
 
 use crate::faults::{DONE, Fault, after_writing, tell};
 use crate::journals::{journal_from, print_unlawful};
-use crate::verdicts::{Judged, judge};
+use crate::judging::cut_verdict;
+use crate::verdicts::Verdict;
 use bd_audit::Watch;
 use bd_journal::{ReadError, read_cut};
 use bd_space::Record;
@@ -64,8 +65,23 @@ pub fn print_whole<W: Write, E: Write>(
     after_writing(written, DONE)
 }
 
+// What is said of what is whole of the journal that the reader has, and how many bytes are left.
+#[tactic(auto, using(crate::proofs::Kept::cut_known))]
+fn cut_verdict_from<R: Read, P: Watch>(
+    alloc: Global,
+    journal: &mut R,
+    watch: &mut P,
+) -> Result<(Verdict, usize), Fault>
+    ensures { IfOk result (λ x. IfSome (R.remaining journal.old) (λ bytes. IsCutVerdict bytes x.0 x.1)) }
+{
+    match journal_from(alloc, journal) {
+        Ok(bytes) => cut_verdict(alloc, &bytes, watch),
+        Err(fault) => Err(fault),
+    }
+}
+
 /// Judges what is whole of a journal: whether its entries are a history, or else the first that doesn't follow from those
-/// before. It tells how far it is.
+/// before. It tells how far it is, in bytes.
 #[tactic(auto, using(crate::proofs::Kept::cut_judged, crate::proofs::Kept::cut_not_judged))]
 pub fn check_cut<R: Read, P: Watch, W: Write, E: Write>(
     alloc: Global,
@@ -77,15 +93,9 @@ pub fn check_cut<R: Read, P: Watch, W: Write, E: Write>(
     // The status is 0 only where the entries that are whole are a history.
     ensures { IsLawfulCutAt0 (R.remaining journal.old) result }
 {
-    let Whole { record, left } = match whole_from(alloc, journal) {
-        Ok(whole) => whole,
-        Err(fault) => return tell(fault, err),
-    };
-    match judge(alloc, record, watch) {
-        Ok(Judged::History(found)) => {
-            print_whole("lawful", found.entries.as_slice().len(), left, out, err)
-        }
-        Ok(Judged::Unlawful { at, .. }) => print_unlawful(at, out),
+    match cut_verdict_from(alloc, journal, watch) {
+        Ok((Verdict::Lawful { entries }, left)) => print_whole("lawful", entries, left, out, err),
+        Ok((Verdict::Unlawful { at }, _)) => print_unlawful(at, out),
         Err(fault) => tell(fault, err),
     }
 }

@@ -1,11 +1,12 @@
 //! Writing and judging journals.
 
 ghost use Rattle.std.specs.Prelude.{◌≡◌, ◌≤◌, IfOk, IfSome};
-ghost use Rattle.bd_player.specs.{Journals.{Wrote}, Verdicts.{IsAsSaid, IsLawfulAt0, JudgesKnown}};
+ghost use Rattle.bd_player.specs.{Journals.{Wrote}, Verdicts.{IsAsSaid, IsKnownVerdict, IsLawfulAt0, JudgesKnown}};
 
 use crate::faults::{DONE, FAULT, Fault, after_writing, tell};
+use crate::judging::verdict_watched;
 use crate::playing::read_on;
-use crate::verdicts::{Judged, judgment_on};
+use crate::verdicts::{Judged, Verdict, judgment_on};
 use bd_audit::{Unwatched, Watch};
 use bd_journal::behind_magic;
 use bd_space::Record;
@@ -99,6 +100,21 @@ pub fn check_journal<R: Read, W: Write, E: Write>(
     check_watched(alloc, journal, &mut Unwatched, out, err)
 }
 
+// What is said of the journal that the reader has.
+#[tactic(auto, using(crate::proofs::Kept::verdict_known))]
+fn verdict_from<R: Read, P: Watch>(
+    alloc: Global,
+    journal: &mut R,
+    watch: &mut P,
+) -> Result<Verdict, Fault>
+    ensures { IfOk result (IsKnownVerdict (R.remaining journal.old)) }
+{
+    match journal_from(alloc, journal) {
+        Ok(bytes) => verdict_watched(alloc, &bytes, watch),
+        Err(fault) => Err(fault),
+    }
+}
+
 /// The same, and tells how far it is.
 #[tactic(auto, using(crate::proofs::Kept::judged, crate::proofs::Kept::not_judged))]
 pub fn check_watched<R: Read, P: Watch, W: Write, E: Write>(
@@ -110,9 +126,9 @@ pub fn check_watched<R: Read, P: Watch, W: Write, E: Write>(
 ) -> u8
     ensures { IsLawfulAt0 (R.remaining journal.old) result }
 {
-    match judged_watched(alloc, journal, watch) {
-        Ok(Judged::History(found)) => print_lawful(found.entries.as_slice().len(), out),
-        Ok(Judged::Unlawful { at, .. }) => print_unlawful(at, out),
+    match verdict_from(alloc, journal, watch) {
+        Ok(Verdict::Lawful { entries }) => print_lawful(entries, out),
+        Ok(Verdict::Unlawful { at }) => print_unlawful(at, out),
         Err(fault) => tell(fault, err),
     }
 }

@@ -9,6 +9,7 @@ mod cuts;
 mod entries;
 mod faults;
 mod journals;
+mod judging;
 mod manner;
 mod names;
 mod pids;
@@ -31,6 +32,7 @@ pub use journals::{
     check_journal, check_watched, judged_from, judged_watched, print_lawful, print_unlawful,
     write_journal,
 };
+pub use judging::{cut_verdict, verdict_watched};
 pub use manner::{Manner, play_from};
 pub use playing::{Played, laid, play, play_into, play_lines};
 pub use printing::{Printer, print};

@@ -8,6 +8,7 @@ ghost use Rattle.bd_journal.specs.Spelling.{Tells};
 ghost use Rattle.bd_player.specs.{Verdicts.{IsVerdict, IsJudged, Judges}, declared.faults.Fault.TheVariants.{Journal}};
 
 use crate::faults::Fault;
+use crate::judging::verdict_watched;
 use bd_audit::{AuditFault, Unwatched, Watch, replay_watched};
 use bd_journal::{ReadError, read_journal};
 use bd_space::Record;
@@ -77,7 +78,7 @@ pub(crate) fn judgment_on<P: Watch>(
 }
 
 /// Judges the bytes of a journal: whether its entries are a history, or else the first that doesn't follow from those
-/// before.
+/// before. No entry is kept.
 ///
 /// # Errors
 /// `Journal` where no record is spelled so, `Memory` where memory was refused.
@@ -87,11 +88,5 @@ pub fn verdict_on(alloc: Global, bytes: &[u8]) -> Result<Verdict, Fault>
     // No journal is called unreadable.
     ensures journal { IfErr result (λ f. f ≡ Journal → (r : Record) → Tells bytes.now r → ⊥) }
 {
-    match judgment_on(alloc, bytes, &mut Unwatched) {
-        Ok(Judged::History(found)) => Ok(Verdict::Lawful {
-            entries: found.entries.as_slice().len(),
-        }),
-        Ok(Judged::Unlawful { at, .. }) => Ok(Verdict::Unlawful { at }),
-        Err(fault) => Err(fault),
-    }
+    verdict_watched(alloc, bytes, &mut Unwatched)
 }

@@ -1,0 +1,84 @@
+-- What a judge has seen of a journal, as its entries are read.
+use Rattle.std.proofs.Common.{◌≡◌, ◌<◌, ◌+◌, ◌≤◌, ℕ, List, [], ◌∷◌, ◌++◌, length, Option, Some, None, refl, sym, ap, ◌∙◌, subst, append_assoc, arith, option_map}
+use Rattle.std.proofs.lemmas.List.{append-nil, length-append}
+use Rattle.bd_space.specs.Histories.{History, history_of}
+use Rattle.bd_space.specs.declared.{record.Record.{Record}, step.Entry.{Entry}}
+use Rattle.bd_audit.specs.declared.judge.Judge.{Judge}
+use Rattle.bd_audit.specs.{Judging.{HasJudged, IsStop}, Replays.{with_entry}}
+use Rattle.bd_journal.specs.declared.steps.JournalReader.{JournalReader}
+use Rattle.bd_journal.specs.{Cut.{IsCut, behind}, Spelling.{Tells}, Steps.{bytes_left, cut_left, entries_left, record_left, record_of, seats_of, whole_left, with_next, with_whole}}
+use Rattle.bd_player.specs.{Cuts.{IsCutVerdict}, Judging.{HasSeenAll, HasSeenMore, HasSeenWhole, followed_by}, Verdicts.{IsVerdict}}
+use Rattle.bd_player.specs.declared.verdicts.Verdict.TheVariants.{Lawful, Unlawful}
+
+-- ---- the judge
+
+pub sees_none : (j : Judge) → HasSeenMore j j []
+sees_none j = λ h seen. subst (λ (es : List Entry). HasJudged j (history_of h.seats es)) (sym (append-nil h.entries)) seen
+
+pub sees_one : (first old new : Judge) (front : List Entry) (e : Entry) → HasSeenMore first old front → ((h : History) → HasJudged old h → HasJudged new (with_entry h e))
+    → HasSeenMore first new (front ++ e ∷ [])
+sees_one first old new front e before one = λ h seen.
+    subst (λ (es : List Entry). HasJudged new (history_of h.seats es)) (append_assoc h.entries front (e ∷ [])) (one (followed_by h front) (before h seen))
+
+-- ---- all entries of a journal
+
+abbrev pub behind_front : List Entry → Option (List Entry) → Option (List Entry)
+behind_front front left = option_map (λ es. front ++ es) left
+
+pub none_before : (left : Option (List Entry)) → left ≡ behind_front [] left
+none_before None = refl
+none_before (Some es) = refl
+
+one_more : (front : List Entry) (e : Entry) (left : Option (List Entry)) → behind_front front (with_next (Some e) left) ≡ behind_front (front ++ e ∷ []) left
+one_more front e None = refl
+one_more front e (Some es) = ap (λ (xs : List Entry). Some xs) (sym (append_assoc front (e ∷ []) es))
+
+pub reads_one : (front : List Entry) (e : Entry) (all old new : Option (List Entry)) → all ≡ behind_front front old → old ≡ with_next (Some e) new → all ≡ behind_front (front ++ e ∷ []) new
+reads_one front e all old new so_far read = so_far ∙ ap (behind_front front) read ∙ one_more front e new
+
+pub reads_all : (first last : Judge) (front : List Entry) (all old new : Option (List Entry)) → all ≡ behind_front front old → HasSeenMore first last front → old ≡ with_next None new → HasSeenAll first last all
+reads_all first last front all old new so_far seen read = (front, so_far ∙ ap (behind_front front) read ∙ ap (λ (xs : List Entry). Some xs) (append-nil front), seen)
+
+pub reads_no_more : (front : List Entry) (all old : Option (List Entry)) → all ≡ behind_front front old → old ≡ None → all ≡ None
+reads_no_more front all old so_far none = so_far ∙ ap (behind_front front) none
+
+-- what the judge says of the record that was read
+module _ (bytes : List ℕ) (r : JournalReader) (first last : Judge) (begun : HasJudged first (history_of (seats_of r) [])) (seen : HasSeenAll first last (entries_left r))
+    (found : (x : Record) → record_left r ≡ Some x → Tells bytes x) where
+  told : Tells bytes (record_of (seats_of r) seen.0)
+  told = found (record_of (seats_of r) seen.0) (ap (option_map (record_of (seats_of r))) seen.1)
+
+  pub lawful : (entries : ℕ) → ((es : List Entry) → entries_left r ≡ Some es → entries ≡ length es) → ((h : History) → HasJudged last h → IsStop h None) → IsVerdict bytes (Lawful entries)
+  lawful entries counted stop = (record_of (seats_of r) seen.0, told, stop (history_of (seats_of r) seen.0) (seen.2 (history_of (seats_of r) []) begun), counted seen.0 seen.1)
+
+  pub unlawful : (at : ℕ) → ((h : History) → HasJudged last h → IsStop h (Some at)) → IsVerdict bytes (Unlawful at)
+  unlawful at stop = (record_of (seats_of r) seen.0, told, stop (history_of (seats_of r) seen.0) (seen.2 (history_of (seats_of r) []) begun))
+
+-- ---- what is whole of a journal that was cut off
+
+pub none_whole_before : (whole : List Entry × List ℕ) → whole ≡ behind [] whole
+none_whole_before whole = refl
+
+pub reads_whole : (front : List Entry) (e : Entry) (all old : List Entry × List ℕ) (r : JournalReader) → all ≡ behind front old → old ≡ with_whole (Some e) r → all ≡ behind (front ++ e ∷ []) (whole_left r)
+reads_whole front e all old r so_far read =
+    so_far ∙ ap (behind front) read ∙ ap (λ (es : List Entry). (es, (whole_left r).1)) (sym (append_assoc front (e ∷ []) (whole_left r).0))
+
+pub so_many_more : (front : List Entry) (e : Entry) (n : ℕ) → n ≡ length front → n + 1 ≡ length (front ++ e ∷ [])
+so_many_more front e n so_many = omega (arith, so_many, length-append front (e ∷ []))
+
+pub reads_all_whole : (first last : Judge) (front : List Entry) (all old : List Entry × List ℕ) (r : JournalReader) (n left : ℕ)
+    → all ≡ behind front old → HasSeenMore first last front → n ≡ length front → old ≡ with_whole None r → left ≡ length (bytes_left r) → HasSeenWhole first last all n left
+reads_all_whole first last front all old r n left so_far seen counted read rest =
+    let is : all ≡ (front, bytes_left r) = so_far ∙ ap (behind front) read ∙ ap (λ (es : List Entry). (es, bytes_left r)) (append-nil front) in
+    subst (λ (x : List Entry × List ℕ). HasSeenWhole first last x n left) (sym is) (seen, counted, rest)
+
+module _ (bytes : List ℕ) (r : JournalReader) (first last : Judge) (begun : HasJudged first (history_of (seats_of r) [])) (entries left : ℕ)
+    (seen : HasSeenWhole first last (whole_left r) entries left) (cut : IsCut bytes (cut_left r).0 (cut_left r).1) where
+  judged : HasJudged last (history_of (seats_of r) (whole_left r).0)
+  judged = seen.0 (history_of (seats_of r) []) begun
+
+  pub lawful_cut : ((h : History) → HasJudged last h → IsStop h None) → IsCutVerdict bytes (Lawful entries) left
+  lawful_cut stop = ((cut_left r).0, (cut_left r).1, cut, (stop (history_of (seats_of r) (whole_left r).0) judged, seen.1), seen.2)
+
+  pub unlawful_cut : (at : ℕ) → ((h : History) → HasJudged last h → IsStop h (Some at)) → IsCutVerdict bytes (Unlawful at) left
+  unlawful_cut at stop = ((cut_left r).0, (cut_left r).1, cut, stop (history_of (seats_of r) (whole_left r).0) judged, seen.2)
