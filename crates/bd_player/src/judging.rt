@@ -26,7 +26,7 @@ pub fn fault_of(error: ReadError) -> Fault
 
 // A judge of the record that is read.
 fn judge_for(alloc: Global, reader: &JournalReader<'_>) -> Result<Judge, Fault>
-    requires seats { IsLiveSeats seats_of reader.now }
+    requires seats { IsLiveSeats (seats_of reader.now) }
     ensures judge { IfOk result (λ j. HasJudged j (history_of (seats_of reader.now) [])) }
     ensures fault { IfErr result (λ f. f ≡ Journal → ⊥) }
 {
@@ -50,9 +50,9 @@ fn show_all<P: Watch>(
     'entries: loop {
         match reader.next(alloc) {
             Ok(Some(entry)) => {
-                if judge.see(&entry).is_err() {
+                let Ok(()) = judge.see(&entry) else {
                     return Err(Fault::Memory);
-                }
+                };
                 watch.follow(all.saturating_sub(reader.left()) as usize, all as usize);
             }
             Ok(None) => return Ok(()),
@@ -109,9 +109,9 @@ fn show_whole<P: Watch>(
     'entries: loop {
         match reader.next_whole(alloc) {
             Ok(Some(entry)) => {
-                if judge.see(&entry).is_err() {
+                let Ok(()) = judge.see(&entry) else {
                     return Err(Fault::Memory);
-                }
+                };
                 entries += 1;
                 watch.follow(all.saturating_sub(reader.bytes_left()), all);
             }

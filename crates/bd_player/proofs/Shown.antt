@@ -8,14 +8,19 @@ use Rattle.bd_audit.specs.{Judging.{HasJudged, IsStop}, Replays.{with_entry}}
 use Rattle.bd_journal.specs.declared.steps.JournalReader.{JournalReader}
 use Rattle.bd_journal.specs.{Cut.{IsCut, behind}, Spelling.{Tells}, Steps.{bytes_left, cut_left, entries_left, record_left, record_of, seats_of, whole_left, with_next, with_whole}}
 use Rattle.bd_player.specs.{Cuts.{IsCutVerdict}, Judging.{HasSeenAll, HasSeenMore, HasSeenWhole, followed_by}, Verdicts.{IsVerdict}}
+use Rattle.std.proofs.lemmas.Option.{none-some}
+use Rattle.bd_journal.specs.declared.fault.ReadError.{ReadError}
+use Rattle.bd_journal.specs.declared.fault.ReadError.TheVariants.{Malformed, Memory}
+use Rattle.bd_player.specs.declared.faults.Fault.{Fault}
+use Rattle.bd_player.specs.declared.faults.Fault.TheVariants.{Journal}
 use Rattle.bd_player.specs.declared.verdicts.Verdict.TheVariants.{Lawful, Unlawful}
 
 -- ---- the judge
 
-pub sees_none : (j : Judge) → HasSeenMore j j []
+sees_none : (j : Judge) → HasSeenMore j j []
 sees_none j = λ h seen. subst (λ (es : List Entry). HasJudged j (history_of h.seats es)) (sym (append-nil h.entries)) seen
 
-pub sees_one : (first old new : Judge) (front : List Entry) (e : Entry) → HasSeenMore first old front → ((h : History) → HasJudged old h → HasJudged new (with_entry h e))
+sees_one : (first old new : Judge) (front : List Entry) (e : Entry) → HasSeenMore first old front → ((h : History) → HasJudged old h → HasJudged new (with_entry h e))
     → HasSeenMore first new (front ++ e ∷ [])
 sees_one first old new front e before one = λ h seen.
     subst (λ (es : List Entry). HasJudged new (history_of h.seats es)) (append_assoc h.entries front (e ∷ [])) (one (followed_by h front) (before h seen))
@@ -25,7 +30,7 @@ sees_one first old new front e before one = λ h seen.
 abbrev pub behind_front : List Entry → Option (List Entry) → Option (List Entry)
 behind_front front left = option_map (λ es. front ++ es) left
 
-pub none_before : (left : Option (List Entry)) → left ≡ behind_front [] left
+none_before : (left : Option (List Entry)) → left ≡ behind_front [] left
 none_before None = refl
 none_before (Some es) = refl
 
@@ -33,7 +38,7 @@ one_more : (front : List Entry) (e : Entry) (left : Option (List Entry)) → beh
 one_more front e None = refl
 one_more front e (Some es) = ap (λ (xs : List Entry). Some xs) (sym (append_assoc front (e ∷ []) es))
 
-pub reads_one : (front : List Entry) (e : Entry) (all old new : Option (List Entry)) → all ≡ behind_front front old → old ≡ with_next (Some e) new → all ≡ behind_front (front ++ e ∷ []) new
+reads_one : (front : List Entry) (e : Entry) (all old new : Option (List Entry)) → all ≡ behind_front front old → old ≡ with_next (Some e) new → all ≡ behind_front (front ++ e ∷ []) new
 reads_one front e all old new so_far read = so_far ∙ ap (behind_front front) read ∙ one_more front e new
 
 pub reads_all : (first last : Judge) (front : List Entry) (all old new : Option (List Entry)) → all ≡ behind_front front old → HasSeenMore first last front → old ≡ with_next None new → HasSeenAll first last all
@@ -42,6 +47,18 @@ reads_all first last front all old new so_far seen read = (front, so_far ∙ ap 
 pub reads_no_more : (front : List Entry) (all old : Option (List Entry)) → all ≡ behind_front front old → old ≡ None → all ≡ None
 reads_no_more front all old so_far none = so_far ∙ ap (behind_front front) none
 
+-- the judge has seen what was read so far
+abbrev pub IsShown : Judge → Judge → Option (List Entry) → Option (List Entry) → Type 0
+IsShown first now all left = (front : List Entry) × (all ≡ behind_front front left) × HasSeenMore first now front
+
+pub shows_none : (j : Judge) (left : Option (List Entry)) → IsShown j j left left
+shows_none j left = ([], none_before left, sees_none j)
+
+pub shows_one : (first old new : Judge) (e : Entry) (found : Option Entry) (all left after : Option (List Entry)) → IsShown first old all left → left ≡ with_next found after → found ≡ Some e
+    → ((h : History) → HasJudged old h → HasJudged new (with_entry h e)) → IsShown first new all after
+shows_one first old new e found all left after so_far read is one =
+    (so_far.0 ++ e ∷ [], reads_one so_far.0 e all left after so_far.1 (read ∙ ap (λ it. with_next it after) is), sees_one first old new so_far.0 e so_far.2 one)
+
 -- what the judge says of the record that was read
 module _ (bytes : List ℕ) (r : JournalReader) (first last : Judge) (begun : HasJudged first (history_of (seats_of r) [])) (seen : HasSeenAll first last (entries_left r))
     (found : (x : Record) → record_left r ≡ Some x → Tells bytes x) where
@@ -49,21 +66,18 @@ module _ (bytes : List ℕ) (r : JournalReader) (first last : Judge) (begun : Ha
   told = found (record_of (seats_of r) seen.0) (ap (option_map (record_of (seats_of r))) seen.1)
 
   pub lawful : (entries : ℕ) → ((es : List Entry) → entries_left r ≡ Some es → entries ≡ length es) → ((h : History) → HasJudged last h → IsStop h None) → IsVerdict bytes (Lawful entries)
-  lawful entries counted stop = (record_of (seats_of r) seen.0, told, stop (history_of (seats_of r) seen.0) (seen.2 (history_of (seats_of r) []) begun), counted seen.0 seen.1)
+  lawful entries counted stop = (record_of (seats_of r) seen.0, told, (stop (history_of (seats_of r) seen.0) (seen.2 (history_of (seats_of r) []) begun), counted seen.0 seen.1))
 
   pub unlawful : (at : ℕ) → ((h : History) → HasJudged last h → IsStop h (Some at)) → IsVerdict bytes (Unlawful at)
   unlawful at stop = (record_of (seats_of r) seen.0, told, stop (history_of (seats_of r) seen.0) (seen.2 (history_of (seats_of r) []) begun))
 
 -- ---- what is whole of a journal that was cut off
 
-pub none_whole_before : (whole : List Entry × List ℕ) → whole ≡ behind [] whole
-none_whole_before whole = refl
-
-pub reads_whole : (front : List Entry) (e : Entry) (all old : List Entry × List ℕ) (r : JournalReader) → all ≡ behind front old → old ≡ with_whole (Some e) r → all ≡ behind (front ++ e ∷ []) (whole_left r)
+reads_whole : (front : List Entry) (e : Entry) (all old : List Entry × List ℕ) (r : JournalReader) → all ≡ behind front old → old ≡ with_whole (Some e) r → all ≡ behind (front ++ e ∷ []) (whole_left r)
 reads_whole front e all old r so_far read =
     so_far ∙ ap (behind front) read ∙ ap (λ (es : List Entry). (es, (whole_left r).1)) (sym (append_assoc front (e ∷ []) (whole_left r).0))
 
-pub so_many_more : (front : List Entry) (e : Entry) (n : ℕ) → n ≡ length front → n + 1 ≡ length (front ++ e ∷ [])
+so_many_more : (front : List Entry) (e : Entry) (n : ℕ) → n ≡ length front → n + 1 ≡ length (front ++ e ∷ [])
 so_many_more front e n so_many = omega (arith, so_many, length-append front (e ∷ []))
 
 pub reads_all_whole : (first last : Judge) (front : List Entry) (all old : List Entry × List ℕ) (r : JournalReader) (n left : ℕ)
@@ -71,6 +85,22 @@ pub reads_all_whole : (first last : Judge) (front : List Entry) (all old : List 
 reads_all_whole first last front all old r n left so_far seen counted read rest =
     let is : all ≡ (front, bytes_left r) = so_far ∙ ap (behind front) read ∙ ap (λ (es : List Entry). (es, bytes_left r)) (append-nil front) in
     subst (λ (x : List Entry × List ℕ). HasSeenWhole first last x n left) (sym is) (seen, counted, rest)
+
+-- the judge has seen what was whole so far, so many entries
+abbrev pub IsWholeShown : Judge → Judge → List Entry × List ℕ → List Entry × List ℕ → ℕ → Type 0
+IsWholeShown first now all left n = (front : List Entry) × (all ≡ behind front left) × HasSeenMore first now front × (n ≡ length front)
+
+pub shows_none_whole : (j : Judge) (left : List Entry × List ℕ) (n : ℕ) → n ≡ 0 → IsWholeShown j j left left n
+shows_none_whole j left n none = ([], refl, sees_none j, none)
+
+pub shows_one_whole : (first old new : Judge) (e : Entry) (found : Option Entry) (all left : List Entry × List ℕ) (after : JournalReader) (n : ℕ) → IsWholeShown first old all left n
+    → left ≡ with_whole found after → found ≡ Some e → ((h : History) → HasJudged old h → HasJudged new (with_entry h e)) → IsWholeShown first new all (whole_left after) (n + 1)
+shows_one_whole first old new e found all left after n so_far read is one = (
+  so_far.0 ++ e ∷ [],
+  reads_whole so_far.0 e all left after so_far.1 (read ∙ ap (λ it. with_whole it after) is),
+  sees_one first old new so_far.0 e so_far.2 one,
+  so_many_more so_far.0 e n so_far.3,
+)
 
 module _ (bytes : List ℕ) (r : JournalReader) (first last : Judge) (begun : HasJudged first (history_of (seats_of r) [])) (entries left : ℕ)
     (seen : HasSeenWhole first last (whole_left r) entries left) (cut : IsCut bytes (cut_left r).0 (cut_left r).1) where
@@ -82,3 +112,18 @@ module _ (bytes : List ℕ) (r : JournalReader) (first last : Judge) (begun : Ha
 
   pub unlawful_cut : (at : ℕ) → ((h : History) → HasJudged last h → IsStop h (Some at)) → IsCutVerdict bytes (Unlawful at) left
   unlawful_cut at stop = ((cut_left r).0, (cut_left r).1, cut, stop (history_of (seats_of r) (whole_left r).0) judged, seen.2)
+
+-- ---- what is no journal
+
+-- only what is none is called so, by its heading,
+pub no_heading : (bytes : List ℕ) (e : ReadError) (f : Fault) → (f ≡ Journal → e ≡ Malformed) → ((x : Record) → Tells bytes x → e ≡ Memory) → f ≡ Journal → (x : Record) → Tells bytes x → ⊥
+no_heading bytes e f by only is x told = let m = by is in let k = only x told in absurd (cc)
+
+-- or by its entries
+pub no_entries : (bytes : List ℕ) (r : JournalReader) (f : Fault) → (f ≡ Journal → entries_left r ≡ None) → ((x : Record) → Tells bytes x → record_left r ≡ Some x)
+    → f ≡ Journal → (x : Record) → Tells bytes x → ⊥
+no_entries bytes r f fails only is x told = none-some x (sym (ap (option_map (record_of (seats_of r))) (fails is)) ∙ only x told)
+
+pub no_cut_heading : (bytes : List ℕ) (e : ReadError) (f : Fault) → (f ≡ Journal → e ≡ Malformed) → ((x : Record) (left : List ℕ) → IsCut bytes x left → e ≡ Memory)
+    → f ≡ Journal → (x : Record) (left : List ℕ) → IsCut bytes x left → ⊥
+no_cut_heading bytes e f by only is x left cut = let m = by is in let k = only x left cut in absurd (cc)

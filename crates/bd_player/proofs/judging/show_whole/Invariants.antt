@@ -1,0 +1,10 @@
+use Rattle.std.proofs.Common.{◌≤◌, ◌+◌, length}
+use Rattle.bd_journal.specs.Steps.{bytes_left, whole_left}
+use Rattle.bd_player.proofs.Shown.{IsWholeShown}
+use Rattle.bd_player.proofs.judging.show_whole.Given as goal
+
+abbrev pub invariant-entries : goal.invariant-entries
+invariant-entries g l = IsWholeShown l.initial.judge l.judge (whole_left l.initial.reader) (whole_left l.reader) l.entries × (l.entries + length (bytes_left l.reader) ≤ l.all)
+
+abbrev pub decreases-entries : goal.decreases-entries
+decreases-entries g l = length (bytes_left l.reader)
