@@ -18,11 +18,10 @@ use Rattle.bd_space.specs.ReadItems.{none_due}
 use Rattle.bd_space.specs.Todo.{has_work_in, is_on, same_list, with_work, is_item, is_call, without_taken}
 use Rattle.bd_ways.specs.Local.{first_due}
 use Rattle.bd_links.specs.declared.table.WorkTable.{WorkTable}
-use Rattle.bd_links.specs.Heads.{head_at}
 use Rattle.bd_links.specs.Stands.{WorksAre}
 use Rattle.bd_links.proofs.OnList.{any_left}
-use Rattle.bd_links.proofs.QueueLemmas.{same_list-eq, same_list-refl}
-use Rattle.bd_links.proofs.Walking.{works_are, none_are}
+use Rattle.bd_links.proofs.ListKeys.{same_list-eq, same_list-refl}
+use Rattle.bd_links.proofs.Queueing.{on_same}
 use Rattle.bd_calls.specs.declared.marks.Mark.{Mark}
 use Rattle.bd_calls.specs.declared.marks.Marks.{Marks}
 use Rattle.bd_calls.specs.Marks.{differs, is_among, is_marked_in, is_marked, are_apart, told_of, is_changed, changed_lists, IsRecalled, RecallsIn}
@@ -40,16 +39,9 @@ and-from false b h k = absurd (cc)
 
 -- ---- what is on a list, the table alone tells
 
-on-same : (t : WorkTable) (ws vs : List Work) (list : TodoList) → WorksAre t ws → WorksAre t vs → filter (is_on list) ws ≡ filter (is_on list) vs
-on-same t ws vs list a b = by (head_at t.queues.lists list) refl
-  where
-    by : (o : Option ℕ) → head_at t.queues.lists list ≡ o → filter (is_on list) ws ≡ filter (is_on list) vs
-    by (Some h) e = sym (works_are t.queues ws list h a.queues_stand e) ∙ works_are t.queues vs list h b.queues_stand e
-    by None e = sym (none_are t.queues ws list a.queues_stand e) ∙ none_are t.queues vs list b.queues_stand e
-
 pub has-same : (t : WorkTable) (ws vs : List Work) (list : TodoList) → WorksAre t ws → WorksAre t vs → has_work_in ws list ≡ has_work_in vs list
 has-same t ws vs list a b =
-    any_left (is_on list) ws ∙ ap (λ (xs : List Work). not (none_due xs)) (on-same t ws vs list a b) ∙ sym (any_left (is_on list) vs)
+    any_left (is_on list) ws ∙ ap (λ (xs : List Work). not (none_due xs)) (on_same t.queues ws vs list a.queues_stand b.queues_stand) ∙ sym (any_left (is_on list) vs)
 
 -- ---- one mark more
 

@@ -28,7 +28,7 @@ use Rattle.bd_space.specs.Notices.{has_notice_in}
 use Rattle.bd_calls.specs.declared.ready.Seen.{Seen}
 use Rattle.bd_calls.specs.declared.ready.ReadySeats.{ReadySeats}
 use Rattle.bd_calls.specs.Ready.{seen_at, is_of, unless_of, tells_of, KeepsOnly, IsSeen, AreSeen}
-use Rattle.bd_links.proofs.QueueLemmas.{same_list-eq}
+use Rattle.bd_links.proofs.ListKeys.{same_list-eq}
 use Rattle.bd_calls.proofs.Plain.{anything-to-read}
 
 -- ---- a seat that was seen

@@ -1,20 +1,20 @@
--- The columns stand for the items with one more, and with one less.
-use Rattle.std.proofs.Common.{subst, ◌≡◌, ◌⊎◌, inl, inr, ℕ, ◌+◌, ◌-◌, ◌==◌, ◌&&◌, Bool, true, false, not, ◌||◌, cond, List, [], ◌∷◌, ◌++◌, Option, Some, None, refl, sym, ap, ◌∙◌, arith}
-use Rattle.std.proofs.lemmas.Bool.{eqb-true, false≢true, eq-eqb}
+-- What each slot says agrees with the order of rows still, where a value was added or taken out.
+use Rattle.std.proofs.Common.{subst, ◌≡◌, ℕ, ◌+◌, ◌-◌, ◌==◌, ◌&&◌, Bool, true, false, cond, List, [], ◌∷◌, ◌++◌, Option, Some, None, refl, sym, ap, ◌∙◌, arith}
+use Rattle.std.proofs.lemmas.Bool.{eqb-true}
 use Rattle.bd_chains.specs.declared.links.Held.{Held}
-use Rattle.bd_chains.specs.Chain.{is_at, same_end, has, has_end, next_from, last_of, prev_from, Apart, without}
+use Rattle.bd_chains.specs.Chain.{is_at, same_end, has, next_from, prev_from, Apart, without}
 use Rattle.bd_chains.specs.Rows.{Row, keys, ring, row_at, counted_on, drop_key, is_end, Stands, hits}
-use Rattle.bd_chains.proofs.Order.{same_true, adjoint, next_has, without_none, next_without, prev_without, next_more, prev_more, next_off, has_more, has_less, has_none, last_in, apart_more, apart_less, restart, prev_in, next_in}
+use Rattle.bd_chains.proofs.Order.{adjoint, without_none, next_without, prev_without, next_more, prev_more, next_off, has_more, has_less, has_none, last_in, apart_more, apart_less, prev_in, next_in}
 use Rattle.bd_chains.proofs.Rowing.{ring_more, ring_less, keys_more, keys_less, at_more, at_less, counted_more, counted_less, off_keys, off_ring, on_ring, one_ring, apart_ring}
 
--- on the list itself a write hits the link that is named
+-- a write is of the same list's link exactly at the same end
 pub hits_own : (l : ℕ) (a o : Option ℕ) → hits l a l o ≡ same_end o a
 hits_own l None None = grind arith
 hits_own l None (Some y) = refl
 hits_own l (Some x) None = refl
 hits_own l (Some x) (Some y) = grind arith
 
--- on another list it hits nothing
+-- and of no other list's link
 pub hits_none : (l m : ℕ) (a o : Option ℕ) (xs ys : List ℕ) → (l == m) ≡ false → is_end o ys ≡ true
     → ((z : ℕ) → a ≡ Some z → has z ys ≡ false) → hits l a m o ≡ false
 hits_none l m None None xs ys differ on off = differ
@@ -42,7 +42,7 @@ at_some : (x : ℕ) (o : Option ℕ) → is_at x o ≡ true → o ≡ Some x
 at_some x None h = grind arith
 at_some x (Some z) h = ap Some (eqb-true z x h)
 
--- what follows and precedes on the list that gets one more
+-- the neighbours on a list to whose end a key was added
 next_after : (x : ℕ) (xs : List ℕ) (n : Option ℕ) (o : Option ℕ) → Apart None xs → has x xs ≡ false → is_end o (xs ++ x ∷ []) ≡ true
     → (is_end o xs ≡ true → n ≡ next_from None xs o)
     → cond (same_end o (prev_from None xs None)) (Some x) (cond (is_at x o) None n) ≡ next_from None (xs ++ x ∷ []) o
@@ -63,7 +63,7 @@ prev_after x xs n (Some z) off on is = at (z == x) refl
     at false e = is (is_end_more x xs (Some z) on e) ∙ sym (prev_more None xs x (Some z) off ∙ ap (λ (c : Bool). cond c (prev_from None xs None) (prev_from None xs (Some z))) e)
 
 module _ {T : Type 0} (N P M Q : ℕ → Option ℕ → Option ℕ) (S U : ℕ → Option (ℕ × Held T)) (B C : ℕ → ℕ) (rs : List (Row T)) (x l : ℕ) (w : Held T) (h : Stands N P S B rs) where
-  -- one more came to the end of list l, under a key that had nothing
+  -- a value was added at the end of list l, in a slot that was empty
   pub pushed : (last : Option ℕ) → S x ≡ None → last ≡ P l None
       → ((k : ℕ) → U k ≡ cond (x == k) (Some (l, w)) (S k))
       → ((m : ℕ) (o : Option ℕ) → M m o ≡ cond (hits l last m o) (Some x) (cond (is_at x o) None (N m o)))
@@ -103,7 +103,7 @@ module _ {T : Type 0} (N P M Q : ℕ → Option ℕ → Option ℕ) (S U : ℕ �
           rw (hits_none l m None o [] (ring m rs) e on (λ z is. absurd (cc)), not_at x (ring m rs) o on (off_ring m x rs off))
           (h.prevs m o on)
 
-  -- the one of this key went
+  -- the value in slot x was taken out
   pub removed : (p n : Option ℕ) → S x ≡ Some (l, w) → p ≡ P l (Some x) → n ≡ N l (Some x)
       → ((k : ℕ) → U k ≡ cond (x == k) None (S k))
       → ((m : ℕ) (o : Option ℕ) → M m o ≡ cond (hits l p m o) n (cond (is_at x o) None (N m o)))

@@ -1,7 +1,7 @@
--- What follows and what precedes, as a chain changes.
-use Rattle.std.proofs.Common.{◌≡◌, ◌⊎◌, inl, inr, ℕ, ◌==◌, Bool, true, false, not, ◌||◌, cond, List, [], ◌∷◌, ◌++◌, filter, Option, Some, None, refl, sym, ap, ◌∙◌, arith}
-use Rattle.std.proofs.lemmas.Bool.{eqb-true, false≢true, eq-eqb}
-use Rattle.bd_chains.specs.Chain.{is_at, same_end, has, has_end, next_from, last_of, prev_from, Apart, without}
+-- The neighbours in a row of keys, and what adding a key or taking one out does to them.
+use Rattle.std.proofs.Common.{◌≡◌, ℕ, ◌==◌, Bool, true, false, not, ◌||◌, cond, List, [], ◌∷◌, ◌++◌, Option, Some, None, refl, sym, ap, arith}
+use Rattle.std.proofs.lemmas.Bool.{eqb-true}
+use Rattle.bd_chains.specs.Chain.{is_at, same_end, has, has_end, next_from, prev_from, Apart, without}
 
 pub same_true : (p o : Option ℕ) → same_end p o ≡ true → p ≡ o
 same_true None None h = refl
@@ -9,27 +9,27 @@ same_true None (Some y) h = grind arith
 same_true (Some x) None h = grind arith
 same_true (Some x) (Some y) h = ap Some (sym (eqb-true y x h))
 
--- what follows is in the chain
+-- the next key is one of the row's
 pub next_has : (p : Option ℕ) (xs : List ℕ) (o : Option ℕ) (x : ℕ) → has x xs ≡ false → is_at x (next_from p xs o) ≡ false
 next_has p [] o x h = refl
 next_has p (y ∷ ys) o x h = grind (arith, next_has (Some y) ys o x)
 
--- a key that isn't there is left out already
+-- taking out a key that isn't in the row does nothing
 pub without_none : (x : ℕ) (xs : List ℕ) → has x xs ≡ false → without x xs ≡ xs
 without_none x [] h = refl
 without_none x (y ∷ ys) h = grind (arith, without_none x ys)
 
--- what precedes is in the chain, or before it
+-- the key before one is of the row, or p itself
 pub prev_has : (p : Option ℕ) (xs : List ℕ) (x : ℕ) (o : Option ℕ) → has x xs ≡ true → same_end p o ≡ false → has_end o xs ≡ false → same_end o (prev_from p xs (Some x)) ≡ false
 prev_has p [] x o there far off = grind arith
 prev_has p (y ∷ ys) x o there far off = grind (arith, prev_has (Some y) ys x o)
 
--- p stands before the keys, so it isn't among them
+-- a row apart from y hasn't y in it
 pub restart : (y : ℕ) (ys : List ℕ) → Apart (Some y) ys → has y ys ≡ false
 restart y [] h = refl
 restart y (z ∷ zs) h = h.0
 
--- what follows o is x where o precedes x
+-- the two directions agree: x is next after o exactly where o is just before x
 pub adjoint : (p : Option ℕ) (xs : List ℕ) (o : Option ℕ) (x : ℕ) → Apart p xs → has x xs ≡ true
     → is_at x (next_from p xs o) ≡ same_end o (prev_from p xs (Some x))
 adjoint p [] o x apart there = grind arith
@@ -38,7 +38,7 @@ adjoint (Some w) (y ∷ ys) None x apart there = grind (arith, adjoint (Some y) 
 adjoint None (y ∷ ys) (Some z) x apart there = grind (arith, adjoint (Some y) ys (Some z) x apart.1, next_has (Some y) ys (Some z) x, restart y ys apart.1)
 adjoint (Some w) (y ∷ ys) (Some z) x apart there = grind (arith, adjoint (Some y) ys (Some z) x apart.1, prev_has (Some y) ys x (Some w), next_has (Some y) ys (Some z) x, apart.0, restart y ys apart.1)
 
--- the last isn't what stands apart
+-- the last key isn't p, which is apart from the row
 pub last_far : (p : Option ℕ) (y : ℕ) (ys : List ℕ) → has_end p (y ∷ ys) ≡ false → same_end p (prev_from (Some y) ys None) ≡ false
 last_far None y [] off = refl
 last_far (Some w) y [] off = grind arith
@@ -71,7 +71,7 @@ prev_more p [] x (Some z) off = grind arith
 prev_more p (y ∷ ys) x None off = grind (arith, prev_more (Some y) ys x None)
 prev_more p (y ∷ ys) x (Some z) off = grind (arith, prev_more (Some y) ys x (Some z))
 
--- what comes first comes first whatever stands before
+-- the first key is the same whatever p is
 pub next_head : (p q : Option ℕ) (ys : List ℕ) → next_from p ys p ≡ next_from q ys q
 next_head p q [] = refl
 next_head None None (y ∷ ys) = refl
@@ -91,7 +91,7 @@ next_without None (y ∷ ys) o x apart there other =
 next_without (Some w) (y ∷ ys) o x apart there other =
     grind (arith, next_without (Some y) ys o x apart.1, same_true (Some w) o, next_head (Some w) (Some x) ys, next_shift (Some w) (Some x) o ys, without_none x ys, next_has (Some y) ys o x, restart y ys apart.1, apart.0)
 
--- where the first goes
+-- the key before, where the row's first was taken out
 pub prev_head : (p q : Option ℕ) (x : ℕ) (ys : List ℕ) (o : Option ℕ) → prev_from p ys o ≡ cond (same_end o (next_from (Some x) ys (Some x))) p (prev_from q ys o)
 prev_head p q x [] None = refl
 prev_head p q x [] (Some z) = refl
@@ -141,7 +141,7 @@ apart_less p o (y ∷ ys) x apart off = at (y == x) refl o off (λ q h. apart_le
     at true e o off more = more o (rest o off)
     at false e o off more = (tail o off, more (Some y) (restart y ys apart.1))
 
--- of what is in the chain what precedes is in it, and what follows
+-- both neighbours of a key of the row are of the row, if there are any
 prev_in_from : (p : Option ℕ) (xs : List ℕ) (x z : ℕ) → has x xs ≡ true → prev_from p xs (Some x) ≡ Some z → same_end p (Some z) ≡ false → has z xs ≡ true
 prev_in_from p [] x z there is far = grind arith
 prev_in_from p (y ∷ ys) x z there is far = grind (arith, prev_in_from (Some y) ys x z)
@@ -156,7 +156,7 @@ next_in xs x z is = at (has z xs) refl
     at true e = refl
     at false e = grind (arith, next_has None xs (Some x) z)
 
--- nothing precedes or follows itself
+-- no key is its own neighbour
 pub prev_other : (p : Option ℕ) (xs : List ℕ) (x : ℕ) → Apart p xs → has x xs ≡ true → is_at x (prev_from p xs (Some x)) ≡ false
 prev_other p [] x apart there = grind arith
 prev_other None (y ∷ ys) x apart there = grind (arith, prev_other (Some y) ys x apart.1)

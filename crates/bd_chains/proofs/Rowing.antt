@@ -1,10 +1,11 @@
--- The items in order, as one comes and one goes.
-use Rattle.std.proofs.Common.{◌≡◌, ◌⊎◌, inl, inr, ℕ, ◌+◌, ◌≤◌, ◌==◌, ◌&&◌, length, is_some, Bool, true, false, not, ◌||◌, cond, List, [], ◌∷◌, ◌++◌, filter, Option, Some, None, refl, sym, ap, ◌∙◌, arith}
-use Rattle.std.proofs.lemmas.Bool.{eqb-true, false≢true, eq-eqb}
+-- Rows of values: their keys, lists and counts, where one is added or taken out.
+use Rattle.std.proofs.Common.{◌≡◌, ℕ, ◌+◌, ◌≤◌, ◌==◌, ◌&&◌, length, is_some, Bool, true, false, cond, List, [], ◌∷◌, ◌++◌, Option, Some, None, refl, sym, ap, ◌∙◌, arith}
 use Rattle.bd_chains.specs.declared.links.Held.{Held}
-use Rattle.bd_chains.specs.Chain.{is_at, same_end, has, has_end, next_from, last_of, prev_from, Apart, without}
-use Rattle.bd_chains.specs.Rows.{Row, keys, ring, row_at, counted_on, drop_key, is_end, Stands, hits}
-use Rattle.bd_chains.proofs.Order.{same_true, next_has, without_none, prev_has, adjoint, next_without, prev_without, next_more, prev_more, next_off, has_more, has_less, has_none, last_in, apart_more, apart_less, restart}
+use Rattle.bd_chains.specs.Chain.{has, has_end, next_from, Apart, without}
+use Rattle.std.specs.Prelude.{option_map}
+use Rattle.std.specs.List.{slice_get}
+use Rattle.bd_chains.specs.Rows.{Row, keys, ring, values_on, row_at, counted_on, drop_key}
+use Rattle.bd_chains.proofs.Order.{restart}
 
 module _ {T : Type 0} where
   pub ring_more : (l : ℕ) (rs : List (Row T)) (r : Row T) → ring l (rs ++ r ∷ []) ≡ cond (r.list == l) (ring l rs ++ r.key ∷ []) (ring l rs)
@@ -45,7 +46,7 @@ module _ {T : Type 0} where
   counted_more l [] r = grind arith
   counted_more l (q ∷ rs) r = grind (arith, counted_more l rs r)
 
-  -- a key that has nothing is on no list
+  -- a slot that shows nothing is no row's
   pub off_keys : (x : ℕ) (rs : List (Row T)) → row_at x rs ≡ None → has x (keys rs) ≡ false
   off_keys x [] h = refl
   off_keys x (q ∷ rs) h = grind (arith, off_keys x rs)
@@ -58,7 +59,7 @@ module _ {T : Type 0} where
   on_ring l x w [] h = grind arith
   on_ring l x w (q ∷ rs) h = grind (arith, on_ring l x w rs)
 
-  -- a key on one list is on no other
+  -- each key is on one list alone
   pub one_ring : (l m x : ℕ) (p : Option ℕ) (rs : List (Row T)) → Apart p (keys rs) → has x (ring l rs) ≡ true → (l == m) ≡ false → has x (ring m rs) ≡ false
   one_ring l m x p [] apart h differ = refl
   one_ring l m x p (q ∷ rs) apart h differ = grind (arith, one_ring l m x (Some q.key) rs apart.1, off_ring m x rs, off_ring l x rs, apart.1, restart)
@@ -80,7 +81,7 @@ module _ {T : Type 0} where
       at true e o off more = (tail o off, more (Some q.key) (restart q.key (keys rs) apart.1))
       at false e o off more = more o (rest o off)
 
-  -- one goes: so many fewer keep from calling
+  -- a list counts one less, if what was taken out of it was counted
   pub counted_less : (l x m : ℕ) (w : Held T) (p : Option ℕ) (rs : List (Row T)) → Apart p (keys rs) → row_at x rs ≡ Some (m, w)
       → counted_on l rs ≡ cond ((m == l) && w.counted) (counted_on l (drop_key x rs) + 1) (counted_on l (drop_key x rs))
   counted_less l x m w p [] apart h = grind arith
@@ -120,3 +121,40 @@ module _ {T : Type 0} where
   pub ring_within : (l : ℕ) (rs : List (Row T)) → length (ring l rs) ≤ length rs
   ring_within l [] = omega arith
   ring_within l (q ∷ rs) = grind (arith, ring_within l rs)
+
+  -- ---- the first on a list
+
+  pub first_some : (l : ℕ) (rs : List (Row T)) → is_some (next_from None (ring l rs) None) ≡ is_some (slice_get (values_on l rs) 0)
+  first_some l [] = refl
+  first_some l (q ∷ rs) = at (q.list == l) (first_some l rs)
+    where
+      at : (b : Bool) → is_some (next_from None (ring l rs) None) ≡ is_some (slice_get (values_on l rs) 0)
+          → is_some (next_from None (cond b (q.key ∷ ring l rs) (ring l rs)) None) ≡ is_some (slice_get (cond b (q.held.value ∷ values_on l rs) (values_on l rs)) 0)
+      at true e = refl
+      at false e = e
+
+  pub first_in : (l x : ℕ) (rs : List (Row T)) → next_from None (ring l rs) None ≡ Some x → has x (keys rs) ≡ true
+  first_in l x [] h = grind arith
+  first_in l x (q ∷ rs) h = grind (arith, first_in l x rs)
+
+  pub first_value : (l x : ℕ) (p : Option ℕ) (rs : List (Row T)) → Apart p (keys rs) → next_from None (ring l rs) None ≡ Some x
+      → slice_get (values_on l rs) 0 ≡ option_map (λ (v : ℕ × Held T). v.1.value) (row_at x rs)
+  first_value l x p [] apart h = absurd (none_some h)
+    where
+      none_some : None ≡ Some x → ⊥
+      none_some e = cc
+  first_value l x p (q ∷ rs) apart h = at (q.list == l) (q.key == x) refl refl h (first_value l x (Some q.key) rs apart.1)
+    where
+      at : (b c : Bool) → (q.list == l) ≡ b → (q.key == x) ≡ c → next_from None (cond b (q.key ∷ ring l rs) (ring l rs)) None ≡ Some x
+          → (next_from None (ring l rs) None ≡ Some x → slice_get (values_on l rs) 0 ≡ option_map (λ (v : ℕ × Held T). v.1.value) (row_at x rs))
+          → slice_get (cond b (q.held.value ∷ values_on l rs) (values_on l rs)) 0 ≡ option_map (λ (v : ℕ × Held T). v.1.value) (cond c (Some (q.list, q.held)) (row_at x rs))
+      at true true e f h more = refl
+      at true false e f h more = absurd (no e f h)
+        where
+          no : (q.list == l) ≡ true → (q.key == x) ≡ false → Some q.key ≡ Some x → ⊥
+          no e f h = grind arith
+      at false true e f h more = absurd (no f (first_in l x rs h))
+        where
+          no : (q.key == x) ≡ true → has x (keys rs) ≡ true → ⊥
+          no f g = grind (arith, restart q.key (keys rs) apart.1)
+      at false false e f h more = more h

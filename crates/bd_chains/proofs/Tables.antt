@@ -1,5 +1,5 @@
 -- A table after a value came or went, and after a list went.
-use Rattle.std.proofs.Common.{subst, ◌≡◌, ℕ, ◌+◌, ◌-◌, ◌<◌, ◌==◌, ◌&&◌, Bool, true, false, cond, List, [], ◌∷◌, ◌++◌, length, Option, Some, None, is_some, refl, sym, ap, ◌∙◌, arith, length-append}
+use Rattle.std.proofs.Common.{◌≡◌, ℕ, ◌+◌, ◌-◌, ◌<◌, ◌==◌, ◌&&◌, Bool, true, false, cond, List, [], ◌∷◌, ◌++◌, Option, Some, None, is_some, refl, sym, ap, ◌∙◌, arith, length-append}
 use Rattle.std.specs.Prelude.{option_map}
 use Rattle.std.proofs.lemmas.Bool.{eqb-true, false≢true, eq-eqb}
 use Rattle.slab.specs.Slab.{Slab, get, slab_len, Updates}
@@ -8,7 +8,7 @@ use Rattle.bd_chains.specs.declared.links.Item.{Item}
 use Rattle.bd_chains.specs.declared.links.Ends.{Ends}
 use Rattle.bd_chains.specs.declared.chains.Chains.{Chains}
 use Rattle.bd_chains.specs.Chain.{is_at, has, next_from, prev_from}
-use Rattle.bd_chains.specs.Rows.{Row, keys, ring, row_at, counted_on, drop_key, Stands, hits}
+use Rattle.bd_chains.specs.Rows.{Row, ring, row_at, drop_key, hits}
 use Rattle.bd_chains.specs.Columns.{first_of, end_of, count_of, next_of, prev_of, next_at, prev_at, shown, count_at, is_open, is_there, Holds}
 use Rattle.bd_chains.proofs.Order.{last_in, prev_in, next_in, prev_other, next_other}
 use Rattle.bd_chains.proofs.Rowing.{on_keys, on_ring, apart_ring, off_keys, drop_none, counted_within, length_less, none_counted, none_on}
@@ -88,7 +88,7 @@ module _ {T : Type 0} where
       still m true e k v is = absurd (none_on m k v rs (own m e) (sym (h.stands.shown k) ∙ is))
       still m false e k v is = h.within k m v is
 
-  -- t became a where a value entered a slot or left it, b and d where links were written, e where a count was
+  -- the table before a change, t, and after each of its writes in turn: the slot, the two links, the count
   module _ (t a b d e : Chains T) (rs : List (Row T)) (h : Holds t rs) (x l : ℕ) (w : Held T) (count : ℕ)
       (ends : a.ends ≡ t.ends) (bcounts : (m : ℕ) → count_at b m ≡ count_at a m) (dcounts : (m : ℕ) → count_at d m ≡ count_at b m)
       (bopen : (m : ℕ) → is_open b m ≡ is_open a m) (dopen : (m : ℕ) → is_open d m ≡ is_open b m) (eopen : (m : ℕ) → is_open e m ≡ is_open d m)

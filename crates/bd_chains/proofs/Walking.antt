@@ -2,11 +2,11 @@
 use Rattle.std.proofs.Common.{◌≡◌, ℕ, zero, suc, ◌≤◌, ◌==◌, Bool, true, false, cond, List, [], ◌∷◌, length, Option, Some, None, refl, sym, ap, ◌∙◌, arith}
 use Rattle.std.specs.Prelude.{option_map}
 use Rattle.std.proofs.lemmas.Bool.{eq-eqb}
-use Rattle.slab.specs.Slab.{Slab, get, slab_len}
+use Rattle.slab.specs.Slab.{get, slab_len}
 use Rattle.bd_chains.specs.declared.links.Held.{Held}
 use Rattle.bd_chains.specs.declared.links.Item.{Item}
 use Rattle.bd_chains.specs.declared.chains.Chains.{Chains}
-use Rattle.bd_chains.specs.Chain.{is_at, same_end, has, has_end, next_from, Apart}
+use Rattle.bd_chains.specs.Chain.{same_end, has, has_end, next_from, Apart}
 use Rattle.bd_chains.specs.Rows.{Row, keys, ring, values_on, row_at}
 use Rattle.bd_chains.specs.Columns.{next_of, next_at, shown, Holds}
 use Rattle.bd_chains.specs.Walk.{walk}

@@ -1,6 +1,6 @@
 -- What a table of lists says of each slot, and when that is the values in their order.
 use Rattle.std.specs.Prelude.{ℕ, ◌≡◌, ◌-◌, Bool, true, List, length, Option, Some, None, is_some, option_map, min}
-use Rattle.slab.specs.Slab.{Slab, get, slab_len}
+use Rattle.slab.specs.Slab.{get, slab_len}
 use Rattle.bd_chains.specs.declared.links.Held.{Held}
 use Rattle.bd_chains.specs.declared.links.Item.{Item}
 use Rattle.bd_chains.specs.declared.links.Ends.{Ends}
@@ -40,6 +40,9 @@ module _ {T : Type 0} where
 
   abbrev pub shown : Chains T → ℕ → Option (ℕ × Held T)
   shown t k = option_map (λ i. (i.list, i.held)) (get t.items k)
+
+  abbrev pub value_at : Chains T → ℕ → Option T
+  value_at t k = option_map (λ (p : ℕ × Held T). p.1.value) (shown t k)
 
   abbrev pub count_at : Chains T → ℕ → ℕ
   count_at t l = count_of (get t.ends l)

@@ -1,4 +1,4 @@
--- The values of all lists in the order in which they came.
+-- Values of any lists as rows, each behind those that came before it.
 use Rattle.std.specs.Prelude.{ℕ, ◌≡◌, ◌==◌, ◌+◌, Bool, true, false, ◌&&◌, List, [], ◌∷◌, Option, Some, None, if◌then◌else◌}
 use Rattle.bd_chains.specs.declared.links.Held.{Held}
 use Rattle.bd_chains.specs.Chain.{has, next_from, prev_from, Apart}

@@ -1,6 +1,6 @@
 //! The table: its lists, what comes and what goes.
 
-ghost use Rattle.std.specs.Prelude.{ℕ, ◌≡◌, ◌<◌, ◌≤◌, ◌==◌, ◌+◌, ◌-◌, ◌++◌, ◌∷◌, [], true, false, List, length, Option, Some, None, option_map, OnSome, IfNone, OnOk, OnErr, if◌then◌else◌, nat_lt};
+ghost use Rattle.std.specs.Prelude.{ℕ, ◌≡◌, ◌<◌, ◌≤◌, ◌==◌, ◌+◌, ◌-◌, ◌++◌, ◌∷◌, [], true, false, List, length, Option, Some, None, OnSome, IfNone, OnOk, OnErr, if◌then◌else◌, nat_lt};
 
 use crate::items::Items;
 use crate::links::{Ends, Held, Item};
@@ -15,7 +15,7 @@ pub struct Chains<T> {
     pub(crate) ends: Slab<Ends>,
 }
 
-// One more, if it is so.
+// Counts one more, if it counts.
 fn raised(count: u64, is_so: bool) -> u64
     ensures { count < 18446744073709551615 → result ≡ (if is_so then count + 1 else count) }
 {
@@ -26,7 +26,7 @@ fn raised(count: u64, is_so: bool) -> u64
     }
 }
 
-// One less, if it is so.
+// Counts one less, if it counted.
 fn lowered(count: u64, is_so: bool) -> u64
     ensures { result ≡ (if is_so then count - 1 else count) }
 {
@@ -41,7 +41,7 @@ impl<T: Copy> Chains<T> {
     ghost use Rattle.slab.specs.Slab.{get, slab_len, HasRoomFor};
     ghost use Rattle.bd_chains.specs.Chain.{is_at, next_from};
     ghost use Rattle.bd_chains.specs.Rows.{Row, ring, values_on, counted_on, hits, drop_key};
-    ghost use Rattle.bd_chains.specs.Columns.{next_at, prev_at, shown, count_at, is_open, is_there, Holds, item_room, list_room, room_of};
+    ghost use Rattle.bd_chains.specs.Columns.{next_at, prev_at, shown, value_at, count_at, is_open, is_there, Holds, item_room, list_room, room_of};
 
     /// No lists. Takes no memory.
     pub fn new(alloc: Global) -> Chains<T>
@@ -63,7 +63,14 @@ impl<T: Copy> Chains<T> {
         items.min(lists)
     }
 
-    /// Makes room for so many values more, and so many lists. Fails for want of memory, and then changes nothing either.
+    /// Whether there was never room for a list.
+    pub fn is_unused(&self) -> bool
+        ensures { result ≡ true → (l : ℕ) → is_open self.now l ≡ false }
+    {
+        self.ends.capacity() == 0
+    }
+
+    /// Makes room for so many values more, and for as many lists. What stands on them is the same after it, also on an `Err`.
     pub fn reserve(&mut self, more: usize) -> Result<(), AllocError>
         ensures stands { (rs : List (Row T)) → Holds self.old rs → Holds self.new rs }
         ensures open { (l : ℕ) → is_open self.new l ≡ is_open self.old l }
@@ -78,7 +85,7 @@ impl<T: Copy> Chains<T> {
         self.ends.reserve(more)
     }
 
-    // What comes after `at` on a list is this from now on.
+    // Writes what comes after `at` on a list.
     fn set_next(&mut self, list: usize, at: Option<usize>, to: Option<usize>)
         ensures nexts { is_open self.old list ≡ true → is_there self.old at ≡ true → (m : ℕ) (o : Option ℕ) → next_at self.new m o
             ≡ (if hits list at m o then to else next_at self.old m o) }
@@ -104,7 +111,7 @@ impl<T: Copy> Chains<T> {
         }
     }
 
-    // What comes before `at` on a list is this from now on.
+    // Writes what comes before `at` on a list.
     fn set_prev(&mut self, list: usize, at: Option<usize>, to: Option<usize>)
         ensures prevs { is_open self.old list ≡ true → is_there self.old at ≡ true → (m : ℕ) (o : Option ℕ) → prev_at self.new m o
             ≡ (if hits list at m o then to else prev_at self.old m o) }
@@ -130,7 +137,7 @@ impl<T: Copy> Chains<T> {
         }
     }
 
-    // So many on a list are counted.
+    // Writes how many on a list are counted.
     fn set_count(&mut self, list: usize, count: u64)
         ensures nexts { (m : ℕ) (o : Option ℕ) → next_at self.new m o ≡ next_at self.old m o }
         ensures prevs { (m : ℕ) (o : Option ℕ) → prev_at self.new m o ≡ prev_at self.old m o }
@@ -211,12 +218,12 @@ impl<T: Copy> Chains<T> {
         self.count(list) > 0
     }
 
-    /// What stands in a slot.
-    pub fn held(&self, x: usize) -> Option<Held<T>>
-        ensures { result ≡ option_map (λ p. p.1) (shown self.now x) }
+    /// The value in a slot.
+    pub fn get(&self, x: usize) -> Option<T>
+        ensures { result ≡ value_at self.now x }
     {
         match self.items.get(x) {
-            Some(item) => Some(item.held),
+            Some(item) => Some(item.held.value),
             None => None,
         }
     }
@@ -230,6 +237,24 @@ impl<T: Copy> Chains<T> {
             at: self.first(list),
             left: self.items.len(),
         }
+    }
+
+    /// No values, for a list that isn't there.
+    pub fn no_items(&self) -> Items<'_, T>
+        ensures { result ≡ [] }
+    {
+        Items {
+            items: &self.items,
+            at: None,
+            left: 0,
+        }
+    }
+
+    /// How many values there are on all lists.
+    pub fn len(&self) -> usize
+        ensures { (rs : List (Row T)) → Holds self.now rs → result ≡ length rs }
+    {
+        self.items.len()
     }
 
     /// A slot's number is below this.
@@ -265,11 +290,12 @@ impl<T: Copy> Chains<T> {
         let _gone = self.ends.try_remove(list);
     }
 
-    /// A value comes to the end of a list. Takes no memory.
+    /// Puts a value behind all others on a list, where there is room, and answers its slot.
     pub fn push(&mut self, list: usize, value: T, counted: bool) -> usize
         requires { 1 ≤ item_room self.old }
         ensures stands { (rs : List (Row T)) → Holds self.old rs → is_open self.old list ≡ true
             → Holds self.new (rs ++ record { key = result; list = list; held = record { value = value; counted = counted } } ∷ []) }
+        ensures few { (rs : List (Row T)) → Holds self.old rs → length rs < 18446744073709551615 }
         ensures open { (m : ℕ) → is_open self.new m ≡ is_open self.old m }
         ensures items { item_room self.new + 1 ≡ item_room self.old }
         ensures lists { list_room self.new ≡ list_room self.old }
@@ -290,17 +316,18 @@ impl<T: Copy> Chains<T> {
     }
 
     /// The value in a slot goes, if there is one.
-    pub fn remove(&mut self, x: usize)
+    pub fn remove(&mut self, x: usize) -> Option<T>
+        ensures gone { result ≡ value_at self.old x }
         ensures stands { (rs : List (Row T)) → Holds self.old rs → Holds self.new (drop_key x rs) }
         ensures open { (m : ℕ) → is_open self.new m ≡ is_open self.old m }
         ensures items { item_room self.old ≤ item_room self.new }
         ensures lists { list_room self.new ≡ list_room self.old }
     {
-        if let Some(item) = self.leave(x) {
-            let count = lowered(self.count(item.list), item.held.counted);
-            self.set_next(item.list, item.prev, item.next);
-            self.set_prev(item.list, item.next, item.prev);
-            self.set_count(item.list, count);
-        }
+        let item = self.leave(x)?;
+        let count = lowered(self.count(item.list), item.held.counted);
+        self.set_next(item.list, item.prev, item.next);
+        self.set_prev(item.list, item.next, item.prev);
+        self.set_count(item.list, count);
+        Some(item.held.value)
     }
 }

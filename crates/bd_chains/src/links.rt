@@ -18,7 +18,7 @@ pub struct Item<T> {
     pub next: Option<usize>,
 }
 
-/// The two ends of a list, and how many on it are counted.
+/// A list's record: its two ends, and a count.
 #[derive(Clone, Copy)]
 pub struct Ends {
     pub first: Option<usize>,

@@ -7,7 +7,8 @@ use Rattle.bd_space.specs.declared.space.TodoList.{TodoList}
 use Rattle.bd_space.specs.declared.space.TodoList.TheVariants.{OfThread, OfProcess}
 use Rattle.bd_space.specs.Todo.{same_list}
 use Rattle.bd_links.specs.declared.heads.ListKey.{ListKey}
-use Rattle.bd_links.specs.Heads.{list_key, same_key, row_of, head_by}
+use Rattle.bd_links.specs.Keys.{list_key, same_key}
+use Rattle.bd_links.specs.Heads.{row_of, head_by}
 use Rattle.bd_links.proofs.ListKeys.{same_keys}
 
 row-some : (n t i : ℕ) → row_of n (OfThread t) ≡ Some i → (t ≡ i) × (t < n)

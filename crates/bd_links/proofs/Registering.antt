@@ -10,7 +10,7 @@ use Rattle.bd_links.specs.Dated.{Dated}
 use Rattle.bd_links.specs.Front.{is_front}
 use Rattle.bd_links.specs.Each.{Each}
 use Rattle.bd_links.specs.Rising.{rank, Rises, RisesTo}
-use Rattle.bd_links.specs.Spots.{sought_of, unread_of, Counted}
+use Rattle.bd_links.specs.Spots.{sought_of, Counted}
 use Rattle.bd_links.specs.Registered.{Registered}
 use Rattle.bd_links.proofs.Dating.{dated_new, dated_older, dated_cut}
 use Rattle.bd_links.proofs.Each.{each-push, each-cut, each-so, pairs-push, pairs-cut, pairs-filter}
@@ -20,12 +20,11 @@ abbrev Under : Work → Work → Type 0
 Under v w = rank v.id < rank w.id
 
 pub register_came : (t u : Register) (w : Work) (todo : List Work) → Registered t todo → length todo < 18446744073709551615 → w.id.index ≡ count_by (λ v. v.id.place == w.id.place) todo
-    → Counted (λ v. sought_of v.kind) u.spots (todo ++ w ∷ []) → Counted unread_of u.unread (todo ++ w ∷ []) → u.len ≡ min (t.len + 1) 18446744073709551615 → (u.rises ≡ true → ((t.len == 0) || (t.rises && nat_lt (rank t.last) (rank w.id))) ≡ true) → u.last ≡ w.id
+    → Counted (λ v. sought_of v.kind) u.spots (todo ++ w ∷ []) → u.len ≡ min (t.len + 1) 18446744073709551615 → (u.rises ≡ true → ((t.len == 0) || (t.rises && nat_lt (rank t.last) (rank w.id))) ≡ true) → u.last ≡ w.id
     → (t.latest ≤ w.id.place → (u.latest ≡ w.id.place) × (u.count ≡ min (w.id.index + 1) 18446744073709551615)) → (w.id.place < t.latest → (u.latest ≡ t.latest) × (u.count ≡ t.count))
     → Registered u (todo ++ w ∷ [])
-register_came t u w todo h few is counts unread len rises last newer older = record {
+register_came t u w todo h few is counts len rises last newer older = record {
   counted = counts;
-  unread = unread;
   dated = dated (nat_le t.latest w.id.place) refl;
   len = let a = length-append todo (w ∷ []) in let n = h.len in omega (arith, a, n, len, few);
   rising = λ r. subst (λ i. RisesTo i (todo ++ w ∷ [])) (sym last) (rising (t.len == 0) refl (rises r));
@@ -61,11 +60,10 @@ register_came t u w todo h few is counts unread len rises last newer older = rec
         at false r l = absurd cc
 
 pub register_went : (t u : Register) (before : List Work) (w : Work) (after : List Work) → Registered t (before ++ w ∷ after)
-    → Counted (λ v. sought_of v.kind) u.spots (before ++ after) → Counted unread_of u.unread (before ++ after) → u.len ≡ t.len - 1 → u.rises ≡ t.rises → u.last ≡ t.last → u.latest ≡ t.latest → u.count ≡ cond (w.id.place == t.latest) (t.count - 1) t.count
+    → Counted (λ v. sought_of v.kind) u.spots (before ++ after) → u.len ≡ t.len - 1 → u.rises ≡ t.rises → u.last ≡ t.last → u.latest ≡ t.latest → u.count ≡ cond (w.id.place == t.latest) (t.count - 1) t.count
     → Registered u (before ++ after)
-register_went t u before w after h counts unread len rises last late count = record {
+register_went t u before w after h counts len rises last late count = record {
   counted = counts;
-  unread = unread;
   dated = subst (λ n. Dated n u.count (before ++ after)) (sym late) (dated_cut t.latest t.count u.count before w after h.dated count);
   len = let n = h.len in let a = length-append before (w ∷ after) in let b = length-append before after in omega (arith, n, a, b, len);
   rising = λ r.

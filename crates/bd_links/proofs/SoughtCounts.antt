@@ -3,9 +3,8 @@ use Rattle.std.proofs.Common.{◌≡◌, ℕ, ◌+◌, ◌-◌, ◌<◌, ◌==�
 use Rattle.std.specs.List.{list_any}
 use Rattle.std.proofs.lemmas.List.Sums.{sum_by-append, sum_by-cons, count_by-le-length}
 use Rattle.bd_space.specs.declared.space.Work.{Work}
-use Rattle.bd_links.proofs.ListKeys.{same_key-eq}
 use Rattle.bd_links.specs.declared.spots.Sought.{Sought}
-use Rattle.bd_links.specs.declared.spots.Sought.TheVariants.{Notice, Call, Death, Unread}
+use Rattle.bd_links.specs.declared.spots.Sought.TheVariants.{Notice, Call, Death}
 use Rattle.bd_links.specs.declared.spots.Spot.{Spot}
 use Rattle.bd_links.specs.declared.spots.Spots.{Spots}
 use Rattle.bd_links.specs.Spots.{same_sought, is_key, count_at, Counted}
@@ -26,7 +25,6 @@ same_sought-eq (Notice p i) (Notice q j) h =
     both false b h = cc
 same_sought-eq (Call b) (Call c) h = ap Call (eqb-true b c h)
 same_sought-eq (Death m) (Death n) h = ap Death (eqb-true m n h)
-same_sought-eq (Unread a) (Unread b) h = ap Unread (same_key-eq a b h)
 same_sought-eq _ _ h = cc
 
 -- what is written at a key, as a change of what was found is_there

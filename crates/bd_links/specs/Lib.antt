@@ -1,15 +1,10 @@
 pub mod Stands
 pub mod TodoList
 pub mod Each
-pub mod Rings
-pub mod Moved
-pub mod Nodes
+pub mod Keys
 pub mod Heads
-pub mod Queues
-pub mod Shown
+pub mod Rows
 pub mod QueuesStand
-pub mod Walk
-pub mod Sweep
 pub mod Dated
 pub mod Front
 pub mod Spots

@@ -1,19 +1,18 @@
 -- What a register says of all work items.
-use Rattle.std.specs.Prelude.{ℕ, ◌≡◌, true, List, length, min}
+use Rattle.std.specs.Prelude.{ℕ, ◌≡◌, true, List, length}
 use Rattle.bd_ways.specs.Words.{Work}
 use Rattle.std.specs.HashMap.{spare}
 use Rattle.bd_links.specs.declared.register.Register.{Register}
 use Rattle.bd_links.specs.Dated.{Dated}
 use Rattle.bd_links.specs.Rising.{RisesTo}
-use Rattle.bd_links.specs.Spots.{sought_of, unread_of, Counted}
+use Rattle.bd_links.specs.Spots.{sought_of, Counted}
 
 pub record Registered (t : Register) (todo : List Work) : Type 0 where
   pub counted : Counted (λ w. sought_of w.kind) t.spots todo
-  pub unread : Counted unread_of t.unread todo
   pub dated : Dated t.latest t.count todo
   pub len : t.len ≡ length todo
   pub rising : t.rises ≡ true → RisesTo t.last todo
 
 -- how many more it takes without memory
 abbrev pub register_room : Register → ℕ
-register_room t = min (spare t.spots.spots) (spare t.unread.spots)
+register_room t = spare t.spots.spots

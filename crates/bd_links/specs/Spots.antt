@@ -1,14 +1,11 @@
 -- What work items are looked up by, and how many are looked up so.
-use Rattle.std.specs.Prelude.{ℕ, ◌≡◌, Bool, List, count_by, Option, Some, None, option_map, unwrap_or, if◌then◌else◌}
+use Rattle.std.specs.Prelude.{ℕ, ◌≡◌, Bool, List, count_by, Option, Some, None, option_map, unwrap_or}
 use Rattle.bd_ways.specs.Words.{is_some_and, Work, WorkKind}
 use Rattle.std.specs.HashMap.{get_by}
-use Rattle.bd_space.specs.Todo.{keeps_from_calling}
 use Rattle.bd_space.specs.declared.space.WorkKind.TheVariants as work
 use Rattle.bd_words.specs.Numbers.{pair, wide}
-use Rattle.bd_links.specs.Heads.{list_key}
-use Rattle.bd_links.specs.Heads as heads
 use Rattle.bd_links.specs.declared.spots.Sought.{Sought}
-use Rattle.bd_links.specs.declared.spots.Sought.TheVariants.{Notice, Call, Death, Unread}
+use Rattle.bd_links.specs.declared.spots.Sought.TheVariants.{Notice, Call, Death}
 use Rattle.bd_links.specs.declared.spots.Spots.{Spots}
 use Rattle.bd_links.specs.contracts.spots.SoughtPartialEq.TheImpl as sought
 
@@ -20,17 +17,12 @@ abbrev pub spread : Sought → ℕ
 spread (Notice p i) = wide 0 (pair p i)
 spread (Call b) = wide 1 b
 spread (Death n) = wide 2 n
-spread (Unread l) = wide 3 (heads.spread l)
 
 abbrev pub sought_of : WorkKind → Option Sought
 sought_of (work.Notice o) = Some (Notice o.place o.index)
 sought_of (work.Call b) = Some (Call b)
 sought_of (work.Death n) = Some (Death n)
 sought_of _ = None
-
--- what keeps from calling, by its list
-abbrev pub unread_of : Work → Option Sought
-unread_of w = if keeps_from_calling w.kind then Some (Unread (list_key w.list)) else None
 
 -- what is looked up by the one key is looked up by the other
 abbrev pub is_key : Sought → Option Sought → Bool

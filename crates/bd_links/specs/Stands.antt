@@ -2,6 +2,8 @@
 use Rattle.std.specs.Prelude.{ℕ, List, min}
 use Rattle.bd_ways.specs.Words.{Work}
 use Rattle.bd_words.specs.Tables as tables
+use Rattle.bd_chains.specs.Rows.{Row}
+use Rattle.bd_links.specs.Rows.{works}
 use Rattle.bd_links.specs.declared.table.WorkTable.{WorkTable}
 use Rattle.bd_links.specs.Registered.{Registered, register_room}
 use Rattle.bd_links.specs.QueuesStand as queues
@@ -9,6 +11,11 @@ use Rattle.bd_links.specs.QueuesStand as queues
 pub record WorksAre (t : WorkTable) (l : List Work) : Type 0 where
   pub queues_stand : queues.Stands t.queues l
   pub registered : Registered t.register l
+
+-- the same of these rows
+pub record RowsAre (t : WorkTable) (rs : List (Row Work)) : Type 0 where
+  pub shows : queues.Shows t.queues rs
+  pub registered : Registered t.register (works rs)
 
 -- how many items more it takes without memory, as a number of the machine
 unfoldable pub work_room : WorkTable → ℕ

@@ -1,15 +1,13 @@
-//! What is found among the work items on a list, by its ring.
+//! What is found among the work items on a list, one after the other.
 
-ghost use Rattle.std.specs.{Prelude.{◌≡◌, true, List, Some}, List.{list_any, slice_get}};
-ghost use Rattle.bd_space.specs.declared.space.Work.{Work};
+ghost use Rattle.std.specs.{Prelude.{◌≡◌, true, Some}, List.{list_any, slice_get}};
 ghost use Rattle.bd_space.specs.Todo as spec;
 ghost use Rattle.bd_space.specs.ThreadExits as exits;
 ghost use Rattle.bd_links.specs.TodoList as replies;
 ghost use Rattle.bd_links.specs.Front as front;
-ghost use Rattle.bd_links.specs.QueuesStand.{Stands};
 
-use crate::queues::Queues;
-use crate::unread::Works;
+use crate::queues::Works;
+use crate::table::WorkTable;
 use crate::work::{is_call, reply_of};
 use bd_space::{Identity, TodoList, Work};
 
@@ -37,7 +35,7 @@ fn first_reply_among(works: Works<'_>) -> Option<u32>
 }
 
 // The first is called so, and no other is.
-fn is_front(works: Works<'_>, id: Identity) -> bool
+pub(crate) fn is_front(works: Works<'_>, id: Identity) -> bool
     ensures { result ≡ front.is_front id true works.entry }
 {
     let mut first = true;
@@ -54,40 +52,40 @@ fn is_front(works: Works<'_>, id: Identity) -> bool
     !first
 }
 
-impl Queues {
-    /// Whether a work item is the first on its list, and no other on it is called the same.
-    pub fn is_first(&self, item: &Work) -> bool
-        ensures { (todo : List Work) → Stands self.now todo
-            → result ≡ front.is_front item.now.id true (spec.work_on todo (Some item.now.list)) }
-    {
-        is_front(self.works_on(item.list), item.id)
-    }
+impl WorkTable {
+    ghost use Rattle.bd_links.specs.Stands.{Tells};
 
     /// Whether anything is on a list.
     pub fn has_any(&self, list: TodoList) -> bool
-        ensures { (todo : List Work) → Stands self.now todo → result ≡ spec.has_work_in todo list }
+        ensures { Tells self.now result (λ l. spec.has_work_in l list) }
     {
-        self.work_at(list, 0).is_some()
+        self.queues.front(list).is_some()
+    }
+
+    /// The work items on a list, oldest first.
+    pub fn works_on(&self, list: TodoList) -> Works<'_>
+        ensures { Tells self.now result (λ l. spec.work_on l (Some list)) }
+    {
+        self.queues.works_on(list)
     }
 
     /// The `k`-th work item on a list, oldest first.
     pub fn work_at(&self, list: TodoList, k: usize) -> Option<Work>
-        ensures { (todo : List Work) → Stands self.now todo → result ≡ slice_get (spec.work_on todo (Some list)) k }
+        ensures { Tells self.now result (λ l. slice_get (spec.work_on l (Some list)) k) }
     {
         self.works_on(list).nth(k)
     }
 
     /// Where the first reply on a list was made.
     pub fn first_reply(&self, list: TodoList) -> Option<u32>
-        ensures { (todo : List Work) → Stands self.now todo
-            → result ≡ replies.first_reply_in (spec.work_on todo (Some list)) }
+        ensures { Tells self.now result (λ l. replies.first_reply_in (spec.work_on l (Some list))) }
     {
         first_reply_among(self.works_on(list))
     }
 
     /// Whether the call made there stands unread on a list.
     pub fn is_unread_on(&self, list: TodoList, made: u32) -> bool
-        ensures { (todo : List Work) → Stands self.now todo → result ≡ exits.is_unread_on todo list made }
+        ensures { Tells self.now result (λ l. exits.is_unread_on l list made) }
     {
         any_is_call(self.works_on(list), made)
     }

@@ -1,11 +1,12 @@
-//! Where the ring of each list begins.
+//! The numbers of the lists.
 
 ghost use Rattle.std.specs.{Prelude.{ℕ, ◌≡◌, ◌≤◌, ◌<◌, ◌+◌, length, Some, None, OnOk, OnErr, if◌then◌else◌}, Cmp.Rules.{hashing}};
 ghost use Rattle.std.specs.Hash as fed;
-ghost use Rattle.std.{specs.HashMap.{spare}, proofs.Common.{rules}};
+ghost use Rattle.std.{specs.HashMap.{spare, get_by}, proofs.Common.{rules}};
 ghost use Rattle.bd_space.specs.declared.space.TodoList as declared;
 ghost use Rattle.bd_space.specs.Todo.{same_list};
-ghost use Rattle.bd_links.specs.Heads as heads;
+ghost use Rattle.bd_links.specs.Keys as keys;
+ghost use Rattle.bd_links.specs.declared.heads.Recent as noting;
 
 use bd_space::TodoList;
 use bd_uapi::MOST_SEATS;
@@ -24,7 +25,7 @@ pub enum ListKey {
 impl ListKey {
     /// A number of 33 bits, another for each key.
     pub(crate) fn spread(self) -> u64
-        ensures { result ≡ heads.spread self }
+        ensures { result ≡ keys.spread self }
     {
         match self {
             ListKey::Thread { seat } => pair(0, seat),
@@ -35,7 +36,7 @@ impl ListKey {
 
 // One write, as `bd_words` says.
 impl Hash for ListKey {
-    ghost hash_input = { λ k. fed.u64 (heads.spread k) };
+    ghost hash_input = { λ k. fed.u64 (keys.spread k) };
 
     ghost respects_eq = { Prim.search (hashing, rules) };
 
@@ -46,7 +47,7 @@ impl Hash for ListKey {
 
 /// The key of a list.
 pub fn list_key(list: TodoList) -> ListKey
-    ensures { result ≡ heads.list_key list }
+    ensures { result ≡ keys.list_key list }
 {
     match list {
         TodoList::OfThread(seat) => ListKey::Thread { seat },
@@ -57,27 +58,40 @@ pub fn list_key(list: TodoList) -> ListKey
 // As many seats as a driver has.
 const SEATS: usize = MOST_SEATS as usize;
 
-/// Where the ring of each list begins that has one.
-#[derive(Debug, Drop)]
+/// A list that was filled, and its number.
+#[derive(Clone, Copy)]
+pub struct Recent {
+    pub key: ListKey,
+    pub number: usize,
+}
+
+/// The number of each list that has one.
+#[derive(Drop)]
 pub struct Heads {
-    // Of the lists of threads, by seat: most looks are at these, and take no hash. There are none before the first node.
+    // Of the lists of threads, by seat: most looks are at these, and take no hash. There are none before the first item.
     pub(crate) threads: Vec<Option<usize>>,
     // Of all other lists.
     pub(crate) others: HashMap<ListKey, usize>,
+    // Of these the one that was filled last, if it is known: mostly it is the next that is asked for, and then takes no hash.
+    pub(crate) recent: Option<Recent>,
+    ghost noted: { (r : noting.Recent) → recent ≡ Some r → get_by (keys.same_key r.key) others ≡ Some r.number },
 }
 
 impl Heads {
-    /// No list has a ring. Takes no memory.
+    ghost use Rattle.bd_links.specs.Heads as heads;
+
+    /// No list has a number. Takes no memory.
     pub fn new(alloc: Global) -> Heads
         ensures { (l : declared.TodoList) → heads.head_at result l ≡ None }
     {
         Heads {
             threads: Vec::new(alloc),
             others: HashMap::new(alloc),
+            recent: None,
         }
     }
 
-    /// Keeps the lists of seats apart, where no list has a ring yet.
+    /// Keeps the lists of seats apart, where no list has a number yet.
     pub fn begin(&mut self) -> Result<(), AllocError>
         ensures heads { ((l : declared.TodoList) → heads.head_at self.old l ≡ None)
             → (l : declared.TodoList) → heads.head_at self.new l ≡ None }
@@ -101,18 +115,59 @@ impl Heads {
         }
     }
 
-    /// The head of a list's ring.
+    /// The number of a list.
     #[tactic(auto, unfolding(crate::specs::Heads::head_at))]
     pub fn of(&self, list: TodoList) -> Option<usize>
         ensures { result ≡ heads.head_at self.now list }
     {
         match self.row(list) {
             Some(at) => self.threads[at],
-            None => self.others.get(&list_key(list)).copied(),
+            None => self.number_of(list_key(list)),
         }
     }
 
-    /// The ring of a list begins there from now on.
+    // The number of a list that has no row.
+    fn number_of(&self, key: ListKey) -> Option<usize>
+        ensures { result ≡ get_by (keys.same_key key) self.now.others }
+    {
+        if let Some(recent) = self.recent {
+            if recent.key == key {
+                return Some(recent.number);
+            }
+        }
+        self.others.get(&key).copied()
+    }
+
+    /// The number of a list that is about to be filled.
+    #[tactic(auto, unfolding(crate::specs::Heads::head_at))]
+    pub fn find(&mut self, list: TodoList) -> Option<usize>
+        ensures found { result ≡ heads.head_at self.old list }
+        ensures heads { (l : declared.TodoList) → heads.head_at self.new l ≡ heads.head_at self.old l }
+        ensures others { self.new.others ≡ self.old.others }
+    {
+        match self.row(list) {
+            Some(at) => self.threads[at],
+            None => {
+                let key = list_key(list);
+                let number = self.number_of(key);
+                self.note(key, number);
+                number
+            }
+        }
+    }
+
+    // The number is looked for first from now on.
+    fn note(&mut self, key: ListKey, number: Option<usize>)
+        requires { number ≡ get_by (keys.same_key key) self.old.others }
+        ensures threads { self.new.threads ≡ self.old.threads }
+        ensures others { self.new.others ≡ self.old.others }
+    {
+        if let Some(number) = number {
+            self.recent = Some(Recent { key, number });
+        }
+    }
+
+    /// A list has this number from now on.
     pub fn put(&mut self, list: TodoList, head: usize)
         requires { 0 < spare self.old.others }
         ensures heads { (l : declared.TodoList) → heads.head_at self.new l
@@ -122,12 +177,13 @@ impl Heads {
         match self.row(list) {
             Some(at) => self.threads[at] = Some(head),
             None => {
+                self.recent = None;
                 insert_reserved(&mut self.others, list_key(list), head);
             }
         }
     }
 
-    /// The list has no ring from now on.
+    /// The list has no number from now on.
     pub fn take(&mut self, list: TodoList)
         ensures heads { (l : declared.TodoList) → heads.head_at self.new l
             ≡ (if same_list list l then None else heads.head_at self.old l) }
@@ -136,6 +192,7 @@ impl Heads {
         match self.row(list) {
             Some(at) => self.threads[at] = None,
             None => {
+                self.recent = None;
                 let _gone = self.others.remove(&list_key(list));
             }
         }

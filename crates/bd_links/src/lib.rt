@@ -3,15 +3,12 @@
 
 mod finding;
 mod heads;
-mod links;
 mod queues;
 mod register;
 mod spots;
-mod sweep;
 mod table;
-mod unread;
 mod work;
 
+pub use queues::Works;
 pub use table::WorkTable;
-pub use unread::Works;
 pub use work::{hands_out, is_call};

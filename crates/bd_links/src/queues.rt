@@ -1,115 +1,69 @@
-//! Queues.
+//! Work items in queues: each on the list that it names, whose number stands by seat or by process.
 
-ghost use Rattle.std.specs.Prelude.{ℕ, ◌≡◌, ◌+◌, ◌^◌, ◌<◌, ◌≤◌, ◌++◌, ◌∷◌, [], List, Some, false, map, set, is_some, IfSome, vec_len, OnOk, OnErr, ◌/◌, ◌-◌};
+ghost use Rattle.std.specs.Prelude.{ℕ, ◌≡◌, ◌+◌, ◌<◌, ◌≤◌, ◌==◌, ◌&&◌, ◌++◌, ◌∷◌, [], false, List, length, count_by, is_some, Some, IfSome, OnOk, OnErr};
 ghost use Rattle.std.specs.{List.{list_any}, HashMap.{spare}};
 ghost use Rattle.bd_space.specs.declared.space.Work.{Work};
-ghost use Rattle.bd_links.specs.{Heads.{head_at}, Queues.{no_work}};
+ghost use Rattle.bd_space.specs.Words.{is_some_and};
+ghost use Rattle.bd_space.specs.Todo as spec;
+ghost use Rattle.bd_links.specs.Heads.{head_at};
 
 use crate::heads::Heads;
-use crate::links::{Node, attach, detach, move_last, next_of, set_next, set_prev, set_work};
-use bd_space::{Identity, TodoList, Work, WorkKind};
+use crate::work::keeps_from_calling;
+use bd_chains::{Chains, Items};
+use bd_space::{TodoList, Work};
 use std::alloc::{AllocError, Global};
 
+/// The work items on a list, oldest first.
+pub type Works<'a> = Items<'a, Work>;
+
 /// Work items in queues.
-#[derive(Debug, Drop)]
+#[derive(Drop)]
 pub struct Queues {
-    pub nodes: Vec<Node>,
-    // Where the ring of each list begins that has one.
+    pub chains: Chains<Work>,
+    // The number of each list that has one.
     pub lists: Heads,
-    // At least so many nodes are free.
-    pub free: usize,
-}
-
-// What a free node holds.
-pub(crate) fn no_work() -> Work
-    ensures { result ≡ no_work }
-{
-    Work {
-        id: Identity { place: 0, index: 0 },
-        list: TodoList::OfThread(0),
-        kind: WorkKind::Complete { spam: false },
-    }
-}
-
-fn free_node() -> Node
-    ensures prev { result.prev ≡ 0 }
-    ensures next { result.next ≡ 0 }
-    ensures row { result.row ≡ 0 }
-{
-    Node {
-        prev: 0,
-        next: 0,
-        row: 0,
-        work: no_work(),
-    }
 }
 
 impl Queues {
-    ghost use Rattle.bd_space.specs.Todo.{is_on};
-    ghost use Rattle.bd_links.specs.{Rings.{In, without}, Moved.{moved_order}, Nodes.{rows, works}};
-    ghost use Rattle.bd_links.specs.Queues.{used, work_in};
-    ghost use Rattle.bd_links.specs.QueuesStand.{Shows, Stands, FrontIn, IsFirstAt, queue_room};
+    ghost use Rattle.bd_chains.specs.Rows.{Row, drop_key};
+    ghost use Rattle.bd_chains.specs.Columns.{item_room, list_room, room_of};
+    ghost use Rattle.bd_links.specs.QueuesStand.{Shows, Stands, FrontIn, work_at, queue_room};
 
     /// No queues. Takes no memory.
     pub fn new(alloc: Global) -> Queues
         ensures { Stands result [] }
     {
         Queues {
-            nodes: Vec::new(alloc),
+            chains: Chains::new(alloc),
             lists: Heads::new(alloc),
-            free: 0,
         }
     }
 
-    // The first node is the head of the free ones.
+    // Rows for the seats' lists, before there is any list.
     fn begin(&mut self) -> Result<(), AllocError>
         ensures stands { (todo : List Work) → Stands self.old todo → Stands self.new todo }
-        ensures begun { OnOk result (1 ≤ vec_len self.new.nodes) }
-        ensures lists { self.new.lists.others ≡ self.old.lists.others }
-        ensures free { self.new.free ≡ self.old.free }
+        ensures chains { self.new.chains ≡ self.old.chains }
+        ensures others { self.new.lists.others ≡ self.old.lists.others }
     {
-        if self.nodes.len() == 0 {
-            self.lists.begin()?;
-            self.nodes.push(free_node())?;
+        if self.chains.is_unused() {
+            return self.lists.begin();
         }
         Ok(())
     }
 
-    // One free node more.
-    fn add_node(&mut self) -> Result<(), AllocError>
-        requires begun { 1 ≤ vec_len self.old.nodes }
-        ensures stands { (todo : List Work) → Stands self.old todo → Stands self.new todo }
-        ensures begun { vec_len self.old.nodes ≤ vec_len self.new.nodes }
-        ensures lists { self.new.lists ≡ self.old.lists }
-        ensures ok { OnOk result (self.new.free ≡ self.old.free + 1) }
-        ensures free { self.old.free ≤ self.new.free }
-    {
-        if self.free == usize::MAX {
-            return Err(AllocError);
-        }
-        let len = self.nodes.len();
-        self.nodes.push(free_node())?;
-        attach(&mut self.nodes, len, 0);
-        self.free += 1;
-        Ok(())
-    }
-
-    // Free nodes for so many work items and their lists.
+    // Slots for so many work items and their lists.
     fn grow(&mut self, works: usize) -> Result<(), AllocError>
         ensures stands { (todo : List Work) → Stands self.old todo → Stands self.new todo }
         ensures lists { self.new.lists.others ≡ self.old.lists.others }
-        ensures ok { OnOk result (works ≤ self.new.free / 2) }
-        ensures free { self.old.free ≤ self.new.free }
-        ensures grown { OnErr result (works ≤ self.old.free / 2 → ⊥) }
+        ensures ok { OnOk result (works ≤ room_of self.new.chains) }
+        ensures room { room_of self.old.chains ≤ room_of self.new.chains }
+        ensures grown { OnErr result (works ≤ room_of self.old.chains → ⊥) }
     {
-        if works <= self.free / 2 {
+        if works <= self.chains.room() {
             return Ok(());
         }
         self.begin()?;
-        while self.free / 2 < works {
-            self.add_node()?;
-        }
-        Ok(())
+        self.chains.reserve(works)
     }
 
     /// Makes room for so many more. Fails for want of memory.
@@ -123,87 +77,114 @@ impl Queues {
         self.lists.reserve(works)
     }
 
-    // The head of a list's ring, which is made where there is none.
+    // The number of a list, which is opened where it has none.
     fn head_for(&mut self, list: TodoList) -> usize
-        requires node { 1 ≤ self.old.free }
+        requires open { 1 ≤ list_room self.old.chains }
         requires room { 0 < spare self.old.lists.others }
         ensures stands { (todo : List Work) → Stands self.old todo → Stands self.new todo }
         ensures head { head_at self.new.lists list ≡ Some result }
-        ensures free { self.old.free ≤ self.new.free + 1 }
+        ensures items { item_room self.new.chains ≡ item_room self.old.chains }
+        ensures open { list_room self.old.chains ≤ list_room self.new.chains + 1 }
         ensures lists { spare self.old.lists.others ≤ spare self.new.lists.others + 1 }
     {
-        if let Some(head) = self.lists.of(list) {
+        if let Some(head) = self.lists.find(list) {
             return head;
         }
-        let x = next_of(&self.nodes, 0);
-        detach(&mut self.nodes, x);
-        set_next(&mut self.nodes, x, x);
-        set_prev(&mut self.nodes, x, x);
-        self.lists.put(list, x);
-        self.free -= 1;
-        x
+        let head = self.chains.open();
+        self.lists.put(list, head);
+        head
     }
 
-    /// One work item more. Answers its node.
+    /// One work item more. Answers its slot.
     pub fn push(&mut self, work: Work) -> usize
         requires { 1 ≤ queue_room self.old }
         ensures stands { (todo : List Work) → Stands self.old todo → Stands self.new (todo ++ work ∷ []) }
+        ensures few { (todo : List Work) → Stands self.old todo → length todo < 18446744073709551615 }
         ensures uses { queue_room self.old ≤ queue_room self.new + 1 }
     {
         let head = self.head_for(work.list);
-        self.push_at(head, work)
+        self.chains.push(head, work, keeps_from_calling(work.kind))
     }
 
-    // One work item more, at the end of the ring of its list's head.
-    fn push_at(&mut self, head: usize, work: Work) -> usize
-        requires { 1 ≤ self.old.free }
-        ensures stands { (todo : List Work) → Stands self.old todo → head_at self.old.lists work.list ≡ Some head → Stands self.new (todo ++ work ∷ []) }
-        ensures lists { self.new.lists ≡ self.old.lists }
-        ensures free { self.new.free + 1 ≡ self.old.free }
-    {
-        let x = next_of(&self.nodes, 0);
-        move_last(&mut self.nodes, x, head);
-        set_work(&mut self.nodes, x, work);
-        self.free -= 1;
-        x
-    }
-
-    /// The work item of a node goes, wherever it stands.
-    pub fn remove_at(&mut self, x: usize)
-        ensures stands { (todo : List Work) (order : List ℕ) → Shows self.old todo order → In x (used (rows self.old.nodes.items) order) → Shows self.new (map (work_in (works self.old.nodes.items)) (without x (used (rows self.old.nodes.items) order))) (moved_order x order) }
-        ensures rows { rows self.new.nodes.items ≡ set (rows self.old.nodes.items) x 0 }
-        ensures works { works self.new.nodes.items ≡ works self.old.nodes.items }
-        ensures len { vec_len self.new.nodes ≡ vec_len self.old.nodes }
+    /// The work item in a slot goes, if there is one.
+    pub fn remove_at(&mut self, x: usize) -> Option<Work>
+        ensures gone { result ≡ work_at self.old x }
+        ensures shows { (rs : List (Row Work)) → Shows self.old rs → Shows self.new (drop_key x rs) }
         ensures uses { queue_room self.old ≤ queue_room self.new }
     {
-        move_last(&mut self.nodes, x, 0);
-        self.free = self.free.saturating_add(1);
+        self.chains.remove(x)
     }
 
-    /// A list on which nothing is needs no head: its node is free again.
+    /// A list on which nothing is needs no number.
     pub fn give_back(&mut self, list: TodoList)
-        ensures stands { (todo : List Work) → Stands self.old todo → list_any (is_on list) todo ≡ false → Stands self.new todo }
+        ensures stands { (todo : List Work) → Stands self.old todo → list_any (spec.is_on list) todo ≡ false → Stands self.new todo }
         ensures uses { queue_room self.old ≤ queue_room self.new }
     {
         if let Some(head) = self.lists.of(list) {
             self.lists.take(list);
-            attach(&mut self.nodes, head, 0);
-            self.free = self.free.saturating_add(1);
+            self.chains.close(head);
         }
     }
 
-    /// The node of the first work item on a list.
-    pub fn front(&self, list: TodoList) -> Option<usize>
-        ensures any { (todo : List Work) → Stands self.now todo → is_some result ≡ list_any (is_on list) todo }
-        ensures some { (todo : List Work) → Stands self.now todo → IfSome result (FrontIn self.now todo list) }
-        ensures first { (todo : List Work) → Stands self.now todo → IfSome result (IsFirstAt self.now todo list) }
+    /// The work item in a slot.
+    pub fn work_in(&self, x: usize) -> Option<Work>
+        ensures { result ≡ work_at self.now x }
     {
-        if let Some(head) = self.lists.of(list) {
-            let x = next_of(&self.nodes, head);
-            if x != head {
-                return Some(x);
+        self.chains.get(x)
+    }
+
+    /// The slot of the first work item on a list.
+    pub fn front(&self, list: TodoList) -> Option<usize>
+        ensures any { (todo : List Work) → Stands self.now todo → is_some result ≡ list_any (spec.is_on list) todo }
+        ensures some { (todo : List Work) → Stands self.now todo → IfSome result (FrontIn self.now todo list) }
+    {
+        match self.lists.of(list) {
+            Some(head) => self.chains.first(head),
+            None => None,
+        }
+    }
+
+    /// Whether a call, a reply or a verdict is on a list.
+    pub fn has_unread(&self, list: TodoList) -> bool
+        ensures { (todo : List Work) → Stands self.now todo
+            → result ≡ list_any (λ w. spec.is_on list w && spec.keeps_from_calling w.kind) todo }
+    {
+        match self.lists.of(list) {
+            Some(head) => self.chains.has_counted(head),
+            None => false,
+        }
+    }
+
+    /// The work items on a list, oldest first.
+    pub fn works_on(&self, list: TodoList) -> Works<'_>
+        ensures { (todo : List Work) → Stands self.now todo → result ≡ spec.work_on todo (Some list) }
+    {
+        match self.lists.of(list) {
+            Some(head) => self.chains.items_on(head),
+            None => self.chains.no_items(),
+        }
+    }
+
+    // A work item that was made at this place is in the slot.
+    fn is_made_at(&self, x: usize, place: u32) -> bool
+        ensures { result ≡ is_some_and (work_at self.now x) (λ w. w.id.place == place) }
+    {
+        match self.work_in(x) {
+            Some(work) => work.id.place == place,
+            None => false,
+        }
+    }
+
+    /// How many were made at this place. Goes over all slots.
+    pub fn count_at(&self, place: u32) -> u64
+        ensures { (todo : List Work) → Stands self.now todo → result ≡ count_by (λ w. w.id.place == place) todo }
+    {
+        let mut count: u64 = 0;
+        for x in 0..self.chains.slots() {
+            if self.is_made_at(x, place) {
+                count += 1;
             }
         }
-        None
+        count
     }
 }

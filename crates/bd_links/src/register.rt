@@ -4,7 +4,7 @@ ghost use Rattle.std.specs.Prelude.{ℕ, Bool, ◌≡◌, ◌==◌, ◌+◌, ◌
 ghost use Rattle.bd_space.specs.declared.space.Work.{Work};
 ghost use Rattle.bd_links.specs.{Rising.{rank}, Registered.{Registered, register_room}};
 
-use crate::spots::{Spots, sought_of, unread_of};
+use crate::spots::{Spots, sought_of};
 use bd_space::{Identity, Work};
 use std::alloc::{AllocError, Global};
 
@@ -13,8 +13,6 @@ use std::alloc::{AllocError, Global};
 pub struct Register {
     // Notices, calls and deaths, whatever their lists.
     pub(crate) spots: Spots,
-    // By their lists those that keep from calling.
-    pub(crate) unread: Spots,
     // No work item was made later than at this place, and so many were made there.
     pub(crate) latest: u32,
     pub(crate) count: u64,
@@ -49,7 +47,6 @@ impl Register {
     {
         Register {
             spots: Spots::new(alloc),
-            unread: Spots::new(alloc),
             latest: 0,
             count: 0,
             len: 0,
@@ -65,8 +62,7 @@ impl Register {
         ensures uses { register_room self.old ≤ register_room self.new }
         ensures grown { OnErr result (more ≤ register_room self.old → ⊥) }
     {
-        self.spots.reserve(more)?;
-        self.unread.reserve(more)
+        self.spots.reserve(more)
     }
 
     // Identities rise, when this one comes last.
@@ -76,8 +72,8 @@ impl Register {
         self.len == 0 || (self.rises && is_before(self.last, id))
     }
 
-    /// A work item came last, into this node.
-    pub fn add(&mut self, work: Work, node: usize)
+    /// A work item came last, into this slot.
+    pub fn add(&mut self, work: Work, slot: usize)
         requires { 0 < register_room self.old }
         ensures stands { (todo : List Work) → length todo < 18446744073709551615
             → work.id.index ≡ count_by (λ w. w.id.place == work.id.place) todo
@@ -85,8 +81,7 @@ impl Register {
         ensures uses { register_room self.old ≤ register_room self.new + 1 }
     {
         self.rises = self.still_rises(work.id);
-        self.spots.add(sought_of(work.kind), node);
-        self.unread.add(unread_of(work), node);
+        self.spots.add(sought_of(work.kind), slot);
         self.last = work.id;
         self.len = self.len.saturating_add(1);
         if self.latest <= work.id.place {
@@ -102,7 +97,6 @@ impl Register {
         ensures uses { register_room self.old ≤ register_room self.new }
     {
         self.spots.take(sought_of(work.kind));
-        self.unread.take(unread_of(work));
         self.len = self.len.saturating_sub(1);
         self.count = without_one(self.count, work.id.place == self.latest);
     }

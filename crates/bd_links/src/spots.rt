@@ -7,12 +7,9 @@ ghost use Rattle.std.{specs.HashMap.{spare, get_by}, proofs.Common.{rules}};
 ghost use Rattle.bd_space.specs.declared.space.Work.{Work};
 ghost use Rattle.bd_links.specs.declared.spots.Sought as declared;
 ghost use Rattle.bd_links.specs.declared.spots.Sought.TheVariants as sought;
-ghost use Rattle.bd_links.specs.Heads as heads;
-ghost use Rattle.bd_links.specs.Spots.{same_sought, spread, sought_of, unread_of, is_sought, count_at, Counted};
+ghost use Rattle.bd_links.specs.Spots.{same_sought, spread, sought_of, is_sought, count_at, Counted};
 
-use crate::heads::{ListKey, list_key};
-use crate::work::keeps_from_calling;
-use bd_space::{ObjectId, TodoList, Work, WorkKind};
+use bd_space::{ObjectId, WorkKind};
 use bd_words::{pair, wide};
 use std::alloc::{AllocError, Global};
 use std::collections::HashMap;
@@ -24,8 +21,6 @@ pub enum Sought {
     Notice { place: u32, index: u32 },
     Call { buffer: u32 },
     Death { made: u32 },
-    // What keeps from calling, on a list.
-    Unread { list: ListKey },
 }
 
 impl Sought {
@@ -37,7 +32,6 @@ impl Sought {
             Sought::Notice { place, index } => wide(0, pair(place, index)),
             Sought::Call { buffer } => wide(1, u64::from(buffer)),
             Sought::Death { made } => wide(2, u64::from(made)),
-            Sought::Unread { list } => wide(3, list.spread()),
         }
     }
 }
@@ -58,8 +52,8 @@ impl Hash for Sought {
 pub struct Spot {
     // So many are looked up so.
     pub count: u64,
-    // The node of the latest.
-    pub node: usize,
+    // The slot of the latest.
+    pub slot: usize,
 }
 
 /// Work items by what they are looked up by.
@@ -78,15 +72,6 @@ pub fn sought_notice(object: ObjectId) -> Sought
     }
 }
 
-/// What keeps from calling on the list.
-pub fn sought_unread(list: TodoList) -> Sought
-    ensures { result ≡ sought.Unread (heads.list_key list) }
-{
-    Sought::Unread {
-        list: list_key(list),
-    }
-}
-
 /// What a notice, a call or a death is looked up by, whatever its list.
 pub fn sought_of(kind: WorkKind) -> Option<Sought>
     ensures { result ≡ sought_of kind }
@@ -96,17 +81,6 @@ pub fn sought_of(kind: WorkKind) -> Option<Sought>
         WorkKind::Call(buffer) => Some(Sought::Call { buffer }),
         WorkKind::Death(made) => Some(Sought::Death { made }),
         _ => None,
-    }
-}
-
-/// What a work item is looked up by that keeps from calling.
-pub fn unread_of(work: Work) -> Option<Sought>
-    ensures { result ≡ unread_of work }
-{
-    if keeps_from_calling(work.kind) {
-        Some(sought_unread(work.list))
-    } else {
-        None
     }
 }
 
@@ -161,7 +135,7 @@ impl Spots {
     }
 
     // One more that is looked up so.
-    fn raise(&mut self, key: Sought, node: usize)
+    fn raise(&mut self, key: Sought, slot: usize)
         requires { 0 < spare self.old.spots }
         ensures counts { (k : declared.Sought) → count_at self.new k
             ≡ (if same_sought key k then min (count_at self.old k + 1) 18446744073709551615 else count_at self.old k) }
@@ -169,9 +143,9 @@ impl Spots {
     {
         match self.spots.entry(key) {
             Ok(entry) => {
-                let spot = entry.or_insert(Spot { count: 0, node });
+                let spot = entry.or_insert(Spot { count: 0, slot });
                 let count = spot.count.saturating_add(1);
-                *spot = Spot { count, node };
+                *spot = Spot { count, slot };
             }
             // It doesn't come: there is room.
             Err(_) => {}
@@ -213,15 +187,15 @@ impl Spots {
         }
     }
 
-    /// A work item came last, into this node, that is looked up so, or not at all.
-    pub fn add(&mut self, key: Option<Sought>, node: usize)
+    /// A work item came last, into this slot, that is looked up so, or not at all.
+    pub fn add(&mut self, key: Option<Sought>, slot: usize)
         requires { 0 < spare self.old.spots }
         ensures counted { (f : Work → Option declared.Sought) (work : Work) (todo : List Work) → key ≡ f work
             → length todo < 18446744073709551615 → Counted f self.old todo → Counted f self.new (todo ++ work ∷ []) }
         ensures uses { spare self.old.spots ≤ spare self.new.spots + 1 }
     {
         if let Some(key) = key {
-            self.raise(key, node);
+            self.raise(key, slot);
         }
     }
 

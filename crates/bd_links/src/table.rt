@@ -1,44 +1,34 @@
 //! The table: its room, its changes and what it tells.
 #![tactic(auto, unfolding(crate::specs::Stands::work_room))]
 
-ghost use Rattle.std.specs.Prelude.{ℕ, Bool, true, List, ◌≡◌, ◌-◌, if◌then◌else◌, ◌&&◌, ◌+◌, ◌≤◌, ◌==◌, [], count_by, not, filter, Some, is_some, OnOk, OnErr, IfSome};
-ghost use Rattle.std.specs.List.{list_any, slice_get};
+ghost use Rattle.std.specs.Prelude.{ℕ, Bool, true, List, ◌≡◌, ◌&&◌, ◌+◌, ◌≤◌, ◌==◌, [], count_by, not, filter, Some, is_some, OnOk, OnErr, IfSome};
+ghost use Rattle.std.specs.List.{list_any};
 ghost use Rattle.bd_words.specs.Tables.{AnswersBy};
 ghost use Rattle.bd_space.specs.{declared.space.Work.{Work}, declared.space.WorkKind.{WorkKind}};
 ghost use Rattle.bd_space.specs.Words as words;
 ghost use Rattle.bd_space.specs.Todo as spec;
-ghost use Rattle.bd_space.specs.ThreadExits as exits;
 ghost use Rattle.bd_space.specs.Notices as notices;
-ghost use Rattle.bd_links.specs.{Front.{is_front}, Nodes.{rows, works}};
-ghost use Rattle.bd_links.specs.Queues as queues;
+ghost use Rattle.bd_links.specs.Front as front;
 ghost use Rattle.bd_links.specs.Spots as spots;
-ghost use Rattle.bd_links.specs.TodoList as replies;
 
+use crate::finding::is_front;
 use crate::queues::Queues;
 use crate::register::Register;
-use crate::spots::{Sought, is_sought, sought_notice, sought_unread};
-use crate::sweep::{is_used, work_in};
-use crate::unread::Works;
+use crate::spots::{Sought, is_sought, sought_notice};
 use crate::work::is_item;
 use bd_space::{Identity, ObjectId, TodoList, Work, WorkKind};
 use std::alloc::{AllocError, Global};
 
 /// The work items of a driver: each is still to be read, on its list.
-#[derive(Debug, Drop)]
+#[derive(Drop)]
 pub struct WorkTable {
     pub(crate) queues: Queues,
     pub(crate) register: Register,
 }
 
-// The work item is called so.
-fn is_called(work: &Work, id: Identity) -> bool
-    ensures { result ≡ words.same_identity work.now.id id }
-{
-    work.id == id
-}
-
 impl WorkTable {
-    ghost use Rattle.bd_links.specs.{QueuesStand.{FrontIn, IsFirstAt}, Stands.{WorksAre, Tells, Makes, work_room}};
+    ghost use Rattle.bd_chains.specs.Rows.{Row, drop_key};
+    ghost use Rattle.bd_links.specs.{QueuesStand.{FrontIn, work_at}, Stands.{WorksAre, RowsAre, Tells, Makes, work_room}};
 
     /// An empty table. Takes no memory.
     pub fn new(alloc: Global) -> WorkTable
@@ -90,22 +80,32 @@ impl WorkTable {
         }
     }
 
-    // The node is the first on the work item's list: whether it holds that one, and no other there is called the same.
-    fn is_alone_at(&self, x: usize, item: &Work) -> bool
-        ensures { (l : List Work) → WorksAre self.now l → IsFirstAt self.now.queues l item.now.list x
-            → result ≡ is_front item.now.id true (spec.work_on l (Some item.now.list)) }
+    // A work item that is called so is in the slot.
+    fn is_called_at(&self, x: usize, id: Identity) -> bool
+        ensures { result ≡ words.is_some_and (work_at self.now.queues x) (λ w. words.same_identity w.id id) }
     {
-        if self.register.rises {
-            is_called(&work_in(&self.queues.nodes, x), item.id)
-        } else {
-            self.queues.is_first(item)
+        match self.queues.work_in(x) {
+            Some(work) => work.id == id,
+            None => false,
         }
     }
 
-    // The node of a work item, if it is the first on its list and no other on that is called the same.
-    fn front_node(&self, item: &Work) -> Option<usize>
+    // In the slot is the first on the work item's list: whether it is that one, and no other there is called the same.
+    fn is_alone_at(&self, x: usize, item: &Work) -> bool
+        ensures { (l : List Work) → WorksAre self.now l → FrontIn self.now.queues l item.now.list x
+            → result ≡ front.is_front item.now.id true (spec.work_on l (Some item.now.list)) }
+    {
+        if self.register.rises {
+            self.is_called_at(x, item.id)
+        } else {
+            is_front(self.queues.works_on(item.list), item.id)
+        }
+    }
+
+    // The slot of a work item, if it is the first on its list and no other on that is called the same.
+    fn front_slot(&self, item: &Work) -> Option<usize>
         ensures first { Tells self.now (is_some result)
-            (λ l. is_front item.now.id true (spec.work_on l (Some item.now.list))) }
+            (λ l. front.is_front item.now.id true (spec.work_on l (Some item.now.list))) }
         ensures front { (l : List Work) → WorksAre self.now l
             → IfSome result (FrontIn self.now.queues l item.now.list) }
     {
@@ -117,12 +117,37 @@ impl WorkTable {
         }
     }
 
+    // The work item in a slot goes, if there is one.
+    fn remove_at(&mut self, x: usize)
+        ensures rows { (rs : List (Row Work)) → RowsAre self.old rs → RowsAre self.new (drop_key x rs) }
+        ensures uses { work_room self.old ≤ work_room self.new }
+    {
+        if let Some(work) = self.queues.remove_at(x) {
+            self.register.take(work);
+        }
+    }
+
+    // Only the work items for which `f` answers `true` stay. Goes over all slots.
+    fn keep<F: Fn(Work) -> bool>(&mut self, f: F)
+        requires { F.IsAlwaysCallable f }
+        ensures stands { (p : Work → Bool) → AnswersBy (λ w b. F.post f w b) p → Makes self.old self.new (λ l. filter p l) }
+        ensures uses { work_room self.old ≤ work_room self.new }
+    {
+        for x in 0..self.queues.chains.slots() {
+            if let Some(work) = self.queues.work_in(x) {
+                if !f(work) {
+                    self.remove_at(x);
+                }
+            }
+        }
+    }
+
     // A work item goes: from the front of its list, if it is there and no other is called the same.
     fn take(&mut self, item: &Work)
         ensures stands { Makes self.old self.new (λ l. filter (λ w. not (spec.is_item w item.now)) l) }
         ensures uses { work_room self.old ≤ work_room self.new }
     {
-        match self.front_node(item) {
+        match self.front_slot(item) {
             Some(x) => self.remove_at(x),
             None => self.keep(|w| !is_item(item, &w)),
         }
@@ -140,22 +165,15 @@ impl WorkTable {
             list,
             kind,
         };
-        let node = self.queues.push(work);
-        self.register.add(work, node);
-    }
-
-    /// Whether anything is on a list.
-    pub fn has_any(&self, list: TodoList) -> bool
-        ensures { Tells self.now result (λ l. spec.has_work_in l list) }
-    {
-        self.queues.has_any(list)
+        let slot = self.queues.push(work);
+        self.register.add(work, slot);
     }
 
     /// Whether a call, a reply or a verdict is on a list.
     pub fn keeps_from_calling(&self, list: TodoList) -> bool
         ensures { Tells self.now result (λ l. list_any (λ w. spec.is_on list w && spec.keeps_from_calling w.kind) l) }
     {
-        self.register.unread.has(sought_unread(list))
+        self.queues.has_unread(list)
     }
 
     /// Whether the notice of an object is on any list.
@@ -172,34 +190,6 @@ impl WorkTable {
         self.register.spots.has(Sought::Call { buffer })
     }
 
-    /// The work items on a list, oldest first.
-    pub fn works_on(&self, list: TodoList) -> Works<'_>
-        ensures { Tells self.now result (λ l. spec.work_on l (Some list)) }
-    {
-        self.queues.works_on(list)
-    }
-
-    /// The `k`-th work item on a list, oldest first.
-    pub fn work_at(&self, list: TodoList, k: usize) -> Option<Work>
-        ensures { Tells self.now result (λ l. slice_get (spec.work_on l (Some list)) k) }
-    {
-        self.queues.work_at(list, k)
-    }
-
-    /// Where the first reply on a list was made.
-    pub fn first_reply(&self, list: TodoList) -> Option<u32>
-        ensures { Tells self.now result (λ l. replies.first_reply_in (spec.work_on l (Some list))) }
-    {
-        self.queues.first_reply(list)
-    }
-
-    /// Whether the call made there stands unread on a list.
-    pub fn is_unread_on(&self, list: TodoList, made: u32) -> bool
-        ensures { Tells self.now result (λ l. exits.is_unread_on l list made) }
-    {
-        self.queues.is_unread_on(list, made)
-    }
-
     /// These work items were read: they go.
     pub fn remove_taken(&mut self, taken: &[Work])
         ensures stands { Makes self.old self.new (λ l. spec.without_taken taken.now l) }
@@ -210,17 +200,24 @@ impl WorkTable {
         }
     }
 
-    // The node of the work item that is looked up so, where there is just one and that is the latest noted.
+    // A work item that is looked up so is in the slot.
+    fn is_sought_at(&self, x: usize, key: Sought) -> bool
+        ensures { result ≡ words.is_some_and (work_at self.now.queues x) (λ w. spots.is_sought key w.kind) }
+    {
+        match self.queues.work_in(x) {
+            Some(work) => is_sought(key, work.kind),
+            None => false,
+        }
+    }
+
+    // The slot of the work item that is looked up so, where there is just one: the latest noted, if that is still there.
     fn only(&self, key: Sought) -> Option<usize>
-        ensures { IfSome result (λ x. (queues.is_used (rows self.now.queues.nodes.items) x ≡ true)
-            × (spots.is_sought key (queues.work_in (works self.now.queues.nodes.items) x).kind ≡ true)
+        ensures { IfSome result (λ x. (words.is_some_and (work_at self.now.queues x) (λ w. spots.is_sought key w.kind) ≡ true)
             × (spots.count_at self.now.register.spots key ≡ 1)) }
     {
         let spot = self.register.spots.spot(key)?;
-        let nodes = &self.queues.nodes;
-        let is_it = is_used(nodes, spot.node) && is_sought(key, work_in(nodes, spot.node).kind);
-        if spot.count == 1 && is_it {
-            Some(spot.node)
+        if spot.count == 1 && self.is_sought_at(spot.slot, key) {
+            Some(spot.slot)
         } else {
             None
         }
@@ -269,7 +266,7 @@ impl WorkTable {
         ensures stands { Makes self.old self.new (λ l. filter (λ w. not (spec.is_on list w)) l) }
         ensures uses { work_room self.old ≤ work_room self.new }
     {
-        for _ in 0..self.queues.nodes.len() {
+        for _ in 0..self.queues.chains.len() {
             if !self.pop(list) {
                 return;
             }

@@ -1,4 +1,4 @@
-use Rattle.std.proofs.Common.{◌≡◌, ℕ, None, length, get_or, Option, ap, ◌∙◌, arith}
+use Rattle.std.proofs.Common.{None, get_or, ap, ◌∙◌, arith}
 use Rattle.bd_links.specs.Heads.{head_at}
 use Rattle.bd_links.proofs.HeadRows.{none-has, keys-none, no-heads}
 use Rattle.bd_links.proofs.heads.Heads.begin.Goals as goal

@@ -1,4 +1,5 @@
-use Rattle.bd_links.specs.Heads.{head_at, list_key}
+use Rattle.bd_links.specs.Keys.{list_key}
+use Rattle.bd_links.specs.Heads.{head_at}
 use Rattle.bd_links.proofs.HeadRows.{same-keys}
 use Rattle.bd_links.proofs.heads.Heads.reserve.Goals as goal
 

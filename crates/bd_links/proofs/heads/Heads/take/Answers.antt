@@ -1,7 +1,8 @@
 use Rattle.std.proofs.Common.{ℕ, None, cond, ap, sym, ◌∙◌, Option}
 use Rattle.std.specs.HashMap.{get_by}
 use Rattle.bd_links.specs.declared.heads.ListKey.{ListKey}
-use Rattle.bd_links.specs.Heads.{same_key, head_at}
+use Rattle.bd_links.specs.Keys.{same_key}
+use Rattle.bd_links.specs.Heads.{head_at}
 use Rattle.bd_links.proofs.HeadRows.{row-put, key-put}
 use Rattle.bd_links.proofs.heads.Heads.take.Goals as goal
 

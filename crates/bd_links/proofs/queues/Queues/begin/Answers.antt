@@ -1,9 +1,8 @@
-use Rattle.std.proofs.Common.{◌≡◌, refl, subst, ◌++◌, ◌∷◌, [], arith}
-use Rattle.bd_links.proofs.Steps.{begin_stands, no_length}
+use Rattle.std.proofs.Common.{refl, sym, ◌∙◌}
+use Rattle.bd_links.proofs.Queueing.{kept_stands, none_open}
 use Rattle.bd_links.proofs.queues.Queues.begin.Goals as goal
 
-pub returns-in_ok-push-clause-stands : goal.returns-in_ok-push-clause-stands
-returns-in_ok-push-clause-stands c = λ todo stands.
-    let n = c.free_node.result in
-    let none : c.args.self.now.nodes.items ≡ [] = no_length c.args.self.now.nodes.items (omega arith) in
-    begin_stands c.args.self.now _ todo n stands none c.free_node.ensures.prev c.free_node.ensures.next c.free_node.ensures.row (subst (λ ns. c.push.new.self.items ≡ ns ++ n ∷ []) none c.in_ok-push.ensures.items) c.begin.ensures.heads refl
+pub returns-then-is_unused-clause-stands : goal.returns-then-is_unused-clause-stands
+returns-then-is_unused-clause-stands c = λ todo s.
+    let none = none_open c.args.self.now todo s (c.is_unused.ensures c.if-is_unused.true) in
+    kept_stands c.args.self.now _ todo s (λ rs k. k) (λ m. refl) (λ l. c.begin.ensures.heads none l ∙ sym (none l))

@@ -1,8 +1,13 @@
-use Rattle.std.proofs.Common.{◌∙◌, sym, arith}
-use Rattle.bd_links.proofs.Steps.{give_stands}
+use Rattle.std.proofs.Common.{sym, ap, ◌∙◌}
+use Rattle.std.specs.List.{list_any}
+use Rattle.bd_space.specs.Todo.{is_on}
+use Rattle.bd_links.proofs.Queueing.{closed_shows}
 use Rattle.bd_links.proofs.queues.Queues.give_back.Goals as goal
 
 pub returns-in-Some-clause-stands : goal.returns-in-Some-clause-stands
-returns-in-Some-clause-stands c = λ todo stands none.
-    give_stands c.args.self.now _ todo c.in-Some.head c.args.list stands (sym c.of.ensures ∙ c.in-Some.is) none
-    c.attach.ensures.nexts c.attach.ensures.prevs c.attach.ensures.rows c.attach.ensures.works c.take.ensures.heads (omega arith)
+returns-in-Some-clause-stands c = λ todo s none. record {
+  rows = s.rows;
+  shows = closed_shows c.args.self.now _ s.rows c.args.list c.in-Some.head s.shows (sym c.of.ensures ∙ c.in-Some.is) (ap (list_any (is_on c.args.list)) s.works_are ∙ none)
+      c.close.ensures.stands c.close.ensures.open c.take.ensures.heads;
+  works_are = s.works_are;
+}

@@ -1,20 +1,26 @@
-use Rattle.std.proofs.Common.{◌≡◌, ◌∙◌, ap, sym, get_or, set, None, Some, cond, Option, ℕ, refl}
+use Rattle.std.proofs.Common.{refl, sym, ap, ◌∙◌, cond, Some}
 use Rattle.bd_links.specs.Heads.{head_at}
-use Rattle.bd_links.specs.Nodes.{nexts}
-use Rattle.bd_links.proofs.QueueLemmas.{same_list-refl}
-use Rattle.bd_links.proofs.Steps.{head_stands}
+use Rattle.bd_links.specs.declared.queues.Queues.{Queues}
+use Rattle.bd_links.proofs.ListKeys.{same_list-refl}
+use Rattle.bd_links.proofs.Queueing.{kept_stands, opened_shows}
 use Rattle.bd_links.proofs.queues.Queues.head_for.Goals as goal
+
+pub returns-in-Some-clause-stands : goal.returns-in-Some-clause-stands
+returns-in-Some-clause-stands c = λ todo stands. kept_stands c.args.self.now _ todo stands (λ rs k. k) (λ m. refl) c.find.ensures.heads
+
+pub returns-in-Some-clause-head : goal.returns-in-Some-clause-head
+returns-in-Some-clause-head c = c.find.ensures.heads c.args.list ∙ sym c.find.ensures.found ∙ c.in-Some.is
 
 pub returns-clause-stands : goal.returns-clause-stands
 returns-clause-stands c = λ todo stands.
-    let x = c.next_of-x.result in
-    let missing : head_at c.args.self.now.lists c.args.list ≡ None = sym c.of.ensures ∙ c.in_default.is in
-    head_stands c.args.self.now _ todo x c.args.list stands c.requires.node (c.next_of-x.ensures ∙ ap (λ ns. get_or (nexts ns) 0 0) c.deref.ensures.value) missing
-    (c.set_prev.ensures.nexts ∙ c.set_next.ensures.nexts ∙ ap (λ ns. set ns x x) c.detach.ensures.nexts)
-    (c.set_prev.ensures.prevs ∙ ap (λ ns. set ns x x) (c.set_next.ensures.prevs ∙ c.detach.ensures.prevs))
-    (c.set_prev.ensures.rows ∙ c.set_next.ensures.rows ∙ c.detach.ensures.rows)
-    (c.set_prev.ensures.works ∙ c.set_next.ensures.works ∙ c.detach.ensures.works)
-    c.put.ensures.heads refl
+    let t : Queues = record { chains = c.args.self.now.chains; lists = c.find.new.self } in
+    let s = kept_stands c.args.self.now t todo stands (λ rs k. k) (λ m. refl) c.find.ensures.heads in
+    record {
+      rows = s.rows;
+      shows = opened_shows t _ s.rows c.args.list c.open-head.result s.shows (c.find.ensures.heads c.args.list ∙ sym c.find.ensures.found ∙ c.in_default.is)
+          (c.open-head.ensures.stands s.rows s.shows.holds) c.open-head.ensures.fresh c.open-head.ensures.open c.put.ensures.heads;
+      works_are = s.works_are;
+    }
 
 pub returns-clause-head : goal.returns-clause-head
-returns-clause-head c = c.put.ensures.heads c.args.list ∙ ap (λ b. cond {A = Option ℕ} b (Some c.next_of-x.result) (head_at c.args.self.now.lists c.args.list)) (same_list-refl c.args.list)
+returns-clause-head c = c.put.ensures.heads c.args.list ∙ ap (λ b. cond b (Some c.open-head.result) (head_at c.find.new.self c.args.list)) (same_list-refl c.args.list)

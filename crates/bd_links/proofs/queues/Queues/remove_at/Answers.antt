@@ -1,11 +1,12 @@
-use Rattle.std.proofs.Common.{arith}
+use Rattle.std.proofs.Common.{refl}
+use Rattle.bd_chains.specs.Rows.{drop_key}
 use Rattle.bd_links.specs.Heads.{head_at}
-use Rattle.bd_links.specs.Nodes.{nexts, prevs, rows, works}
-use Rattle.bd_links.proofs.QueueLemmas.{remove_shows}
+use Rattle.bd_links.specs.Rows.{IsListed}
+use Rattle.bd_links.proofs.Rows.{each_dropped}
+use Rattle.bd_links.proofs.Queueing.{kept_shows}
 use Rattle.bd_links.proofs.queues.Queues.remove_at.Goals as goal
 
-pub returns-clause-stands : goal.returns-clause-stands
-returns-clause-stands c = λ todo order shows there.
-    let ns = c.args.self.now.nodes.items in
-    remove_shows (nexts ns) (prevs ns) (rows ns) (works ns) (head_at c.args.self.now.lists) c.args.self.now.free todo order shows c.args.x there
-    _ _ _ _ _ c.move_last.ensures.nexts c.move_last.ensures.prevs c.move_last.ensures.rows c.move_last.ensures.works (omega arith)
+pub returns-clause-shows : goal.returns-clause-shows
+returns-clause-shows c = λ rs s.
+    kept_shows c.args.self.now _ rs (drop_key c.args.x rs) s (c.remove.ensures.stands rs s.holds) (each_dropped (IsListed (head_at c.args.self.now.lists)) c.args.x rs s.listed)
+    c.remove.ensures.open (λ l. refl)

@@ -1,12 +1,11 @@
 use Rattle.std.proofs.Common.{refl}
 use Rattle.bd_space.specs.declared.space.Work.{Work}
-use Rattle.bd_links.specs.Spots.{sought_of, unread_of}
+use Rattle.bd_links.specs.Spots.{sought_of}
 use Rattle.bd_links.proofs.register.Register.new.Goals as goal
 
 pub returns : goal.returns
 returns c = record {
   counted = c.new.ensures (λ (w : Work). sought_of w.kind);
-  unread = c.new-2.ensures unread_of;
   dated = record { none_past = tt; counted = refl };
   len = refl;
   rising = λ r. (tt, tt);

@@ -10,8 +10,8 @@ pub returns-in-Ok-clause-counts : goal.returns-in-Ok-clause-counts
 returns-in-Ok-clause-counts c = λ k.
     let old = c.args.self.now in
     let more = λ (n : ℕ). min (n + 1) 18446744073709551615 in
-    let none : Spot = record { count = 0; node = c.args.node } in
-    let raised : Spot = record { count = c.saturating_add-count.result; node = c.args.node } in
+    let none : Spot = record { count = 0; slot = c.args.slot } in
+    let raised : Spot = record { count = c.saturating_add-count.result; slot = c.args.slot } in
     let was = ap (λ (s : Spot). s.count) (c.or_insert-spot.ensures.value ∙ ap (λ o. unwrap_or o none) c.in-Ok.ensures.value) ∙ count_or (get_by (same_sought c.args.key) old.spots) none in
     let found : count_at (record { spots = map_with_value c.in-Ok.entry raised }) k ≡ cond (same_sought c.args.key k) (more (count_at old k)) (count_at old k) =
     count_updated (same_sought c.args.key k) (Some raised) (get_by (same_sought k) old.spots) _ ((c.in-Ok.ensures.update.0 raised).0 k)

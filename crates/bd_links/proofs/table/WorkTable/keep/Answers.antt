@@ -1,54 +1,52 @@
-use Rattle.std.proofs.Common.{◌≡◌, ◌∙◌, ◌+◌, ◌≤◌, ap, sym, refl, subst, arith, length, inl, Bool, true, false, vec_len}
-use Rattle.bd_links.specs.Nodes.{rows, works}
-use Rattle.bd_links.specs.Queues.{is_used, work_in}
-use Rattle.bd_links.specs.Stands.{work_room}
-use Rattle.bd_links.specs.Sweep.{Swept}
-use Rattle.bd_links.proofs.Sweeping.{swept_first, swept_kept, swept_cut, swept_all}
-use Rattle.bd_links.proofs.table.WorkTable.keep.Goals.{then-is_used+then-not-f, then-is_used+else-not-f, else-is_used}
+use Rattle.std.proofs.Common.{◌≡◌, ◌∙◌, ◌+◌, ◌≤◌, None, Some, filter, ap, sym, refl, subst, arith}
+use Rattle.bd_space.specs.declared.space.Work.{Work}
+use Rattle.bd_links.specs.Rows.{stays}
+use Rattle.bd_links.specs.Stands.{RowsAre, work_room}
+use Rattle.bd_links.proofs.Sweeping.{swept_first, swept_kept, swept_cut, swept_all, slots_below}
+use Rattle.bd_links.proofs.WorksStand.{rows_are, works_of}
+use Rattle.bd_links.proofs.table.WorkTable.keep.Goals.{in-Some+then-not-f, in-Some+else-not-f, in_default}
 use Rattle.bd_links.proofs.table.WorkTable.keep.Goals as goal
 
-clash : {b : Bool} → b ≡ true → b ≡ false → ⊥
-clash h k = cc
+some_is : {a b : Work} → Some a ≡ Some b → a ≡ b
+some_is e = cc
 
-pub loop-at-init : goal.loop-at-init
-loop-at-init g c = record {
-  len = refl;
+none_is : {a : Work} → None ≡ Some a → ⊥
+none_is e = cc
+
+pub loop-x-init : goal.loop-x-init
+loop-x-init g c = record {
   uses = omega arith;
-  empty = λ todo e r. record { queues_stand = record { either = inl e }; registered = r };
   same = refl;
-  swept = λ p h todo order s r. swept_first p c.args.self.now todo order s r;
+  swept = λ p h rs s. subst (RowsAre c.args.self.now) (sym (swept_first p rs)) s;
 }
 
-pub loop-at-preserved : goal.loop-at-preserved
-loop-at-preserved g c = record {
-  len = elim c.if-is_used.branch as (λ _. vec_len c.if-is_used.self.queues.nodes ≡ vec_len c.args.self.now.queues.nodes) [
-    | then-is_used+then-not-f w ↦ rw w.self-is (w.remove_at.ensures.len ∙ c.loop-at.invariant.len)
-    | then-is_used+else-not-f w ↦ rw w.self-is c.loop-at.invariant.len
-    | else-is_used w ↦ rw w.self-is c.loop-at.invariant.len
+pub loop-x-preserved : goal.loop-x-preserved
+loop-x-preserved g c = record {
+  uses = elim c.match-work_in.branch as (λ _. work_room c.args.self.now ≤ work_room c.match-work_in.self) [
+    | in-Some+then-not-f w ↦ rw w.self-is (let u = w.remove_at.ensures.uses in omega arith)
+    | in-Some+else-not-f w ↦ rw w.self-is c.loop-x.invariant.uses
+    | in_default w ↦ rw w.self-is c.loop-x.invariant.uses
   ];
-  uses = elim c.if-is_used.branch as (λ _. work_room c.args.self.now ≤ work_room c.if-is_used.self) [
-    | then-is_used+then-not-f w ↦ rw w.self-is (let u = w.remove_at.ensures.uses in omega arith)
-    | then-is_used+else-not-f w ↦ rw w.self-is c.loop-at.invariant.uses
-    | else-is_used w ↦ rw w.self-is c.loop-at.invariant.uses
-  ];
-  empty = λ todo e r. let l = ap length e.no_nodes in absurd (omega (arith, l));
   same = refl;
-  swept = λ p h todo order s r. elim c.if-is_used.branch as (λ _. Swept p c.args.self.now c.if-is_used.self (c.loop-at.at + 1) order) [
-    | then-is_used+then-not-f w ↦
-        subst (λ u. Swept p c.args.self.now u (c.loop-at.at + 1) order) (sym w.self-is)
-        (swept_cut p c.args.self.now c.loop-at.self w.remove_at.new.self c.loop-at.at order (c.loop-at.invariant.swept p h todo order s r)
-        (sym (c.is_used.ensures ∙ ap (λ ns. is_used (rows ns) c.loop-at.at) c.deref.ensures.value) ∙ w.if-is_used.true)
-        (ap p (sym (w.work_in.ensures ∙ ap (λ ns. work_in (works ns) c.loop-at.at) w.deref-then-is_used.ensures.value)) ∙ sym (h _ _ w.f.ensures) ∙ w.if-not-f.true) w.remove_at.ensures.queued w.remove_at.ensures.registered w.remove_at.ensures.rows w.remove_at.ensures.works)
-    | then-is_used+else-not-f w ↦
-        subst (λ u. Swept p c.args.self.now u (c.loop-at.at + 1) order) (sym w.self-is)
-        (swept_kept p c.args.self.now c.loop-at.self c.loop-at.at order (c.loop-at.invariant.swept p h todo order s r) (λ on.
-        ap p (sym (w.work_in.ensures ∙ ap (λ ns. work_in (works ns) c.loop-at.at) w.deref-then-is_used.ensures.value)) ∙ sym (h _ _ w.f.ensures) ∙ w.if-not-f.false))
-    | else-is_used w ↦
-        subst (λ u. Swept p c.args.self.now u (c.loop-at.at + 1) order) (sym w.self-is)
-        (swept_kept p c.args.self.now c.loop-at.self c.loop-at.at order (c.loop-at.invariant.swept p h todo order s r) (λ on.
-        absurd (clash on (sym (c.is_used.ensures ∙ ap (λ ns. is_used (rows ns) c.loop-at.at) c.deref.ensures.value) ∙ w.if-is_used.false))))
-  ];
+  swept = λ p h rs s.
+      let now : RowsAre c.loop-x.self (filter (stays p c.loop-x.x) rs) = c.loop-x.invariant.swept p h rs s in
+      let apart = s.shows.holds.stands.apart in
+      elim c.match-work_in.branch as (λ _. RowsAre c.match-work_in.self (filter (stays p (c.loop-x.x + 1)) rs)) [
+        | in-Some+then-not-f w ↦
+            subst (λ u. RowsAre u (filter (stays p (c.loop-x.x + 1)) rs)) (sym w.self-is)
+            (swept_cut p c.loop-x.x c.loop-x.self rs apart now w.remove_at.new.self w.in-Some.work (sym c.work_in.ensures ∙ w.in-Some.is) (sym (h _ _ w.f.ensures) ∙ w.if-not-f.true) w.remove_at.ensures.rows)
+        | in-Some+else-not-f w ↦
+            subst (λ u. RowsAre u (filter (stays p (c.loop-x.x + 1)) rs)) (sym w.self-is)
+            (swept_kept p c.loop-x.x c.loop-x.self rs apart now (λ v is. ap p (some_is (sym is ∙ sym c.work_in.ensures ∙ w.in-Some.is)) ∙ sym (h _ _ w.f.ensures) ∙ w.if-not-f.false))
+        | in_default w ↦
+            subst (λ u. RowsAre u (filter (stays p (c.loop-x.x + 1)) rs)) (sym w.self-is)
+            (swept_kept p c.loop-x.x c.loop-x.self rs apart now (λ v is. absurd (none_is (sym w.in_default.is ∙ c.work_in.ensures ∙ is))))
+      ];
 }
 
 pub returns-clause-stands : goal.returns-clause-stands
-returns-clause-stands g c = λ p h todo stands. swept_all p c.args.self.now c.loop-at.self todo c.loop-at.at stands c.loop-at.invariant.empty (omega arith) (c.loop-at.invariant.swept p h todo)
+returns-clause-stands g c = λ p h l s.
+    let rs = s.queues_stand.rows in
+    let low = slots_below c.args.self.now.queues rs s.queues_stand.shows c.loop-x.x (λ k is. let b = c.slots-x-end.ensures k is in omega (arith, b)) in
+    works_of c.loop-x.self (filter (stays p c.loop-x.x) rs) (filter p l) (c.loop-x.invariant.swept p h rs (rows_are c.args.self.now l s))
+    (swept_all p c.loop-x.x rs low ∙ ap (filter p) s.queues_stand.works_are)

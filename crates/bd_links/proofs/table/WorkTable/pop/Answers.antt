@@ -9,7 +9,7 @@ use Rattle.bd_links.proofs.table.WorkTable.pop.Goals as goal
 pub returns-in-Some-clause-stands : goal.returns-in-Some-clause-stands
 returns-in-Some-clause-stands c = λ l h.
     front_went c.args.self.now c.remove_at.new.self l c.args.list c.in-Some.x h (subst (λ r. IfSome r (FrontIn c.args.self.now.queues l c.args.list)) c.in-Some.is (c.front.ensures.some l h.queues_stand))
-    c.remove_at.ensures.queued c.remove_at.ensures.registered
+    c.remove_at.ensures.rows
 
 pub returns-in-Some-clause-popped : goal.returns-in-Some-clause-popped
 returns-in-Some-clause-popped c = λ l h. sym (ap is_some c.in-Some.is) ∙ c.front.ensures.any l h.queues_stand

@@ -1,8 +1,9 @@
-use Rattle.std.proofs.Common.{◌∙◌, sym, refl, subst, arith}
+use Rattle.std.proofs.Common.{◌∙◌, sym, refl, ap, length, subst, arith}
 use Rattle.bd_space.specs.Todo.{is_on}
 use Rattle.bd_links.specs.Stands.{WorksAre}
 use Rattle.bd_links.proofs.OnList.{nothing_goes, no_first, rest_same, one_less}
-use Rattle.bd_links.proofs.WorksStand.{works_few, none_left}
+use Rattle.bd_links.proofs.Rows.{works-length}
+use Rattle.bd_links.proofs.WorksStand.{none_left}
 use Rattle.bd_links.proofs.table.WorkTable.pop_all.Goals as goal
 
 pub loop-init : goal.loop-init
@@ -27,5 +28,7 @@ returns-then-not-pop-clause-stands c = λ l h.
 pub returns-clause-stands : goal.returns-clause-stands
 returns-clause-stands c = λ l h.
     let m = c.loop.invariant.left l h in
-    let few = m.3 in let fit = works_few c.args.self.now.queues l h.queues_stand in
-    subst (WorksAre c.loop.self) (sym (none_left (is_on c.args.list) m.0 (omega (arith, few, fit))) ∙ m.2) m.1
+    let few = m.3 in
+    let all = c.len-end.ensures h.queues_stand.rows h.queues_stand.shows.holds in
+    let n = works-length h.queues_stand.rows in let is = ap length h.queues_stand.works_are in
+    subst (WorksAre c.loop.self) (sym (none_left (is_on c.args.list) m.0 (omega (arith, few, all, n, is))) ∙ m.2) m.1

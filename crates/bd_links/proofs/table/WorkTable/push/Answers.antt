@@ -1,8 +1,7 @@
-use Rattle.std.proofs.Common.{arith}
 use Rattle.bd_links.proofs.WorksStand.{works_pushed}
 use Rattle.bd_links.proofs.table.WorkTable.push.Goals as goal
 
 pub returns-clause-stands : goal.returns-clause-stands
 returns-clause-stands c = λ l h.
-    works_pushed c.args.self.now _ c.args.place c.index_at-index.result c.args.list c.args.kind l h (c.index_at-index.ensures l h) (c.push-node.ensures.stands l h.queues_stand) (omega arith)
-    c.add.ensures.stands
+    works_pushed c.args.self.now _ c.args.place c.index_at-index.result c.args.list c.args.kind l h (c.index_at-index.ensures l h) (c.push-slot.ensures.stands l h.queues_stand)
+    (c.push-slot.ensures.few l h.queues_stand) c.add.ensures.stands

@@ -8,7 +8,7 @@ use Rattle.bd_links.proofs.table.WorkTable.take.Goals as goal
 
 pub returns-in-Some-clause-stands : goal.returns-in-Some-clause-stands
 returns-in-Some-clause-stands c = λ l h.
-    let went = front_went c.args.self.now c.remove_at.new.self l c.args.item.now.list c.in-Some.x h (c.in-Some.ensures.front l h) c.remove_at.ensures.queued c.remove_at.ensures.registered in
+    let went = front_went c.args.self.now c.remove_at.new.self l c.args.item.now.list c.in-Some.x h (c.in-Some.ensures.front l h) c.remove_at.ensures.rows in
     subst (WorksAre c.remove_at.new.self) (front_goes c.args.item.now l (sym (c.in-Some.ensures.first l h))) went
 
 pub returns-in-None-clause-stands : goal.returns-in-None-clause-stands

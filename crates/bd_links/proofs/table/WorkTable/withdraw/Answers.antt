@@ -1,7 +1,7 @@
 use Rattle.std.proofs.Common.{◌≡◌, ◌∙◌, sym, subst, rules, tests, not, true, IfSome}
 use Rattle.bd_space.specs.declared.space.Work.{Work}
-use Rattle.bd_links.specs.Nodes.{rows, works}
-use Rattle.bd_links.specs.Queues.{is_used, work_in}
+use Rattle.bd_space.specs.Words.{is_some_and}
+use Rattle.bd_links.specs.QueuesStand.{work_at}
 use Rattle.bd_links.specs.Spots.{is_sought, count_at}
 use Rattle.bd_links.specs.Stands.{WorksAre}
 use Rattle.bd_links.proofs.OnList.{nothing_goes}
@@ -18,5 +18,5 @@ returns-else-has-clause-stands c = λ l h.
 
 pub returns-in-Some-clause-stands : goal.returns-in-Some-clause-stands
 returns-in-Some-clause-stands c = λ l h.
-    let is = subst (λ r. IfSome r (λ x. (is_used (rows c.args.self.now.queues.nodes.items) x ≡ true) × (is_sought c.args.key (work_in (works c.args.self.now.queues.nodes.items) x).kind ≡ true) × (count_at c.args.self.now.register.spots c.args.key ≡ 1))) c.in-Some.is c.only.ensures in
-    only_goes c.args.self.now c.remove_at.new.self (λ (w : Work). is_sought c.args.key w.kind) l c.in-Some.x h is.0 is.1 (sym (h.registered.counted c.args.key) ∙ is.2) c.remove_at.ensures.queued c.remove_at.ensures.registered
+    let is = subst (λ r. IfSome r (λ x. (is_some_and (work_at c.args.self.now.queues x) (λ w. is_sought c.args.key w.kind) ≡ true) × (count_at c.args.self.now.register.spots c.args.key ≡ 1))) c.in-Some.is c.only.ensures in
+    only_goes c.args.self.now c.remove_at.new.self (λ (w : Work). is_sought c.args.key w.kind) l c.in-Some.x h is.0 (sym (h.registered.counted c.args.key) ∙ is.1) c.remove_at.ensures.rows
