@@ -20,8 +20,9 @@
  *
  * A handle that isn't what a call is for is told, and nothing is done: HULLPIPPIN_MISUSE. So it is with an empty handle, as
  * one is that was let go of, or whose seat went back; with one that has something, where the call would fill it; with a driver
- * that has ended, where the call needs one that hasn't, and the other way round. What answers a bool answers false then, what
- * answers a number 0, and what answers nothing does nothing. Letting go of an empty handle is no misuse.
+ * that has ended, where the call needs one that hasn't, and the other way round; with a seat that is given back to another driver
+ * than its own. What answers a bool answers false then, what answers a number 0, and what answers nothing does nothing. Letting go
+ * of an empty handle is no misuse.
  *
  * What can't be seen from within is the caller's, and where it isn't kept nothing is said:
  *
@@ -34,7 +35,6 @@
  *    threads: a start, a join, a mutex. Different handles may be used at the same time by different threads, those of
  *    one driver too, which is what they are for.
  *  - No two pointers of one call lead to memory that overlaps, where one of them is written through.
- *  - A seat goes back to the driver that it was taken off.
  *  - No call is made in a signal handler, or in the forked child of a process with threads. malloc aligns to 16.
  *
  * Bytes that are given to a call stay the caller's, and may go once the call is back: the library copies them. Bytes
@@ -103,7 +103,7 @@ enum {
     HULLPIPPIN_HISTORY_FULL = 11,   /* live: the history can take no more (F13) */
     HULLPIPPIN_NO_COMMAND = 12,     /* live_command: the bytes aren't exactly one command */
     HULLPIPPIN_MISUSE = 13,         /* a handle isn't what the call is for: it is empty, or isn't where it has to be, or
-                                       its driver has ended, or hasn't */
+                                       its driver has ended, or hasn't, or is another one */
     HULLPIPPIN_UNLAWFUL = 14,       /* chain, call_of_reply, turns: the journal's entries aren't a history */
 };
 
@@ -297,7 +297,7 @@ uint32_t hullpippin_new(uint32_t seats, hullpippin_driver *driver);
 uint32_t hullpippin_take_seat(hullpippin_driver *driver, hullpippin_seat *seat);
 
 /* Gives a seat back to its own driver, behind those that are there, and empties `seat`. What its latest call answered
-   is gone. Also NO_MEMORY, which never comes where the seat was taken off this driver. */
+   is gone. With another driver it is MISUSE, and the seat stays. Takes no memory; NO_MEMORY never comes. */
 uint32_t hullpippin_return_seat(hullpippin_driver *driver, hullpippin_seat *seat);
 
 /* Ends a driver whose seats are all back. The handle has its history from then on, which is for journal and free_driver

@@ -8,6 +8,8 @@ import subprocess
 import tempfile
 
 ROOT = os.path.dirname(os.path.dirname(os.path.abspath(__file__)))
+# How the library's part in C is compiled, which goes into shared libraries too.
+IN_C = ["-std=c11", "-O2", "-fPIC", "-Wall", "-Wextra", "-Wpedantic", "-Werror"]
 
 
 @functools.lru_cache(maxsize=None)
@@ -64,10 +66,12 @@ def words(name):
 
 
 def with_kit(archive, out):
-    """Makes the archive that programs link, of this one's members and the kit's C library object. The same make the same bytes."""
+    """Makes the archive that programs link, of this one's members, the kit's C library object and what library/ has in C. The same make
+    the same bytes."""
     with tempfile.TemporaryDirectory() as room:
         for number, it in enumerate((archive, f"{kit()}/c/liblibc_c.a")):
             os.mkdir(f"{room}/{number}")
             subprocess.run(["ar", "x", os.path.abspath(it)], cwd=f"{room}/{number}", check=True)
+        subprocess.run(["cc", *IN_C, f"-I{ROOT}/include", "-c", f"{ROOT}/library/new.c", "-o", f"{room}/1/new.pic.o"], check=True)
         subprocess.run(["ar", "rcsD", f"{room}/made.a", *sorted(glob.glob(f"{room}/?/*"))], check=True)
         shutil.move(f"{room}/made.a", out)

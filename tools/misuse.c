@@ -1,7 +1,8 @@
 /* SPDX-License-Identifier: Apache-2.0 OR MIT */
 /* Handles that aren't what a call is for: empty ones, ones that were let go of, full ones that a call would fill, drivers before
-   and after their end. Each call has to tell it, and to leave what it would fill; and all goes on as if it hadn't been made. And
-   what isn't misuse: letting go of nothing, and (NULL, 0) for no bytes. Complains where that isn't so. Prints nothing else. */
+   and after their end, seats of another driver. Each call has to tell it, and to leave what it would fill; and all goes on as if it
+   hadn't been made. And what isn't misuse: letting go of nothing, and (NULL, 0) for no bytes. Complains where that isn't so. Prints
+   nothing else. */
 #include "asking.h"
 
 #include <stdio.h>
@@ -237,6 +238,60 @@ static bool drivers(void)
     return done && is_no_seat(&run.seat) && is_nothing(&run.driver);
 }
 
+/* ---- seats of another driver */
+
+struct two {
+    hullpippin_driver drivers[2];
+    hullpippin_seat seats[2];
+};
+
+static bool opens_two(struct two *two)
+{
+    for (int i = 0; i < 2; i++)
+        if (!is_done(hullpippin_new(2, &two->drivers[i])) || !is_done(hullpippin_take_seat(&two->drivers[i], &two->seats[i])))
+            return false;
+    return true;
+}
+
+/* Each stays with who has it, goes on, and goes back to its own driver alone. */
+static bool only_its_own_takes_it(struct two *two)
+{
+    hullpippin_answer answer;
+    for (int i = 0; i < 2; i++)
+        if (!is_misuse(hullpippin_return_seat(&two->drivers[1 - i], &two->seats[i]))
+            || !is_made(hullpippin_open(&two->seats[i], 100, 1000, WINDOW, &answer), &answer, HULLPIPPIN_OPENED))
+            return false;
+    for (int i = 0; i < 2; i++)
+        if (!is_done(hullpippin_return_seat(&two->drivers[i], &two->seats[i])) || !is_done(hullpippin_finish(&two->drivers[i])))
+            return false;
+    return true;
+}
+
+/* Nor does a driver take the seat of one that was let go of, which may have lain where this one does. */
+static bool none_takes_what_is_left(struct two *two)
+{
+    hullpippin_free_driver(&two->drivers[0]);
+    hullpippin_free_driver(&two->drivers[1]);
+    if (!is_done(hullpippin_new(1, &two->drivers[0])) || !is_done(hullpippin_take_seat(&two->drivers[0], &two->seats[0])))
+        return false;
+    hullpippin_free_driver(&two->drivers[0]);
+    if (!is_done(hullpippin_new(1, &two->drivers[0])) || !is_done(hullpippin_take_seat(&two->drivers[0], &two->seats[1])))
+        return false;
+    return is_misuse(hullpippin_return_seat(&two->drivers[0], &two->seats[0]))
+           && is_done(hullpippin_return_seat(&two->drivers[0], &two->seats[1])) && is_done(hullpippin_finish(&two->drivers[0]));
+}
+
+static bool seats_of_another(void)
+{
+    struct two two = {{HULLPIPPIN_NO_DRIVER, HULLPIPPIN_NO_DRIVER}, {HULLPIPPIN_NO_SEAT, HULLPIPPIN_NO_SEAT}};
+    bool done = opens_two(&two) && only_its_own_takes_it(&two) && none_takes_what_is_left(&two);
+    for (int i = 0; i < 2; i++) {
+        hullpippin_free_seat(&two.seats[i]);
+        hullpippin_free_driver(&two.drivers[i]);
+    }
+    return done;
+}
+
 /* ---- a live engine */
 
 static bool engines(void)
@@ -336,7 +391,7 @@ static bool no_bytes(void)
 
 int main(void)
 {
-    if (empty_handles() && drivers() && engines() && no_bytes())
+    if (empty_handles() && drivers() && seats_of_another() && engines() && no_bytes())
         return 0;
     fprintf(stderr, "misuse: %s\n", complaint);
     return 1;

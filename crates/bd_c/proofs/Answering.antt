@@ -1,7 +1,6 @@
 -- What a call answers, by what was lent to it.
 use Rattle.std.proofs.Common.{◌≡◌, ◌∙◌, ℕ, List, Bool, false, ap, refl, sym, subst, inl, inr}
-use Rattle.std.specs.Prelude.{Option, Some, None, ⊤, IsSomeAnd}
-use Rattle.std.specs.Arc.{arc_value}
+use Rattle.std.specs.Prelude.{Option, Some, None}
 use Rattle.bd_uapi.specs.declared.command.Command.{Command}
 use Rattle.bd_space.specs.declared.step.Request.TheVariants.{Write, SetSpam}
 use Rattle.bd_space.specs.declared.step.Step.TheVariants as step_of
@@ -13,8 +12,8 @@ use Rattle.bd_c.specs.declared.live.OwnedLive.{OwnedLive}
 use Rattle.bd_c.specs.declared.seat.OwnedSeat.{OwnedSeat}
 use Rattle.bd_c.specs.declared.status.Status.{Status}
 use Rattle.bd_c.specs.declared.status.Status.TheVariants.{Done, NoMemory, NoCommand, Misuse}
-use Rattle.bd_c.specs.Behind.{Of, Over, IsDriver, IsSeat, driver_of, seat_of, live_of}
-use Rattle.bd_c.specs.Drivers.{IsOwn, HandsAt, ReturnsAt, Finishes}
+use Rattle.bd_c.specs.Behind.{Of, Over, IsDriver, driver_of, seat_of, live_of}
+use Rattle.bd_c.specs.Drivers.{HandsAt, ReturnsAt, Finishes}
 use Rattle.bd_c.specs.Flags.{ByFlag, IsNoFlag, flag_of}
 use Rattle.bd_c.specs.Hosts.{Hands, Keeps, is_seat_away}
 use Rattle.bd_c.specs.Lives.{Steps, StepsAt}
@@ -27,31 +26,6 @@ use Rattle.bd_c.specs.Status.{number_of, Reports}
 
 pub fits_hand : (h s t : Option Held) (x : Host) → h ≡ Some (Driver x) → t ≡ s → t ≡ None → (IsDriver h → s ≡ None → ⊥) → ⊥
 fits_hand h s t x driver same none not = not (subst IsDriver (sym driver) tt) (sym same ∙ none)
-
-pub fits_return : (h s t : Option Held) (x : Host) → h ≡ Some (Driver x) → t ≡ s → IsSeat t → (IsDriver h → IsSeat s → ⊥) → ⊥
-fits_return h s t x driver same seat not = not (subst IsDriver (sym driver) tt) (subst IsSeat same seat)
-
--- ---- a seat of its own driver
-
-of_any : {T : Type 0} (m : Option T) (P : T → Type 0) → IsSomeAnd m P → IsSomeAnd m (λ x. ⊤)
-of_any None P is = absurd is
-of_any (Some x) P is = tt
-
-seat_by : {T : Type 0} (m : Option T) (s : Option Held) (P : T → OwnedSeat → Type 0) → IsSomeAnd m (λ x. Of seat_of s (P x)) → IsSeat s
-seat_by None s P is = absurd is
-seat_by (Some x) None P is = absurd is
-seat_by (Some x) (Some v) P is = of_any (seat_of v) (P x) is
-
-own_is_seat : (h s : Option Held) → IsOwn h s → IsSeat s
-own_is_seat None s own = absurd own
-own_is_seat (Some v) s own = seat_by (driver_of v) s (λ x y. y.seat.table ≡ (arc_value x.driver).table) own
-
-pub no_own : (h s t : Option Held) → t ≡ s → (IsSeat t → ⊥) → IsOwn h s → ⊥
-no_own h s t same not own = not (subst IsSeat (sym same) (own_is_seat h s own))
-
-pub own_table : (h s : Option Held) (x : Host) (y : OwnedSeat) → h ≡ Some (Driver x) → s ≡ Some (Seat y) → (IsDriver h → IsSeat s → IsOwn h s) → y.seat.table ≡ (arc_value x.driver).table
-own_table h s x y driver seat own =
-    subst (λ (m : Option Held). IsOwn (Some (Driver x)) m) seat (subst (λ (m : Option Held). IsOwn m s) driver (own (subst IsDriver (sym driver) tt) (subst IsSeat (sym seat) tt)))
 
 -- ---- what a driver's calls answer
 

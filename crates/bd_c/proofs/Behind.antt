@@ -9,18 +9,12 @@ use Rattle.bd_engine.specs.Refusals.{IsLiveSeatFault}
 use Rattle.bd_c.specs.declared.handles.Handle.{Handle}
 use Rattle.bd_c.specs.declared.held.Held.{Held}
 use Rattle.bd_c.specs.declared.seat.OwnedSeat.{OwnedSeat}
-use Rattle.bd_c.specs.Behind.{Of, Over, IsThere, IsDriver, IsSeat, driver_of, seat_of}
-use Rattle.bd_c.specs.Drivers.{IsOwn}
+use Rattle.bd_c.specs.Behind.{Of, Over, IsThere, IsSeat, seat_of}
 use Rattle.bd_c.specs.Hosts.{IsRefusal}
 use Rattle.bd_c.specs.Lending.{holding}
 use Rattle.bd_c.specs.Lives.{IsLiveRefusal}
 use Rattle.bd_c.specs.Seats.{Stays, OverSeat}
 use Rattle.bd_c.specs.Status.{refusal_of}
-
--- what is of some kind is there
-pub there : (P : Held → Type 0) (h : Option Held) → IsSomeAnd h P → IsThere h
-there P None is = absurd is
-there P (Some x) is = (x, refl)
 
 -- what is behind a handle is of another kind
 of_none : {T : Type 0} (m : Option T) (P : T → Type 0) → m ≡ None → IsSomeAnd m P → ⊥
@@ -49,15 +43,6 @@ over_same kind (Some v) P is all = unchanged (kind v) P is all
 
 pub over_seat_same : (h : Option Held) (P : OwnedSeat → OwnedSeat → Type 0) → IsSeat h → ((x : OwnedSeat) → P x x) → OverSeat h h P
 over_seat_same h P is all = over_same seat_of h (λ x y. Stays x y × P x y) is (λ x. ((refl, refl), all x))
-
--- the handles of a seat and of its own driver have these
-some_kind : {T : Type 0} (m : Option T) (P : T → Type 0) → IsSomeAnd m P → IsSomeAnd m (λ x. ⊤)
-some_kind None P is = absurd is
-some_kind (Some x) P is = tt
-
-pub own_driver : (h s : Option Held) → IsOwn h s → IsDriver h
-own_driver None s own = absurd own
-own_driver (Some v) s own = some_kind (driver_of v) _ own
 
 -- a fault of the driver or of the engine is one that C is told as a refusal of that number
 pub refused_fits : (f : Fault) (n : ℕ) → FaultFits f n → IsRefusal n (refusal_of f)

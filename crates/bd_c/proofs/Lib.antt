@@ -1,6 +1,7 @@
 mod HandleSteps
 mod Values
 pub mod Behind
+pub mod Keys
 pub mod Answering
 pub mod Commanding
 pub mod Noting

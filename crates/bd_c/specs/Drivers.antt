@@ -7,9 +7,9 @@ use Rattle.bd_c.specs.declared.status.Status.TheVariants.{Done, NoMemory, SeatsA
 use Rattle.bd_c.specs.Behind.{Of, Over, IsMade, driver_of, history_of, seat_of}
 use Rattle.bd_c.specs.Hosts.{Opens, IsRefusal, Hands, Keeps, is_seat_away, TakesBack, Ends}
 
--- a new driver is behind the handle, or nothing, and why
-abbrev pub OpensAt : ℕ → Option Held → Status → Type 0
-OpensAt count h s = IsMade (λ k. Of driver_of k (Opens count)) (IsRefusal count) h s
+-- a new driver with this key is behind the handle, or nothing, and why
+abbrev pub OpensAt : ℕ → ℕ → Option Held → Status → Type 0
+OpensAt count key h s = IsMade (λ k. Of driver_of k (Opens count key)) (IsRefusal count) h s
 
 -- a seat is behind the other handle, or nothing, and why
 abbrev pub HandsAt : Option Held → Option Held → Option Held → Status → Type 0
@@ -18,7 +18,7 @@ HandsAt h k at s =
 
 -- the seat is one of the driver
 abbrev pub IsOwn : Option Held → Option Held → Type 0
-IsOwn h s = Of driver_of h (λ x. Of seat_of s (λ y. y.seat.table ≡ (arc_value x.driver).table))
+IsOwn h s = Of driver_of h (λ x. Of seat_of s (λ y. y.seat.table ≡ (arc_value x.keyed).driver.table))
 
 -- the seat is there again, or no seat was away, and nothing is done
 abbrev pub ReturnsAt : Option Held → Option Held → Option Held → Option Held → Status → Type 0

@@ -7,14 +7,16 @@ use Rattle.bd_driver.specs.Together.{AllSeats, IsFinal, new_seats}
 use Rattle.bd_c.specs.declared.host.Host.{Host}
 use Rattle.bd_c.specs.declared.seat.OwnedSeat.{OwnedSeat}
 use Rattle.bd_c.specs.declared.status.Status.{Status}
+use Rattle.bd_c.specs.Keys.{host_key}
 use Rattle.bd_c.specs.declared.status.Status.TheVariants.{NoMemory, SeatCount, NoSeat}
 
--- a new driver with so many seats, all of them there, which have seen nothing yet
-pub record Opens (count : ℕ) (h : Host) : Type 0 where
+-- a new driver with this key and so many seats, all of them there, which have seen nothing yet
+pub record Opens (count key : ℕ) (h : Host) : Type 0 where
   pub within : IsSeats count
   pub count_is : h.count ≡ count
-  pub driver : (arc_value h.driver).seats ≡ count
-  pub seats : h.seats.items ≡ new_seats (arc_value h.driver).table count 0 count
+  pub key_is : host_key h ≡ key
+  pub driver : (arc_value h.keyed).driver.seats ≡ count
+  pub seats : h.seats.items ≡ new_seats (arc_value h.keyed).driver.table count 0 count
 
 -- the number is out of its limits, or there was no memory
 abbrev pub IsRefusal : ℕ → Status → Type 0
@@ -24,7 +26,7 @@ IsRefusal count _ = ⊥
 
 -- it is the same driver
 abbrev pub SameDriver : Host → Host → Type 0
-SameDriver h k = (k.driver ≡ h.driver) × (k.count ≡ h.count)
+SameDriver h k = (k.keyed ≡ h.keyed) × (k.count ≡ h.count)
 
 -- fewer seats are there than the driver has
 abbrev pub is_seat_away : Host → Bool
@@ -33,7 +35,7 @@ is_seat_away h = nat_lt (vec_len h.seats) h.count
 -- the first seat that was there is handed out, with its driver, and is away then
 abbrev pub Hands : Host → Host → OwnedSeat → Type 0
 Hands h k seat =
-    SameDriver h k × (h.seats.items ≡ seat.seat ∷ k.seats.items) × (arc_value seat.driver ≡ arc_value h.driver) × (seat.latest ≡ None)
+    SameDriver h k × (h.seats.items ≡ seat.seat ∷ k.seats.items) × (arc_value seat.keyed ≡ arc_value h.keyed) × (seat.latest ≡ None)
     × (is_seat_away k ≡ true)
 
 -- nothing is: none was there, or there was no memory
@@ -48,4 +50,5 @@ TakesBack h k seat = SameDriver h k × (k.seats.items ≡ h.seats.items ++ seat.
 
 -- the record is that of the whole history
 abbrev pub Ends : Host → Record → Type 0
-Ends h r = (vec_len h.seats ≡ h.count) × (AllSeats (arc_value h.driver).seats h.seats.items → IsFinal (arc_value h.driver).seats h.seats.items r.seats r.entries)
+Ends h r = (vec_len h.seats ≡ h.count)
+    × (let d = (arc_value h.keyed).driver in AllSeats d.seats h.seats.items → IsFinal d.seats h.seats.items r.seats r.entries)

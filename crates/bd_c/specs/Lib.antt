@@ -9,6 +9,7 @@ pub mod Parts
 pub mod Hosts
 pub mod Drivers
 pub mod Journals
+pub mod Keys
 pub mod Certificates
 pub mod Requests
 pub mod Pages

@@ -22,7 +22,7 @@ use Rattle.bd_c.specs.declared.status.Status.TheVariants.{Done, NoMemory, NoSuch
 
 -- it is a seat of the same driver
 abbrev pub Stays : OwnedSeat → OwnedSeat → Type 0
-Stays x y = (y.driver ≡ x.driver) × (y.seat.table ≡ x.seat.table)
+Stays x y = (y.keyed ≡ x.keyed) × (y.seat.table ≡ x.seat.table)
 
 -- nothing was done
 abbrev pub Nothing : OwnedSeat → OwnedSeat → Told → Told → Type 0
@@ -71,7 +71,7 @@ Posts x y request NoMemory = HasBytes request × (y ≡ x)
 Posts x y request _ = ⊥
 
 abbrev pub Serves : OwnedSeat → OwnedSeat → Served → Type 0
-Serves x y told = (y.latest ≡ x.latest) × served.Serves (arc_value x.driver).seats x.seat.view y.seat.view told
+Serves x y told = (y.latest ≡ x.latest) × served.Serves (arc_value x.keyed).driver.seats x.seat.view y.seat.view told
 
 -- the driver did this to what was handed over, whose outcome is kept and told; or nothing was handed over, and nothing done
 abbrev pub Fetched : (View → View → Outcome → Type 0) → OwnedSeat → OwnedSeat → Status → Told → Told → Type 0

@@ -41,7 +41,7 @@ impl OwnedSeat {
         if self.seat.is_waiting() {
             return Status::Waiting;
         }
-        let outcome = self.driver.call(&mut self.seat, request);
+        let outcome = self.keyed.driver.call(&mut self.seat, request);
         self.keep(outcome, told);
         Status::Done
     }
@@ -57,7 +57,7 @@ impl OwnedSeat {
         let Some(request) = take_back(&mut self.latest) else {
             return Status::NoSuchRequest;
         };
-        let outcome = self.driver.call(&mut self.seat, request);
+        let outcome = self.keyed.driver.call(&mut self.seat, request);
         self.keep(outcome, told);
         Status::Done
     }
@@ -67,7 +67,7 @@ impl OwnedSeat {
         ensures stays { Stays self.old self.new }
         ensures looks { Looks self.old self.new result }
     {
-        self.driver.look(&mut self.seat)
+        self.keyed.driver.look(&mut self.seat)
     }
 
     /// The driver's post.
@@ -78,7 +78,7 @@ impl OwnedSeat {
         if self.seat.is_waiting() {
             return Status::Waiting;
         }
-        self.driver.post(&mut self.seat, request);
+        self.keyed.driver.post(&mut self.seat, request);
         Status::Done
     }
 
@@ -87,7 +87,7 @@ impl OwnedSeat {
         ensures stays { Stays self.old self.new }
         ensures serves { Serves self.old self.new result }
     {
-        self.driver.serve(&mut self.seat)
+        self.keyed.driver.serve(&mut self.seat)
     }
 
     /// The driver's collect, whose outcome is kept and told.
@@ -98,7 +98,7 @@ impl OwnedSeat {
         if !self.seat.is_waiting() {
             return Status::NotWaiting;
         }
-        let outcome = self.driver.collect(&mut self.seat);
+        let outcome = self.keyed.driver.collect(&mut self.seat);
         self.keep(outcome, told);
         Status::Done
     }
@@ -111,7 +111,7 @@ impl OwnedSeat {
         if !self.seat.is_waiting() {
             return Status::NotWaiting;
         }
-        let outcome = self.driver.withdraw(&mut self.seat);
+        let outcome = self.keyed.driver.withdraw(&mut self.seat);
         self.keep(outcome, told);
         Status::Done
     }

@@ -30,10 +30,7 @@ pub struct TurnTold {
 fn place_told(place: Option<u32>) -> u32
     ensures { result ≡ place_told place }
 {
-    match place {
-        Some(place) => place,
-        None => u32::MAX,
-    }
+    place.unwrap_or(u32::MAX)
 }
 
 fn turn_told(turn: &Turn) -> TurnTold

@@ -1,6 +1,6 @@
 //! What C calls of a driver.
 ghost use Rattle.std.specs.Prelude.{◌≡◌, None};
-ghost use Rattle.bd_c.specs.{Status.{Reports}, Misuse.{IsMisuse}, Behind.{Of, IsThere, IsDriver, IsEnded, IsSeat, history_of}};
+ghost use Rattle.bd_c.specs.{Status.{Reports}, Misuse.{IsMisuse}, Behind.{Of, IsThere, IsDriver, IsEnded, history_of}, Keys.{HaveOneKey}};
 ghost use Rattle.bd_c.specs.{Drivers.{IsOwn, OpensAt, HandsAt, ReturnsAt, Finishes}, Journals.{Journals, Judges}};
 
 use crate::handles::Handle;
@@ -11,17 +11,22 @@ use crate::opening::{free, put, put_made, take};
 use crate::status::Status;
 use std::alloc::Global;
 
-/// Makes a driver with so many seats, 1 to 31. The handle has to have nothing.
+/// Makes a driver with so many seats, 1 to 31, and with a key, by which it knows its seats. The handle has to have nothing.
 #[tactic(auto, using(crate::proofs::Behind::none_there))]
 #[unsafe(no_mangle)]
-pub extern "C" fn hullpippin_new(alloc: Global, seats: u32, driver: &mut Handle) -> u32
-    ensures opens { driver.old.held ≡ None → Reports result (OpensAt seats driver.new.held) }
+pub extern "C" fn hullpippin_new_with_key(
+    alloc: Global,
+    seats: u32,
+    key: u64,
+    driver: &mut Handle,
+) -> u32
+    ensures opens { driver.old.held ≡ None → Reports result (OpensAt seats key driver.new.held) }
     ensures misuse { IsThere driver.old.held → IsMisuse result driver.old.held driver.new.held }
 {
     if driver.is_there() {
         return Status::Misuse.number();
     }
-    put_made(driver, open_host(alloc, seats))
+    put_made(driver, open_host(alloc, seats, key))
 }
 
 /// Takes the first seat off a driver that is there. The seat's handle has to have nothing.
@@ -52,26 +57,30 @@ pub extern "C" fn hullpippin_take_seat(alloc: Global, driver: &mut Handle, seat:
     }
 }
 
-/// Gives a seat back to its driver. Its handle then has nothing.
-#[tactic(auto, using(crate::proofs::Behind::own_driver, crate::proofs::Answering::no_own, crate::proofs::Answering::own_table, crate::proofs::Answering::fits_return, crate::proofs::Answering::returns_full))]
+/// Gives a seat back to its driver, which has the same key. Its handle then has nothing.
+#[tactic(auto, using(crate::proofs::Keys::driver_there, crate::proofs::Keys::no_seat, crate::proofs::Keys::own_table, crate::proofs::Keys::one_key, crate::proofs::Keys::other_key, crate::proofs::Answering::returns_full))]
 #[unsafe(no_mangle)]
 pub extern "C" fn hullpippin_return_seat(
     alloc: Global,
     driver: &mut Handle,
     seat: &mut Handle,
 ) -> u32
-    requires own { IsDriver driver.old.held → IsSeat seat.old.held → IsOwn driver.old.held seat.old.held }
-    ensures returns { IsOwn driver.old.held seat.old.held
+    // No two drivers have one key.
+    requires keys { HaveOneKey driver.old.held seat.old.held → IsOwn driver.old.held seat.old.held }
+    ensures returns { HaveOneKey driver.old.held seat.old.held
         → Reports result (ReturnsAt driver.old.held driver.new.held seat.old.held seat.new.held) }
-    ensures misuse { (IsDriver driver.old.held → IsSeat seat.old.held → ⊥)
+    ensures misuse { (HaveOneKey driver.old.held seat.old.held → ⊥)
         → IsMisuse result driver.old.held driver.new.held × (seat.new.held ≡ seat.old.held) }
 {
-    if !seat.is_seat() {
+    let Some(key) = seat.key_of_seat() else {
         return Status::Misuse.number();
-    }
+    };
     let Some(host) = driver.host() else {
         return Status::Misuse.number();
     };
+    if host.key() != key {
+        return Status::Misuse.number();
+    }
     if !host.is_seat_away() {
         return Status::NoMemory.number();
     }

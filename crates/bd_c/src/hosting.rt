@@ -1,8 +1,9 @@
 //! What a driver's handle is for: seats are taken, and come back, and then there is its history.
 ghost use Rattle.std.specs.{Prelude.{◌≡◌, true, IfOk, IfErr}, Arc.{arc_value}};
-ghost use Rattle.bd_c.specs.Hosts.{Opens, IsRefusal, Hands, Keeps, is_seat_away, TakesBack, Ends};
+ghost use Rattle.bd_c.specs.{Hosts.{Opens, IsRefusal, Hands, Keeps, is_seat_away, TakesBack, Ends}, Keys.{host_key}};
 
 use crate::host::Host;
+use crate::keyed::KeyedDriver;
 use crate::seat::OwnedSeat;
 use crate::status::Status;
 use bd_driver::Driver;
@@ -11,18 +12,18 @@ use std::alloc::Global;
 use std::sync::Arc;
 
 impl Host {
-    /// A driver with so many seats, all of them there.
+    /// A driver with so many seats, all of them there, and with this key.
     #[tactic(auto, using(crate::proofs::Behind::refused_fits))]
-    pub(crate) fn new(alloc: Global, count: u32) -> Result<Host, Status>
-        ensures ok { IfOk result (Opens count) }
+    pub(crate) fn new(alloc: Global, count: u32, key: u64) -> Result<Host, Status>
+        ensures ok { IfOk result (Opens count key) }
         ensures refused { IfErr result (IsRefusal count) }
     {
         match Driver::new(alloc, count) {
             Err(fault) => Err(Status::of_fault(fault)),
-            Ok((driver, seats)) => match Arc::new(alloc, driver) {
+            Ok((driver, seats)) => match Arc::new(alloc, KeyedDriver { driver, key }) {
                 Err(_) => Err(Status::NoMemory),
-                Ok(driver) => Ok(Host {
-                    driver,
+                Ok(keyed) => Ok(Host {
+                    keyed,
                     seats,
                     count: count as usize,
                 }),
@@ -38,15 +39,22 @@ impl Host {
         if self.seats.is_empty() {
             return Err(Status::NoSeat);
         }
-        let Ok(driver) = Arc::try_clone(&self.driver) else {
+        let Ok(keyed) = Arc::try_clone(&self.keyed) else {
             return Err(Status::NoMemory);
         };
         let seat = self.seats.remove(0);
         Ok(OwnedSeat {
-            driver,
+            keyed,
             seat,
             latest: None,
         })
+    }
+
+    /// The driver's key.
+    pub(crate) fn key(&self) -> u64
+        ensures { result ≡ host_key self.now }
+    {
+        self.keyed.key
     }
 
     /// Whether fewer seats are there than the driver has.
@@ -58,12 +66,12 @@ impl Host {
 
     /// A seat that was away comes back, for which there is room.
     pub(crate) fn take_back(&mut self, seat: OwnedSeat)
-        requires own { seat.seat.table ≡ (arc_value self.old.driver).table }
+        requires own { seat.seat.table ≡ (arc_value self.old.keyed).driver.table }
         requires away { is_seat_away self.old ≡ true }
         ensures { TakesBack self.old self.new seat }
     {
         let OwnedSeat {
-            driver: _,
+            keyed: _,
             seat,
             latest: _,
         } = seat;
@@ -76,21 +84,21 @@ impl Host {
         ensures away { IfErr result (λ h. h ≡ self) }
     {
         let Host {
-            driver,
+            keyed,
             seats,
             count,
         } = self;
         if seats.len() != count {
             return Err(Host {
-                driver,
+                keyed,
                 seats,
                 count,
             });
         }
-        match Arc::try_unwrap(driver) {
-            Ok(driver) => Ok(driver.finish(seats)),
-            Err(driver) => Err(Host {
-                driver,
+        match Arc::try_unwrap(keyed) {
+            Ok(keyed) => Ok(keyed.driver.finish(seats)),
+            Err(keyed) => Err(Host {
+                keyed,
                 seats,
                 count,
             }),

@@ -9,12 +9,12 @@ use crate::opening::boxed;
 use crate::status::Status;
 use std::alloc::Global;
 
-/// A new driver, in a box.
-pub(crate) fn open_host(alloc: Global, count: u32) -> Result<Box<Held>, Status>
-    ensures ok { IfOk result (λ b. Of driver_of (Some b.value) (Opens count)) }
+/// A new driver with this key, in a box.
+pub(crate) fn open_host(alloc: Global, count: u32, key: u64) -> Result<Box<Held>, Status>
+    ensures ok { IfOk result (λ b. Of driver_of (Some b.value) (Opens count key)) }
     ensures refused { IfErr result (IsRefusal count) }
 {
-    let host = Host::new(alloc, count)?;
+    let host = Host::new(alloc, count, key)?;
     boxed(alloc, Held::Driver(host))
 }
 

@@ -5,7 +5,7 @@ ghost use Rattle.bd_c.specs.declared.held.Held.TheVariants.{Driver, History, Liv
 ghost use Rattle.bd_c.specs.{contracts.held.Held.{the_row as held_row}, contracts.host.Host.{the_row as host_row}};
 ghost use Rattle.bd_c.specs.contracts.live.OwnedLive.{the_row as live_row};
 ghost use Rattle.bd_c.specs.contracts.seat.OwnedSeat.{the_row as seat_row};
-ghost use Rattle.bd_c.specs.{Behind.{IsThere, IsDriver, IsEnded, IsLive, IsSeat}, Lending.{LendsAs}};
+ghost use Rattle.bd_c.specs.{Behind.{Of, IsThere, IsDriver, IsEnded, IsLive, IsSeat, seat_of}, Keys.{seat_key}, Lending.{LendsAs}};
 
 use crate::handles::Handle;
 use crate::held::Held;
@@ -81,15 +81,16 @@ impl Handle {
         }
     }
 
-    /// Whether a seat is.
-    #[tactic(auto, using(crate::proofs::Behind::there))]
-    pub(crate) fn is_seat(&mut self) -> bool
+    /// The key of the driver whose seat is, if a seat is.
+    #[tactic(auto, using(crate::proofs::Keys::seat_there))]
+    pub(crate) fn key_of_seat(&mut self) -> Option<u64>
         ensures same { self.new.held ≡ self.old.held }
-        ensures seat { MatchBool result (IsSeat self.new.held × IsThere self.new.held) (IsSeat self.new.held → ⊥) }
+        ensures key { MatchOption result (IsSeat self.new.held → ⊥)
+            (λ k. IsThere self.new.held × Of seat_of self.new.held (λ x. seat_key x ≡ k)) }
     {
         match self.seat() {
-            Some(_) => true,
-            None => false,
+            Some(seat) => Some(seat.keyed.key),
+            None => None,
         }
     }
 }

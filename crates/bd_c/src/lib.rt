@@ -16,6 +16,7 @@ mod host;
 mod hosting;
 mod hosts;
 mod judging;
+mod keyed;
 mod lending;
 mod live;
 mod live_calls;

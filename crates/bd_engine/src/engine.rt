@@ -113,8 +113,7 @@ impl Engine {
     }
 
     /// Makes room for the entries of so many steps more, and changes nothing else. That these entries then ask for no memory
-    /// no clause says, since room is no part of an engine's value, its history: a test sees it of five steps (`tools/starve`,
-    /// its word `reserved`). Errors: memory was refused.
+    /// no clause says, since room is no part of an engine's value, its history. Errors: memory was refused.
     pub fn reserve(&mut self, steps: usize) -> Result<(), Why>
         ensures stands { self.new ≡ self.old }
         ensures memory { IfErr result (λ why. why ≡ NoMemory) }

@@ -21,7 +21,7 @@ use std::mem::replace;
 /// The most steps that a history has.
 const MOST_STEPS: usize = 4294967295;
 
-/// The history of a driver's steps, of 1 to 65536 seats, and what it has come to. An `Engine` is one of few seats, which
+/// The history of the steps of 1 to 65536 seats, and what it has come to. An `Engine` is one of few seats, which
 /// keeps besides which of them are ready.
 pub struct WideEngine {
     entries: Vec<Entry>,
@@ -108,8 +108,7 @@ impl WideEngine {
     }
 
     /// Makes room for the entries of so many steps more, and changes nothing else. That these entries then ask for no memory
-    /// no clause says, since room is no part of an engine's value, its history: a test sees it of five steps (`tools/starve`,
-    /// its word `reserved`). Errors: memory was refused.
+    /// no clause says, since room is no part of an engine's value, its history. Errors: memory was refused.
     pub fn reserve(&mut self, steps: usize) -> Result<(), Why>
         ensures stands { self.new ≡ self.old }
         ensures memory { IfErr result (λ why. why ≡ NoMemory) }

@@ -89,7 +89,8 @@ pub const HULLPIPPIN_HISTORY_FULL: u32 = 11;
 /// Live_command: the bytes aren't exactly one command.
 pub const HULLPIPPIN_NO_COMMAND: u32 = 12;
 
-/// A handle isn't what the call is for: it is empty, or isn't where it has to be, or its driver has ended, or hasn't.
+/// A handle isn't what the call is for: it is empty, or isn't where it has to be, or its driver has ended, or hasn't,
+/// or is another one.
 pub const HULLPIPPIN_MISUSE: u32 = 13;
 
 /// Chain, call_of_reply, turns: the journal's entries aren't a history.
@@ -811,7 +812,7 @@ extern "C" {
     pub fn hullpippin_take_seat(driver: *mut hullpippin_driver, seat: *mut hullpippin_seat) -> u32;
 
     /// Gives a seat back to its own driver, behind those that are there, and empties `seat`. What its latest call
-    /// answered is gone. Also NO_MEMORY, which never comes where the seat was taken off this driver.
+    /// answered is gone. With another driver it is MISUSE, and the seat stays. Takes no memory; NO_MEMORY never comes.
     pub fn hullpippin_return_seat(driver: *mut hullpippin_driver, seat: *mut hullpippin_seat) -> u32;
 
     /// Ends a driver whose seats are all back. The handle has its history from then on, which is for journal and

@@ -6,7 +6,6 @@ use crate::{copied, Answer, Command, Error, Note, Outcome, Parcel, Request, Tran
 use hullpippin_sys as sys;
 use std::collections::VecDeque;
 use std::fmt;
-use std::sync::atomic::{AtomicU64, Ordering};
 
 /// One engine that several seats share.
 ///
@@ -26,8 +25,6 @@ use std::sync::atomic::{AtomicU64, Ordering};
 /// ```
 pub struct Driver {
     handle: sys::hullpippin_driver,
-    /// That of no other driver of this program.
-    identity: u64,
     /// The seats that are there, the next to be taken first.
     numbers: VecDeque<u32>,
 }
@@ -38,11 +35,10 @@ unsafe impl Send for Driver {}
 impl Driver {
     /// A driver with so many seats, 1 to 31.
     pub fn new(seats: u32) -> Result<Driver, Error> {
-        static DRIVERS: AtomicU64 = AtomicU64::new(0);
         let mut handle = sys::hullpippin_driver::NONE;
         // SAFETY: the handle is empty.
         checked(unsafe { sys::hullpippin_new(seats, &mut handle) })?;
-        Ok(Driver { handle, identity: DRIVERS.fetch_add(1, Ordering::Relaxed), numbers: (0..seats).collect() })
+        Ok(Driver { handle, numbers: (0..seats).collect() })
     }
 
     /// Takes the first seat that is there: of a new driver seat 0, then seat 1.
@@ -51,16 +47,18 @@ impl Driver {
         // SAFETY: the driver's handle has a driver until it is let go of, and the seat's is empty.
         checked(unsafe { sys::hullpippin_take_seat(&mut self.handle, &mut handle) })?;
         let number = self.numbers.pop_front().expect("a seat that was handed out was there");
-        Ok(Seat { handle, driver: self.identity, number })
+        Ok(Seat { handle, number })
     }
 
     /// Gives a seat back, behind those that are there. One of another driver comes back.
     pub fn return_seat(&mut self, mut seat: Seat) -> Result<(), Kept<Seat>> {
-        if seat.driver != self.identity {
+        // SAFETY: both handles have what they are for.
+        let status = unsafe { sys::hullpippin_return_seat(&mut self.handle, &mut seat.handle) };
+        // Neither handle is empty, nor has the driver ended.
+        if status == sys::HULLPIPPIN_MISUSE {
             return Err(Kept { kept: seat, error: Error::OtherDriver });
         }
-        // SAFETY: both handles have what they are for, and the seat is one of this driver.
-        match checked(unsafe { sys::hullpippin_return_seat(&mut self.handle, &mut seat.handle) }) {
+        match checked(status) {
             Ok(()) => {
                 self.numbers.push_back(seat.number);
                 Ok(())
@@ -133,7 +131,6 @@ impl History {
 /// ```
 pub struct Seat {
     handle: sys::hullpippin_seat,
-    driver: u64,
     number: u32,
 }
 
