@@ -239,9 +239,8 @@ int ask_state(const char *path, const char *device)
         return 1;
     const char *why = why_not(ask(fd, &request, device, &answer, sizeof answer, NULL), &answer.error);
     why = why ? why : fetch_all(fd, device, &records);
-    if (why)
-        return fail(device, why);
-    print_all(device, &records);
+    if (!why)
+        print_all(device, &records);
     free(records.all);
-    return 0;
+    return why ? fail(device, why) : 0;
 }

@@ -7,7 +7,8 @@
 
 #include <errno.h>
 
-/* The seat is a thread's from the next step on, or nobody's: what stands beside a journal, and in the ring, says of that step whose it is. */
+/* The seat is a thread's from the next step on, or nobody's: of that step it is told already, beside a journal and in the ring, whose
+   it is. */
 static void note(struct engine *engine, uint32_t seat, struct thread *thread)
 {
     engine->lent[seat] = thread;

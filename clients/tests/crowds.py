@@ -16,7 +16,7 @@ MOST_STEPS, MOST_WAIT = 64, 8
 # beside hostile clients a call takes at most so many times as long as alone, and beside those that do nothing
 HOSTILE_TIMES, IDLE_TIMES = 4, 2
 # looks of the daemon at others' threads, for each step
-MOST_LOOKS = 6
+MOST_LOOKS = 1.5
 # the longest that a call may take while a thousand callers end, in microseconds
 MOST_ENDING = 20e3
 ROUNDS = 5

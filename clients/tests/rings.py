@@ -208,6 +208,8 @@ def ring_counts(build):
 # what goes on while the state is told: services, and threads of one more process that wait in a read or for a reply
 SERVICES, THREADS = 40, 100
 CALLS = sum(i % 8 == 1 for i in range(THREADS))
+# open files of one process, so many that the daemon has three in some of its 256 lists: a page of 16 ends in the midst of one
+OPENS = 600
 # what one of the services is called: it would be lines of its own, and clear a terminal
 ODD = "\\\n\x1b[2Jproc 1"
 
@@ -267,11 +269,14 @@ def state(build):
         other = {"RAW_DEVICE": "/dev/vndbinder"}
         waiting = stage.start([build.raw("asleep"), str(THREADS)], environment=other).wait_for("ready", 30)
         told, counted = (asked(build, stage, words) for words in (["--state", DEVICE], ["--stats", DEVICE]))
+        opener = stage.start([build.raw("opens"), str(OPENS)], environment={"RAW_DEVICE": "/dev/hwbinder"}).wait_for("ready", 30)
+        opened = re.findall(rf"^proc {opener.pid} opens: .*?(?:, in the history (\d+))?$", asked(build, stage, ["--state", "/dev/hwbinder"]), re.M)
         processes, threads = threads_of(told)
         of_one, many_threads = wait_for_calls(build, stage, waiting)
         wrong = [(tid, pid, line[2]) for tid, (pid, line) in {**threads, **many_threads}.items() if line[2] != comm_of(pid, tid)]
         stage.end()
         journal = Journal(contents(stage.journal))
+    expect(len(opened) == len(set(opened)) == OPENS, f"of {OPENS} open files {len(opened)} are told of, {len(set(opened))} of them once")
     expect(set(processes) == {manager.pid, *(it.pid for it in running)}, f"processes: {sorted(processes)}")
     expect({pid for pid, _ in threads.values()} == set(processes) and not wrong, f"threads of {threads}, wrong names: {wrong}")
     expect([pid for pid, it in processes.items() if "context manager" in it[0]] == [manager.pid], "another manager is told of")
@@ -279,7 +284,7 @@ def state(build):
     expect(len(of_one) >= THREADS and calls_in(of_one) == CALLS, f"{len(of_one)} threads, of which {calls_in(of_one)} call: {of_one[:3]}")
     sent = sum(it.step[0] == COMMAND and said_by(it)["command"] & 0xff == BC_TRANSACTION for it in journal.entries)
     expect(f"BC_TRANSACTION: {sent}\n" in counted and f"{SERVICES + 1} processes" in counted, counted)
-    return f"{len(processes)} processes and {len(threads) + len(many_threads)} threads, by their names"
+    return f"{len(processes)} processes and {len(threads) + len(many_threads)} threads, by their names; {len(opened)} open files of one process"
 
 
 # what a daemon answers (../protocol.h), and a page of `--state` with so many records

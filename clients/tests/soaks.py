@@ -53,8 +53,8 @@ class Player(threading.Thread):
 
 
 def watched(stage, players):
-    """The least of the daemon's memory in each second, while the players play."""
-    memory = []
+    """The least of the daemon's memory in each second, while the players play. In a second that nobody was let look it is as before."""
+    memory, begin = [], time.monotonic()
     for player in players:
         player.start()
     while any(player.is_alive() for player in players):
@@ -62,7 +62,7 @@ def watched(stage, players):
         for _ in range(SAMPLES):
             time.sleep(1 / SAMPLES)
             least.append(resident(stage.daemon.pid))
-        memory.append(min(least))
+        memory += [min(least)] * max(1, int(time.monotonic() - begin) - len(memory))
     for player in players:
         player.join()
         if player.why:

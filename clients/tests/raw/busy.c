@@ -331,7 +331,8 @@ static bool has_listener;
 static void heard(struct looper *looper, binder_uintptr_t cookie)
 {
     (void)looper;
-    CHECK(cookie && cookie <= atomic_load(&last_cookie), "a death is told by a cookie that nobody has given, %llx", (unsigned long long)cookie);
+    CHECK(cookie && cookie <= atomic_load(&last_cookie), "a death is told by a cookie that nobody has given, %llx",
+          (unsigned long long)cookie);
     for (size_t i = 0; i < MET; i++) {
         binder_uintptr_t awaited = cookie;
         atomic_compare_exchange_strong(&all_met[i].awaited, &awaited, 0);
