@@ -140,8 +140,8 @@ pub struct Explain {
 #[derive(Args)]
 pub struct State {
     /// A journal, or - for standard input
-    #[arg(value_name = "JOURNAL")]
-    pub journal: String,
+    #[arg(value_name = "JOURNAL", required_unless_present = "daemon")]
+    pub journal: Option<String>,
     /// After so many entries, or those before a time, in place of all
     #[arg(long, value_name = "PLACE|TIME")]
     pub at: Option<Spot>,
@@ -151,6 +151,15 @@ pub struct State {
     /// Text for people, or a value of JSON a line
     #[arg(long, value_enum, default_value = "text")]
     pub format: Format,
+    /// Of a daemon that runs, now
+    #[arg(long, conflicts_with_all = ["journal", "at", "diff"])]
+    pub daemon: bool,
+    /// The daemon's socket; else HULLPIPPIN_SOCKET, or where the daemon of this user or of the system is
+    #[arg(long, value_name = "PATH", conflicts_with = "journal")]
+    pub socket: Option<String>,
+    /// The device; /dev/binder where none is named
+    #[arg(long, value_name = "NAME", conflicts_with = "journal")]
+    pub device: Option<String>,
 }
 
 #[derive(Args)]

@@ -68,11 +68,18 @@ fn show(given: &Show, out: &mut Out, style: &Style) -> Result<()> {
 
 fn state(given: &State, out: &mut Out) -> Result<()> {
     let to = &mut out.held;
+    let journal = match &given.journal {
+        Some(journal) => journal,
+        None => {
+            let device = given.device.clone().unwrap_or_else(|| "/dev/binder".into());
+            return live::state::put(to, &live::Where { socket: given.socket.clone(), device }, given.format);
+        }
+    };
     if let [before, after] = given.diff[..] {
-        let (before, after) = (state::at(&given.journal, Some(before))?, state::at(&given.journal, Some(after))?);
+        let (before, after) = (state::at(journal, Some(before))?, state::at(journal, Some(after))?);
         return Ok(state::put_difference(to, &before, &after)?);
     }
-    let player = state::at(&given.journal, given.at)?;
+    let player = state::at(journal, given.at)?;
     match given.format {
         Format::Text => Ok(state::put_text(to, &player)?),
         Format::Json => state::put_json(to, &player),

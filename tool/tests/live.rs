@@ -1,7 +1,7 @@
 // SPDX-License-Identifier: Apache-2.0 OR MIT
 //! What goes on in a daemon: told of one that has a ring of steps and nothing else.
 mod common;
-use common::ring::{daemon, field, Kind, Ring, Step, Who, GOT, SENT};
+use common::ring::{daemon, field, record, telling, Kind, Ring, Step, Who, GOT, SENT};
 use common::*;
 use std::fs;
 use std::io::{BufRead, BufReader};
@@ -174,6 +174,69 @@ fn a_count_that_cannot_be_is_no_step() {
     fs::write(&ring.file.0, memory).expect("the ring");
     let socket = daemon("count", &ring, 0);
     assert_eq!(printed(&["trace", "--once", "--past", "--socket", socket.path()]), "");
+}
+
+/// A manager with a thread in the loop; a service of which another process of the history has a handle for an object, and in whose window
+/// lie an unread call and a reply of a process that has ended.
+fn state() -> Vec<Vec<Vec<u8>>> {
+    let manager = [(1, 100), (2, 9_000_100), (5, 1000), (6, 1), (7, 4096), (8, 1), (9, 15)];
+    let service = [(1, 201), (2, 9_000_200), (5, 2000), (6, 2), (7, 8192), (8, 2), (9, 15), (11, 1), (15, 16)];
+    let thread = |more: &[(usize, u32)]| record(2, &[&[(14, u32::MAX)], more].concat(), "Binder:1");
+    vec![
+        vec![record(1, &manager, "manager"), record(1, &service, "serv\x1bice")],
+        vec![],
+        vec![
+            thread(&[(1, 100), (2, 9_000_100), (3, 9_000_101), (4, 1), (6, 12)]),
+            thread(&[(1, 201), (3, 9_000_201), (4, 2), (12, 2), (13, 1), (14, 12), (15, 3)]),
+        ],
+        vec![
+            record(3, &[(1, 100), (16, 1), (17, 4), (18, 2), (19, 201)], ""),
+            record(3, &[(1, 100), (16, 2), (17, 5), (19, 0)], ""),
+            record(
+                4,
+                &[(1, 201), (6, 64 + 16), (17, 4), (18, 2), (19, 100), (20, 21), (21, 16), (22, 88), (23, PNG)],
+                "",
+            ),
+            record(4, &[(1, 201), (6, 32), (20, 9), (22, 8)], ""),
+            // Of a process that has come since.
+            record(3, &[(1, 300), (16, 1), (17, 4), (19, 201)], ""),
+        ],
+    ]
+}
+
+#[test]
+fn what_goes_on_in_a_daemon_is_told() {
+    let socket = telling("state", state(), 0);
+    let words = ["state", "--daemon", "--socket", socket.path()];
+    let told = "after 30 steps of /dev/binder\n\
+        pid 9000100 \"manager\" euid 1000 window 4096, 1 threads, 0 of them asked for, of at most 15, in the history 100, context manager\n  \
+        seat 1 (tid 9000101 \"Binder:1\"), in the loop, waits in a read\n  \
+        handle 1 object 4.2 of pid 9000200 \"serv\\u{1b}ice\"\n  \
+        handle 2 object 5.0 of a process that has ended\n\
+        pid 9000200 \"serv\\u{1b}ice\" euid 2000 window 8192, 2 threads, 1 of them asked for, of at most 15, in the history 201, \
+        asks for reports of flooding, 16 or more to read\n  \
+        seat 2 (tid 9000201 \"Binder:1\"), serves 2 calls, waits in 1 call, the innermost made at 12, 3 to read\n  \
+        buffer at 16 made at 21 size 88 code 0x5f504e47 from pid 9000100 \"manager\", for object 4.2, one-way, unread\n  \
+        buffer at 0 made at 9 size 8 code 0x0 from a process that has ended\n";
+    assert_eq!(printed(&words), told);
+    let values = printed(&[&words[..], &["--format", "json"]].concat());
+    let values: Vec<serde_json::Value> = values.lines().map(|it| serde_json::from_str(it).expect("JSON")).collect();
+    assert_eq!(values[0], serde_json::json!({"steps": 30, "device": "/dev/binder"}));
+    let owner = serde_json::json!({"pid": 9_000_200, "comm": "serv\u{1b}ice"});
+    assert_eq!(values[1]["handles"][0], serde_json::json!({"handle": 1, "object": "4.2", "owner": owner}));
+    assert_eq!(values[2]["buffers"][1]["from"], serde_json::Value::Null);
+}
+
+#[test]
+fn why_nothing_is_told_of_a_daemon_is_said() {
+    let socket = telling("state-error", state(), 1);
+    let said = fault(&["state", "--daemon", "--socket", socket.path()]);
+    assert_eq!(said, "hullpippin: the daemon shows its steps to its own user and to root, and to nobody else\n");
+    let said = fault(&["state", "--daemon", "--socket", "/no/such/socket"]);
+    assert_eq!(said, "hullpippin: there is no daemon at /no/such/socket; hullpippin-run starts one\n");
+    for words in [&["state"][..], &["state", "x", "--daemon"], &["state", "x", "--socket", "y"]] {
+        assert_eq!(run(words).status.code(), Some(2), "{words:?}");
+    }
 }
 
 /// A runner that tells its pid and waits until it may go on.
