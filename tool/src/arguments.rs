@@ -119,6 +119,9 @@ pub struct Show {
     /// How many bytes of each parcel are printed; 0: nothing of it
     #[arg(long, value_name = "N", default_value_t = 1024)]
     pub bytes: usize,
+    /// Has libhullpippin say whether entries follow from those before them, and what the rules give where one doesn't
+    #[arg(long)]
+    pub judge: bool,
     /// Waits for further entries at the end, as `tail -f` does
     #[arg(long, short)]
     pub follow: bool,
@@ -129,7 +132,7 @@ pub struct Show {
 
 #[derive(Args)]
 pub struct Explain {
-    /// A name of a refusal or a return; or a journal
+    /// A name of a refusal or a return; or a journal, of which without a place the first unlawful entry is explained
     #[arg(value_name = "NAME|JOURNAL")]
     pub what: String,
     /// The place of an entry in that journal

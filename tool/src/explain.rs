@@ -3,10 +3,11 @@
 use crate::codes::*;
 use crate::journal::{Answer, Entry, Step};
 use crate::order;
+use crate::out::Palette;
 use crate::play::Player;
 use crate::record::{Flat, Parcel, Record, OBJECT_SIZE};
 use crate::refusals::{Kind, Reason};
-use crate::show::{object_words, put_entry, Style};
+use crate::show::{object_words, put_entry, put_given, Style};
 use crate::space::{About, Facts, Item, ItemKind, ObjectId, Process, Server, Space, Thread, STRONG, WEAK};
 use anyhow::{bail, Result};
 use std::io::{self, Write};
@@ -468,39 +469,94 @@ fn put_order(to: &mut Vec<u8>, step: &Step<'_>, held: Option<Reason>) -> io::Res
     writeln!(to, "    rules: {}{refusals}", order::section(step))
 }
 
-/// One entry with why it was answered so; gives the places that it leads back to.
-fn put_place(to: &mut Vec<u8>, style: &Style, path: &str, place: u64) -> Result<Vec<u64>> {
-    let mut player = Player::open(path, false)?;
-    player.until(place)?;
-    let mut space = player.space.clone();
-    let mut known = Facts::default();
-    let entry = match player.source.next()? {
-        Some(entry) => entry,
-        None => bail!("{path}: there is no place {place}: it has {place} entries"),
-    };
-    let reason = match entry.answer {
-        Answer::Refused(reason) => Some((reason, Case::new(&space, &entry).facts(reason))),
-        _ => None,
-    };
-    space.step(&entry, &mut known);
-    put_entry(to, style, &entry, &space, &known)?;
-    put_order(to, &entry.step, reason.as_ref().map(|it| it.0))?;
+/// Why such an answer is given.
+fn put_why(to: &mut Vec<u8>, style: &Style, step: &Step<'_>, reason: Option<(Reason, Vec<String>)>) -> io::Result<()> {
+    put_order(to, step, reason.as_ref().map(|it| it.0))?;
     if let Some((reason, facts)) = reason {
         put_facts(to, style, &facts)?;
         let (when, leaves) = meaning(reason);
         writeln!(to, "    {} holds: {when}", reason.name())?;
         writeln!(to, "    it leaves: {leaves}")?;
     }
+    Ok(())
+}
+
+/// One entry with why it was answered so; gives the places that it leads back to. Where the entry was judged and isn't lawful, told
+/// is why the rules give another answer.
+fn put_place(to: &mut Vec<u8>, style: &Style, player: &mut Player, place: u64) -> Result<Vec<u64>> {
+    player.until(place)?;
+    let mut space = player.space.clone();
+    let mut known = Facts::default();
+    let path = player.path.clone();
+    let entry = match player.source.next()? {
+        Some(entry) => entry,
+        None => bail!("{path}: there is no place {place}: it has {place} entries"),
+    };
+    let given = player.judge.as_mut().map(|it| it.judged(&entry)).transpose()?.flatten();
+    let reason_of = |answer: Option<Answer<'_>>| match answer {
+        Some(Answer::Refused(reason)) => Some((reason, Case::new(&space, &entry).facts(reason))),
+        _ => None,
+    };
+    let reason = reason_of(given.as_ref().map_or(Some(entry.answer), |it| it.answer()));
+    space.step(&entry, &mut known);
+    put_entry(to, style, &entry, &space, &known)?;
+    if let Some(given) = &given {
+        player.unlawful = Some(place);
+        put_given(to, style, given, &entry.answer, &space)?;
+    }
+    if given.as_ref().map_or(true, |it| it.answer().is_some()) {
+        put_why(to, style, &entry.step, reason)?;
+    }
     Ok(sources(&entry, &known))
+}
+
+/// How an entry was judged, where it isn't the first unlawful one.
+fn put_judged(to: &mut Vec<u8>, style: &Style, player: &Player, place: u64) -> io::Result<()> {
+    let Palette { refused, plain, .. } = &style.palette;
+    match player.unlawful {
+        None => writeln!(to, "    lawful: it follows from the entries before it, and so do they"),
+        Some(first) if first < place => {
+            writeln!(to, "    {refused}not judged:{plain} already entry {first} doesn't follow from those before it")
+        }
+        Some(_) => Ok(()),
+    }
 }
 
 /// Why the entry at a place was answered so, and those before it that it comes from.
 pub fn put_entry_at(to: &mut Vec<u8>, style: &Style, path: &str, place: u64) -> Result<()> {
-    for source in put_place(to, style, path, place)? {
+    let mut player = Player::open(path, false)?;
+    // Without the library it is explained all the same.
+    let unjudged = player.judge().err();
+    let sources = put_place(to, style, &mut player, place)?;
+    match unjudged {
+        Some(why) => writeln!(to, "    not judged: {why:#}")?,
+        None => put_judged(to, style, &player, place)?,
+    }
+    for source in sources {
         writeln!(to, "it comes from")?;
-        put_place(to, style, path, source)?;
+        put_place(to, style, &mut Player::open(path, false)?, source)?;
     }
     Ok(())
+}
+
+/// Whether a journal's entries are a history; of the first that doesn't follow, what the rules give in its place, and why.
+pub fn put_verdict(to: &mut Vec<u8>, style: &Style, path: &str) -> Result<()> {
+    let mut player = Player::open(path, false)?;
+    player.judge()?;
+    while player.unlawful.is_none() && player.next(|| Ok(()))?.is_some() {}
+    match player.unlawful {
+        Some(place) if path != "-" => {
+            let mut again = Player::open(path, false)?;
+            again.judge()?;
+            put_place(to, style, &mut again, place)?;
+        }
+        Some(_) => {}
+        None => {
+            player.ended(Default::default())?;
+            writeln!(to, "lawful: all {} entries follow from those before them", player.source.place())?;
+        }
+    }
+    player.check_lawful()
 }
 
 #[cfg(test)]

@@ -15,6 +15,7 @@ mod holders;
 mod index;
 mod journal;
 mod json;
+mod judge;
 mod live;
 mod order;
 mod out;
@@ -41,10 +42,14 @@ use play::Player;
 use script::Setting;
 use show::Style;
 use std::io;
+use std::path::Path;
 use std::process::ExitCode;
 
 fn show(given: &Show, out: &mut Out, style: &Style) -> Result<()> {
     let mut player = Player::open(&given.journal, given.follow)?;
+    if given.judge {
+        player.judge()?;
+    }
     if given.selection.is_by_name() {
         player.check_names()?;
     }
@@ -63,7 +68,8 @@ fn show(given: &Show, out: &mut Out, style: &Style) -> Result<()> {
             Format::Json => json::put_entry(&mut out.held, given.bytes, entry, space, facts)?,
         }
         Ok(out.pass()?)
-    })
+    })?;
+    player.check_lawful()
 }
 
 fn state(given: &State, out: &mut Out) -> Result<()> {
@@ -91,9 +97,10 @@ fn explain(given: &Explain, out: &mut Out, style: &Style) -> Result<()> {
     match given.place {
         Some(place) => explain::put_entry_at(to, style, what, place),
         None if explain::put_name(to, what)? => Ok(()),
+        None if what == "-" || Path::new(what).exists() => explain::put_verdict(to, style, what),
         None => bail!(
-            "nothing is called {what}: there are F1 to F16, X1 to X16 and N1 to N11, also by names as BadObject, and \
-             returns as BR_FAILED_REPLY; of a journal an entry is explained by its place: explain JOURNAL PLACE"
+            "nothing is called {what}, and there is no such file: there are F1 to F16, X1 to X16 and N1 to N11, also by names as \
+             BadObject, and returns as BR_FAILED_REPLY; of a journal an entry is explained by its place: explain JOURNAL PLACE"
         ),
     }
 }
