@@ -32,7 +32,8 @@ impl Arguments {
     /// Whether no person would read it page by page: it is for a program, or for who types.
     pub fn is_for_programs(&self) -> bool {
         let is_live = matches!(&self.word, Word::Trace(_) | Word::Top(_) | Word::Repl { .. });
-        is_live || matches!(&self.word, Word::Export(_) | Word::Diagram(_) | Word::Script(_))
+        let is_text = matches!(&self.word, Word::Diagram(Diagram { format: Drawn::Text, .. }));
+        is_live || !is_text && matches!(&self.word, Word::Export(_) | Word::Diagram(_) | Word::Script(_))
     }
 }
 
@@ -60,7 +61,7 @@ pub enum Word {
     Slow(Slow),
     /// Writes a recording in the form of another program
     Export(Export),
-    /// Draws a recording as one page of HTML, with search, zoom and hiding
+    /// Draws a recording: as one page of HTML with search, zoom and hiding, as a picture, for Mermaid, or for a terminal
     Diagram(Diagram),
     /// Tells the calls of a daemon that runs, a line each: of a program that is run for that, or of all
     Trace(Trace),
@@ -102,6 +103,9 @@ pub struct Script {
     /// Writes the journal of the run there
     #[arg(long, value_name = "OUT", requires = "run")]
     pub journal: Option<String>,
+    /// What is told of a run: whether what it expects holds, or what each line said as a value of JSON
+    #[arg(long, value_enum, default_value = "text", requires = "run")]
+    pub format: Format,
     /// Writes the script that it comes to there, - for standard output
     #[arg(long, value_name = "OUT")]
     pub emit: Option<String>,
@@ -246,6 +250,19 @@ pub struct Export {
     pub span: Span,
 }
 
+/// In what form a diagram is drawn.
+#[derive(Clone, Copy, Debug, PartialEq, Eq, ValueEnum)]
+pub enum Drawn {
+    /// One page with search, zoom and hiding, for long recordings too
+    Html,
+    /// A picture that stands alone
+    Svg,
+    /// A sequence diagram in Mermaid's language
+    Mermaid,
+    /// Lines of ASCII, for a terminal
+    Text,
+}
+
 #[derive(Args)]
 pub struct Diagram {
     /// A journal, or - for standard input
@@ -253,6 +270,9 @@ pub struct Diagram {
     pub journal: String,
     #[command(flatten)]
     pub range: Range,
+    /// The form
+    #[arg(long, value_enum, default_value = "html", value_name = "FORM")]
+    pub format: Drawn,
 }
 
 #[derive(Args)]

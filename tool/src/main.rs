@@ -25,6 +25,7 @@ mod record;
 mod refusals;
 mod script;
 mod select;
+mod sequence;
 mod show;
 mod source;
 mod space;
@@ -35,7 +36,7 @@ mod who;
 mod wrapped;
 
 use anyhow::{bail, Result};
-use arguments::{Arguments, Explain, Export, Form, Format, Holders, Script, Show, State, Word};
+use arguments::{Arguments, Diagram, Drawn, Explain, Export, Form, Format, Holders, Script, Show, State, Word};
 use clap::Parser;
 use out::{Out, Palette};
 use play::Player;
@@ -117,10 +118,20 @@ fn export(given: &Export, out: &mut Out) -> Result<()> {
     }
 }
 
+fn draw(given: &Diagram, out: &mut Out) -> Result<()> {
+    let mut player = Player::open(&given.journal, false)?;
+    match given.format {
+        Drawn::Html => diagram::put(&mut player, given.range, out),
+        form => sequence::put(&mut player, given.range, form, &mut out.held),
+    }
+}
+
 fn script(given: &Script, out: &mut Out) -> Result<()> {
     let (player, journal) = (given.run.as_deref(), given.journal.as_deref());
     let emit = given.emit.as_deref();
-    script::script(&script::Asked { path: &given.file, player, turns: given.turns, journal, emit }, &mut out.held)
+    let as_json = given.format == Format::Json;
+    let asked = script::Asked { path: &given.file, player, turns: given.turns, journal, emit, as_json };
+    script::script(&asked, &mut out.held)
 }
 
 /// The status with which it ends.
@@ -151,7 +162,7 @@ fn look(arguments: &Arguments, out: &mut Out) -> Result<()> {
             stats::slow(&mut Player::open(&given.journal, false)?, given.range, given.most, &mut out.held)
         }
         Word::Export(given) => export(given, out),
-        Word::Diagram(given) => diagram::put(&mut Player::open(&given.journal, false)?, given.range, out),
+        Word::Diagram(given) => draw(given, out),
         Word::Index { journal } => index::make(journal),
         Word::Script(given) => script(given, out),
         Word::Trace(_) | Word::Top(_) => Ok(()),

@@ -222,6 +222,20 @@ impl Player {
         Ok(())
     }
 
+    /// Calls this for each entry up to the end of the bounds, with where it lies.
+    pub fn each_lying(&mut self, bounds: &Bounds, mut call: impl FnMut(Lies, Seen<'_>) -> Result<()>) -> Result<()> {
+        while bounds.go_on(self.source.place()) {
+            match self.next(|| Ok(()))? {
+                Some((entry, space, facts)) => match bounds.lies(entry.place, facts) {
+                    Lies::Behind => return Ok(()),
+                    lies => call(lies, (&entry, space, facts))?,
+                },
+                None => return self.ended(bounds.range),
+            }
+        }
+        Ok(())
+    }
+
     /// Calls this for each entry of the range.
     pub fn each(&mut self, range: Range, mut call: impl FnMut(&Entry<'_>, &Space, &Facts) -> Result<()>) -> Result<()> {
         let bounds = self.bounds(range)?;

@@ -6,6 +6,7 @@ mod parcels;
 mod reader;
 mod repl;
 mod runs;
+mod told;
 mod verbs;
 mod words;
 
@@ -28,7 +29,7 @@ pub struct Fault {
 }
 
 /// A fault with the line that it is in, and a caret under the word.
-fn told(path: &str, fault: &Fault, text: &str) -> String {
+fn spelled(path: &str, fault: &Fault, text: &str) -> String {
     let line = text.lines().nth(fault.line - 1).unwrap_or_default();
     // A tab before the word is one before the caret too, so that both stand alike.
     let before: String = line.chars().take(fault.column - 1).map(|it| if it == '\t' { it } else { ' ' }).collect();
@@ -36,7 +37,7 @@ fn told(path: &str, fault: &Fault, text: &str) -> String {
 }
 
 fn put_faults(path: &str, faults: &[Fault], text: &str) {
-    let told: String = faults.iter().map(|it| told(path, it, text)).collect();
+    let told: String = faults.iter().map(|it| spelled(path, it, text)).collect();
     // Nobody is told where standard error is closed.
     let _ = io::stderr().write_all(told.as_bytes());
 }
@@ -79,6 +80,8 @@ pub struct Asked<'a> {
     pub turns: u32,
     pub journal: Option<&'a str>,
     pub emit: Option<&'a str>,
+    /// Whether what lines said is told as JSON.
+    pub as_json: bool,
 }
 
 /// Prints what a script comes to, or plays it and says whether what it expects holds.
@@ -111,7 +114,14 @@ pub fn script(asked: &Asked<'_>, to: &mut Vec<u8>) -> Result<()> {
     let faults: Vec<_> = expected.iter().filter_map(|it| it.check(run.answer(it.of))).collect();
     put_faults(&path, &faults, &text);
     let (all, held) = (expected.len(), expected.len() - faults.len());
-    to.extend(format!("{path}: {held} of {all} expectations hold\n").into_bytes());
+    if asked.as_json {
+        for (number, said) in run.printed() {
+            serde_json::to_writer(&mut *to, &told::Told::read(number, said))?;
+            to.push(b'\n');
+        }
+    } else {
+        to.extend(format!("{path}: {held} of {all} expectations hold\n").into_bytes());
+    }
     if held < all {
         bail!("{path}: {} of its expectations don't hold", faults.len());
     }

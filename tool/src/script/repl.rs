@@ -3,7 +3,7 @@
 use super::expects::Expected;
 use super::reader::{Line, Reader, Said};
 use super::runs::{Answer, Run, Setting};
-use super::{told, Fault};
+use super::{spelled, Fault};
 use crate::play::{Player, Range};
 use crate::show::{put_entry, Style};
 use crate::state;
@@ -85,7 +85,7 @@ impl Session {
             Ok(Err(fault)) => {
                 self.undo();
                 // The line that was taken back is the only one of the text.
-                Ok(told(NAME, &Fault { line: 1, ..fault }, text).replacen(":1:", &format!(":{number}:"), 1))
+                Ok(spelled(NAME, &Fault { line: 1, ..fault }, text).replacen(":1:", &format!(":{number}:"), 1))
             }
             Err(error) => {
                 self.undo();

@@ -1,0 +1,25 @@
+// SPDX-License-Identifier: Apache-2.0 OR MIT
+//! A range of a recording as a sequence diagram: for a terminal, for Mermaid, or as a picture. Each entry that leaves a mark has a row;
+//! a page of HTML, which is for long ranges, has its own drawing.
+mod labels;
+mod mermaid;
+mod model;
+mod plot;
+mod svg;
+mod text;
+mod tracks;
+
+use crate::arguments::Drawn;
+use crate::play::{Player, Range};
+use anyhow::Result;
+
+/// Draws a range.
+pub fn put(player: &mut Player, range: Range, form: Drawn, to: &mut Vec<u8>) -> Result<()> {
+    let diagram = plot::plotted(player, range)?;
+    match form {
+        Drawn::Text => text::put(to, &diagram)?,
+        Drawn::Mermaid => mermaid::put(to, &diagram)?,
+        Drawn::Svg | Drawn::Html => svg::put(to, &diagram)?,
+    }
+    Ok(())
+}
