@@ -105,7 +105,10 @@ fn a_sequence_has_what_threads_are_called() {
     assert!(part.contains("     5     #<----------:           gets call 4\n"), "{part}");
     assert_eq!(part.lines().count(), 6, "{part}");
     let mermaid = printed(&["diagram", recorded.path(), "--format", "mermaid", "--from", "7"]);
-    assert!(mermaid.contains("    participant s0 as seat 0 manager\n") && mermaid.contains("    activate s0\n"), "{mermaid}");
+    assert!(
+        mermaid.contains("    participant s0 as seat 0 manager\n") && mermaid.contains("    activate s0\n"),
+        "{mermaid}"
+    );
     assert!(fault(&["diagram", recorded.path(), "--format", "svg", "--to", "99"]).contains("there is no place 99"));
 }
 
