@@ -499,6 +499,7 @@ fn put_place(to: &mut Vec<u8>, style: &Style, player: &mut Player, place: u64) -
     };
     let reason = reason_of(given.as_ref().map_or(Some(entry.answer), |it| it.answer()));
     space.step(&entry, &mut known);
+    player.beside.tell(place, entry.seat, &mut known);
     put_entry(to, style, &entry, &space, &known)?;
     if let Some(given) = &given {
         player.unlawful = Some(place);

@@ -146,7 +146,8 @@ fn run(arguments: &Arguments, out: &mut Out) -> Result<u8> {
 /// What is looked at in journals, and what scripts come to.
 fn look(arguments: &Arguments, out: &mut Out) -> Result<()> {
     let palette = Palette::new(arguments.color);
-    let style = |bytes| Style { palette, bytes };
+    let row = parcel::row_for(out::width());
+    let style = |bytes| Style { palette, bytes, row };
     match &arguments.word {
         Word::Show(given) => show(given, out, &style(given.bytes)),
         Word::Explain(given) => explain(given, out, &style(1024)),

@@ -17,8 +17,9 @@ type Lines = Vec<u8>;
 #[derive(Clone, Debug, Default)]
 pub struct Style {
     pub palette: Palette,
-    /// How many bytes of a parcel are dumped.
+    /// How many bytes of a parcel are dumped, and how many of them in a line.
     pub bytes: usize,
+    pub row: usize,
 }
 
 /// `3.0 "manager" of pid 100`.
@@ -315,7 +316,7 @@ impl Shown<'_> {
         if let Some(wrapped) = Wrapped::read(parcel) {
             self.put_wrapped(to, &wrapped)?;
         }
-        parcel::put_dump(to, indent, parcel.data, self.style.bytes);
+        parcel::put_dump(to, indent, self.style.row, parcel.data, self.style.bytes);
         Ok(())
     }
 

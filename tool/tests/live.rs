@@ -341,31 +341,67 @@ fn check_screen(screen: &str) {
     assert_eq!(made.split(' ').skip(1).collect::<Vec<_>>().join(" "), "0 0 0 1 Binder:1(9000200)");
 }
 
-fn tmux(words: &[&str]) -> String {
-    let name = format!("hullpippin-test-{}", std::process::id());
+fn tmux(test: &str, words: &[&str]) -> String {
+    let name = format!("hullpippin-{test}-{}", std::process::id());
     let done = Command::new("tmux").args(["-L", &name]).args(words).env("TERM", "xterm").output().expect("tmux");
     String::from_utf8_lossy(&done.stdout).into_owned()
+}
+
+/// What `top` draws on a terminal of such a size, once a call is there; then it is ended by a key.
+fn drawn(test: &str, columns: u32, shows: &str) -> String {
+    let mut ring = filled(test);
+    let socket = daemon(test, &ring, 0);
+    let command = format!("{} top --interval 0.3 --socket {}", env!("CARGO_BIN_EXE_hullpippin"), socket.path());
+    let size = columns.to_string();
+    tmux(test, &["-f", "/dev/null", "new-session", "-d", "-x", &size, "-y", "24", &command]);
+    let mut screen = String::new();
+    busy(&mut ring, || {
+        screen = tmux(test, &["capture-pane", "-p"]);
+        screen.contains(shows)
+    });
+    assert_eq!(screen.lines().nth(23), Some("q: end"), "{screen}");
+    tmux(test, &["send-keys", "q"]);
+    // With its only program the terminal ends too.
+    let until = Instant::now() + Duration::from_secs(60);
+    while !tmux(test, &["list-sessions"]).is_empty() {
+        assert!(Instant::now() < until, "it doesn't end");
+        sleep(Duration::from_millis(20));
+    }
+    screen
 }
 
 #[test]
 #[ignore = "needs tmux"]
 fn a_screen_is_drawn_on_a_terminal() {
-    let mut ring = filled("screen");
-    let socket = daemon("screen", &ring, 0);
-    let command = format!("{} top --interval 0.3 --socket {}", env!("CARGO_BIN_EXE_hullpippin"), socket.path());
-    tmux(&["-f", "/dev/null", "new-session", "-d", "-x", "130", "-y", "24", &command]);
-    let mut screen = String::new();
-    busy(&mut ring, || {
-        screen = tmux(&["capture-pane", "-p"]);
-        screen.contains("1.2 ms")
-    });
-    check_screen(&screen);
-    assert_eq!(screen.lines().nth(23), Some("q: end"), "{screen}");
-    tmux(&["send-keys", "q"]);
-    // With its only program the terminal ends too.
+    check_screen(&drawn("screen", 130, "1.2 ms"));
+}
+
+/// On a narrow one there is less of a call, but who calls whom, and what.
+#[test]
+#[ignore = "needs tmux"]
+fn a_screen_is_drawn_on_a_narrow_terminal() {
+    let screen = drawn("narrow", 60, "1.2 ms");
+    let lines: Vec<Vec<&str>> = screen.lines().map(|it| it.split_whitespace().collect()).collect();
+    assert_eq!(lines[2], ["calls/s", "mean", "from", "->", "to", "what"], "{screen}");
+    assert_eq!(lines[3][1..], ["1.2", "ms", "Binder:1", "->", "manager", "android.os.IServic.."], "{screen}");
+    assert!(screen.lines().all(|it| it.chars().count() <= 60), "{screen}");
+}
+
+/// Colours and a dump on a narrow terminal, as it has them.
+#[test]
+#[ignore = "needs tmux"]
+fn entries_are_shown_on_a_narrow_terminal() {
+    let journal = Journal::registered().file("narrow.journal");
+    let command = format!("{} show --no-pager --to 5 {}; sleep 60", env!("CARGO_BIN_EXE_hullpippin"), journal.path());
+    tmux("entries", &["-f", "/dev/null", "new-session", "-d", "-x", "60", "-y", "40", &command]);
     let until = Instant::now() + Duration::from_secs(60);
-    while !tmux(&["list-sessions"]).is_empty() {
-        assert!(Instant::now() < until, "it doesn't end");
-        sleep(Duration::from_millis(20));
+    let mut screen = String::new();
+    while !screen.contains("0068  ") {
+        assert!(Instant::now() < until, "{screen}");
+        screen = tmux("entries", &["capture-pane", "-p", "-e"]);
+        sleep(Duration::from_millis(50));
     }
+    tmux("entries", &["kill-server"]);
+    assert!(screen.contains("\x1b[38;5;30mBC_TRANSACTION\x1b["), "{screen:?}");
+    assert!(screen.contains("    0058  "), "eight bytes in a line: {screen}");
 }
