@@ -19,6 +19,9 @@ pub struct Arguments {
     /// Prints to the terminal itself, without HULLPIPPIN_PAGER, PAGER or less
     #[arg(long, global = true)]
     pub no_pager: bool,
+    /// Tells on one line of standard error how far a journal is read; then there is no pager
+    #[arg(long, global = true)]
+    pub progress: bool,
     #[command(subcommand)]
     pub word: Word,
 }
@@ -100,7 +103,7 @@ pub struct Script {
     /// How often a line that waits looks before it is given up
     #[arg(long, value_name = "N", default_value_t = TURNS, requires = "run")]
     pub turns: u32,
-    /// Writes the journal of the run there
+    /// Writes the journal of the run there, - for standard output
     #[arg(long, value_name = "OUT", requires = "run")]
     pub journal: Option<String>,
     /// What is told of a run: whether what it expects holds, or what each line said as a value of JSON

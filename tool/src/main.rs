@@ -21,6 +21,7 @@ mod order;
 mod out;
 mod parcel;
 mod play;
+mod progress;
 mod record;
 mod refusals;
 mod script;
@@ -122,7 +123,7 @@ fn draw(given: &Diagram, out: &mut Out) -> Result<()> {
     let mut player = Player::open(&given.journal, false)?;
     match given.format {
         Drawn::Html => diagram::put(&mut player, given.range, out),
-        form => sequence::put(&mut player, given.range, form, &mut out.held),
+        form => sequence::put(&mut player, given.range, form, out),
     }
 }
 
@@ -179,7 +180,9 @@ fn is_closed_pipe(error: &anyhow::Error) -> bool {
 
 fn main() -> ExitCode {
     let arguments = Arguments::parse();
-    let mut out = Out::new(!arguments.no_pager && !arguments.follows() && !arguments.is_for_programs());
+    progress::want(arguments.progress);
+    let mut out =
+        Out::new(!arguments.no_pager && !arguments.progress && !arguments.follows() && !arguments.is_for_programs());
     let done = run(&arguments, &mut out);
     let closed = out.close().map_err(anyhow::Error::from);
     match done.and_then(|status| closed.map(|()| status)) {

@@ -4,6 +4,7 @@ use crate::beside::Beside;
 use crate::index;
 use crate::journal::Entry;
 use crate::judge::Judge;
+use crate::progress::Progress;
 use crate::source::{End, Source};
 use crate::space::{Facts, Space};
 use crate::times::TimeWord;
@@ -104,6 +105,7 @@ pub struct Player {
     pub judge: Option<Judge>,
     /// The first entry that doesn't.
     pub unlawful: Option<u64>,
+    progress: Option<Progress>,
     facts: Facts,
 }
 
@@ -112,7 +114,16 @@ impl Player {
         let source = Source::open(path, follows).with_context(|| name(path))?;
         let beside = Beside::open(path, follows);
         let (space, facts) = (Space::default(), Facts::default());
-        Ok(Player { path: path.into(), source, space, beside, judge: None, unlawful: None, facts })
+        Ok(Player {
+            path: path.into(),
+            source,
+            space,
+            beside,
+            judge: None,
+            unlawful: None,
+            progress: Progress::new(),
+            facts,
+        })
     }
 
     /// Has all entries judged. Then each is played, whatever an index knows.
@@ -187,13 +198,17 @@ impl Player {
 
     /// Makes the next step. None behind the last.
     pub fn next(&mut self, idle: impl FnMut() -> Result<()>) -> Result<Option<(Entry<'_>, &Space, &Facts)>> {
-        let Player { path, source, space, beside, judge, unlawful, facts } = self;
+        let Player { path, source, space, beside, judge, unlawful, progress, facts } = self;
+        let count = source.heading().count;
         let entry = match source.next_or(idle).with_context(|| name(path))? {
             Some(entry) => entry,
             None => return Ok(None),
         };
         space.step(&entry, facts);
         beside.tell(entry.place, entry.seat, facts);
+        if let Some(it) = progress {
+            it.step(count);
+        }
         if let Some(it) = judge {
             facts.given = it.judged(&entry)?.map(Box::new);
             if facts.given.is_some() {

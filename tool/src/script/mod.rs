@@ -16,6 +16,7 @@ pub use runs::Setting;
 use crate::play::name;
 use anyhow::{bail, Context, Result};
 use reader::{Line, Reader};
+use repl::Room;
 use runs::Run;
 use std::fs;
 use std::io::{self, Read, Write};
@@ -86,6 +87,9 @@ pub struct Asked<'a> {
 
 /// Prints what a script comes to, or plays it and says whether what it expects holds.
 pub fn script(asked: &Asked<'_>, to: &mut Vec<u8>) -> Result<()> {
+    if asked.journal == Some("-") && (asked.as_json || asked.emit == Some("-")) {
+        bail!("--journal - takes standard output, and something else wants it too");
+    }
     let (path, text) = (name(asked.path), text_of(asked.path)?);
     let lines = match lines_of(&text) {
         Ok(lines) => lines,
@@ -109,22 +113,37 @@ pub fn script(asked: &Asked<'_>, to: &mut Vec<u8>) -> Result<()> {
     if asked.player.is_none() {
         return Ok(());
     }
-    run.play(asked.journal)?;
+    play(&mut run, asked.journal, to)?;
     let expected: Vec<_> = lines.iter().flat_map(Line::expected).collect();
     let faults: Vec<_> = expected.iter().filter_map(|it| it.check(run.answer(it.of))).collect();
     put_faults(&path, &faults, &text);
     let (all, held) = (expected.len(), expected.len() - faults.len());
+    let verdict = format!("{path}: {held} of {all} expectations hold\n");
     if asked.as_json {
         for (number, said) in run.printed() {
             serde_json::to_writer(&mut *to, &told::Told::read(number, said))?;
             to.push(b'\n');
         }
+    } else if asked.journal == Some("-") {
+        eprint!("{verdict}");
     } else {
-        to.extend(format!("{path}: {held} of {all} expectations hold\n").into_bytes());
+        to.extend(verdict.into_bytes());
     }
     if held < all {
         bail!("{path}: {} of its expectations don't hold", faults.len());
     }
+    Ok(())
+}
+
+/// Plays all lines. The journal goes to a file; for `-` to what is printed, by a file of one's own, since the player prints too.
+fn play(run: &mut Run, journal: Option<&str>, to: &mut Vec<u8>) -> Result<()> {
+    if journal != Some("-") {
+        return run.play(journal);
+    }
+    let room = Room::new()?;
+    let journal = room.journal();
+    run.play(Some(&journal))?;
+    to.extend(fs::read(&journal).with_context(|| journal.clone())?);
     Ok(())
 }
 

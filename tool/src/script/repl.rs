@@ -28,17 +28,17 @@ expect ..              accepted, got BR_REPLY data .., X5, BadObject, of the lin
 ";
 
 /// A folder of one's own, which goes in the end.
-struct Room(PathBuf);
+pub struct Room(PathBuf);
 
 impl Room {
-    fn new() -> Result<Room> {
+    pub fn new() -> Result<Room> {
         let path = std::env::temp_dir().join(format!("hullpippin-{}", std::process::id()));
         // Nobody else may have made it: it is made here, or it isn't used.
         DirBuilder::new().mode(0o700).create(&path).with_context(|| path.display().to_string())?;
         Ok(Room(path))
     }
 
-    fn journal(&self) -> String {
+    pub fn journal(&self) -> String {
         self.0.join("journal").display().to_string()
     }
 }

@@ -2,6 +2,7 @@
 //! A diagram in Mermaid's language. A call is drawn where it is handed out.
 use super::labels::{kind_words, row_words, sent_words};
 use super::model::{Diagram, Doing, Event, Kind, Lane, Row, Span, Thing};
+use crate::out::Out;
 use std::io::{self, Write};
 
 /// Prints the lanes, and the box of each process around its own.
@@ -50,10 +51,12 @@ fn put_serving(to: &mut Vec<u8>, span: &Span, word: &str) -> io::Result<()> {
     Ok(())
 }
 
-pub fn put(to: &mut Vec<u8>, diagram: &Diagram) -> io::Result<()> {
-    writeln!(to, "sequenceDiagram")?;
-    put_lanes(to, &diagram.lanes)?;
+pub fn put(out: &mut Out, diagram: &Diagram) -> io::Result<()> {
+    writeln!(out.held, "sequenceDiagram")?;
+    put_lanes(&mut out.held, &diagram.lanes)?;
     for thing in &diagram.things {
+        out.pass()?;
+        let to = &mut out.held;
         match thing {
             Thing::Row(row) => put_row(to, diagram, row)?,
             Thing::Begins(span) if span.from.is_none() => put_serving(to, span, "activate")?,

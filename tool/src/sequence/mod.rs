@@ -10,16 +10,17 @@ mod text;
 mod tracks;
 
 use crate::arguments::Drawn;
+use crate::out::Out;
 use crate::play::{Player, Range};
 use anyhow::Result;
 
 /// Draws a range.
-pub fn put(player: &mut Player, range: Range, form: Drawn, to: &mut Vec<u8>) -> Result<()> {
+pub fn put(player: &mut Player, range: Range, form: Drawn, out: &mut Out) -> Result<()> {
     let diagram = plot::plotted(player, range)?;
     match form {
-        Drawn::Text => text::put(to, &diagram)?,
-        Drawn::Mermaid => mermaid::put(to, &diagram)?,
-        Drawn::Svg | Drawn::Html => svg::put(to, &diagram)?,
+        Drawn::Text => text::put(out, &diagram)?,
+        Drawn::Mermaid => mermaid::put(out, &diagram)?,
+        Drawn::Svg | Drawn::Html => svg::put(out, &diagram)?,
     }
     Ok(())
 }

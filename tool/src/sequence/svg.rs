@@ -2,6 +2,7 @@
 //! A diagram as a picture: a file of SVG that stands alone.
 use super::labels::{kind_words, row_words, span_words};
 use super::model::{Arrow, Diagram, Doing, Event, Kind, Lane, Row, Span, Thing};
+use crate::out::Out;
 use std::io::{self, Write};
 
 // Sizes, in pixels.
@@ -79,7 +80,7 @@ fn put_bar(to: &mut Vec<u8>, span: &Span, x: u64, end: u64) -> io::Result<()> {
 }
 
 /// Prints the lives of threads, or the bars of calls: from the foot upwards, so that bars lie on those around them.
-fn put_spans(to: &mut Vec<u8>, diagram: &Diagram, are_lives: bool) -> io::Result<()> {
+fn put_spans(out: &mut Out, diagram: &Diagram, are_lives: bool) -> io::Result<()> {
     let mut rows = diagram.rows;
     for thing in diagram.things.iter().rev() {
         let span = match thing {
@@ -92,10 +93,11 @@ fn put_spans(to: &mut Vec<u8>, diagram: &Diagram, are_lives: bool) -> io::Result
         };
         let (x, end) = (x_of(diagram, span.seat), row_y(Some(rows)));
         if are_lives {
-            put_life(to, span, x, end, rows < diagram.rows)?;
+            put_life(&mut out.held, span, x, end, rows < diagram.rows)?;
         } else {
-            put_bar(to, span, x, end)?;
+            put_bar(&mut out.held, span, x, end)?;
         }
+        out.pass()?;
     }
     Ok(())
 }
@@ -163,9 +165,12 @@ fn put_row(to: &mut Vec<u8>, diagram: &Diagram, row: &Row, rows: u64) -> io::Res
     writeln!(to, "<text class=\"{class}\" x=\"{beside}\" y=\"{base}\">{}</text>", row_words(diagram, row))
 }
 
-fn put_rows(to: &mut Vec<u8>, diagram: &Diagram) -> io::Result<()> {
+fn put_rows(out: &mut Out, diagram: &Diagram) -> io::Result<()> {
     let rows = diagram.things.iter().filter_map(|it| if let Thing::Row(row) = it { Some(row) } else { None });
-    (0..).zip(rows).try_for_each(|(index, row)| put_row(to, diagram, row, index))
+    (0..).zip(rows).try_for_each(|(index, row)| {
+        put_row(&mut out.held, diagram, row, index)?;
+        out.pass()
+    })
 }
 
 /// Prints the head of a lane.
@@ -188,13 +193,16 @@ fn put_headings(to: &mut Vec<u8>, diagram: &Diagram) -> io::Result<()> {
     Ok(())
 }
 
-pub fn put(to: &mut Vec<u8>, diagram: &Diagram) -> io::Result<()> {
-    put_head(to, diagram)?;
-    put_grounds(to, diagram)?;
-    put_spans(to, diagram, true)?;
-    put_spans(to, diagram, false)?;
-    diagram.arrows.iter().try_for_each(|it| put_arrow(to, diagram, it))?;
-    put_rows(to, diagram)?;
-    put_headings(to, diagram)?;
-    writeln!(to, "</svg>")
+pub fn put(out: &mut Out, diagram: &Diagram) -> io::Result<()> {
+    put_head(&mut out.held, diagram)?;
+    put_grounds(&mut out.held, diagram)?;
+    put_spans(out, diagram, true)?;
+    put_spans(out, diagram, false)?;
+    for arrow in &diagram.arrows {
+        put_arrow(&mut out.held, diagram, arrow)?;
+        out.pass()?;
+    }
+    put_rows(out, diagram)?;
+    put_headings(&mut out.held, diagram)?;
+    writeln!(out.held, "</svg>")
 }

@@ -2,6 +2,7 @@
 //! A diagram for a terminal, in ASCII.
 use super::labels::row_words;
 use super::model::{Diagram, Doing, Event, Kind, Lane, Row, Thing};
+use crate::out::Out;
 use std::io::{self, Write};
 
 /// After how many rows the lanes are headed again.
@@ -115,19 +116,20 @@ fn put_lanes(to: &mut Vec<u8>, lanes: &[Lane]) -> io::Result<()> {
 }
 
 /// Prints a diagram as lines.
-pub fn put(to: &mut Vec<u8>, diagram: &Diagram) -> io::Result<()> {
+pub fn put(out: &mut Out, diagram: &Diagram) -> io::Result<()> {
     let mut doings = vec![Doing::Gone; diagram.lanes.len()];
     let mut rows = 0;
-    writeln!(to, "{LEGEND}")?;
+    writeln!(out.held, "{LEGEND}")?;
     for thing in &diagram.things {
+        out.pass()?;
         let (seat, doing) = match thing {
             Thing::Begins(span) => (span.seat, span.doing),
             Thing::Ends(span) => (span.seat, span.outer),
             Thing::Row(row) => {
                 if rows % ROWS_A_HEADING == 0 {
-                    put_lanes(to, &diagram.lanes)?;
+                    put_lanes(&mut out.held, &diagram.lanes)?;
                 }
-                put_row(to, diagram, &doings, row)?;
+                put_row(&mut out.held, diagram, &doings, row)?;
                 rows += 1;
                 continue;
             }
