@@ -145,6 +145,9 @@ pub struct Explain {
     /// The place of an entry in that journal
     #[arg(value_name = "PLACE")]
     pub place: Option<u64>,
+    /// Text for people, or values of JSON: an entry, and then why
+    #[arg(long, value_enum, default_value = "text")]
+    pub format: Format,
 }
 
 #[derive(Args)]

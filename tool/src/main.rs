@@ -95,11 +95,12 @@ fn state(given: &State, out: &mut Out) -> Result<()> {
 }
 
 fn explain(given: &Explain, out: &mut Out, style: &Style) -> Result<()> {
-    let (to, what) = (&mut out.held, &given.what);
+    let (to, what, format) = (&mut out.held, &given.what, given.format);
+    let telling = explain::Telling { style, format, path: what };
     match given.place {
-        Some(place) => explain::put_entry_at(to, style, what, place),
-        None if explain::put_name(to, what)? => Ok(()),
-        None if what == "-" || Path::new(what).exists() => explain::put_verdict(to, style, what),
+        Some(place) => telling.put_entry_at(to, place),
+        None if explain::put_name(to, format, what)? => Ok(()),
+        None if what == "-" || Path::new(what).exists() => telling.put_verdict(to),
         None => bail!(
             "nothing is called {what}, and there is no such file: there are F1 to F16, X1 to X16 and N1 to N11, also by names as \
              BadObject, and returns as BR_FAILED_REPLY; of a journal an entry is explained by its place: explain JOURNAL PLACE"

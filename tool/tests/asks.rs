@@ -126,6 +126,13 @@ leaves: a Refusal on the writer's own list, which reads as BR_FAILED_REPLY
 ";
     assert_eq!(printed(&["explain", "X6"]), told);
     assert_eq!(printed(&["explain", "unread"]), told);
+    let value = r#"{"name":"X6","word":"Unread","text":"the thread has a call or a reply to read","when":"two-way: a Call, Reply or Verdict stands on the thread's own list","leaves":"a Refusal on the writer's own list, which reads as BR_FAILED_REPLY"}"#;
+    assert_eq!(printed(&["explain", "X6", "--format", "json"]), format!("{value}\n"));
+    let value = printed(&["explain", "BR_DEAD_REPLY", "--format", "json"]);
+    assert!(
+        value.starts_with("{\"name\":\"BR_DEAD_REPLY\",") && value.ends_with("\"reasons\":[\"X2\",\"X4\"]}\n"),
+        "{value}"
+    );
     assert!(printed(&["explain", "BR_FAILED_REPLY"]).contains("  X9 BadObject: an offset or an object is bad\n"));
     assert!(fault(&["explain", "X17"])
         .starts_with("hullpippin: nothing is called X17, and there is no such file: there are F1"));

@@ -71,6 +71,10 @@ fn what_the_rules_give_in_place_of_an_entry_is_told() {
     assert!(read.contains(told) && read.contains("\n    the data differ from byte 1 on\n"), "{read}");
     let later = explained("later", &refused_call(), 5);
     assert!(later.ends_with("    not judged: already entry 4 doesn't follow from those before it\n"), "{later}");
+    let values = printed(&["explain", refused_call().file("refused-json").path(), "4", "--format", "json"]);
+    let values: Vec<serde_json::Value> = values.lines().map(|it| serde_json::from_str(it).expect("JSON")).collect();
+    assert_eq!((&values[0]["given"]["name"], &values[1]["lawful"]), (&"accepted".into(), &false.into()), "{values:?}");
+    assert_eq!(values[1]["looked"].as_array().map(Vec::len), Some(12), "{values:?}");
     let well = explained("well", &refused_call(), 3);
     assert!(well.ends_with("    lawful: it follows from the entries before it, and so do they\n"), "{well}");
 }

@@ -114,9 +114,15 @@ pub fn script(asked: &Asked<'_>, to: &mut Vec<u8>) -> Result<()> {
         return Ok(());
     }
     play(&mut run, asked.journal, to)?;
+    put_outcome(asked, &lines, &run, &text, to)
+}
+
+/// What came of a run: what each line said, or whether what it expects holds.
+fn put_outcome(asked: &Asked<'_>, lines: &[Line], run: &Run, text: &str, to: &mut Vec<u8>) -> Result<()> {
+    let path = name(asked.path);
     let expected: Vec<_> = lines.iter().flat_map(Line::expected).collect();
     let faults: Vec<_> = expected.iter().filter_map(|it| it.check(run.answer(it.of))).collect();
-    put_faults(&path, &faults, &text);
+    put_faults(&path, &faults, text);
     let (all, held) = (expected.len(), expected.len() - faults.len());
     let verdict = format!("{path}: {held} of {all} expectations hold\n");
     if asked.as_json {
