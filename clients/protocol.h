@@ -19,7 +19,7 @@
 #include <stdint.h>
 
 /* Goes up with each change of this file: a library of another build is refused. */
-#define PROTOCOL_VERSION 6u
+#define PROTOCOL_VERSION 7u
 
 /* The largest window, as the kernel's is. */
 #define WINDOW_MAX (4u << 20)
@@ -44,7 +44,7 @@ enum control_op {
     CONTROL_LOOK,        /* whether `device` is there, for who doesn't open it */
     CONTROL_SPAM,        /* BINDER_ENABLE_ONEWAY_SPAM_DETECTION: `size`, 0 for off */
     CONTROL_RING,        /* the latest steps of `device` (ring.h), for the daemon's own user: answers the memory's size, and the memory */
-    CONTROL_STATE,       /* what goes on on the device that was opened, for the same: a page from `size` on; answers a state_page */
+    CONTROL_STATE,       /* what goes on on the device that was opened, for the same: a page from `size` and `base` on; a state_page */
 };
 
 struct control_request {
@@ -61,14 +61,17 @@ struct control_answer {
     uint64_t size;
 };
 
-/* A process or a thread in a page of CONTROL_STATE. */
-enum state_kind { STATE_PROCESS = 1, STATE_THREAD };
+/* What a record of a page of CONTROL_STATE tells of. */
+enum state_kind { STATE_PROCESS = 1, STATE_THREAD, STATE_HANDLE, STATE_BUFFER };
 
-/* Flags of a process, and of a thread. */
+/* Flags of a process, of a thread, and of a buffer. */
 #define STATE_MANAGER 1u
 #define STATE_DETECTS_SPAM 2u
 #define STATE_LOOPS 4u
 #define STATE_WAITS 8u /* in a read */
+#define STATE_ONE_WAY 16u
+#define STATE_HANDED 32u /* it was read */
+#define STATE_CALL 64u /* and no reply */
 
 /* So many things that are to be read are counted, and not what is beyond. */
 #define STATE_UNREAD 16u
@@ -76,7 +79,7 @@ enum state_kind { STATE_PROCESS = 1, STATE_THREAD };
 /* What a field doesn't apply to has 0 there. */
 struct state_record {
     uint32_t kind;      /* enum state_kind */
-    uint32_t process;   /* its pid in the history: the process, or that of the thread */
+    uint32_t process;   /* its pid in the history: the process, or that of the thread, or which has the handle or the buffer */
     uint32_t pid;       /* as the daemon's /proc has it */
     uint32_t tid;       /* of a thread; 0: it isn't known */
     uint32_t seat;
@@ -88,6 +91,12 @@ struct state_record {
     uint32_t serving, calling; /* calls that a thread has to answer, and waits for */
     uint32_t innermost; /* the place in the history of the innermost of these; UINT32_MAX: there is none */
     uint32_t unread;    /* what stands on its list to be read, STATE_UNREAD at most */
+    uint32_t handle;
+    uint32_t object_place, object_index; /* the object that a handle names, or that a buffer's call is on */
+    uint32_t party;     /* the pid in the history of the object's owner, or of the buffer's sender; 0: that has ended */
+    uint32_t made;      /* the place in the history of the step that made a buffer */
+    uint32_t start, size; /* where that lies in the window, and how much of it it takes */
+    uint32_t code;      /* of what is in it */
     char comm[16];      /* how its main thread is called, or the thread was when it got its seat; 0 behind it */
 };
 
@@ -98,7 +107,8 @@ struct state_page {
     int32_t error;      /* 0, or an errno */
     uint32_t count;
     uint64_t place;     /* how many steps the history has */
-    uint64_t next;      /* where the next page begins; 0: this is the last */
+    uint64_t next;      /* where the next page begins; 0: this is the last .. */
+    uint64_t within;    /* .. and where within that, for `base` */
     struct state_record records[STATE_ROOM];
 };
 

@@ -129,7 +129,7 @@ int ask_stats(const char *path, const char *device)
     return 0;
 }
 
-/* --- What its processes and threads are at --- */
+/* --- What its processes and threads are at, and what they have --- */
 
 struct records {
     struct state_record *all;
@@ -166,6 +166,7 @@ static const char *fetch_all(int fd, const char *device, struct records *records
         if (!why && !keep(records, &page))
             why = strerror(ENOMEM);
         request.size = page.next;
+        request.base = page.within;
     }
     return why;
 }
@@ -211,11 +212,47 @@ static void print_thread(const struct state_record *thread)
     print_unread(thread);
 }
 
-static void print_threads_of(const struct records *records, uint32_t process)
+/* A process by its pid in the history, as it was told of. */
+static void print_party(const struct records *records, const char *word, uint32_t process)
 {
+    char name[ESCAPED * COMM_ROOM + 1];
     for (size_t i = 0; i < records->count; i++)
-        if (records->all[i].kind == STATE_THREAD && records->all[i].process == process)
-            print_thread(&records->all[i]);
+        if (records->all[i].kind == STATE_PROCESS && records->all[i].process == process) {
+            printf(" %s %u %s", word, records->all[i].pid, spell(&records->all[i], name));
+            return;
+        }
+    printf(" %s a process that has ended", word);
+}
+
+static void print_handle(const struct records *records, const struct state_record *handle)
+{
+    printf("  handle %u: object %u.%u", handle->handle, handle->object_place, handle->object_index);
+    print_party(records, "of", handle->party);
+    putchar('\n');
+}
+
+static void print_buffer(const struct records *records, const struct state_record *buffer)
+{
+    printf("  buffer at %u: %u bytes, %s %#x", buffer->start, buffer->size, buffer->flags & STATE_CALL ? "a call with code" : "a reply with code",
+           buffer->code);
+    if (buffer->flags & STATE_CALL)
+        printf(" on object %u.%u", buffer->object_place, buffer->object_index);
+    print_party(records, "from", buffer->party);
+    printf("%s%s, made by step %u\n", buffer->flags & STATE_ONE_WAY ? ", one-way" : "", buffer->flags & STATE_HANDED ? "" : ", unread",
+           buffer->made);
+}
+
+static void print_what_has(const struct records *records, uint32_t process)
+{
+    for (size_t i = 0; i < records->count; i++) {
+        const struct state_record *record = &records->all[i];
+        if (record->process == process && record->kind == STATE_THREAD)
+            print_thread(record);
+        else if (record->process == process && record->kind == STATE_HANDLE)
+            print_handle(records, record);
+        else if (record->process == process && record->kind == STATE_BUFFER)
+            print_buffer(records, record);
+    }
 }
 
 static void print_all(const char *device, const struct records *records)
@@ -225,7 +262,7 @@ static void print_all(const char *device, const struct records *records)
         if (records->all[i].kind != STATE_PROCESS)
             continue;
         print_process(&records->all[i]);
-        print_threads_of(records, records->all[i].process);
+        print_what_has(records, records->all[i].process);
     }
 }
 

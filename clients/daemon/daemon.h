@@ -580,10 +580,10 @@ void process_clear_secret(struct process *process, uint64_t place);
 int process_enter(struct process *process);
 int process_leave(struct process *process);
 
-/* --- state.c: what a device's processes and threads are at. --- */
+/* --- state.c: what a device's processes and threads are at, and what they have. --- */
 
-/* A page of that, from a place on that is 0 or what a page has told. */
-void state_tell(struct engine *engine, uint64_t from, struct state_page *page);
+/* A page of that, from a place on, and within that, that are 0 or what a page has told. */
+void state_tell(struct engine *engine, uint64_t from, uint64_t within, struct state_page *page);
 
 /* --- threads.c: a thread of a client. --- */
 

@@ -289,7 +289,7 @@ static bool answer_state(struct process *process, const struct control_request *
     struct state_page page = {0};
     page.error = !user_is_own(process->euid) ? EPERM : !process->engine ? EINVAL : 0;
     if (!page.error)
-        state_tell(process->engine, request->size, &page);
+        state_tell(process->engine, request->size, request->base, &page);
     return packet_send(process->control.fd, &page, sizeof page, NULL, 0, MSG_DONTWAIT);
 }
 

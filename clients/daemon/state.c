@@ -1,17 +1,21 @@
 /* SPDX-License-Identifier: Apache-2.0 OR MIT */
 /*
- * state.c: what a device's processes and threads are at, for who asks. It is told a page at a time, each in a turn of who asks, so
- * that nobody else waits for the whole: the pages are of moments of their own.
+ * state.c: what a device's processes and threads are at, and which handles and buffers there are, for who asks. It is told a page at a
+ * time, each in a turn of who asks, so that nobody else waits for the whole: the pages are of moments of their own.
  */
 #include "daemon.h"
 
 #include <string.h>
 
-/* A page looks at so many buckets of processes, or seats, at most. */
+/* A page looks at so many buckets of processes, or seats, at most, and as often for a handle or a buffer. */
 #define BUCKETS_AT_ONCE 64u
 #define SEATS_AT_ONCE 1024u
+#define LOOKS_AT_ONCE 24u
 
-/* Where a page begins: at a seat; or at a bucket of processes, and so many further on there. */
+/* Where a page begins: at the handles or the buffers of the process that was opened at a place, from the number on that stands beside;
+   at a seat; or at a bucket of processes, and so many further on there. */
+#define AT_BUFFER (UINT64_C(1) << 34)
+#define AT_HANDLE (UINT64_C(1) << 33)
 #define AT_SEAT (UINT64_C(1) << 32)
 #define BUCKET_SHIFT 24
 #define IN_BUCKET ((UINT64_C(1) << BUCKET_SHIFT) - 1)
@@ -94,14 +98,81 @@ static void tell_threads(struct engine *engine, uint64_t from, struct state_page
     for (; seat < engine->seats && seat < last && page->count < STATE_ROOM; seat++)
         if (engine->lent[seat] && engine->lent[seat]->seat == seat)
             tell_thread(engine, engine->lent[seat], &page->records[page->count++]);
-    page->next = seat < engine->seats ? AT_SEAT | seat : 0;
+    page->next = seat < engine->seats ? AT_SEAT | seat : AT_HANDLE;
 }
 
-void state_tell(struct engine *engine, uint64_t from, struct state_page *page)
+/* The pid in the history of the process that was opened at a place, or 0 where that has ended. */
+static uint32_t pid_of(struct engine *engine, uint32_t made)
 {
+    hullpippin_process process;
+    return hullpippin_live_process(&engine->live, made, &process) ? process.pid : 0;
+}
+
+/* Tells the first handle of a process from a number on, and goes behind it. Whether there is one. */
+static bool tell_handle(struct engine *engine, uint32_t process, uint64_t *from, struct state_record *record)
+{
+    hullpippin_object_id id;
+    hullpippin_object object;
+    uint32_t handle, pid = pid_of(engine, process);
+    if (*from > UINT32_MAX || !hullpippin_live_next_handle(&engine->live, pid, (uint32_t)*from, &handle)
+        || !hullpippin_live_named(&engine->live, pid, handle, &id) || !hullpippin_live_object(&engine->live, id.place, id.index, &object))
+        return false;
+    *record = (struct state_record){.kind = STATE_HANDLE, .process = pid, .handle = handle, .object_place = id.place,
+                                    .object_index = id.index, .party = pid_of(engine, object.owner)};
+    *from = (uint64_t)handle + 1;
+    return true;
+}
+
+/* The same of its buffers, by the places where they were made. */
+static bool tell_buffer(struct engine *engine, uint32_t process, uint64_t *from, struct state_record *record)
+{
+    hullpippin_buffer buffer;
+    uint32_t made;
+    if (*from > UINT32_MAX || !hullpippin_live_next_buffer(&engine->live, process, (uint32_t)*from, &made)
+        || !hullpippin_live_buffer(&engine->live, made, &buffer))
+        return false;
+    *record = (struct state_record){.kind = STATE_BUFFER, .process = pid_of(engine, process), .made = made, .start = buffer.start,
+                                    .size = buffer.size, .code = buffer.code, .party = pid_of(engine, buffer.sender)};
+    record->flags = (buffer.one_way ? STATE_ONE_WAY : 0) | (buffer.handed ? STATE_HANDED : 0) | (buffer.is_call ? STATE_CALL : 0);
+    if (buffer.is_call) {
+        record->object_place = buffer.target.place;
+        record->object_index = buffer.target.index;
+    }
+    *from = (uint64_t)made + 1;
+    return true;
+}
+
+/* Tells what processes have, of the one or the other kind: from a process on, and there from a number on. */
+static void tell_things(struct engine *engine, uint64_t kind, uint32_t process, uint64_t from, struct state_page *page)
+{
+    bool (*tell)(struct engine *, uint32_t, uint64_t *, struct state_record *) = kind == AT_HANDLE ? tell_handle : tell_buffer;
+    for (uint32_t looks = 0; looks < LOOKS_AT_ONCE && page->count < STATE_ROOM; looks++) {
+        uint32_t found;
+        if (!hullpippin_live_next_process(&engine->live, process, &found)) {
+            page->next = kind == AT_HANDLE ? AT_BUFFER : 0;
+            return;
+        }
+        from = found == process ? from : 0;
+        process = found;
+        if (tell(engine, process, &from, &page->records[page->count])) {
+            page->count++;
+        } else {
+            process++; /* no step stands at the last place, so there is a next one */
+            from = 0;
+        }
+    }
+    page->next = kind | process;
+    page->within = from;
+}
+
+void state_tell(struct engine *engine, uint64_t from, uint64_t within, struct state_page *page)
+{
+    const uint64_t kind = from & (AT_BUFFER | AT_HANDLE | AT_SEAT), rest = from & (AT_SEAT - 1);
     *page = (struct state_page){.place = hullpippin_live_len(&engine->live)};
-    if (from & AT_SEAT)
-        tell_threads(engine, from & (AT_SEAT - 1), page);
+    if (kind == AT_SEAT)
+        tell_threads(engine, rest, page);
+    else if (kind == AT_HANDLE || kind == AT_BUFFER)
+        tell_things(engine, kind, (uint32_t)rest, within, page);
     else if (from < AT_SEAT)
         tell_processes(engine, from, page);
 }

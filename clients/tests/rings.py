@@ -19,9 +19,12 @@ from recordings import contents, neighbours
 from stage import Stage, expect, tail
 from suite import figures, test
 
-# what `--state` prints of a process and of a thread
+# what `--state` prints of a process, of a thread, of a handle and of a buffer
 PROCESS = re.compile(r"proc (\d+) (.*): euid \d+, window \d+, \d+ threads, of .*")
 THREAD = re.compile(r"  thread (\d+) (.*): seat \d+(?:, .*)?")
+HANDLE = re.compile(r"  handle (\d+): object (\d+\.\d+) of (?:a process that has ended|(\d+) .*)")
+BUFFER = re.compile(r"  buffer at (\d+): (\d+) bytes, a (call|reply) with code (0|0x[\da-f]+)(?: on object (\d+\.\d+))? from (\d+|a) "
+                    r".*, made by step \d+")
 
 # as ring.h has them
 SLOT = struct.Struct("=QQQIIIIBBBBIIIIIIIIIIIQQQQQ16s240s")
@@ -207,6 +210,8 @@ def ring_counts(build):
 
 # what goes on while the state is told: services, and threads of one more process that wait in a read or for a reply
 SERVICES, THREADS = 40, 100
+# the code of the calls that raw/asleep.c leaves without a reply
+KEEP_WAITING = "0x3"
 CALLS = sum(i % 8 == 1 for i in range(THREADS))
 # open files of one process, so many that the daemon has three in some of its 256 lists: a page of 16 ends in the midst of one
 OPENS = 600
@@ -231,14 +236,24 @@ def threads_of(told):
     processes, threads, pid = {}, {}, None
     for line in told.splitlines()[1:]:
         found = PROCESS.fullmatch(line) or THREAD.fullmatch(line)
-        expect(found, f"a line of another kind: {line}")
-        if found.re is PROCESS:
+        expect(found or HANDLE.fullmatch(line) or BUFFER.fullmatch(line), f"a line of another kind: {line}")
+        if found and found.re is PROCESS:
             pid = int(found[1])
             processes[pid] = found
-        else:
+        elif found:
             expect(int(found[1]) not in threads, f"thread {found[1]} is told twice")
             threads[int(found[1])] = pid, found
     return processes, threads
+
+
+def things_of(told, kind):
+    """What `--state` tells of one kind, HANDLE or BUFFER, each with the pid of whose it is."""
+    things, pid = [], None
+    for line in told.splitlines()[1:]:
+        process, found = PROCESS.fullmatch(line), kind.fullmatch(line)
+        pid = int(process[1]) if process else pid
+        things += [(pid, found)] if found else []
+    return things
 
 
 def wait_for_calls(build, stage, program):
@@ -260,7 +275,8 @@ def comm_of(pid, tid):
 
 @test("raw state")
 def state(build):
-    """What is told of processes and threads is what goes on, page after page; and of the counts those of the ring are told by name."""
+    """What is told of processes, of their threads, handles and buffers is what goes on, page after page; and of the counts those of the
+    ring are told by name."""
     with Stage(build, journal=DEVICE, wide=True) as stage:
         manager = stage.manage()
         odd = shutil.copy(build.manager("hello"), f"{stage.folder}/{ODD}")
@@ -273,6 +289,7 @@ def state(build):
         opened = re.findall(rf"^proc {opener.pid} opens: .*?(?:, in the history (\d+))?$", asked(build, stage, ["--state", "/dev/hwbinder"]), re.M)
         processes, threads = threads_of(told)
         of_one, many_threads = wait_for_calls(build, stage, waiting)
+        buffers = things_of(asked(build, stage, ["--state", "/dev/vndbinder"]), BUFFER)
         wrong = [(tid, pid, line[2]) for tid, (pid, line) in {**threads, **many_threads}.items() if line[2] != comm_of(pid, tid)]
         stage.end()
         journal = Journal(contents(stage.journal))
@@ -282,6 +299,10 @@ def state(build):
     expect([pid for pid, it in processes.items() if "context manager" in it[0]] == [manager.pid], "another manager is told of")
     expect(all("loops, waits" in it[0] for _, it in threads.values()), f"{[it[0] for _, it in threads.values()]}")
     expect(len(of_one) >= THREADS and calls_in(of_one) == CALLS, f"{len(of_one)} threads, of which {calls_in(of_one)} call: {of_one[:3]}")
+    named = [(pid, int(it[3] or 0)) for pid, it in things_of(told, HANDLE) if it[1] != "0"]
+    expect(sorted(named) == sorted((manager.pid, it.pid) for it in running), f"the manager has a handle for each service: {named}")
+    kept = [it[6] for _, it in buffers if (it[3], it[4]) == ("call", KEEP_WAITING)]
+    expect(kept == [str(waiting.pid)] * CALLS, f"{CALLS} calls wait, and their buffers are {buffers}")
     sent = sum(it.step[0] == COMMAND and said_by(it)["command"] & 0xff == BC_TRANSACTION for it in journal.entries)
     expect(f"BC_TRANSACTION: {sent}\n" in counted and f"{SERVICES + 1} processes" in counted, counted)
     return f"{len(processes)} processes and {len(threads) + len(many_threads)} threads, by their names; {len(opened)} open files of one process"

@@ -19,6 +19,9 @@ pub struct Arguments {
     /// Prints to the terminal itself, without HULLPIPPIN_PAGER, PAGER or less
     #[arg(long, global = true)]
     pub no_pager: bool,
+    /// Tells on one line of standard error how far a journal is read; then there is no pager
+    #[arg(long, global = true)]
+    pub progress: bool,
     #[command(subcommand)]
     pub word: Word,
 }
@@ -32,7 +35,8 @@ impl Arguments {
     /// Whether no person would read it page by page: it is for a program, or for who types.
     pub fn is_for_programs(&self) -> bool {
         let is_live = matches!(&self.word, Word::Trace(_) | Word::Top(_) | Word::Repl { .. });
-        is_live || matches!(&self.word, Word::Export(_) | Word::Diagram(_) | Word::Script(_))
+        let is_text = matches!(&self.word, Word::Diagram(Diagram { format: Drawn::Text, .. }));
+        is_live || !is_text && matches!(&self.word, Word::Export(_) | Word::Diagram(_) | Word::Script(_))
     }
 }
 
@@ -60,7 +64,7 @@ pub enum Word {
     Slow(Slow),
     /// Writes a recording in the form of another program
     Export(Export),
-    /// Draws a recording as one page of HTML, with search, zoom and hiding
+    /// Draws a recording: as one page of HTML with search, zoom and hiding, as a picture, for Mermaid, or for a terminal
     Diagram(Diagram),
     /// Tells the calls of a daemon that runs, a line each: of a program that is run for that, or of all
     Trace(Trace),
@@ -99,9 +103,12 @@ pub struct Script {
     /// How often a line that waits looks before it is given up
     #[arg(long, value_name = "N", default_value_t = TURNS, requires = "run")]
     pub turns: u32,
-    /// Writes the journal of the run there
+    /// Writes the journal of the run there, - for standard output
     #[arg(long, value_name = "OUT", requires = "run")]
     pub journal: Option<String>,
+    /// What is told of a run: whether what it expects holds, or what each line said as a value of JSON
+    #[arg(long, value_enum, default_value = "text", requires = "run")]
+    pub format: Format,
     /// Writes the script that it comes to there, - for standard output
     #[arg(long, value_name = "OUT")]
     pub emit: Option<String>,
@@ -119,6 +126,9 @@ pub struct Show {
     /// How many bytes of each parcel are printed; 0: nothing of it
     #[arg(long, value_name = "N", default_value_t = 1024)]
     pub bytes: usize,
+    /// Has libhullpippin say whether entries follow from those before them, and what the rules give where one doesn't
+    #[arg(long)]
+    pub judge: bool,
     /// Waits for further entries at the end, as `tail -f` does
     #[arg(long, short)]
     pub follow: bool,
@@ -129,19 +139,22 @@ pub struct Show {
 
 #[derive(Args)]
 pub struct Explain {
-    /// A name of a refusal or a return; or a journal
+    /// A name of a refusal or a return; or a journal, of which without a place the first unlawful entry is explained
     #[arg(value_name = "NAME|JOURNAL")]
     pub what: String,
     /// The place of an entry in that journal
     #[arg(value_name = "PLACE")]
     pub place: Option<u64>,
+    /// Text for people, or values of JSON: an entry, and then why
+    #[arg(long, value_enum, default_value = "text")]
+    pub format: Format,
 }
 
 #[derive(Args)]
 pub struct State {
     /// A journal, or - for standard input
-    #[arg(value_name = "JOURNAL")]
-    pub journal: String,
+    #[arg(value_name = "JOURNAL", required_unless_present = "daemon")]
+    pub journal: Option<String>,
     /// After so many entries, or those before a time, in place of all
     #[arg(long, value_name = "PLACE|TIME")]
     pub at: Option<Spot>,
@@ -151,6 +164,15 @@ pub struct State {
     /// Text for people, or a value of JSON a line
     #[arg(long, value_enum, default_value = "text")]
     pub format: Format,
+    /// Of a daemon that runs, now
+    #[arg(long, conflicts_with_all = ["journal", "at", "diff"])]
+    pub daemon: bool,
+    /// The daemon's socket; else HULLPIPPIN_SOCKET, or where the daemon of this user or of the system is
+    #[arg(long, value_name = "PATH", conflicts_with = "journal")]
+    pub socket: Option<String>,
+    /// The device; /dev/binder where none is named
+    #[arg(long, value_name = "NAME", conflicts_with = "journal")]
+    pub device: Option<String>,
 }
 
 #[derive(Args)]
@@ -234,6 +256,19 @@ pub struct Export {
     pub span: Span,
 }
 
+/// In what form a diagram is drawn.
+#[derive(Clone, Copy, Debug, PartialEq, Eq, ValueEnum)]
+pub enum Drawn {
+    /// One page with search, zoom and hiding, for long recordings too
+    Html,
+    /// A picture that stands alone
+    Svg,
+    /// A sequence diagram in Mermaid's language
+    Mermaid,
+    /// Lines of ASCII, for a terminal
+    Text,
+}
+
 #[derive(Args)]
 pub struct Diagram {
     /// A journal, or - for standard input
@@ -241,6 +276,9 @@ pub struct Diagram {
     pub journal: String,
     #[command(flatten)]
     pub range: Range,
+    /// The form
+    #[arg(long, value_enum, default_value = "html", value_name = "FORM")]
+    pub format: Drawn,
 }
 
 #[derive(Args)]

@@ -1,14 +1,18 @@
 // SPDX-License-Identifier: Apache-2.0 OR MIT
 //! Why an entry was answered so, with the facts; and what the names of refusals and returns mean.
+use crate::arguments::Format;
 use crate::codes::*;
 use crate::journal::{Answer, Entry, Step};
+use crate::json;
 use crate::order;
+use crate::out::Palette;
 use crate::play::Player;
 use crate::record::{Flat, Parcel, Record, OBJECT_SIZE};
 use crate::refusals::{Kind, Reason};
 use crate::show::{object_words, put_entry, Style};
 use crate::space::{About, Facts, Item, ItemKind, ObjectId, Process, Server, Space, Thread, STRONG, WEAK};
 use anyhow::{bail, Result};
+use serde::Serialize;
 use std::io::{self, Write};
 
 /// The rules themselves: what a name means is told in their words.
@@ -70,27 +74,70 @@ static RETURNS_TOLD: [(&str, &str, &str); 6] = [
     ("BR_CLEAR_DEATH_NOTIFICATION_DONE", "a death notification that was cleared is gone", ""),
 ];
 
-fn put_reason(to: &mut Vec<u8>, reason: Reason) -> io::Result<()> {
-    let (when, leaves) = meaning(reason);
-    writeln!(to, "{} {}: {}", reason.name(), reason.word(), reason.text())?;
-    writeln!(to, "when: {when}")?;
-    writeln!(to, "leaves: {leaves}")
+/// What a reason means.
+#[derive(Serialize)]
+struct ToldReason {
+    name: String,
+    word: &'static str,
+    text: &'static str,
+    when: String,
+    leaves: String,
+}
+
+impl ToldReason {
+    fn new(reason: Reason) -> ToldReason {
+        let (when, leaves) = meaning(reason);
+        ToldReason { name: reason.name(), word: reason.word(), text: reason.text(), when, leaves }
+    }
+}
+
+/// What a return means by which something went wrong, and the reasons that lead to it.
+#[derive(Serialize)]
+struct ToldReturn {
+    name: &'static str,
+    text: &'static str,
+    reasons: Vec<String>,
+}
+
+fn put_value(to: &mut Vec<u8>, value: &impl Serialize) -> io::Result<()> {
+    serde_json::to_writer(&mut *to, value)?;
+    to.push(b'\n');
+    Ok(())
+}
+
+fn put_reason(to: &mut Vec<u8>, reason: &ToldReason) -> io::Result<()> {
+    let ToldReason { name, word, text, when, leaves } = reason;
+    writeln!(to, "{name} {word}: {text}\nwhen: {when}\nleaves: {leaves}")
+}
+
+fn put_return(to: &mut Vec<u8>, it: &ToldReturn) -> io::Result<()> {
+    writeln!(to, "{}: {}", it.name, it.text)?;
+    for reason in it.reasons.iter().flat_map(|it| Reason::named(it)) {
+        writeln!(to, "  {} {}: {}", reason.name(), reason.word(), reason.text())?;
+    }
+    Ok(())
 }
 
 /// What a name means; false where it is none.
-pub fn put_name(to: &mut Vec<u8>, word: &str) -> io::Result<bool> {
+pub fn put_name(to: &mut Vec<u8>, format: Format, word: &str) -> io::Result<bool> {
     let reasons = Reason::named(word);
     for (index, reason) in reasons.iter().enumerate() {
+        let told = ToldReason::new(*reason);
+        if format == Format::Json {
+            put_value(to, &told)?;
+            continue;
+        }
         if index > 0 {
             to.push(b'\n');
         }
-        put_reason(to, *reason)?;
+        put_reason(to, &told)?;
     }
     let told = RETURNS_TOLD.iter().find(|it| it.0.eq_ignore_ascii_case(word));
     if let Some((name, text, names)) = told {
-        writeln!(to, "{name}: {text}")?;
-        for reason in names.split_whitespace().flat_map(Reason::named) {
-            writeln!(to, "  {} {}: {}", reason.name(), reason.word(), reason.text())?;
+        let told = ToldReturn { name, text, reasons: names.split_whitespace().map(String::from).collect() };
+        match format {
+            Format::Json => put_value(to, &told)?,
+            Format::Text => put_return(to, &told)?,
         }
     }
     Ok(told.is_some() || !reasons.is_empty())
@@ -454,53 +501,169 @@ fn sources(entry: &Entry<'_>, facts: &Facts) -> Vec<u64> {
     returns.filter_map(back).collect()
 }
 
-fn put_facts(to: &mut Vec<u8>, style: &Style, facts: &[String]) -> io::Result<()> {
-    let (about, plain) = (&style.palette.about, &style.palette.plain);
-    facts.iter().try_for_each(|it| writeln!(to, "    {about}{it}{plain}"))
+/// A reason that was looked at, and whether it held.
+#[derive(Serialize)]
+struct Looked {
+    reason: String,
+    holds: bool,
 }
 
-/// What the rules look at for such a step, up to what held, and where they say so.
-fn put_order(to: &mut Vec<u8>, step: &Step<'_>, held: Option<Reason>) -> io::Result<()> {
-    let answer = |it: &Reason| format!("{} {}", it.name(), if Some(*it) == held { "yes" } else { "no" });
-    let looked: Vec<_> = order::looked(step, held).iter().map(answer).collect();
-    let refusals = if held.is_some() { ", Refusals" } else { "" };
-    writeln!(to, "    looked at, up to the first that holds: {}", looked.join(", "))?;
-    writeln!(to, "    rules: {}{refusals}", order::section(step))
+/// Why such an answer is given: what the rules look at for such a step, up to what held, where they say so, and the facts.
+#[derive(Serialize)]
+struct Why {
+    looked: Vec<Looked>,
+    section: &'static str,
+    facts: Vec<String>,
+    #[serde(skip_serializing_if = "Option::is_none")]
+    holds: Option<ToldReason>,
 }
 
-/// One entry with why it was answered so; gives the places that it leads back to.
-fn put_place(to: &mut Vec<u8>, style: &Style, path: &str, place: u64) -> Result<Vec<u64>> {
-    let mut player = Player::open(path, false)?;
-    player.until(place)?;
-    let mut space = player.space.clone();
-    let mut known = Facts::default();
-    let entry = match player.source.next()? {
-        Some(entry) => entry,
-        None => bail!("{path}: there is no place {place}: it has {place} entries"),
-    };
-    let reason = match entry.answer {
-        Answer::Refused(reason) => Some((reason, Case::new(&space, &entry).facts(reason))),
-        _ => None,
-    };
-    space.step(&entry, &mut known);
-    put_entry(to, style, &entry, &space, &known)?;
-    put_order(to, &entry.step, reason.as_ref().map(|it| it.0))?;
-    if let Some((reason, facts)) = reason {
-        put_facts(to, style, &facts)?;
-        let (when, leaves) = meaning(reason);
-        writeln!(to, "    {} holds: {when}", reason.name())?;
-        writeln!(to, "    it leaves: {leaves}")?;
+impl Why {
+    fn new(case: &Case<'_>, answer: &Answer<'_>) -> Why {
+        let step = &case.entry.step;
+        let held = if let Answer::Refused(reason) = answer { Some(*reason) } else { None };
+        let looked = order::looked(step, held).into_iter();
+        Why {
+            looked: looked.map(|it| Looked { reason: it.name(), holds: Some(it) == held }).collect(),
+            section: order::section(step),
+            facts: held.map_or_else(Vec::new, |it| case.facts(it)),
+            holds: held.map(ToldReason::new),
+        }
     }
-    Ok(sources(&entry, &known))
+
+    fn put(&self, to: &mut Vec<u8>, style: &Style) -> io::Result<()> {
+        let word = |it: &Looked| format!("{} {}", it.reason, if it.holds { "yes" } else { "no" });
+        let looked: Vec<_> = self.looked.iter().map(word).collect();
+        let refusals = if self.holds.is_some() { ", Refusals" } else { "" };
+        writeln!(to, "    looked at, up to the first that holds: {}", looked.join(", "))?;
+        writeln!(to, "    rules: {}{refusals}", self.section)?;
+        let (about, plain) = (&style.palette.about, &style.palette.plain);
+        self.facts.iter().try_for_each(|it| writeln!(to, "    {about}{it}{plain}"))?;
+        match &self.holds {
+            Some(it) => writeln!(to, "    {} holds: {}\n    it leaves: {}", it.name, it.when, it.leaves),
+            None => Ok(()),
+        }
+    }
 }
 
-/// Why the entry at a place was answered so, and those before it that it comes from.
-pub fn put_entry_at(to: &mut Vec<u8>, style: &Style, path: &str, place: u64) -> Result<()> {
-    for source in put_place(to, style, path, place)? {
-        writeln!(to, "it comes from")?;
-        put_place(to, style, path, source)?;
+/// How an entry was judged.
+enum Judged {
+    NotAsked,
+    /// Nothing judges: why.
+    Not(String),
+    Lawful,
+    Unlawful,
+    /// Already an earlier entry isn't lawful.
+    Behind(u64),
+}
+
+impl Judged {
+    fn put(&self, to: &mut Vec<u8>, style: &Style) -> io::Result<()> {
+        let Palette { refused, plain, .. } = &style.palette;
+        match self {
+            Judged::NotAsked | Judged::Unlawful => Ok(()),
+            Judged::Not(why) => writeln!(to, "    not judged: {why}"),
+            Judged::Lawful => writeln!(to, "    lawful: it follows from the entries before it, and so do they"),
+            Judged::Behind(first) => {
+                writeln!(
+                    to,
+                    "    {refused}not judged:{plain} already entry {first} doesn't follow from those before it"
+                )
+            }
+        }
     }
-    Ok(())
+}
+
+/// What is told of an entry beside it. `lawful` is null where it wasn't judged.
+#[derive(Serialize)]
+struct ToldWhy {
+    #[serde(flatten)]
+    why: Option<Why>,
+    lawful: Option<bool>,
+}
+
+/// How things are told, and of which journal.
+pub struct Telling<'a> {
+    pub style: &'a Style,
+    pub format: Format,
+    pub path: &'a str,
+}
+
+impl Telling<'_> {
+    /// One entry with why it was answered so; gives the places that it leads back to. Where the entry was judged and isn't lawful,
+    /// told is why the rules give another answer.
+    fn put_place(&self, to: &mut Vec<u8>, player: &mut Player, place: u64, asked: Judged) -> Result<Vec<u64>> {
+        player.until(place)?;
+        let mut space = player.space.clone();
+        let mut known = Facts::default();
+        let entry = match player.source.next()? {
+            Some(entry) => entry,
+            None => bail!("{}: there is no place {place}: it has {place} entries", self.path),
+        };
+        let given = player.judge.as_mut().map(|it| it.judged(&entry)).transpose()?.flatten();
+        let judged = match (asked, player.unlawful) {
+            (Judged::Lawful, Some(first)) => Judged::Behind(first),
+            (Judged::Lawful, None) if given.is_some() => Judged::Unlawful,
+            (asked, _) => asked,
+        };
+        let answer = given.as_ref().map_or(Some(entry.answer), |it| it.answer());
+        let why = answer.map(|it| Why::new(&Case::new(&space, &entry), &it));
+        space.step(&entry, &mut known);
+        player.beside.tell(place, entry.seat, &mut known);
+        known.given = given.map(Box::new);
+        if self.format == Format::Json {
+            json::put_entry(to, self.style.bytes, &entry, &space, &known)?;
+            let lawful = match judged {
+                Judged::Lawful => Some(true),
+                Judged::Unlawful => Some(false),
+                _ => None,
+            };
+            put_value(to, &ToldWhy { why, lawful })?;
+        } else {
+            put_entry(to, self.style, &entry, &space, &known)?;
+            why.map_or(Ok(()), |it| it.put(to, self.style))?;
+            judged.put(to, self.style)?;
+        }
+        Ok(sources(&entry, &known))
+    }
+
+    /// Why the entry at a place was answered so, and those before it that it comes from.
+    pub fn put_entry_at(&self, to: &mut Vec<u8>, place: u64) -> Result<()> {
+        let mut player = Player::open(self.path, false)?;
+        // Without the library it is explained all the same.
+        let asked = player.judge().map_or_else(|it| Judged::Not(format!("{it:#}")), |()| Judged::Lawful);
+        for source in self.put_place(to, &mut player, place, asked)? {
+            if self.format == Format::Text {
+                writeln!(to, "it comes from")?;
+            }
+            self.put_place(to, &mut Player::open(self.path, false)?, source, Judged::NotAsked)?;
+        }
+        Ok(())
+    }
+
+    /// Whether a journal's entries are a history; of the first that doesn't follow, what the rules give in its place, and why.
+    pub fn put_verdict(&self, to: &mut Vec<u8>) -> Result<()> {
+        let mut player = Player::open(self.path, false)?;
+        player.judge()?;
+        while player.unlawful.is_none() && player.next(|| Ok(()))?.is_some() {}
+        match player.unlawful {
+            Some(place) if self.path != "-" => {
+                let mut again = Player::open(self.path, false)?;
+                again.judge()?;
+                self.put_place(to, &mut again, place, Judged::Lawful)?;
+            }
+            Some(_) => {}
+            None => {
+                player.ended(Default::default())?;
+                let count = player.source.place();
+                match self.format {
+                    Format::Json => put_value(to, &serde_json::json!({ "lawful": true, "entries": count }))?,
+                    Format::Text => writeln!(to, "lawful: all {count} entries follow from those before them")?,
+                }
+            }
+        }
+        player.check_lawful()
+    }
 }
 
 #[cfg(test)]

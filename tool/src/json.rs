@@ -10,6 +10,7 @@ use crate::space::{About, Facts, ObjectId, Sent, Space};
 use crate::times::Moment;
 use crate::who::Person;
 use serde::{Serialize, Serializer};
+use std::collections::BTreeMap;
 
 /// A number as a text in hex, since many readers keep only 53 bits.
 #[derive(Clone, Copy, Debug, PartialEq, Eq)]
@@ -316,6 +317,11 @@ struct Told<'a> {
     answers: Option<u64>,
     #[serde(skip_serializing_if = "Option::is_none")]
     parcel: Option<ToldParcel<'a>>,
+    /// Of an entry that doesn't follow: the answer by the rules, and where what was read differs from that.
+    #[serde(skip_serializing_if = "Option::is_none")]
+    given: Option<Option<Answered>>,
+    #[serde(skip_serializing_if = "BTreeMap::is_empty")]
+    differ: BTreeMap<&'static str, usize>,
 }
 
 /// One entry on one line; at most so many bytes of its parcel.
@@ -332,6 +338,7 @@ pub fn put_entry(
         _ => None,
     };
     let parcel = parcel.filter(|it| !it.data.is_empty() || !it.offsets.is_empty());
+    let given = facts.given.as_ref();
     let told = Told {
         place: entry.place,
         time: facts.time.map(Moment::universal),
@@ -344,6 +351,8 @@ pub fn put_entry(
         receiver: facts.receiver,
         answers: facts.answers,
         parcel: parcel.map(|it| told_parcel(&it, space, facts, most)),
+        given: given.map(|it| it.answer().map(|it| answered(space, &it, &Facts::default()))),
+        differ: given.map_or_else(BTreeMap::new, |it| it.differences(&entry.answer).into_iter().collect()),
     };
     serde_json::to_writer(&mut *to, &told)?;
     to.push(b'\n');

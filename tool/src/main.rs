@@ -15,15 +15,18 @@ mod holders;
 mod index;
 mod journal;
 mod json;
+mod judge;
 mod live;
 mod order;
 mod out;
 mod parcel;
 mod play;
+mod progress;
 mod record;
 mod refusals;
 mod script;
 mod select;
+mod sequence;
 mod show;
 mod source;
 mod space;
@@ -34,17 +37,21 @@ mod who;
 mod wrapped;
 
 use anyhow::{bail, Result};
-use arguments::{Arguments, Explain, Export, Form, Format, Holders, Script, Show, State, Word};
+use arguments::{Arguments, Diagram, Drawn, Explain, Export, Form, Format, Holders, Script, Show, State, Word};
 use clap::Parser;
 use out::{Out, Palette};
 use play::Player;
 use script::Setting;
 use show::Style;
 use std::io;
+use std::path::Path;
 use std::process::ExitCode;
 
 fn show(given: &Show, out: &mut Out, style: &Style) -> Result<()> {
     let mut player = Player::open(&given.journal, given.follow)?;
+    if given.judge {
+        player.judge()?;
+    }
     if given.selection.is_by_name() {
         player.check_names()?;
     }
@@ -63,16 +70,24 @@ fn show(given: &Show, out: &mut Out, style: &Style) -> Result<()> {
             Format::Json => json::put_entry(&mut out.held, given.bytes, entry, space, facts)?,
         }
         Ok(out.pass()?)
-    })
+    })?;
+    player.check_lawful()
 }
 
 fn state(given: &State, out: &mut Out) -> Result<()> {
     let to = &mut out.held;
+    let journal = match &given.journal {
+        Some(journal) => journal,
+        None => {
+            let device = given.device.clone().unwrap_or_else(|| "/dev/binder".into());
+            return live::state::put(to, &live::Where { socket: given.socket.clone(), device }, given.format);
+        }
+    };
     if let [before, after] = given.diff[..] {
-        let (before, after) = (state::at(&given.journal, Some(before))?, state::at(&given.journal, Some(after))?);
+        let (before, after) = (state::at(journal, Some(before))?, state::at(journal, Some(after))?);
         return Ok(state::put_difference(to, &before, &after)?);
     }
-    let player = state::at(&given.journal, given.at)?;
+    let player = state::at(journal, given.at)?;
     match given.format {
         Format::Text => Ok(state::put_text(to, &player)?),
         Format::Json => state::put_json(to, &player),
@@ -80,13 +95,15 @@ fn state(given: &State, out: &mut Out) -> Result<()> {
 }
 
 fn explain(given: &Explain, out: &mut Out, style: &Style) -> Result<()> {
-    let (to, what) = (&mut out.held, &given.what);
+    let (to, what, format) = (&mut out.held, &given.what, given.format);
+    let telling = explain::Telling { style, format, path: what };
     match given.place {
-        Some(place) => explain::put_entry_at(to, style, what, place),
-        None if explain::put_name(to, what)? => Ok(()),
+        Some(place) => telling.put_entry_at(to, place),
+        None if explain::put_name(to, format, what)? => Ok(()),
+        None if what == "-" || Path::new(what).exists() => telling.put_verdict(to),
         None => bail!(
-            "nothing is called {what}: there are F1 to F16, X1 to X16 and N1 to N11, also by names as BadObject, and \
-             returns as BR_FAILED_REPLY; of a journal an entry is explained by its place: explain JOURNAL PLACE"
+            "nothing is called {what}, and there is no such file: there are F1 to F16, X1 to X16 and N1 to N11, also by names as \
+             BadObject, and returns as BR_FAILED_REPLY; of a journal an entry is explained by its place: explain JOURNAL PLACE"
         ),
     }
 }
@@ -103,10 +120,20 @@ fn export(given: &Export, out: &mut Out) -> Result<()> {
     }
 }
 
+fn draw(given: &Diagram, out: &mut Out) -> Result<()> {
+    let mut player = Player::open(&given.journal, false)?;
+    match given.format {
+        Drawn::Html => diagram::put(&mut player, given.range, out),
+        form => sequence::put(&mut player, given.range, form, out),
+    }
+}
+
 fn script(given: &Script, out: &mut Out) -> Result<()> {
     let (player, journal) = (given.run.as_deref(), given.journal.as_deref());
     let emit = given.emit.as_deref();
-    script::script(&script::Asked { path: &given.file, player, turns: given.turns, journal, emit }, &mut out.held)
+    let as_json = given.format == Format::Json;
+    let asked = script::Asked { path: &given.file, player, turns: given.turns, journal, emit, as_json };
+    script::script(&asked, &mut out.held)
 }
 
 /// The status with which it ends.
@@ -121,7 +148,8 @@ fn run(arguments: &Arguments, out: &mut Out) -> Result<u8> {
 /// What is looked at in journals, and what scripts come to.
 fn look(arguments: &Arguments, out: &mut Out) -> Result<()> {
     let palette = Palette::new(arguments.color);
-    let style = |bytes| Style { palette, bytes };
+    let row = parcel::row_for(out::width());
+    let style = |bytes| Style { palette, bytes, row };
     match &arguments.word {
         Word::Show(given) => show(given, out, &style(given.bytes)),
         Word::Explain(given) => explain(given, out, &style(1024)),
@@ -137,7 +165,7 @@ fn look(arguments: &Arguments, out: &mut Out) -> Result<()> {
             stats::slow(&mut Player::open(&given.journal, false)?, given.range, given.most, &mut out.held)
         }
         Word::Export(given) => export(given, out),
-        Word::Diagram(given) => diagram::put(&mut Player::open(&given.journal, false)?, given.range, out),
+        Word::Diagram(given) => draw(given, out),
         Word::Index { journal } => index::make(journal),
         Word::Script(given) => script(given, out),
         Word::Trace(_) | Word::Top(_) => Ok(()),
@@ -153,7 +181,9 @@ fn is_closed_pipe(error: &anyhow::Error) -> bool {
 
 fn main() -> ExitCode {
     let arguments = Arguments::parse();
-    let mut out = Out::new(!arguments.no_pager && !arguments.follows() && !arguments.is_for_programs());
+    progress::want(arguments.progress);
+    let mut out =
+        Out::new(!arguments.no_pager && !arguments.progress && !arguments.follows() && !arguments.is_for_programs());
     let done = run(&arguments, &mut out);
     let closed = out.close().map_err(anyhow::Error::from);
     match done.and_then(|status| closed.map(|()| status)) {

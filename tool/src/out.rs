@@ -1,6 +1,7 @@
 // SPDX-License-Identifier: Apache-2.0 OR MIT
 //! Standard output, or a pager before it; and colours.
 use crossterm::style::{Color, ResetColor, SetForegroundColor};
+use crossterm::terminal::size;
 use crossterm::tty::IsTty;
 use std::env;
 use std::io::{self, Write};
@@ -27,15 +28,28 @@ pub struct Palette {
     pub plain: String,
 }
 
+/// Colours of the 256 that terminals have: of those that can be read on black as on white, which a test reckons.
+const GREY: u8 = 244;
+const TEAL: u8 = 30;
+const RED: u8 = 160;
+const GREEN: u8 = 28;
+const AMBER: u8 = 130;
+
+/// How wide the terminal is; None where standard output is none.
+pub fn width() -> Option<usize> {
+    let (columns, _) = io::stdout().is_tty().then(size)?.ok()?;
+    Some(usize::from(columns)).filter(|it| *it > 0)
+}
+
 impl Palette {
     fn colours() -> Palette {
-        let of = |colour| SetForegroundColor(colour).to_string();
+        let of = |colour| SetForegroundColor(Color::AnsiValue(colour)).to_string();
         Palette {
-            place: of(Color::DarkGrey),
-            name: of(Color::Cyan),
-            refused: of(Color::Red),
-            text: of(Color::Green),
-            about: of(Color::Yellow),
+            place: of(GREY),
+            name: of(TEAL),
+            refused: of(RED),
+            text: of(GREEN),
+            about: of(AMBER),
             plain: ResetColor.to_string(),
         }
     }
@@ -113,4 +127,41 @@ fn start_pager() -> Option<Child> {
         command.env("LESS", "FRX");
     }
     command.spawn().ok()
+}
+
+#[cfg(test)]
+mod tests {
+    use super::*;
+
+    /// The colour of a number from 16 on: a cube of six steps each, and then greys.
+    fn colour(number: u8) -> [u8; 3] {
+        let step = |it: u8| if it == 0 { 0 } else { 55 + 40 * it };
+        match number {
+            16..=231 => [36, 6, 1].map(|by| step((number - 16) / by % 6)),
+            _ => [8 + 10 * (number - 232); 3],
+        }
+    }
+
+    /// How light a colour is, as the guidelines for contrast on the web have it.
+    fn lightness(colour: [u8; 3]) -> f64 {
+        let linear = |it: u8| {
+            let it = f64::from(it) / 255.0;
+            if it <= 0.03928 {
+                it / 12.92
+            } else {
+                ((it + 0.055) / 1.055).powf(2.4)
+            }
+        };
+        let [red, green, blue] = colour.map(linear);
+        0.2126 * red + 0.7152 * green + 0.0722 * blue
+    }
+
+    #[test]
+    fn colours_can_be_read_on_black_and_on_white() {
+        for number in [GREY, TEAL, RED, GREEN, AMBER] {
+            let light = lightness(colour(number));
+            let (on_black, on_white) = ((light + 0.05) / 0.05, 1.05 / (light + 0.05));
+            assert!(on_black > 3.5 && on_white > 3.5, "{number}: {on_black:.1} on black, {on_white:.1} on white");
+        }
+    }
 }

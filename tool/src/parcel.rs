@@ -83,12 +83,12 @@ pub fn put_hex(to: &mut Vec<u8>, bytes: &[u8]) {
     }
 }
 
-/// A line of a dump: the place, up to 16 bytes in hex, and as ASCII.
-fn put_line(to: &mut Vec<u8>, indent: usize, at: usize, bytes: &[u8]) {
+/// A line of a dump: the place, the bytes of a row in hex, and as ASCII.
+fn put_line(to: &mut Vec<u8>, indent: usize, row: usize, at: usize, bytes: &[u8]) {
     to.resize(to.len() + indent, b' ');
     put_hex(to, &(at as u32).to_be_bytes()[if at < 0x1_0000 { 2 } else { 0 }..]);
     to.push(b' ');
-    for index in 0..16 {
+    for index in 0..row {
         if index % 8 == 0 {
             to.push(b' ');
         }
@@ -102,11 +102,22 @@ fn put_line(to: &mut Vec<u8>, indent: usize, at: usize, bytes: &[u8]) {
     to.extend(b"|\n");
 }
 
-/// A dump of at most so many bytes; what is left out is told.
-pub fn put_dump(to: &mut Vec<u8>, indent: usize, data: &[u8], most: usize) {
+/// How many bytes a line of a dump has: 16, or 8 where the terminal is too narrow for them.
+pub fn row_for(width: Option<usize>) -> usize {
+    match width {
+        Some(width) if width < WIDEST_LINE => 8,
+        _ => 16,
+    }
+}
+
+/// A line of 16 bytes with the deepest indent and a long place.
+const WIDEST_LINE: usize = 8 + 8 + 2 + 3 * 16 + 1 + 2 + 16 + 1;
+
+/// A dump of at most so many bytes, so many in a line; what is left out is told.
+pub fn put_dump(to: &mut Vec<u8>, indent: usize, row: usize, data: &[u8], most: usize) {
     let shown = &data[..data.len().min(most)];
-    for (index, bytes) in shown.chunks(16).enumerate() {
-        put_line(to, indent, 16 * index, bytes);
+    for (index, bytes) in shown.chunks(row.max(1)).enumerate() {
+        put_line(to, indent, row, row * index, bytes);
     }
     if shown.len() < data.len() {
         to.resize(to.len() + indent, b' ');
@@ -177,12 +188,22 @@ mod tests {
     #[test]
     fn a_dump_is_of_lines_of_16() {
         let mut to = Vec::new();
-        put_dump(&mut to, 2, b"0123456789abcdefXY\x01Z", 18);
+        put_dump(&mut to, 2, 16, b"0123456789abcdefXY\x01Z", 18);
         let first = "  0000  30 31 32 33 34 35 36 37  38 39 61 62 63 64 65 66  |0123456789abcdef|\n";
         // Fourteen bytes of three columns, a space in the middle, and two spaces.
         let second = format!("  0010  58 59{}|XY|\n  .. 2 bytes more\n", " ".repeat(14 * 3 + 1 + 2));
         let lines = format!("{first}{second}");
         assert_eq!(String::from_utf8(to).unwrap(), lines);
+    }
+
+    #[test]
+    fn a_dump_on_a_narrow_terminal_is_of_lines_of_8() {
+        let mut to = Vec::new();
+        put_dump(&mut to, 0, row_for(Some(60)), b"0123456789", 10);
+        let second = format!("0008  38 39{}|89|\n", " ".repeat(6 * 3 + 2));
+        let lines = format!("0000  30 31 32 33 34 35 36 37  |01234567|\n{second}");
+        assert_eq!(String::from_utf8(to).unwrap(), lines);
+        assert_eq!([row_for(None), row_for(Some(85)), row_for(Some(86))], [16, 8, 16]);
     }
 
     #[test]

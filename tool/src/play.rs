@@ -3,6 +3,8 @@
 use crate::beside::Beside;
 use crate::index;
 use crate::journal::Entry;
+use crate::judge::Judge;
+use crate::progress::Progress;
 use crate::source::{End, Source};
 use crate::space::{Facts, Space};
 use crate::times::TimeWord;
@@ -95,10 +97,15 @@ impl Bounds {
 pub type Seen<'a> = (&'a Entry<'a>, &'a Space, &'a Facts);
 
 pub struct Player {
-    path: String,
+    pub path: String,
     pub source: Source,
     pub space: Space,
     pub beside: Beside,
+    /// Says of each entry whether it follows, until one doesn't.
+    pub judge: Option<Judge>,
+    /// The first entry that doesn't.
+    pub unlawful: Option<u64>,
+    progress: Option<Progress>,
     facts: Facts,
 }
 
@@ -106,7 +113,34 @@ impl Player {
     pub fn open(path: &str, follows: bool) -> Result<Player> {
         let source = Source::open(path, follows).with_context(|| name(path))?;
         let beside = Beside::open(path, follows);
-        Ok(Player { path: path.into(), source, space: Space::default(), beside, facts: Facts::default() })
+        let (space, facts) = (Space::default(), Facts::default());
+        Ok(Player {
+            path: path.into(),
+            source,
+            space,
+            beside,
+            judge: None,
+            unlawful: None,
+            progress: Progress::new(),
+            facts,
+        })
+    }
+
+    /// Has all entries judged. Then each is played, whatever an index knows.
+    pub fn judge(&mut self) -> Result<()> {
+        self.judge = Some(Judge::new(self.source.heading())?);
+        Ok(())
+    }
+
+    /// Sees that no entry was found that doesn't follow.
+    pub fn check_lawful(&self) -> Result<()> {
+        match self.unlawful {
+            Some(place) => bail!(
+                "{}: unlawful: entry {place} doesn't follow from those before it; what is behind it wasn't judged",
+                name(&self.path)
+            ),
+            None => Ok(()),
+        }
     }
 
     /// What a range comes to in this journal.
@@ -146,7 +180,7 @@ impl Player {
 
     /// Goes to the nearest place before this one that an index beside the file knows.
     pub fn jump(&mut self, place: u64) -> Result<()> {
-        if place == 0 || !self.source.is_file() {
+        if place == 0 || self.judge.is_some() || !self.source.is_file() {
             return Ok(());
         }
         match index::nearest(&self.path, place) {
@@ -164,13 +198,25 @@ impl Player {
 
     /// Makes the next step. None behind the last.
     pub fn next(&mut self, idle: impl FnMut() -> Result<()>) -> Result<Option<(Entry<'_>, &Space, &Facts)>> {
-        let Player { path, source, space, beside, facts } = self;
-        let entry = source.next_or(idle).with_context(|| name(path))?;
-        Ok(entry.map(|entry| {
-            space.step(&entry, facts);
-            beside.tell(entry.place, entry.seat, facts);
-            (entry, &*space, &*facts)
-        }))
+        let Player { path, source, space, beside, judge, unlawful, progress, facts } = self;
+        let count = source.heading().count;
+        let entry = match source.next_or(idle).with_context(|| name(path))? {
+            Some(entry) => entry,
+            None => return Ok(None),
+        };
+        space.step(&entry, facts);
+        beside.tell(entry.place, entry.seat, facts);
+        if let Some(it) = progress {
+            it.step(count);
+        }
+        if let Some(it) = judge {
+            facts.given = it.judged(&entry)?.map(Box::new);
+            if facts.given.is_some() {
+                *unlawful = Some(entry.place);
+                *judge = None;
+            }
+        }
+        Ok(Some((entry, &*space, &*facts)))
     }
 
     /// Calls this for each entry within bounds, and with None before each wait for more and at the end of the journal.
@@ -186,6 +232,20 @@ impl Player {
                     call(None)?;
                     return self.ended(bounds.range);
                 }
+            }
+        }
+        Ok(())
+    }
+
+    /// Calls this for each entry up to the end of the bounds, with where it lies.
+    pub fn each_lying(&mut self, bounds: &Bounds, mut call: impl FnMut(Lies, Seen<'_>) -> Result<()>) -> Result<()> {
+        while bounds.go_on(self.source.place()) {
+            match self.next(|| Ok(()))? {
+                Some((entry, space, facts)) => match bounds.lies(entry.place, facts) {
+                    Lies::Behind => return Ok(()),
+                    lies => call(lies, (&entry, space, facts))?,
+                },
+                None => return self.ended(bounds.range),
             }
         }
         Ok(())

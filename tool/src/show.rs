@@ -2,6 +2,7 @@
 //! Entries as lines for people.
 use crate::codes::{Message, Payload, Returns, Unread, BC_TRANSACTION, BR_TRANSACTION};
 use crate::journal::{Answer, Entry, Step};
+use crate::judge::Given;
 use crate::out::Palette;
 use crate::parcel;
 use crate::record::{Flat, Parcel, Record, FLAGS, OBJECT_SIZE};
@@ -16,8 +17,9 @@ type Lines = Vec<u8>;
 #[derive(Clone, Debug, Default)]
 pub struct Style {
     pub palette: Palette,
-    /// How many bytes of a parcel are dumped.
+    /// How many bytes of a parcel are dumped, and how many of them in a line.
     pub bytes: usize,
+    pub row: usize,
 }
 
 /// `3.0 "manager" of pid 100`.
@@ -52,11 +54,27 @@ pub fn put_entry(to: &mut Lines, style: &Style, entry: &Entry<'_>, space: &Space
     match (&entry.step, &entry.answer) {
         (Step::Command { parcel: Some(parcel), .. }, _) => {
             let (sender, receiver) = (facts.pid, facts.receiver);
-            Shown { style, space, facts, indent: 4, sender, receiver }.put(to, parcel)
+            Shown { style, space, facts, indent: 4, sender, receiver }.put(to, parcel)?;
         }
-        (_, Answer::Got { stream, parcel }) => put_returns(to, style, stream, parcel, space, facts),
-        _ => Ok(()),
+        (_, Answer::Got { stream, parcel }) => put_returns(to, style, stream, parcel, space, facts)?,
+        _ => {}
     }
+    facts.given.as_ref().map_or(Ok(()), |it| put_given(to, style, it, &entry.answer, space))
+}
+
+/// That an entry doesn't follow from those before it, and what the rules give in its place.
+pub fn put_given(to: &mut Lines, style: &Style, given: &Given, recorded: &Answer<'_>, space: &Space) -> io::Result<()> {
+    let Palette { refused, plain, .. } = &style.palette;
+    write!(to, "    {refused}unlawful:{plain} it doesn't follow from the entries before it, by which it is")?;
+    match given.answer() {
+        Some(answer) => put_answer(to, style, &answer)?,
+        None => writeln!(to, " no step at all")?,
+    }
+    if let Some(Answer::Got { stream, parcel }) = given.answer() {
+        put_returns(to, style, stream, &parcel, space, &Facts::default())?;
+    }
+    let differences = given.differences(recorded);
+    differences.iter().try_for_each(|(name, from)| writeln!(to, "    the {name} differ from byte {from} on"))
 }
 
 /// Where a line begins: the place, the time, who it was.
@@ -79,7 +97,7 @@ fn put_head(to: &mut Lines, style: &Style, entry: &Entry<'_>, facts: &Facts) -> 
 
 /// The first line of an entry, which says all but what it read and its parcel.
 pub fn put_line(to: &mut Lines, style: &Style, entry: &Entry<'_>, space: &Space, facts: &Facts) -> io::Result<()> {
-    let Palette { name, refused, plain, .. } = &style.palette;
+    let Palette { name, plain, .. } = &style.palette;
     put_head(to, style, entry, facts)?;
     to.extend(name.as_bytes());
     match &entry.step {
@@ -93,7 +111,13 @@ pub fn put_line(to: &mut Lines, style: &Style, entry: &Entry<'_>, space: &Space,
         }
         other => write!(to, "{}{plain}", other.name())?,
     }
-    match &entry.answer {
+    put_answer(to, style, &entry.answer)
+}
+
+/// What was answered, behind what was done.
+fn put_answer(to: &mut Lines, style: &Style, answer: &Answer<'_>) -> io::Result<()> {
+    let Palette { refused, plain, .. } = &style.palette;
+    match answer {
         Answer::Opened => to.extend(b": opened\n"),
         Answer::Set => to.extend(b": set\n"),
         Answer::Exited => to.extend(b": exited\n"),
@@ -292,7 +316,7 @@ impl Shown<'_> {
         if let Some(wrapped) = Wrapped::read(parcel) {
             self.put_wrapped(to, &wrapped)?;
         }
-        parcel::put_dump(to, indent, parcel.data, self.style.bytes);
+        parcel::put_dump(to, indent, self.style.row, parcel.data, self.style.bytes);
         Ok(())
     }
 

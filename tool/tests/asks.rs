@@ -82,11 +82,14 @@ fn a_refused_call_is_explained_by_what_became_of_the_handle() {
     X1 holds: transaction, handle not 0: the writer's process has no strong name with that handle
     it leaves: a Refusal on the writer's own list, which reads as BR_FAILED_REPLY
 ";
-    assert_eq!(printed(&["explain", file.path(), "11"]), told);
+    assert_eq!(printed(&["explain", file.path(), "11"]), format!("{told}{NOT_JUDGED}"));
     let read = printed(&["explain", file.path(), "12"]);
     assert!(read.starts_with("12 seat 0 pid 100 read limit 256: got 12\n"), "{read}");
     let order = "    looked at, up to the first that holds: F4 no, F11 no, F12 no\n    rules: Work items and reading\n";
-    assert!(read.ends_with(&format!("    BR_FAILED_REPLY (for 11)\n{order}it comes from\n{told}")), "{read}");
+    assert!(
+        read.ends_with(&format!("    BR_FAILED_REPLY (for 11)\n{order}{NOT_JUDGED}it comes from\n{told}")),
+        "{read}"
+    );
     let freed = printed(&["explain", file.path(), "13"]);
     assert!(freed.contains("    the latest buffer with that pointer was freed at 10\n"), "{freed}");
     let again = printed(&["explain", file.path(), "14"]);
@@ -123,8 +126,21 @@ leaves: a Refusal on the writer's own list, which reads as BR_FAILED_REPLY
 ";
     assert_eq!(printed(&["explain", "X6"]), told);
     assert_eq!(printed(&["explain", "unread"]), told);
+    let value = r#"{"name":"X6","word":"Unread","text":"the thread has a call or a reply to read","when":"two-way: a Call, Reply or Verdict stands on the thread's own list","leaves":"a Refusal on the writer's own list, which reads as BR_FAILED_REPLY"}"#;
+    assert_eq!(printed(&["explain", "X6", "--format", "json"]), format!("{value}\n"));
+    let value = printed(&["explain", "BR_DEAD_REPLY", "--format", "json"]);
+    assert!(
+        value.starts_with("{\"name\":\"BR_DEAD_REPLY\",") && value.ends_with("\"reasons\":[\"X2\",\"X4\"]}\n"),
+        "{value}"
+    );
     assert!(printed(&["explain", "BR_FAILED_REPLY"]).contains("  X9 BadObject: an offset or an object is bad\n"));
-    assert!(fault(&["explain", "X17"]).starts_with("hullpippin: nothing is called X17: there are F1 to F16, X1 to X16"));
+    assert!(fault(&["explain", "X17"])
+        .starts_with("hullpippin: nothing is called X17, and there is no such file: there are F1"));
+    let judged = fault(&["explain", Journal::base().file("names").path()]);
+    assert!(
+        judged.starts_with("hullpippin: no library that judges, which HULLPIPPIN_LIBRARY may name: /no/such/"),
+        "{judged}"
+    );
 }
 
 #[test]

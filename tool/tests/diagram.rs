@@ -84,6 +84,46 @@ fn what_nobody_has_read_has_no_end() {
 }
 
 #[test]
+fn a_sequence_has_what_threads_are_called() {
+    let recorded = Recorded::registered("sequence");
+    let told = printed(&["diagram", recorded.path(), "--format", "text"]);
+    let wanted = "\
+| thread   : waits   # serves   --> call   - > one-way   ==> reply   --? unread
+   pid    100         200     $
+  seat     0           1      $
+  name  manager   Binder:200_ $
+     0     +                       opens pid 100
+     1     M                       becomes the manager
+     3     |           +           opens pid 200
+     4     |           o           call, handle 0, code 0x3
+     5     #<----------:           gets call 4
+     7     o           |           reply to 4
+     8     |==========>|           gets reply 7 to 4
+";
+    assert_eq!(told, wanted.replace('$', ""));
+    let part = printed(&["diagram", recorded.path(), "--format", "text", "--from", "5", "--to", "8"]);
+    assert!(part.contains("     5     #<----------:           gets call 4\n"), "{part}");
+    assert_eq!(part.lines().count(), 6, "{part}");
+    let mermaid = printed(&["diagram", recorded.path(), "--format", "mermaid", "--from", "7"]);
+    assert!(
+        mermaid.contains("    participant s0 as seat 0 manager\n") && mermaid.contains("    activate s0\n"),
+        "{mermaid}"
+    );
+    assert!(fault(&["diagram", recorded.path(), "--format", "svg", "--to", "99"]).contains("there is no place 99"));
+}
+
+/// What a client calls itself does nothing in a diagram.
+#[test]
+fn a_name_is_no_word_of_a_form() {
+    let who = "HPWHO 1 binder\n0 0 100 100 <b>;end\n3 1 200 215 $\n".replace('$', "x");
+    let recorded = Recorded::new("odd-name", &Journal::registered(), &CLOCKS, &who);
+    for form in ["text", "mermaid", "svg"] {
+        let told = printed(&["diagram", recorded.path(), "--format", form]);
+        assert!(told.contains("_b__end") && !told.contains("<b>"), "{told}");
+    }
+}
+
+#[test]
 #[ignore = "needs node"]
 fn the_script_draws_and_finds() {
     let page = kept("page.html", page(Journal::registered().file("run").path()).as_bytes());

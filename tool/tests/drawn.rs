@@ -10,14 +10,40 @@ use std::process::Command;
 /// Where an arrow begins and ends, each as a seat and a place; its end is None where nobody has read it.
 type Arrow = (&'static str, u64, u64, Option<(u64, u64)>);
 
-/// Plays a script, and gives its page's data.
-fn drawn(script: &str) -> Value {
+/// Plays a script, and gives its journal.
+fn played(form: &str, script: &str) -> Kept {
     let name = std::env::var("HULLPIPPIN_PLAYER").expect("HULLPIPPIN_PLAYER names the player");
     let path = format!("{}/../examples/{script}.script", env!("CARGO_MANIFEST_DIR"));
-    let journal = kept(&format!("{}.journal", script.replace('/', "-")), b"");
+    let journal = kept(&format!("{form}-{}.journal", script.replace('/', "-")), b"");
     let done = Command::new(name).args(["run", &path, "--journal", journal.path()]).output().expect("the player");
     assert!(done.status.success(), "{script}: {}", String::from_utf8_lossy(&done.stderr));
-    page_data(&printed(&["diagram", journal.path()]))
+    journal
+}
+
+/// The data of its page.
+fn drawn(script: &str) -> Value {
+    page_data(&printed(&["diagram", played("page", script).path()]))
+}
+
+/// The diagrams that the player drew of these runs when it had that word, with codes in hex.
+#[test]
+#[ignore = "needs a player"]
+fn sequences_are_as_they_were_drawn() {
+    for script in ["dead_server_over_an_open_child", "nested_call_back", "words/eight_threads"] {
+        let journal = played("sequence", script);
+        let name = script.trim_start_matches("words/");
+        for (form, suffix) in [("text", "txt"), ("mermaid", "mmd"), ("svg", "svg")] {
+            // One of them is in the documents.
+            let folder = if suffix == "svg" && name == "nested_call_back" { "../docs" } else { "tests/worked" };
+            let path = format!("{}/{folder}/diagrams/{name}.{suffix}", env!("CARGO_MANIFEST_DIR"));
+            let wanted = std::fs::read_to_string(&path).expect("a diagram");
+            let told = printed(&["diagram", journal.path(), "--format", form]);
+            for (number, (told, wanted)) in told.lines().zip(wanted.lines()).enumerate() {
+                assert_eq!(told, wanted, "line {} of {path}", number + 1);
+            }
+            assert_eq!(told, wanted, "{path}");
+        }
+    }
 }
 
 fn seat(told: &Value, lane: &Value) -> u64 {

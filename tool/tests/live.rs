@@ -1,7 +1,7 @@
 // SPDX-License-Identifier: Apache-2.0 OR MIT
 //! What goes on in a daemon: told of one that has a ring of steps and nothing else.
 mod common;
-use common::ring::{daemon, field, Kind, Ring, Step, Who, GOT, SENT};
+use common::ring::{daemon, field, record, telling, Kind, Ring, Step, Who, GOT, SENT};
 use common::*;
 use std::fs;
 use std::io::{BufRead, BufReader};
@@ -176,6 +176,69 @@ fn a_count_that_cannot_be_is_no_step() {
     assert_eq!(printed(&["trace", "--once", "--past", "--socket", socket.path()]), "");
 }
 
+/// A manager with a thread in the loop; a service of which another process of the history has a handle for an object, and in whose window
+/// lie an unread call and a reply of a process that has ended.
+fn state() -> Vec<Vec<Vec<u8>>> {
+    let manager = [(1, 100), (2, 9_000_100), (5, 1000), (6, 1), (7, 4096), (8, 1), (9, 15)];
+    let service = [(1, 201), (2, 9_000_200), (5, 2000), (6, 2), (7, 8192), (8, 2), (9, 15), (11, 1), (15, 16)];
+    let thread = |more: &[(usize, u32)]| record(2, &[&[(14, u32::MAX)], more].concat(), "Binder:1");
+    vec![
+        vec![record(1, &manager, "manager"), record(1, &service, "serv\x1bice")],
+        vec![],
+        vec![
+            thread(&[(1, 100), (2, 9_000_100), (3, 9_000_101), (4, 1), (6, 12)]),
+            thread(&[(1, 201), (3, 9_000_201), (4, 2), (12, 2), (13, 1), (14, 12), (15, 3)]),
+        ],
+        vec![
+            record(3, &[(1, 100), (16, 1), (17, 4), (18, 2), (19, 201)], ""),
+            record(3, &[(1, 100), (16, 2), (17, 5), (19, 0)], ""),
+            record(
+                4,
+                &[(1, 201), (6, 64 + 16), (17, 4), (18, 2), (19, 100), (20, 21), (21, 16), (22, 88), (23, PNG)],
+                "",
+            ),
+            record(4, &[(1, 201), (6, 32), (20, 9), (22, 8)], ""),
+            // Of a process that has come since.
+            record(3, &[(1, 300), (16, 1), (17, 4), (19, 201)], ""),
+        ],
+    ]
+}
+
+#[test]
+fn what_goes_on_in_a_daemon_is_told() {
+    let socket = telling("state", state(), 0);
+    let words = ["state", "--daemon", "--socket", socket.path()];
+    let told = "after 30 steps of /dev/binder\n\
+        pid 9000100 \"manager\" euid 1000 window 4096, 1 threads, 0 of them asked for, of at most 15, in the history 100, context manager\n  \
+        seat 1 (tid 9000101 \"Binder:1\"), in the loop, waits in a read\n  \
+        handle 1 object 4.2 of pid 9000200 \"serv\\u{1b}ice\"\n  \
+        handle 2 object 5.0 of a process that has ended\n\
+        pid 9000200 \"serv\\u{1b}ice\" euid 2000 window 8192, 2 threads, 1 of them asked for, of at most 15, in the history 201, \
+        asks for reports of flooding, 16 or more to read\n  \
+        seat 2 (tid 9000201 \"Binder:1\"), serves 2 calls, waits in 1 call, the innermost made at 12, 3 to read\n  \
+        buffer at 16 made at 21 size 88 code 0x5f504e47 from pid 9000100 \"manager\", for object 4.2, one-way, unread\n  \
+        buffer at 0 made at 9 size 8 code 0x0 from a process that has ended\n";
+    assert_eq!(printed(&words), told);
+    let values = printed(&[&words[..], &["--format", "json"]].concat());
+    let values: Vec<serde_json::Value> = values.lines().map(|it| serde_json::from_str(it).expect("JSON")).collect();
+    assert_eq!(values[0], serde_json::json!({"steps": 30, "device": "/dev/binder"}));
+    let owner = serde_json::json!({"pid": 9_000_200, "comm": "serv\u{1b}ice"});
+    assert_eq!(values[1]["handles"][0], serde_json::json!({"handle": 1, "object": "4.2", "owner": owner}));
+    assert_eq!(values[2]["buffers"][1]["from"], serde_json::Value::Null);
+}
+
+#[test]
+fn why_nothing_is_told_of_a_daemon_is_said() {
+    let socket = telling("state-error", state(), 1);
+    let said = fault(&["state", "--daemon", "--socket", socket.path()]);
+    assert_eq!(said, "hullpippin: the daemon shows its steps to its own user and to root, and to nobody else\n");
+    let said = fault(&["state", "--daemon", "--socket", "/no/such/socket"]);
+    assert_eq!(said, "hullpippin: there is no daemon at /no/such/socket; hullpippin-run starts one\n");
+    for words in [&["state"][..], &["state", "x", "--daemon"], &["state", "x", "--socket", "y"]] {
+        assert_eq!(run(words).status.code(), Some(2), "{words:?}");
+    }
+}
+
 /// A runner that tells its pid and waits until it may go on.
 fn runner(name: &str) -> (Kept, Kept, Kept) {
     let (pid, go) = (kept(&format!("{name}-pid"), b""), kept(&format!("{name}-go"), b""));
@@ -278,31 +341,67 @@ fn check_screen(screen: &str) {
     assert_eq!(made.split(' ').skip(1).collect::<Vec<_>>().join(" "), "0 0 0 1 Binder:1(9000200)");
 }
 
-fn tmux(words: &[&str]) -> String {
-    let name = format!("hullpippin-test-{}", std::process::id());
+fn tmux(test: &str, words: &[&str]) -> String {
+    let name = format!("hullpippin-{test}-{}", std::process::id());
     let done = Command::new("tmux").args(["-L", &name]).args(words).env("TERM", "xterm").output().expect("tmux");
     String::from_utf8_lossy(&done.stdout).into_owned()
+}
+
+/// What `top` draws on a terminal of such a size, once a call is there; then it is ended by a key.
+fn drawn(test: &str, columns: u32, shows: &str) -> String {
+    let mut ring = filled(test);
+    let socket = daemon(test, &ring, 0);
+    let command = format!("{} top --interval 0.3 --socket {}", env!("CARGO_BIN_EXE_hullpippin"), socket.path());
+    let size = columns.to_string();
+    tmux(test, &["-f", "/dev/null", "new-session", "-d", "-x", &size, "-y", "24", &command]);
+    let mut screen = String::new();
+    busy(&mut ring, || {
+        screen = tmux(test, &["capture-pane", "-p"]);
+        screen.contains(shows)
+    });
+    assert_eq!(screen.lines().nth(23), Some("q: end"), "{screen}");
+    tmux(test, &["send-keys", "q"]);
+    // With its only program the terminal ends too.
+    let until = Instant::now() + Duration::from_secs(60);
+    while !tmux(test, &["list-sessions"]).is_empty() {
+        assert!(Instant::now() < until, "it doesn't end");
+        sleep(Duration::from_millis(20));
+    }
+    screen
 }
 
 #[test]
 #[ignore = "needs tmux"]
 fn a_screen_is_drawn_on_a_terminal() {
-    let mut ring = filled("screen");
-    let socket = daemon("screen", &ring, 0);
-    let command = format!("{} top --interval 0.3 --socket {}", env!("CARGO_BIN_EXE_hullpippin"), socket.path());
-    tmux(&["-f", "/dev/null", "new-session", "-d", "-x", "130", "-y", "24", &command]);
-    let mut screen = String::new();
-    busy(&mut ring, || {
-        screen = tmux(&["capture-pane", "-p"]);
-        screen.contains("1.2 ms")
-    });
-    check_screen(&screen);
-    assert_eq!(screen.lines().nth(23), Some("q: end"), "{screen}");
-    tmux(&["send-keys", "q"]);
-    // With its only program the terminal ends too.
+    check_screen(&drawn("screen", 130, "1.2 ms"));
+}
+
+/// On a narrow one there is less of a call, but who calls whom, and what.
+#[test]
+#[ignore = "needs tmux"]
+fn a_screen_is_drawn_on_a_narrow_terminal() {
+    let screen = drawn("narrow", 60, "1.2 ms");
+    let lines: Vec<Vec<&str>> = screen.lines().map(|it| it.split_whitespace().collect()).collect();
+    assert_eq!(lines[2], ["calls/s", "mean", "from", "->", "to", "what"], "{screen}");
+    assert_eq!(lines[3][1..], ["1.2", "ms", "Binder:1", "->", "manager", "android.os.IServic.."], "{screen}");
+    assert!(screen.lines().all(|it| it.chars().count() <= 60), "{screen}");
+}
+
+/// Colours and a dump on a narrow terminal, as it has them.
+#[test]
+#[ignore = "needs tmux"]
+fn entries_are_shown_on_a_narrow_terminal() {
+    let journal = Journal::registered().file("narrow.journal");
+    let command = format!("{} show --no-pager --to 5 {}; sleep 60", env!("CARGO_BIN_EXE_hullpippin"), journal.path());
+    tmux("entries", &["-f", "/dev/null", "new-session", "-d", "-x", "60", "-y", "40", &command]);
     let until = Instant::now() + Duration::from_secs(60);
-    while !tmux(&["list-sessions"]).is_empty() {
-        assert!(Instant::now() < until, "it doesn't end");
-        sleep(Duration::from_millis(20));
+    let mut screen = String::new();
+    while !screen.contains("0068  ") {
+        assert!(Instant::now() < until, "{screen}");
+        screen = tmux("entries", &["capture-pane", "-p", "-e"]);
+        sleep(Duration::from_millis(50));
     }
+    tmux("entries", &["kill-server"]);
+    assert!(screen.contains("\x1b[38;5;30mBC_TRANSACTION\x1b["), "{screen:?}");
+    assert!(screen.contains("    0058  "), "eight bytes in a line: {screen}");
 }

@@ -207,6 +207,32 @@ fn a_closed_pipe_is_silent() {
 }
 
 #[test]
+fn how_far_a_journal_is_read_is_told() {
+    let file = Journal::registered().file("progress");
+    for words in [&["stats", file.path(), "--progress"][..], &["--progress", "show", file.path()]] {
+        let done = run(words);
+        let said = String::from_utf8(done.stderr).expect("text");
+        assert!(
+            said.starts_with("9 of 9 entries, ") && said.ends_with(" a second\n") && said.lines().count() == 1,
+            "{said}"
+        );
+        let without: Vec<&str> = words.iter().copied().filter(|it| *it != "--progress").collect();
+        assert_eq!(String::from_utf8_lossy(&done.stdout), printed(&without));
+    }
+}
+
+/// A word that isn't known is told with the one that it may have been, and the status is that of words that make no sense.
+#[test]
+fn what_was_meant_is_suggested() {
+    for (words, told) in [(&["stast", "x"][..], "'state', 'stats'"), (&["show", "x", "--hande", "1"], "'--handle'")] {
+        let done = run(words);
+        let said = String::from_utf8(done.stderr).expect("text");
+        assert!(said.contains(told), "{said}");
+        assert_eq!(done.status.code(), Some(2));
+    }
+}
+
+#[test]
 fn following_goes_on_while_the_file_grows() {
     follow(Journal::base(), Journal::one_way(), "growing");
     follow(Journal::base().widened(32), Journal::one_way().widened(32), "growing-wide");

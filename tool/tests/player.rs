@@ -144,6 +144,31 @@ fn entries_and_states_have_the_values_that_were_written_for_them() {
     }
 }
 
+/// A script that is played here, by its name.
+fn told_of_a_run(name: &str) -> String {
+    let script = [EXAMPLES.to_string(), format!("{EXAMPLES}/words")].map(|it| format!("{it}/{name}.script"));
+    let script = script.iter().find(|it| Path::new(it).exists()).expect("a script");
+    let player = std::env::var("HULLPIPPIN_PLAYER").expect("HULLPIPPIN_PLAYER names the player");
+    printed(&["script", script, "--run", &player, "--format", "json"])
+}
+
+#[test]
+#[ignore = "needs a player"]
+fn what_a_run_says_has_the_values_that_were_written_for_it() {
+    let blocks = blocks("runs.txt");
+    assert_eq!(blocks.len(), 4);
+    for (name, _, lines) in blocks {
+        assert_eq!(told_of_a_run(&name), lines, "{name}");
+    }
+    for (name, run) in runs("said") {
+        let told = values(&told_of_a_run(&name));
+        let lines: Vec<(&str, &str)> = run.lines.lines().filter_map(|it| it.split_once(": ")).collect();
+        let said = |it: &Value| (it["line"].to_string(), it["kind"].as_str().expect("a kind").to_string());
+        let wanted = lines.iter().map(|it| (it.0.to_string(), it.1.split(' ').next().expect("a word").to_string()));
+        assert_eq!(told.iter().map(said).collect::<Vec<_>>(), wanted.collect::<Vec<_>>(), "{name}");
+    }
+}
+
 #[test]
 #[ignore = "needs a player"]
 fn states_are_told_as_a_proved_player_told_them() {

@@ -290,6 +290,20 @@ there is no :no; there are :help, :quit, :save, :script, :state, :undo
     assert!(done.status.success());
 }
 
+#[test]
+#[ignore = "needs a player"]
+fn a_journal_goes_to_standard_output() {
+    let (file, journal) =
+        (kept("out-names", b"seats one\none open 100 1000 4K\n  expect opened\n"), kept("out.journal", b""));
+    let words = ["script", file.path(), "--run", &player(), "--journal"];
+    printed(&[&words[..], &[journal.path()]].concat());
+    let done = run(&[&words[..], &["-"]].concat());
+    assert_eq!(done.stdout, std::fs::read(&journal.0).expect("a journal"));
+    assert_eq!(String::from_utf8_lossy(&done.stderr), format!("{}: 1 of 1 expectations hold\n", file.path()));
+    let said = fault(&[&words[..], &["-", "--format", "json"]].concat());
+    assert_eq!(said, "hullpippin: --journal - takes standard output, and something else wants it too\n");
+}
+
 /// Every script that is written for the player means there what it means without the player's own words.
 #[test]
 #[ignore = "needs a player"]

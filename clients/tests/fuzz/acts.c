@@ -47,6 +47,7 @@ void act_deaf(void)
     for (int i = 0; i < 20 * ROUNDS; i++) {
         request.op = !below(4) ? CONTROL_THREAD : !below(4) ? CONTROL_STATE : below(2) ? CONTROL_SPAM : CONTROL_MAX_THREADS;
         request.size = request.op == CONTROL_STATE ? odd_number() : below(2);
+        request.base = odd_number();
         if (!hostile_send(hostile.control, &request, sizeof request, 0))
             usleep(100);
     }

@@ -1,8 +1,8 @@
 // SPDX-License-Identifier: Apache-2.0 OR MIT
 //! The daemon's socket, and what is asked there (clients/protocol.h).
 use super::Where;
-use crate::record::u64_at;
-use anyhow::{bail, ensure, Context, Result};
+use crate::record::u32_at;
+use anyhow::{anyhow, ensure, Context, Result};
 use nix::errno::Errno;
 use nix::sys::socket::{
     connect, getsockopt, recvmsg, send, socket, sockopt, AddressFamily, ControlMessageOwned, MsgFlags, SockFlag,
@@ -16,7 +16,9 @@ use std::os::unix::io::{AsRawFd, FromRawFd, RawFd};
 
 /// What the daemon and its library say to one another: its number is asked for at each request.
 const PROTOCOL: &str = include_str!("../../../clients/protocol.h");
+const CONTROL_OPEN: u32 = 1;
 const CONTROL_RING: u32 = 7;
+const CONTROL_STATE: u32 = 8;
 const DEVICE_ROOM: usize = 64;
 const ANSWER_SIZE: usize = 16;
 
@@ -69,33 +71,75 @@ pub fn connection(given: Option<&str>) -> Result<Option<File>> {
     Ok(None)
 }
 
-fn request(device: &str) -> Result<Vec<u8>> {
+/// What is asked of a device; two numbers say more where the request has any.
+fn request(op: u32, numbers: [u64; 2], device: &str) -> Result<Vec<u8>> {
     ensure!(device.len() < DEVICE_ROOM, "{device}: no device has so long a name");
-    let mut bytes = [protocol_version(), CONTROL_RING].map(u32::to_le_bytes).concat();
-    bytes.extend([0; 16]);
+    let mut bytes = [protocol_version(), op].map(u32::to_le_bytes).concat();
+    bytes.extend(numbers.map(u64::to_le_bytes).concat());
     bytes.extend(device.as_bytes());
     bytes.resize(8 + 16 + DEVICE_ROOM, 0);
     Ok(bytes)
 }
 
+/// Asks, and gives the file that comes with the answer. The answer has to be of that size, and begins with an errno or 0.
+fn asked(end: &File, request: &[u8], answer: &mut [u8]) -> Result<(Option<Errno>, Option<File>)> {
+    send(end.as_raw_fd(), request, MsgFlags::MSG_NOSIGNAL).context("the daemon")?;
+    let wanted = answer.len();
+    let mut room = nix::cmsg_space!(RawFd);
+    let (size, mut files) = {
+        let mut parts = [IoSliceMut::new(answer)];
+        let flags = MsgFlags::MSG_CMSG_CLOEXEC;
+        let got = recvmsg::<()>(end.as_raw_fd(), &mut parts, Some(&mut room), flags).context("the daemon")?;
+        let rights = |it| if let ControlMessageOwned::ScmRights(fds) = it { Some(fds) } else { None };
+        let files: Vec<File> = got.cmsgs().filter_map(rights).flatten().map(owned).collect();
+        (got.bytes, files)
+    };
+    ensure!(size == wanted, "the daemon hung up: it may be of another version than {}", protocol_version());
+    let error = u32_at(answer, 0) as i32;
+    Ok((Some(error).filter(|it| *it != 0).map(Errno::from_i32), files.pop()))
+}
+
+/// Why a device's steps, or what goes on there, can't be had.
+fn refusal(error: Option<Errno>, device: &str) -> anyhow::Error {
+    match error {
+        Some(Errno::EPERM) => anyhow!("the daemon shows its steps to its own user and to root, and to nobody else"),
+        Some(Errno::ENOENT) => anyhow!("the daemon has no device {device}"),
+        Some(error) => anyhow!("the daemon has no steps to show: {error}"),
+        None => anyhow!("the daemon has no steps to show"),
+    }
+}
+
 /// The memory that a device's latest steps are in.
 fn ask(end: &File, device: &str) -> Result<File> {
-    send(end.as_raw_fd(), &request(device)?, MsgFlags::MSG_NOSIGNAL).context("the daemon")?;
-    let mut answer = [0; ANSWER_SIZE];
-    let mut room = nix::cmsg_space!(RawFd);
-    let mut parts = [IoSliceMut::new(&mut answer)];
-    let flags = MsgFlags::MSG_CMSG_CLOEXEC;
-    let got = recvmsg::<()>(end.as_raw_fd(), &mut parts, Some(&mut room), flags).context("the daemon")?;
-    let fds = got.cmsgs().filter_map(|it| if let ControlMessageOwned::ScmRights(fds) = it { Some(fds) } else { None });
-    let mut files: Vec<File> = fds.flatten().map(owned).collect();
-    let size = got.bytes;
-    ensure!(size == ANSWER_SIZE, "the daemon hung up: it may be of another version than {}", protocol_version());
-    match (Errno::from_i32(u64_at(&answer, 0) as u32 as i32), files.pop()) {
-        (_, Some(memory)) => Ok(memory),
-        (Errno::EPERM, None) => bail!("the daemon shows its steps to its own user and to root, and to nobody else"),
-        (Errno::ENOENT, None) => bail!("the daemon has no device {device}"),
-        (error, None) => bail!("the daemon has no steps to show: {error}"),
+    match asked(end, &request(CONTROL_RING, [0; 2], device)?, &mut [0; ANSWER_SIZE])? {
+        (None, Some(memory)) => Ok(memory),
+        (error, _) => Err(refusal(error, device)),
     }
+}
+
+/// Asks for what goes on on a device, page after page of so many bytes; each says where the next one begins.
+pub fn each_page(place: &Where, size: usize, mut call: impl FnMut(&[u8]) -> [u64; 2]) -> Result<()> {
+    let end = needed(connection(place.socket.as_deref())?, place)?;
+    let device = &place.device;
+    if let (Some(error), _) = asked(&end, &request(CONTROL_OPEN, [0; 2], device)?, &mut [0; ANSWER_SIZE])? {
+        return Err(refusal(Some(error), device));
+    }
+    let (mut next, mut page) = ([0; 2], vec![0; size]);
+    loop {
+        if let (Some(error), _) = asked(&end, &request(CONTROL_STATE, next, device)?, &mut page)? {
+            return Err(refusal(Some(error), device));
+        }
+        next = call(&page);
+        if next[0] == 0 {
+            return Ok(());
+        }
+    }
+}
+
+/// What a daemon gives, for who can't do without one.
+fn needed<T>(found: Option<T>, place: &Where) -> Result<T> {
+    let there = sockets(place.socket.as_deref()).into_iter().map(|it| it.0).collect::<Vec<_>>().join(", ");
+    found.with_context(|| format!("there is no daemon at {there}; hullpippin-run starts one"))
 }
 
 /// The ring of a device of the daemon that is meant; None where there is no daemon.
@@ -108,8 +152,7 @@ pub fn ring(place: &Where) -> Result<Option<super::ring::Ring>> {
 
 /// The same, for who can't do without.
 pub fn needed_ring(place: &Where) -> Result<super::ring::Ring> {
-    let there = sockets(place.socket.as_deref()).into_iter().map(|it| it.0).collect::<Vec<_>>().join(", ");
-    ring(place)?.with_context(|| format!("there is no daemon at {there}; hullpippin-run starts one"))
+    needed(ring(place)?, place)
 }
 
 #[cfg(test)]
@@ -119,12 +162,16 @@ mod tests {
     #[test]
     fn a_request_is_as_the_header_has_it() {
         assert!(protocol_version() > 4, "{}", protocol_version());
-        let bytes = request("/dev/binder").unwrap();
+        let bytes = request(CONTROL_RING, [0; 2], "/dev/binder").unwrap();
         assert_eq!((bytes.len(), &bytes[4..8], &bytes[24..36]), (88, &[7, 0, 0, 0][..], &b"/dev/binder\0"[..]));
-        assert!(request(&"x".repeat(64)).is_err());
-        // Once the header has the request, it has that number: it is the seventh, from 1.
+        assert!(request(CONTROL_RING, [0; 2], &"x".repeat(64)).is_err());
+        let bytes = request(CONTROL_STATE, [5, 6], "").unwrap();
+        assert_eq!((bytes[8], bytes[16]), (5, 6));
+        // Requests are numbered from 1.
         let ops = PROTOCOL.split("enum control_op {").nth(1).and_then(|it| it.split('}').next()).expect("requests");
         let names: Vec<_> = ops.lines().filter(|it| it.trim_start().starts_with("CONTROL_")).collect();
-        assert!(names.len() < 7 || names[6].trim_start().starts_with("CONTROL_RING"), "{names:?}");
+        let is = |op: u32, name| names[op as usize - 1].trim_start().starts_with(name);
+        assert!(is(CONTROL_OPEN, "CONTROL_OPEN") && is(CONTROL_RING, "CONTROL_RING"), "{names:?}");
+        assert!(is(CONTROL_STATE, "CONTROL_STATE"), "{names:?}");
     }
 }

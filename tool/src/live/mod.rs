@@ -5,6 +5,7 @@ mod daemon;
 mod program;
 mod ring;
 mod slot;
+pub mod state;
 pub mod top;
 pub mod trace;
 

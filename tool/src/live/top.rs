@@ -4,6 +4,7 @@ use super::calls::{short_code, Calls, End, Ended};
 use super::daemon::needed_ring;
 use super::ring::Ring;
 use super::Where;
+use crate::out;
 use crate::times::duration_words;
 use anyhow::Result;
 use clap::Args;
@@ -16,10 +17,12 @@ use std::io::{self, Stdout, Write};
 use std::thread::sleep;
 use std::time::{Duration, Instant};
 use tui::backend::{Backend, CrosstermBackend};
-use tui::layout::{Constraint, Direction, Layout, Rect};
+use tui::layout::{Constraint, Direction, Layout};
 use tui::style::{Modifier, Style};
-use tui::widgets::{Paragraph, Row, Table};
+use tui::text::{Span, Spans};
+use tui::widgets::Paragraph;
 use tui::{Frame, Terminal};
+use unicode_width::{UnicodeWidthChar, UnicodeWidthStr};
 
 /// How long one waits before the next look, at a key or at the ring.
 const PAUSE: Duration = Duration::from_millis(50);
@@ -123,10 +126,50 @@ struct Screen {
     processes: Vec<[String; 6]>,
 }
 
-const PAIR_HEADS: [&str; 7] = ["calls/s", "bytes/s", "mean", "most", "failed", "from -> to", "what"];
-const PAIR_WIDTHS: [u16; 7] = [9, 11, 9, 9, 7, 34, 40];
-const PROCESS_HEADS: [&str; 6] = ["made/s", "served/s", "failed", "waits", "unread", "process"];
-const PROCESS_WIDTHS: [u16; 6] = [9, 9, 7, 7, 7, 34];
+/// A column: which cell of a row it shows, under what, and how wide it is; numbers stand at its right.
+#[derive(Clone, Copy)]
+struct Column {
+    at: usize,
+    head: &'static str,
+    width: usize,
+    is_number: bool,
+}
+
+const fn number(at: usize, head: &'static str, width: usize) -> Column {
+    Column { at, head, width, is_number: true }
+}
+
+const fn words(at: usize, head: &'static str) -> Column {
+    Column { at, head, width: 0, is_number: false }
+}
+
+const PAIR_COLUMNS: [Column; 7] = [
+    number(0, "calls/s", 7),
+    number(1, "bytes/s", 9),
+    number(2, "mean", 8),
+    number(3, "most", 8),
+    number(4, "failed", 6),
+    words(5, "from -> to"),
+    words(6, "what"),
+];
+const PROCESS_COLUMNS: [Column; 6] = [
+    number(0, "made/s", 7),
+    number(1, "served/s", 8),
+    number(2, "failed", 6),
+    number(3, "waits", 5),
+    number(4, "unread", 6),
+    words(5, "process"),
+];
+/// What is left out first where a terminal is narrow, and how much room words have to have.
+const PAIR_EXTRAS: [usize; 3] = [1, 4, 3];
+const PROCESS_EXTRAS: [usize; 2] = [2, 3];
+const PAIR_WORDS: usize = 60;
+const PROCESS_WORDS: usize = 20;
+const ARROW: &str = " -> ";
+/// Between columns.
+const GAP: usize = 2;
+/// Where there is no terminal nothing is cut.
+const WIDE: usize = 1000;
 
 fn rate(count: u64, seconds: f64) -> String {
     let rate = count as f64 / seconds;
@@ -163,12 +206,18 @@ impl Screen {
         })
     }
 
-    fn text(&self) -> String {
-        let mut text = format!("{}\n\n", self.head);
-        put_rows(&mut text, &PAIR_HEADS, &self.pairs, &PAIR_WIDTHS);
-        text.push('\n');
-        put_rows(&mut text, &PROCESS_HEADS, &self.processes, &PROCESS_WIDTHS);
-        text
+    fn pairs(&self, width: usize) -> Vec<String> {
+        table(fitting(&PAIR_COLUMNS, &PAIR_EXTRAS, PAIR_WORDS, width), &self.pairs, width)
+    }
+
+    fn processes(&self, width: usize) -> Vec<String> {
+        table(fitting(&PROCESS_COLUMNS, &PROCESS_EXTRAS, PROCESS_WORDS, width), &self.processes, width)
+    }
+
+    fn text(&self, width: usize) -> String {
+        let lines =
+            [vec![self.head.clone(), String::new()], self.pairs(width), vec![String::new()], self.processes(width)];
+        lines.concat().iter().map(|it| format!("{it}\n")).collect()
     }
 }
 
@@ -179,7 +228,7 @@ fn pair_row((from, to, what, code): &Key, it: &Pair, seconds: f64) -> [String; 7
         duration_words(it.took / it.calls.max(1)),
         duration_words(it.most),
         it.failed.to_string(),
-        format!("{} -> {}", from.escape_debug(), to.escape_debug()),
+        format!("{}{ARROW}{}", from.escape_debug(), to.escape_debug()),
         format!("{}{}", what.escape_debug(), short_code(*code)),
     ]
 }
@@ -195,36 +244,79 @@ fn process_row(comm: &str, it: &Process, seconds: f64) -> [String; 6] {
     ]
 }
 
-/// Columns side by side, as wide as the screen has them, and none behind the last.
-fn put_rows<const N: usize>(to: &mut String, heads: &[&str; N], rows: &[[String; N]], widths: &[u16; N]) {
-    let heads = heads.map(String::from);
-    for row in std::iter::once(&heads).chain(rows) {
-        let cells = row.iter().zip(widths).map(|(cell, width)| format!("{cell:width$}", width = usize::from(*width)));
-        to.push_str(cells.collect::<Vec<_>>().join(" ").trim_end());
-        to.push('\n');
+/// The columns that there is room for.
+fn fitting(all: &[Column], extras: &[usize], words: usize, width: usize) -> Vec<Column> {
+    let mut columns = all.to_vec();
+    for extra in extras {
+        let numbers: usize = columns.iter().filter(|it| it.is_number).map(|it| it.width + GAP).sum();
+        if numbers + words > width {
+            columns.retain(|it| it.at != *extra);
+        }
+    }
+    columns
+}
+
+/// As much of a text as there is room for, with two dots where it goes on; of who calls whom something of both.
+fn cut(text: &str, width: usize) -> String {
+    if text.width() <= width {
+        return text.into();
+    }
+    if let Some((from, to)) = text.split_once(ARROW).filter(|_| width > 2 * ARROW.len()) {
+        let half = (width - ARROW.len()) / 2;
+        return format!("{}{ARROW}{}", cut(from, half), cut(to, width - ARROW.len() - half));
+    }
+    let mut room = width.saturating_sub(2);
+    let fits = |it: &char| {
+        let fits = it.width().unwrap_or(0) <= room;
+        room = room.saturating_sub(it.width().unwrap_or(0));
+        fits
+    };
+    text.chars().take_while(fits).chain("..".chars().take(width)).collect()
+}
+
+/// A text in a column, by what a terminal makes of its letters.
+fn padded(text: &str, column: &Column) -> String {
+    let text = cut(text, column.width);
+    let blank = " ".repeat(column.width - text.width());
+    if column.is_number {
+        blank + &text
+    } else {
+        text + &blank
     }
 }
 
-fn put_table<B: Backend, const N: usize>(
-    frame: &mut Frame<'_, B>,
-    area: Rect,
-    heads: &[&'static str; N],
-    rows: &[[String; N]],
-    widths: &[u16; N],
-) {
-    let widths = widths.map(Constraint::Length);
-    let rows = rows.iter().map(|it| Row::new(it.to_vec()));
-    let heads = Row::new(heads.to_vec()).style(Style::default().add_modifier(Modifier::BOLD));
-    frame.render_widget(Table::new(rows).header(heads).widths(&widths), area);
+/// Rows under their heads. The last column takes what is left, and each other one of words as much as it needs, at most half of it.
+fn table<const N: usize>(mut columns: Vec<Column>, rows: &[[String; N]], width: usize) -> Vec<String> {
+    let mut left = width.saturating_sub(columns.iter().filter(|it| it.is_number).map(|it| it.width + GAP).sum());
+    let last = columns.len() - 1;
+    for (index, column) in columns.iter_mut().enumerate().filter(|it| !it.1.is_number) {
+        let needed = rows.iter().map(|it| it[column.at].width()).chain([column.head.width()]).max().unwrap_or(0);
+        column.width = needed.min(if index == last { left } else { left.saturating_sub(GAP) / 2 });
+        left = left.saturating_sub(column.width + GAP);
+    }
+    let line = |cell: &dyn Fn(&Column) -> String| {
+        let cells: Vec<_> = columns.iter().map(|it| padded(&cell(it), it)).collect();
+        cells.join(&" ".repeat(GAP)).trim_end().to_string()
+    };
+    let heads = line(&|it| it.head.into());
+    std::iter::once(heads).chain(rows.iter().map(|row| line(&|it| row[it.at].clone()))).collect()
+}
+
+/// A table whose heads are bold.
+fn drawn(lines: Vec<String>) -> Paragraph<'static> {
+    let bold = Style::default().add_modifier(Modifier::BOLD);
+    let line = |(index, line)| Spans::from(Span::styled(line, if index == 0 { bold } else { Style::default() }));
+    Paragraph::new(lines.into_iter().enumerate().map(line).collect::<Vec<_>>())
 }
 
 fn draw<B: Backend>(frame: &mut Frame<'_, B>, screen: &Screen) {
     let processes = (screen.processes.len() as u16 + 2).min(frame.size().height / 2);
     let parts = [Constraint::Length(2), Constraint::Min(3), Constraint::Length(processes), Constraint::Length(1)];
     let areas = Layout::default().direction(Direction::Vertical).constraints(parts).split(frame.size());
-    frame.render_widget(Paragraph::new(&screen.head[..]), areas[0]);
-    put_table(frame, areas[1], &PAIR_HEADS, &screen.pairs, &PAIR_WIDTHS);
-    put_table(frame, areas[2], &PROCESS_HEADS, &screen.processes, &PROCESS_WIDTHS);
+    let width = usize::from(frame.size().width);
+    frame.render_widget(Paragraph::new(cut(&screen.head, width)), areas[0]);
+    frame.render_widget(drawn(screen.pairs(width)), areas[1]);
+    frame.render_widget(drawn(screen.processes(width)), areas[2]);
     frame.render_widget(Paragraph::new("q: end"), areas[3]);
 }
 
@@ -299,7 +391,7 @@ pub fn top(given: &Top) -> Result<()> {
         };
         if let Some((sums, seconds)) = watch(&mut ring, &mut calls, interval, waits)? {
             let screen = Screen::new(sums, &calls, &ring, &given.place, seconds)?;
-            io::stdout().write_all(screen.text().as_bytes())?;
+            io::stdout().write_all(screen.text(out::width().unwrap_or(WIDE)).as_bytes())?;
         }
         return Ok(());
     }
@@ -312,4 +404,68 @@ pub fn top(given: &Top) -> Result<()> {
         }
     }
     Ok(())
+}
+
+#[cfg(test)]
+mod tests {
+    use super::*;
+
+    fn screen(width: usize) -> String {
+        let pair = [
+            "7.8",
+            "607",
+            "733.5 us",
+            "4.0 ms",
+            "0",
+            "camera-\u{6444}\u{5f71} -> system_server",
+            "android.hardware.ICamera#4",
+        ];
+        let process = ["23", "0", "0", "1", "0", "\u{6444}\u{5f71}(4711)"];
+        let screen = Screen {
+            head: "/dev/binder: 324 steps/s, 23 calls/s, 2 processes, 2 threads".into(),
+            pairs: vec![pair.map(String::from)],
+            processes: vec![process.map(String::from)],
+        };
+        screen.text(width)
+    }
+
+    #[test]
+    fn a_wide_screen_has_all_columns() {
+        let wanted = "\
+/dev/binder: 324 steps/s, 23 calls/s, 2 processes, 2 threads
+
+calls/s    bytes/s      mean      most  failed  from -> to                    what
+    7.8        607  733.5 us    4.0 ms       0  camera-\u{6444}\u{5f71} -> system_server  android.hardware.ICamera#4
+
+ made/s  served/s  failed  waits  unread  process
+     23         0       0      1       0  \u{6444}\u{5f71}(4711)
+";
+        assert_eq!(screen(WIDE), wanted);
+    }
+
+    #[test]
+    fn a_narrow_screen_leaves_columns_out_and_cuts_words() {
+        let wanted = "\
+/dev/binder: 324 steps/s, 23 calls/s, 2 processes, 2 threads
+
+calls/s      mean  from -> to           what
+    7.8  733.5 us  camer.. -> system..  android.hardware.I..
+
+ made/s  served/s  waits  unread  process
+     23         0      1       0  \u{6444}\u{5f71}(4711)
+";
+        assert_eq!(screen(60), wanted);
+    }
+
+    #[test]
+    fn no_width_is_too_narrow() {
+        for width in 0..200 {
+            assert!(screen(width).lines().skip(2).all(|it| it.width() <= width.max(43)), "{width}");
+        }
+        assert_eq!(
+            [cut("abcdef", 4), cut("abcdef", 6), cut("\u{6444}\u{5f71}\u{6444}", 5)],
+            ["ab..", "abcdef", "\u{6444}.."]
+        );
+        assert_eq!([cut("abc", 1), cut("abc", 0)], [".", ""]);
+    }
 }

@@ -6,6 +6,7 @@ mod parcels;
 mod reader;
 mod repl;
 mod runs;
+mod told;
 mod verbs;
 mod words;
 
@@ -15,6 +16,7 @@ pub use runs::Setting;
 use crate::play::name;
 use anyhow::{bail, Context, Result};
 use reader::{Line, Reader};
+use repl::Room;
 use runs::Run;
 use std::fs;
 use std::io::{self, Read, Write};
@@ -28,7 +30,7 @@ pub struct Fault {
 }
 
 /// A fault with the line that it is in, and a caret under the word.
-fn told(path: &str, fault: &Fault, text: &str) -> String {
+fn spelled(path: &str, fault: &Fault, text: &str) -> String {
     let line = text.lines().nth(fault.line - 1).unwrap_or_default();
     // A tab before the word is one before the caret too, so that both stand alike.
     let before: String = line.chars().take(fault.column - 1).map(|it| if it == '\t' { it } else { ' ' }).collect();
@@ -36,7 +38,7 @@ fn told(path: &str, fault: &Fault, text: &str) -> String {
 }
 
 fn put_faults(path: &str, faults: &[Fault], text: &str) {
-    let told: String = faults.iter().map(|it| told(path, it, text)).collect();
+    let told: String = faults.iter().map(|it| spelled(path, it, text)).collect();
     // Nobody is told where standard error is closed.
     let _ = io::stderr().write_all(told.as_bytes());
 }
@@ -79,10 +81,15 @@ pub struct Asked<'a> {
     pub turns: u32,
     pub journal: Option<&'a str>,
     pub emit: Option<&'a str>,
+    /// Whether what lines said is told as JSON.
+    pub as_json: bool,
 }
 
 /// Prints what a script comes to, or plays it and says whether what it expects holds.
 pub fn script(asked: &Asked<'_>, to: &mut Vec<u8>) -> Result<()> {
+    if asked.journal == Some("-") && (asked.as_json || asked.emit == Some("-")) {
+        bail!("--journal - takes standard output, and something else wants it too");
+    }
     let (path, text) = (name(asked.path), text_of(asked.path)?);
     let lines = match lines_of(&text) {
         Ok(lines) => lines,
@@ -106,15 +113,43 @@ pub fn script(asked: &Asked<'_>, to: &mut Vec<u8>) -> Result<()> {
     if asked.player.is_none() {
         return Ok(());
     }
-    run.play(asked.journal)?;
+    play(&mut run, asked.journal, to)?;
+    put_outcome(asked, &lines, &run, &text, to)
+}
+
+/// What came of a run: what each line said, or whether what it expects holds.
+fn put_outcome(asked: &Asked<'_>, lines: &[Line], run: &Run, text: &str, to: &mut Vec<u8>) -> Result<()> {
+    let path = name(asked.path);
     let expected: Vec<_> = lines.iter().flat_map(Line::expected).collect();
     let faults: Vec<_> = expected.iter().filter_map(|it| it.check(run.answer(it.of))).collect();
-    put_faults(&path, &faults, &text);
+    put_faults(&path, &faults, text);
     let (all, held) = (expected.len(), expected.len() - faults.len());
-    to.extend(format!("{path}: {held} of {all} expectations hold\n").into_bytes());
+    let verdict = format!("{path}: {held} of {all} expectations hold\n");
+    if asked.as_json {
+        for (number, said) in run.printed() {
+            serde_json::to_writer(&mut *to, &told::Told::read(number, said))?;
+            to.push(b'\n');
+        }
+    } else if asked.journal == Some("-") {
+        eprint!("{verdict}");
+    } else {
+        to.extend(verdict.into_bytes());
+    }
     if held < all {
         bail!("{path}: {} of its expectations don't hold", faults.len());
     }
+    Ok(())
+}
+
+/// Plays all lines. The journal goes to a file; for `-` to what is printed, by a file of one's own, since the player prints too.
+fn play(run: &mut Run, journal: Option<&str>, to: &mut Vec<u8>) -> Result<()> {
+    if journal != Some("-") {
+        return run.play(journal);
+    }
+    let room = Room::new()?;
+    let journal = room.journal();
+    run.play(Some(&journal))?;
+    to.extend(fs::read(&journal).with_context(|| journal.clone())?);
     Ok(())
 }
 

@@ -3,7 +3,7 @@
 use super::expects::Expected;
 use super::reader::{Line, Reader, Said};
 use super::runs::{Answer, Run, Setting};
-use super::{told, Fault};
+use super::{spelled, Fault};
 use crate::play::{Player, Range};
 use crate::show::{put_entry, Style};
 use crate::state;
@@ -28,17 +28,17 @@ expect ..              accepted, got BR_REPLY data .., X5, BadObject, of the lin
 ";
 
 /// A folder of one's own, which goes in the end.
-struct Room(PathBuf);
+pub struct Room(PathBuf);
 
 impl Room {
-    fn new() -> Result<Room> {
+    pub fn new() -> Result<Room> {
         let path = std::env::temp_dir().join(format!("hullpippin-{}", std::process::id()));
         // Nobody else may have made it: it is made here, or it isn't used.
         DirBuilder::new().mode(0o700).create(&path).with_context(|| path.display().to_string())?;
         Ok(Room(path))
     }
 
-    fn journal(&self) -> String {
+    pub fn journal(&self) -> String {
         self.0.join("journal").display().to_string()
     }
 }
@@ -85,7 +85,7 @@ impl Session {
             Ok(Err(fault)) => {
                 self.undo();
                 // The line that was taken back is the only one of the text.
-                Ok(told(NAME, &Fault { line: 1, ..fault }, text).replacen(":1:", &format!(":{number}:"), 1))
+                Ok(spelled(NAME, &Fault { line: 1, ..fault }, text).replacen(":1:", &format!(":{number}:"), 1))
             }
             Err(error) => {
                 self.undo();

@@ -77,13 +77,22 @@ pub struct Run {
     /// The seat of each line that has one.
     seats: BTreeMap<usize, u32>,
     answers: BTreeMap<usize, Answer>,
+    /// What was printed by the latest run.
+    printed: String,
     /// How many lines have been played.
     played: usize,
 }
 
 impl Run {
     pub fn new(setting: Option<Setting>) -> Run {
-        Run { setting, lines: Vec::new(), seats: BTreeMap::new(), answers: BTreeMap::new(), played: 0 }
+        Run {
+            setting,
+            lines: Vec::new(),
+            seats: BTreeMap::new(),
+            answers: BTreeMap::new(),
+            printed: String::new(),
+            played: 0,
+        }
     }
 
     /// The script, in which each line stands at its own number.
@@ -93,6 +102,14 @@ impl Run {
 
     pub fn answer(&self, line: usize) -> Option<&Answer> {
         self.answers.get(&line)
+    }
+
+    /// What was printed of each line, by its number.
+    pub fn printed(&self) -> impl Iterator<Item = (usize, &str)> {
+        self.printed.lines().filter_map(|line| {
+            let (number, text) = line.split_once(": ")?;
+            Some((number.parse().ok()?, text))
+        })
     }
 
     /// Adds a line. What it needs of those before has them played.
@@ -185,12 +202,8 @@ impl Run {
         if !matches!(done.status.code(), Some(0 | 2)) {
             bail!("the player {}: {}", setting.player, String::from_utf8_lossy(&done.stderr).trim_end());
         }
-        let printed = String::from_utf8_lossy(&done.stdout);
-        let answer = |line: &str| {
-            let (number, text) = line.split_once(": ")?;
-            Some((number.parse().ok()?, Answer::read(text)))
-        };
-        self.answers = printed.lines().filter_map(answer).collect();
+        self.printed = String::from_utf8_lossy(&done.stdout).into_owned();
+        self.answers = self.printed().map(|(number, text)| (number, Answer::read(text))).collect();
         self.played = self.lines.len();
         Ok(())
     }

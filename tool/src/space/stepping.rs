@@ -5,6 +5,7 @@ use super::todo::ItemKind;
 use super::*;
 use crate::codes::*;
 use crate::journal::{Answer, Entry, Step};
+use crate::judge::Given;
 use crate::record::Parcel;
 use crate::times::Moment;
 use crate::who::Person;
@@ -61,6 +62,8 @@ pub struct Facts {
     pub person: Option<Person>,
     /// For each of `about` how many nanoseconds after the call was made, where that is known.
     pub ages: Vec<Option<u64>>,
+    /// Where it was judged, and doesn't follow from the entries before it: what the rules give in its place.
+    pub given: Option<Box<Given>>,
 }
 
 impl Facts {

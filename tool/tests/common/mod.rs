@@ -73,7 +73,9 @@ impl Record {
         for number in [self.code, self.flags, self.pid, self.euid] {
             payload.extend(number.to_le_bytes());
         }
-        for number in [self.data, self.offsets, self.buffer, 0] {
+        // Of what is read the offsets stand behind the data, at a multiple of 8.
+        let behind = if self.buffer > 0 { self.buffer + (self.data + 7) / 8 * 8 } else { 0 };
+        for number in [self.data, self.offsets, self.buffer, behind] {
             payload.extend(number.to_le_bytes());
         }
         message(code, &payload)
@@ -297,11 +299,18 @@ pub fn kept(name: &str, bytes: &[u8]) -> Kept {
     Kept(path)
 }
 
+/// The program, with the library that HULLPIPPIN_LIBRARY names here, or none.
 pub fn program() -> Command {
     let mut command = Command::new(env!("CARGO_BIN_EXE_hullpippin"));
     command.env_remove("NO_COLOR").env_remove("PAGER").env_remove("HULLPIPPIN_PAGER").env("TZ", "UTC0");
     command
+        .env("HULLPIPPIN_LIBRARY", std::env::var("HULLPIPPIN_LIBRARY").unwrap_or_else(|_| "/no/such/library".into()));
+    command
 }
+
+/// What is said of an entry where there is no library.
+pub const NOT_JUDGED: &str = "    not judged: no library that judges, which HULLPIPPIN_LIBRARY may name: \
+    /no/such/library: cannot open shared object file: No such file or directory\n";
 
 pub fn run(words: &[&str]) -> Output {
     program().args(words).stdin(Stdio::null()).output().expect("the program")

@@ -2,13 +2,14 @@
 //! A daemon that has nothing but a ring of steps, which are spelled by hand as clients/ring.h lays them out.
 use super::{kept, Kept, EPOCH, STARTED};
 use nix::sys::socket::{
-    accept, bind, listen, recv, sendmsg, socket, AddressFamily, ControlMessage, MsgFlags, SockFlag, SockType, UnixAddr,
+    accept, bind, listen, recv, send, sendmsg, socket, AddressFamily, ControlMessage, MsgFlags, SockFlag, SockType,
+    UnixAddr,
 };
 use nix::unistd::close;
 use std::fs::{File, OpenOptions};
 use std::io::IoSlice;
 use std::os::unix::fs::FileExt;
-use std::os::unix::io::AsRawFd;
+use std::os::unix::io::{AsRawFd, RawFd};
 use std::path::PathBuf;
 use std::thread;
 
@@ -102,12 +103,60 @@ impl Ring {
     }
 }
 
-/// Answers every request for a ring at a socket with this one, or with an error.
-pub fn daemon(name: &str, ring: &Ring, error: i32) -> Kept {
+/// Listens at an address of this test's own.
+fn listening(name: &str) -> (PathBuf, RawFd) {
     let path = PathBuf::from(format!("/tmp/hullpippin-test-{}-{name}", std::process::id()));
     let _ = std::fs::remove_file(&path);
     let end = socket(AddressFamily::Unix, SockType::SeqPacket, SockFlag::SOCK_CLOEXEC, None).expect("a socket");
     bind(end, &UnixAddr::new(&path).expect("an address")).and_then(|()| listen(end, 4)).expect("the address");
+    (path, end)
+}
+
+/// A record of what goes on, as clients/protocol.h lays it out: its kind, numbers by their places behind that, a name.
+pub fn record(kind: u32, numbers: &[(usize, u32)], comm: &str) -> Vec<u8> {
+    let mut bytes = vec![0; 112];
+    for (index, number) in [(0, kind)].iter().chain(numbers) {
+        bytes[4 * index..4 * index + 4].copy_from_slice(&number.to_le_bytes());
+    }
+    bytes[96..96 + comm.len()].copy_from_slice(comm.as_bytes());
+    bytes
+}
+
+/// Tells what goes on, page by page, each of which says where the next begins; or an error in place of the last.
+pub fn telling(name: &str, pages: Vec<Vec<Vec<u8>>>, error: i32) -> Kept {
+    let (path, end) = listening(name);
+    let request =
+        |op: u32, numbers: [u64; 2]| [op.to_le_bytes().to_vec(), numbers.map(u64::to_le_bytes).concat()].concat();
+    thread::spawn(move || loop {
+        let peer = accept(end).expect("a connection");
+        let mut asked = [0; 256];
+        let opened = [0; 16];
+        recv(peer, &mut asked, MsgFlags::empty()).expect("a request");
+        assert_eq!((&asked[4..24], &asked[24..36]), (&request(1, [0, 0])[..], &b"/dev/binder\0"[..]));
+        send(peer, &opened, MsgFlags::MSG_NOSIGNAL).expect("an answer");
+        for (index, records) in pages.iter().enumerate() {
+            if recv(peer, &mut asked, MsgFlags::empty()).expect("a request") == 0 {
+                break;
+            }
+            let numbers = |index: u64| if index == 0 { [0, 0] } else { [1 << 33 | index, 7 * index] };
+            assert_eq!(&asked[4..24], &request(8, numbers(index as u64))[..]);
+            let is_last = index + 1 == pages.len();
+            let error = if is_last { error } else { 0 };
+            let next = if is_last { [0, 0] } else { numbers(index as u64 + 1) };
+            let mut page = [error.to_le_bytes(), (records.len() as u32).to_le_bytes()].concat();
+            page.extend([30u64, next[0], next[1]].map(u64::to_le_bytes).concat());
+            page.extend(records.concat());
+            page.resize(32 + 16 * 112, 0xff);
+            send(peer, &page, MsgFlags::MSG_NOSIGNAL).expect("an answer");
+        }
+        close(peer).expect("a connection");
+    });
+    Kept(path)
+}
+
+/// Answers every request for a ring at a socket with this one, or with an error.
+pub fn daemon(name: &str, ring: &Ring, error: i32) -> Kept {
+    let (path, end) = listening(name);
     let memory = File::open(&ring.file.0).expect("the ring");
     thread::spawn(move || loop {
         let peer = accept(end).expect("a connection");

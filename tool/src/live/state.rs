@@ -1,0 +1,362 @@
+// SPDX-License-Identifier: Apache-2.0 OR MIT
+//! What a daemon that runs tells of a device: its processes, their threads, handles and buffers (clients/protocol.h). It tells them page
+//! by page, each of a moment of its own.
+use super::daemon::each_page;
+use super::Where;
+use crate::arguments::Format;
+use crate::record::{u32_at, u64_at};
+use anyhow::Result;
+use serde::Serialize;
+use std::collections::BTreeMap;
+use std::io::{self, Write};
+
+/// The numbers of a record, in the header's order. The name of what it is stands behind them.
+#[derive(Clone, Copy, Debug)]
+enum Field {
+    Kind,
+    Process,
+    Pid,
+    Tid,
+    Seat,
+    Euid,
+    Flags,
+    Window,
+    Threads,
+    MaxThreads,
+    Requested,
+    Started,
+    Serving,
+    Calling,
+    Innermost,
+    Unread,
+    Handle,
+    ObjectPlace,
+    ObjectIndex,
+    Party,
+    Made,
+    Start,
+    Size,
+    Code,
+}
+
+const COMM: usize = 4 * (Field::Code as usize + 1);
+const RECORD_SIZE: usize = COMM + 16;
+const HEAD_SIZE: usize = 32;
+const MOST_RECORDS: usize = 16;
+const PAGE_SIZE: usize = HEAD_SIZE + MOST_RECORDS * RECORD_SIZE;
+
+const PROCESS: u32 = 1;
+const THREAD: u32 = 2;
+const HANDLE: u32 = 3;
+const BUFFER: u32 = 4;
+
+const MANAGER: u32 = 1;
+const DETECTS_SPAM: u32 = 2;
+const LOOPS: u32 = 4;
+const WAITS: u32 = 8;
+const ONE_WAY: u32 = 16;
+const HANDED: u32 = 32;
+const CALL: u32 = 64;
+
+/// So many things to be read are counted, and perhaps there are more.
+const MOST_UNREAD: u32 = 16;
+const NONE: u32 = u32::MAX;
+
+struct Record<'a>(&'a [u8]);
+
+impl Record<'_> {
+    fn number(&self, field: Field) -> u32 {
+        u32_at(self.0, 4 * field as usize)
+    }
+
+    fn has(&self, flag: u32) -> bool {
+        self.number(Field::Flags) & flag != 0
+    }
+
+    fn comm(&self) -> String {
+        let bytes: Vec<u8> = self.0[COMM..].iter().copied().take_while(|it| *it != 0).collect();
+        String::from_utf8_lossy(&bytes).into_owned()
+    }
+
+    fn object(&self) -> String {
+        format!("{}.{}", self.number(Field::ObjectPlace), self.number(Field::ObjectIndex))
+    }
+}
+
+#[derive(Serialize)]
+struct Thread {
+    seat: u32,
+    tid: u32,
+    comm: String,
+    looping: bool,
+    waiting: bool,
+    serves: u32,
+    calls: u32,
+    /// Where the innermost of these was made.
+    innermost: Option<u32>,
+    unread: u32,
+}
+
+#[derive(Serialize)]
+struct Handle {
+    handle: u32,
+    object: String,
+    owner: Option<Party>,
+}
+
+#[derive(Serialize)]
+struct Buffer {
+    start: u32,
+    size: u32,
+    made: u32,
+    code: u32,
+    target: Option<String>,
+    from: Option<Party>,
+    one_way: bool,
+    unread: bool,
+}
+
+/// A process that lives, by the system's pid.
+#[derive(Clone, Serialize)]
+struct Party {
+    pid: u32,
+    comm: String,
+}
+
+#[derive(Serialize)]
+struct Process {
+    pid: u32,
+    comm: String,
+    /// Its pid in the history.
+    process: u32,
+    euid: u32,
+    window: u32,
+    manager: bool,
+    spam_detection: bool,
+    /// Threads that have made an ioctl, and those that BR_SPAWN_LOOPER may ask for, has asked for, and has got.
+    thread_count: u32,
+    max_threads: u32,
+    requested: u32,
+    started: u32,
+    unread: u32,
+    threads: Vec<Thread>,
+    handles: Vec<Handle>,
+    buffers: Vec<Buffer>,
+}
+
+/// All that was told, by pids in the history.
+#[derive(Default)]
+struct Told {
+    steps: u64,
+    processes: BTreeMap<u32, Process>,
+}
+
+impl Told {
+    fn party(&self, process: u32) -> Option<Party> {
+        self.processes.get(&process).map(|it| Party { pid: it.pid, comm: it.comm.clone() })
+    }
+
+    /// Takes a record. What a process has comes behind all processes; that of one that has come since isn't told.
+    fn take(&mut self, record: &Record<'_>) {
+        let of = |field| record.number(field);
+        if of(Field::Kind) == PROCESS {
+            self.processes.insert(of(Field::Process), process(record));
+            return;
+        }
+        let party = self.party(of(Field::Party));
+        let process = match self.processes.get_mut(&of(Field::Process)) {
+            Some(process) => process,
+            None => return,
+        };
+        match of(Field::Kind) {
+            THREAD => process.threads.push(thread(record)),
+            HANDLE => process.handles.push(Handle { handle: of(Field::Handle), object: record.object(), owner: party }),
+            BUFFER => process.buffers.push(buffer(record, party)),
+            _ => {}
+        }
+    }
+
+    fn take_page(&mut self, page: &[u8]) -> [u64; 2] {
+        self.steps = u64_at(page, 8);
+        let count = (u32_at(page, 4) as usize).min(MOST_RECORDS);
+        page[HEAD_SIZE..].chunks_exact(RECORD_SIZE).take(count).for_each(|it| self.take(&Record(it)));
+        [16, 24].map(|at| u64_at(page, at))
+    }
+}
+
+fn process(record: &Record<'_>) -> Process {
+    let of = |field| record.number(field);
+    Process {
+        pid: of(Field::Pid),
+        comm: record.comm(),
+        process: of(Field::Process),
+        euid: of(Field::Euid),
+        window: of(Field::Window),
+        manager: record.has(MANAGER),
+        spam_detection: record.has(DETECTS_SPAM),
+        thread_count: of(Field::Threads),
+        max_threads: of(Field::MaxThreads),
+        requested: of(Field::Requested),
+        started: of(Field::Started),
+        unread: of(Field::Unread),
+        threads: Vec::new(),
+        handles: Vec::new(),
+        buffers: Vec::new(),
+    }
+}
+
+fn thread(record: &Record<'_>) -> Thread {
+    let of = |field| record.number(field);
+    Thread {
+        seat: of(Field::Seat),
+        tid: of(Field::Tid),
+        comm: record.comm(),
+        looping: record.has(LOOPS),
+        waiting: record.has(WAITS),
+        serves: of(Field::Serving),
+        calls: of(Field::Calling),
+        innermost: Some(of(Field::Innermost)).filter(|it| *it != NONE),
+        unread: of(Field::Unread),
+    }
+}
+
+fn buffer(record: &Record<'_>, from: Option<Party>) -> Buffer {
+    let of = |field| record.number(field);
+    Buffer {
+        start: of(Field::Start),
+        size: of(Field::Size),
+        made: of(Field::Made),
+        code: of(Field::Code),
+        target: Some(record.object()).filter(|_| record.has(CALL)),
+        from,
+        one_way: record.has(ONE_WAY),
+        unread: !record.has(HANDED),
+    }
+}
+
+/// What was said only where it is so.
+fn marks(all: &[(bool, &str)]) -> String {
+    all.iter().filter(|it| it.0).map(|it| it.1).collect()
+}
+
+fn unread_words(unread: u32) -> String {
+    match unread {
+        0 => String::new(),
+        MOST_UNREAD => format!(", {unread} or more to read"),
+        _ => format!(", {unread} to read"),
+    }
+}
+
+fn party_words(party: &Option<Party>) -> String {
+    party.as_ref().map_or("a process that has ended".into(), |it| format!("pid {} {:?}", it.pid, it.comm))
+}
+
+fn thread_words(it: &Thread) -> String {
+    let mut line = marks(&[(it.looping, ", in the loop"), (it.waiting, ", waits in a read")]);
+    for (count, what) in [(it.serves, "serves"), (it.calls, "waits in")] {
+        if count > 0 {
+            line += &format!(", {what} {count} call{}", if count > 1 { "s" } else { "" });
+        }
+    }
+    let innermost = it.innermost.map_or(String::new(), |it| format!(", the innermost made at {it}"));
+    format!("seat {} (tid {} {:?}){line}{innermost}{}", it.seat, it.tid, it.comm, unread_words(it.unread))
+}
+
+fn buffer_words(it: &Buffer) -> String {
+    let target = it.target.as_ref().map_or(String::new(), |it| format!(", for object {it}"));
+    let marks = marks(&[(it.one_way, ", one-way"), (it.unread, ", unread")]);
+    let Buffer { start, size, made, code, from, .. } = it;
+    format!("buffer at {start} made at {made} size {size} code {code:#x} from {}{target}{marks}", party_words(from))
+}
+
+fn put_process(to: &mut Vec<u8>, it: &Process) -> io::Result<()> {
+    let Process { pid, comm, process, euid, window, thread_count, max_threads, started, .. } = it;
+    let history = if process == pid { String::new() } else { format!(", in the history {process}") };
+    let marks = marks(&[(it.manager, ", context manager"), (it.spam_detection, ", asks for reports of flooding")]);
+    let threads = format!(", {thread_count} threads, {started} of them asked for, of at most {max_threads}");
+    writeln!(to, "pid {pid} {comm:?} euid {euid} window {window}{threads}{history}{marks}{}", unread_words(it.unread))?;
+    for it in &it.threads {
+        writeln!(to, "  {}", thread_words(it))?;
+    }
+    for it in &it.handles {
+        writeln!(to, "  handle {} object {} of {}", it.handle, it.object, party_words(&it.owner))?;
+    }
+    it.buffers.iter().try_for_each(|it| writeln!(to, "  {}", buffer_words(it)))
+}
+
+/// What goes on now, as lines or as JSON.
+pub fn put(to: &mut Vec<u8>, place: &Where, format: Format) -> Result<()> {
+    let mut told = Told::default();
+    each_page(place, PAGE_SIZE, |page| told.take_page(page))?;
+    if format == Format::Text {
+        writeln!(to, "after {} steps of {}", told.steps, place.device)?;
+        told.processes.values().try_for_each(|it| put_process(to, it))?;
+        return Ok(());
+    }
+    serde_json::to_writer(&mut *to, &serde_json::json!({ "steps": told.steps, "device": place.device }))?;
+    to.push(b'\n');
+    for it in told.processes.values() {
+        serde_json::to_writer(&mut *to, it)?;
+        to.push(b'\n');
+    }
+    Ok(())
+}
+
+#[cfg(test)]
+mod tests {
+    use super::*;
+
+    const PROTOCOL: &str = include_str!("../../../clients/protocol.h");
+
+    /// `MaxThreads` as `max_threads`.
+    fn spelled(field: Field) -> String {
+        let name = format!("{field:?}");
+        let letters = name.char_indices().map(|(at, it)| match it {
+            'A'..='Z' if at > 0 => format!("_{}", it.to_ascii_lowercase()),
+            _ => it.to_ascii_lowercase().to_string(),
+        });
+        letters.collect()
+    }
+
+    #[test]
+    fn a_record_is_as_the_header_has_it() {
+        let lines = PROTOCOL.split("struct state_record {").nth(1).and_then(|it| it.split("char comm[16];").next());
+        let numbers = lines.expect("a record").lines().filter_map(|it| it.trim().strip_prefix("uint32_t "));
+        let names = numbers.flat_map(|it| it.split(';').next().unwrap_or_default().split(", "));
+        use Field::*;
+        let ours = [
+            Kind,
+            Process,
+            Pid,
+            Tid,
+            Seat,
+            Euid,
+            Flags,
+            Window,
+            Threads,
+            MaxThreads,
+            Requested,
+            Started,
+            Serving,
+            Calling,
+            Innermost,
+            Unread,
+            Handle,
+            ObjectPlace,
+            ObjectIndex,
+            Party,
+            Made,
+            Start,
+            Size,
+            Code,
+        ];
+        assert_eq!(names.collect::<Vec<_>>(), ours.map(spelled));
+        assert!(PROTOCOL.contains("#define STATE_ROOM 16u") && PROTOCOL.contains("#define STATE_UNREAD 16u"));
+        assert!(PROTOCOL.contains("{ STATE_PROCESS = 1, STATE_THREAD, STATE_HANDLE, STATE_BUFFER };"));
+        let flags = [MANAGER, DETECTS_SPAM, LOOPS, WAITS, ONE_WAY, HANDED, CALL];
+        let names = ["MANAGER", "DETECTS_SPAM", "LOOPS", "WAITS", "ONE_WAY", "HANDED", "CALL"];
+        for (flag, name) in flags.iter().zip(names) {
+            assert!(PROTOCOL.contains(&format!("#define STATE_{name} {flag}u")), "{name}");
+        }
+    }
+}

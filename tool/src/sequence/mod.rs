@@ -1,0 +1,26 @@
+// SPDX-License-Identifier: Apache-2.0 OR MIT
+//! A range of a recording as a sequence diagram: for a terminal, for Mermaid, or as a picture. Each entry that leaves a mark has a row;
+//! a page of HTML, which is for long ranges, has its own drawing.
+mod labels;
+mod mermaid;
+mod model;
+mod plot;
+mod svg;
+mod text;
+mod tracks;
+
+use crate::arguments::Drawn;
+use crate::out::Out;
+use crate::play::{Player, Range};
+use anyhow::Result;
+
+/// Draws a range.
+pub fn put(player: &mut Player, range: Range, form: Drawn, out: &mut Out) -> Result<()> {
+    let diagram = plot::plotted(player, range)?;
+    match form {
+        Drawn::Text => text::put(out, &diagram)?,
+        Drawn::Mermaid => mermaid::put(out, &diagram)?,
+        Drawn::Svg | Drawn::Html => svg::put(out, &diagram)?,
+    }
+    Ok(())
+}
