@@ -331,14 +331,14 @@ fn check_screen(screen: &str) {
         rest("android.os.IServiceManager#3", 2),
         "1.2 ms 1.2 ms 0 Binder:1 -> manager android.os.IServiceManager#3"
     );
-    assert_eq!(rest("unread", 0), "made/s served/s failed waits unread process");
-    assert_eq!(rest("manager(9000100)", 2), "0 0 0 manager(9000100)");
+    assert_eq!(rest("unread", 0), "made/s served/s failed waits unread buffers window process");
+    assert_eq!(rest("manager(9000100)", 2), "0 0 0 - - manager(9000100)");
     // The client has a call that nobody has read, from before.
-    assert_eq!(rest("cl\\u{1b}ent(9000300)", 0), "0 0 0 1 0 cl\\u{1b}ent(9000300)");
+    assert_eq!(rest("cl\\u{1b}ent(9000300)", 0), "0 0 0 1 0 - - cl\\u{1b}ent(9000300)");
     let number = |word: &str| word.parse::<f64>().unwrap_or_else(|_| panic!("{word}: {screen}"));
     let made = rest("Binder:1(9000200)", 0);
     assert!(number(made.split(' ').next().expect("a rate")) > 0.0, "{screen}");
-    assert_eq!(made.split(' ').skip(1).collect::<Vec<_>>().join(" "), "0 0 0 1 Binder:1(9000200)");
+    assert_eq!(made.split(' ').skip(1).collect::<Vec<_>>().join(" "), "0 0 0 1 - - Binder:1(9000200)");
 }
 
 fn tmux(test: &str, words: &[&str]) -> String {

@@ -133,6 +133,11 @@ fn what_goes_on_is_told_of_a_real_daemon() {
     assert!(handles.len() == 1 && handles[0].ends_with(" \"hullpippin-hell\""), "{told}");
     let (json, _) = daemon.asked(&["state", "--daemon", "--format", "json"]);
     let values: Vec<serde_json::Value> = json.lines().map(|it| serde_json::from_str(it).expect("JSON")).collect();
+    let (screen, _) = daemon.asked(&["top", "--once", "--interval", "0.1"]);
+    // The service has never freed the reply to its registration: 8 bytes of 65536.
+    let process = screen.lines().find(|it| it.contains("hullpippin-hell(")).expect("a process");
+    let words: Vec<&str> = process.split_whitespace().collect();
+    assert_eq!(words[5..7], ["1", "0%"], "{screen}");
     let manager = values.iter().find(|it| it["manager"] == true).expect("a manager");
     assert_eq!(manager["handles"][0]["owner"]["comm"], "hullpippin-hell");
 }

@@ -22,7 +22,7 @@ const CONTROL_STATE: u32 = 8;
 const DEVICE_ROOM: usize = 64;
 const ANSWER_SIZE: usize = 16;
 
-/// The number in the line `#define PROTOCOL_VERSION 6u`.
+/// The number in the line `#define PROTOCOL_VERSION Nu`.
 fn protocol_version() -> u32 {
     let rest = PROTOCOL.split("#define PROTOCOL_VERSION ").nth(1).unwrap_or_default();
     rest.split(|it: char| !it.is_ascii_digit()).next().and_then(|it| it.parse().ok()).unwrap_or(0)

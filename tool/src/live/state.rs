@@ -284,10 +284,37 @@ fn put_process(to: &mut Vec<u8>, it: &Process) -> io::Result<()> {
     it.buffers.iter().try_for_each(|it| writeln!(to, "  {}", buffer_words(it)))
 }
 
-/// What goes on now, as lines or as JSON.
-pub fn put(to: &mut Vec<u8>, place: &Where, format: Format) -> Result<()> {
+fn asked(place: &Where) -> Result<Told> {
     let mut told = Told::default();
     each_page(place, PAGE_SIZE, |page| told.take_page(page))?;
+    Ok(told)
+}
+
+/// How full a process's window is.
+#[derive(Debug)]
+pub struct Window {
+    pub pid: u32,
+    pub comm: String,
+    pub size: u64,
+    pub buffers: u64,
+    /// The bytes of these.
+    pub taken: u64,
+}
+
+pub fn windows(place: &Where) -> Result<Vec<Window>> {
+    let window = |it: Process| Window {
+        pid: it.pid,
+        size: it.window.into(),
+        buffers: it.buffers.len() as u64,
+        taken: it.buffers.iter().map(|it| u64::from(it.size)).sum(),
+        comm: it.comm,
+    };
+    Ok(asked(place)?.processes.into_values().map(window).collect())
+}
+
+/// What goes on now, as lines or as JSON.
+pub fn put(to: &mut Vec<u8>, place: &Where, format: Format) -> Result<()> {
+    let told = asked(place)?;
     if format == Format::Text {
         writeln!(to, "after {} steps of {}", told.steps, place.device)?;
         told.processes.values().try_for_each(|it| put_process(to, it))?;

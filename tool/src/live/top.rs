@@ -3,6 +3,8 @@
 use super::calls::{short_code, Calls, End, Ended};
 use super::daemon::needed_ring;
 use super::ring::Ring;
+use super::slot::Party;
+use super::state::{windows, Window};
 use super::Where;
 use crate::out;
 use crate::times::duration_words;
@@ -65,6 +67,10 @@ struct Process {
     /// Now: calls on it that nobody has read, and those that it waits for.
     unread: u64,
     waits: u64,
+    /// Buffers in its window, their bytes, and that one's; 0 where the daemon doesn't tell.
+    buffers: u64,
+    taken: u64,
+    window: u64,
 }
 
 /// Who calls whom, what, and with which code.
@@ -78,6 +84,11 @@ struct Sums {
     calls: u64,
 }
 
+/// What a thread's process is called.
+fn process_of(thread: &Party, calls: &Calls) -> String {
+    calls.party(thread.process).unwrap_or(thread).comm.to_string()
+}
+
 impl Sums {
     fn add(&mut self, ended: &Ended, calls: &Calls) {
         let call = &ended.call;
@@ -86,12 +97,12 @@ impl Sums {
         let to = server.map_or("nobody".into(), |it| it.comm.to_string());
         let is_done = ended.end == End::Done;
         self.calls += 1;
-        let caller = self.processes.entry(from.clone()).or_default();
+        let caller = self.processes.entry(process_of(&call.from, calls)).or_default();
         caller.pids.insert(call.from.pid);
         caller.made += 1;
         caller.failed += u64::from(!is_done);
         if let (Some(server), true) = (server, call.taken.is_some()) {
-            let it = self.processes.entry(to.clone()).or_default();
+            let it = self.processes.entry(process_of(server, calls)).or_default();
             it.pids.insert(server.pid);
             it.served += 1;
         }
@@ -106,7 +117,7 @@ impl Sums {
     /// Adds what is open now.
     fn add_open(&mut self, calls: &Calls) {
         for call in calls.open() {
-            let caller = self.processes.entry(call.from.comm.to_string()).or_default();
+            let caller = self.processes.entry(process_of(&call.from, calls)).or_default();
             caller.pids.insert(call.from.pid);
             caller.waits += u64::from(!call.one_way);
             let server = call.to.and_then(|it| calls.party(it));
@@ -119,11 +130,29 @@ impl Sums {
     }
 }
 
+impl Sums {
+    /// Adds how full windows are: of all processes whose windows have anything, and of those that are seen anyway.
+    fn add_windows(&mut self, windows: Vec<Window>) {
+        for it in windows {
+            let seen = self.processes.iter().find(|(_, process)| process.pids.contains(&it.pid));
+            let name = seen.map_or(it.comm, |(name, _)| name.clone());
+            if it.buffers == 0 && !self.processes.contains_key(&name) {
+                continue;
+            }
+            let process = self.processes.entry(name).or_default();
+            process.pids.insert(it.pid);
+            process.buffers += it.buffers;
+            process.taken += it.taken;
+            process.window += it.size;
+        }
+    }
+}
+
 /// What is seen.
 struct Screen {
     head: String,
     pairs: Vec<[String; 7]>,
-    processes: Vec<[String; 6]>,
+    processes: Vec<[String; 8]>,
 }
 
 /// A column: which cell of a row it shows, under what, and how wide it is; numbers stand at its right.
@@ -152,19 +181,21 @@ const PAIR_COLUMNS: [Column; 7] = [
     words(5, "from -> to"),
     words(6, "what"),
 ];
-const PROCESS_COLUMNS: [Column; 6] = [
+const PROCESS_COLUMNS: [Column; 8] = [
     number(0, "made/s", 7),
     number(1, "served/s", 8),
     number(2, "failed", 6),
     number(3, "waits", 5),
     number(4, "unread", 6),
-    words(5, "process"),
+    number(5, "buffers", 7),
+    number(6, "window", 6),
+    words(7, "process"),
 ];
 /// What is left out first where a terminal is narrow, and how much room words have to have.
 const PAIR_EXTRAS: [usize; 3] = [1, 4, 3];
-const PROCESS_EXTRAS: [usize; 2] = [2, 3];
-const PAIR_WORDS: usize = 60;
-const PROCESS_WORDS: usize = 20;
+const PROCESS_EXTRAS: [usize; 3] = [5, 2, 3];
+const PAIR_WORDS: usize = 50;
+const PROCESS_WORDS: usize = 25;
 const ARROW: &str = " -> ";
 /// Between columns.
 const GAP: usize = 2;
@@ -191,6 +222,8 @@ fn process_words(comm: &str, pids: &BTreeSet<u32>) -> String {
 impl Screen {
     fn new(mut sums: Sums, calls: &Calls, ring: &Ring, place: &Where, seconds: f64) -> Result<Screen> {
         sums.add_open(calls);
+        // A daemon that tells no windows has the rest told all the same.
+        sums.add_windows(windows(place).unwrap_or_default());
         let (processes, threads) = ring.population()?;
         let (steps, all) = (rate(sums.steps, seconds), rate(sums.calls, seconds));
         let device = &place.device;
@@ -233,13 +266,23 @@ fn pair_row((from, to, what, code): &Key, it: &Pair, seconds: f64) -> [String; 7
     ]
 }
 
-fn process_row(comm: &str, it: &Process, seconds: f64) -> [String; 6] {
+/// How much of a window is taken, of a hundred.
+fn part(taken: u64, window: u64) -> String {
+    match window {
+        0 => "-".into(),
+        _ => format!("{:.0}%", taken as f64 * 100.0 / window as f64),
+    }
+}
+
+fn process_row(comm: &str, it: &Process, seconds: f64) -> [String; 8] {
     [
         rate(it.made, seconds),
         rate(it.served, seconds),
         it.failed.to_string(),
         it.waits.to_string(),
         it.unread.to_string(),
+        if it.window > 0 { it.buffers.to_string() } else { "-".into() },
+        part(it.taken, it.window),
         process_words(comm, &it.pids),
     ]
 }
@@ -420,7 +463,7 @@ mod tests {
             "camera-\u{6444}\u{5f71} -> system_server",
             "android.hardware.ICamera#4",
         ];
-        let process = ["23", "0", "0", "1", "0", "\u{6444}\u{5f71}(4711)"];
+        let process = ["23", "0", "0", "1", "0", "2", "12%", "\u{6444}\u{5f71}(4711)"];
         let screen = Screen {
             head: "/dev/binder: 324 steps/s, 23 calls/s, 2 processes, 2 threads".into(),
             pairs: vec![pair.map(String::from)],
@@ -437,8 +480,8 @@ mod tests {
 calls/s    bytes/s      mean      most  failed  from -> to                    what
     7.8        607  733.5 us    4.0 ms       0  camera-\u{6444}\u{5f71} -> system_server  android.hardware.ICamera#4
 
- made/s  served/s  failed  waits  unread  process
-     23         0       0      1       0  \u{6444}\u{5f71}(4711)
+ made/s  served/s  failed  waits  unread  buffers  window  process
+     23         0       0      1       0        2     12%  \u{6444}\u{5f71}(4711)
 ";
         assert_eq!(screen(WIDE), wanted);
     }
@@ -451,10 +494,30 @@ calls/s    bytes/s      mean      most  failed  from -> to                    wh
 calls/s      mean  from -> to           what
     7.8  733.5 us  camer.. -> system..  android.hardware.I..
 
- made/s  served/s  waits  unread  process
-     23         0      1       0  \u{6444}\u{5f71}(4711)
+ made/s  served/s  unread  window  process
+     23         0       0     12%  \u{6444}\u{5f71}(4711)
 ";
         assert_eq!(screen(60), wanted);
+    }
+
+    #[test]
+    fn windows_are_of_who_has_buffers_and_of_who_is_seen() {
+        let mut sums = Sums::default();
+        sums.processes.entry("seen".into()).or_default();
+        sums.processes.entry("a thread's name".into()).or_default().pids.insert(8);
+        let other = Window { pid: 8, comm: "main".into(), size: 4096, buffers: 1, taken: 4096 };
+        let window = |comm: &str, buffers| Window {
+            pid: comm.as_bytes()[0].into(),
+            comm: comm.into(),
+            size: 4096,
+            buffers,
+            taken: 512 * buffers,
+        };
+        sums.add_windows(vec![window("idle", 0), window("seen", 0), window("full", 8), window("full", 4), other]);
+        let row = |comm: &str| process_row(comm, &sums.processes[comm], 1.0)[5..7].join(" ");
+        assert_eq!((sums.processes.len(), row("seen"), row("full")), (3, "0 0%".into(), "12 75%".into()));
+        assert_eq!(row("a thread's name"), "1 100%");
+        assert_eq!(part(1, 0), "-");
     }
 
     #[test]

@@ -162,6 +162,11 @@ pub fn daemon(name: &str, ring: &Ring, error: i32) -> Kept {
         let peer = accept(end).expect("a connection");
         let mut request = [0; 256];
         let size = recv(peer, &mut request, MsgFlags::empty()).expect("a request");
+        // It tells nothing but its steps.
+        if request[4] == 1 {
+            close(peer).expect("a connection");
+            continue;
+        }
         assert_eq!((size, &request[4..8], &request[24..36]), (88, &7u32.to_le_bytes()[..], &b"/dev/binder\0"[..]));
         let answer = [&error.to_le_bytes()[..], &1u32.to_le_bytes(), &4096u64.to_le_bytes()].concat();
         let fds = [memory.as_raw_fd()];
