@@ -5,3 +5,5 @@ pub mod Kept
 pub mod Lines
 pub mod Says
 pub mod Streams
+pub mod Begun
+pub mod Unread

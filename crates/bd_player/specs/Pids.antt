@@ -1,5 +1,5 @@
 -- The pids of processes that are known by the places where they were opened, and of the owners of objects.
-use Rattle.std.specs.Prelude.{ℕ, List, Option, Some, None, option_and_then}
+use Rattle.std.specs.Prelude.{ℕ, ◌+◌, List, Option, Some, None, option_and_then}
 use Rattle.std.specs.Option.{option_or}
 use Rattle.std.specs.List.{slice_get}
 use Rattle.bd_space.specs.declared.step.Entry.{Entry}
@@ -35,6 +35,10 @@ receiver_of s es made = option_and_then (λ b. pid_at es b.receiver) (buffer_in 
 -- the pid of the process that makes the step at this place
 abbrev pub maker_of : History → ℕ → Option ℕ
 maker_of h place = option_and_then (λ e. pid_of (space_after (beginning place h)) h.entries e.seat) (slice_get h.entries place)
+
+-- the pid of the process that the step at this place sends something to, in a buffer that it makes
+abbrev pub taker_of : History → ℕ → Option ℕ
+taker_of h place = receiver_of (space_after (beginning (place + 1) h)) h.entries place
 
 -- the pid of the process that makes a step: that of its seat's thread before it, or else after it
 abbrev pub pid_in : History → List Entry → Entry → Option ℕ

@@ -5,6 +5,8 @@ use Rattle.bd_space.specs.declared.record.Record.{Record}
 use Rattle.bd_space.specs.Histories.{IsHistory, history_in}
 use Rattle.bd_journal.specs.Spelling.{Tells}
 use Rattle.bd_audit.specs.Replays.{StopsAt}
+use Rattle.bd_player.specs.declared.faults.Fault.{Fault}
+use Rattle.bd_player.specs.declared.faults.Fault.TheVariants.{Journal}
 use Rattle.bd_player.specs.declared.verdicts.Verdict.{Verdict}
 use Rattle.bd_player.specs.declared.verdicts.Verdict.TheVariants.{Lawful, Unlawful}
 use Rattle.bd_player.specs.declared.verdicts.Judged.{Judged}
@@ -27,6 +29,14 @@ Judges bytes j = (r : Record) × Tells bytes r × IsJudged r j
 -- so it is of the record that the bytes spell, where they are known
 abbrev pub JudgesKnown : Option (List ℕ) → Judged → Type 0
 JudgesKnown known j = IfSome known (λ bytes. Judges bytes j)
+
+-- no record is spelled by the bytes, where they are known
+abbrev pub IsNoJournal : Option (List ℕ) → Type 0
+IsNoJournal known = IfSome known (λ bytes. (r : Record) → Tells bytes r → ⊥)
+
+-- where the fault is that they are no journal, that is so
+abbrev pub SaysNoJournal : Option (List ℕ) → Fault → Type 0
+SaysNoJournal known f = f ≡ Journal → IsNoJournal known
 
 -- the verdict holds of the record that the bytes spell
 abbrev pub IsVerdict : List ℕ → Verdict → Type 0

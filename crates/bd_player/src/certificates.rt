@@ -1,12 +1,12 @@
 //! Certificates of a history: how a process came to a name, which call a reply answers, the turns of an object.
 
-ghost use Rattle.std.specs.Prelude.{◌≡◌, ◌≤◌, All, IfOk, IfSome, is_some};
+ghost use Rattle.std.specs.{Prelude.{◌≡◌, ◌≤◌, Some, length, IfOk, IfSome, MatchOption, is_some}, List.{slice_get}};
 ghost use Rattle.bd_engine.specs.Refusals.{IsLiveSeats};
 ghost use Rattle.bd_space.specs.Histories.{IsHistory, space_after, history_in};
 ghost use Rattle.bd_engine.specs.Looks as looks;
 ghost use Rattle.bd_audit.specs.{CallOf.{IsAnswerOf}, Gifts.{IsChainOf}, Replays.{with_entry}, Replies.{call_answered}};
 ghost use Rattle.bd_audit.specs.TurnCalls.{AreTurns};
-ghost use Rattle.bd_player.specs.{Certified.{IsMadeBy, named_by, turn_told}, Pids.{maker_of}};
+ghost use Rattle.bd_player.specs.Certified.{AreChainOf, AreGiftsAt, IsMadeBy, Rise, named_by, turn_told};
 
 use crate::entries::entry_at;
 use crate::pids::{owner_of, pid_of, receiver_of};
@@ -113,20 +113,29 @@ fn gift_made(
     engine: &mut WideEngine,
     entries: &[Entry],
     entry: &Entry,
-    asked: Option<&u32>,
+    asked: Option<u32>,
 ) -> Result<Option<Gift>, Untold>
     requires { IsHistory (with_entry engine.old entry.now) }
     ensures engine { IfOk result (λ _. engine.new ≡ with_entry engine.old entry.now) }
+    ensures asked { IfOk result (λ g. MatchOption g (asked ≡ Some (length engine.old.entries) → ⊥)
+        (λ _. asked ≡ Some (length engine.old.entries))) }
     ensures gift { IfOk result (λ g. IfSome g (IsMadeBy engine.old entries.now entry.now)) }
 {
     let place = engine.len();
     let pid = pid_of(engine, entries, entry.seat);
     advance(engine, entry)?;
-    if asked != Some(&place) {
+    if asked != Some(place) {
         return Ok(None);
     }
     let to = receiver_of(engine, entries, place);
     Ok(Some(Gift { place, pid, to }))
+}
+
+// The place of an index, if there is one.
+fn place_at(places: &[u32], index: usize) -> Option<u32>
+    ensures { result ≡ slice_get places.now index }
+{
+    places.get(index).copied()
 }
 
 // The gifts at these places, which rise, and the engine after the last entry.
@@ -138,13 +147,14 @@ fn gifts_at(
     requires seats { IsLiveSeats «record».now.seats }
     requires lawful { IsHistory (history_in «record».now) }
     ensures engine { IfOk result (λ made. made.0 ≡ history_in «record».now) }
-    ensures gifts { IfOk result (λ made. All (λ g. g.pid ≡ maker_of (history_in «record».now) g.place) made.1.items) }
+    ensures gifts { IfOk result (λ made. Rise 0 «record».now.entries places.now
+        → AreGiftsAt (history_in «record».now) places.now made.1.items) }
 {
     let entries = record.entries.as_slice();
     let mut engine = WideEngine::new(alloc, record.seats)?;
     let mut gifts = Vec::new(alloc);
     for entry in entries {
-        let asked = places.get(gifts.len());
+        let asked = place_at(places, gifts.len());
         if let Some(gift) = gift_made(&mut engine, entries, entry, asked)? {
             if gifts.push(gift).is_err() {
                 return Err(Untold::Memory);
@@ -152,6 +162,25 @@ fn gifts_at(
         }
     }
     Ok((engine, gifts))
+}
+
+// The gifts of the chain of what the number names, and the engine after the last entry; None where there is no such name.
+fn gifts_of(
+    alloc: Global,
+    record: &Record,
+    pid: u32,
+    number: u32,
+) -> Result<Option<(WideEngine, Vec<Gift>)>, Untold>
+    requires seats { IsLiveSeats «record».now.seats }
+    requires lawful { IsHistory (history_in «record».now) }
+    ensures engine { IfOk result (λ c. IfSome c (λ made. made.0 ≡ history_in «record».now)) }
+    ensures gifts { IfOk result (λ c. IfSome c (λ made. AreChainOf (history_in «record».now) pid number made.1.items)) }
+    ensures none { IfOk result (λ c. is_some c ≡ is_some (looks.named_by (space_after (history_in «record».now)) pid number)) }
+{
+    match chain_of(alloc, record, pid, number)? {
+        Some(places) => Ok(Some(gifts_at(alloc, record, places.as_slice())?)),
+        None => Ok(None),
+    }
 }
 
 // Prints gifts in their order, each on a line.
@@ -175,11 +204,10 @@ pub(crate) fn tell_chain<W: Write>(
     requires lawful { IsHistory (history_in «record».now) }
     ensures { IfOk result (λ b. b ≡ is_some (looks.named_by (space_after (history_in «record».now)) pid number)) }
 {
-    let Some(places) = chain_of(alloc, record, pid, number)? else {
+    let Some((engine, gifts)) = gifts_of(alloc, record, pid, number)? else {
         writeln!(out, "no such name")?;
         return Ok(false);
     };
-    let (engine, gifts) = gifts_at(alloc, record, places.as_slice())?;
     if let Some(named) = Named::by(&engine, record.entries.as_slice(), pid, number) {
         writeln!(out, "{named}")?;
     }

@@ -1,9 +1,9 @@
 //! An entry of a history, as it is printed.
 
-ghost use Rattle.std.specs.Prelude.{◌≤◌, IfOk};
+ghost use Rattle.std.specs.Prelude.{◌≡◌, ◌≤◌, length, IfOk, IfErr};
 ghost use Rattle.bd_engine.specs.Refusals.{IsLiveSeats};
 ghost use Rattle.bd_space.specs.Histories.{IsHistory, history_in};
-ghost use Rattle.bd_player.specs.Entries.{IsEntryAt};
+ghost use Rattle.bd_player.specs.{Entries.{IsEntryAt}, declared.untold.Untold.TheVariants.{OutOfRange}};
 
 use crate::answers::AnswerText;
 use crate::pids::step_made;
@@ -39,13 +39,18 @@ impl fmt::Display for Made<'_> {
 pub(crate) fn entry_at(alloc: Global, record: &Record, place: u32) -> Result<Made<'_>, Untold>
     requires seats { IsLiveSeats «record».now.seats }
     requires lawful { IsHistory (history_in «record».now) }
-    ensures { IfOk result (IsEntryAt (history_in «record».now) place) }
+    ensures entry { IfOk result (IsEntryAt (history_in «record».now) place) }
+    ensures range { IfErr result (λ u. u ≡ OutOfRange → length «record».now.entries ≤ place) }
 {
     let entries = record.entries.as_slice();
     let Some(entry) = entries.get(place as usize) else {
         return Err(Untold::OutOfRange);
     };
-    let mut engine = played_to(alloc, record, place as usize)?;
-    let pid = step_made(&mut engine, entries, entry)?;
-    Ok(Made { place, entry, pid })
+    let Ok(mut engine) = played_to(alloc, record, place as usize) else {
+        return Err(Untold::Memory);
+    };
+    match step_made(&mut engine, entries, entry) {
+        Ok(pid) => Ok(Made { place, entry, pid }),
+        Err(_) => Err(Untold::Memory),
+    }
 }

@@ -1,7 +1,7 @@
 //! What the program ends with.
 
-ghost use Rattle.std.specs.Prelude.{◌≡◌, ◌≤◌, MatchResult, max};
-ghost use Rattle.bd_player.specs.Workers.{fault_status};
+ghost use Rattle.std.specs.Prelude.{◌≡◌, ◌≤◌, ◌⊎◌, MatchResult, max};
+ghost use Rattle.bd_player.specs.{Workers.{fault_status}, declared.faults.Fault.TheVariants.{Memory}};
 
 use bd_script::Reason;
 use std::io;
@@ -62,7 +62,9 @@ impl Fault {
     }
 
     /// This fault, or want of memory, if that is what the error says.
-    pub fn or_memory(self, error: &io::Error) -> Fault {
+    pub fn or_memory(self, error: &io::Error) -> Fault
+        ensures { (result ≡ self) ⊎ (result ≡ Memory) }
+    {
         match error.kind() {
             ErrorKind::OutOfMemory => Fault::Memory,
             _ => self,

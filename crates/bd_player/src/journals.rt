@@ -1,9 +1,10 @@
 //! Writing and judging journals.
 
-ghost use Rattle.std.specs.Prelude.{◌≡◌, ◌≤◌, IfOk, IfSome};
-ghost use Rattle.bd_player.specs.{Journals.{Wrote}, Verdicts.{IsAsSaid, IsKnownVerdict, IsLawfulAt0, JudgesKnown}};
+ghost use Rattle.std.specs.Prelude.{◌≡◌, ◌≤◌, IfOk, IfErr, IfSome};
+ghost use Rattle.bd_player.specs.{Journals.{Wrote}, Verdicts.{IsAsSaid, IsKnownVerdict, IsLawfulAt0, JudgesKnown, SaysNoJournal}};
 
 use crate::faults::{DONE, FAULT, Fault, after_writing, tell};
+use crate::fronts::read_front;
 use crate::judging::verdict_watched;
 use crate::playing::read_on;
 use crate::verdicts::{Judged, Verdict, judgment_on};
@@ -11,7 +12,7 @@ use bd_audit::{Unwatched, Watch};
 use bd_journal::behind_magic;
 use bd_space::Record;
 use std::alloc::Global;
-use std::io::{ErrorKind, Read, Write};
+use std::io::{Read, Write};
 
 /// Writes the record's journal and flushes it; whether every byte went out. Where not, a beginning may be written. It
 /// takes no memory.
@@ -45,20 +46,22 @@ pub fn print_unlawful<W: Write>(at: u32, out: &mut W) -> u8
 }
 
 // What the reader has, if it begins as each journal does. Of what doesn't, no more than these first bytes is read.
+#[tactic(auto, using(crate::proofs::Unread::no_journal, crate::proofs::Unread::front_on))]
 pub fn journal_from<R: Read>(alloc: Global, journal: &mut R) -> Result<Vec<u8>, Fault>
-    ensures { IfOk result (λ v. IfSome (R.remaining journal.old) (λ bytes. v.items ≡ bytes)) }
+    ensures bytes { IfOk result (λ v. IfSome (R.remaining journal.old) (λ bytes. v.items ≡ bytes)) }
+    // What is called no journal is none.
+    ensures journal { IfErr result (SaysNoJournal (R.remaining journal.old)) }
 {
     let mut first = [0; 8];
-    if let Err(error) = journal.read_exact(&mut first) {
-        return Err(match error.kind() {
-            ErrorKind::UnexpectedEof => Fault::Journal,
-            _ => Fault::from(error),
-        });
-    }
-    if behind_magic(&first).is_none() {
+    let have = match read_front(journal, &mut first) {
+        Ok(have) => have,
+        Err(error) => return Err(Fault::File.or_memory(&error)),
+    };
+    let front = &first[..have];
+    if behind_magic(front).is_none() {
         return Err(Fault::Journal);
     }
-    read_on(alloc, &first, journal)
+    read_on(alloc, front, journal)
 }
 
 /// The record of a journal, and whether its entries are a history, or else which is the first that doesn't follow from

@@ -8,6 +8,7 @@ mod certificates;
 mod cuts;
 mod entries;
 mod faults;
+mod fronts;
 mod journals;
 mod judging;
 mod manner;

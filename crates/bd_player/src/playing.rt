@@ -1,10 +1,11 @@
 //! Playing a script line by line.
 
-ghost use Rattle.std.specs.Prelude.{◌≡◌, ◌≤◌, ◌++◌, false, All, IfOk, IfSome, MatchResult, None, Some};
+ghost use Rattle.std.specs.Prelude.{◌≡◌, ◌≤◌, ◌++◌, false, All, IfOk, IfErr, IfSome, MatchResult, None, Some};
 ghost use Rattle.bd_uapi.specs.Limits.{IsSeats};
 ghost use Rattle.bd_space.specs.Histories.{IsHistory, history_in};
 ghost use Rattle.bd_driver.specs.Together.{new_seats};
 ghost use Rattle.bd_player.specs.{Playing.{Plays, RunsOn}, Workers.{fault_status}};
+ghost use Rattle.bd_player.specs.declared.faults.Fault.TheVariants.{Journal};
 
 use crate::faults::{DONE, Fault, tell};
 use crate::printing::Printer;
@@ -54,13 +55,16 @@ impl Played {
 
 // These bytes, and behind them all that a reader has.
 pub fn read_on<R: Read>(alloc: Global, first: &[u8], reader: &mut R) -> Result<Vec<u8>, Fault>
-    ensures { IfOk result (λ v. IfSome (R.remaining reader.old) (λ bytes. v.items ≡ first.now ++ bytes)) }
+    ensures bytes { IfOk result (λ v. IfSome (R.remaining reader.old) (λ bytes. v.items ≡ first.now ++ bytes)) }
+    ensures fault { IfErr result (λ f. f ≡ Journal → ⊥) }
 {
     let Ok(mut bytes) = Vec::from_slice(alloc, first) else {
         return Err(Fault::Memory);
     };
-    reader.read_to_end(&mut bytes)?;
-    Ok(bytes)
+    match reader.read_to_end(&mut bytes) {
+        Ok(_) => Ok(bytes),
+        Err(error) => Err(Fault::File.or_memory(&error)),
+    }
 }
 
 /// The script that a reader has.

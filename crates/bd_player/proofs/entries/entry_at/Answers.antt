@@ -6,5 +6,5 @@ use Rattle.bd_player.proofs.entries.entry_at.Goals as goal
 pub step_made-requires : goal.step_made-requires
 step_made-requires c =
     let there = c.in-Some.ensures.lookup in
-    next-lawful (history_in c.args.record.now) c.in_ok-engine.engine c.args.place c.in-Some.entry.now c.as_slice-entries.result.now
+    next-lawful (history_in c.args.record.now) c.in-Ok.engine c.args.place c.in-Some.entry.now c.as_slice-entries.result.now
     c.requires.lawful (search (rules, arith)) c.as_slice-entries.ensures there.3.0 there.1
