@@ -147,10 +147,11 @@ static bool keep(struct records *records, const struct state_page *page)
     return true;
 }
 
-/* Whether it is one that a daemon tells: each begins behind the one before it. */
-static bool is_page(const struct state_page *page, uint64_t from)
+/* Whether it is one that a daemon tells: each begins behind the one before it, which the request asked for. */
+static bool is_page(const struct state_page *page, const struct control_request *request)
 {
-    return page->count <= STATE_ROOM && (!page->next || page->next > from);
+    bool is_behind = page->next > request->size || (page->next == request->size && page->within > request->base);
+    return page->count <= STATE_ROOM && (!page->next || is_behind);
 }
 
 /* Fetches page after page. Why they can't be had, or NULL. */
@@ -161,7 +162,7 @@ static const char *fetch_all(int fd, const char *device, struct records *records
     const char *why = NULL;
     while (!why && page.next) {
         why = why_not(ask(fd, &request, device, &page, sizeof page, NULL), &page.error);
-        if (!why && !is_page(&page, request.size))
+        if (!why && !is_page(&page, &request))
             why = no_daemon;
         if (!why && !keep(records, &page))
             why = strerror(ENOMEM);
