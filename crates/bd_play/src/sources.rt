@@ -16,6 +16,8 @@ pub const INPUT: &str = "-";
 
 /// What is counted of a journal.
 pub const ENTRIES: &str = "entries";
+
+/// What is counted of one that was cut off.
 pub const BYTES: &str = "bytes";
 
 /// A reader of what is in the file of this name, or of standard input.
