@@ -35,6 +35,7 @@
  *    threads: a start, a join, a mutex. Different handles may be used at the same time by different threads, those of
  *    one driver too, which is what they are for.
  *  - No two pointers of one call lead to memory that overlaps, where one of them is written through.
+ *  - A program has one copy of this library: a seat of another copy's driver may be taken for one of this one's.
  *  - No call is made in a signal handler, or in the forked child of a process with threads. malloc aligns to 16.
  *
  * Bytes that are given to a call stay the caller's, and may go once the call is back: the library copies them. Bytes

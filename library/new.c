@@ -1,6 +1,6 @@
 /* SPDX-License-Identifier: Apache-2.0 OR MIT */
 /* The one function of the library that isn't in Rattle, where nothing can count what a whole program makes. Each driver gets a number
-   here that no other one has, its key, by which it knows its own seats. */
+   here that no other one of this copy of the library has, its key, by which it knows its own seats. */
 #include "hullpippin.h"
 
 #include <stdatomic.h>

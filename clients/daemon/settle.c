@@ -233,7 +233,7 @@ static void look_at_some(struct engine *engine, const struct thread *acting)
         else
             break;
         look_at_reached(engine, acting);
-        if (has_changed && turns_is_over(&engine->loop.turns))
+        if ((has_changed || are_reached(engine)) && turns_is_over(&engine->loop.turns))
             return;
     }
     if (list_is_empty(&engine->looked_at))

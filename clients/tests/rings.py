@@ -309,7 +309,7 @@ def state(build):
 
 
 # what a daemon answers (../protocol.h), and a page of `--state` with so many records
-ANSWER, PAGE, RECORDS, RECORD_SIZE = struct.Struct("=iIQ"), struct.Struct("=iIQQ"), 16, 80
+ANSWER, PAGE, RECORDS, RECORD_SIZE = struct.Struct("=iIQ"), struct.Struct("=iIQQQ"), 16, 112
 LATEST = 4096 + 8192 * SLOT.size
 NO_DAEMON = "no daemon of this build answers"
 
@@ -323,8 +323,8 @@ def memory_of(heading, size, seals=fcntl.F_SEAL_SHRINK):
     return memory
 
 
-def page_of(count, after):
-    return PAGE.pack(0, count, 0, after) + bytes(RECORDS * RECORD_SIZE)
+def page_of(count, after, within=0):
+    return PAGE.pack(0, count, 0, after, within) + bytes(RECORDS * RECORD_SIZE)
 
 
 def answer_all(listener, answers, memory):
@@ -367,9 +367,12 @@ def ring_lies(build):
         told = [told_by(build, folder, ["--stats", DEVICE], ring, memory_of(*lie)) for lie in lies]
         good = told_by(build, folder, ["--stats", DEVICE], ring, memory_of(heading(), LATEST))
         opened, last = ANSWER.pack(0, 0, 0), page_of(0, 0)
+        pages = [opened, page_of(0, 7), page_of(0, 7, 1), page_of(0, 8), last]
+        good_pages = told_by(build, folder, ["--state", DEVICE], pages)
         told += [told_by(build, folder, ["--state", DEVICE], [opened, page, last]) for page in (page_of(RECORDS + 1, 0), page_of(RECORDS + 1, 1))]
-        told.append(told_by(build, folder, ["--state", DEVICE], [opened, page_of(0, 7), page_of(0, 7), last]))
-    expect(good[0] == 0, f"what a daemon tells is refused: {good}")
+        for stays in (page_of(0, 7), page_of(0, 6, 9)):
+            told.append(told_by(build, folder, ["--state", DEVICE], [opened, page_of(0, 7), stays, last]))
+    expect(good[0] == 0 and good_pages[0] == 0, f"what a daemon tells is refused: {good}, {good_pages}")
     expect(all(status == 1 and NO_DAEMON in why for status, why in told), f"{told}")
     for words in (["--stats", DEVICE, "--state", DEVICE], ["--look", "--stats", DEVICE], ["--look", "--state", DEVICE]):
         done = subprocess.run([build.daemon, *words], env={**os.environ, **build.environment}, capture_output=True, text=True, timeout=20)

@@ -92,7 +92,7 @@ fn asked(end: &File, request: &[u8], answer: &mut [u8]) -> Result<(Option<Errno>
         let got = recvmsg::<()>(end.as_raw_fd(), &mut parts, Some(&mut room), flags).context("the daemon")?;
         let rights = |it| if let ControlMessageOwned::ScmRights(fds) = it { Some(fds) } else { None };
         let files: Vec<File> = got.cmsgs().filter_map(rights).flatten().map(owned).collect();
-        (got.bytes, files)
+        (if got.flags.contains(MsgFlags::MSG_TRUNC) { wanted + 1 } else { got.bytes }, files)
     };
     ensure!(size == wanted, "the daemon hung up: it may be of another version than {}", protocol_version());
     let error = u32_at(answer, 0) as i32;
@@ -129,10 +129,13 @@ pub fn each_page(place: &Where, size: usize, mut call: impl FnMut(&[u8]) -> [u64
         if let (Some(error), _) = asked(&end, &request(CONTROL_STATE, next, device)?, &mut page)? {
             return Err(refusal(Some(error), device));
         }
+        let before = next;
         next = call(&page);
         if next[0] == 0 {
             return Ok(());
         }
+        // What listens there may be no daemon, and would be asked for ever.
+        ensure!(next > before, "{device}: what the daemon tells of it doesn't go on");
     }
 }
 
