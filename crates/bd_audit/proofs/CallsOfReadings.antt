@@ -3,7 +3,7 @@ use Rattle.bd_laws.proofs.words.Logic.{◌≡◌, ℕ, ◌<◌, ◌≤◌, ◌-�
 use Rattle.std.specs.Prelude.{IfOk}
 use Rattle.bd_laws.proofs.words.Types.{Fault, NoMemory, Entry, Frame, Work}
 use Rattle.bd_laws.proofs.words.Space.{Space, opening, calls, counted, is_frame, list_to_read, History, after, next, space_after}
-use Rattle.bd_links.specs.TodoList.{reply_of, first_reply_in}
+use Rattle.bd_todo.specs.TodoList.{reply_of, first_reply_in}
 use Rattle.bd_laws.specs.Lists.{In}
 use Rattle.bd_laws.proofs.Lists.{any-in, any-found, in-all}
 use Rattle.bd_laws.proofs.Tests.{and-both, both, some-eq, eq-some, if-bound}

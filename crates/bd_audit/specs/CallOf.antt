@@ -6,7 +6,7 @@ use Rattle.bd_space.specs.declared.step.Step.TheVariants.{Command}
 use Rattle.bd_space.specs.declared.step.StepAnswer.TheVariants.{Accepted}
 use Rattle.bd_space.specs.Steps.{step}
 use Rattle.bd_space.specs.Histories.{History}
-use Rattle.bd_links.specs.TodoList.{reply_of}
+use Rattle.bd_todo.specs.TodoList.{reply_of}
 use Rattle.bd_audit.specs.Replies.{thread_made, items_taken, Calls, At}
 use Rattle.bd_audit.specs.Latest.{Closes}
 

@@ -4,7 +4,7 @@ use Rattle.bd_ways.specs.Words.{list_any, list_all, Entry, Work, WorkKind, Space
 use Rattle.bd_space.specs.declared.space.WorkKind.TheVariants as work
 use Rattle.bd_space.specs.Frames.{calls, is_frame}
 use Rattle.bd_space.specs.Histories.{History, IsHistory, next}
-use Rattle.bd_links.specs.TodoList.{reply_of}
+use Rattle.bd_todo.specs.TodoList.{reply_of}
 use Rattle.bd_audit.specs.Replies.{thread_made, items_taken, reply_taken_at, call_answered, Calls, At}
 
 -- of the open calls of the thread made at m, the one made at c is the latest

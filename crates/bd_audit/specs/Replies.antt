@@ -13,7 +13,7 @@ use Rattle.bd_space.specs.Transactions.{is_one_way}
 use Rattle.bd_space.specs.Steps.{step}
 use Rattle.bd_space.specs.ReadItems.{taken, read_fault}
 use Rattle.bd_space.specs.Histories.{History, IsHistory, after, next}
-use Rattle.bd_links.specs.TodoList.{first_reply_in}
+use Rattle.bd_todo.specs.TodoList.{first_reply_in}
 use Rattle.bd_audit.specs.Gifts.{Stands}
 use Rattle.bd_audit.specs.Laws.{space_at}
 

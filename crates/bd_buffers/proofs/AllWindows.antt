@@ -12,8 +12,8 @@ use Rattle.std.proofs.lemmas.List.Sums.{position_or_len_is}
 use Rattle.std.proofs.lemmas.List.Quantifiers.{position-Some}
 use Rattle.std.proofs.Math.Seq.{map-set_same}
 use Rattle.std.proofs.Math.ListN as list
-use Rattle.bd_words.specs.declared.map.WordMap.{WordMap}
-use Rattle.bd_words.specs.Look.{look}
+use Rattle.bd_keys.specs.declared.map.WordMap.{WordMap}
+use Rattle.bd_keys.specs.Look.{look}
 use Rattle.bd_space.specs.declared.space.Process.{Process}
 use Rattle.bd_space.specs.declared.space.Buffer.{Buffer}
 use Rattle.bd_space.specs.Words.{changed}
@@ -22,8 +22,8 @@ use Rattle.bd_space.specs.Windows.{buffers_of}
 use Rattle.bd_space.specs.Freeing.{is_made_at}
 use Rattle.bd_space.specs.Returns.{buffer_in}
 use Rattle.bd_space.specs.ReadItems.{hand_out, handed_buffers}
-use Rattle.bd_words.proofs.Rising.{pairs_head, pairs_tail, Rising, distinct}
-use Rattle.bd_words.proofs.Found.{found_has, none_found}
+use Rattle.bd_keys.proofs.Rising.{pairs_head, pairs_tail, Rising, distinct}
+use Rattle.bd_keys.proofs.Found.{found_has, none_found}
 use Rattle.bd_space.proofs.Keyed.{changed_at, changed_none}
 use Rattle.bd_buffers.specs.declared.window.Window.{Window}
 use Rattle.bd_buffers.specs.declared.owned.OwnedWindow.{OwnedWindow}

@@ -11,7 +11,7 @@ use Rattle.bd_buffers.specs.declared.hole.Hole.{Hole}
 use Rattle.bd_buffers.specs.declared.bounds.Bounds.{Bounds}
 use Rattle.bd_buffers.specs.declared.ground.Ground.{Ground}
 use Rattle.bd_buffers.specs.declared.rows.Rows.{Rows}
-use Rattle.bd_words.specs.Look.{word_room}
+use Rattle.bd_keys.specs.Look.{word_room}
 use Rattle.bd_buffers.specs.Rows.{live}
 use Rattle.bd_buffers.specs.Window.{room_left}
 use Rattle.bd_buffers.specs.Holes.{Free, Spaced, has_room, taken, released}

@@ -3,7 +3,7 @@ use Rattle.std.proofs.Common.{zero, suc, Bool, true, false, cond, List, [], ◌�
 use Rattle.std.specs.Prelude.{AllPairs}
 use Rattle.std.proofs.lemmas.List.Elements.{All-cons, All-head, All-tail}
 use Rattle.bd_space.specs.Words.{changed}
-use Rattle.bd_words.proofs.Rising.{pairs_head, pairs_tail}
+use Rattle.bd_keys.proofs.Rising.{pairs_head, pairs_tail}
 
 -- what each element keeps where those that pass are changed
 pub All-changed : {A : Type 0} (p : A → Bool) (f : A → A) (P : A → Type 0) → ((x : A) → P x → P (f x)) → (xs : List A) → All P xs → All P (changed p f xs)

@@ -5,12 +5,12 @@ use denote.Ref.{Bor}
 use Rattle.std.proofs.lemmas.List.Elements.{All-push}
 use Rattle.std.proofs.lemmas.List.Quantifiers.{all_pairs_push, all_pairs_remove}
 use Rattle.std.proofs.lemmas.List.Sums.{sum_by-cons}
-use Rattle.bd_words.proofs.Lists.{All-remove}
+use Rattle.bd_keys.proofs.Lists.{All-remove}
 use Rattle.bd_space.specs.declared.space.Buffer.{Buffer}
 use Rattle.bd_space.specs.Words.{changed}
 use Rattle.bd_space.specs.Windows.{needed, start_for}
 use Rattle.bd_space.specs.ReadItems.{hand_out}
-use Rattle.bd_words.proofs.Found.{found_has}
+use Rattle.bd_keys.proofs.Found.{found_has}
 use Rattle.bd_buffers.specs.Buffer.{IsApart, IsPlaced, one_way_share}
 use Rattle.bd_buffers.specs.Window.{IsInBudget, IsWindow, one_way_size}
 use Rattle.bd_buffers.proofs.Changes.{All-changed, pairs_changed}

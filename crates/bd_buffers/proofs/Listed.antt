@@ -7,13 +7,13 @@ use Rattle.bd_space.specs.declared.space.Buffer.{Buffer}
 use Rattle.bd_space.specs.Words.{changed}
 use Rattle.bd_space.specs.ReadItems.{hand_out}
 use Rattle.bd_space.specs.Freeing.{pointer}
-use Rattle.bd_words.specs.declared.key.WordKey.{WordKey}
-use Rattle.bd_words.specs.declared.map.WordMap.{WordMap}
-use Rattle.bd_words.specs.Keys.{same_word}
-use Rattle.bd_words.specs.Look.{look}
-use Rattle.bd_words.proofs.Keys.{word-eq, word-self}
-use Rattle.bd_words.proofs.Rising.{Distinct, find_none, filter_at}
-use Rattle.bd_words.proofs.Found.{none_found, find_gone, find_stays}
+use Rattle.bd_keys.specs.declared.key.WordKey.{WordKey}
+use Rattle.bd_keys.specs.declared.map.WordMap.{WordMap}
+use Rattle.bd_keys.specs.Keys.{same_word}
+use Rattle.bd_keys.specs.Look.{look}
+use Rattle.bd_keys.proofs.Keys.{word-eq, word-self}
+use Rattle.bd_keys.proofs.Rising.{Distinct, find_none, filter_at}
+use Rattle.bd_keys.proofs.Found.{none_found, find_gone, find_stays}
 use Rattle.bd_buffers.specs.Buffer.{IsApart, at_pointer}
 use Rattle.bd_buffers.specs.Window.{IsWindow}
 use Rattle.bd_buffers.specs.Spots.{AreSpots, spot_key}

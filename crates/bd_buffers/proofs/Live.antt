@@ -14,8 +14,8 @@ use Rattle.bd_space.specs.declared.space.Buffer.{Buffer}
 use Rattle.bd_space.specs.Words.{changed}
 use Rattle.bd_space.specs.Freeing.{is_made_at}
 use Rattle.bd_space.specs.ReadItems.{hand_out}
-use Rattle.bd_words.proofs.Rising.{pairs_head, pairs_tail, newest_all, distinct, filter_at, filter_none}
-use Rattle.bd_words.proofs.Found.{found_has, none_found}
+use Rattle.bd_keys.proofs.Rising.{pairs_head, pairs_tail, newest_all, distinct, filter_at, filter_none}
+use Rattle.bd_keys.proofs.Found.{found_has, none_found}
 use Rattle.bd_space.proofs.Keyed.{changed_none}
 use Rattle.bd_buffers.specs.declared.rows.Row.{Row}
 use Rattle.bd_buffers.specs.Rows.{live, in_row, IsOwn, ends_empty, refilled, emptied, AreRows, IsTrimmed, IsWithout}

@@ -5,7 +5,7 @@ use Rattle.std.specs.List.Sorted.{IsNonDecreasingBy, IsPartitionedBy, IsPartitio
 use Rattle.std.proofs.lemmas.Bool.{cases_lt, eqb-true, ltb-true, ltb-false}
 use Rattle.std.proofs.lemmas.List.Sorted.{IsPartitionedBy-ltb}
 use Rattle.std.proofs.lemmas.List.Elements.{All-head, All-tail}
-use Rattle.bd_words.proofs.Rising.{Rising, Distinct, non_decreasing, find_none, rest_differ, pairs_tail}
+use Rattle.bd_keys.proofs.Rising.{Rising, Distinct, non_decreasing, find_none, rest_differ, pairs_tail}
 
 module _ {A : Type 0} (key : A → ℕ) where
   -- where a search by the key ends, and the element there has another

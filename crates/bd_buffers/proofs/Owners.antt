@@ -14,7 +14,7 @@ use denote.Ref.{Bor}
 use Rattle.bd_space.specs.declared.space.Process.{Process}
 use Rattle.bd_space.specs.declared.space.Buffer.{Buffer}
 use Rattle.bd_space.specs.Words.{changed}
-use Rattle.bd_words.proofs.Rising.{Rising}
+use Rattle.bd_keys.proofs.Rising.{Rising}
 use Rattle.bd_buffers.specs.declared.owned.OwnedWindow.{OwnedWindow}
 use Rattle.bd_buffers.specs.Owners.{AreInOrder}
 use Rattle.bd_buffers.specs.WindowsStand.{ProcessWindow, seen, window_of, with_buffers, is_of}

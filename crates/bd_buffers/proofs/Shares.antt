@@ -7,7 +7,7 @@ use Rattle.bd_space.specs.declared.space.Buffer.{Buffer}
 use Rattle.bd_space.specs.Words.{changed}
 use Rattle.bd_space.specs.ReadItems.{hand_out}
 use Rattle.bd_space.specs.Spam.{one_way_from}
-use Rattle.bd_words.specs.declared.map.WordMap.{WordMap}
+use Rattle.bd_keys.specs.declared.map.WordMap.{WordMap}
 use Rattle.bd_buffers.specs.Buffer.{one_way_share, share_from}
 use Rattle.bd_buffers.specs.Rows.{IsWithout}
 use Rattle.bd_buffers.specs.Sums.{noted, sum_at, AreNoted, AreSums}

@@ -2,9 +2,9 @@
 use Rattle.std.specs.Prelude.{ℕ, ◌≡◌, List, None, option_map, if◌then◌else◌, is_some}
 use Rattle.bd_ways.specs.Words.{Buffer}
 use Rattle.bd_space.specs.Returns.{buffer_in}
-use Rattle.bd_words.specs.declared.key.WordKey.{WordKey}
-use Rattle.bd_words.specs.declared.map.WordMap.{WordMap}
-use Rattle.bd_words.specs.Look.{look}
+use Rattle.bd_keys.specs.declared.key.WordKey.{WordKey}
+use Rattle.bd_keys.specs.declared.map.WordMap.{WordMap}
+use Rattle.bd_keys.specs.Look.{look}
 
 -- the place alone tells buffers apart
 abbrev pub home_key : ℕ → WordKey

@@ -1,6 +1,6 @@
 -- Windows by whose they are.
 use Rattle.std.specs.Prelude.{ℕ, ◌<◌, List, AllPairs}
-use Rattle.bd_words.specs.declared.map.WordMap.{WordMap}
+use Rattle.bd_keys.specs.declared.map.WordMap.{WordMap}
 use Rattle.bd_buffers.specs.declared.owned.OwnedWindow.{OwnedWindow}
 
 -- each belongs to a process that was opened later than those before it

@@ -1,9 +1,9 @@
 -- The live buffers of a window by their pointers.
 use Rattle.std.specs.Prelude.{ℕ, ◌≡◌, List, find, option_map}
 use Rattle.bd_ways.specs.Words.{Buffer}
-use Rattle.bd_words.specs.declared.key.WordKey.{WordKey}
-use Rattle.bd_words.specs.declared.map.WordMap.{WordMap}
-use Rattle.bd_words.specs.Look.{look}
+use Rattle.bd_keys.specs.declared.key.WordKey.{WordKey}
+use Rattle.bd_keys.specs.declared.map.WordMap.{WordMap}
+use Rattle.bd_keys.specs.Look.{look}
 use Rattle.bd_buffers.specs.Buffer.{at_pointer}
 
 -- all of them are one process's, so the pointer alone tells them apart

@@ -6,7 +6,7 @@ use Rattle.bd_buffers.specs.Buffer.{IsApart, IsPlaced}
 use Rattle.bd_buffers.specs.declared.hole.Hole.{Hole}
 use Rattle.bd_buffers.specs.declared.rows.Rows.{Rows}
 use Rattle.bd_buffers.specs.declared.ground.Ground.{Ground}
-use Rattle.bd_words.specs.Look.{word_room}
+use Rattle.bd_keys.specs.Look.{word_room}
 use Rattle.bd_buffers.specs.Holes.{IsFreeSpace}
 use Rattle.bd_buffers.specs.Bounds.{IsBounded, reaches}
 use Rattle.bd_buffers.specs.Rows.{live}

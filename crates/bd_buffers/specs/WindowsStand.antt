@@ -5,7 +5,7 @@ use Rattle.bd_space.specs.Seats.{lives_in}
 use Rattle.bd_space.specs.Windows.{buffers_of, start_for}
 use Rattle.bd_buffers.specs.declared.owned.OwnedWindow.{OwnedWindow}
 use Rattle.bd_buffers.specs.declared.windows.Windows.{Windows}
-use Rattle.bd_words.specs.Look.{word_room}
+use Rattle.bd_keys.specs.Look.{word_room}
 use Rattle.bd_buffers.specs.Homes.{AreHomes}
 use Rattle.bd_buffers.specs.Buffer as buffer
 pub use Rattle.bd_buffers.specs.Stands.{Stands}

@@ -1,7 +1,7 @@
 //! Where the buffers of a window lie, by what pointers they are found, and what they leave free.
 
 ghost use Rattle.std.specs.Prelude.{◌≡◌, ◌+◌, ◌<◌, ◌≤◌, ◌^◌, ℕ, None, MatchOption, vec_len, vec_capacity, if◌then◌else◌};
-ghost use Rattle.bd_words.specs.{Keys.{same_word}, Look.{look, word_room}, declared.key.WordKey.{WordKey}};
+ghost use Rattle.bd_keys.specs.{Keys.{same_word}, Look.{look, word_room}, declared.key.WordKey.{WordKey}};
 ghost use Rattle.bd_space.specs.Freeing.{pointer};
 ghost use Rattle.bd_buffers.specs.Buffer as spec;
 ghost use Rattle.bd_buffers.specs.Holes as free;
@@ -13,8 +13,8 @@ use crate::buffer::{one_way_share, pointer_of};
 use crate::hole::{Hole, begin_of, give_back, take};
 use crate::rows::Rows;
 use crate::senders::lower;
+use bd_keys::{WordKey, WordMap};
 use bd_space::Buffer;
-use bd_words::{WordKey, WordMap};
 
 /// The ground of a window: what the buffers on it take, and what they leave.
 #[derive(Drop)]

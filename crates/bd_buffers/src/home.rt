@@ -5,7 +5,7 @@ ghost use Rattle.bd_buffers.specs.Homes as spec;
 ghost use Rattle.bd_buffers.specs.Rows.{live};
 
 use crate::rows::Rows;
-use bd_words::{WordKey, WordMap};
+use bd_keys::{WordKey, WordMap};
 
 /// By what the home of the buffer made there is found.
 pub(crate) fn home_key(made: u32) -> WordKey

@@ -7,7 +7,7 @@ ghost use Rattle.bd_buffers.specs.{Homes.{Forgets}, Owners.{AreInOrder}};
 ghost use Rattle.bd_buffers.specs.WindowsStand.{buffers_held, is_of, is_owned_by, seen, with_buffers};
 
 use crate::window::Window;
-use bd_words::WordMap;
+use bd_keys::WordMap;
 
 /// The window of a live process.
 #[derive(Drop)]

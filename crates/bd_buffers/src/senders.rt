@@ -1,12 +1,12 @@
 //! How much of a window the one-way buffers of each sender take.
 
 ghost use Rattle.std.specs.Prelude.{◌≡◌, ◌+◌, ◌<◌, ◌≤◌, ◌^◌, ℕ};
-ghost use Rattle.bd_words.specs.Look.{word_room};
+ghost use Rattle.bd_keys.specs.Look.{word_room};
 ghost use Rattle.bd_buffers.specs.Buffer.{one_way_share, share_from};
 ghost use Rattle.bd_buffers.specs.Sums as spec;
 
+use bd_keys::{WordKey, WordMap};
 use bd_space::Buffer;
-use bd_words::{WordKey, WordMap};
 
 // By what a sender's sum is found.
 fn sender_key(sender: u32) -> WordKey

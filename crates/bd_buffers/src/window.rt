@@ -13,9 +13,9 @@ use crate::home::forget;
 use crate::listing::{list_made, next_from};
 use crate::rows::Rows;
 use crate::senders::{raise, sum_of};
+use bd_keys::WordMap;
 use bd_space::Buffer;
 use bd_uapi::Cause;
-use bd_words::WordMap;
 use std::alloc::{AllocError, Global};
 use std::marker::Model;
 

@@ -16,9 +16,9 @@ use crate::owned::{
     OwnedWindow, close_among, forget_in, free_in, hand_out_in, is_last, owned_by, position_of,
 };
 use crate::window::Window;
+use bd_keys::WordMap;
 use bd_space::Buffer;
 use bd_uapi::Cause;
-use bd_words::WordMap;
 use std::alloc::{AllocError, Global};
 use std::marker::Model;
 
@@ -34,7 +34,7 @@ pub struct Windows {
 impl Model for Windows {
     ghost use Rattle.std.specs.{Prelude.{◌-◌, vec_len, vec_capacity}, Coded.{codes}};
     ghost use Rattle.bd_buffers.specs.Owners.{AreInOrder, WindowsView};
-    ghost use Rattle.bd_words.specs.contracts.map.WordMap as words;
+    ghost use Rattle.bd_keys.specs.contracts.map.WordMap as words;
     ghost use denote.Builtin as builtin;
 
     ghost Value = { WindowsView };

@@ -7,7 +7,7 @@ use Rattle.bd_space.specs.declared.space.Work.{Work}
 use Rattle.bd_space.specs.Words.{is_some_and}
 use Rattle.bd_space.specs.Todo.{hands_out, work_on, is_on}
 use Rattle.bd_space.specs.ThreadExits.{is_lost_with}
-use Rattle.bd_links.proofs.OnList.{any-filter}
+use Rattle.bd_todo.proofs.OnList.{any-filter}
 use Rattle.bd_turns.specs.declared.table.TurnTable.{TurnTable}
 use Rattle.bd_turns.specs.Stands.{TurnsAre}
 use Rattle.bd_calls.specs.Turn.{is_other_than}

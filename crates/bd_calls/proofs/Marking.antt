@@ -17,11 +17,11 @@ use Rattle.bd_space.specs.Words.{same_identity}
 use Rattle.bd_space.specs.ReadItems.{none_due}
 use Rattle.bd_space.specs.Todo.{has_work_in, is_on, same_list, with_work, is_item, is_call, without_taken}
 use Rattle.bd_ways.specs.Local.{first_due}
-use Rattle.bd_links.specs.declared.table.WorkTable.{WorkTable}
-use Rattle.bd_links.specs.Stands.{WorksAre}
-use Rattle.bd_links.proofs.OnList.{any_left}
-use Rattle.bd_links.proofs.ListKeys.{same_list-eq, same_list-refl}
-use Rattle.bd_links.proofs.Queueing.{on_same}
+use Rattle.bd_todo.specs.declared.table.WorkTable.{WorkTable}
+use Rattle.bd_todo.specs.Stands.{WorksAre}
+use Rattle.bd_todo.proofs.OnList.{any_left}
+use Rattle.bd_todo.proofs.ListKeys.{same_list-eq, same_list-refl}
+use Rattle.bd_todo.proofs.Queueing.{on_same}
 use Rattle.bd_calls.specs.declared.marks.Mark.{Mark}
 use Rattle.bd_calls.specs.declared.marks.Marks.{Marks}
 use Rattle.bd_calls.specs.Marks.{differs, is_among, is_marked_in, is_marked, are_apart, told_of, is_changed, changed_lists, IsRecalled, RecallsIn}

@@ -16,7 +16,7 @@ use Rattle.bd_space.specs.Frames.{is_frame}
 use Rattle.bd_space.specs.Todo.{is_on, is_call, work_on}
 use Rattle.bd_space.specs.ReadItems.{serve}
 use Rattle.bd_space.specs.ThreadExits.{is_unread_on, unread_server, unread_frame, frame_without}
-use Rattle.bd_links.proofs.OnList.{any-filter}
+use Rattle.bd_todo.proofs.OnList.{any-filter}
 use Rattle.bd_frames.specs.declared.table.FrameTable.{FrameTable}
 use Rattle.bd_frames.specs.Stands.{FramesAre, Makes}
 use Rattle.bd_frames.specs.Words.{lost, lost_frame, left_frame}

@@ -4,7 +4,7 @@ use Rattle.bd_space.specs.declared.space.TodoList.{TodoList}
 use Rattle.bd_space.specs.declared.space.Work.{Work}
 use Rattle.bd_space.specs.Todo.{has_work_in, is_on, work_on}
 use Rattle.bd_space.specs.ReadItems.{none_due}
-use Rattle.bd_links.proofs.OnList.{any_left}
+use Rattle.bd_todo.proofs.OnList.{any_left}
 
 -- whether there is anything to read is told by the lists alone where they are empty
 pub anything-to-read : (todo : List Work) (own shared : TodoList) (idle : Bool)

@@ -1,6 +1,6 @@
 -- What two changes take one after the other, and what there is no room for.
 use Rattle.std.proofs.Common.{ℕ, ◌+◌, ◌≤◌, ◌^◌, arith, rules}
-use Rattle.bd_links.proofs.Fits.{room-fits}
+use Rattle.bd_todo.proofs.Fits.{room-fits}
 use Rattle.bd_calls.specs.declared.table.CallTable.{CallTable}
 use Rattle.bd_calls.specs.Room.{Uses, HasRoom, frame_count, nothing, rooms}
 

@@ -8,7 +8,7 @@ use Rattle.std.proofs.lemmas.List.Folds.{list_any-append}
 use Rattle.std.proofs.lemmas.List.{get_or-set_same, get_or-set_other, take_more, take_all}
 use Rattle.std.proofs.lemmas.Map.Views.{any-filter_same}
 use Rattle.std.proofs.Math.Bool.{and-false}
-use Rattle.bd_words.proofs.Found.{found_passes}
+use Rattle.bd_keys.proofs.Found.{found_passes}
 use Rattle.bd_space.specs.declared.step.ObjectId.{ObjectId}
 use Rattle.bd_space.specs.declared.space.Frame.{Frame}
 use Rattle.bd_space.specs.declared.space.Thread.{Thread}
@@ -28,7 +28,7 @@ use Rattle.bd_space.specs.Notices.{has_notice_in}
 use Rattle.bd_calls.specs.declared.ready.Seen.{Seen}
 use Rattle.bd_calls.specs.declared.ready.ReadySeats.{ReadySeats}
 use Rattle.bd_calls.specs.Ready.{seen_at, is_of, unless_of, tells_of, KeepsOnly, IsSeen, AreSeen}
-use Rattle.bd_links.proofs.ListKeys.{same_list-eq}
+use Rattle.bd_todo.proofs.ListKeys.{same_list-eq}
 use Rattle.bd_calls.proofs.Plain.{anything-to-read}
 
 -- ---- a seat that was seen

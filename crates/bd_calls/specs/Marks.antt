@@ -2,8 +2,8 @@
 use Rattle.std.specs.Prelude.{◌≡◌, ◌≤◌, ◌+◌, ℕ, Bool, true, false, not, ◌||◌, ◌&&◌, List, [], ◌∷◌, if◌then◌else◌, vec_len, vec_capacity}
 use Rattle.bd_ways.specs.Words.{list_any, Work, TodoList}
 use Rattle.bd_space.specs.Todo.{same_list, has_work_in}
-use Rattle.bd_links.specs.declared.table.WorkTable.{WorkTable}
-use Rattle.bd_links.specs.Stands.{WorksAre}
+use Rattle.bd_todo.specs.declared.table.WorkTable.{WorkTable}
+use Rattle.bd_todo.specs.Stands.{WorksAre}
 use Rattle.bd_calls.specs.declared.marks.Mark.{Mark}
 use Rattle.bd_calls.specs.declared.marks.Marks.{Marks}
 

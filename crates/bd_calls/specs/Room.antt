@@ -1,7 +1,7 @@
 -- How many things a call table holds and has room for, for what reserves and commits.
 use Rattle.std.specs.Prelude.{ℕ, ◌+◌, ◌≤◌}
 use Rattle.bd_frames.specs.Room as frames
-use Rattle.bd_links.specs.Stands as links
+use Rattle.bd_todo.specs.Stands as links
 use Rattle.bd_turns.specs.Room as turns
 use Rattle.bd_threads.specs.Room as threads
 use Rattle.bd_calls.specs.declared.table.CallTable.{CallTable}

@@ -4,7 +4,7 @@ use Rattle.std.specs.Prelude.{◌≡◌, List}
 use Rattle.bd_ways.specs.Words.{Thread, Frame, Work, Turn, Space}
 use Rattle.bd_space.specs.Turns.{turns_of}
 use Rattle.bd_frames.specs.Stands.{FramesAre}
-use Rattle.bd_links.specs.Stands.{WorksAre}
+use Rattle.bd_todo.specs.Stands.{WorksAre}
 use Rattle.bd_turns.specs.Stands.{TurnsAre}
 use Rattle.bd_threads.specs.Listed.{listed}
 use Rattle.bd_calls.specs.Ready.{AreSeen}

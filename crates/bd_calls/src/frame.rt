@@ -11,7 +11,7 @@ ghost use Rattle.bd_ways.specs.Local as local;
 ghost use Rattle.bd_space.specs.ThreadExits as exits;
 ghost use Rattle.bd_space.specs.ReadItems as reading;
 ghost use Rattle.bd_space.specs.Todo as works;
-ghost use Rattle.bd_links.specs.Stands as links;
+ghost use Rattle.bd_todo.specs.Stands as links;
 ghost use Rattle.bd_frames.specs.Stands as frame_table;
 ghost use Rattle.bd_frames.specs.Room as frame_rooms;
 ghost use Rattle.bd_frames.specs.Words.{newest_in, is_place_among, abandoned_in, lost_frame};
@@ -20,9 +20,9 @@ ghost use Rattle.bd_calls.specs.{Closing.{chosen_after}, Losing.{lost_frames}};
 
 use crate::table::CallTable;
 use bd_frames::{FrameTable, serves};
-use bd_links::{WorkTable, Works};
 use bd_space::{Frame, Server, TodoList, Work, WorkKind};
 use bd_threads::ThreadTable;
+use bd_todo::{WorkTable, Works};
 use bd_uapi::Return;
 use std::alloc::AllocError;
 

@@ -7,11 +7,11 @@ ghost use Rattle.bd_space.specs.declared.space.TodoList as lists;
 ghost use Rattle.bd_space.specs.declared.space.TodoList.TheVariants.{OfProcess};
 ghost use Rattle.bd_space.specs.declared.space.Work as works;
 ghost use Rattle.bd_space.specs.Todo.{same_list, has_work_in};
-ghost use Rattle.bd_links.specs.Stands as links;
+ghost use Rattle.bd_todo.specs.Stands as links;
 ghost use Rattle.bd_calls.specs.Marks as spec;
 
-use bd_links::WorkTable;
 use bd_space::{TodoList, Turn, Work};
+use bd_todo::WorkTable;
 use std::alloc::{AllocError, Global};
 
 /// A list that may have been filled or emptied.

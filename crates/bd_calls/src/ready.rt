@@ -9,16 +9,16 @@ ghost use Rattle.bd_space.specs.declared.space.Work as works;
 ghost use Rattle.bd_space.specs.{Seats.{thread_in}, Words.{is_some_and}};
 ghost use Rattle.bd_space.specs.Todo as todos;
 ghost use Rattle.bd_space.specs.ReadItems as reading;
-ghost use Rattle.bd_links.specs.Stands as links;
+ghost use Rattle.bd_todo.specs.Stands as links;
 ghost use Rattle.bd_frames.specs.Stands as frame_table;
 ghost use Rattle.bd_threads.specs.Listed.{listed};
 ghost use Rattle.bd_calls.specs.Ready as spec;
 
 use crate::todo_list::is_idle;
 use bd_frames::FrameTable;
-use bd_links::WorkTable;
 use bd_space::{Thread, TodoList, Work};
 use bd_threads::ThreadTable;
+use bd_todo::WorkTable;
 use bd_uapi::MOST_SEATS;
 use std::alloc::{AllocError, Global};
 

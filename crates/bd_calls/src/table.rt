@@ -5,16 +5,16 @@ ghost use Rattle.std.specs.Prelude.{◌≡◌, ◌+◌, ◌≤◌, ◌^◌, true
 ghost use Rattle.bd_threads.specs.Room.{thread_room};
 ghost use Rattle.bd_frames.specs.Room.{frame_room};
 ghost use Rattle.bd_turns.specs.Room.{turn_room};
-ghost use Rattle.bd_links.specs.Stands.{work_room};
+ghost use Rattle.bd_todo.specs.Stands.{work_room};
 
 use crate::frame::{leave_frames, lose_unread, serve};
 use crate::marks::Marks;
 use crate::ready::ReadySeats;
 use crate::turn::{hand_out_taken, lose_turns};
 use bd_frames::FrameTable;
-use bd_links::WorkTable;
 use bd_space::{TodoList, Work};
 use bd_threads::ThreadTable;
+use bd_todo::WorkTable;
 use bd_turns::TurnTable;
 use std::alloc::{AllocError, Global};
 

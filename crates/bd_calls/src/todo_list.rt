@@ -3,21 +3,21 @@
 
 ghost use Rattle.std.specs.Prelude.{ℕ, Bool, List, ◌≡◌, ◌==◌, ◌||◌, ◌&&◌, ◌+◌, ◌<◌, ◌≤◌, ◌^◌, ◌++◌, ◌∷◌, [], false, not, nat_le, map, filter, find, reverse, length, count_by, Option, Some, None, option_map, IfOk, OnOk, OnErr, vec_len, vec_capacity};
 ghost use Rattle.std.specs.{List.{list_any, slice_get}, Option.{is_none}};
-ghost use Rattle.bd_words.specs.Tables.{AnswersBy};
+ghost use Rattle.bd_keys.specs.Tables.{AnswersBy};
 ghost use Rattle.bd_space.specs.{declared.space.WorkKind.{WorkKind}, Frames.{innermost_in}, Words.{is_some_and}};
 ghost use Rattle.bd_space.specs.Todo as spec;
 ghost use Rattle.bd_space.specs.Notices as notices;
 ghost use Rattle.bd_space.specs.declared.space.Frame as declared;
 ghost use Rattle.bd_frames.specs.Stands as frame_table;
-ghost use Rattle.bd_links.specs.Stands as links;
-ghost use Rattle.bd_links.specs.TodoList as replies;
+ghost use Rattle.bd_todo.specs.Stands as links;
+ghost use Rattle.bd_todo.specs.TodoList as replies;
 
 use crate::frame::is_in_no_call;
 use crate::ready::{Seen, has_seen, look_at};
 use crate::table::CallTable;
 use bd_frames::FrameTable;
-use bd_links::{WorkTable, Works};
 use bd_space::{Frame, ObjectId, Thread, TodoList, Work, WorkKind};
+use bd_todo::{WorkTable, Works};
 
 // The thread has entered the loop and is in no call.
 pub(crate) fn is_idle(frames: &FrameTable, thread: &Thread) -> bool

@@ -9,7 +9,7 @@ ghost use Rattle.bd_space.specs.ThreadExits as exits;
 ghost use Rattle.bd_space.specs.Turns as spec;
 ghost use Rattle.bd_ways.specs.Local as local;
 ghost use Rattle.bd_space.specs.declared.space.Work as declared;
-ghost use Rattle.bd_links.specs.Stands as links;
+ghost use Rattle.bd_todo.specs.Stands as links;
 ghost use Rattle.bd_turns.specs.Stands as turn_table;
 ghost use Rattle.bd_turns.specs.Room as turn_rooms;
 ghost use Rattle.bd_calls.specs.Ready as ready_seats;
@@ -19,8 +19,8 @@ use crate::marks::mark_receiver;
 use crate::ready::ReadySeats;
 use crate::table::CallTable;
 use crate::work::handed_by;
-use bd_links::{WorkTable, hands_out};
 use bd_space::{ObjectId, TodoList, Turn, Work, WorkKind};
+use bd_todo::{WorkTable, hands_out};
 use bd_turns::TurnTable;
 
 // Nobody was told of it yet.

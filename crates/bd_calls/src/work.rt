@@ -4,8 +4,8 @@ ghost use Rattle.std.specs.Prelude.{◌≡◌, map};
 ghost use Rattle.bd_space.specs.Words as words;
 ghost use Rattle.bd_space.specs.Todo as spec;
 
-use bd_links::hands_out;
 use bd_space::Work;
+use bd_todo::hands_out;
 
 // The buffer that is handed over by reading these.
 pub(crate) fn handed_by(taken: &[Work]) -> Option<u32>

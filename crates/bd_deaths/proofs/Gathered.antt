@@ -18,7 +18,7 @@ use Rattle.bd_ways.specs.Ranges.{IsPartOf}
 use Rattle.bd_deaths.specs.Stands.{IsRising}
 use Rattle.bd_deaths.proofs.Lives.{any-lives}
 use Rattle.bd_ways.proofs.Ranges.{same-filter, filter-of}
-use Rattle.bd_words.proofs.Lists.{eqb-turned}
+use Rattle.bd_keys.proofs.Lists.{eqb-turned}
 
 -- ---- places sorted, each once
 

@@ -17,7 +17,7 @@ use Rattle.bd_deaths.specs.Keys.{object_group}
 use Rattle.bd_deaths.specs.Listed.{IsListed}
 use Rattle.bd_deaths.specs.Due.{has_place, is_own_at}
 use Rattle.bd_deaths.proofs.Changes.{All-changed}
-use Rattle.bd_words.proofs.Lists.{eqb-turned}
+use Rattle.bd_keys.proofs.Lists.{eqb-turned}
 use Rattle.bd_ways.proofs.Ranges.{all-stay, same-filter}
 use Rattle.bd_deaths.proofs.Kept.{Alike}
 

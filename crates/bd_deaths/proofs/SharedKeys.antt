@@ -4,9 +4,9 @@ use Rattle.std.specs.Prelude.{All}
 use Rattle.std.specs.List.{remove}
 use Rattle.std.specs.HashMap.{get}
 use Rattle.std.proofs.lemmas.Bool.{eqb-true, and_parts}
-use Rattle.bd_words.proofs.Lists.{filter-remove}
-use Rattle.bd_words.specs.declared.key.WordKey.{WordKey}
-use Rattle.bd_words.specs.Look.{look}
+use Rattle.bd_keys.proofs.Lists.{filter-remove}
+use Rattle.bd_keys.specs.declared.key.WordKey.{WordKey}
+use Rattle.bd_keys.specs.Look.{look}
 use Rattle.bd_space.specs.declared.space.DeathNotification.{DeathNotification}
 use Rattle.bd_deaths.specs.declared.key.NameKey.{NameKey}
 use Rattle.bd_deaths.specs.declared.key.Key.{Key}

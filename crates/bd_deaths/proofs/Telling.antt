@@ -14,7 +14,7 @@ use Rattle.bd_ways.specs.Ranges.{IsPartOf}
 use Rattle.bd_ways.proofs.Ranges.{any-of}
 use Rattle.bd_deaths.specs.Due.{is_due, is_due_of, is_due_at, queued_at, has_place}
 use Rattle.bd_deaths.proofs.Changes.{none, same_tests, twice, guarded}
-use Rattle.bd_words.proofs.Lists.{eqb-turned}
+use Rattle.bd_keys.proofs.Lists.{eqb-turned}
 
 both-queued : (a b d : Bool) → ((a && d) || (b && (not (a && d) && d))) ≡ ((a || b) && d)
 both-queued true true true = refl

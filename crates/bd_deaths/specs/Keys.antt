@@ -1,8 +1,8 @@
 -- By what notifications are looked for, and what is kept of those with a key.
 use Rattle.std.specs.Prelude.{ℕ, ◌+◌, ◌-◌, ◌%◌, ◌^◌, nat_le, if◌then◌else◌, Bool, List, [], ◌∷◌, length, sum_by, Option, Some, None}
 use Rattle.bd_ways.specs.Words.{ObjectId, DeathNotification}
-use Rattle.bd_words.specs.declared.key.WordKey.{WordKey}
-use Rattle.bd_words.specs.Keys.{same_word}
+use Rattle.bd_keys.specs.declared.key.WordKey.{WordKey}
+use Rattle.bd_keys.specs.Keys.{same_word}
 use Rattle.bd_groups.specs.declared.group.Group as groups
 use Rattle.bd_groups.specs.declared.group.Group.TheVariants.{Object}
 use Rattle.bd_deaths.specs.declared.key.NameKey.{NameKey}

@@ -1,6 +1,6 @@
 -- How many notifications a table may still take without memory, how many slots it has, and what a change takes of that.
 use Rattle.std.specs.Prelude.{ℕ, ◌-◌, ◌/◌, min, vec_len, vec_capacity}
-use Rattle.bd_words.specs.Tables as tables
+use Rattle.bd_keys.specs.Tables as tables
 use Rattle.bd_groups.specs.Members.{group_room}
 use Rattle.bd_deaths.specs.declared.list.DeathList.{DeathList}
 use Rattle.bd_deaths.specs.declared.table.DeathTable.{DeathTable}

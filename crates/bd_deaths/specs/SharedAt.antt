@@ -2,7 +2,7 @@
 use Rattle.std.specs.Prelude.{ℕ, ◌≡◌, ◌<◌, ◌^◌, List, Option, filter, min, All}
 use Rattle.bd_ways.specs.Words.{DeathNotification}
 use Rattle.std.specs.HashMap.{get, spare}
-use Rattle.bd_words.specs.Look.{look, word_room}
+use Rattle.bd_keys.specs.Look.{look, word_room}
 use Rattle.bd_deaths.specs.declared.key.Key.{Key}
 use Rattle.bd_deaths.specs.declared.key.Key.TheVariants.{Name, Cookie}
 use Rattle.bd_deaths.specs.declared.key.Group.{Group}

@@ -3,11 +3,11 @@
 ghost use Rattle.std.specs.{Prelude.{◌≡◌}, Cmp.Rules.{hashing}};
 ghost use Rattle.std.specs.Hash as fed;
 ghost use Rattle.std.proofs.Common.{rules};
-ghost use Rattle.bd_words.specs.Numbers.{pair, wide};
+ghost use Rattle.bd_keys.specs.Numbers.{pair, wide};
 ghost use Rattle.bd_deaths.specs.Keys as keys;
 
+use bd_keys::{WordKey, pair, wide};
 use bd_space::{DeathNotification, ObjectId};
-use bd_words::{WordKey, pair, wide};
 use std::hash::{Hash, Hasher};
 
 /// A process and an object.
@@ -18,7 +18,7 @@ pub(crate) struct NameKey {
     pub(crate) index: u32,
 }
 
-// One write, as `bd_words` says.
+// One write, as `bd_keys` says.
 impl Hash for NameKey {
     ghost hash_input = { λ k. fed.u128 (wide k.process (pair k.place k.index)) };
 

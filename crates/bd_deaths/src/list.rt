@@ -1,7 +1,7 @@
 //! The notifications themselves, in the order in which they were made, with what is kept of those with each key.
 
 ghost use Rattle.std.specs.Prelude.{◌≡◌, ◌≤◌, ◌<◌, ◌++◌, ◌∷◌, [], Bool, true, not, filter, set, List, OnOk, OnErr, vec_len, slice_index_or};
-ghost use Rattle.bd_words.specs.Tables.{AnswersBy};
+ghost use Rattle.bd_keys.specs.Tables.{AnswersBy};
 ghost use Rattle.bd_space.specs.declared.space.DeathNotification as declared;
 ghost use Rattle.bd_ways.specs.Ranges.{IsWithin};
 ghost use Rattle.bd_deaths.specs.declared.slot.Slot.{Slot};

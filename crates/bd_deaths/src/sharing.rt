@@ -3,15 +3,15 @@
 ghost use Rattle.std.specs.Prelude.{ℕ, ◌≡◌, ◌≤◌, ◌<◌, ◌+◌, ◌^◌, ◌++◌, ◌∷◌, [], if◌then◌else◌};
 ghost use Rattle.std.specs.{Prelude.{List, length, slice_index_or, Some, None, OnOk, OnErr}, List.{remove}};
 ghost use Rattle.std.specs.HashMap.{get, spare};
-ghost use Rattle.bd_words.specs.{declared.key.WordKey.{WordKey}, Keys.{same_word}, Look.{look, word_room}};
+ghost use Rattle.bd_keys.specs.{declared.key.WordKey.{WordKey}, Keys.{same_word}, Look.{look, word_room}};
 ghost use Rattle.bd_space.specs.declared.space.DeathNotification.{DeathNotification};
 ghost use Rattle.bd_deaths.specs.declared.key.NameKey.{NameKey};
 ghost use Rattle.bd_deaths.specs.Keys as keys;
 ghost use Rattle.bd_deaths.specs.SharedAt.{group_at, AreShared, key_room};
 
 use crate::key::{Group, Key, NameKey, cookie_of, name_of, with_one, without_one};
+use bd_keys::{WordMap, insert_reserved};
 use bd_space::DeathNotification;
-use bd_words::{WordMap, insert_reserved};
 use std::alloc::{AllocError, Global};
 use std::collections::HashMap;
 

@@ -7,8 +7,8 @@ use Rattle.bd_space.specs.Names.{named, number_in}
 use Rattle.bd_space.specs.Windows.{buffers_of}
 use Rattle.bd_space.specs.Frames.{innermost, serves}
 use Rattle.bd_space.specs.Todo.{work_on}
-use Rattle.bd_references.specs.Carried.{carried_in}
-use Rattle.bd_links.specs.TodoList.{first_reply_in}
+use Rattle.bd_holds.specs.Carried.{carried_in}
+use Rattle.bd_todo.specs.TodoList.{first_reply_in}
 
 -- the process of the live thread of a seat
 abbrev pub process_of : Space → ℕ → Option ℕ

@@ -13,9 +13,9 @@ mod tables;
 mod wide;
 mod write;
 
-pub use bd_links::Works;
 pub use bd_objects::CarriedObjects;
 pub use bd_step::Why;
+pub use bd_todo::Works;
 pub use engine::Engine;
 pub use live::Live;
 pub use looks::Looks;

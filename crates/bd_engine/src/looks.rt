@@ -12,9 +12,9 @@ use crate::live::Live;
 use crate::tables::HasTables;
 use crate::wide::WideEngine;
 use bd_calls::serves;
-use bd_links::Works;
 use bd_objects::CarriedObjects;
 use bd_space::{Buffer, DeathNotification, Object, ObjectId, Process, Thread, TodoList};
+use bd_todo::Works;
 
 /// Looks at the space after a history. What a look answers is so of the history that an engine has, and of each that a live
 /// engine follows. None takes memory.

@@ -1,7 +1,7 @@
 -- Those that pass go, one after the other.
 use Rattle.std.proofs.Common.{◌≡◌, ℕ, ◌<◌, Bool, true, false, not, List, [], ◌∷◌, filter, length, get_or, ap, sym, subst, ◌∙◌, arith}
 use Rattle.std.specs.List.{list_any, remove}
-use Rattle.bd_words.proofs.Lists.{filter-remove}
+use Rattle.bd_keys.proofs.Lists.{filter-remove}
 use Rattle.bd_space.specs.declared.space.Frame.{Frame}
 use Rattle.bd_frames.specs.declared.table.FrameTable.{FrameTable}
 use Rattle.bd_frames.specs.Stands.{FramesAre}

@@ -1,7 +1,7 @@
 -- How many frames a table may still take without memory, how many it has, and what a change takes of that.
 use Rattle.std.specs.Prelude.{ℕ, ◌-◌, ◌/◌, min, vec_len, vec_capacity}
 use Rattle.std.specs.HashMap.{spare}
-use Rattle.bd_words.specs.Tables as tables
+use Rattle.bd_keys.specs.Tables as tables
 use Rattle.bd_frames.specs.declared.stacks.Stacks.{Stacks}
 use Rattle.bd_frames.specs.declared.table.FrameTable.{FrameTable}
 

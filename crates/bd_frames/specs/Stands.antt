@@ -1,7 +1,7 @@
 -- What a table of frames stands for: the frames of the space, in its order.
 use Rattle.std.specs.Prelude.{◌≡◌, List}
 use Rattle.bd_ways.specs.Words.{Frame}
-use Rattle.bd_words.specs.Tables as tables
+use Rattle.bd_keys.specs.Tables as tables
 use Rattle.bd_frames.specs.declared.table.FrameTable.{FrameTable}
 use Rattle.bd_frames.specs.Places.{RiseIf}
 use Rattle.bd_frames.specs.InOrder.{OlderIf}

@@ -6,8 +6,8 @@ ghost use Rattle.bd_space.specs.declared.space.Frame as declared;
 ghost use Rattle.bd_frames.specs.Children as spec;
 ghost use Rattle.bd_frames.specs.Children.{kept_at, AreChildren};
 
+use bd_keys::insert_reserved;
 use bd_space::Frame;
-use bd_words::insert_reserved;
 use std::collections::HashMap;
 
 /// How many children the call made there has.

@@ -13,8 +13,8 @@ ghost use Rattle.bd_frames.specs.Words.{is_pending, left_frame};
 
 use crate::server::{is_pending, server_of};
 use crate::tops::{forget_top, has_room, pop_top, put_top_of, top_of, top_of_some};
+use bd_keys::insert_reserved;
 use bd_space::{Frame, Server};
-use bd_words::insert_reserved;
 use std::alloc::{AllocError, Global};
 use std::collections::HashMap;
 

@@ -5,7 +5,7 @@ ghost use Rattle.std.specs.{Option.{option_and_then}, HashMap.{spare}};
 ghost use Rattle.bd_space.specs.Words.{is_some_and};
 ghost use Rattle.bd_frames.specs.Children.{kept_at};
 
-use bd_words::insert_reserved;
+use bd_keys::insert_reserved;
 use std::collections::HashMap;
 
 pub(crate) fn top_of(tops: &HashMap<u32, u32>, seat: u32) -> Option<u32>

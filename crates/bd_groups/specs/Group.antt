@@ -1,6 +1,6 @@
 -- Groups, told apart.
 use Rattle.std.specs.Prelude.{ℕ, Bool}
-use Rattle.bd_words.specs.Numbers.{pair, wide}
+use Rattle.bd_keys.specs.Numbers.{pair, wide}
 use Rattle.bd_groups.specs.declared.group.Group.{Group}
 use Rattle.bd_groups.specs.declared.group.Group.TheVariants.{Process, Object}
 use Rattle.bd_groups.specs.contracts.group.GroupPartialEq.TheImpl as groups

@@ -5,7 +5,7 @@ ghost use Rattle.std.specs.Hash as fed;
 ghost use Rattle.std.proofs.Common.{rules};
 ghost use Rattle.bd_groups.specs.Group.{spread};
 
-use bd_words::{pair, wide};
+use bd_keys::{pair, wide};
 use std::hash::{Hash, Hasher};
 
 /// What members have in common.
@@ -29,7 +29,7 @@ impl Group {
     }
 }
 
-// One write, as `bd_words` says.
+// One write, as `bd_keys` says.
 impl Hash for Group {
     ghost hash_input = { λ g. fed.u128 (spread g) };
 

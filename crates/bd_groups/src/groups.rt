@@ -9,7 +9,7 @@ ghost use Rattle.bd_groups.specs.Trail.{latest_at};
 use crate::group::Group;
 use crate::link::Link;
 use crate::members::Members;
-use bd_words::{insert_reserved, room_anew};
+use bd_keys::{insert_reserved, room_anew};
 use std::alloc::{AllocError, Global};
 use std::collections::HashMap;
 

@@ -1,9 +1,9 @@
 -- What the calls on maps leave, where they succeed.
 use Rattle.std.proofs.Common.{◌≡◌, ℕ, ◌+◌, Bool, true, false, not, if◌then◌else◌, List, Option, Some, None, Result, Ok, Err, OnOk, IfOk, IfNone, IsOk, is_some, option_map, find, refl, ap, sym, subst, ◌∙◌}
-use Rattle.bd_words.proofs.Found.{found_passes}
-use Rattle.bd_words.specs.declared.key.WordKey.{WordKey}
-use Rattle.bd_words.specs.Keys.{same_word}
-use Rattle.bd_words.proofs.Keys.{word-eq, word-self}
+use Rattle.bd_keys.proofs.Found.{found_passes}
+use Rattle.bd_keys.specs.declared.key.WordKey.{WordKey}
+use Rattle.bd_keys.specs.Keys.{same_word}
+use Rattle.bd_keys.proofs.Keys.{word-eq, word-self}
 use Rattle.bd_space.specs.declared.step.ObjectId.{ObjectId}
 use Rattle.bd_space.specs.declared.space.Object.{Object}
 use Rattle.bd_space.specs.Words.{same}

@@ -5,8 +5,8 @@ use Rattle.std.specs.Option.{IfSome}
 use Rattle.std.specs.HashMap.{HashMap, get}
 use Rattle.std.proofs.lemmas.Bool.{eqb-true, and_parts}
 use Rattle.std.proofs.lemmas.List.Folds.{list_any-append}
-use Rattle.bd_words.proofs.Found.{found_passes}
-use Rattle.bd_words.proofs.Lists.{any-same}
+use Rattle.bd_keys.proofs.Found.{found_passes}
+use Rattle.bd_keys.proofs.Lists.{any-same}
 use Rattle.bd_groups.specs.declared.groups.Groups.{Groups}
 use Rattle.bd_groups.specs.Members.{IsIn, members}
 use Rattle.bd_space.specs.declared.step.ObjectId.{ObjectId}

@@ -2,8 +2,8 @@
 use Rattle.std.proofs.Common.{◌≡◌, Bool, true, false, not, cond, List, [], ◌∷◌, ◌++◌, Option, Some, None, find, filter, option_map, refl, ap, sym, subst, ◌∙◌}
 use Rattle.std.specs.Option.{option_or}
 use Rattle.std.proofs.lemmas.List.Folds.{find-append}
-use Rattle.bd_words.proofs.Found.{found_passes}
-use Rattle.bd_words.proofs.Options.{or_none}
+use Rattle.bd_keys.proofs.Found.{found_passes}
+use Rattle.bd_keys.proofs.Options.{or_none}
 use Rattle.bd_space.specs.Words.{changed}
 use Rattle.bd_nodes.specs.Keys.{kept}
 use Rattle.bd_nodes.specs.Stands.{AreDistinct, Finds}

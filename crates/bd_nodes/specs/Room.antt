@@ -1,8 +1,8 @@
 -- How many objects a table may still take without memory, how many it has, and what a change takes of that.
 use Rattle.std.specs.Prelude.{ℕ, min}
 use Rattle.std.specs.HashMap.{hash_map_len, spare}
-use Rattle.bd_words.specs.Look.{word_room}
-use Rattle.bd_words.specs.Tables as tables
+use Rattle.bd_keys.specs.Look.{word_room}
+use Rattle.bd_keys.specs.Tables as tables
 use Rattle.bd_groups.specs.Members.{group_room}
 use Rattle.bd_nodes.specs.declared.table.NodeTable.{NodeTable}
 

@@ -4,8 +4,8 @@ ghost use Rattle.std.specs.Prelude.{◌≡◌};
 ghost use Rattle.bd_nodes.specs.Keys as keys;
 
 use bd_groups::Group;
+use bd_keys::WordKey;
 use bd_space::Object;
-use bd_words::WordKey;
 
 /// What its owner knows it by.
 pub(crate) fn own_key(x: &Object) -> WordKey

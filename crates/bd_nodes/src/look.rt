@@ -5,8 +5,8 @@ ghost use Rattle.bd_space.specs.Words as words;
 ghost use Rattle.bd_nodes.specs.Keys as keys;
 
 use crate::table::NodeTable;
+use bd_keys::WordKey;
 use bd_space::{Object, ObjectId};
-use bd_words::WordKey;
 
 /// What was found, if the process owns it.
 fn owned(found: Option<Object>, p: u32) -> Option<Object>

@@ -4,8 +4,8 @@ ghost use Rattle.std.specs.Prelude.{◌≡◌, ◌≤◌, [], List, length, OnOk
 
 use crate::key::owner_group;
 use bd_groups::Groups;
+use bd_keys::WordMap;
 use bd_space::{Object, ObjectId};
-use bd_words::WordMap;
 use std::alloc::{AllocError, Global};
 use std::collections::HashMap;
 

@@ -17,7 +17,7 @@ use Rattle.bd_space.specs.References.{owned_in}
 use Rattle.bd_space.specs.Parcels.{object_of_item}
 use Rattle.bd_space.specs.Names.{is_named_in, is_managers, named_in, number_in, with_name, with_names, has_number_past_limit}
 use Rattle.bd_space.proofs.Identities.{same-eq, same-self}
-use Rattle.bd_names.specs.Numbers.{IsFull, new_number}
+use Rattle.bd_handles.specs.Numbers.{IsFull, new_number}
 use Rattle.bd_objects.specs.Naming.{with_name_unless, with_other_name, is_referred, AreReferred}
 use Rattle.bd_objects.specs.Numbers.{IsPastLimit}
 

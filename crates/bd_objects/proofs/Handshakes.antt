@@ -4,8 +4,8 @@ use Rattle.std.proofs.lemmas.List.{take_more}
 use Rattle.bd_space.specs.declared.space.Work.{Work}
 use Rattle.bd_space.specs.Space.{Space}
 use Rattle.bd_space.specs.ReadItems.{handshakes, handshakes_of}
-use Rattle.bd_references.specs.declared.table.ReferenceTable.{ReferenceTable}
-use Rattle.bd_references.specs.Stands.{ReferencesAre}
+use Rattle.bd_holds.specs.declared.table.ReferenceTable.{ReferenceTable}
+use Rattle.bd_holds.specs.Stands.{ReferencesAre}
 
 module _ (s : Space) where
   one-more : (ws : List Work) (w : Work) (k : ℕ) → handshakes s k (ws ++ w ∷ []) ≡ handshakes s k ws ++ handshakes_of s (k + length (handshakes s k ws)) w.kind

@@ -5,9 +5,9 @@ use Rattle.std.proofs.lemmas.List.{take-append-drop, drop-append-le, drop_all}
 use Rattle.std.proofs.lemmas.List.Folds.{find-append}
 use Rattle.bd_space.specs.declared.space.Object.{Object}
 use Rattle.bd_space.specs.References.{own_in}
-use Rattle.bd_words.specs.declared.key.WordKey.{WordKey}
-use Rattle.bd_words.specs.declared.map.WordMap.{WordMap}
-use Rattle.bd_words.specs.Look.{look}
+use Rattle.bd_keys.specs.declared.key.WordKey.{WordKey}
+use Rattle.bd_keys.specs.declared.map.WordMap.{WordMap}
+use Rattle.bd_keys.specs.Look.{look}
 use Rattle.bd_objects.specs.Later.{few, own_at, Finds}
 
 -- one is found among the first few or after them

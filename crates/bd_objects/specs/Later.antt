@@ -2,9 +2,9 @@
 use Rattle.std.specs.Prelude.{ℕ, ◌≡◌, List, Option, drop}
 use Rattle.bd_ways.specs.Words.{Object}
 use Rattle.bd_space.specs.References.{own_in}
-use Rattle.bd_words.specs.declared.key.WordKey.{WordKey}
-use Rattle.bd_words.specs.declared.map.WordMap.{WordMap}
-use Rattle.bd_words.specs.Look.{look}
+use Rattle.bd_keys.specs.declared.key.WordKey.{WordKey}
+use Rattle.bd_keys.specs.declared.map.WordMap.{WordMap}
+use Rattle.bd_keys.specs.Look.{look}
 
 -- so many are looked through one by one
 abbrev pub few : ℕ

@@ -1,7 +1,7 @@
 -- The objects that a parcel makes, and room for more of them.
 use Rattle.std.specs.Prelude.{ℕ, ◌+◌, ◌-◌, List, min, vec_len, vec_capacity}
 use Rattle.bd_ways.specs.Words.{Object}
-use Rattle.bd_words.specs.Look.{word_room}
+use Rattle.bd_keys.specs.Look.{word_room}
 use Rattle.bd_objects.specs.Later.{few}
 use Rattle.bd_objects.specs.declared.made.Made.{Made}
 

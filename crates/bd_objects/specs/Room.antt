@@ -2,8 +2,8 @@
 use Rattle.std.specs.Prelude.{ℕ, ◌+◌, ◌≤◌, List, length}
 use Rattle.bd_ways.specs.Words.{Item, Object}
 use Rattle.bd_nodes.specs.Room.{node_room, node_count}
-use Rattle.bd_references.specs.Room.{reference_room as reference_room_of}
-use Rattle.bd_names.specs.Stands.{name_room as name_room_of}
+use Rattle.bd_holds.specs.Room.{reference_room as reference_room_of}
+use Rattle.bd_handles.specs.Stands.{name_room as name_room_of}
 use Rattle.bd_deaths.specs.Room.{death_room as death_room_of, death_count as death_count_of}
 use Rattle.bd_objects.specs.declared.table.ObjectTable.{ObjectTable}
 use Rattle.bd_objects.specs.declared.room.Room.{Room}

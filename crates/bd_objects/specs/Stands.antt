@@ -6,8 +6,8 @@ use Rattle.bd_ways.specs.Tables.{IsAt}
 use Rattle.bd_processes.specs.declared.table.ProcessTable.{ProcessTable}
 use Rattle.bd_processes.specs.Stands.{ProcessesAre}
 use Rattle.bd_nodes.specs.Stands.{NodesAre}
-use Rattle.bd_references.specs.Stands.{ReferencesAre}
-use Rattle.bd_names.specs.Stands.{NamesAre}
+use Rattle.bd_holds.specs.Stands.{ReferencesAre}
+use Rattle.bd_handles.specs.Stands.{NamesAre}
 use Rattle.bd_deaths.specs.Stands.{DeathsAre}
 use Rattle.bd_objects.specs.declared.table.ObjectTable.{ObjectTable}
 

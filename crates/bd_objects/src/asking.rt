@@ -4,11 +4,11 @@ ghost use Rattle.std.specs.Prelude.{◌≡◌, ◌==◌, ◌≤◌, ◌∷◌, [
 ghost use Rattle.bd_space.specs.Words.{first_of};
 ghost use Rattle.bd_space.specs.Asking as asking;
 ghost use Rattle.bd_space.specs.{Names.{named_in as named_in_list}, declared.space.Name.{Name}};
-ghost use Rattle.bd_names.specs.Stands.{NamesAre};
+ghost use Rattle.bd_handles.specs.Stands.{NamesAre};
 
 use crate::naming::give_asked_name;
 use crate::table::ObjectTable;
-use bd_names::{NameTable, NumbersFull};
+use bd_handles::{NameTable, NumbersFull};
 use bd_space::{Holder, Identity, Object, ObjectId, Reference};
 use bd_uapi::Note;
 

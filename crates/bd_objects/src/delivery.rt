@@ -5,12 +5,12 @@ ghost use Rattle.std.specs.Prelude.{◌≡◌, ◌≤◌, ◌+◌, ◌++◌, ◌
 ghost use Rattle.bd_space.specs.Delivery as delivery;
 ghost use Rattle.bd_space.specs.Parcels as translations;
 ghost use Rattle.bd_space.specs.declared.space.Reference.{Reference};
-ghost use Rattle.bd_references.specs.{Stands.{ReferencesAre}, Room.{reference_room as room_in}};
+ghost use Rattle.bd_holds.specs.{Stands.{ReferencesAre}, Room.{reference_room as room_in}};
 
 use crate::naming::give_names;
 use crate::table::ObjectTable;
-use bd_names::NumbersFull;
-use bd_references::ReferenceTable;
+use bd_handles::NumbersFull;
+use bd_holds::ReferenceTable;
 use bd_space::{Holder, Identity, Item, Object, ObjectId, Reference};
 use bd_uapi::{FlatObject, ObjectKind};
 

@@ -6,11 +6,11 @@ ghost use Rattle.bd_space.specs.{declared.space.Object.{Object}, declared.space.
 ghost use Rattle.bd_space.specs.References.{owned_in, is_of_owner};
 ghost use Rattle.bd_space.specs.ProcessExits as process_exits;
 ghost use Rattle.bd_nodes.specs.Stands.{NodesAre};
-ghost use Rattle.bd_references.specs.{Stands.{ReferencesAre}, Room.{reference_room}};
+ghost use Rattle.bd_holds.specs.{Stands.{ReferencesAre}, Room.{reference_room}};
 
 use crate::table::ObjectTable;
+use bd_holds::ReferenceTable;
 use bd_nodes::NodeTable;
-use bd_references::ReferenceTable;
 use bd_space::ObjectId;
 use std::alloc::AllocError;
 

@@ -17,8 +17,8 @@ mod room;
 mod table;
 mod touched;
 
-pub use bd_names::NumbersFull;
-pub use bd_references::CarriedObjects;
+pub use bd_handles::NumbersFull;
+pub use bd_holds::CarriedObjects;
 pub use made::Made;
 pub use room::Room;
 pub use table::ObjectTable;

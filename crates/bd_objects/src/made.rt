@@ -2,11 +2,11 @@
 
 ghost use Rattle.std.specs.{Prelude.{◌≡◌, ◌≤◌, ◌+◌, ◌-◌, ◌++◌, ◌∷◌, [], take, OnOk, OnErr}, Option.{option_or}};
 ghost use Rattle.bd_space.specs.References as refer;
-ghost use Rattle.bd_words.specs.{Look.{look, word_room}, declared.key.WordKey.{WordKey}};
+ghost use Rattle.bd_keys.specs.{Look.{look, word_room}, declared.key.WordKey.{WordKey}};
 ghost use Rattle.bd_objects.specs.Later as after;
 
+use bd_keys::{WordKey, WordMap};
 use bd_space::Object;
-use bd_words::{WordKey, WordMap};
 use std::alloc::{AllocError, Global};
 
 /// So many are looked through one by one. Most parcels make no more, and then take no memory for a map.

@@ -2,7 +2,7 @@
 
 ghost use Rattle.bd_space.specs.Names as names_of;
 ghost use Rattle.bd_space.specs.Space.{Space};
-ghost use Rattle.bd_names.specs.Numbers.{IsNextNumber};
+ghost use Rattle.bd_handles.specs.Numbers.{IsNextNumber};
 
 use crate::table::ObjectTable;
 use bd_space::ObjectId;

@@ -8,10 +8,10 @@ ghost use Rattle.bd_space.specs.Names as names_of;
 ghost use Rattle.bd_space.specs.{Parcels.{object_of_item}, declared.space.Name.{Name}, declared.space.Object.{Object}};
 ghost use Rattle.bd_space.specs.{declared.space.Reference.{Reference}, declared.step.ObjectId.{ObjectId}};
 ghost use Rattle.bd_nodes.specs.Stands.{NodesAre};
-ghost use Rattle.bd_names.specs.{Stands.{NamesSince, NamesAre, name_room, Uses}, Numbers.{IsFull}};
+ghost use Rattle.bd_handles.specs.{Stands.{NamesSince, NamesAre, name_room, Uses}, Numbers.{IsFull}};
 ghost use Rattle.bd_objects.specs.{Naming.{with_name_unless, with_other_name, AreReferred}, Numbers.{IsPastLimit}};
 
-use bd_names::{NameTable, NumbersFull};
+use bd_handles::{NameTable, NumbersFull};
 use bd_nodes::NodeTable;
 use bd_space::{Item, Object, ObjectId};
 

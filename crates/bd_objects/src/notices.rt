@@ -6,8 +6,8 @@ ghost use Rattle.bd_space.specs.Notices as notices;
 ghost use Rattle.bd_objects.specs.Telling.{differs};
 
 use crate::table::ObjectTable;
+use bd_holds::Hold;
 use bd_processes::ProcessTable;
-use bd_references::Hold;
 use bd_space::Object;
 
 // Whether what the owner was told isn't what is so.

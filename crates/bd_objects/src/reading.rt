@@ -11,12 +11,12 @@ ghost use Rattle.bd_ways.specs.Tables.{IsAt};
 ghost use Rattle.bd_space.specs.{declared.space.Reference.{Reference}, declared.space.Holder.TheVariants.{Handshake}};
 ghost use Rattle.bd_nodes.specs.Stands.{NodesAre};
 ghost use Rattle.bd_nodes.specs.Room as node_rooms;
-ghost use Rattle.bd_references.specs.{Stands.{ReferencesAre}, Room.{reference_room as room_in}};
+ghost use Rattle.bd_holds.specs.{Stands.{ReferencesAre}, Room.{reference_room as room_in}};
 ghost use Rattle.bd_objects.specs.Reading.{owed, HoldsAlike};
 
 use crate::table::ObjectTable;
+use bd_holds::{Hold, ReferenceTable};
 use bd_nodes::NodeTable;
-use bd_references::{Hold, ReferenceTable};
 use bd_space::{Holder, Identity, Object, ObjectId, Reference, Work, WorkKind};
 use bd_uapi::Return;
 

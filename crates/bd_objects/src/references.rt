@@ -4,14 +4,14 @@ ghost use Rattle.std.specs.Prelude.{◌++◌, map, filter, OnOk};
 ghost use Rattle.bd_space.specs.References as refer;
 
 use crate::table::ObjectTable;
-use bd_references::CarriedObjects;
+use bd_holds::CarriedObjects;
 use bd_space::ObjectId;
 use std::alloc::AllocError;
 
 impl ObjectTable {
     ghost use Rattle.bd_space.specs.Freeing as freeing;
     ghost use Rattle.bd_ways.specs.Tables.{Tells, Makes};
-    ghost use Rattle.bd_references.specs.Carried.{carried_in};
+    ghost use Rattle.bd_holds.specs.Carried.{carried_in};
     ghost use Rattle.bd_objects.specs.{Stands.{StandsFor}, Room.{UsesNothing}};
 
     /// The objects that the buffer made there carries, one for each object of its parcel, in their order.

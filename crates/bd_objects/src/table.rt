@@ -2,15 +2,15 @@
 
 ghost use Rattle.std.specs.Prelude.{◌≡◌, ◌≤◌, true, OnOk, OnErr};
 ghost use Rattle.bd_nodes.specs.Room.{node_room};
-ghost use Rattle.bd_references.specs.Room.{reference_room};
-ghost use Rattle.bd_names.specs.Stands.{name_room};
+ghost use Rattle.bd_holds.specs.Room.{reference_room};
+ghost use Rattle.bd_handles.specs.Stands.{name_room};
 ghost use Rattle.bd_deaths.specs.Room.{death_room};
 
 use crate::room::Room;
 use bd_deaths::DeathTable;
-use bd_names::NameTable;
+use bd_handles::NameTable;
+use bd_holds::ReferenceTable;
 use bd_nodes::NodeTable;
-use bd_references::ReferenceTable;
 use std::alloc::{AllocError, Global};
 
 // Room is made for so many of each at once, so that most steps find it there.

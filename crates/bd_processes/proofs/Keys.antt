@@ -1,9 +1,9 @@
 -- Pids are told apart by their keys.
 use Rattle.std.proofs.Common.{◌≡◌, ℕ, ◌==◌, Bool, true, false, refl, ap, sym, ◌∙◌}
 use Rattle.std.proofs.lemmas.Bool.{eqb-true, eqb-false}
-use Rattle.bd_words.specs.declared.key.WordKey.{WordKey}
-use Rattle.bd_words.specs.Keys.{same_word}
-use Rattle.bd_words.proofs.Keys.{word-eq, word-self}
+use Rattle.bd_keys.specs.declared.key.WordKey.{WordKey}
+use Rattle.bd_keys.specs.Keys.{same_word}
+use Rattle.bd_keys.proofs.Keys.{word-eq, word-self}
 use Rattle.bd_processes.specs.Keys.{pid_key}
 
 pub same_pid : (a b : ℕ) → same_word (pid_key a) (pid_key b) ≡ (a == b)

@@ -1,6 +1,6 @@
 -- How many processes a table may still take without memory.
 use Rattle.std.specs.Prelude.{ℕ, ◌-◌, min, vec_len, vec_capacity}
-use Rattle.bd_words.specs.Look.{word_room}
+use Rattle.bd_keys.specs.Look.{word_room}
 use Rattle.bd_processes.specs.declared.table.ProcessTable.{ProcessTable}
 
 unfoldable pub process_room : ProcessTable → ℕ

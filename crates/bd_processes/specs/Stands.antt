@@ -2,7 +2,7 @@
 use Rattle.std.specs.Prelude.{ℕ, ◌≡◌, List, AllPairs, option_map}
 use Rattle.bd_space.specs.declared.space.Process.{Process}
 use Rattle.bd_space.specs.Seats.{process_with_pid}
-use Rattle.bd_words.specs.Look.{look}
+use Rattle.bd_keys.specs.Look.{look}
 use Rattle.bd_processes.specs.declared.table.ProcessTable.{ProcessTable}
 use Rattle.bd_processes.specs.Keys.{pid_key}
 use Rattle.bd_processes.specs.Order.{IsRising}

@@ -4,8 +4,8 @@ ghost use Rattle.std.specs.{Prelude.{◌≡◌, ◌≤◌, [], true, OnOk, OnErr
 ghost use Rattle.bd_space.specs.Steps.{is_pid};
 ghost use Rattle.bd_processes.specs.Keys as keys;
 
+use bd_keys::{WordKey, WordMap};
 use bd_space::Process;
-use bd_words::{WordKey, WordMap};
 use std::alloc::{AllocError, Global};
 
 /// The live processes.

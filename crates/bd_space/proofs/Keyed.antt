@@ -3,7 +3,7 @@ use Rattle.std.proofs.Common.{◌≡◌, ℕ, zero, suc, ◌<◌, ◌==◌, Bool
 use Rattle.std.specs.Prelude.{AllPairs, option_map}
 use Rattle.std.proofs.lemmas.List.Elements.{All-head, All-tail}
 use Rattle.bd_space.specs.Words.{changed}
-use Rattle.bd_words.proofs.Rising.{Distinct, AllOthers, has, pairs_tail, first_differs, rest_differ}
+use Rattle.bd_keys.proofs.Rising.{Distinct, AllOthers, has, pairs_tail, first_differs, rest_differ}
 
 -- ---- which elements change
 

@@ -3,11 +3,11 @@
 ghost use Rattle.std.specs.{Prelude.{◌≡◌, IfOk}, Cmp.Rules.{hashing}};
 ghost use Rattle.std.specs.Hash as fed;
 ghost use Rattle.std.proofs.Common.{rules};
-ghost use Rattle.bd_words.specs.Numbers.{pair};
+ghost use Rattle.bd_keys.specs.Numbers.{pair};
 
 use crate::bytes::{Bytes, Notes};
+use bd_keys::pair;
 use bd_uapi::{Cause, Command, Fault, Note};
-use bd_words::pair;
 use std::alloc::AllocError;
 use std::hash::{Hash, Hasher};
 
@@ -21,7 +21,7 @@ pub struct ObjectId {
     pub index: u32,
 }
 
-// One write, as `bd_words` says.
+// One write, as `bd_keys` says.
 impl Hash for ObjectId {
     ghost hash_input = { λ o. fed.u64 (pair o.place o.index) };
 

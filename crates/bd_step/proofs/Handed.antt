@@ -14,7 +14,7 @@ use Rattle.bd_space.specs.Freeing.{without_buffer}
 use Rattle.bd_space.specs.ThreadExits.{is_lost_with}
 use Rattle.bd_objects.specs.declared.table.ObjectTable.{ObjectTable}
 use Rattle.bd_objects.specs.Room.{UsesNothing}
-use Rattle.bd_links.proofs.OnList.{any-filter}
+use Rattle.bd_todo.proofs.OnList.{any-filter}
 use Rattle.bd_step.specs.Handed.{without_any, without_handed, without_all_handed}
 use Rattle.bd_step.proofs.Following.{keeps-all, twice}
 

@@ -19,9 +19,9 @@ use crate::answer::Plain;
 use crate::tables::{NOTHING, Tables};
 use crate::why::Why;
 use bd_buffers::Windows;
-use bd_links::{Works, hands_out};
 use bd_objects::ObjectTable;
 use bd_space::{Actor, Thread, TodoList, WorkKind};
+use bd_todo::{Works, hands_out};
 use bd_uapi::Fault;
 
 // The buffer goes that reading a work item of this kind would have handed out, with the references that it holds.

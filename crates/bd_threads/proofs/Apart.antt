@@ -4,8 +4,8 @@ use Rattle.std.specs.Prelude.{Option, remove}
 use Rattle.std.proofs.lemmas.List.Quantifiers.{all_pairs_push, all_pairs_remove}
 use Rattle.bd_space.specs.declared.space.Thread.{Thread}
 use Rattle.bd_space.specs.Words.{changed}
-use Rattle.bd_words.proofs.Found.{tags_more, tags_less, apart_from}
-use Rattle.bd_words.proofs.Rising.{Distinct}
+use Rattle.bd_keys.proofs.Found.{tags_more, tags_less, apart_from}
+use Rattle.bd_keys.proofs.Rising.{Distinct}
 use Rattle.bd_space.proofs.Keyed.{changed_at, pairs_changed, tags_changed}
 use Rattle.bd_threads.specs.Apart.{AreApart}
 use Rattle.bd_threads.specs.New.{IsNewIn}

@@ -1,11 +1,11 @@
 -- A seat's thread is the one that was made where the map says.
 use Rattle.std.proofs.Common.{◌≡◌, ℕ, ◌<◌, ◌==◌, false, List, length, get_or, Some, None, find, sym, ◌∙◌, All, IfSome, eqb-true}
 use Rattle.std.specs.Prelude.{Option, MatchOption}
-use Rattle.bd_words.proofs.Options.{none_mapped}
+use Rattle.bd_keys.proofs.Options.{none_mapped}
 use Rattle.bd_space.specs.declared.space.Thread.{Thread}
 use Rattle.bd_space.specs.Seats.{thread_in}
-use Rattle.bd_words.proofs.Rising.{distinct, find_none, find_at}
-use Rattle.bd_words.proofs.Found.{by_key, none_found, found_passes}
+use Rattle.bd_keys.proofs.Rising.{distinct, find_none, find_at}
+use Rattle.bd_keys.proofs.Found.{by_key, none_found, found_passes}
 use Rattle.bd_threads.specs.Apart.{AreApart}
 
 abbrev made_of : Thread → ℕ

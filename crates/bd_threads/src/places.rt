@@ -3,8 +3,8 @@
 ghost use Rattle.std.specs.{Prelude.{ℕ, ◌≡◌, ◌==◌, ◌≤◌, ◌<◌, ◌+◌, true, Some, None, if◌then◌else◌}, HashMap.{spare}};
 ghost use Rattle.bd_threads.specs.Apart.{place_at};
 
+use bd_keys::insert_reserved;
 use bd_space::Thread;
-use bd_words::insert_reserved;
 use std::collections::HashMap;
 
 pub(crate) fn place_of(places: &HashMap<u32, u32>, seat: u32) -> Option<u32>

@@ -2,7 +2,7 @@
 use Rattle.std.proofs.Common.{◌≡◌, ℕ, zero, suc, ◌<◌, ◌-◌, Bool, true, false, cond, ◌&&◌, List, [], ◌∷◌, ◌++◌, length, get_or, Option, Some, None, refl, ap, sym, ◌∙◌, subst, arith}
 use Rattle.std.specs.Option.{option_or, option_map, option_and_then, is_none}
 use Rattle.std.specs.List.{slice_get}
-use Rattle.bd_words.proofs.Options.{or_none}
+use Rattle.bd_keys.proofs.Options.{or_none}
 use Rattle.bd_space.specs.declared.step.ObjectId.{ObjectId}
 use Rattle.bd_space.specs.Words.{same}
 use Rattle.bd_turns.specs.declared.slots.Entry.{Entry}

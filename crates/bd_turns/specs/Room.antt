@@ -1,7 +1,7 @@
 -- How many one-way calls a table may still take without memory, how many slots it has, and what a change takes of that.
 use Rattle.std.specs.Prelude.{ℕ, ◌-◌, min, vec_len, vec_capacity}
 use Rattle.std.specs.HashMap.{spare}
-use Rattle.bd_words.specs.Tables as tables
+use Rattle.bd_keys.specs.Tables as tables
 use Rattle.bd_groups.specs.Members.{group_room}
 use Rattle.bd_turns.specs.declared.queue.Queue.{Queue}
 use Rattle.bd_turns.specs.declared.table.TurnTable.{TurnTable}

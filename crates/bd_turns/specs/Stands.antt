@@ -1,7 +1,7 @@
 -- What a table of one-way calls stands for: the one-way calls of the space, in its order.
 use Rattle.std.specs.Prelude.{◌≡◌, true, List}
 use Rattle.bd_ways.specs.Words.{ObjectId, Turn}
-use Rattle.bd_words.specs.Tables as tables
+use Rattle.bd_keys.specs.Tables as tables
 use Rattle.bd_turns.specs.declared.queue.Queue.{Queue}
 use Rattle.bd_turns.specs.declared.table.TurnTable.{TurnTable}
 use Rattle.bd_turns.specs.Slots.{entries, nexts, turns_in, Chained, Rising}

@@ -3,7 +3,7 @@
 
 ghost use Rattle.std.specs.Prelude.{ℕ, Bool, true, List, ◌≡◌, ◌==◌, ◌<◌, ◌≤◌, ◌++◌, ◌∷◌, [], not, filter, find, map, if◌then◌else◌, Some, IfOk};
 ghost use Rattle.std.specs.{Option.{option_map, option_and_then}, List.{slice_get}, HashMap.{spare}};
-ghost use Rattle.bd_words.specs.Tables.{AnswersBy};
+ghost use Rattle.bd_keys.specs.Tables.{AnswersBy};
 ghost use Rattle.bd_space.specs.declared.space.Turn as declared;
 ghost use Rattle.bd_space.specs.Words.{changed, same};
 ghost use Rattle.bd_space.specs.declared.step.ObjectId as declared_step;
@@ -15,8 +15,8 @@ ghost use Rattle.bd_turns.specs.Sweep.{handed_if, kept, changed_each, Within, is
 use crate::ends::{Ends, ends_of, is_first, set_first, with_last};
 use crate::slots::{Entry, Slot, entry_at, is_latest, link_last, live_after, set_entry};
 use bd_groups::Members;
+use bd_keys::insert_reserved;
 use bd_space::{ObjectId, Turn};
-use bd_words::insert_reserved;
 use std::alloc::{AllocError, Global};
 use std::collections::HashMap;
 use std::ops::Range;

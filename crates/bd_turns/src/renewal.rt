@@ -9,7 +9,7 @@ use crate::queue::Queue;
 use crate::slots::{Slot, count_live};
 use crate::table::TurnTable;
 use bd_groups::Groups;
-use bd_words::room_anew;
+use bd_keys::room_anew;
 use std::alloc::{AllocError, Global};
 
 // Room is made anew for so many calls at least.

@@ -1,7 +1,7 @@
 -- What a table's functions say of the spaces that it stands for.
 use Rattle.std.specs.Prelude.{ℕ, ◌≡◌}
 use Rattle.bd_ways.specs.Words.{Space}
-use Rattle.bd_words.specs.Tables as tables
+use Rattle.bd_keys.specs.Tables as tables
 
 -- of every such space x is what f says
 abbrev pub Tells : {A : Type 0} → (Space → Type 0) → A → (Space → A) → Type 0

@@ -4,7 +4,7 @@ use Rattle.std.proofs.lemmas.Bool.{cases_order}
 use Rattle.bd_laws.proofs.words.Types.{Entry, Work, Thread, OfThread, WorkKind}
 use Rattle.bd_laws.proofs.words.Space.{first_of, Space, opening, is_frame, is_on, list_to_read, taken, ends_read, History, after}
 use Rattle.bd_space.specs.declared.space.WorkKind.TheVariants as work
-use Rattle.bd_links.specs.TodoList.{reply_of, first_reply_in}
+use Rattle.bd_todo.specs.TodoList.{reply_of, first_reply_in}
 use Rattle.bd_laws.specs.Lists.{In, Pairs}
 use Rattle.bd_laws.proofs.Lists.{in-filter, filter-in, pairs-filter, any-found, any-in}
 use Rattle.bd_laws.proofs.Tests.{both, and-both, to-false, on-thread}

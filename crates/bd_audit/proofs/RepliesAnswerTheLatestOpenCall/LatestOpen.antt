@@ -5,7 +5,7 @@ use Rattle.bd_laws.proofs.words.Types.{TransactionData, NotServing, Unread, Parc
 use Rattle.bd_laws.proofs.words.Space.{when, first_of, is_some_and, Space, opening, actor, calls, is_frame, innermost, innermost_in, served_innermost, made_of, has_unread, keeps_from_calling, is_on, same_list, Delivery, transaction_step, caller_cause, is_one_way, reply_check, reply_step, caller_of, command_step, change, History, after}
 use Rattle.bd_uapi.specs.declared.command.Command.TheVariants as bc
 use Rattle.bd_space.specs.declared.space.WorkKind.TheVariants as work
-use Rattle.bd_links.specs.TodoList.{reply_of}
+use Rattle.bd_todo.specs.TodoList.{reply_of}
 use Rattle.bd_laws.specs.Lists.{In}
 use Rattle.bd_laws.proofs.Lists.{any-in, any-found, all-in, in-all}
 use Rattle.bd_laws.proofs.Tests.{and-both, some-eq, eq-some, bound-if, if-bound}

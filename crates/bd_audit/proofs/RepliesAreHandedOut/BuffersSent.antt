@@ -4,7 +4,7 @@ use Rattle.bd_laws.proofs.words.Logic.{◌≡◌, ℕ, Bool, true, false, cond, 
 use Rattle.bd_laws.proofs.words.Types.{TransactionData, Parcel, Process, Thread, Buffer, Frame, Turn, Work, Actor, TodoList, OfThread, OfProcess, WorkKind}
 use Rattle.bd_laws.proofs.words.Space.{Space, actor, turn_of, turns_of, is_ripe, ripened, ripen, with_work, owe, hands_out, assign_numbers, closed, goes_to, Delivery, delivered, own_notices, add_buffer, known_by, refer, make_objects, buffer_of, transacted, called, call_out, reply_check, replied}
 use Rattle.bd_space.specs.declared.space.WorkKind.TheVariants as work
-use Rattle.bd_links.specs.TodoList.{reply_of}
+use Rattle.bd_todo.specs.TodoList.{reply_of}
 use Rattle.bd_laws.proofs.words.Laws.{In, IsInTurn}
 use Rattle.bd_laws.proofs.Lists.{in-left, in-last, in-push, in-filter_map}
 use Rattle.bd_laws.proofs.Checks.{actor-acts, reply-checked}

@@ -9,7 +9,7 @@ use Rattle.bd_uapi.specs.declared.command.Command as command
 use Rattle.bd_uapi.specs.declared.command.Return.TheVariants as br
 use Rattle.bd_codec.specs.Spelling.{return_bytes}
 use Rattle.bd_space.specs.declared.space.WorkKind.TheVariants as work
-use Rattle.bd_links.specs.TodoList.{reply_of, first_reply_in}
+use Rattle.bd_todo.specs.TodoList.{reply_of, first_reply_in}
 use Rattle.bd_laws.specs.Lists.{In}
 use Rattle.bd_laws.proofs.Lists.{find-some}
 use Rattle.bd_laws.proofs.Tests.{not-true}

@@ -4,7 +4,7 @@ use Rattle.bd_laws.proofs.words.Logic.{arith, inl, inr, ◌≡◌, ℕ, suc, ◌
 use Rattle.bd_laws.proofs.words.Types.{Step, Entry, Thread, Buffer, Work, TodoList, OfThread, OfProcess}
 use Rattle.bd_laws.proofs.words.Space.{Space, opening, is_on, same_list, is_item, list_to_read, ripen, follow, notify, work_goes, deaths_go, names_go, assign_numbers, objects_go, without_buffer, is_made_at, taken, read_by, buffer_taken, handed_buffers, thread_goes, is_lost_with, threads_go, without_process, tell_deaths, counted, with_thread, with_process, with_manager, ask, drop_asked, acknowledge, with_looping, after, next, with_spam_detection}
 use Rattle.bd_space.specs.declared.space.WorkKind.TheVariants as work
-use Rattle.bd_links.specs.TodoList.{reply_of}
+use Rattle.bd_todo.specs.TodoList.{reply_of}
 use Rattle.bd_laws.proofs.words.Laws.{In, IsInTurn}
 use Rattle.bd_laws.proofs.Machine.EveryEnding.{SetUp}
 use Rattle.bd_laws.proofs.Machine.EveryStep.{Keeps, every_step, every_list}

@@ -3,7 +3,7 @@ use Rattle.bd_laws.proofs.words.Logic.{arith, ◌≡◌, ℕ, ◌==◌, Bool, fa
 use Rattle.bd_laws.proofs.words.Types.{TransactionData, Thread, Work, Frame, Actor, Serving, TodoList, OfThread, WorkKind}
 use Rattle.bd_laws.proofs.words.Space.{completed, changed, Space, with_work, owe, is_on, is_notice, ripen, follow, work_goes, still_due, closed, Delivery, delivered, add_buffer, without_buffer, thread_goes, frame_without, without_process, with_thread, with_looping}
 use Rattle.bd_space.specs.declared.space.WorkKind.TheVariants as work
-use Rattle.bd_links.specs.TodoList.{reply_of}
+use Rattle.bd_todo.specs.TodoList.{reply_of}
 use Rattle.bd_laws.specs.Lists.{In}
 use Rattle.bd_laws.proofs.Lists.{in-push, in-filter, in-map}
 use Rattle.std.proofs.lemmas.List.Folds.{find-append}

@@ -4,7 +4,7 @@ use Rattle.bd_laws.proofs.words.Logic.{◌≡◌, ℕ, Bool, true, false, List, 
 use Rattle.bd_laws.proofs.words.Types.{TransactionData, Step, Entry, Object, Process, Reference, Frame, Work, Actor, TodoList, OfThread, WorkKind, ObjectId}
 use Rattle.bd_laws.proofs.words.Space.{Space, opening, with_work, owe, goes_to, Delivery, transacted, called, call_out, replied, read_by, change, counted, History, next, space_after, notice_of, death_of, wants_notice, object_in}
 use Rattle.bd_space.specs.declared.space.WorkKind.TheVariants as work
-use Rattle.bd_links.specs.TodoList.{reply_of}
+use Rattle.bd_todo.specs.TodoList.{reply_of}
 use Rattle.bd_laws.proofs.words.Laws.{In, Distinct}
 use Rattle.bd_laws.proofs.Machine.EveryStep.{Keeps, every_step, every_list}
 use Rattle.bd_laws.proofs.Machine.Adding.{told-keeps}

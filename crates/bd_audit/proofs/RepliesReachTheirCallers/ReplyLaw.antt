@@ -3,7 +3,7 @@
 use Rattle.bd_laws.proofs.words.Logic.{◌≡◌, ℕ, zero, suc, ◌<◌, false, List, [], ◌∷◌, ◌++◌, length, take, Some, inl, inr, refl, ap, sym, subst, ◌∙◌, arith, list_any, slice_get, option_and_then, option_and_then_some, eqb-true, eq-eqb}
 use Rattle.bd_laws.proofs.words.Types.{Read, Entry, Work, Frame, OfThread}
 use Rattle.bd_laws.proofs.words.Space.{Space, opening, is_frame, innermost, counted, History, after, next, space_after}
-use Rattle.bd_links.specs.TodoList.{reply_of}
+use Rattle.bd_todo.specs.TodoList.{reply_of}
 use Rattle.bd_laws.specs.Lists.{In}
 use Rattle.bd_laws.proofs.Lists.{find-in, any-in}
 use Rattle.bd_audit.specs.Gifts.{Stands}

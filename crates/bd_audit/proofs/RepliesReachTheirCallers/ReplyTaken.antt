@@ -4,7 +4,7 @@ use Rattle.bd_laws.proofs.words.Logic.{arith, ◌≡◌, ℕ, ◌-◌, Bool, tru
 use Rattle.bd_laws.proofs.words.Types.{Read, Entry, Object, Process, Reference, Thread, Work, Actor, DeathNotification, TodoList, OfThread, WorkKind, ObjectId, OfProcess}
 use Rattle.bd_laws.proofs.words.Space.{Space, actor, is_on, list_to_read, is_item, follow, notify, work_goes, deaths_go, still_due, names_go, objects_go, taken, read_by, read_taking, bytes_read, change, counted, next, with_work}
 use Rattle.bd_space.specs.declared.space.WorkKind.TheVariants as work
-use Rattle.bd_links.specs.TodoList.{reply_of, first_reply_in}
+use Rattle.bd_todo.specs.TodoList.{reply_of, first_reply_in}
 use Rattle.bd_engine.specs.Looks.{first_reply}
 use Rattle.bd_laws.specs.Lists.{In}
 use Rattle.bd_laws.proofs.Lists.{in-filter, any-found, any-in}

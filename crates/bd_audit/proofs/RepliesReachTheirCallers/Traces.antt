@@ -5,7 +5,7 @@ use Rattle.bd_laws.proofs.words.Types.{TransactionData, Parcel, Command, Accepte
 use Rattle.bd_laws.proofs.words.Space.{Space, opening, actor, owe, goes_to, served_innermost, Delivery, completed, transaction_step, transaction_check, called, call_out, reply_step, reply_check, replied, command_step, change, after}
 use Rattle.bd_uapi.specs.declared.command.Command.TheVariants as bc
 use Rattle.bd_space.specs.declared.space.WorkKind.TheVariants as work
-use Rattle.bd_links.specs.TodoList.{reply_of}
+use Rattle.bd_todo.specs.TodoList.{reply_of}
 use Rattle.bd_laws.specs.Lists.{In}
 use Rattle.bd_laws.proofs.Lists.{in-push}
 use Rattle.bd_laws.proofs.Checks.{actor-lives, actor-acts}

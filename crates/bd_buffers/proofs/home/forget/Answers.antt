@@ -1,7 +1,7 @@
 use Rattle.std.proofs.Common.{ℕ, ◌∙◌, None, cond, ap}
-use Rattle.bd_words.specs.Keys.{same_word}
-use Rattle.bd_words.specs.Look.{look}
-use Rattle.bd_words.specs.declared.map.WordMap.{WordMap}
+use Rattle.bd_keys.specs.Keys.{same_word}
+use Rattle.bd_keys.specs.Look.{look}
+use Rattle.bd_keys.specs.declared.map.WordMap.{WordMap}
 use Rattle.bd_buffers.specs.Homes.{home_key}
 use Rattle.bd_buffers.proofs.Homes.{forgets_more, forgets_same}
 use Rattle.bd_buffers.proofs.home.forget.Goals as goal

@@ -1,6 +1,6 @@
 use Rattle.std.proofs.Common.{◌<◌, sym}
 use Rattle.std.proofs.lemmas.Bool.{ltb-true, lt-ltb}
-use Rattle.bd_words.proofs.Rising.{newest_all}
+use Rattle.bd_keys.proofs.Rising.{newest_all}
 use Rattle.bd_buffers.specs.declared.owned.OwnedWindow.{OwnedWindow}
 use Rattle.bd_buffers.proofs.Owners.{last_has}
 use Rattle.bd_buffers.proofs.owned.is_last.Goals as goal

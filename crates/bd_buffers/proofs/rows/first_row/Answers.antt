@@ -1,7 +1,7 @@
 use Rattle.std.proofs.Common.{ltb, rules}
 use Rattle.std.proofs.lemmas.List.Sorted.{IsPartitionPoint-from_clause}
 use Rattle.bd_buffers.specs.declared.rows.Row.{Row}
-use Rattle.bd_words.proofs.Rising.{non_decreasing}
+use Rattle.bd_keys.proofs.Rising.{non_decreasing}
 use Rattle.bd_buffers.proofs.Made.{searched}
 use Rattle.bd_buffers.proofs.rows.first_row.Goals as goal
 

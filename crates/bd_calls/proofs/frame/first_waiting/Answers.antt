@@ -4,7 +4,7 @@ use Rattle.std.proofs.lemmas.Iterator.Search.{find_from_yields_List}
 use Rattle.bd_space.specs.declared.space.Frame.{Frame}
 use Rattle.bd_space.specs.Frames as spec
 use Rattle.bd_threads.specs.Listed.{listed}
-use Rattle.bd_links.proofs.Plain.{as_it_is}
+use Rattle.bd_todo.proofs.Plain.{as_it_is}
 use Rattle.bd_calls.proofs.frame.first_waiting.Goals as goal
 
 pub returns : goal.returns

@@ -1,6 +1,6 @@
 use Rattle.std.proofs.Common.{◌≡◌, ◌+◌, ◌≤◌, List, take, vec_len, vec_capacity}
 use Rattle.bd_space.specs.declared.space.Work.{Work}
-use Rattle.bd_links.specs.Stands.{WorksAre}
+use Rattle.bd_todo.specs.Stands.{WorksAre}
 use Rattle.bd_calls.specs.Marks.{changed_lists}
 use Rattle.bd_calls.proofs.marks.list_changed.Given as goal
 

@@ -2,7 +2,7 @@ use Rattle.std.proofs.Common.{List, not, filter}
 use Rattle.bd_space.specs.declared.space.Turn.{Turn}
 use Rattle.bd_space.specs.declared.space.Work.{Work}
 use Rattle.bd_space.specs.ThreadExits.{is_lost_with}
-use Rattle.bd_links.specs.Stands.{WorksAre}
+use Rattle.bd_todo.specs.Stands.{WorksAre}
 use Rattle.bd_turns.specs.Room.{Uses}
 use Rattle.bd_turns.specs.Stands.{TurnsAre}
 use Rattle.bd_calls.proofs.Losing.{Losing}

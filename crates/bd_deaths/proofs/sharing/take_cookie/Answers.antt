@@ -1,8 +1,8 @@
 use Rattle.std.proofs.Common.{◌≡◌, Bool, true, false, cond, Option, Some, option_map, refl, ap, sym, subst, ◌∙◌}
-use Rattle.bd_words.specs.declared.key.WordKey.{WordKey}
-use Rattle.bd_words.specs.Keys.{same_word}
-use Rattle.bd_words.specs.Look.{look}
-use Rattle.bd_words.proofs.Keys.{word-eq}
+use Rattle.bd_keys.specs.declared.key.WordKey.{WordKey}
+use Rattle.bd_keys.specs.Keys.{same_word}
+use Rattle.bd_keys.specs.Look.{look}
+use Rattle.bd_keys.proofs.Keys.{word-eq}
 use Rattle.bd_deaths.specs.declared.key.Group.{Group}
 use Rattle.bd_deaths.specs.Keys.{without_one}
 use Rattle.bd_deaths.proofs.SharedKeys.{set-left}

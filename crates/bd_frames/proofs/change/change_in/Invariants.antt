@@ -1,5 +1,5 @@
 use Rattle.std.proofs.Common.{◌≡◌, ◌++◌, take, drop, vec_len, vec_capacity}
-use Rattle.bd_words.specs.Tables.{AnswersBy}
+use Rattle.bd_keys.specs.Tables.{AnswersBy}
 use Rattle.bd_space.specs.declared.space.Frame.{Frame}
 use Rattle.bd_space.specs.Words.{changed}
 use Rattle.bd_space.specs.Frames.{is_frame}

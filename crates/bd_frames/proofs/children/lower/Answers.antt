@@ -1,6 +1,6 @@
 use Rattle.std.proofs.Common.{ap}
 use Rattle.std.specs.Option.{option_copied_mut}
-use Rattle.bd_words.proofs.Options.{is_there}
+use Rattle.bd_keys.proofs.Options.{is_there}
 use Rattle.bd_frames.proofs.children.lower.Goals as goal
 
 pub returns-in-Some-clause-counts : goal.returns-in-Some-clause-counts

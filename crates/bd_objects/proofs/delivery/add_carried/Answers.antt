@@ -1,6 +1,6 @@
 use Rattle.std.proofs.Common.{arith, subst, ◌++◌, take, ap, ◌∙◌, None}
 use Rattle.bd_space.specs.Delivery.{buffer_references}
-use Rattle.bd_references.specs.Stands.{ReferencesAre}
+use Rattle.bd_holds.specs.Stands.{ReferencesAre}
 use Rattle.bd_objects.proofs.BufferReferences.{carried-more}
 use Rattle.bd_objects.proofs.delivery.add_carried.Goals as goal
 

@@ -1,8 +1,8 @@
 use Rattle.std.proofs.Common.{◌+◌, ◌≤◌, ◌++◌, take, List, None}
 use Rattle.bd_space.specs.declared.space.Reference.{Reference}
 use Rattle.bd_space.specs.Delivery.{buffer_references}
-use Rattle.bd_references.specs.Stands.{ReferencesAre}
-use Rattle.bd_references.specs.Room.{reference_room}
+use Rattle.bd_holds.specs.Stands.{ReferencesAre}
+use Rattle.bd_holds.specs.Room.{reference_room}
 use Rattle.bd_objects.proofs.delivery.add_carried.Given as goal
 
 abbrev pub invariant-loop-i : goal.invariant-loop-i

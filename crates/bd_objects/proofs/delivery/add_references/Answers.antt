@@ -1,6 +1,6 @@
 use Rattle.std.proofs.Common.{◌+◌, ◌++◌, [], length, None, ap, subst, sym, ◌∙◌, append_assoc, ◌≡◌, arith}
 use Rattle.bd_space.specs.Delivery.{buffer_references}
-use Rattle.bd_references.specs.Stands.{ReferencesAre}
+use Rattle.bd_holds.specs.Stands.{ReferencesAre}
 use Rattle.bd_objects.proofs.BufferReferences.{with-target}
 use Rattle.bd_objects.proofs.delivery.add_references.Goals as goal
 

@@ -1,5 +1,5 @@
 use Rattle.std.proofs.Common.{not, filter, refl, arith, ap, sym, subst, ◌∙◌}
-use Rattle.bd_references.specs.Stands.{ReferencesAre}
+use Rattle.bd_holds.specs.Stands.{ReferencesAre}
 use Rattle.bd_objects.proofs.Covering.{among-owned}
 use Rattle.bd_objects.proofs.Owned.{goes_at, goes_among, next-goes, none-left, all-owned}
 use Rattle.bd_objects.proofs.exits.drop_of_owned.Goals as goal

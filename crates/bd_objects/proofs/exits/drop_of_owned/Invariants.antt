@@ -2,8 +2,8 @@ use Rattle.std.proofs.Common.{◌≡◌, ◌≤◌, not, filter, List}
 use Rattle.bd_space.specs.declared.space.Object.{Object}
 use Rattle.bd_space.specs.declared.space.Reference.{Reference}
 use Rattle.bd_nodes.specs.Stands.{NodesAre}
-use Rattle.bd_references.specs.Stands.{ReferencesAre}
-use Rattle.bd_references.specs.Room.{reference_room}
+use Rattle.bd_holds.specs.Stands.{ReferencesAre}
+use Rattle.bd_holds.specs.Room.{reference_room}
 use Rattle.bd_objects.proofs.Owned.{goes_among}
 use Rattle.bd_objects.proofs.exits.drop_of_owned.Given as goal
 

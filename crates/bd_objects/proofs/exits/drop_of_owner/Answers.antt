@@ -1,5 +1,5 @@
 use Rattle.std.proofs.Common.{subst, sym, ◌∙◌}
-use Rattle.bd_references.specs.Stands.{ReferencesAre}
+use Rattle.bd_holds.specs.Stands.{ReferencesAre}
 use Rattle.bd_objects.proofs.Owned.{at-owned, at-another-s}
 use Rattle.bd_objects.proofs.exits.drop_of_owner.Goals as goal
 

@@ -1,6 +1,6 @@
 use Rattle.std.proofs.Common.{◌∙◌, sym, subst}
 use Rattle.bd_space.specs.References.{owned_in}
-use Rattle.bd_names.specs.Stands.{NamesAre}
+use Rattle.bd_handles.specs.Stands.{NamesAre}
 use Rattle.bd_objects.specs.Naming.{with_name_unless}
 use Rattle.bd_objects.proofs.Giving.{is-named, known-stays}
 use Rattle.bd_objects.proofs.Results.{on-err}

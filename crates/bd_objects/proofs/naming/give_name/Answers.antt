@@ -1,7 +1,7 @@
 use Rattle.std.proofs.Common.{sym, subst}
-use Rattle.bd_names.specs.Numbers.{IsFull}
-use Rattle.bd_names.specs.Stands.{NamesSince}
-use Rattle.bd_names.specs.Numbers.{with_number}
+use Rattle.bd_handles.specs.Numbers.{IsFull}
+use Rattle.bd_handles.specs.Stands.{NamesSince}
+use Rattle.bd_handles.specs.Numbers.{with_number}
 use Rattle.bd_objects.specs.Naming.{with_name_unless}
 use Rattle.bd_objects.proofs.Results.{then-ok, then-err}
 use Rattle.bd_objects.proofs.naming.give_name.Goals as goal

@@ -1,6 +1,6 @@
 use Rattle.std.proofs.Common.{◌∙◌, ◌++◌, sym, ap, subst, fold, arith}
 use Rattle.std.proofs.lemmas.List.{take_all}
-use Rattle.bd_names.specs.Stands.{NamesSince, NamesAre}
+use Rattle.bd_handles.specs.Stands.{NamesSince, NamesAre}
 use Rattle.bd_objects.proofs.Giving.{give, give-next, give-all, past-all, owned-alike}
 use Rattle.bd_objects.proofs.Results.{on-err, of-ok, of-err}
 use Rattle.bd_objects.proofs.naming.give_names.Goals as goal

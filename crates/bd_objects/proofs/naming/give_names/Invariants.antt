@@ -2,7 +2,7 @@ use Rattle.std.proofs.Common.{◌+◌, ◌≤◌, ◌++◌, take, fold, List}
 use Rattle.bd_space.specs.declared.space.Name.{Name}
 use Rattle.bd_space.specs.declared.space.Object.{Object}
 use Rattle.bd_nodes.specs.Stands.{NodesAre}
-use Rattle.bd_names.specs.Stands.{NamesSince, NamesAre, name_room}
+use Rattle.bd_handles.specs.Stands.{NamesSince, NamesAre, name_room}
 use Rattle.bd_objects.proofs.Giving.{give}
 use Rattle.bd_objects.proofs.naming.give_names.Given as goal
 

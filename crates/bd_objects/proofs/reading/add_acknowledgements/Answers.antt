@@ -4,7 +4,7 @@ use Rattle.bd_space.specs.declared.space.Reference.{Reference}
 use Rattle.bd_space.specs.declared.space.Holder.TheVariants.{Handshake}
 use Rattle.bd_space.specs.References.{reference_of}
 use Rattle.bd_space.specs.ReadItems.{handshakes_for}
-use Rattle.bd_references.specs.Stands.{ReferencesAre}
+use Rattle.bd_holds.specs.Stands.{ReferencesAre}
 use Rattle.bd_objects.specs.Reading.{owed}
 use Rattle.bd_objects.proofs.reading.add_acknowledgements.Goals as goal
 use Rattle.bd_objects.proofs.reading.add_acknowledgements.Goals.{then-weak, else-weak}

@@ -2,8 +2,8 @@ use Rattle.std.proofs.Common.{◌≡◌, ◌+◌, ◌*◌, ◌≤◌, ◌++◌, 
 use Rattle.bd_space.specs.Space.{Space}
 use Rattle.bd_space.specs.ReadItems.{handshakes}
 use Rattle.bd_nodes.specs.Stands.{NodesAre}
-use Rattle.bd_references.specs.Stands.{ReferencesAre}
-use Rattle.bd_references.specs.Room.{reference_room}
+use Rattle.bd_holds.specs.Stands.{ReferencesAre}
+use Rattle.bd_holds.specs.Room.{reference_room}
 use Rattle.bd_objects.proofs.reading.add_handshakes.Given as goal
 
 abbrev pub invariant-loop-w : goal.invariant-loop-w

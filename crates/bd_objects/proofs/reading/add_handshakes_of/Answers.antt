@@ -1,5 +1,5 @@
 use Rattle.std.proofs.Common.{◌+◌, ◌++◌, ap, ◌∙◌, subst}
-use Rattle.bd_references.specs.Stands.{ReferencesAre}
+use Rattle.bd_holds.specs.Stands.{ReferencesAre}
 use Rattle.bd_objects.proofs.Holding.{handshakes-notice}
 use Rattle.bd_objects.proofs.reading.add_handshakes_of.Goals as goal
 

@@ -5,7 +5,7 @@ use Rattle.bd_space.specs.declared.space.Object.{Object}
 use Rattle.bd_space.specs.declared.space.Reference.{Reference}
 use Rattle.bd_nodes.specs.Stands.{NodesAre}
 use Rattle.bd_nodes.specs.Room.{Uses}
-use Rattle.bd_references.specs.Stands.{ReferencesAre}
+use Rattle.bd_holds.specs.Stands.{ReferencesAre}
 use Rattle.bd_objects.proofs.reading.tell_owners.Given as goal
 
 abbrev pub invariant-loop-w : goal.invariant-loop-w

@@ -2,7 +2,7 @@ use Rattle.std.proofs.Common.{ltb, rules, arith, ◌∙◌}
 use Rattle.std.proofs.lemmas.Bool.{ltb-true, ltb-false}
 use Rattle.std.proofs.lemmas.List.Sorted.{IsPartitionPoint-from_clause, IsPartitionedBy-ltb}
 use Rattle.bd_space.specs.declared.space.Process.{Process}
-use Rattle.bd_words.proofs.Rising.{non_decreasing}
+use Rattle.bd_keys.proofs.Rising.{non_decreasing}
 use Rattle.bd_processes.proofs.First.{first_at, got}
 use Rattle.bd_processes.proofs.list.first_from.Goals as goal
 

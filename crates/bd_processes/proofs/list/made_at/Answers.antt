@@ -1,6 +1,6 @@
 use Rattle.std.proofs.Common.{sym, ◌∙◌}
 use Rattle.bd_space.specs.declared.space.Process.{Process}
-use Rattle.bd_words.proofs.Rising.{find_none, find_at, distinct}
+use Rattle.bd_keys.proofs.Rising.{find_none, find_at, distinct}
 use Rattle.bd_processes.proofs.list.made_at.Goals as goal
 
 pub returns-in_err-i-clause-found : goal.returns-in_err-i-clause-found

@@ -1,7 +1,7 @@
 use Rattle.std.proofs.Common.{rules}
 use Rattle.std.proofs.lemmas.List.Sorted.{answers_always}
 use Rattle.bd_space.specs.declared.space.Thread.{Thread}
-use Rattle.bd_words.proofs.Rising.{searched}
+use Rattle.bd_keys.proofs.Rising.{searched}
 use Rattle.bd_threads.proofs.list.index_of.Goals as goal
 
 pub returns-clause-found : goal.returns-clause-found

@@ -1,7 +1,7 @@
 use Rattle.std.proofs.Common.{sym}
 use Rattle.std.proofs.lemmas.Bool.{ltb-true}
 use Rattle.bd_space.specs.declared.space.Thread.{Thread}
-use Rattle.bd_words.proofs.Rising.{newest_all}
+use Rattle.bd_keys.proofs.Rising.{newest_all}
 use Rattle.bd_threads.proofs.list.is_newest.Goals as goal
 
 pub returns-in-Some : goal.returns-in-Some

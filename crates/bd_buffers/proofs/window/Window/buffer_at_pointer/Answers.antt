@@ -1,8 +1,8 @@
 use Rattle.std.proofs.Common.{◌≡◌, ◌∙◌, ap, find, Some}
 use Rattle.std.specs.Prelude.{option_copied, option_map}
-use Rattle.bd_words.specs.Look.{look}
+use Rattle.bd_keys.specs.Look.{look}
 use Rattle.bd_space.specs.declared.space.Buffer.{Buffer}
-use Rattle.bd_words.proofs.Found.{by_key}
+use Rattle.bd_keys.proofs.Found.{by_key}
 use Rattle.bd_buffers.specs.declared.window.Window.{Window}
 use Rattle.bd_buffers.specs.Buffer.{at_pointer}
 use Rattle.bd_buffers.specs.Rows.{live}

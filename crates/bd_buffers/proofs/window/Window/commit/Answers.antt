@@ -1,9 +1,9 @@
 use Rattle.std.proofs.Common.{sym, ◌∙◌, ◌≡◌, ap, subst, cond, arith, Ok, Some, List, [], ◌∷◌, ◌++◌, ◌+◌, All, refl, ◌<◌, ◌≤◌, ℕ}
 use Rattle.std.proofs.lemmas.List.{length_push}
-use Rattle.bd_words.specs.declared.key.WordKey.{WordKey}
-use Rattle.bd_words.specs.declared.map.WordMap.{WordMap}
-use Rattle.bd_words.specs.Keys.{same_word}
-use Rattle.bd_words.specs.Look.{look}
+use Rattle.bd_keys.specs.declared.key.WordKey.{WordKey}
+use Rattle.bd_keys.specs.declared.map.WordMap.{WordMap}
+use Rattle.bd_keys.specs.Keys.{same_word}
+use Rattle.bd_keys.specs.Look.{look}
 use Rattle.bd_space.specs.declared.space.Buffer.{Buffer}
 use Rattle.bd_space.specs.Freeing.{pointer}
 use Rattle.bd_space.specs.Windows.{start_for}

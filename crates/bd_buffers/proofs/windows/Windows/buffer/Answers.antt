@@ -1,7 +1,7 @@
 use Rattle.std.proofs.Common.{◌≡◌, ◌+◌, ◌∙◌, Some, None, refl, ap, sym}
-use Rattle.bd_words.specs.Look.{look}
+use Rattle.bd_keys.specs.Look.{look}
 use Rattle.bd_space.specs.declared.space.Buffer.{Buffer}
-use Rattle.bd_words.proofs.Rising.{find_none}
+use Rattle.bd_keys.proofs.Rising.{find_none}
 use Rattle.bd_buffers.specs.declared.windows.Windows.{Windows}
 use Rattle.bd_buffers.specs.Homes.{home_key}
 use Rattle.bd_buffers.proofs.Homes.{none_home}

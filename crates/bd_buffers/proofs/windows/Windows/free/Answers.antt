@@ -1,12 +1,12 @@
 use Rattle.std.proofs.Common.{◌≡◌, ◌≢◌, ◌+◌, ◌∙◌, ℕ, Some, None, cond, ap, sym, map, not}
 use Rattle.std.specs.Prelude.{filter}
-use Rattle.bd_words.specs.Keys.{same_word}
-use Rattle.bd_words.specs.Look.{look}
+use Rattle.bd_keys.specs.Keys.{same_word}
+use Rattle.bd_keys.specs.Look.{look}
 use Rattle.bd_space.specs.declared.space.Buffer.{Buffer}
 use Rattle.bd_space.specs.Words.{changed}
 use Rattle.bd_space.specs.Windows.{buffers_of}
 use Rattle.bd_space.specs.Freeing.{without_buffer, is_made_at}
-use Rattle.bd_words.proofs.Rising.{filter_none}
+use Rattle.bd_keys.proofs.Rising.{filter_none}
 use Rattle.bd_buffers.specs.declared.windows.Windows.{Windows}
 use Rattle.bd_buffers.specs.WindowsStand.{seen, with_buffers, is_of}
 use Rattle.bd_buffers.specs.Homes.{home_key}

@@ -1,5 +1,5 @@
 use Rattle.std.proofs.Common.{◌≡◌, ◌≢◌, ◌+◌, ◌∙◌, ℕ, Some, None, ap, map, refl, sym}
-use Rattle.bd_words.specs.Look.{look}
+use Rattle.bd_keys.specs.Look.{look}
 use Rattle.bd_space.specs.declared.space.Buffer.{Buffer}
 use Rattle.bd_space.specs.Words.{changed}
 use Rattle.bd_space.specs.Windows.{buffers_of}

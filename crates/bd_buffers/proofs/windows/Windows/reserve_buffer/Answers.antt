@@ -1,7 +1,7 @@
 use Rattle.std.proofs.Common.{ℕ, ◌≡◌, ◌≤◌, List, find, refl, sym, ap, ◌∙◌, subst, get_or, set, map, min, Ok, Err, arith}
 use Rattle.std.specs.Prelude.{OnOk, OnErr, Result}
 use Rattle.std.specs.List.{position}
-use Rattle.bd_words.specs.Look.{look, word_room}
+use Rattle.bd_keys.specs.Look.{look, word_room}
 use Rattle.bd_buffers.proofs.Homes.{homes_same}
 use Rattle.bd_buffers.specs.declared.owned.OwnedWindow.{OwnedWindow}
 use Rattle.bd_buffers.specs.declared.windows.Windows.{Windows}

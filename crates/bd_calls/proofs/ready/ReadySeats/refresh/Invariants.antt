@@ -1,6 +1,6 @@
 use Rattle.std.proofs.Common.{List}
 use Rattle.bd_space.specs.declared.space.Work.{Work}
-use Rattle.bd_links.specs.Stands.{WorksAre}
+use Rattle.bd_todo.specs.Stands.{WorksAre}
 use Rattle.bd_threads.specs.Listed.{listed}
 use Rattle.bd_calls.specs.Ready.{AreSeen}
 use Rattle.bd_calls.proofs.ready.ReadySeats.refresh.Given as goal

@@ -7,7 +7,7 @@ use Rattle.bd_space.specs.declared.space.TodoList.{TodoList}
 use Rattle.bd_space.specs.declared.space.WorkKind.TheVariants.{Notice}
 use Rattle.bd_space.specs.Todo.{with_work}
 use Rattle.bd_space.specs.Notices.{with_notice, wants_notice, has_notice_in}
-use Rattle.bd_links.specs.Stands.{WorksAre}
+use Rattle.bd_todo.specs.Stands.{WorksAre}
 use Rattle.bd_calls.proofs.Works.{works-stand}
 use Rattle.bd_calls.proofs.Seats.{kept-seen, pushed-on}
 use Rattle.bd_calls.specs.Ready.{AreSeen, tells_of}

@@ -7,7 +7,7 @@ use Rattle.bd_space.specs.Frames.{innermost, goes_to, list_of_caller, waits_in, 
 use Rattle.bd_space.specs.Todo.{owe, with_work}
 use Rattle.bd_space.specs.Transactions.{call_out}
 use Rattle.bd_frames.specs.Stands.{FramesAre}
-use Rattle.bd_links.specs.Stands.{WorksAre}
+use Rattle.bd_todo.specs.Stands.{WorksAre}
 use Rattle.bd_calls.specs.Ready.{KeepsOnly, tells_of}
 use Rattle.bd_calls.proofs.Seats.{kept-seen, pushed-on}
 use Rattle.bd_calls.proofs.Marking.{told-on, pushed-beside}

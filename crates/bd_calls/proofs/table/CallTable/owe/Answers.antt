@@ -1,6 +1,6 @@
 use Rattle.std.proofs.Common.{sym, subst, refl}
 use Rattle.bd_space.specs.Todo.{owe, with_work}
-use Rattle.bd_links.specs.Stands.{WorksAre}
+use Rattle.bd_todo.specs.Stands.{WorksAre}
 use Rattle.bd_calls.proofs.Works.{works-stand}
 use Rattle.bd_calls.proofs.Seats.{kept-seen, pushed-on}
 use Rattle.bd_calls.specs.Ready.{tells_of}

@@ -8,7 +8,7 @@ use Rattle.bd_calls.specs.declared.ready.Seen.{Seen}
 use Rattle.bd_calls.specs.Ready.{is_of, tells_of}
 use Rattle.bd_space.specs.Turns.{turns_of}
 use Rattle.bd_ways.specs.Local.{ripen_of, first_due}
-use Rattle.bd_links.specs.Stands.{WorksAre}
+use Rattle.bd_todo.specs.Stands.{WorksAre}
 use Rattle.bd_calls.proofs.Works.{works-stand}
 use Rattle.bd_calls.proofs.Seats.{kept-seen, due-on}
 use Rattle.bd_calls.proofs.Marking.{told-on, due-beside}

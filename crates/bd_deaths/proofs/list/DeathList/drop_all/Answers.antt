@@ -2,7 +2,7 @@ use Rattle.std.proofs.Common.{filter, refl, sym, subst, ◌∙◌}
 use Rattle.std.proofs.lemmas.List.{map-id}
 use Rattle.std.proofs.lemmas.Iterator.Consumers.{YieldsList-at, YieldsList-from_first, YieldsList-end}
 use Rattle.bd_deaths.specs.Stands.{AreIn}
-use Rattle.bd_words.proofs.Tables.{uses-none, uses-then}
+use Rattle.bd_keys.proofs.Tables.{uses-none, uses-then}
 use Rattle.bd_deaths.proofs.Listed.{is_left, none-left-out, one-more-out}
 use Rattle.bd_deaths.proofs.list.DeathList.drop_all.Goals as goal
 

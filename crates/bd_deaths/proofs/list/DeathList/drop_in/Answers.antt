@@ -4,7 +4,7 @@ use Rattle.bd_deaths.specs.Slots.{lives, on, gone}
 use Rattle.bd_deaths.specs.Stands.{AreIn}
 use Rattle.bd_deaths.proofs.Lives.{lives-dropped}
 use Rattle.bd_ways.proofs.Ranges.{changed-first, changed-last, changed-written, changed-left}
-use Rattle.bd_words.proofs.Tables.{uses-none, uses-then}
+use Rattle.bd_keys.proofs.Tables.{uses-none, uses-then}
 use Rattle.bd_deaths.proofs.list.DeathList.drop_in.Goals as goal
 use Rattle.bd_deaths.proofs.list.DeathList.drop_in.Goals.{then-slot+then-f, else-slot, else-slot-via-then-slot+else-f, else-slot-via-else-slot}
 

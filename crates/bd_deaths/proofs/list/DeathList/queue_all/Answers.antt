@@ -3,7 +3,7 @@ use Rattle.std.proofs.lemmas.List.{map-id}
 use Rattle.std.proofs.lemmas.Iterator.Consumers.{YieldsList-at, YieldsList-from_first, YieldsList-end}
 use Rattle.bd_deaths.specs.Due.{queued_at, has_place}
 use Rattle.bd_deaths.specs.Stands.{AreIn}
-use Rattle.bd_words.proofs.Tables.{uses-none, uses-then}
+use Rattle.bd_keys.proofs.Tables.{uses-none, uses-then}
 use Rattle.bd_deaths.proofs.Telling.{no-places, place-next}
 use Rattle.bd_deaths.proofs.list.DeathList.queue_all.Goals as goal
 

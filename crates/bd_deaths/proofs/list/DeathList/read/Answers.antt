@@ -10,7 +10,7 @@ use Rattle.bd_space.specs.declared.space.DeathNotification.{DeathNotification}
 use Rattle.bd_space.specs.declared.space.Phase.TheVariants.{Told}
 use Rattle.bd_deaths.specs.Stands.{AreIn}
 use Rattle.bd_deaths.proofs.Changes.{none, same_tests, twice}
-use Rattle.bd_words.proofs.Tables.{uses-none, uses-then}
+use Rattle.bd_keys.proofs.Tables.{uses-none, uses-then}
 use Rattle.bd_deaths.proofs.list.DeathList.read.Goals as goal
 
 pub loop-w-init : goal.loop-w-init

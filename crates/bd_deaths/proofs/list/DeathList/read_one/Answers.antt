@@ -5,7 +5,7 @@ use Rattle.bd_space.specs.declared.space.Phase.TheVariants.{Told}
 use Rattle.bd_space.specs.Words.{changed, is_some_and}
 use Rattle.bd_deaths.specs.Stands.{AreIn}
 use Rattle.bd_deaths.proofs.Changes.{none, same_tests}
-use Rattle.bd_words.proofs.Lists.{eqb-turned}
+use Rattle.bd_keys.proofs.Lists.{eqb-turned}
 use Rattle.bd_deaths.proofs.list.DeathList.read_one.Goals as goal
 
 pub returns-in-None-clause-stands : goal.returns-in-None-clause-stands

@@ -2,9 +2,9 @@ use Rattle.std.proofs.Common.{◌<◌, ◌^◌}
 use Rattle.std.specs.HashMap.{get}
 use Rattle.std.proofs.lemmas.List.Elements.{All-push}
 use Rattle.bd_space.specs.declared.space.DeathNotification.{DeathNotification}
-use Rattle.bd_words.specs.Keys.{same_word}
-use Rattle.bd_words.specs.Look.{look}
-use Rattle.bd_words.proofs.Keys.{word-eq}
+use Rattle.bd_keys.specs.Keys.{same_word}
+use Rattle.bd_keys.specs.Look.{look}
+use Rattle.bd_keys.proofs.Keys.{word-eq}
 use Rattle.bd_deaths.specs.declared.key.Key.TheVariants.{Name, Cookie}
 use Rattle.bd_deaths.specs.Keys.{same_name, name_of, cookie_of}
 use Rattle.bd_deaths.proofs.SharedKeys.{name-eq, one-more, by-kind}

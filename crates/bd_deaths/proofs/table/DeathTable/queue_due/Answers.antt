@@ -10,7 +10,7 @@ use Rattle.bd_deaths.specs.Due.{is_queued_in}
 use Rattle.bd_deaths.specs.Listed.{IsListed}
 use Rattle.bd_deaths.specs.Stands.{AreIn}
 use Rattle.bd_deaths.proofs.Listed.{listed-changed}
-use Rattle.bd_words.proofs.Tables.{uses-none, uses-then}
+use Rattle.bd_keys.proofs.Tables.{uses-none, uses-then}
 use Rattle.bd_deaths.proofs.Telling.{queued, no-places}
 use Rattle.bd_deaths.proofs.Visiting.{object-next, all-queued}
 use Rattle.bd_deaths.proofs.table.DeathTable.queue_due.Goals as goal

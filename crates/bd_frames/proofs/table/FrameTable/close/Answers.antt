@@ -2,7 +2,7 @@ use Rattle.std.proofs.Common.{◌<◌, Some, None, length, subst, arith}
 use Rattle.bd_space.specs.Frames.{is_frame}
 use Rattle.bd_frames.specs.Places.{RiseIf, IsNewestAt}
 use Rattle.bd_frames.proofs.Removing.{removes-none, removes-next, removes-all}
-use Rattle.bd_words.proofs.Tables.{uses-none, uses-then}
+use Rattle.bd_keys.proofs.Tables.{uses-none, uses-then}
 use Rattle.bd_frames.proofs.table.FrameTable.close.Goals as goal
 
 pub loop-i-init : goal.loop-i-init

@@ -1,7 +1,7 @@
 use Rattle.std.proofs.Common.{◌==◌, ◌∙◌, ap, sym}
 use Rattle.bd_space.specs.declared.space.Object.{Object}
-use Rattle.bd_words.specs.Keys.{same_word}
-use Rattle.bd_words.proofs.Keys.{word-eq, word-self}
+use Rattle.bd_keys.specs.Keys.{same_word}
+use Rattle.bd_keys.proofs.Keys.{word-eq, word-self}
 use Rattle.bd_nodes.specs.Keys.{own_key, kept}
 use Rattle.bd_nodes.proofs.Found.{found-and}
 use Rattle.bd_nodes.proofs.table.NodeTable.own_with.Goals as goal

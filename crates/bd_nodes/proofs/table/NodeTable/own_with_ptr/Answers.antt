@@ -1,5 +1,5 @@
 use Rattle.std.proofs.Common.{◌∙◌, sym}
-use Rattle.bd_words.specs.declared.key.WordKey.{WordKey}
+use Rattle.bd_keys.specs.declared.key.WordKey.{WordKey}
 use Rattle.bd_nodes.proofs.Changes.{by-own}
 use Rattle.bd_nodes.proofs.table.NodeTable.own_with_ptr.Goals as goal
 

@@ -3,9 +3,9 @@ use Rattle.bd_space.specs.declared.space.Holder.TheVariants.{Asked}
 use Rattle.bd_space.specs.References.{reference_of}
 use Rattle.bd_space.specs.Names.{is_managers, assign_numbers, names_go}
 use Rattle.bd_space.specs.Asking.{ask}
-use Rattle.bd_references.specs.Stands.{ReferencesAre}
-use Rattle.bd_names.specs.Stands.{NamesAre}
-use Rattle.bd_names.specs.Numbers.{IsFull}
+use Rattle.bd_holds.specs.Stands.{ReferencesAre}
+use Rattle.bd_handles.specs.Stands.{NamesAre}
+use Rattle.bd_handles.specs.Numbers.{IsFull}
 use Rattle.bd_objects.specs.Naming.{with_other_name}
 use Rattle.bd_objects.specs.Numbers.{IsPastLimit}
 use Rattle.bd_objects.proofs.Giving.{same-name, past-one}

@@ -2,8 +2,8 @@ use Rattle.std.proofs.Common.{◌∙◌, ◌++◌, map, fold, sym, ap, subst}
 use Rattle.bd_space.specs.Names.{assign_numbers, names_go}
 use Rattle.bd_space.specs.Parcels.{object_of_item}
 use Rattle.bd_space.specs.Delivery.{make_objects, refer, buffer_references}
-use Rattle.bd_references.specs.Stands.{ReferencesAre}
-use Rattle.bd_names.specs.Stands.{NamesAre}
+use Rattle.bd_holds.specs.Stands.{ReferencesAre}
+use Rattle.bd_handles.specs.Stands.{NamesAre}
 use Rattle.bd_objects.specs.Naming.{with_other_name}
 use Rattle.bd_objects.specs.Numbers.{IsPastLimit}
 use Rattle.bd_objects.proofs.Giving.{same-names}

@@ -2,7 +2,7 @@ use Rattle.std.proofs.Common.{subst}
 use Rattle.bd_space.specs.declared.space.Name.{Name}
 use Rattle.bd_space.specs.Names.{is_named_in}
 use Rattle.bd_ways.specs.Local.{names_go_of, at_name}
-use Rattle.bd_names.specs.Stands.{NamesAre}
+use Rattle.bd_handles.specs.Stands.{NamesAre}
 use Rattle.bd_objects.proofs.AtName.{named-at, all-stay, all-go}
 use Rattle.bd_objects.proofs.table.ObjectTable.name_goes.Goals as goal
 

@@ -1,8 +1,8 @@
 use Rattle.std.proofs.Common.{refl, sym, subst}
 use Rattle.bd_space.specs.ProcessExits.{tell_deaths}
 use Rattle.bd_nodes.specs.Stands.{NodesAre}
-use Rattle.bd_references.specs.Stands.{ReferencesAre}
-use Rattle.bd_names.specs.Stands.{NamesAre}
+use Rattle.bd_holds.specs.Stands.{ReferencesAre}
+use Rattle.bd_handles.specs.Stands.{NamesAre}
 use Rattle.bd_deaths.specs.Stands.{DeathsAre}
 use Rattle.bd_objects.proofs.Telling.{Told-all}
 use Rattle.bd_objects.proofs.table.ObjectTable.tell_deaths.Goals as goal

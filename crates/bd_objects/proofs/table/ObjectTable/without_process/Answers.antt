@@ -1,6 +1,6 @@
 use Rattle.std.proofs.Common.{subst}
 use Rattle.bd_space.specs.ProcessExits.{without_process}
-use Rattle.bd_references.specs.Stands.{ReferencesAre}
+use Rattle.bd_holds.specs.Stands.{ReferencesAre}
 use Rattle.bd_objects.proofs.Owned.{goes-with}
 use Rattle.bd_objects.proofs.table.ObjectTable.without_process.Goals as goal
 

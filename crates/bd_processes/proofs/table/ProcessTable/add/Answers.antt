@@ -1,12 +1,12 @@
 use Rattle.std.proofs.Common.{◌<◌, ◌==◌, ℕ, ◌≡◌, ◌++◌, ◌∷◌, [], Some, Option, cond, Bool, ap, ◌∙◌}
 use Rattle.std.proofs.lemmas.List.Quantifiers.{all_pairs_push}
 use Rattle.bd_space.specs.declared.space.Process.{Process}
-use Rattle.bd_words.specs.declared.key.WordKey.{WordKey}
-use Rattle.bd_words.specs.Keys.{same_word}
-use Rattle.bd_words.specs.Look.{look}
+use Rattle.bd_keys.specs.declared.key.WordKey.{WordKey}
+use Rattle.bd_keys.specs.Keys.{same_word}
+use Rattle.bd_keys.specs.Look.{look}
 use Rattle.bd_processes.specs.Keys.{pid_key}
 use Rattle.bd_processes.proofs.Keys.{same_pid}
-use Rattle.bd_words.proofs.Found.{tags_more, apart_from}
+use Rattle.bd_keys.proofs.Found.{tags_more, apart_from}
 use Rattle.bd_processes.proofs.table.ProcessTable.add.Goals as goal
 
 pub returns-clause-stands : goal.returns-clause-stands

@@ -1,7 +1,7 @@
 use Rattle.std.proofs.Common.{◌==◌, ap, sym, ◌∙◌}
 use Rattle.std.specs.Prelude.{is_some}
 use Rattle.bd_space.specs.declared.space.Process.{Process}
-use Rattle.bd_words.proofs.Found.{any_some}
+use Rattle.bd_keys.proofs.Found.{any_some}
 use Rattle.bd_processes.proofs.table.ProcessTable.lives.Goals as goal
 
 pub returns : goal.returns

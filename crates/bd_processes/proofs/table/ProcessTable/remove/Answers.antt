@@ -4,15 +4,15 @@ use Rattle.std.proofs.lemmas.List.{get_or_default}
 use Rattle.std.proofs.lemmas.List.Quantifiers.{all_pairs_remove}
 use Rattle.bd_space.specs.declared.space.Process.{Process}
 use Rattle.bd_space.specs.Steps.{is_pid}
-use Rattle.bd_words.specs.declared.key.WordKey.{WordKey}
-use Rattle.bd_words.specs.Keys.{same_word}
-use Rattle.bd_words.specs.Look.{look}
+use Rattle.bd_keys.specs.declared.key.WordKey.{WordKey}
+use Rattle.bd_keys.specs.Keys.{same_word}
+use Rattle.bd_keys.specs.Look.{look}
 use Rattle.bd_processes.specs.Keys.{pid_key}
 use Rattle.bd_processes.specs.Stands.{ProcessesAre}
 use Rattle.bd_processes.proofs.Keys.{same_pid}
 use Rattle.bd_processes.proofs.Pids.{all_left}
-use Rattle.bd_words.proofs.Rising.{distinct, filter_at, filter_none}
-use Rattle.bd_words.proofs.Found.{tags_less}
+use Rattle.bd_keys.proofs.Rising.{distinct, filter_at, filter_none}
+use Rattle.bd_keys.proofs.Found.{tags_less}
 use Rattle.bd_processes.proofs.table.ProcessTable.remove.Goals as goal
 
 pub invariant_of-self : goal.invariant_of-self

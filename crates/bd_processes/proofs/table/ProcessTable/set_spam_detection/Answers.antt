@@ -4,7 +4,7 @@ use Rattle.bd_space.specs.Spam.{detecting}
 use Rattle.bd_space.specs.Steps.{is_pid}
 use Rattle.bd_processes.specs.Stands.{ProcessesAre}
 use Rattle.bd_processes.proofs.Pids.{all_get, all_set}
-use Rattle.bd_words.proofs.Rising.{distinct}
+use Rattle.bd_keys.proofs.Rising.{distinct}
 use Rattle.bd_space.proofs.Keyed.{changed_at, changed_none, pairs_changed, tags_changed}
 use Rattle.bd_processes.proofs.table.ProcessTable.set_spam_detection.Goals as goal
 

@@ -1,7 +1,7 @@
 use Rattle.std.proofs.Common.{◌==◌, ap, ◌∙◌}
 use Rattle.bd_space.specs.declared.space.Process.{Process}
-use Rattle.bd_words.specs.Look.{look}
-use Rattle.bd_words.proofs.Found.{by_key}
+use Rattle.bd_keys.specs.Look.{look}
+use Rattle.bd_keys.proofs.Found.{by_key}
 use Rattle.bd_processes.proofs.table.ProcessTable.with_pid.Goals as goal
 
 pub returns : goal.returns

@@ -1,5 +1,5 @@
 use Rattle.std.proofs.Common.{◌∙◌, sym, subst}
-use Rattle.bd_words.proofs.Rising.{filter_at, filter_none}
+use Rattle.bd_keys.proofs.Rising.{filter_at, filter_none}
 use Rattle.bd_threads.specs.Apart.{AreApart, place_at}
 use Rattle.bd_threads.proofs.Apart.{seat_of, apart_less}
 use Rattle.bd_threads.proofs.table.ThreadTable.take.Goals as goal

@@ -1,6 +1,6 @@
 use Rattle.std.proofs.Common.{sym, ap, ◌∙◌, Some}
 use Rattle.bd_space.specs.declared.space.Thread.{Thread}
-use Rattle.bd_words.proofs.Rising.{find_none, find_at}
+use Rattle.bd_keys.proofs.Rising.{find_none, find_at}
 use Rattle.bd_threads.proofs.Apart.{seat_of}
 use Rattle.bd_threads.proofs.table.ThreadTable.thread_at.Goals as goal
 

@@ -1,5 +1,5 @@
 use Rattle.std.proofs.Common.{◌≡◌, Bool, List}
-use Rattle.bd_words.specs.Tables.{AnswersBy}
+use Rattle.bd_keys.specs.Tables.{AnswersBy}
 use Rattle.bd_space.specs.declared.space.Turn.{Turn}
 use Rattle.bd_turns.specs.Slots.{entries, turns_in}
 use Rattle.bd_turns.specs.Sweep.{walked, kept}

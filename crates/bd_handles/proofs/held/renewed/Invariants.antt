@@ -1,0 +1,12 @@
+use Rattle.std.proofs.Common.{◌≡◌, ℕ, ◌+◌, ◌≤◌, Some, length}
+use Rattle.bd_groups.specs.Members.{group_room}
+use Rattle.bd_space.specs.declared.step.ObjectId.{ObjectId}
+use Rattle.bd_handles.specs.Keys.{number_at}
+use Rattle.bd_handles.proofs.Listing.{Coming}
+use Rattle.bd_handles.proofs.held.renewed.Given as goal
+
+abbrev pub invariant-loop-k : goal.invariant-loop-k
+invariant-loop-k l = record {
+  coming : (p : ℕ) (o : ObjectId) (n : ℕ) → number_at l.names.numbers p o ≡ Some n → Coming l.held l.k-iterator p o n;
+  room : length l.k-iterator + l.more ≤ group_room l.held;
+}

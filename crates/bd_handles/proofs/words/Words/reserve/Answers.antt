@@ -1,0 +1,8 @@
+use Rattle.std.proofs.Common.{ap, unwrap_or}
+use Rattle.bd_handles.specs.declared.keys.NumberKey.{NumberKey}
+use Rattle.bd_handles.proofs.words.Words.reserve.Goals as goal
+
+pub returns-clause-same : goal.returns-clause-same
+returns-clause-same c = λ p w.
+    let k : NumberKey = record { process = p; number = w } in
+    ap (λ o. unwrap_or o 0) (c.reserve.ensures.entries.2 k)

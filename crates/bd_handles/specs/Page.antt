@@ -1,0 +1,44 @@
+-- What pages name, and which of them are full.
+use Rattle.std.specs.Prelude.{ℕ, ◌≡◌, ◌/◌, ◌%◌, ◌-◌, ◌^◌, ◌==◌, Option, Some, None, unwrap_or, option_map, option_and_then, if◌then◌else◌, min, get_or}
+use Rattle.bd_ways.specs.Words.{ObjectId}
+use Rattle.std.specs.HashMap.{HashMap, get_by, spare}
+use Rattle.std.specs.Int.{bit_at}
+use Rattle.bd_handles.specs.declared.keys.NumberKey.{NumberKey}
+use Rattle.bd_handles.specs.declared.page.Page.{Page}
+use Rattle.bd_handles.specs.declared.pages.Pages.{Pages}
+use Rattle.bd_handles.specs.Bits.{word_at, bit_of}
+use Rattle.bd_handles.specs.Keys.{is_number_key}
+
+-- what a place of a page names
+abbrev pub place_at : Page → ℕ → Option ObjectId
+place_at page i = if bit_at page.used i == 1 then Some (get_or page.objects i (record { place = 0; index = 0 })) else None
+
+-- where there is no page, no place names anything
+abbrev pub place_in : Option Page → ℕ → Option ObjectId
+place_in page i = option_and_then (λ (x : Page). place_at x i) page
+
+abbrev pub word_in : Option Page → ℕ
+word_in page = unwrap_or (option_map (λ (x : Page). x.used) page) 0
+
+module _ {S : Type 0} (pages : HashMap NumberKey Page S) where
+  abbrev pub page_at : ℕ → ℕ → Option Page
+  page_at p w = get_by (is_number_key p w) pages
+
+  -- what a place names for a process
+  abbrev pub object_at : ℕ → ℕ → Option ObjectId
+  object_at p i = place_in (page_at p (i / 64)) (i % 64)
+
+  -- the word of a page
+  abbrev pub used_at : ℕ → ℕ → ℕ
+  used_at p w = word_in (page_at p w)
+
+-- a bit says that its word is full
+abbrev pub FullIn : (ℕ → ℕ → ℕ) → (ℕ → ℕ → ℕ) → Type 0
+FullIn words full = (p w : ℕ) → bit_of full p w ≡ (if words p w == 2 ^ 64 - 1 then 1 else 0)
+
+abbrev pub FullAre : Pages → Type 0
+FullAre t = FullIn (used_at t.pages) (word_at t.full)
+
+-- how many places can come to name something without memory
+abbrev pub page_room : Pages → ℕ
+page_room t = min (spare t.pages) (spare t.full.words)

@@ -1,0 +1,23 @@
+-- What a table of names stands for: the names of a space, and those when it was last settled.
+use Rattle.std.specs.Prelude.{ℕ, ◌≡◌, ◌+◌, ◌-◌, ◌≤◌, List, ◌++◌, min, vec_len, vec_capacity}
+use Rattle.bd_ways.specs.Words.{Name}
+use Rattle.bd_groups.specs.Members.{group_room}
+use Rattle.bd_handles.specs.declared.table.NameTable.{NameTable}
+use Rattle.bd_handles.specs.Named.{Named, Listed, index_room}
+
+pub record NamesSince (t : NameTable) (base l : List Name) : Type 0 where
+  pub stands : Named t.names l
+  pub listed : Listed t.held l
+  pub grows : l ≡ base ++ t.given.items
+
+-- nothing was given since
+abbrev pub NamesAre : NameTable → List Name → Type 0
+NamesAre t l = NamesSince t l l
+
+-- how many names can be given without memory
+unfoldable pub name_room : NameTable → ℕ
+name_room t = min (min (index_room t.names) (group_room t.held)) (vec_capacity t.given - vec_len t.given)
+
+-- a change takes room for at most so many
+abbrev pub Uses : NameTable → NameTable → ℕ → Type 0
+Uses old new n = name_room old ≤ name_room new + n

@@ -1,0 +1,42 @@
+//! The numbers of each process's names, in groups; some may be of names that are gone.
+
+ghost use Rattle.std.specs.Prelude.{◌≡◌, ◌≤◌, List, IfOk, OnOk, OnErr};
+ghost use Rattle.bd_space.specs.declared.space.Name as declared;
+ghost use Rattle.bd_groups.specs.Members.{group_room};
+ghost use Rattle.bd_handles.specs.Named.{Named, Listed};
+
+use crate::names::Names;
+use bd_groups::{Group, Groups};
+use std::alloc::{AllocError, Global};
+
+// The numbers of the names that are there, and no others.
+fn renewed(names: &Names, alloc: Global, more: usize) -> Result<Groups<u32>, AllocError>
+    ensures listed { IfOk result (λ held. (l : List declared.Name) → Named names.now l → Listed held l) }
+    ensures room { IfOk result (λ held. more ≤ group_room held) }
+{
+    let mut held = Groups::with_room(alloc, names.numbers.len(), more)?;
+    for (k, n) in names.numbers.iter() {
+        held.push(Group::Process { made: k.process }, *n);
+    }
+    Ok(held)
+}
+
+/// Room for so many numbers more. Where most of them are of names that are gone, those go.
+pub fn reserve_held(
+    held: &mut Groups<u32>,
+    names: &Names,
+    alloc: Global,
+    more: usize,
+) -> Result<(), AllocError>
+    ensures listed { (l : List declared.Name) → Named names.now l → Listed held.old l → Listed held.new l }
+    ensures uses { group_room held.old ≤ group_room held.new }
+    ensures room { OnOk result (more ≤ group_room held.new) }
+    // Memory was asked for, or would have been past what there can be: there was no room.
+    ensures grown { OnErr result (more ≤ group_room held.old → ⊥) }
+{
+    if held.is_worn(names.numbers.len(), more) {
+        *held = renewed(names, alloc, more)?;
+        return Ok(());
+    }
+    held.reserve(more)
+}

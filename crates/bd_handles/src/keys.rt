@@ -1,0 +1,88 @@
+//! What names are found by: the process with the number, or with the object.
+
+ghost use Rattle.std.specs.Prelude.{ℕ, ◌≡◌, ◌==◌, ◌≤◌, ◌<◌, ◌+◌, ◌&&◌, Some, None, if◌then◌else◌};
+ghost use Rattle.std.specs.Cmp.Rules.{hashing};
+ghost use Rattle.std.specs.Hash as fed;
+ghost use Rattle.std.{specs.HashMap.{spare}, proofs.Common.{rules}};
+ghost use Rattle.bd_keys.specs.Numbers.{pair, wide};
+ghost use Rattle.bd_space.specs.declared.step.ObjectId as declared;
+ghost use Rattle.bd_space.specs.Words.{same};
+ghost use Rattle.bd_handles.specs.Keys.{number_at};
+
+use bd_keys::{insert_reserved, pair, wide};
+use bd_space::ObjectId;
+use std::collections::HashMap;
+use std::hash::{Hash, Hasher};
+
+/// A number of a process: that of a page, or that of a word of bits.
+#[derive(Clone, Copy, PartialEq, Eq)]
+pub struct NumberKey {
+    pub process: u32,
+    pub number: u32,
+}
+
+// One write, as `bd_keys` says.
+impl Hash for NumberKey {
+    ghost hash_input = { λ k. fed.u64 (pair k.process k.number) };
+
+    ghost respects_eq = { Prim.search (hashing, rules) };
+
+    fn hash<H: Hasher>(&self, state: &mut H) {
+        state.write_u64(pair(self.process, self.number));
+    }
+}
+
+/// An object, for a process.
+#[derive(Clone, Copy, PartialEq, Eq)]
+pub struct ObjectKey {
+    pub process: u32,
+    pub object: ObjectId,
+}
+
+impl Hash for ObjectKey {
+    ghost hash_input = { λ k. fed.u128 (wide k.process (pair k.object.place k.object.index)) };
+
+    ghost respects_eq = { Prim.search (hashing, rules) };
+
+    fn hash<H: Hasher>(&self, state: &mut H) {
+        state.write_u128(wide(self.process, pair(self.object.place, self.object.index)));
+    }
+}
+
+/// The process's number of the object.
+pub fn number_of(numbers: &HashMap<ObjectKey, u32>, p: u32, o: ObjectId) -> Option<u32>
+    ensures { result ≡ number_at numbers.now p o }
+{
+    numbers
+        .get(&ObjectKey {
+            process: p,
+            object: o,
+        })
+        .copied()
+}
+
+/// The object has this number of the process from now on.
+pub fn put_number(numbers: &mut HashMap<ObjectKey, u32>, p: u32, o: ObjectId, n: u32)
+    requires { 0 < spare numbers.old }
+    ensures at { (q : ℕ) (x : declared.ObjectId) → number_at numbers.new q x
+        ≡ (if (p == q) && same o x then Some n else number_at numbers.old q x) }
+    ensures spare { spare numbers.old ≤ spare numbers.new + 1 }
+{
+    let key = ObjectKey {
+        process: p,
+        object: o,
+    };
+    insert_reserved(numbers, key, n);
+}
+
+/// The object has no number of the process from now on.
+pub fn take_number(numbers: &mut HashMap<ObjectKey, u32>, p: u32, o: ObjectId)
+    ensures at { (q : ℕ) (x : declared.ObjectId) → number_at numbers.new q x
+        ≡ (if (p == q) && same o x then None else number_at numbers.old q x) }
+    ensures spare { spare numbers.old ≤ spare numbers.new }
+{
+    let _gone = numbers.remove(&ObjectKey {
+        process: p,
+        object: o,
+    });
+}

@@ -1,0 +1,201 @@
+//! The table of names.
+
+ghost use Rattle.std.specs.Prelude.{◌≡◌, ◌==◌, ◌≤◌, ◌<◌, ◌+◌, ◌-◌, ◌&&◌, ◌++◌, ◌∷◌, not, filter, vec_len, vec_capacity, List, [], None, OnOk, OnErr};
+ghost use Rattle.bd_space.specs.declared.space.Name as declared;
+ghost use Rattle.bd_space.specs.Words as words;
+ghost use Rattle.bd_space.specs.Names as names_of;
+ghost use Rattle.bd_space.specs.Notices as notices;
+ghost use Rattle.bd_handles.specs.Numbers.{new_number, with_number, IsFull, IsNextNumber};
+ghost use Rattle.bd_handles.specs.Stands.{NamesSince, NamesAre, name_room, Uses};
+
+use crate::held::reserve_held;
+use crate::names::Names;
+use crate::numbers::NumbersFull;
+use bd_groups::{Group, Groups};
+use bd_space::{Name, ObjectId};
+use std::alloc::{AllocError, Global};
+
+/// The names of all processes. Those given since the table was last settled can be taken back.
+#[derive(Drop)]
+pub struct NameTable {
+    pub(crate) names: Names,
+    // The numbers of each process's names; some may be of names that are gone.
+    pub(crate) held: Groups<u32>,
+    pub(crate) given: Vec<Name>,
+}
+
+impl NameTable {
+    /// An empty table.
+    pub fn new(alloc: Global) -> NameTable
+        ensures { NamesAre result [] }
+    {
+        NameTable {
+            names: Names::new(alloc),
+            held: Groups::new(alloc),
+            given: Vec::new(alloc),
+        }
+    }
+
+    /// Makes room for so many names more. Changes nothing else.
+    #[tactic(auto, unfolding(crate::specs::Stands::name_room))]
+    pub fn reserve(&mut self, more: usize) -> Result<(), AllocError>
+        ensures stands { (base l : List declared.Name) → NamesSince self.old base l → NamesSince self.new base l }
+        ensures uses { Uses self.old self.new 0 }
+        ensures room { OnOk result (more ≤ name_room self.new) }
+        // Memory was asked for: there was no room.
+        ensures grown { OnErr result (more ≤ name_room self.old → ⊥) }
+    {
+        // Most steps give none.
+        if more == 0 {
+            return Ok(());
+        }
+        self.names.reserve(more)?;
+        reserve_held(&mut self.held, &self.names, *self.given.allocator(), more)?;
+        self.given.reserve(more)
+    }
+
+    /// The object that the number names for the process.
+    pub fn named(&self, p: u32, n: u32) -> Option<ObjectId>
+        ensures { (base l : List declared.Name) → NamesSince self.now base l → result ≡ names_of.named_in l p n }
+    {
+        self.names.named(p, n)
+    }
+
+    /// The least number from this one on that names something for the process. Where this one itself names nothing, it takes a look
+    /// for each number that is noted for the process, those of names that are gone too.
+    pub fn next_number(&self, p: u32, from: u32) -> Option<u32>
+        ensures { (base l : List declared.Name) → NamesSince self.now base l → IsNextNumber l p from result }
+    {
+        if self.names.named(p, from).is_some() {
+            return Some(from);
+        }
+        self.names
+            .next_among(p, from, self.held.of(Group::Process { made: p }))
+    }
+
+    /// The process's number of the object.
+    pub fn number_of(&self, p: u32, o: ObjectId) -> Option<u32>
+        ensures { (base l : List declared.Name) → NamesSince self.now base l → result ≡ names_of.number_in l p o }
+    {
+        self.names.number_of(p, o)
+    }
+
+    /// Whether the process has a name for the object.
+    pub fn has(&self, p: u32, o: ObjectId) -> bool
+        ensures { (base l : List declared.Name) → NamesSince self.now base l → result ≡ notices.is_name_of l p o }
+    {
+        self.names.number_of(p, o).is_some()
+    }
+
+    /// The process has a name for the object afterwards: the one that it had, or else with the least number that it
+    /// doesn't use, from 0 or from 1.
+    #[tactic(auto, unfolding(crate::specs::Stands::name_room))]
+    pub fn give(&mut self, from_zero: bool, p: u32, o: ObjectId) -> Result<(), NumbersFull>
+        requires { 1 ≤ name_room self.old }
+        ensures ok { OnOk result
+            ((base l : List declared.Name) → NamesSince self.old base l → NamesSince self.new base (with_number from_zero p l o)) }
+        ensures err { OnErr result
+            ((base l : List declared.Name) → NamesSince self.old base l → NamesSince self.new base l) }
+        ensures full { OnErr result ((base l : List declared.Name) → NamesSince self.old base l → IsFull from_zero p l o) }
+        ensures uses { Uses self.old self.new 1 }
+    {
+        match self.names.number_of(p, o) {
+            Some(_) => Ok(()),
+            None => self.give_new(from_zero, p, o),
+        }
+    }
+
+    // The same for an object without a name.
+    #[tactic(auto, unfolding(crate::specs::Stands::name_room))]
+    fn give_new(&mut self, from_zero: bool, p: u32, o: ObjectId) -> Result<(), NumbersFull>
+        requires { 1 ≤ name_room self.old }
+        ensures ok { OnOk result ((base l : List declared.Name) → NamesSince self.old base l → names_of.number_in l p o ≡ None
+            → NamesSince self.new base (with_number from_zero p l o)) }
+        ensures err { OnErr result
+            ((base l : List declared.Name) → NamesSince self.old base l → NamesSince self.new base l) }
+        ensures full { OnErr result ((base l : List declared.Name) → NamesSince self.old base l
+            → 4294967294 < new_number from_zero p l) }
+        ensures uses { Uses self.old self.new 1 }
+    {
+        match self.names.free_number(from_zero, p) {
+            Some(n) => {
+                self.push(Name {
+                    process: p,
+                    number: n,
+                    object: o,
+                });
+                Ok(())
+            }
+            None => Err(NumbersFull),
+        }
+    }
+
+    // A name comes in.
+    #[tactic(auto, unfolding(crate::specs::Stands::name_room))]
+    fn push(&mut self, m: Name)
+        requires { 1 ≤ name_room self.old }
+        ensures stands { (base l : List declared.Name) → NamesSince self.old base l → m.number ≤ 4294967294
+            → names_of.named_in l m.process m.number ≡ None → names_of.number_in l m.process m.object ≡ None
+            → NamesSince self.new base (l ++ m ∷ []) }
+        ensures uses { Uses self.old self.new 1 }
+    {
+        self.names.enter(m);
+        self.held.push(Group::Process { made: m.process }, m.number);
+        self.given.push_reserved(m);
+    }
+
+    /// What was given since the last time stays.
+    #[tactic(auto, unfolding(crate::specs::Stands::name_room))]
+    pub fn settle(&mut self)
+        ensures stands { (base l : List declared.Name) → NamesSince self.old base l → NamesAre self.new l }
+        ensures uses { Uses self.old self.new 0 }
+    {
+        self.given.clear();
+    }
+
+    // What was given last is taken back.
+    #[tactic(auto, unfolding(crate::specs::Stands::name_room))]
+    fn take_last(&mut self)
+        ensures stands { (base l : List declared.Name) → NamesSince self.old base l
+            → NamesSince self.new base (base ++ self.new.given.items) }
+        ensures fewer { vec_len self.new.given ≡ vec_len self.old.given - 1 }
+        ensures uses { Uses self.old self.new 0 }
+    {
+        match self.given.pop() {
+            Some(m) => self.names.forget(m.process, m.object),
+            None => {}
+        }
+    }
+
+    /// What was given since the table was settled is taken back.
+    #[tactic(auto, unfolding(crate::specs::Stands::name_room))]
+    pub fn take_back(&mut self)
+        ensures stands { (base l : List declared.Name) → NamesSince self.old base l → NamesAre self.new base }
+        ensures uses { Uses self.old self.new 0 }
+    {
+        for _ in 0..self.given.len() {
+            self.take_last();
+        }
+    }
+
+    /// The process's name of the object goes.
+    #[tactic(auto, unfolding(crate::specs::Stands::name_room))]
+    pub fn drop(&mut self, p: u32, o: ObjectId)
+        ensures stands { (l : List declared.Name) → NamesAre self.old l
+            → NamesAre self.new (filter (λ m. not ((m.process == p) && words.same m.object o)) l) }
+        ensures uses { Uses self.old self.new 0 }
+    {
+        self.names.forget(p, o);
+    }
+
+    /// All names of the process go.
+    #[tactic(auto, unfolding(crate::specs::Stands::name_room))]
+    pub fn drop_process(&mut self, p: u32)
+        ensures stands { (l : List declared.Name) → NamesAre self.old l → NamesAre self.new (filter (λ m. not (m.process == p)) l) }
+        ensures uses { Uses self.old self.new 0 }
+    {
+        let group = Group::Process { made: p };
+        self.names.forget_process(p, self.held.of(group));
+        self.held.forget(group);
+    }
+}

@@ -1,0 +1,45 @@
+//! What a buffer refers to.
+
+ghost use Rattle.std.specs.Prelude.{◌≡◌, ◌≤◌, ◌++◌, not, map, filter, List, OnOk};
+ghost use Rattle.bd_space.specs.declared.space.Reference.{Reference};
+ghost use Rattle.bd_space.specs.References as refer;
+
+use crate::held::HeldReferences;
+use crate::table::ReferenceTable;
+use bd_space::ObjectId;
+use std::alloc::AllocError;
+
+fn push_objects(
+    references: HeldReferences<'_>,
+    touched: &mut Vec<ObjectId>,
+) -> Result<(), AllocError>
+    ensures { OnOk result (touched.new.items ≡ touched.old.items ++ map (λ r. r.object) references.entry) }
+{
+    for r in references {
+        touched.push(r.object)?;
+    }
+    Ok(())
+}
+
+impl ReferenceTable {
+    ghost use Rattle.bd_holds.specs.{Stands.{ReferencesAre}, Room.{reference_room}};
+
+    /// The references go that the buffer held.
+    #[tactic(auto, unfolding(crate::specs::Room::reference_room))]
+    pub fn drop_buffer(&mut self, b: u32)
+        ensures stands { (l : List Reference) → ReferencesAre self.old l
+            → ReferencesAre self.new (filter (λ r. not (refer.is_of_buffer b r.holder)) l) }
+        ensures uses { reference_room self.old ≤ reference_room self.new }
+    {
+        self.tallies.take_each(self.items.of(b));
+        self.items.clear(b);
+    }
+
+    /// The objects to which the buffer refers, put after what is there. Fails for want of memory alone.
+    pub fn referred(&self, b: u32, touched: &mut Vec<ObjectId>) -> Result<(), AllocError>
+        ensures { OnOk result ((l : List Reference) → ReferencesAre self.now l → touched.new.items
+            ≡ touched.old.items ++ map (λ r. r.object) (filter (λ r. refer.is_of_buffer b r.holder) l)) }
+    {
+        push_objects(self.items.of(b), touched)
+    }
+}

@@ -1,0 +1,61 @@
+//! The objects that a buffer carries.
+
+ghost use Rattle.std.specs.{Prelude.{◌≡◌, List}, Iterator.{YieldsFirst, item_count}};
+ghost use Rattle.bd_space.specs.{declared.step.ObjectId.{ObjectId}, declared.space.Reference.{Reference}};
+ghost use Rattle.bd_holds.specs.Carried.{is_carried_by, carried_in};
+
+use crate::held::HeldReferences;
+use crate::table::ReferenceTable;
+use bd_space::{Holder, ObjectId};
+use std::marker::Model;
+
+fn is_carried_by(made: u32, holder: Holder) -> bool
+    ensures { result ≡ is_carried_by made holder }
+{
+    matches!(holder, Holder::Carried(b, _) if b == made)
+}
+
+/// The objects that a buffer carries, one for each object of its parcel, in their order.
+#[derive(Drop)]
+pub struct CarriedObjects<'a> {
+    made: u32,
+    // Those that are still to be looked at.
+    references: HeldReferences<'a>,
+}
+
+impl<'a> Model for CarriedObjects<'a> {
+    ghost Value = { List ObjectId };
+
+    ghost view = { λ c. carried_in c.references c.made };
+}
+
+impl Iterator for CarriedObjects<'_> {
+    type Item = ObjectId;
+
+    ghost next_gives = { YieldsFirst (λ s. s) };
+
+    ghost remaining = { item_count (λ s. s) };
+
+    fn next(&mut self) -> Option<ObjectId> {
+        while let Some(reference) = self.references.next() {
+            if is_carried_by(self.made, reference.holder) {
+                return Some(reference.object);
+            }
+        }
+        None
+    }
+}
+
+impl ReferenceTable {
+    ghost use Rattle.bd_holds.specs.Stands.{ReferencesAre};
+
+    /// The objects that the buffer made there carries, one for each object of its parcel, in their order.
+    pub fn carried(&self, b: u32) -> CarriedObjects<'_>
+        ensures { (l : List Reference) → ReferencesAre self.now l → result ≡ carried_in l b }
+    {
+        CarriedObjects {
+            made: b,
+            references: self.items.of(b),
+        }
+    }
+}

@@ -1,0 +1,168 @@
+//! What each buffer holds, in order.
+
+ghost use Rattle.std.specs.Prelude.{ℕ, ◌≡◌, ◌≤◌, ◌<◌, ◌+◌, ◌-◌, ◌^◌, ◌==◌, ◌++◌, ◌∷◌, [], Some, None, false, not, filter, ◌&&◌, if◌then◌else◌, OnOk, OnErr};
+ghost use Rattle.std.specs.HashMap.{spare};
+ghost use Rattle.bd_space.specs.References as refer;
+ghost use Rattle.bd_holds.specs.{Gathered.{item_in, end_in}, Listed.{AreWindows}};
+
+use crate::held::{HeldReferences, end_of};
+use crate::holders::buffer_of_holder;
+use crate::keys::ItemKey;
+use crate::windows::{leave_each, list_window, reserve_windows};
+use bd_groups::{Group, Groups};
+use bd_keys::insert_reserved;
+use bd_space::Reference;
+use std::alloc::{AllocError, Global};
+use std::collections::HashMap;
+
+/// The references of all buffers, each by its buffer and an index.
+pub(crate) struct Items {
+    pub(crate) held: HashMap<ItemKey, Reference>,
+    // The index at which the next reference of a buffer comes in.
+    pub(crate) ends: HashMap<u32, u64>,
+    // By process the buffers that hold something in its window, and buffers that did.
+    pub(crate) windows: Groups<u32>,
+    pub(crate) alloc: Global,
+    ghost listed: { AreWindows held ends windows },
+}
+
+impl Drop for Items {
+    fn drop(self) {
+        let Items {
+            held: _,
+            ends: _,
+            windows: _,
+            alloc: _,
+        } = self;
+    }
+}
+
+// A reference comes in.
+#[tactic(auto, unfolding(crate::specs::Keys::same_item))]
+fn put(held: &mut HashMap<ItemKey, Reference>, b: u32, i: u64, r: Reference)
+    requires { 0 < spare held.old }
+    ensures items { (c j : ℕ) → item_in held.new c j ≡ (if (b == c) && (i == j) then Some r else item_in held.old c j) }
+    ensures spare { spare held.old ≤ spare held.new + 1 }
+{
+    let key = ItemKey {
+        buffer: b,
+        index: i,
+    };
+    insert_reserved(held, key, r);
+}
+
+// The buffer's next index is set.
+fn set_end(ends: &mut HashMap<u32, u64>, b: u32, i: u64)
+    requires { 0 < spare ends.old }
+    ensures ends { (c : ℕ) → end_in ends.new c ≡ (if b == c then i else end_in ends.old c) }
+    ensures spare { spare ends.old ≤ spare ends.new + 1 }
+{
+    insert_reserved(ends, b, i);
+}
+
+// What the buffer holds at these indexes goes.
+#[tactic(auto, unfolding(crate::specs::Keys::same_item))]
+fn clear_to(held: &mut HashMap<ItemKey, Reference>, b: u32, end: u64)
+    ensures others { (c j : ℕ) → (b == c) ≡ false → item_in held.new c j ≡ item_in held.old c j }
+    ensures gone { (j : ℕ) → j < end → item_in held.new b j ≡ None }
+    ensures spare { spare held.old ≤ spare held.new }
+{
+    for i in 0..end {
+        let _gone = held.remove(&ItemKey {
+            buffer: b,
+            index: i,
+        });
+    }
+}
+
+impl Items {
+    ghost use Rattle.bd_holds.specs.Held.{end_at, items_of, item_room};
+
+    /// Nothing is held.
+    pub(crate) fn new(alloc: Global) -> Items
+        ensures items { (b : ℕ) → items_of result b ≡ [] }
+        ensures ends { (b : ℕ) → end_at result b ≡ 0 }
+    {
+        Items {
+            held: HashMap::new(alloc),
+            ends: HashMap::new(alloc),
+            windows: Groups::new(alloc),
+            alloc,
+        }
+    }
+
+    /// Room for so many references more.
+    pub(crate) fn reserve(&mut self, more: usize) -> Result<(), AllocError>
+        ensures items { (b : ℕ) → items_of self.new b ≡ items_of self.old b }
+        ensures ends { (b : ℕ) → end_at self.new b ≡ end_at self.old b }
+        ensures uses { item_room self.old ≤ item_room self.new }
+        ensures room { OnOk result (more ≤ item_room self.new) }
+        ensures grown { OnErr result (more ≤ item_room self.old → ⊥) }
+    {
+        self.held.reserve(more)?;
+        self.ends.reserve(more)?;
+        reserve_windows(&mut self.windows, &self.held, &self.ends, self.alloc, more)
+    }
+
+    /// The buffer holds one reference more, after its others.
+    pub(crate) fn push(&mut self, b: u32, r: Reference)
+        requires { 1 ≤ item_room self.old }
+        ensures items { (c : ℕ) → end_at self.old b < 2 ^ 64 - 1
+            → items_of self.new c ≡ (if b == c then items_of self.old c ++ r ∷ [] else items_of self.old c) }
+        ensures ends { (c : ℕ) → end_at self.new c ≤ end_at self.old c + 1 }
+        ensures uses { item_room self.old ≤ item_room self.new + 1 }
+    {
+        let end = end_of(&self.ends, b);
+        list_window(&mut self.windows, b, r.holder);
+        put(&mut self.held, b, end, r);
+        set_end(&mut self.ends, b, end.saturating_add(1));
+    }
+
+    /// A reference comes in. Its buffer holds it, if it has one.
+    pub(crate) fn hold(&mut self, r: Reference)
+        requires { 1 ≤ item_room self.old }
+        ensures items { (c : ℕ) → ((b : ℕ) → end_at self.old b < 2 ^ 64 - 1) → items_of self.new c
+            ≡ (if refer.is_of_buffer c r.holder then items_of self.old c ++ r ∷ [] else items_of self.old c) }
+        ensures ends { (c : ℕ) → end_at self.new c ≤ end_at self.old c + 1 }
+        ensures uses { item_room self.old ≤ item_room self.new + 1 }
+    {
+        if let Some(b) = buffer_of_holder(r.holder) {
+            self.push(b, r);
+        }
+    }
+
+    /// The references that the buffer holds, in order.
+    pub(crate) fn of(&self, b: u32) -> HeldReferences<'_>
+        ensures { result ≡ items_of self.now b }
+    {
+        HeldReferences {
+            held: &self.held,
+            buffer: b,
+            index: 0,
+            end: end_of(&self.ends, b),
+        }
+    }
+
+    /// The buffer holds nothing any more.
+    pub(crate) fn clear(&mut self, b: u32)
+        ensures items { (c : ℕ) → items_of self.new c ≡ (if b == c then [] else items_of self.old c) }
+        ensures ends { (c : ℕ) → end_at self.new c ≤ end_at self.old c }
+        ensures uses { item_room self.old ≤ item_room self.new }
+    {
+        let end = end_of(&self.ends, b);
+        clear_to(&mut self.held, b, end);
+        let _gone = self.ends.remove(&b);
+    }
+
+    /// What lies in the window goes from all buffers.
+    pub(crate) fn drop_window(&mut self, p: u32)
+        ensures items { (c : ℕ) → items_of self.new c
+            ≡ filter (λ r. not (refer.is_in_window p r.holder)) (items_of self.old c) }
+        ensures ends { (c : ℕ) → end_at self.new c ≤ end_at self.old c }
+        ensures uses { item_room self.old ≤ item_room self.new }
+    {
+        let group = Group::Process { made: p };
+        leave_each(&mut self.held, &mut self.ends, self.windows.of(group), p);
+        self.windows.forget(group);
+    }
+}

@@ -1,0 +1,74 @@
+//! The table, and its memory.
+
+ghost use Rattle.std.specs.Prelude.{◌≡◌, ◌+◌, ◌≤◌, ◌++◌, ◌∷◌, [], List, OnOk, OnErr};
+ghost use Rattle.bd_space.specs.declared.space.Reference.{Reference};
+
+use crate::items::Items;
+use crate::tallies::Tallies;
+use bd_space::Reference;
+use std::alloc::{AllocError, Global};
+
+/// The references of a space to its objects.
+pub struct ReferenceTable {
+    pub(crate) tallies: Tallies,
+    pub(crate) items: Items,
+    // How many ever came in. No counter is above it.
+    pub(crate) made: u64,
+}
+
+// Written out: one that is derived would be proved again in every crate that holds a table.
+impl Drop for ReferenceTable {
+    fn drop(self) {
+        let ReferenceTable {
+            tallies: _,
+            items: _,
+            made: _,
+        } = self;
+    }
+}
+
+impl ReferenceTable {
+    ghost use Rattle.bd_holds.specs.{Stands.{ReferencesAre}, Room.{reference_room}};
+
+    /// No references.
+    pub fn new(alloc: Global) -> ReferenceTable
+        ensures { ReferencesAre result [] }
+    {
+        ReferenceTable {
+            tallies: Tallies::new(alloc),
+            items: Items::new(alloc),
+            made: 0,
+        }
+    }
+
+    /// Makes room for so many more. Changes nothing else.
+    #[tactic(auto, unfolding(crate::specs::Room::reference_room))]
+    pub fn reserve(&mut self, more: usize) -> Result<(), AllocError>
+        ensures stands { (l : List Reference) → ReferencesAre self.old l → ReferencesAre self.new l }
+        ensures uses { reference_room self.old ≤ reference_room self.new }
+        ensures room { OnOk result (more ≤ reference_room self.new) }
+        // There was no room: memory was asked for, or more would come in than `made` can count.
+        ensures grown { OnErr result (more ≤ reference_room self.old → ⊥) }
+    {
+        if more == 0 {
+            return Ok(());
+        }
+        if more as u64 > u64::MAX - self.made {
+            return Err(AllocError);
+        }
+        self.tallies.reserve(more)?;
+        self.items.reserve(more)
+    }
+
+    /// One reference more, after the others.
+    #[tactic(auto, unfolding(crate::specs::Room::reference_room))]
+    pub fn push(&mut self, r: Reference)
+        requires { 1 ≤ reference_room self.old }
+        ensures stands { (l : List Reference) → ReferencesAre self.old l → ReferencesAre self.new (l ++ r ∷ []) }
+        ensures uses { reference_room self.old ≤ reference_room self.new + 1 }
+    {
+        self.tallies.push(r);
+        self.items.hold(r);
+        self.made = self.made.saturating_add(1);
+    }
+}

@@ -1,0 +1,22 @@
+-- What is at a key, and how many new keys may still come without memory.
+use Rattle.std.specs.Prelude.{ℕ, ◌-◌, min, List, get_or, Option, Some, None, vec_len, vec_capacity}
+use Rattle.bd_keys.specs.declared.key.WordKey.{WordKey}
+use Rattle.bd_keys.specs.declared.map.WordMap.{WordMap}
+use Rattle.bd_keys.specs.Keys.{place_in}
+use Rattle.bd_keys.specs.Walk.{keys}
+use Rattle.bd_keys.specs.Room.{tree_room}
+
+-- what is at a place, if there is one
+abbrev pub value_at : {V : Type 0} → List (Option V) → Option ℕ → Option V
+value_at vs None = None
+value_at vs (Some i) = get_or vs i None
+
+-- the place of a key
+abbrev pub place_of : {V : Type 0} → WordMap V → WordKey → Option ℕ
+place_of m k = place_in (keys m.tree.nodes.items) k
+
+unfoldable pub look : {V : Type 0} → WordMap V → WordKey → Option V
+look m k = value_at m.values.items (place_of m k)
+
+unfoldable pub word_room : {V : Type 0} → WordMap V → ℕ
+word_room m = min (tree_room m.tree) (vec_capacity m.values - vec_len m.values)

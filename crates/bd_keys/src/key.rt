@@ -1,0 +1,21 @@
+//! By what a value is found.
+
+ghost use Rattle.std.specs.Prelude.{◌≡◌};
+ghost use Rattle.bd_keys.specs.Keys.{spread};
+
+/// Whose a value is, and the word that names it there.
+#[derive(Clone, Copy, PartialEq, Eq)]
+pub struct WordKey {
+    pub process: u32,
+    pub word: u64,
+}
+
+impl WordKey {
+    /// A number of 97 bits, another for each key. Its low bits tell the words of one process apart as well as the
+    /// processes with one word.
+    pub(crate) fn spread(self) -> u128
+        ensures { result ≡ spread self }
+    {
+        u128::from(self.word) + u128::from(self.process) * 0x1_0000_0000_0000_0001
+    }
+}

@@ -1,0 +1,139 @@
+//! The tree: the place of each key.
+
+ghost use Rattle.std.specs.Prelude.{◌≡◌, ◌≤◌, ◌<◌, ◌+◌, ◌^◌, ◌++◌, ◌∷◌, [], length, get_or, vec_len, vec_capacity, Some, None, OnOk, OnErr};
+ghost use Rattle.bd_keys.specs.{Keys.{place_in}, Walk.{blank, leaf, keys, next, end_of}, Tree.{IsTree}};
+
+use crate::key::WordKey;
+use crate::node::Node;
+use std::alloc::{AllocError, Global};
+
+// As many nodes as 32 bits can name.
+const MOST: usize = 0x1_0000_0000;
+
+// The node after one on the walk to a key: none at the key's own, and none where no more go that way.
+fn next(nodes: &[Node], at: usize, k: WordKey) -> Option<usize>
+    requires within { at < length nodes.now }
+    requires tree { IsTree nodes.now }
+    ensures { result ≡ next nodes.now at k }
+{
+    let node = &nodes[at];
+    if node.key == k {
+        return None;
+    }
+    match node.toward(k) {
+        0 => None,
+        child => Some(child as usize),
+    }
+}
+
+// Where the walk to a key ends: at its own node, or at the one that a new node of the key comes under. Each node is
+// three bits further than the one before, so there are 34 at most.
+fn end(nodes: &[Node], k: WordKey) -> usize
+    requires root { 0 < length nodes.now }
+    requires tree { IsTree nodes.now }
+    ensures end { result ≡ end_of nodes.now k }
+    ensures within { result < length nodes.now }
+{
+    let mut at = 0;
+    while let Some(child) = next(nodes, at, k) {
+        at = child;
+    }
+    at
+}
+
+// The place of a key.
+fn place(nodes: &[Node], k: WordKey) -> Option<usize>
+    requires { IsTree nodes.now }
+    ensures { result ≡ place_in (keys nodes.now) k }
+{
+    if nodes.is_empty() {
+        return None;
+    }
+    let at = end(nodes, k);
+    if nodes[at].key == k { Some(at) } else { None }
+}
+
+// Makes the way to the coming node of a new key, and tells its bit.
+fn hang(nodes: &mut Vec<Node>, k: WordKey) -> u8
+    requires tree { IsTree nodes.old.items }
+    requires room { length nodes.old.items < 2 ^ 32 }
+    requires new { place_in (keys nodes.old.items) k ≡ None }
+    ensures tree { IsTree (nodes.new.items ++ leaf k result ∷ []) }
+    ensures keys { keys nodes.new.items ≡ keys nodes.old.items }
+    ensures len { vec_len nodes.new ≡ vec_len nodes.old }
+    ensures capacity { vec_capacity nodes.new ≡ vec_capacity nodes.old }
+{
+    if nodes.is_empty() {
+        return 0;
+    }
+    let child = nodes.len() as u32;
+    let at = end(nodes, k);
+    let parent = &mut nodes[at];
+    parent.link(k, child);
+    parent.bit + 3
+}
+
+/// Keys, each at its place: a tree by their bits, three at each node, whose nodes stay.
+#[derive(Drop)]
+pub(crate) struct Tree {
+    pub(crate) nodes: Vec<Node>,
+    ghost stands: { IsTree nodes.items },
+}
+
+impl Tree {
+    ghost use Rattle.bd_keys.specs.Room.{tree_room};
+
+    /// An empty tree.
+    pub(crate) fn new(alloc: Global) -> Tree
+        ensures { keys result.nodes.items ≡ [] }
+    {
+        Tree {
+            nodes: Vec::new(alloc),
+        }
+    }
+
+    /// How many more keys fit in.
+    pub(crate) fn room(&self) -> usize
+        ensures { result ≡ tree_room self.now }
+    {
+        self.nodes.capacity().min(MOST) - self.nodes.len()
+    }
+
+    /// Makes room for so many more.
+    pub(crate) fn reserve(&mut self, more: usize) -> Result<(), AllocError>
+        ensures same { self.new.nodes.items ≡ self.old.nodes.items }
+        ensures room { OnOk result (more ≤ tree_room self.new) }
+        ensures uses { tree_room self.old ≤ tree_room self.new }
+    {
+        if more > MOST - self.nodes.len() {
+            return Err(AllocError);
+        }
+        self.nodes.reserve(more)
+    }
+
+    /// The place of a key.
+    pub(crate) fn find(&self, k: WordKey) -> Option<usize>
+        ensures { result ≡ place_in (keys self.now.nodes.items) k }
+    {
+        place(&self.nodes, k)
+    }
+
+    /// The key at a place.
+    pub(crate) fn key(&self, at: usize) -> WordKey
+        requires { at < length self.now.nodes.items }
+        ensures { result ≡ get_or (keys self.now.nodes.items) at blank }
+    {
+        self.nodes[at].key
+    }
+
+    /// A new key comes to the end.
+    pub(crate) fn push(&mut self, k: WordKey)
+        requires room { 1 ≤ tree_room self.old }
+        requires new { place_in (keys self.old.nodes.items) k ≡ None }
+        ensures keys { keys self.new.nodes.items ≡ keys self.old.nodes.items ++ k ∷ [] }
+        ensures uses { tree_room self.old ≤ tree_room self.new + 1 }
+    {
+        let bit = hang(&mut self.nodes, k);
+        self.nodes.push_reserved(Node::new(k, bit));
+    }
+}

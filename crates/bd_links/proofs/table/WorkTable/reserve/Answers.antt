@@ -1,7 +1,0 @@
-use Rattle.bd_links.proofs.table.WorkTable.reserve.Goals as goal
-
-pub returns-clause-stands : goal.returns-clause-stands
-returns-clause-stands c = λ l h. record { queues_stand = c.reserve.ensures.stands l h.queues_stand; registered = c.reserve-2.ensures.stands l h.registered }
-
-pub returns-in_err-reserve-clause-stands : goal.returns-in_err-reserve-clause-stands
-returns-in_err-reserve-clause-stands c = λ l h. record { queues_stand = c.reserve.ensures.stands l h.queues_stand; registered = h.registered }

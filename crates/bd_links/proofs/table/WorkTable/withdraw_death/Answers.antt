@@ -1,7 +1,0 @@
-use Rattle.std.proofs.Common.{subst}
-use Rattle.bd_links.specs.Stands.{WorksAre}
-use Rattle.bd_links.proofs.WorksStand.{death_goes}
-use Rattle.bd_links.proofs.table.WorkTable.withdraw_death.Goals as goal
-
-pub returns-clause-stands : goal.returns-clause-stands
-returns-clause-stands c = λ l h. subst (WorksAre c.withdraw.new.self) (death_goes c.args.made l) (c.withdraw.ensures.stands l h)

@@ -1,5 +1,0 @@
-use Rattle.bd_names.proofs.Listing.{has-numbers}
-use Rattle.bd_names.proofs.table.NameTable.next_number.Goals as goal
-
-pub returns : goal.returns
-returns c = λ base l h. c.next_among.ensures l h.stands (has-numbers c.args.self.now.held _ c.args.p l c.of.ensures h.listed)

@@ -1,6 +1,0 @@
-use Rattle.bd_names.specs.Bits.{word_at}
-use Rattle.bd_names.proofs.Bits.{set-word}
-use Rattle.bd_names.proofs.words.Words.set.Goals as goal
-
-pub returns-clause-bits : goal.returns-clause-bits
-returns-clause-bits c = set-word (word_at c.args.self.now) (word_at c.raise.new.self) c.args.p c.args.i (rw (← c.word.ensures) c.raise.ensures.words)

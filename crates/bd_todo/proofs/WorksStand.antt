@@ -1,0 +1,148 @@
+-- The table as a whole: a work item comes, or some go.
+use Rattle.std.proofs.Common.{◌≡◌, ℕ, ◌<◌, ◌==◌, nat_lt, Bool, not, cond, true, Some, None, List, [], ◌∷◌, ◌++◌, length, filter, count_by, refl, sym, ap, ◌∙◌, subst, arith}
+use Rattle.bd_space.specs.declared.space.Work.{Work}
+use Rattle.bd_space.specs.declared.space.TodoList.{TodoList}
+use Rattle.bd_space.specs.declared.space.WorkKind.{WorkKind}
+use Rattle.bd_space.specs.Todo.{with_work, is_on, is_notice, is_call, death_of}
+use Rattle.bd_todo.specs.declared.queues.Queues.{Queues}
+use Rattle.bd_todo.specs.declared.table.WorkTable.{WorkTable}
+use Rattle.std.specs.List.{list_any}
+use Rattle.bd_space.specs.declared.step.ObjectId.{ObjectId}
+use Rattle.bd_space.specs.declared.space.WorkKind.TheVariants as kinds
+use Rattle.bd_space.specs.Words.{without_first, is_some_and}
+use Rattle.bd_todo.specs.declared.spots.Sought.{Sought}
+use Rattle.std.specs.Prelude.{Option, option_map}
+use Rattle.bd_chains.specs.declared.links.Held.{Held}
+use Rattle.bd_chains.specs.Rows.{Row, row_at, drop_key}
+use Rattle.bd_chains.proofs.Rowing.{drop_none, off_keys}
+use Rattle.bd_todo.specs.declared.register.Register.{Register}
+use Rattle.bd_todo.specs.declared.spots.Sought.TheVariants.{Notice, Call, Death}
+use Rattle.bd_todo.specs.Rows.{works}
+use Rattle.bd_todo.specs.Spots.{is_sought, count_at}
+use Rattle.bd_todo.specs.QueuesStand.{Shows, Stands, FrontIn, work_at}
+use Rattle.bd_todo.specs.Stands.{WorksAre, RowsAre}
+use Rattle.bd_todo.specs.Registered.{Registered}
+use Rattle.bd_todo.proofs.Plain.{none_some}
+use Rattle.bd_todo.proofs.Rows.{Cut, cut_at}
+use Rattle.bd_todo.proofs.SoughtCounts.{count-less, none_pass, any_counted}
+use Rattle.bd_todo.proofs.Dating.{none_later}
+
+-- ---- rows and the work items that they hold
+
+pub rows_are : (t : WorkTable) (l : List Work) → (h : WorksAre t l) → RowsAre t h.queues_stand.rows
+rows_are t l h = record { shows = h.queues_stand.shows; registered = subst (Registered t.register) (sym h.queues_stand.works_are) h.registered }
+
+pub works_of : (t : WorkTable) (rs : List (Row Work)) (l : List Work) → RowsAre t rs → works rs ≡ l → WorksAre t l
+works_of t rs l h is = record { queues_stand = record { rows = rs; shows = h.shows; works_are = is }; registered = subst (Registered t.register) is h.registered }
+
+pub works_pushed : (t u : WorkTable) (place index : ℕ) (list : TodoList) (kind : WorkKind) (l : List Work) → WorksAre t l → index ≡ count_by (λ w. w.id.place == place) l
+    → Stands u.queues (l ++ record { id = record { place = place; index = index }; list = list; kind = kind } ∷ []) → length l < 18446744073709551615
+    → ((todo : List Work) → length todo < 18446744073709551615 → index ≡ count_by (λ w. w.id.place == place) todo → Registered t.register todo
+    → Registered u.register (todo ++ record { id = record { place = place; index = index }; list = list; kind = kind } ∷ []))
+    → WorksAre u (with_work place l list kind)
+works_pushed t u place index list kind l h is stands few reg = record {
+  queues_stand = subst (λ i. Stands u.queues (l ++ item i ∷ [])) is stands;
+  registered = subst (λ i. Registered u.register (l ++ item i ∷ [])) is (reg l few is h.registered);
+}
+  where
+    item : ℕ → Work
+    item i = record { id = record { place = place; index = i }; list = list; kind = kind }
+
+-- what stands in a slot is among the items, some before it and some after
+row_cut : (t : Queues) (rs : List (Row Work)) (x : ℕ) (w : Work) → Shows t rs → work_at t x ≡ Some w → Cut x w rs
+row_cut t rs x w h is = of (row_at x rs) refl (sym (ap (option_map (λ (v : ℕ × Held Work). v.1.value)) (h.holds.stands.shown x)) ∙ is)
+  where
+    of : (o : Option (ℕ × Held Work)) → row_at x rs ≡ o → option_map (λ (v : ℕ × Held Work). v.1.value) o ≡ Some w → Cut x w rs
+    of None e k = absurd (none_some w k)
+    of (Some v) e k = subst (λ y. Cut x y rs) (some_is k) (cut_at x v.0 v.1 None rs h.holds.stands.apart e)
+      where
+        some_is : {a b : Work} → Some a ≡ Some b → a ≡ b
+        some_is e = cc
+
+pub row_went : (t : Queues) (rs : List (Row Work)) (x : ℕ) (w : Work) (r s : Register) → Shows t rs → work_at t x ≡ Some w → Registered r (works rs)
+    → ((before after : List Work) → Registered r (before ++ w ∷ after) → Registered s (before ++ after)) → Registered s (works (drop_key x rs))
+row_went t rs x w r s h is reg went =
+    let c = row_cut t rs x w h is in
+    subst (Registered s) (sym c.rest) (went c.before c.after (subst (Registered r) c.whole reg))
+
+pub row_absent : (t : Queues) (rs : List (Row Work)) (x : ℕ) (r : Register) → Shows t rs → work_at t x ≡ None → Registered r (works rs) → Registered r (works (drop_key x rs))
+row_absent t rs x r h is reg = subst (λ ss. Registered r (works ss)) (sym (drop_none x rs (off_keys x rs (of (row_at x rs) (sym (ap (option_map (λ (v : ℕ × Held Work). v.1.value)) (h.holds.stands.shown x)) ∙ is))))) reg
+  where
+    of : (o : Option (ℕ × Held Work)) → option_map (λ (v : ℕ × Held Work). v.1.value) o ≡ None → o ≡ None
+    of None k = refl
+    of (Some v) k = absurd (none_some v.1.value (sym k))
+
+-- nothing was made at a later place
+pub none_at : (t : WorkTable) (place : ℕ) (l : List Work) → WorksAre t l → t.register.latest < place → 0 ≡ count_by (λ w. w.id.place == place) l
+none_at t place l h late = sym (none_later t.register.latest place l h.registered.dated.none_past late)
+
+pub all_at : (t : WorkTable) (place : ℕ) (l : List Work) → WorksAre t l → place ≡ t.register.latest → t.register.count ≡ count_by (λ w. w.id.place == place) l
+all_at t place l h same = h.registered.dated.counted ∙ ap (λ n. count_by (λ (w : Work). w.id.place == n) l) (sym same)
+
+-- ---- what is looked up
+
+notice_key : (o : ObjectId) (kind : WorkKind) → is_notice o kind ≡ is_sought (Notice o.place o.index) kind
+notice_key o (kinds.Notice p) = refl
+notice_key o (kinds.Call b) = refl
+notice_key o (kinds.Death n) = refl
+notice_key o _ = refl
+
+call_key : (b : ℕ) (kind : WorkKind) → is_call b kind ≡ is_sought (Call b) kind
+call_key b (kinds.Notice p) = refl
+call_key b (kinds.Call c) = refl
+call_key b (kinds.Death n) = refl
+call_key b _ = refl
+
+death_key : (m : ℕ) (kind : WorkKind) → is_some_and (death_of kind) (λ n. n == m) ≡ is_sought (Death m) kind
+death_key m (kinds.Notice o) = refl
+death_key m (kinds.Call b) = refl
+death_key m (kinds.Death n) = refl
+death_key m _ = refl
+
+pub notice_goes : (o : ObjectId) (l : List Work) → filter (λ w. not (is_sought (Notice o.place o.index) w.kind)) l ≡ filter (λ w. not (is_notice o w.kind)) l
+notice_goes o l = sym (λ i. filter (λ (w : Work). not (notice_key o w.kind i)) l)
+
+pub death_goes : (m : ℕ) (l : List Work) → filter (λ w. not (is_sought (Death m) w.kind)) l ≡ filter (λ w. not (is_some_and (death_of w.kind) (λ n. n == m))) l
+death_goes m l = sym (λ i. filter (λ (w : Work). not (death_key m w.kind i)) l)
+
+pub has_sought_is : (t : WorkTable) (k : Sought) (l : List Work) → WorksAre t l → nat_lt 0 (count_at t.register.spots k) ≡ list_any (λ w. is_sought k w.kind) l
+has_sought_is t k l h = ap (nat_lt 0) (h.registered.counted k) ∙ any_counted (λ (w : Work). is_sought k w.kind) l
+
+pub has_notice_is : (t : WorkTable) (o : ObjectId) (l : List Work) → WorksAre t l → nat_lt 0 (count_at t.register.spots (Notice o.place o.index)) ≡ list_any (λ w. is_notice o w.kind) l
+has_notice_is t o l h = has_sought_is t (Notice o.place o.index) l h ∙ sym (λ i. list_any (λ (w : Work). notice_key o w.kind i) l)
+
+pub has_call_is : (t : WorkTable) (b : ℕ) (l : List Work) → WorksAre t l → nat_lt 0 (count_at t.register.spots (Call b)) ≡ list_any (λ w. is_call b w.kind) l
+has_call_is t b l h = has_sought_is t (Call b) l h ∙ sym (λ i. list_any (λ (w : Work). call_key b w.kind i) l)
+
+cut_one : (p : Work → Bool) (before : List Work) (w : Work) (after : List Work) → p w ≡ true → filter (λ v. not (p v)) (before ++ w ∷ after) ≡ filter (λ v. not (p v)) (before ++ after)
+cut_one p [] w after e = ap (λ b. cond (not b) (w ∷ filter (λ v. not (p v)) after) (filter (λ v. not (p v)) after)) e
+cut_one p (v ∷ before) w after e = ap (λ vs. cond (not (p v)) (v ∷ vs) vs) (cut_one p before w after e)
+
+pub only_goes : (t u : WorkTable) (p : Work → Bool) (l : List Work) (x : ℕ) → WorksAre t l → is_some_and (work_at t.queues x) p ≡ true → count_by p l ≡ 1
+    → ((rs : List (Row Work)) → RowsAre t rs → RowsAre u (drop_key x rs)) → WorksAre u (filter (λ w. not (p w)) l)
+only_goes t u p l x h is one gone = of (work_at t.queues x) refl is
+  where
+    of : (o : Option Work) → work_at t.queues x ≡ o → is_some_and o p ≡ true → WorksAre u (filter (λ w. not (p w)) l)
+    of None e k = absurd cc
+    of (Some w) e k =
+        let rs = h.queues_stand.rows in
+        let c = row_cut t.queues rs x w h.queues_stand.shows e in
+        let less = ap (count_by p) (sym c.whole ∙ h.queues_stand.works_are) in
+        let split = count-less p c.before w c.after in
+        let its = ap {B = ℕ} (λ b. cond b 1 0) k in
+        let left : works (drop_key x rs) ≡ filter (λ v. not (p v)) l =
+        c.rest ∙ sym (none_pass p (c.before ++ c.after) (omega (arith, less, split, its, one))) ∙ sym (cut_one p c.before w c.after k) ∙ ap (filter (λ v. not (p v))) (sym c.whole ∙ h.queues_stand.works_are) in
+        works_of u (drop_key x rs) (filter (λ w. not (p w)) l) (gone rs (rows_are t l h)) left
+
+-- ---- the first of a list
+
+pub front_went : (t u : WorkTable) (l : List Work) (list : TodoList) (x : ℕ) → WorksAre t l → FrontIn t.queues l list x
+    → ((rs : List (Row Work)) → RowsAre t rs → RowsAre u (drop_key x rs)) → WorksAre u (without_first (is_on list) l)
+front_went t u l list x h f gone =
+    works_of u (drop_key x f.rows) (without_first (is_on list) l)
+    (gone f.rows (record { shows = f.shows; registered = subst (Registered t.register) (sym f.works_are) h.registered })) f.without_it
+
+-- nothing stays of nothing
+pub none_left : (p : Work → Bool) (ws : List Work) → length ws ≡ 0 → filter (λ w. not (p w)) ws ≡ ws
+none_left p [] e = refl
+none_left p (w ∷ ws) e = absurd (omega arith)

@@ -1,0 +1,22 @@
+use Rattle.std.proofs.Common.{◌≡◌, ◌∙◌, sym, subst, rules, tests, not, true, IfSome}
+use Rattle.bd_space.specs.declared.space.Work.{Work}
+use Rattle.bd_space.specs.Words.{is_some_and}
+use Rattle.bd_todo.specs.QueuesStand.{work_at}
+use Rattle.bd_todo.specs.Spots.{is_sought, count_at}
+use Rattle.bd_todo.specs.Stands.{WorksAre}
+use Rattle.bd_todo.proofs.OnList.{nothing_goes}
+use Rattle.bd_todo.proofs.WorksStand.{only_goes, has_sought_is}
+use Rattle.bd_todo.proofs.table.WorkTable.withdraw.Goals as goal
+
+pub returns-then-has-clause-stands : goal.returns-then-has-clause-stands
+returns-then-has-clause-stands c = λ l h. c.keep.ensures.stands (λ (w : Work). not (is_sought c.args.key w.kind)) (λ x b k. search (rules, tests)) l h
+
+pub returns-else-has-clause-stands : goal.returns-else-has-clause-stands
+returns-else-has-clause-stands c = λ l h.
+    let none = sym (has_sought_is c.args.self.now c.args.key l h) ∙ sym c.has.ensures ∙ c.if-has.false in
+    subst (WorksAre c.args.self.now) (sym (nothing_goes (λ (w : Work). is_sought c.args.key w.kind) l none)) h
+
+pub returns-in-Some-clause-stands : goal.returns-in-Some-clause-stands
+returns-in-Some-clause-stands c = λ l h.
+    let is = subst (λ r. IfSome r (λ x. (is_some_and (work_at c.args.self.now.queues x) (λ w. is_sought c.args.key w.kind) ≡ true) × (count_at c.args.self.now.register.spots c.args.key ≡ 1))) c.in-Some.is c.only.ensures in
+    only_goes c.args.self.now c.remove_at.new.self (λ (w : Work). is_sought c.args.key w.kind) l c.in-Some.x h is.0 (sym (h.registered.counted c.args.key) ∙ is.1) c.remove_at.ensures.rows

@@ -1,0 +1,12 @@
+use Rattle.std.proofs.Common.{Some, List, ◌∙◌}
+use Rattle.std.proofs.lemmas.Iterator.Consumers.{nth_from_yields_List, YieldsList-from_first}
+use Rattle.bd_space.specs.declared.space.Work.{Work}
+use Rattle.bd_space.specs.Todo.{work_on}
+use Rattle.bd_todo.proofs.Plain.{as_it_is}
+use Rattle.bd_todo.proofs.table.WorkTable.work_at.Goals as goal
+
+pub returns : goal.returns
+returns c = λ l h.
+    as_it_is c.nth.result
+    ∙ nth_from_yields_List c.nth.result c.nth.new.self c.args.k c.nth.ensures.ran
+    (YieldsList-from_first (λ (w : Work). w) (λ (a : List Work). a) (work_on l (Some c.args.list)) (c.works_on.ensures l h))

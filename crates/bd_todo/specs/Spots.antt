@@ -1,0 +1,40 @@
+-- What work items are looked up by, and how many are looked up so.
+use Rattle.std.specs.Prelude.{ℕ, ◌≡◌, Bool, List, count_by, Option, Some, None, option_map, unwrap_or}
+use Rattle.bd_ways.specs.Words.{is_some_and, Work, WorkKind}
+use Rattle.std.specs.HashMap.{get_by}
+use Rattle.bd_space.specs.declared.space.WorkKind.TheVariants as work
+use Rattle.bd_keys.specs.Numbers.{pair, wide}
+use Rattle.bd_todo.specs.declared.spots.Sought.{Sought}
+use Rattle.bd_todo.specs.declared.spots.Sought.TheVariants.{Notice, Call, Death}
+use Rattle.bd_todo.specs.declared.spots.Spots.{Spots}
+use Rattle.bd_todo.specs.contracts.spots.SoughtPartialEq.TheImpl as sought
+
+abbrev pub same_sought : Sought → Sought → Bool
+same_sought = (sought.ghosts).eq
+
+-- a number of 66 bits, another for each key
+abbrev pub spread : Sought → ℕ
+spread (Notice p i) = wide 0 (pair p i)
+spread (Call b) = wide 1 b
+spread (Death n) = wide 2 n
+
+abbrev pub sought_of : WorkKind → Option Sought
+sought_of (work.Notice o) = Some (Notice o.place o.index)
+sought_of (work.Call b) = Some (Call b)
+sought_of (work.Death n) = Some (Death n)
+sought_of _ = None
+
+-- what is looked up by the one key is looked up by the other
+abbrev pub is_key : Sought → Option Sought → Bool
+is_key k o = is_some_and o (λ s. same_sought s k)
+
+-- the work item is looked up by this key, whatever its list
+abbrev pub is_sought : Sought → WorkKind → Bool
+is_sought k kind = is_key k (sought_of kind)
+
+abbrev pub count_at : Spots → Sought → ℕ
+count_at t k = unwrap_or (option_map (λ s. s.count) (get_by (same_sought k) t.spots)) 0
+
+-- the work items are counted by what f looks them up by
+abbrev pub Counted : (Work → Option Sought) → Spots → List Work → Type 0
+Counted f t todo = (k : Sought) → count_at t k ≡ count_by (λ w. is_key k (f w)) todo

@@ -1,0 +1,92 @@
+//! What is found among the work items on a list, one after the other.
+
+ghost use Rattle.std.specs.{Prelude.{◌≡◌, true, Some}, List.{list_any, slice_get}};
+ghost use Rattle.bd_space.specs.Todo as spec;
+ghost use Rattle.bd_space.specs.ThreadExits as exits;
+ghost use Rattle.bd_todo.specs.TodoList as replies;
+ghost use Rattle.bd_todo.specs.Front as front;
+
+use crate::queues::Works;
+use crate::table::WorkTable;
+use crate::work::{is_call, reply_of};
+use bd_space::{Identity, TodoList, Work};
+
+fn any_is_call(works: Works<'_>, buffer: u32) -> bool
+    ensures { result ≡ list_any (λ w. spec.is_call buffer w.kind) works.entry }
+{
+    for work in works {
+        if is_call(buffer, work.kind) {
+            return true;
+        }
+    }
+    false
+}
+
+fn first_reply_among(works: Works<'_>) -> Option<u32>
+    ensures { result ≡ replies.first_reply_in works.entry }
+{
+    for work in works {
+        let reply = reply_of(work.kind);
+        if reply.is_some() {
+            return reply;
+        }
+    }
+    None
+}
+
+// The first is called so, and no other is.
+pub(crate) fn is_front(works: Works<'_>, id: Identity) -> bool
+    ensures { result ≡ front.is_front id true works.entry }
+{
+    let mut first = true;
+    for work in works {
+        if first {
+            if work.id != id {
+                return false;
+            }
+            first = false;
+        } else if work.id == id {
+            return false;
+        }
+    }
+    !first
+}
+
+impl WorkTable {
+    ghost use Rattle.bd_todo.specs.Stands.{Tells};
+
+    /// Whether anything is on a list.
+    pub fn has_any(&self, list: TodoList) -> bool
+        ensures { Tells self.now result (λ l. spec.has_work_in l list) }
+    {
+        self.queues.front(list).is_some()
+    }
+
+    /// The work items on a list, oldest first.
+    pub fn works_on(&self, list: TodoList) -> Works<'_>
+        ensures { Tells self.now result (λ l. spec.work_on l (Some list)) }
+    {
+        self.queues.works_on(list)
+    }
+
+    /// The `k`-th work item on a list, oldest first.
+    pub fn work_at(&self, list: TodoList, k: usize) -> Option<Work>
+        ensures { Tells self.now result (λ l. slice_get (spec.work_on l (Some list)) k) }
+    {
+        self.works_on(list).nth(k)
+    }
+
+    /// Where the first reply on a list was made.
+    pub fn first_reply(&self, list: TodoList) -> Option<u32>
+        ensures { Tells self.now result (λ l. replies.first_reply_in (spec.work_on l (Some list))) }
+    {
+        first_reply_among(self.works_on(list))
+    }
+
+    /// Whether the call made there stands unread on a list.
+    pub fn is_unread_on(&self, list: TodoList, made: u32) -> bool
+        ensures { Tells self.now result (λ l. exits.is_unread_on l list made) }
+    {
+        any_is_call(self.works_on(list), made)
+    }
+}

@@ -1,0 +1,103 @@
+//! What is known of all work items together, whatever their lists.
+
+ghost use Rattle.std.specs.Prelude.{ℕ, Bool, ◌≡◌, ◌==◌, ◌+◌, ◌-◌, ◌<◌, ◌≤◌, ◌&&◌, ◌||◌, ◌∷◌, ◌++◌, [], List, length, count_by, nat_lt, if◌then◌else◌, OnOk, OnErr};
+ghost use Rattle.bd_space.specs.declared.space.Work.{Work};
+ghost use Rattle.bd_todo.specs.{Rising.{rank}, Registered.{Registered, register_room}};
+
+use crate::spots::{Spots, sought_of};
+use bd_space::{Identity, Work};
+use std::alloc::{AllocError, Global};
+
+/// What is known of all work items together.
+#[derive(Debug, Drop)]
+pub struct Register {
+    // Notices, calls and deaths, whatever their lists.
+    pub(crate) spots: Spots,
+    // No work item was made later than at this place, and so many were made there.
+    pub(crate) latest: u32,
+    pub(crate) count: u64,
+    // So many there are.
+    pub(crate) len: u64,
+    // Their identities rise, up to the last at most: then no two are called the same.
+    pub(crate) rises: bool,
+    pub(crate) last: Identity,
+}
+
+// One less, if it is so.
+fn without_one(count: u64, is_so: bool) -> u64
+    ensures { result ≡ (if is_so then count - 1 else count) }
+{
+    if is_so {
+        count.saturating_sub(1)
+    } else {
+        count
+    }
+}
+
+fn is_before(a: Identity, b: Identity) -> bool
+    ensures { result ≡ nat_lt (rank a) (rank b) }
+{
+    a.place < b.place || (a.place == b.place && a.index < b.index)
+}
+
+impl Register {
+    /// Of no work items. Takes no memory.
+    pub fn new(alloc: Global) -> Register
+        ensures { Registered result [] }
+    {
+        Register {
+            spots: Spots::new(alloc),
+            latest: 0,
+            count: 0,
+            len: 0,
+            rises: true,
+            last: Identity { place: 0, index: 0 },
+        }
+    }
+
+    /// Room for so many more.
+    pub fn reserve(&mut self, more: usize) -> Result<(), AllocError>
+        ensures stands { (todo : List Work) → Registered self.old todo → Registered self.new todo }
+        ensures room { OnOk result (more ≤ register_room self.new) }
+        ensures uses { register_room self.old ≤ register_room self.new }
+        ensures grown { OnErr result (more ≤ register_room self.old → ⊥) }
+    {
+        self.spots.reserve(more)
+    }
+
+    // Identities rise, when this one comes last.
+    fn still_rises(&self, id: Identity) -> bool
+        ensures { result ≡ ((self.now.len == 0) || (self.now.rises && nat_lt (rank self.now.last) (rank id))) }
+    {
+        self.len == 0 || (self.rises && is_before(self.last, id))
+    }
+
+    /// A work item came last, into this slot.
+    pub fn add(&mut self, work: Work, slot: usize)
+        requires { 0 < register_room self.old }
+        ensures stands { (todo : List Work) → length todo < 18446744073709551615
+            → work.id.index ≡ count_by (λ w. w.id.place == work.id.place) todo
+            → Registered self.old todo → Registered self.new (todo ++ work ∷ []) }
+        ensures uses { register_room self.old ≤ register_room self.new + 1 }
+    {
+        self.rises = self.still_rises(work.id);
+        self.spots.add(sought_of(work.kind), slot);
+        self.last = work.id;
+        self.len = self.len.saturating_add(1);
+        if self.latest <= work.id.place {
+            self.latest = work.id.place;
+            self.count = work.id.index.saturating_add(1);
+        }
+    }
+
+    /// A work item went.
+    pub fn take(&mut self, work: Work)
+        ensures stands { (before after : List Work) → Registered self.old (before ++ work ∷ after)
+            → Registered self.new (before ++ after) }
+        ensures uses { register_room self.old ≤ register_room self.new }
+    {
+        self.spots.take(sought_of(work.kind));
+        self.len = self.len.saturating_sub(1);
+        self.count = without_one(self.count, work.id.place == self.latest);
+    }
+}

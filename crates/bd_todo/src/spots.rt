@@ -1,0 +1,212 @@
+//! Work items, counted by what they are looked up by.
+
+ghost use Rattle.std.specs.Prelude.{ℕ, ◌≡◌, ◌≤◌, ◌<◌, ◌+◌, ◌-◌, ◌∷◌, ◌++◌, [], List, length, Option, Some, None, if◌then◌else◌, min, nat_lt, OnOk, OnErr};
+ghost use Rattle.std.specs.Cmp.Rules.{hashing};
+ghost use Rattle.std.specs.Hash as fed;
+ghost use Rattle.std.{specs.HashMap.{spare, get_by}, proofs.Common.{rules}};
+ghost use Rattle.bd_space.specs.declared.space.Work.{Work};
+ghost use Rattle.bd_todo.specs.declared.spots.Sought as declared;
+ghost use Rattle.bd_todo.specs.declared.spots.Sought.TheVariants as sought;
+ghost use Rattle.bd_todo.specs.Spots.{same_sought, spread, sought_of, is_sought, count_at, Counted};
+
+use bd_keys::{pair, wide};
+use bd_space::{ObjectId, WorkKind};
+use std::alloc::{AllocError, Global};
+use std::collections::HashMap;
+use std::hash::{Hash, Hasher};
+
+/// What a work item is looked up by.
+#[derive(Clone, Copy, Debug, PartialEq, Eq)]
+pub enum Sought {
+    Notice { place: u32, index: u32 },
+    Call { buffer: u32 },
+    Death { made: u32 },
+}
+
+impl Sought {
+    // A number of 66 bits, another for each key.
+    fn spread(self) -> u128
+        ensures { result ≡ spread self }
+    {
+        match self {
+            Sought::Notice { place, index } => wide(0, pair(place, index)),
+            Sought::Call { buffer } => wide(1, u64::from(buffer)),
+            Sought::Death { made } => wide(2, u64::from(made)),
+        }
+    }
+}
+
+// One write, as `bd_keys` says.
+impl Hash for Sought {
+    ghost hash_input = { λ k. fed.u128 (spread k) };
+
+    ghost respects_eq = { Prim.search (hashing, rules) };
+
+    fn hash<H: Hasher>(&self, state: &mut H) {
+        state.write_u128(self.spread());
+    }
+}
+
+/// Where a work item was put that is looked up so.
+#[derive(Clone, Copy, Debug)]
+pub struct Spot {
+    // So many are looked up so.
+    pub count: u64,
+    // The slot of the latest.
+    pub slot: usize,
+}
+
+/// Work items by what they are looked up by.
+#[derive(Debug, Drop)]
+pub struct Spots {
+    pub(crate) spots: HashMap<Sought, Spot>,
+}
+
+/// The notice of the object.
+pub fn sought_notice(object: ObjectId) -> Sought
+    ensures { result ≡ sought.Notice object.place object.index }
+{
+    Sought::Notice {
+        place: object.place,
+        index: object.index,
+    }
+}
+
+/// What a notice, a call or a death is looked up by, whatever its list.
+pub fn sought_of(kind: WorkKind) -> Option<Sought>
+    ensures { result ≡ sought_of kind }
+{
+    match kind {
+        WorkKind::Notice(object) => Some(sought_notice(object)),
+        WorkKind::Call(buffer) => Some(Sought::Call { buffer }),
+        WorkKind::Death(made) => Some(Sought::Death { made }),
+        _ => None,
+    }
+}
+
+/// Whether a work item of this kind is looked up by this key.
+pub fn is_sought(key: Sought, kind: WorkKind) -> bool
+    ensures { result ≡ is_sought key kind }
+{
+    sought_of(kind) == Some(key)
+}
+
+impl Spots {
+    /// None. Takes no memory.
+    pub fn new(alloc: Global) -> Spots
+        ensures { (f : Work → Option declared.Sought) → Counted f result [] }
+    {
+        Spots {
+            spots: HashMap::new(alloc),
+        }
+    }
+
+    /// Room for so many more.
+    pub fn reserve(&mut self, more: usize) -> Result<(), AllocError>
+        ensures same { (k : declared.Sought) → count_at self.new k ≡ count_at self.old k }
+        ensures room { OnOk result (more ≤ spare self.new.spots) }
+        ensures uses { spare self.old.spots ≤ spare self.new.spots }
+        ensures grown { OnErr result (more ≤ spare self.old.spots → ⊥) }
+    {
+        self.spots.reserve(more)
+    }
+
+    /// Where the latest was put that is looked up so, and how many there are.
+    pub fn spot(&self, key: Sought) -> Option<Spot>
+        ensures { result ≡ get_by (same_sought key) self.now.spots }
+    {
+        self.spots.get(&key).copied()
+    }
+
+    fn count(&self, key: Sought) -> u64
+        ensures { result ≡ count_at self.now key }
+    {
+        match self.spot(key) {
+            Some(spot) => spot.count,
+            None => 0,
+        }
+    }
+
+    /// Whether any is looked up so.
+    pub fn has(&self, key: Sought) -> bool
+        ensures { result ≡ nat_lt 0 (count_at self.now key) }
+    {
+        self.count(key) > 0
+    }
+
+    // One more that is looked up so.
+    fn raise(&mut self, key: Sought, slot: usize)
+        requires { 0 < spare self.old.spots }
+        ensures counts { (k : declared.Sought) → count_at self.new k
+            ≡ (if same_sought key k then min (count_at self.old k + 1) 18446744073709551615 else count_at self.old k) }
+        ensures uses { spare self.old.spots ≤ spare self.new.spots + 1 }
+    {
+        match self.spots.entry(key) {
+            Ok(entry) => {
+                let spot = entry.or_insert(Spot { count: 0, slot });
+                let count = spot.count.saturating_add(1);
+                *spot = Spot { count, slot };
+            }
+            // It doesn't come: there is room.
+            Err(_) => {}
+        }
+    }
+
+    // One less is looked up so: how many are left. The spot stays, even if none is.
+    fn count_down(&mut self, key: Sought) -> u64
+        ensures left { result ≡ count_at self.new key }
+        ensures counts { (k : declared.Sought) → count_at self.new k
+            ≡ (if same_sought key k then count_at self.old k - 1 else count_at self.old k) }
+        ensures uses { spare self.old.spots ≤ spare self.new.spots }
+    {
+        match self.spots.get_mut(&key) {
+            Some(spot) => {
+                spot.count = spot.count.saturating_sub(1);
+                spot.count
+            }
+            None => 0,
+        }
+    }
+
+    // None is looked up so.
+    fn forget(&mut self, key: Sought)
+        ensures counts { (k : declared.Sought) → count_at self.new k ≡ (if same_sought key k then 0 else count_at self.old k) }
+        ensures uses { spare self.old.spots ≤ spare self.new.spots }
+    {
+        let _gone = self.spots.remove(&key);
+    }
+
+    // One less is looked up so.
+    fn lower(&mut self, key: Sought)
+        ensures counts { (k : declared.Sought) → count_at self.new k
+            ≡ (if same_sought key k then count_at self.old k - 1 else count_at self.old k) }
+        ensures uses { spare self.old.spots ≤ spare self.new.spots }
+    {
+        if self.count_down(key) == 0 {
+            self.forget(key);
+        }
+    }
+
+    /// A work item came last, into this slot, that is looked up so, or not at all.
+    pub fn add(&mut self, key: Option<Sought>, slot: usize)
+        requires { 0 < spare self.old.spots }
+        ensures counted { (f : Work → Option declared.Sought) (work : Work) (todo : List Work) → key ≡ f work
+            → length todo < 18446744073709551615 → Counted f self.old todo → Counted f self.new (todo ++ work ∷ []) }
+        ensures uses { spare self.old.spots ≤ spare self.new.spots + 1 }
+    {
+        if let Some(key) = key {
+            self.raise(key, slot);
+        }
+    }
+
+    /// A work item went that was looked up so, or not at all.
+    pub fn take(&mut self, key: Option<Sought>)
+        ensures counted { (f : Work → Option declared.Sought) (work : Work) (before after : List Work) → key ≡ f work
+            → Counted f self.old (before ++ work ∷ after) → Counted f self.new (before ++ after) }
+        ensures uses { spare self.old.spots ≤ spare self.new.spots }
+    {
+        if let Some(key) = key {
+            self.lower(key);
+        }
+    }
+}

@@ -1,0 +1,284 @@
+//! The table: its room, its changes and what it tells.
+#![tactic(auto, unfolding(crate::specs::Stands::work_room))]
+
+ghost use Rattle.std.specs.Prelude.{ℕ, Bool, true, List, ◌≡◌, ◌&&◌, ◌+◌, ◌≤◌, ◌==◌, [], count_by, not, filter, Some, is_some, OnOk, OnErr, IfSome};
+ghost use Rattle.std.specs.List.{list_any};
+ghost use Rattle.bd_keys.specs.Tables.{AnswersBy};
+ghost use Rattle.bd_space.specs.{declared.space.Work.{Work}, declared.space.WorkKind.{WorkKind}};
+ghost use Rattle.bd_space.specs.Words as words;
+ghost use Rattle.bd_space.specs.Todo as spec;
+ghost use Rattle.bd_space.specs.Notices as notices;
+ghost use Rattle.bd_todo.specs.Front as front;
+ghost use Rattle.bd_todo.specs.Spots as spots;
+
+use crate::finding::is_front;
+use crate::queues::Queues;
+use crate::register::Register;
+use crate::spots::{Sought, is_sought, sought_notice};
+use crate::work::is_item;
+use bd_space::{Identity, ObjectId, TodoList, Work, WorkKind};
+use std::alloc::{AllocError, Global};
+
+/// The work items of a driver: each is still to be read, on its list.
+#[derive(Drop)]
+pub struct WorkTable {
+    pub(crate) queues: Queues,
+    pub(crate) register: Register,
+}
+
+impl WorkTable {
+    ghost use Rattle.bd_chains.specs.Rows.{Row, drop_key};
+    ghost use Rattle.bd_todo.specs.{QueuesStand.{FrontIn, work_at}, Stands.{WorksAre, RowsAre, Tells, Makes, work_room}};
+
+    /// An empty table. Takes no memory.
+    pub fn new(alloc: Global) -> WorkTable
+        ensures { WorksAre result [] }
+    {
+        WorkTable {
+            queues: Queues::new(alloc),
+            register: Register::new(alloc),
+        }
+    }
+
+    /// Makes room for so many more. Fails for want of memory, and then changes nothing either.
+    pub fn reserve(&mut self, more: usize) -> Result<(), AllocError>
+        ensures stands { Makes self.old self.new (λ l. l) }
+        ensures room { OnOk result (more ≤ work_room self.new) }
+        ensures uses { work_room self.old ≤ work_room self.new }
+        // Memory was asked for, or would have been past what there can be: there was no room.
+        ensures grown { OnErr result (more ≤ work_room self.old → ⊥) }
+    {
+        self.queues.reserve(more)?;
+        self.register.reserve(more)
+    }
+
+    // How many were made at this place.
+    fn index_at(&self, place: u32) -> u64
+        ensures { Tells self.now result (λ l. count_by (λ w. w.id.place == place) l) }
+    {
+        if place == self.register.latest {
+            self.register.count
+        } else if self.register.latest < place {
+            0
+        } else {
+            self.queues.count_at(place)
+        }
+    }
+
+    // The first work item on a list goes, if there is one.
+    fn pop(&mut self, list: TodoList) -> bool
+        ensures stands { Makes self.old self.new (λ l. words.without_first (spec.is_on list) l) }
+        ensures popped { Tells self.old result (λ l. spec.has_work_in l list) }
+        ensures uses { work_room self.old ≤ work_room self.new }
+    {
+        match self.queues.front(list) {
+            Some(x) => {
+                self.remove_at(x);
+                true
+            }
+            None => false,
+        }
+    }
+
+    // A work item that is called so is in the slot.
+    fn is_called_at(&self, x: usize, id: Identity) -> bool
+        ensures { result ≡ words.is_some_and (work_at self.now.queues x) (λ w. words.same_identity w.id id) }
+    {
+        match self.queues.work_in(x) {
+            Some(work) => work.id == id,
+            None => false,
+        }
+    }
+
+    // In the slot is the first on the work item's list: whether it is that one, and no other there is called the same.
+    fn is_alone_at(&self, x: usize, item: &Work) -> bool
+        ensures { (l : List Work) → WorksAre self.now l → FrontIn self.now.queues l item.now.list x
+            → result ≡ front.is_front item.now.id true (spec.work_on l (Some item.now.list)) }
+    {
+        if self.register.rises {
+            self.is_called_at(x, item.id)
+        } else {
+            is_front(self.queues.works_on(item.list), item.id)
+        }
+    }
+
+    // The slot of a work item, if it is the first on its list and no other on that is called the same.
+    fn front_slot(&self, item: &Work) -> Option<usize>
+        ensures first { Tells self.now (is_some result)
+            (λ l. front.is_front item.now.id true (spec.work_on l (Some item.now.list))) }
+        ensures front { (l : List Work) → WorksAre self.now l
+            → IfSome result (FrontIn self.now.queues l item.now.list) }
+    {
+        let x = self.queues.front(item.list)?;
+        if self.is_alone_at(x, item) {
+            Some(x)
+        } else {
+            None
+        }
+    }
+
+    // The work item in a slot goes, if there is one.
+    fn remove_at(&mut self, x: usize)
+        ensures rows { (rs : List (Row Work)) → RowsAre self.old rs → RowsAre self.new (drop_key x rs) }
+        ensures uses { work_room self.old ≤ work_room self.new }
+    {
+        if let Some(work) = self.queues.remove_at(x) {
+            self.register.take(work);
+        }
+    }
+
+    // Only the work items for which `f` answers `true` stay. Goes over all slots.
+    fn keep<F: Fn(Work) -> bool>(&mut self, f: F)
+        requires { F.IsAlwaysCallable f }
+        ensures stands { (p : Work → Bool) → AnswersBy (λ w b. F.post f w b) p → Makes self.old self.new (λ l. filter p l) }
+        ensures uses { work_room self.old ≤ work_room self.new }
+    {
+        for x in 0..self.queues.chains.slots() {
+            if let Some(work) = self.queues.work_in(x) {
+                if !f(work) {
+                    self.remove_at(x);
+                }
+            }
+        }
+    }
+
+    // A work item goes: from the front of its list, if it is there and no other is called the same.
+    fn take(&mut self, item: &Work)
+        ensures stands { Makes self.old self.new (λ l. filter (λ w. not (spec.is_item w item.now)) l) }
+        ensures uses { work_room self.old ≤ work_room self.new }
+    {
+        match self.front_slot(item) {
+            Some(x) => self.remove_at(x),
+            None => self.keep(|w| !is_item(item, &w)),
+        }
+    }
+
+    /// A work item comes onto a list, made at this place. Takes no memory.
+    pub fn push(&mut self, place: u32, list: TodoList, kind: WorkKind)
+        requires { 1 ≤ work_room self.old }
+        ensures stands { Makes self.old self.new (λ l. spec.with_work place l list kind) }
+        ensures uses { work_room self.old ≤ work_room self.new + 1 }
+    {
+        let index = self.index_at(place);
+        let work = Work {
+            id: Identity { place, index },
+            list,
+            kind,
+        };
+        let slot = self.queues.push(work);
+        self.register.add(work, slot);
+    }
+
+    /// Whether a call, a reply or a verdict is on a list.
+    pub fn keeps_from_calling(&self, list: TodoList) -> bool
+        ensures { Tells self.now result (λ l. list_any (λ w. spec.is_on list w && spec.keeps_from_calling w.kind) l) }
+    {
+        self.queues.has_unread(list)
+    }
+
+    /// Whether the notice of an object is on any list.
+    pub fn has_notice(&self, object: ObjectId) -> bool
+        ensures { Tells self.now result (λ l. notices.has_notice_in l object) }
+    {
+        self.register.spots.has(sought_notice(object))
+    }
+
+    /// Whether the call of a buffer is on any list.
+    pub fn has_call(&self, buffer: u32) -> bool
+        ensures { Tells self.now result (λ l. list_any (λ w. spec.is_call buffer w.kind) l) }
+    {
+        self.register.spots.has(Sought::Call { buffer })
+    }
+
+    /// These work items were read: they go.
+    pub fn remove_taken(&mut self, taken: &[Work])
+        ensures stands { Makes self.old self.new (λ l. spec.without_taken taken.now l) }
+        ensures uses { work_room self.old ≤ work_room self.new }
+    {
+        for item in taken {
+            self.take(item);
+        }
+    }
+
+    // A work item that is looked up so is in the slot.
+    fn is_sought_at(&self, x: usize, key: Sought) -> bool
+        ensures { result ≡ words.is_some_and (work_at self.now.queues x) (λ w. spots.is_sought key w.kind) }
+    {
+        match self.queues.work_in(x) {
+            Some(work) => is_sought(key, work.kind),
+            None => false,
+        }
+    }
+
+    // The slot of the work item that is looked up so, where there is just one: the latest noted, if that is still there.
+    fn only(&self, key: Sought) -> Option<usize>
+        ensures { IfSome result (λ x. (words.is_some_and (work_at self.now.queues x) (λ w. spots.is_sought key w.kind) ≡ true)
+            × (spots.count_at self.now.register.spots key ≡ 1)) }
+    {
+        let spot = self.register.spots.spot(key)?;
+        if spot.count == 1 && self.is_sought_at(spot.slot, key) {
+            Some(spot.slot)
+        } else {
+            None
+        }
+    }
+
+    // What is looked up so goes, from whatever list: without a walk, where it is one.
+    fn withdraw(&mut self, key: Sought)
+        ensures stands { Makes self.old self.new (λ l. filter (λ w. not (spots.is_sought key w.kind)) l) }
+        ensures uses { work_room self.old ≤ work_room self.new }
+    {
+        if let Some(x) = self.only(key) {
+            self.remove_at(x);
+        } else if self.register.spots.has(key) {
+            self.keep(|w| !is_sought(key, w.kind));
+        }
+    }
+
+    /// The notice of an object goes.
+    pub fn withdraw_notice(&mut self, object: ObjectId)
+        ensures stands { Makes self.old self.new (λ l. filter (λ w. not (spec.is_notice object w.kind)) l) }
+        ensures uses { work_room self.old ≤ work_room self.new }
+    {
+        self.withdraw(sought_notice(object));
+    }
+
+    /// The work item of a death notification goes.
+    pub fn withdraw_death(&mut self, made: u32)
+        ensures stands { Makes self.old self.new (λ l. filter (λ w. not (words.is_some_and (spec.death_of w.kind) (λ n. n == made))) l) }
+        ensures uses { work_room self.old ≤ work_room self.new }
+    {
+        self.withdraw(Sought::Death { made });
+    }
+
+    /// Only the work items of the kinds for which `f` answers `true` stay.
+    pub fn keep_kinds<F: Fn(WorkKind) -> bool>(&mut self, f: F)
+        requires { F.IsAlwaysCallable f }
+        ensures stands { (p : WorkKind → Bool) → AnswersBy (λ kind b. F.post f kind b) p
+            → Makes self.old self.new (λ l. filter (λ w. p w.kind) l) }
+        ensures uses { work_room self.old ≤ work_room self.new }
+    {
+        self.keep(|w| f(w.kind));
+    }
+
+    // All work items on a list go.
+    fn pop_all(&mut self, list: TodoList)
+        ensures stands { Makes self.old self.new (λ l. filter (λ w. not (spec.is_on list w)) l) }
+        ensures uses { work_room self.old ≤ work_room self.new }
+    {
+        for _ in 0..self.queues.chains.len() {
+            if !self.pop(list) {
+                return;
+            }
+        }
+    }
+
+    /// A list is emptied.
+    pub fn clear_list(&mut self, list: TodoList)
+        ensures stands { Makes self.old self.new (λ l. filter (λ w. not (spec.is_on list w)) l) }
+        ensures uses { work_room self.old ≤ work_room self.new }
+    {
+        self.pop_all(list);
+        self.queues.give_back(list);
+    }
+}
