@@ -1,5 +1,5 @@
 -- What an owner hears of one of its objects, and what it acknowledges.
-use Rattle.std.specs.Prelude.{ℕ, zero, suc, ◌-◌, ◌≡◌, ◌≤◌, ◌⊎◌, Bool, true, false, List, [], ◌∷◌, ◌++◌, Option, Some, None, length, find, filter, if◌then◌else◌, filter_map}
+use Rattle.std.specs.Prelude.{ℕ, zero, suc, ◌-◌, ◌≡◌, ◌&&◌, ◌==◌, ◌≤◌, ◌⊎◌, Bool, true, false, List, [], ◌∷◌, ◌++◌, Option, Some, None, length, find, filter, if◌then◌else◌, filter_map}
 use Rattle.bd_ways.specs.Words.{list_any, list_all, beq, Return, ObjectId, Entry, Step, StepAnswer, Actor, Work, same, is_some_and, Space}
 use Rattle.bd_uapi.specs.declared.command.Command as command
 use Rattle.bd_uapi.specs.declared.command.Command.TheVariants as bc
@@ -11,7 +11,6 @@ use Rattle.bd_space.specs.Seats.{actor}
 use Rattle.bd_space.specs.References.{owned_in}
 use Rattle.bd_space.specs.Todo.{is_notice, list_to_read}
 use Rattle.bd_space.specs.Notices.{has_notice_in, wants_notice}
-use Rattle.bd_space.specs.Asking.{is_own_with}
 use Rattle.bd_space.specs.Returns.{returns_of}
 use Rattle.bd_space.specs.ReadItems.{taken}
 use Rattle.bd_space.specs.Histories.{History, IsHistory, next, after, space_after}
@@ -41,7 +40,7 @@ heard_in s o (w ∷ ws) = (if is_notice o w.kind then filter_map event_of (retur
 
 -- p's object with this ptr and cookie is this one
 abbrev pub names_own : Space → ObjectId → ℕ → ℕ → ℕ → Bool
-names_own s o p ptr cookie = is_some_and (find (is_own_with p ptr cookie) s.objects) (λ x. same x.id o)
+names_own s o p ptr cookie = is_some_and (find (λ x. (x.owner == p) && (x.ptr == ptr) && (x.cookie == cookie)) s.objects) (λ x. same x.id o)
 
 -- what this command of p's acknowledges of the object
 abbrev pub acknowledged : Space → ObjectId → ℕ → command.Command → List Event

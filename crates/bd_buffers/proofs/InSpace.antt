@@ -8,7 +8,7 @@ use Rattle.std.proofs.lemmas.List.Elements.{filter-append}
 use Rattle.bd_space.specs.declared.space.Buffer.{Buffer}
 use Rattle.bd_space.specs.Words.{changed}
 use Rattle.bd_space.specs.Windows.{buffers_of}
-use Rattle.bd_space.specs.Freeing.{is_buffer_at, is_made_at}
+use Rattle.bd_space.specs.Freeing.{pointer, is_made_at}
 use Rattle.bd_space.specs.ReadItems.{hand_out}
 use Rattle.bd_buffers.specs.Buffer.{at_pointer}
 
@@ -72,7 +72,7 @@ module _ {A : Type 0} where
 
 -- ---- what is found in a window by a pointer
 
-pub at_pointer_in : (buffers : List Buffer) (p ptr : ℕ) → find (at_pointer ptr) (buffers_of buffers p) ≡ find (is_buffer_at p ptr) buffers
+pub at_pointer_in : (buffers : List Buffer) (p ptr : ℕ) → find (at_pointer ptr) (buffers_of buffers p) ≡ find (λ b. (b.receiver == p) && (pointer b == ptr)) buffers
 at_pointer_in buffers p ptr = find_filter (is_in p) (at_pointer ptr) buffers
 
 -- ---- one more buffer

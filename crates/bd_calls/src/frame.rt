@@ -2,7 +2,7 @@
 #![tactic(auto, unfolding(bd_space::specs::Frames::innermost, bd_space::specs::Frames::served_innermost, bd_space::specs::Frames::goes_to, bd_space::specs::Frames::closed, bd_space::specs::Transactions::call_out, bd_space::specs::Todo::owe, crate::specs::Room::rooms, crate::specs::Told::Recalls, crate::specs::Told::HasRoomToTell))]
 
 ghost use Rattle.std.specs.Prelude.{ℕ, List, ◌≡◌, ◌==◌, ◌&&◌, ◌+◌, ◌-◌, ◌≤◌, ◌++◌, true, false, map, filter, find, reverse, length, Option, Some, None, option_map, OnOk};
-ghost use Rattle.std.specs.Option.{is_none};
+ghost use Rattle.std.specs.{List.{list_any}, Option.{is_none}};
 ghost use Rattle.bd_space.specs.declared.space.Work as declared;
 ghost use Rattle.bd_space.specs.Words.{changed};
 ghost use Rattle.bd_space.specs.Frames as spec;
@@ -113,7 +113,8 @@ fn serve_call(frames: &mut FrameTable, seat: u32, kind: WorkKind)
 
 /// Whoever read the call of a frame is its server.
 pub(crate) fn serve(frames: &mut FrameTable, seat: u32, taken: &[Work])
-    ensures frames { frame_table.Makes frames.old frames.new (λ l. reading.served_frames seat taken.now l) }
+    ensures frames { frame_table.Makes frames.old frames.new
+        (λ l. changed (λ f. list_any (λ w. works.is_call f.made w.kind) taken.now) (reading.serve seat) l) }
     ensures uses { frame_rooms.Uses frames.old frames.new 0 }
 {
     for work in taken {

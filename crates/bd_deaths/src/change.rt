@@ -145,7 +145,7 @@ impl DeathList {
     /// The notifications of which these work items told are told.
     pub(crate) fn read(&mut self, taken: &[Work])
         ensures stands { (l : List declared.DeathNotification) → AreIn self.old l
-            → AreIn self.new (reading.told_deaths taken.now l) }
+            → AreIn self.new (changed (reading.is_told_of_death taken.now) (λ x. record x { phase = Told }) l) }
         ensures uses { ListUses self.old self.new 0 }
     {
         for w in taken {

@@ -5,6 +5,7 @@ ghost use Rattle.bd_space.specs.Words.{changed};
 ghost use Rattle.bd_space.specs.Deaths as deaths_of;
 ghost use Rattle.bd_space.specs.ReadItems as reading;
 ghost use Rattle.bd_space.specs.declared.space.DeathNotification as declared;
+ghost use Rattle.bd_space.specs.declared.space.Phase.TheVariants.{Told};
 
 use crate::list::DeathList;
 use crate::listing::list_place;
@@ -103,7 +104,7 @@ impl DeathTable {
     #[tactic(auto, unfolding(crate::specs::Room::death_room, crate::specs::Room::death_count))]
     pub fn read(&mut self, taken: &[Work])
         ensures stands { (l : List declared.DeathNotification) → DeathsAre self.old l
-            → DeathsAre self.new (reading.told_deaths taken.now l) }
+            → DeathsAre self.new (changed (reading.is_told_of_death taken.now) (λ x. record x { phase = Told }) l) }
         ensures uses { Uses self.old self.new 0 }
     {
         self.list.read(taken);

@@ -20,7 +20,7 @@ use Rattle.bd_space.specs.declared.step.Request.TheVariants.{Write}
 use Rattle.bd_space.specs.Space.{Space, opening}
 use Rattle.bd_space.specs.Steps.{step}
 use Rattle.bd_space.specs.Histories.{History, next, after, space_after, extended, HasPlace, is_at_limit}
-use Rattle.bd_space.specs.Writes.{Readable, readable, commands_of, step_of_command, Written, written, ends_here, goes_on, wrote, run_of_written, Run, write}
+use Rattle.bd_space.specs.Writes.{Readable, readable, commands_of, step_of_command, Written, written, goes_on, wrote, run_of_written, Run, write}
 use Rattle.bd_space.specs.Runs.{run, IsRun, AllBy, HasRun, write_first, step_after, MayStop}
 use Rattle.bd_step.specs.declared.why.Why.{Why}
 use Rattle.bd_step.specs.declared.why.Why.TheVariants.{NoMemory, HistoryFull}
@@ -55,6 +55,10 @@ wrote-push [] e w h k = absurd (omega arith)
 wrote-push (x ∷ es) e w h k = h w
 
 -- ---- the next command
+
+-- a command that is refused is the last
+abbrev pub ends_here : Entry → ℕ → Stop → Written
+ends_here e size x = record { entries = e ∷ []; consumed = size; notes = []; stop = Some x }
 
 -- what a command's answer makes of the rest
 abbrev pub turned : StepAnswer → Entry → ℕ → ℕ → Written → Written

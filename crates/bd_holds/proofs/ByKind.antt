@@ -9,7 +9,7 @@ use Rattle.bd_space.specs.declared.space.Reference.{Reference}
 use Rattle.bd_space.specs.declared.space.Holder.{Holder}
 use Rattle.bd_space.specs.declared.space.Holder.TheVariants as holders
 use Rattle.bd_space.specs.Words.{same}
-use Rattle.bd_space.specs.References.{is_asked_by, is_in_window, is_handshake, is_asking, is_shaking, is_of_buffer, is_of_owner, same_strength, gives_name_to}
+use Rattle.bd_space.specs.References.{is_asked_by, is_in_window, is_handshake, is_asking, is_shaking, is_of_buffer, is_of_owner, gives_name_to}
 use Rattle.bd_holds.specs.declared.keys.Kind.{Kind}
 use Rattle.bd_holds.specs.declared.keys.Kind.TheVariants.{Asked, Carried, Handshake, Manager, Any}
 use Rattle.bd_holds.specs.declared.keys.UseKey.{UseKey}
@@ -38,7 +38,12 @@ named-kind p (holders.Target b q) = refl
 named-kind p holders.Handshake = refl
 named-kind p holders.Manager = refl
 
-strength : (strong : Bool) (r : Reference) → same_strength strong r ≡ beq r.strong strong
+-- of the strength that is asked for
+abbrev of_strength : Bool → Reference → Bool
+of_strength true r = r.strong
+of_strength false r = not r.strong
+
+strength : (strong : Bool) (r : Reference) → of_strength strong r ≡ beq r.strong strong
 strength true r = by r.strong
   where
     by : (s : Bool) → s ≡ beq s true
@@ -67,11 +72,11 @@ unfolding same_use
 of-use o kind r held = use-sym (to_use o kind) (to_use r.object held)
 
 of-key : (o : ObjectId) (kind : Kind) (r : Reference) (held : Kind) (h : Bool) → h ≡ same_kind held kind → (strong : Bool)
-    → ((same_strength strong r && same r.object o) && h) ≡ same_key (count_key r.object held r.strong) (count_key o kind strong)
+    → ((of_strength strong r && same r.object o) && h) ≡ same_key (count_key r.object held r.strong) (count_key o kind strong)
 unfolding same_use same_key
 of-key o kind r held h is strong =
-    ordered (same_strength strong r) (same r.object o) h
-    ∙ ap (λ k. (same r.object o && k) && same_strength strong r) is
+    ordered (of_strength strong r) (same r.object o) h
+    ∙ ap (λ k. (same r.object o && k) && of_strength strong r) is
     ∙ ap (λ s. (same r.object o && same_kind held kind) && s) (strength strong r)
 
 -- of either strength
@@ -88,11 +93,15 @@ either-strength k u = by (same_use (use_of k) u) k.strong ∙ use-sym (use_of k)
 -- what a process asked for, and what the owner is to acknowledge
 pub asking-key : (p : ℕ) (o : ObjectId) (strong : Bool) (r : Reference)
     → is_asking p o strong r ≡ same_key (use_key r) (count_key o (Asked p) strong)
-asking-key p o strong r = of-key o (Asked p) r (kind_of r.holder) (is_asked_by p r.holder) (asked-kind p r.holder) strong
+asking-key p o strong r =
+    ap (λ s. (s && same r.object o) && is_asked_by p r.holder) (sym (strength strong r))
+    ∙ of-key o (Asked p) r (kind_of r.holder) (is_asked_by p r.holder) (asked-kind p r.holder) strong
 
 pub shaking-key : (o : ObjectId) (strong : Bool) (r : Reference)
     → is_shaking o strong r ≡ same_key (use_key r) (count_key o Handshake strong)
-shaking-key o strong r = of-key o Handshake r (kind_of r.holder) (is_handshake r.holder) (shaken-kind r.holder) strong
+shaking-key o strong r =
+    ap (λ s. (s && same r.object o) && is_handshake r.holder) (sym (strength strong r))
+    ∙ of-key o Handshake r (kind_of r.holder) (is_handshake r.holder) (shaken-kind r.holder) strong
 
 -- all that refer to the object, and strongly
 pub total-key : (o : ObjectId) (r : Reference) → same r.object o ≡ same_use (to_use o Any) (use_of (total_key r))
@@ -103,9 +112,9 @@ strong-key o r = sym (and-true (r.strong && same r.object o)) ∙ of-key o Any r
 
 -- those that give the process a name
 naming-key : (p : ℕ) (o : ObjectId) (r : Reference) (strong : Bool)
-    → (same_strength strong r && same r.object o && gives_name_to p r.holder) ≡ names_with p o strong r
+    → (of_strength strong r && same r.object o && gives_name_to p r.holder) ≡ names_with p o strong r
 naming-key p o r strong =
-    let to = same_strength strong r && same r.object o in
+    let to = of_strength strong r && same r.object o in
     let kind = kind_of r.holder in
     ap (λ n. to && n) (named-kind p r.holder) ∙ and-or to (same_kind kind (Asked p)) (same_kind kind (Carried p))
     ∙ ap (λ b. b || (to && same_kind kind (Carried p))) (of-key o (Asked p) r kind (same_kind kind (Asked p)) refl strong)
@@ -159,11 +168,11 @@ shaken-free b (holders.Target c q) h = absurd (cc)
 
 pub asked-apart : (p : ℕ) (o : ObjectId) (strong : Bool) (b : ℕ) (r : Reference)
     → is_asking p o strong r ≡ true → is_of_buffer b r.holder ≡ false
-asked-apart p o strong b r h = asked-free p b r.holder (and_parts (same_strength strong r && same r.object o) (is_asked_by p r.holder) h).1
+asked-apart p o strong b r h = asked-free p b r.holder (and_parts (beq r.strong strong && same r.object o) (is_asked_by p r.holder) h).1
 
 pub shaken-apart : (o : ObjectId) (strong : Bool) (b : ℕ) (r : Reference)
     → is_shaking o strong r ≡ true → is_of_buffer b r.holder ≡ false
-shaken-apart o strong b r h = shaken-free b r.holder (and_parts (same_strength strong r && same r.object o) (is_handshake r.holder) h).1
+shaken-apart o strong b r h = shaken-free b r.holder (and_parts (beq r.strong strong && same r.object o) (is_handshake r.holder) h).1
 
 -- what the owner has to its own object
 owner-kinds : (w : Bool) (h : Holder)

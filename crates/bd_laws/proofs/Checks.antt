@@ -1,7 +1,7 @@
 -- For every law: what an accepted transaction, reply or asking has tested.
 use Rattle.bd_laws.proofs.words.Logic.{arith, ◌≡◌, ◌==◌, ℕ, Bool, false, Option, Some, None, Ok, ◌⊎◌, refl, sym, subst, option_map, option_and_then_some, eqb-true}
 use Rattle.bd_laws.proofs.words.Types.{TransactionData, DeadOwner, ObjectId, Parcel, Process, Thread, Actor, Callee, Frame, Object}
-use Rattle.bd_laws.proofs.words.Space.{same, ok_or, Space, actor, process_in, thread_in, object_in, Delivery, sending_of, transaction_check, callee_of, target_of, with_owner, owner_of, handle_of, is_one_way, caller_cause, reply_check, caller_of, ask_check}
+use Rattle.bd_laws.proofs.words.Space.{same, ok_or, Space, actor, process_in, thread_in, object_in, Delivery, sending_of, transaction_check, callee_of, target_of, owner_of, handle_of, is_one_way, caller_cause, reply_check, caller_of, ask_check}
 use Rattle.bd_laws.specs.Lists.{In}
 use Rattle.bd_laws.proofs.Lists.{find-in}
 use Rattle.bd_laws.proofs.Tests.{same-eq, and_then-ok, found-ok}
@@ -36,7 +36,7 @@ found-callee s o (Some q) c e h = search (arith, owned)
 callee-owned : (s : Space) (p handle : ℕ) (c : Callee) → callee_of s p handle ≡ Ok c → Owned s c.object c.process
 unfolding callee_of
 callee-owned s p handle c h =
-    let t = and_then-ok (target_of s p handle) (with_owner s) c h in
+    let t = and_then-ok (target_of s p handle) _ c h in
     found-callee s t.0 (owner_of s t.0) c refl t.2
 
 pub transaction-checked : (s : Space) (a : Actor) (d : TransactionData) (parcel : Option Parcel) (v : Delivery) → transaction_check s a d parcel ≡ Ok v → Transacts s a d parcel v

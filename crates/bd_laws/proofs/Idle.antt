@@ -1,7 +1,7 @@
 -- The law NoStepIsNeeded: a note and a fault come of a space that is left as it is.
 use Rattle.bd_laws.proofs.words.Logic.{arith, ◌≡◌, ℕ, Bool, true, false, cond, Option, Some, None, Result, Ok, Err, refl, ap}
-use Rattle.bd_laws.proofs.words.Types.{Actor, Step, Open, Attach, SetManager, SetSpam, Command, Read, ExitThread, ExitProcess, Buffer, Frame, DeathNotification, Note, Cause, Process, Parcel, TransactionData}
-use Rattle.bd_laws.proofs.words.Space.{Space, Outcome, actor, by_actor, by_check, change, counted, step, open_step, open_outcome, attach_step, attach_outcome, manager_step, manager_outcome, spam_step, read_step, exit_thread_step, exit_process_step, read_taking, ask_step, clear_step, command_step, death_done_step, death_done_outcome, done_step, drop_step, free_step, free_outcome, reply_step, reply_to, reply_outcome, request_step, transaction_step, transaction_outcome, Delivery}
+use Rattle.bd_laws.proofs.words.Types.{Actor, Step, Open, Attach, SetManager, SetSpam, Command, Read, ExitThread, ExitProcess, Buffer, Frame, Note, Cause, Process, Parcel, TransactionData}
+use Rattle.bd_laws.proofs.words.Space.{Space, Outcome, actor, by_actor, by_check, change, counted, step, open_step, open_outcome, attach_step, attach_outcome, manager_step, manager_outcome, spam_step, read_step, exit_thread_step, exit_process_step, read_taking, command_step, free_step, free_outcome, reply_step, reply_to, reply_outcome, transaction_step, transaction_outcome, Delivery}
 use Rattle.bd_laws.proofs.words.Types.{Accepted, Noted, NotHandedOut}
 use Rattle.bd_laws.proofs.words.Space.{completed, without_buffer}
 use Rattle.bd_laws.specs.Idle.{is_note_or_fault}
@@ -32,16 +32,13 @@ frees s (Some b) e = at b.handed e
     at : (h : Bool) → LeftIfNoted s (cond {A = Outcome} h (record { answer = Accepted; space = completed (without_buffer s b.made) }) (record { answer = Noted NotHandedOut; space = s }))
     at h = search arith
 
-dones : (s : Space) (seat : ℕ) (o : Option DeathNotification) → LeftIfNoted s (death_done_outcome s seat o)
-dones s seat o = search arith
-
 changes : (s : Space) (seat : ℕ) (x : Step) → LeftIfNoted s (change s seat x)
-unfolding change open_step attach_step manager_step spam_step read_step exit_thread_step exit_process_step read_taking ask_step clear_step command_step death_done_step done_step drop_step free_step reply_step request_step transaction_step
+unfolding change open_step attach_step manager_step spam_step read_step exit_thread_step exit_process_step read_taking command_step free_step reply_step transaction_step
 changes s seat (Open pid euid window) = search arith
 changes s seat (Attach pid) = search arith
 changes s seat SetManager = by s (actor s seat) _ (λ a. search arith)
 changes s seat (SetSpam on) = by s (actor s seat) _ (λ a. search arith)
-changes s seat (Command c parcel) = by s (actor s seat) _ (λ a. search (arith, checked, transacts, replies, frees, dones))
+changes s seat (Command c parcel) = by s (actor s seat) _ (λ a. search (arith, checked, transacts, replies, frees))
 changes s seat (Read limit) = by s (actor s seat) _ (λ a. search arith)
 changes s seat ExitThread = by s (actor s seat) _ (λ a. search arith)
 changes s seat ExitProcess = by s (actor s seat) _ (λ a. search arith)

@@ -2,7 +2,7 @@
 -- and no two have one identity.
 use Rattle.bd_laws.proofs.words.Logic.{◌≡◌, ℕ, suc, Bool, true, false, cond, List, [], ◌∷◌, Option, Some, None, inl, inr, refl, ap, sym, subst, ◌∙◌, arith, list_all, flat_map, is_some}
 use Rattle.bd_laws.proofs.words.Types.{ObjectId, Process, Object, Reference, Manager, Name, Work, OfThread, Step, Entry}
-use Rattle.bd_laws.proofs.words.Space.{same, Space, reference_of, held_in, object_in, stays_in, objects_go, names_go, read_by, handshakes, handshakes_for, shakes, told_objects, told_of, is_told_by, returns_of, returns_of_object, with_thread, with_process, with_manager, opening, closed, ripen, follow, change, counted, next, with_spam_detection}
+use Rattle.bd_laws.proofs.words.Space.{changed, same, Space, reference_of, held_in, object_in, stays_in, objects_go, names_go, read_by, handshakes, handshakes_for, shakes, told_of, is_told_by, returns_of, returns_of_object, with_thread, with_process, with_manager, opening, closed, ripen, follow, change, counted, next, with_spam_detection}
 use Rattle.bd_space.specs.declared.space.WorkKind.TheVariants as work
 use Rattle.bd_laws.proofs.words.Laws.{In, Here, Earlier, Kept, KeptBefore}
 use Rattle.bd_laws.proofs.Lists.{in-left, in-last, in-filter, filter-in, in-changed, changed-in, any-found, any-in, all-in, find-in, find-some, pairs-filter, pairs-changed}
@@ -55,7 +55,7 @@ handshakes-here s ws k r l =
 pub told-id : (references : List Reference) (b : Bool) (x : Object) → (cond b (told_of references x) x).id ≡ x.id
 told-id references b x = search arith
 
-pub told-here : (s : Space) (ws : List Work) (o : ObjectId) → Here s.objects o → Here (told_objects s ws) o
+pub told-here : (s : Space) (ws : List Work) (o : ObjectId) → Here s.objects o → Here (changed (λ x. is_told_by ws x.id) (told_of s.references) s.objects) o
 told-here s ws o h = (_, changed-in (λ (x : Object). is_told_by ws x.id) (told_of s.references) h.0 s.objects h.1, told-id s.references (is_told_by ws h.0.id) h.0 ∙ h.2)
 
 pub read-kept : (s : Space) (seat : ℕ) (ws : List Work) → IsKept s → IsKept (read_by s seat ws)

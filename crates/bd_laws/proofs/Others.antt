@@ -1,8 +1,8 @@
 -- For the engine, by FollowingIsLocal: after the short commands (references asked for, the loop, death notifications) it is
 -- enough to look at what they touched.
-use Rattle.bd_laws.proofs.words.Logic.{arith, ◌≡◌, ℕ, ◌==◌, Bool, true, false, not, ◌||◌, List, [], ◌∷◌, ◌++◌, None, Ok, inl, inr, refl, sym, subst, ◌∙◌, list_any, eq-eqb}
+use Rattle.bd_laws.proofs.words.Logic.{fold, arith, ◌≡◌, ℕ, ◌==◌, Bool, true, false, not, ◌||◌, List, [], ◌∷◌, ◌++◌, None, Ok, inl, inr, refl, sym, subst, ◌∙◌, list_any, eq-eqb}
 use Rattle.bd_laws.proofs.words.Types.{ObjectId, Reference, Asked, Buffer, Work, DeathNotification, Phase, Queued, OfProcess}
-use Rattle.bd_laws.proofs.words.Space.{Space, reference_of, owned_in, with_names, assign_numbers, owe, turns_of, turn_of, is_name_of, ask, request_check, requested, with_death, with_looping, without_buffer, is_made_at, is_of_buffer, completed, ObjectTest, follow_of, no_name, at_name, at_object, names_of_references, objects_of_references}
+use Rattle.bd_laws.proofs.words.Space.{with_name, Space, reference_of, owned_in, assign_numbers, owe, turns_of, turn_of, is_name_of, ask, request_check, requested, with_death, with_looping, without_buffer, is_made_at, is_of_buffer, completed, ObjectTest, follow_of, no_name, at_name, at_object, names_of_references, objects_of_references}
 use Rattle.bd_space.specs.declared.space.WorkKind.TheVariants as work
 use Rattle.bd_laws.proofs.words.Laws.{In, Elsewhere, IsSettled, NoneRipe, IsQuiet, IsFollowed}
 use Rattle.bd_laws.proofs.Lists.{all-push, in-last, any-in}
@@ -54,7 +54,7 @@ module _ (s : Space) (p : ℕ) (o : ObjectId) (strong : Bool) (h : IsQuiet s) wh
       }
     where
       stands : (d : DeathNotification) (c : Bool) → (c || is_name_of s.names d.process d.object) ≡ true
-          → (c || is_name_of (with_names s.manager s.objects (s.references ++ asked ∷ []) p s.names (o ∷ [])) d.process d.object) ≡ true
+          → (c || is_name_of (fold (with_name s.manager s.objects (s.references ++ asked ∷ []) p) s.names (o ∷ [])) d.process d.object) ≡ true
       stands d c e = search (arith, name-stays)
 
   pub ask-local : completed (ask s p o strong) ≡ follow_of no_name (at_object o) (ask s p o strong)

@@ -24,7 +24,6 @@ fn with_cookie(found: Option<Object>, cookie: u64) -> Option<Object>
 
 impl NodeTable {
     ghost use Rattle.bd_space.specs.References as refer;
-    ghost use Rattle.bd_space.specs.Asking as asking;
     ghost use Rattle.bd_space.specs.declared.space.Object.{Object};
     ghost use Rattle.bd_nodes.specs.Stands.{NodesAre};
 
@@ -64,7 +63,7 @@ impl NodeTable {
     /// The process's own object with this ptr and this cookie.
     pub fn own_with(&self, p: u32, ptr: u64, cookie: u64) -> Option<Object>
         ensures { (objects : List Object) → NodesAre self.now objects
-            → result ≡ find (asking.is_own_with p ptr cookie) objects }
+            → result ≡ find (λ x. (x.owner == p) && (x.ptr == ptr) && (x.cookie == cookie)) objects }
     {
         with_cookie(self.own_with_ptr(p, ptr), cookie)
     }

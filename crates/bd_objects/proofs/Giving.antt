@@ -15,7 +15,7 @@ use Rattle.bd_space.specs.declared.space.Reference.{Reference}
 use Rattle.bd_space.specs.Words.{same}
 use Rattle.bd_space.specs.References.{owned_in}
 use Rattle.bd_space.specs.Parcels.{object_of_item}
-use Rattle.bd_space.specs.Names.{is_named_in, is_managers, named_in, number_in, with_name, with_names, has_number_past_limit}
+use Rattle.bd_space.specs.Names.{is_named_in, is_managers, named_in, number_in, with_name, has_number_past_limit}
 use Rattle.bd_space.proofs.Identities.{same-eq, same-self}
 use Rattle.bd_handles.specs.Numbers.{IsFull, new_number}
 use Rattle.bd_objects.specs.Naming.{with_name_unless, with_other_name, is_referred, AreReferred}
@@ -59,7 +59,7 @@ module _ (manager : Option ObjectId) (objects : List Object) (p : ℕ) where
   pub same-name : (refs : List Reference) (ns : List Name) (o : ObjectId) → is_referred refs p o ≡ true → other ns o ≡ with_name manager objects refs p ns o
   same-name refs ns o h = rw h (by-cases (owned_in objects p o) (is_some (number_in ns p o)) _ _)
 
-  pub same-names : (refs : List Reference) (os : List ObjectId) (ns : List Name) → AreReferred refs p os → fold (with_other_name manager objects p) ns os ≡ with_names manager objects refs p ns os
+  pub same-names : (refs : List Reference) (os : List ObjectId) (ns : List Name) → AreReferred refs p os → fold (with_other_name manager objects p) ns os ≡ fold (with_name manager objects refs p) ns os
   same-names refs [] ns h = refl
   same-names refs (o ∷ os) ns h = ap (λ ms. fold (with_other_name manager objects p) ms os) (same-name refs ns o h.0) ∙ same-names refs os (with_name manager objects refs p ns o) h.1
 

@@ -1,5 +1,8 @@
 //! Names: the numbers (handles) by which processes know the objects of others.
 
+ghost use Rattle.std.specs.{Prelude.{◌&&◌, not}, List.{list_any}};
+ghost use Rattle.bd_space.specs.Words.{same};
+ghost use Rattle.bd_space.specs.References as refer;
 ghost use Rattle.bd_space.specs.Names as names_of;
 ghost use Rattle.bd_space.specs.Space.{Space};
 ghost use Rattle.bd_handles.specs.Numbers.{IsNextNumber};
@@ -36,7 +39,9 @@ impl ObjectTable {
 
     /// The same, where a strong reference carries it.
     fn is_strongly_named(&self, p: u32, o: ObjectId) -> bool
-        ensures { Tells (StandsFor self.now) result (λ s. names_of.is_strongly_named_in s.objects s.references p o) }
+        ensures { Tells (StandsFor self.now) result
+            (λ s. not (refer.owned_in s.objects p o)
+            && list_any (λ r. r.strong && same r.object o && refer.gives_name_to p r.holder) s.references) }
     {
         !self.nodes.owns(p, o) && self.references.refers_strongly(p, o)
     }

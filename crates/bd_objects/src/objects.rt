@@ -1,8 +1,7 @@
 //! Objects (nodes), and who owns them.
 
-ghost use Rattle.std.specs.Prelude.{◌≡◌, ◌≤◌, Option};
+ghost use Rattle.std.specs.Prelude.{◌≡◌, ◌≤◌, if◌then◌else◌, Option, Some, None, option_and_then};
 ghost use Rattle.bd_space.specs.References as refer;
-ghost use Rattle.bd_space.specs.ProcessExits as exits;
 
 use crate::table::ObjectTable;
 use bd_processes::ProcessTable;
@@ -15,7 +14,7 @@ fn managed(place: u32) -> ObjectId
 }
 
 impl ObjectTable {
-    ghost use Rattle.bd_space.specs.Deaths as deaths_of;
+    ghost use Rattle.bd_space.specs.{Words.{is_some_and}, Seats.{lives_in}};
     ghost use Rattle.bd_space.specs.Steps as steps;
     ghost use Rattle.bd_ways.specs.Tables.{Tells, TellsWhere, MakesWhere};
     ghost use Rattle.bd_objects.specs.{Stands.{StandsFor, HasProcesses}, New.{IsNewManager}};
@@ -38,7 +37,7 @@ impl ObjectTable {
     /// Whether the object's owner lives. Takes the live processes.
     pub fn owner_lives(&self, processes: &ProcessTable, o: ObjectId) -> bool
         ensures { TellsWhere (StandsFor self.now) (HasProcesses processes.now) result
-            (λ s. deaths_of.owner_lives_in s.processes s.objects o) }
+            (λ s. is_some_and (refer.object_in s.objects o) (λ x. lives_in s.processes x.owner)) }
     {
         match self.nodes.object(o) {
             Some(x) => processes.lives(x.owner),
@@ -84,7 +83,8 @@ impl ObjectTable {
 
     /// The context manager's object that is left when the process has ended.
     pub fn manager_without(&self, manager: Option<ObjectId>, p: u32) -> Option<ObjectId>
-        ensures { Tells (StandsFor self.now) result (λ s. exits.manager_without s.objects p manager) }
+        ensures { Tells (StandsFor self.now) result
+            (λ s. option_and_then (λ o. if refer.owned_in s.objects p o then None else Some o) manager) }
     {
         match manager {
             Some(o) if self.nodes.owns(p, o) => None,

@@ -1,19 +1,13 @@
--- The steps of BC_INCREFS, BC_ACQUIRE, BC_RELEASE, BC_DECREFS, BC_INCREFS_DONE and BC_ACQUIRE_DONE.
-use Rattle.std.specs.Prelude.{ℕ, ◌==◌, Bool, not, ◌&&◌, [], ◌∷◌, ◌++◌, Option, Result, find, if◌then◌else◌}
-use Rattle.bd_space.specs.Words.{list_any, Note, ObjectId, Object, Asked, when, first_of, ok_or, unless, and_then, without_first, Space}
-use Rattle.bd_space.specs.{References.{reference_of, strong_in, owned_in, is_asking, is_shaking}, Names.{named, assign_numbers}, Outcomes.{Outcome, by_check}}
+-- What BC_INCREFS, BC_ACQUIRE, BC_RELEASE, BC_DECREFS, BC_INCREFS_DONE and BC_ACQUIRE_DONE check and change.
+use Rattle.std.specs.Prelude.{ℕ, ◌==◌, Bool, not, ◌&&◌, [], ◌∷◌, ◌++◌, Result, find, if◌then◌else◌}
+use Rattle.bd_space.specs.{Words.{list_any, Note, ObjectId, Object, Asked, when, first_of, ok_or, unless, and_then, without_first, Space}, References.{reference_of, strong_in, owned_in, is_asking, is_shaking}, Names.{named, assign_numbers}}
 
--- ---- asking
-
--- 0 means the context manager's object while there is one
-abbrev pub asked_of : Space → ℕ → ℕ → Option ObjectId
-asked_of s p n = if n == 0 then first_of (s.manager ∷ named s p 0 ∷ []) else named s p n
-
--- the object that is asked for, or the first note against it: a strong reference is to be had only while somebody has one, and
--- nobody asks for his own
+-- the object that is asked for, or the first note against it: 0 means the context manager's object while there is one, a
+-- strong reference is to be had only while somebody has one, and nobody asks for his own
 unfoldable pub ask_check : Space → ℕ → ℕ → Bool → Result ObjectId Note
 ask_check s p n strong =
-    and_then (ok_or (asked_of s p n) Note.NoSuchNumber) (λ o. unless (first_of (
+    and_then (ok_or (if n == 0 then first_of (s.manager ∷ named s p 0 ∷ []) else named s p n) Note.NoSuchNumber)
+    (λ o. unless (first_of (
     when (strong && not (strong_in s.references o)) Note.NotStrong
     ∷ when (owned_in s.objects p o) Note.OwnManager
     ∷ [])) o)
@@ -21,11 +15,6 @@ ask_check s p n strong =
 -- the reference comes in, and the name with it
 unfoldable pub ask : Space → ℕ → ObjectId → Bool → Space
 ask s p o strong = assign_numbers (record s { references = s.references ++ reference_of s.steps 0 o strong (Asked p) ∷ [] }) p (o ∷ [])
-
-unfoldable pub ask_step : Space → ℕ → ℕ → Bool → Outcome
-ask_step s p n strong = by_check s (λ o. ask s p o strong) (ask_check s p n strong)
-
--- ---- dropping
 
 unfoldable pub drop_check : Space → ℕ → ℕ → Bool → Result ObjectId Note
 drop_check s p n strong =
@@ -36,22 +25,12 @@ drop_check s p n strong =
 unfoldable pub drop_asked : Space → ℕ → ObjectId → Bool → Space
 drop_asked s p o strong = record s { references = without_first (is_asking p o strong) s.references }
 
-unfoldable pub drop_step : Space → ℕ → ℕ → Bool → Outcome
-drop_step s p n strong = by_check s (λ o. drop_asked s p o strong) (drop_check s p n strong)
-
--- ---- acknowledging
-
-abbrev pub is_own_with : ℕ → ℕ → ℕ → Object → Bool
-is_own_with p ptr cookie x = (x.owner == p) && (x.ptr == ptr) && (x.cookie == cookie)
-
+-- the own object that an owner acknowledges
 unfoldable pub done_check : Space → ℕ → ℕ → ℕ → Bool → Result Object Note
 done_check s p ptr cookie strong =
-    and_then (ok_or (find (is_own_with p ptr cookie) s.objects) Note.NoSuchObject)
+    and_then (ok_or (find (λ x. (x.owner == p) && (x.ptr == ptr) && (x.cookie == cookie)) s.objects) Note.NoSuchObject)
     (λ x. unless (when (not (list_any (is_shaking x.id strong) s.references)) Note.NoHandshake) x)
 
 -- the reference that stood for the acknowledgement goes
 unfoldable pub acknowledge : Space → ObjectId → Bool → Space
 acknowledge s o strong = record s { references = without_first (is_shaking o strong) s.references }
-
-unfoldable pub done_step : Space → ℕ → ℕ → ℕ → Bool → Outcome
-done_step s p ptr cookie strong = by_check s (λ x. acknowledge s x.id strong) (done_check s p ptr cookie strong)

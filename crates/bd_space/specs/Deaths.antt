@@ -1,7 +1,6 @@
--- Death notifications, and the steps of BC_REQUEST_DEATH_NOTIFICATION, BC_CLEAR_DEATH_NOTIFICATION and BC_DEAD_BINDER_DONE.
-use Rattle.std.specs.Prelude.{ℕ, ◌==◌, Bool, false, not, ◌&&◌, List, [], ◌∷◌, ◌++◌, Option, Result, find, filter, is_some, if◌then◌else◌, true, Some, None}
-use Rattle.bd_space.specs.Words.{Note, ObjectId, Process, Object, DeathNotification, Phase, Armed, Queued, OfProcess, WorkKind, is_some_and, same, ok_or, unless, when, and_then, changed, Space, Told, Done, OfThread}
-use Rattle.bd_space.specs.{Seats.lives_in, References.object_in, Names.named, Todo.owe, Outcomes.{Outcome, by_check, accepted, noted}}
+-- Death notifications: what BC_REQUEST_DEATH_NOTIFICATION, BC_CLEAR_DEATH_NOTIFICATION and BC_DEAD_BINDER_DONE check and change.
+use Rattle.std.specs.Prelude.{ℕ, ◌==◌, Bool, true, false, not, ◌&&◌, List, [], ◌∷◌, ◌++◌, Option, Result, find, filter, is_some, if◌then◌else◌}
+use Rattle.bd_space.specs.{Words.{Note, ObjectId, DeathNotification, Phase, Armed, Queued, Told, Done, OfProcess, OfThread, WorkKind, is_some_and, same, ok_or, unless, when, and_then, changed, Space}, Seats.lives_in, References.object_in, Names.named, Todo.owe}
 
 -- the uncleared notification that stands on a process's name of the object
 abbrev pub is_uncleared_on : ℕ → ObjectId → DeathNotification → Bool
@@ -30,17 +29,11 @@ unfoldable pub with_death : Space → ℕ → ObjectId → ℕ → Phase → Spa
 with_death s p o cookie phase =
     record s { deaths = s.deaths ++ record { made = s.steps; process = p; object = o; cookie = cookie; phase = phase; cleared = false } ∷ [] }
 
-abbrev pub owner_lives_in : List Process → List Object → ObjectId → Bool
-owner_lives_in processes objects o = is_some_and (object_in objects o) (λ x. lives_in processes x.owner)
-
 -- armed while the owner lives; else the process is told at once
 unfoldable pub requested : Space → ℕ → ObjectId → ℕ → Space
 requested s p o cookie =
-    if owner_lives_in s.processes s.objects o then with_death s p o cookie Armed
+    if is_some_and (object_in s.objects o) (λ x. lives_in s.processes x.owner) then with_death s p o cookie Armed
     else owe (with_death s p o cookie Queued) (OfProcess p) (WorkKind.Death s.steps)
-
-unfoldable pub request_step : Space → ℕ → ℕ → ℕ → Outcome
-request_step s p n cookie = by_check s (λ o. requested s p o cookie) (request_check s p n)
 
 -- ---- clearing
 
@@ -67,9 +60,6 @@ death_ended s seat x = owe (without_death s x.made) (OfThread seat) (WorkKind.Cl
 unfoldable pub cleared : Space → ℕ → DeathNotification → Space
 cleared s seat x = if is_out x.phase then mark_cleared s x.made else death_ended s seat x
 
-unfoldable pub clear_step : Space → ℕ → ℕ → ℕ → ℕ → Outcome
-clear_step s seat p n cookie = by_check s (cleared s seat) (clear_check s p n cookie)
-
 -- ---- acknowledging
 
 abbrev pub is_told : Phase → Bool
@@ -86,10 +76,3 @@ told_death s p cookie = find (is_told_with p cookie) s.deaths
 -- a marked one goes, and the thread is told; else it is done
 unfoldable pub death_done : Space → ℕ → DeathNotification → Space
 death_done s seat x = if x.cleared then death_ended s seat x else with_phase s x.made Done
-
-abbrev pub death_done_outcome : Space → ℕ → Option DeathNotification → Outcome
-death_done_outcome s seat None = noted s Note.NoneTold
-death_done_outcome s seat (Some x) = accepted (death_done s seat x)
-
-unfoldable pub death_done_step : Space → ℕ → ℕ → ℕ → Outcome
-death_done_step s seat p cookie = death_done_outcome s seat (told_death s p cookie)

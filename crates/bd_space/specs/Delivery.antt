@@ -31,8 +31,6 @@ buffer_references b q k (x ∷ xs) target =
 unfoldable pub refer : Space → ℕ → List Item → Option ObjectId → Space
 refer s q items target = record s { references = s.references ++ buffer_references s.steps q 0 items target }
 
--- ---- the buffer
-
 -- the buffer that this actor's step makes, where the receiver's names are those of s
 abbrev pub buffer_of : Space → Actor → TransactionData → Delivery → Buffer
 buffer_of s a d v = record {
@@ -74,9 +72,7 @@ add_notice s seat todo x =
 unfoldable pub own_notices : Space → ℕ → List Item → Space
 own_notices s seat items = record s { todo = fold (add_notice s seat) (fold (withdraw_notice s.objects) s.todo items) items }
 
--- ---- the whole delivery
-
--- the objects, the references and the names
+-- the whole delivery: the objects, the references and the names
 unfoldable pub known_by : Space → Delivery → Space
 known_by s v =
     assign_numbers (refer (make_objects s v.sending.made) v.receiver.made v.sending.items v.target) v.receiver.made (map object_of_item v.sending.items)

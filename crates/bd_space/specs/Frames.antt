@@ -1,11 +1,10 @@
 -- Frames: open two-way calls. Parents make a forest.
 use Rattle.std.specs.Prelude.{ℕ, ◌==◌, nat_le, Bool, true, false, not, ◌&&◌, ◌||◌, List, [], ◌∷◌, length, reverse, Option, Some, None, find, filter, option_map, option_and_then, if◌then◌else◌}
-use Rattle.bd_space.specs.{Words.{list_all, Thread, Frame, Server, Pending, Serving, Gone, TodoList, OfThread, OfProcess, is_some_and, Space}, Seats.thread_in}
+use Rattle.bd_space.specs.{Words.{list_all, Thread, Frame, Server, Serving, Gone, TodoList, OfThread, OfProcess, is_some_and, Space}, Seats.thread_in}
 
 abbrev pub serves : ℕ → Server → Bool
-serves seat Pending = false
 serves seat (Serving t) = t == seat
-serves seat Gone = false
+serves seat _ = false
 
 abbrev pub is_gone : Server → Bool
 is_gone Gone = true
@@ -38,12 +37,9 @@ innermost_in frames seat = find (is_deepest_in frames seat) frames
 unfoldable pub innermost : Space → ℕ → Option Frame
 innermost s seat = innermost_in s.frames seat
 
-abbrev pub if_served : ℕ → Frame → Option Frame
-if_served seat f = if serves seat f.server then Some f else None
-
 -- the innermost frame, if the thread serves it
 unfoldable pub served_innermost : Space → ℕ → Option Frame
-served_innermost s seat = option_and_then (if_served seat) (innermost_in s.frames seat)
+served_innermost s seat = option_and_then (λ f. if serves seat f.server then Some f else None) (innermost_in s.frames seat)
 
 abbrev pub made_of : Frame → ℕ
 made_of f = f.made

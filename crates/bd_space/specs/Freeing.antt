@@ -6,11 +6,8 @@ use Rattle.bd_space.specs.{Words.{Note, Buffer, Space}, References.is_of_buffer,
 abbrev pub pointer : Buffer → ℕ
 pointer b = 65536 + b.start
 
-abbrev pub is_buffer_at : ℕ → ℕ → Buffer → Bool
-is_buffer_at p ptr b = (b.receiver == p) && (pointer b == ptr)
-
 unfoldable pub buffer_at_pointer : Space → ℕ → ℕ → Option Buffer
-buffer_at_pointer s p ptr = find (is_buffer_at p ptr) s.buffers
+buffer_at_pointer s p ptr = find (λ b. (b.receiver == p) && (pointer b == ptr)) s.buffers
 
 abbrev pub is_made_at : ℕ → Buffer → Bool
 is_made_at made b = b.made == made

@@ -6,11 +6,6 @@ use Rattle.bd_space.specs.{Words.{list_any, ObjectId, Object, Reference, Name, s
 abbrev pub is_named_in : List Object → List Reference → ℕ → ObjectId → Bool
 is_named_in objects references p o = not (owned_in objects p o) && list_any (λ r. same r.object o && gives_name_to p r.holder) references
 
--- strongly where one of these is a strong reference
-abbrev pub is_strongly_named_in : List Object → List Reference → ℕ → ObjectId → Bool
-is_strongly_named_in objects references p o =
-    not (owned_in objects p o) && list_any (λ r. r.strong && same r.object o && gives_name_to p r.holder) references
-
 -- what the number names for p, and p's number of o
 abbrev pub named_in : List Name → ℕ → ℕ → Option ObjectId
 named_in names p n = option_map (λ m. m.object) (find (λ m. (m.process == p) && (m.number == n)) names)
@@ -21,9 +16,13 @@ number_in names p o = option_map (λ m. m.number) (find (λ m. (m.process == p) 
 unfoldable pub named : Space → ℕ → ℕ → Option ObjectId
 named s p n = named_in s.names p n
 
+-- the same, where a strong reference gives p the name
 unfoldable pub strongly_named : Space → ℕ → ℕ → Option ObjectId
 strongly_named s p n =
-    option_and_then (λ o. if is_strongly_named_in s.objects s.references p o then Some o else None) (named_in s.names p n)
+    option_and_then
+    (λ o. if not (owned_in s.objects p o) && list_any (λ r. r.strong && same r.object o && gives_name_to p r.holder) s.references
+    then Some o else None)
+    (named_in s.names p n)
 
 -- the object is the context manager's
 abbrev pub is_managers : Option ObjectId → ObjectId → Bool
@@ -43,11 +42,8 @@ with_name manager objects references p names o =
     else names
 
 -- and for each of these, in their order
-abbrev pub with_names : Option ObjectId → List Object → List Reference → ℕ → List Name → List ObjectId → List Name
-with_names manager objects references p names os = fold (with_name manager objects references p) names os
-
 unfoldable pub assign_numbers : Space → ℕ → List ObjectId → Space
-assign_numbers s p os = record s { names = with_names s.manager s.objects s.references p s.names os }
+assign_numbers s p os = record s { names = fold (with_name s.manager s.objects s.references p) s.names os }
 
 -- a name goes with the last reference that it rests on
 unfoldable pub names_go : Space → Space

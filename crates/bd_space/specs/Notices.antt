@@ -1,7 +1,6 @@
 -- What owners are told of their objects: two values an object, and a notice exactly while they differ from what is so.
 use Rattle.std.specs.Prelude.{ℕ, ◌==◌, Bool, true, not, ◌&&◌, ◌||◌, List, filter, fold, if◌then◌else◌}
-use Rattle.bd_space.specs.Words.{list_any, beq, ObjectId, Process, Object, Reference, Name, Work, DeathNotification, TodoList, OfProcess, WorkKind, same, is_some_and, Space}
-use Rattle.bd_space.specs.{Seats.lives_in, References.{held_in, strong_in, object_in, objects_go}, Names.names_go, Todo.{with_work, is_notice}}
+use Rattle.bd_space.specs.{Words.{list_any, beq, ObjectId, Process, Object, Reference, Name, Work, DeathNotification, TodoList, OfProcess, WorkKind, same, is_some_and, Space}, Seats.lives_in, References.{held_in, strong_in, object_in, objects_go}, Names.names_go, Todo.{with_work, is_notice}}
 
 -- the owner lives, and what it was told isn't what is so
 abbrev pub wants_notice : List Process → List Reference → Object → Bool

@@ -75,9 +75,7 @@ sending_of s p d (Some q) =
     else (if not (length q.offsets % 8 == 0) then Err Cause.OffsetsSize
     else resolve_walked s p q (fault_in q.bytes (offsets_in q.offsets)))
 
--- ---- translation
-
--- the receiver's own object, and anybody else's
+-- an object as it is translated: the receiver's own object, and anybody else's
 abbrev pub as_own : FlatObject → Object → FlatObject
 as_own x o = record x { kind = if is_strong_kind x.kind then Binder else WeakBinder; binder = o.ptr; cookie = o.cookie }
 
@@ -91,9 +89,6 @@ translated objects names q x =
       | None ↦ as_handle x.flat (unwrap_or (number_in names q x.object) 0)
     ]
 
-abbrev pub translate_item : List Object → List Name → ℕ → List ℕ → Item → List ℕ
-translate_item objects names q bytes x = overwritten bytes x.at (object_bytes (translated objects names q x))
-
 -- the data with each object translated
 unfoldable pub translation : Space → ℕ → List ℕ → List Item → List ℕ
-translation s q bytes items = fold (translate_item s.objects s.names q) bytes items
+translation s q bytes items = fold (λ bytes x. overwritten bytes x.at (object_bytes (translated s.objects s.names q x))) bytes items

@@ -1,6 +1,6 @@
 -- The step that ends a process.
-use Rattle.std.specs.Prelude.{ℕ, ◌==◌, Bool, true, false, not, ◌&&◌, ◌||◌, List, map, Option, Some, None, filter, fold, if◌then◌else◌}
-use Rattle.bd_space.specs.Words.{ObjectId, StepAnswer, Thread, Object, Reference, DeathNotification, OfProcess, WorkKind, Phase, Armed, Queued, Space, Actor}
+use Rattle.std.specs.Prelude.{ℕ, ◌==◌, Bool, true, false, not, ◌&&◌, ◌||◌, List, map, Some, None, filter, fold, option_and_then, if◌then◌else◌}
+use Rattle.bd_space.specs.Words.{StepAnswer, Thread, Object, Reference, DeathNotification, OfProcess, WorkKind, Phase, Armed, Queued, Space, Actor}
 use Rattle.bd_space.specs.{References.{owned_in, is_asked_by, is_in_window, is_of_owner}, Todo.{owe, is_on}, Notices.follow, Settle.settle, Deaths.with_phase, Outcomes.Outcome, ThreadExits.{unread_frame, thread_goes}}
 
 abbrev pub seat_of : Thread → ℕ
@@ -14,15 +14,11 @@ threads_go s p = fold thread_goes s (map seat_of (filter (λ t. t.process == p) 
 abbrev pub is_dropped_with : List Object → ℕ → Reference → Bool
 is_dropped_with objects p r = is_asked_by p r.holder || is_in_window p r.holder || (owned_in objects p r.object && is_of_owner r.holder)
 
-abbrev pub manager_without : List Object → ℕ → Option ObjectId → Option ObjectId
-manager_without objects p None = None
-manager_without objects p (Some o) = if owned_in objects p o then None else Some o
-
 -- everything that is the process's goes; its objects stay as long as others refer to them
 unfoldable pub without_process : Space → ℕ → Space
 without_process s p = record s {
   processes = filter (λ q. not (q.made == p)) s.processes;
-  manager = manager_without s.objects p s.manager;
+  manager = option_and_then (λ o. if owned_in s.objects p o then None else Some o) s.manager;
   frames = map (unread_frame s.todo (OfProcess p)) s.frames;
   references = filter (λ r. not (is_dropped_with s.objects p r)) s.references;
   names = filter (λ m. not (m.process == p)) s.names;

@@ -1,10 +1,7 @@
 -- A read: the items that it takes, what reading them changes, and its step.
 use Rattle.std.specs.Prelude.{ℕ, ◌+◌, ◌-◌, ◌==◌, nat_lt, Bool, true, false, List, [], ◌∷◌, ◌++◌, length, map, Option, Some, None, option_and_then, if◌then◌else◌}
 use Rattle.bd_space.specs.Words.{list_any, flat_map, Return, ObjectId, Object, Reference, Frame, Buffer, Work, DeathNotification, Handshake, Serving, WorkKind, Told, first_of, is_some_and, same, changed, Space, Fault, StepAnswer, when, Actor}
-use Rattle.bd_space.specs.{References.{reference_of, held_in, strong_in}, Todo.{notice_of, death_of, hands_out, is_call, without_taken, list_to_read}, Notices.follow}
-use Rattle.bd_space.specs.{Outcomes.{Outcome, refused}, Freeing.is_made_at, Returns.{buffer_in, returns_of, bytes_read, stream_of}}
-
--- ---- which they are
+use Rattle.bd_space.specs.{References.{reference_of, held_in, strong_in}, Todo.{notice_of, death_of, hands_out, is_call, without_taken, list_to_read}, Notices.follow, Outcomes.{Outcome, refused}, Freeing.is_made_at, Returns.{buffer_in, returns_of, bytes_read, stream_of}}
 
 -- nothing is read after a BR_TRANSACTION, BR_REPLY or BR_DEAD_BINDER
 abbrev pub ends_read : WorkKind → Bool
@@ -51,9 +48,6 @@ is_told_by ws o = list_any (λ w. is_some_and (notice_of w.kind) (same o)) ws
 abbrev pub told_of : List Reference → Object → Object
 told_of references x = record x { told_weak = held_in references x.id; told_strong = strong_in references x.id }
 
-abbrev pub told_objects : Space → List Work → List Object
-told_objects s ws = changed (λ x. is_told_by ws x.id) (told_of s.references) s.objects
-
 abbrev pub hand_out : Buffer → Buffer
 hand_out b = record b { handed = true }
 
@@ -65,27 +59,19 @@ handed_buffers buffers (Some b) = changed (is_made_at b.made) hand_out buffers
 abbrev pub serve : ℕ → Frame → Frame
 serve seat f = record f { server = Serving seat }
 
-abbrev pub served_frames : ℕ → List Work → List Frame → List Frame
-served_frames seat ws frames = changed (λ f. list_any (λ w. is_call f.made w.kind) ws) (serve seat) frames
-
 abbrev pub is_told_of_death : List Work → DeathNotification → Bool
 is_told_of_death ws x = list_any (λ w. is_some_and (death_of w.kind) (λ n. n == x.made)) ws
-
-abbrev pub told_deaths : List Work → List DeathNotification → List DeathNotification
-told_deaths ws deaths = changed (is_told_of_death ws) (λ x. record x { phase = Told }) deaths
 
 -- the space after these items were read by the thread of this seat, before what follows
 unfoldable pub read_by : Space → ℕ → List Work → Space
 read_by s seat ws = record s {
-  objects = told_objects s ws;
+  objects = changed (λ x. is_told_by ws x.id) (told_of s.references) s.objects;
   references = s.references ++ handshakes s 0 ws;
-  frames = served_frames seat ws s.frames;
+  frames = changed (λ f. list_any (λ w. is_call f.made w.kind) ws) (serve seat) s.frames;
   buffers = handed_buffers s.buffers (buffer_taken s ws);
-  deaths = told_deaths ws s.deaths;
+  deaths = changed (is_told_of_death ws) (λ x. record x { phase = Told }) s.deaths;
   todo = without_taken ws s.todo;
 }
-
--- ---- the step
 
 abbrev pub got : List ℕ → Option Buffer → StepAnswer
 got stream None = StepAnswer.Got stream [] []

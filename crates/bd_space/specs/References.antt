@@ -1,6 +1,6 @@
 -- References to objects: what each is for, and which objects they keep.
-use Rattle.std.specs.Prelude.{ℕ, ◌==◌, Bool, true, false, not, ◌&&◌, ◌||◌, List, find, filter, Option, Some, None}
-use Rattle.bd_space.specs.{Words.{list_any, ObjectId, Process, Object, Reference, Holder, Asked, Carried, Target, Handshake, Manager, same, is_some_and, Space}, Seats.lives_in}
+use Rattle.std.specs.Prelude.{ℕ, ◌==◌, Bool, true, false, ◌&&◌, ◌||◌, List, find, filter, Option, Some, None}
+use Rattle.bd_space.specs.{Words.{list_any, beq, ObjectId, Process, Object, Reference, Holder, Asked, Carried, Target, Handshake, Manager, same, is_some_and, Space}, Seats.lives_in}
 
 -- what the step at this place refers to is counted from 0
 abbrev pub reference_of : ℕ → ℕ → ObjectId → Bool → Holder → Reference
@@ -69,14 +69,10 @@ is_of_owner Handshake = true
 is_of_owner Manager = true
 is_of_owner _ = false
 
-abbrev pub same_strength : Bool → Reference → Bool
-same_strength true r = r.strong
-same_strength false r = not r.strong
-
 -- p asked for the object, in this strength
 abbrev pub is_asking : ℕ → ObjectId → Bool → Reference → Bool
-is_asking p o strong r = same_strength strong r && same r.object o && is_asked_by p r.holder
+is_asking p o strong r = beq r.strong strong && same r.object o && is_asked_by p r.holder
 
 -- the owner is to acknowledge the object, in this strength
 abbrev pub is_shaking : ObjectId → Bool → Reference → Bool
-is_shaking o strong r = same_strength strong r && same r.object o && is_handshake r.holder
+is_shaking o strong r = beq r.strong strong && same r.object o && is_handshake r.holder

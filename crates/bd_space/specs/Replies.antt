@@ -1,7 +1,6 @@
 -- The step of BC_REPLY.
 use Rattle.std.specs.Prelude.{ℕ, false, Option, Some, None, Result, Ok, Err, option_and_then}
-use Rattle.bd_space.specs.Words.{TransactionData, Return, Cause, Parcel, Frame, OfThread, WorkKind, ok_or, and_then, Space, Actor}
-use Rattle.bd_space.specs.{Seats.actor, Frames.{served_innermost, closed}, Todo.{owe, tell_caller}, Parcels.sending_of, Delivery.{Delivery, delivered, placed_for}, Outcomes.{Outcome, accepted, stopped}}
+use Rattle.bd_space.specs.{Words.{TransactionData, Return, Cause, Parcel, Frame, OfThread, WorkKind, ok_or, and_then, Space, Actor}, Seats.actor, Frames.{served_innermost, closed}, Todo.{owe, tell_caller}, Parcels.sending_of, Delivery.{Delivery, delivered, placed_for}, Outcomes.{Outcome, accepted, stopped}}
 
 -- the live thread that made the call, and its process
 unfoldable pub caller_of : Space → Frame → Option Actor

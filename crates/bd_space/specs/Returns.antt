@@ -1,7 +1,6 @@
 -- The returns that work items give, and their bytes.
 use Rattle.std.specs.Prelude.{ℕ, ◌+◌, not, ◌&&◌, List, [], ◌∷◌, ◌++◌, length, map, Option, Some, None, find, option_map, option_and_then, unwrap_or, if◌then◌else◌, pos}
-use Rattle.bd_space.specs.Words.{concat, option_to_list, TransactionData, Return, return_bytes, Object, Reference, Buffer, Work, WorkKind, round_up, Space}
-use Rattle.bd_space.specs.{Seats.actor, References.{held_in, strong_in, object_in}, Frames.is_frame, Freeing.{pointer, is_made_at}, Deaths.is_notification}
+use Rattle.bd_space.specs.{Words.{concat, option_to_list, TransactionData, Return, return_bytes, Object, Reference, Buffer, Work, WorkKind, round_up, Space}, Seats.actor, References.{held_in, strong_in, object_in}, Frames.is_frame, Freeing.{pointer, is_made_at}, Deaths.is_notification}
 
 abbrev pub buffer_in : List Buffer → ℕ → Option Buffer
 buffer_in buffers made = find (is_made_at made) buffers
@@ -11,14 +10,11 @@ unfoldable pub sender_pid : Space → ℕ → ℕ
 sender_pid s made =
     unwrap_or (option_map (λ a. a.process.pid) (option_and_then (actor s) (option_and_then (λ f. f.caller) (find (is_frame made) s.frames)))) 0
 
--- the object that a call is on, if it is one: a reply is on none
-abbrev pub target_in : List Object → Buffer → Option Object
-target_in objects b = option_and_then (object_in objects) b.target
-
+-- a call is on an object, a reply on none
 unfoldable pub data_of : Space → Buffer → TransactionData
-data_of s b = record {
-  target = unwrap_or (option_map (λ o. o.ptr) (target_in s.objects b)) 0;
-  cookie = unwrap_or (option_map (λ o. o.cookie) (target_in s.objects b)) 0;
+data_of s b = let target = option_and_then (object_in s.objects) b.target in record {
+  target = unwrap_or (option_map (λ o. o.ptr) target) 0;
+  cookie = unwrap_or (option_map (λ o. o.cookie) target) 0;
   code = b.code;
   flags = b.flags;
   sender_pid = pos (sender_pid s b.made);

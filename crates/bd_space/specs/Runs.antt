@@ -1,7 +1,6 @@
 -- The run of a request: the entries that it makes, and its answer.
 use Rattle.std.specs.Prelude.{ℕ, ◌≡◌, ◌≢◌, ◌⊎◌, true, List, [], ◌∷◌, ◌++◌, length, Option, Some, zero, suc, ◌<◌, take, None}
-use Rattle.bd_space.specs.Words.{Step, StepAnswer, Entry, Request, Answer, Space, Command, Fault}
-use Rattle.bd_space.specs.{Steps.step, Histories.{History, space_after, is_at_limit, history_of, HasPlace}, Writes.{commands_of, step_of_command, Run, write, written, run_of_written}}
+use Rattle.bd_space.specs.{Words.{Step, StepAnswer, Entry, Request, Answer, Space, Command, Fault}, Steps.step, Histories.{History, space_after, is_at_limit, history_of, HasPlace}, Writes.{commands_of, step_of_command, Run, write, written, run_of_written}}
 
 -- ---- a write that memory or the full history stops after some of its commands
 
@@ -29,8 +28,6 @@ pub record IsCutShort (h : History) (seat : ℕ) (stream area : List ℕ) (es : 
   pub entries : es ≡ (write_first (space_after h) seat stream area count fault).entries
   pub answered : answer ≡ (write_first (space_after h) seat stream area count fault).answer
   pub why : MayStop fault (history_of h.seats (h.entries ++ es)) seat (step_after area count (commands_of stream).commands)
-
--- ---- the run of a request
 
 -- the answer of a request that isn't a write
 abbrev pub answered : StepAnswer → Answer

@@ -2,8 +2,6 @@
 use Rattle.std.specs.Prelude.{ℕ, ◌*◌, ◌==◌, nat_lt, Bool, ◌&&◌, List, filter, sum_by}
 use Rattle.bd_space.specs.{Words.{Process, Buffer, Actor, StepAnswer, changed, Space}, Windows.buffers_of, Delivery.Delivery, Outcomes.Outcome}
 
--- ---- who is told
-
 -- a process asks for reports, or no longer
 abbrev pub detecting : Bool → Process → Process
 detecting on q = record q { spam_detection = on }
@@ -13,8 +11,6 @@ with_spam_detection s p on = record s { processes = changed (λ q. q.made == p) 
 
 unfoldable pub spam_step : Space → Bool → Actor → Outcome
 spam_step s on a = record { answer = StepAnswer.Set; space = with_spam_detection s a.process.made on }
-
--- ---- of what
 
 -- how much of a window one process's live one-way buffers take
 abbrev pub one_way_from : List Buffer → ℕ → ℕ

@@ -1,8 +1,8 @@
 -- Every step of a space.
 use Rattle.std.specs.Prelude.{ℕ, suc, ◌%◌, ◌==◌, nat_le, Bool, true, false, not, ◌&&◌, ◌||◌, [], ◌∷◌, ◌++◌, Option, Some, None, is_some}
-use Rattle.bd_space.specs.Words.{Fault, ObjectId, Step, StepAnswer, Process, Manager, when, first_of, Space, Actor, Command, Parcel, changed}
-use Rattle.bd_space.specs.{Seats.{actor, thread_in, process_with_pid}, References.{reference_of, own_in}, Outcomes.{Outcome, refused, accepted}, Spam.spam_step, Transactions.transaction_step, Replies.reply_step}
-use Rattle.bd_space.specs.{Freeing.free_step, Asking.{ask_step, drop_step, done_step}, Deaths.{request_step, clear_step, death_done_step}, ReadItems.read_step, ThreadExits.exit_thread_step, ProcessExits.exit_process_step}
+use Rattle.bd_space.specs.Words.{Note, Fault, ObjectId, Step, StepAnswer, Process, Manager, when, first_of, ok_or, Space, Actor, Command, Parcel, changed}
+use Rattle.bd_space.specs.{Seats.{actor, thread_in, process_with_pid}, References.{reference_of, own_in}, Outcomes.{Outcome, refused, accepted, by_check}, Spam.spam_step, Transactions.transaction_step, Replies.reply_step}
+use Rattle.bd_space.specs.{Freeing.free_step, Asking.{ask_check, ask, drop_check, drop_asked, done_check, acknowledge}, Deaths.{request_check, requested, clear_check, cleared, told_death, death_done}, ReadItems.read_step, ThreadExits.exit_thread_step, ProcessExits.exit_process_step}
 
 -- ---- commands
 
@@ -14,19 +14,22 @@ unfoldable pub command_step : Space → Actor → Command → Option Parcel → 
 command_step s a (Command.Transaction d) parcel = transaction_step s a d parcel
 command_step s a (Command.Reply d) parcel = reply_step s a d parcel
 command_step s a (Command.FreeBuffer ptr) parcel = free_step s a.process.made ptr
-command_step s a (Command.Increfs n) parcel = ask_step s a.process.made n false
-command_step s a (Command.Acquire n) parcel = ask_step s a.process.made n true
-command_step s a (Command.Release n) parcel = drop_step s a.process.made n true
-command_step s a (Command.Decrefs n) parcel = drop_step s a.process.made n false
-command_step s a (Command.IncrefsDone ptr cookie) parcel = done_step s a.process.made ptr cookie false
-command_step s a (Command.AcquireDone ptr cookie) parcel = done_step s a.process.made ptr cookie true
+command_step s a (Command.Increfs n) parcel = by_check s (λ o. ask s a.process.made o false) (ask_check s a.process.made n false)
+command_step s a (Command.Acquire n) parcel = by_check s (λ o. ask s a.process.made o true) (ask_check s a.process.made n true)
+command_step s a (Command.Release n) parcel = by_check s (λ o. drop_asked s a.process.made o true) (drop_check s a.process.made n true)
+command_step s a (Command.Decrefs n) parcel = by_check s (λ o. drop_asked s a.process.made o false) (drop_check s a.process.made n false)
+command_step s a (Command.IncrefsDone ptr cookie) parcel =
+    by_check s (λ x. acknowledge s x.id false) (done_check s a.process.made ptr cookie false)
+command_step s a (Command.AcquireDone ptr cookie) parcel =
+    by_check s (λ x. acknowledge s x.id true) (done_check s a.process.made ptr cookie true)
 command_step s a Command.EnterLooper parcel = accepted (with_looping s a.thread.seat true)
 command_step s a Command.ExitLooper parcel = accepted (with_looping s a.thread.seat false)
-command_step s a (Command.RequestDeathNotification n cookie) parcel = request_step s a.process.made n cookie
-command_step s a (Command.ClearDeathNotification n cookie) parcel = clear_step s a.thread.seat a.process.made n cookie
-command_step s a (Command.DeadBinderDone cookie) parcel = death_done_step s a.thread.seat a.process.made cookie
-
--- ---- opening
+command_step s a (Command.RequestDeathNotification n cookie) parcel =
+    by_check s (λ o. requested s a.process.made o cookie) (request_check s a.process.made n)
+command_step s a (Command.ClearDeathNotification n cookie) parcel =
+    by_check s (cleared s a.thread.seat) (clear_check s a.process.made n cookie)
+command_step s a (Command.DeadBinderDone cookie) parcel =
+    by_check s (death_done s a.thread.seat) (ok_or (told_death s a.process.made cookie) Note.NoneTold)
 
 abbrev pub is_pid : ℕ → Bool
 is_pid pid = nat_le 1 pid && nat_le pid 2147483647
@@ -57,8 +60,6 @@ open_outcome s seat pid euid window None = record { answer = StepAnswer.Opened; 
 unfoldable pub open_step : Space → ℕ → ℕ → ℕ → ℕ → Outcome
 open_step s seat pid euid window = open_outcome s seat pid euid window (open_fault s seat pid window)
 
--- ---- attaching
-
 abbrev pub attach_outcome : Space → ℕ → Option Process → Bool → Outcome
 attach_outcome s seat q true = refused s Fault.HasProcess
 attach_outcome s seat None false = refused s Fault.NoSuchPid
@@ -66,8 +67,6 @@ attach_outcome s seat (Some q) false = record { answer = StepAnswer.Opened; spac
 
 unfoldable pub attach_step : Space → ℕ → ℕ → Outcome
 attach_step s seat pid = attach_outcome s seat (process_with_pid s.processes pid) (is_some (thread_in s.threads seat))
-
--- ---- the context manager
 
 -- there is one, or the process has an object with ptr 0
 abbrev pub is_manager_busy : Space → ℕ → Bool

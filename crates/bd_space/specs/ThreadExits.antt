@@ -1,9 +1,6 @@
 -- The step that ends a thread.
 use Rattle.std.specs.Prelude.{ℕ, ◌==◌, Bool, not, ◌&&◌, List, map, Option, Some, None, filter, if◌then◌else◌}
-use Rattle.bd_space.specs.Words.{list_any, StepAnswer, Reference, Frame, Work, Server, Pending, Serving, Gone, TodoList, OfThread, is_some_and, Space, Actor}
-use Rattle.bd_space.specs.{References.buffer_of_holder, Todo.{is_on, is_call, hands_out}, Notices.follow, Settle.settle, Outcomes.Outcome}
-
--- ---- frames
+use Rattle.bd_space.specs.{Words.{list_any, StepAnswer, Reference, Frame, Work, Server, Pending, Serving, Gone, TodoList, OfThread, is_some_and, Space, Actor}, References.buffer_of_holder, Todo.{is_on, is_call, hands_out}, Notices.follow, Settle.settle, Outcomes.Outcome}
 
 -- the call of this frame stands unread on the list
 abbrev pub is_unread_on : List Work → TodoList → ℕ → Bool
@@ -12,8 +9,7 @@ is_unread_on todo list f = list_any (λ w. is_on list w && is_call f w.kind) tod
 -- its server is gone with the list
 abbrev pub unread_server : List Work → TodoList → ℕ → Server → Server
 unread_server todo list f Pending = if is_unread_on todo list f then Gone else Pending
-unread_server todo list f (Serving t) = Serving t
-unread_server todo list f Gone = Gone
+unread_server todo list f server = server
 
 abbrev pub unread_frame : List Work → TodoList → Frame → Frame
 unread_frame todo list f = record f { server = unread_server todo list f.made f.server }
@@ -24,15 +20,12 @@ gone_caller seat None = None
 gone_caller seat (Some c) = if c == seat then None else Some c
 
 abbrev pub gone_server : ℕ → Server → Server
-gone_server seat Pending = Pending
 gone_server seat (Serving t) = if t == seat then Gone else Serving t
-gone_server seat Gone = Gone
+gone_server seat server = server
 
 abbrev pub frame_without : List Work → ℕ → Frame → Frame
 frame_without todo seat f =
     record f { caller = gone_caller seat f.caller; server = gone_server seat (unread_server todo (OfThread seat) f.made f.server) }
-
--- ---- the step
 
 -- an unread call or reply on the list would have handed this buffer over
 abbrev pub is_lost_with : List Work → TodoList → ℕ → Bool

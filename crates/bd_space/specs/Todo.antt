@@ -16,9 +16,8 @@ tell_caller s f kind = elim f.caller [ None ↦ s | Some t ↦ owe s (OfThread t
 
 abbrev pub same_list : TodoList → TodoList → Bool
 same_list (OfThread t) (OfThread u) = t == u
-same_list (OfThread t) (OfProcess q) = false
-same_list (OfProcess p) (OfThread u) = false
 same_list (OfProcess p) (OfProcess q) = p == q
+same_list _ _ = false
 
 abbrev pub is_on : TodoList → Work → Bool
 is_on list w = same_list list w.list

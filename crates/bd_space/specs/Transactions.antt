@@ -1,8 +1,7 @@
 -- The step of BC_TRANSACTION.
 use Rattle.std.specs.Prelude.{ℕ, ◌%◌, ◌^◌, ◌==◌, Bool, true, false, ◌&&◌, [], ◌∷◌, ◌++◌, Option, Some, None, Result, Ok, Err, is_some, is_none, option_map, option_and_then, if◌then◌else◌}
 use Rattle.bd_space.specs.Words.{TransactionData, Return, Cause, ObjectId, Parcel, Process, Callee, Pending, OfThread, WorkKind, when, first_of, ok_or, unless, and_then, Space, Actor}
-use Rattle.bd_space.specs.{Seats.process_in, References.{object_in, owned_in}, Names.strongly_named, Frames.{innermost, served_innermost, goes_to, made_of}}
-use Rattle.bd_space.specs.{Todo.{owe, has_unread}, Parcels.sending_of, Delivery.{Delivery, delivered, placed_for}, Spam.is_spam, Outcomes.{Outcome, accepted, stopped}}
+use Rattle.bd_space.specs.{Seats.process_in, References.{object_in, owned_in}, Names.strongly_named, Frames.{innermost, served_innermost, goes_to, made_of}, Todo.{owe, has_unread}, Parcels.sending_of, Delivery.{Delivery, delivered, placed_for}, Spam.is_spam, Outcomes.{Outcome, accepted, stopped}}
 
 abbrev pub is_one_way : TransactionData → Bool
 is_one_way d = d.flags.0 % 2 == 1
@@ -24,14 +23,11 @@ target_of s p handle =
 unfoldable pub owner_of : Space → ObjectId → Option Process
 owner_of s o = option_and_then (λ x. process_in s.processes x.owner) (object_in s.objects o)
 
-abbrev pub with_owner : Space → ObjectId → Result Callee Cause
-with_owner s o = ok_or (option_map (λ q. record { object = o; process = q }) (owner_of s o)) Cause.DeadOwner
-
 unfoldable pub callee_of : Space → ℕ → ℕ → Result Callee Cause
-callee_of s p handle = and_then (target_of s p handle) (with_owner s)
+callee_of s p handle =
+    and_then (target_of s p handle) (λ o. ok_or (option_map (λ q. record { object = o; process = q }) (owner_of s o)) Cause.DeadOwner)
 
--- ---- whether the caller may call and wait
-
+-- what keeps the caller from calling and waiting
 unfoldable pub caller_cause : Space → ℕ → Option Cause
 caller_cause s seat =
     first_of (
@@ -39,15 +35,12 @@ caller_cause s seat =
     ∷ when (has_unread s seat) Cause.Unread
     ∷ [])
 
--- ---- the whole test: what is to be delivered, or the first cause against it
-
-abbrev pub sent_to : Space → Actor → TransactionData → Option Parcel → Callee → Result Delivery Cause
-sent_to s a d parcel c = and_then (sending_of s a.process.made d parcel) (placed_for s d c.process (Some c.object) (is_one_way d))
-
+-- the whole test: what is to be delivered, or the first cause against it
 unfoldable pub transaction_check : Space → Actor → TransactionData → Option Parcel → Result Delivery Cause
 transaction_check s a d parcel =
     and_then (callee_of s a.process.made (handle_of d))
-    (λ c. and_then (unless (if is_one_way d then None else caller_cause s a.thread.seat) c) (sent_to s a d parcel))
+    (λ c. and_then (unless (if is_one_way d then None else caller_cause s a.thread.seat) c)
+    (λ c. and_then (sending_of s a.process.made d parcel) (placed_for s d c.process (Some c.object) (is_one_way d))))
 
 -- ---- what changes
 

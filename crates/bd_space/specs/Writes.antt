@@ -2,8 +2,6 @@
 use Rattle.std.specs.Prelude.{ℕ, suc, ◌+◌, nat_lt, List, [], ◌∷◌, ◌++◌, length, Option, Some, option_map, if◌then◌else◌, zero, nat_le, ◌&&◌, take, drop, None, Ok, Err}
 use Rattle.bd_space.specs.{Words.{Command, Note, Fault, StepAnswer, Entry, Stop, Answer, Space, TransactionData, command_at, Parcel, Step}, Steps.step}
 
--- ---- the commands
-
 -- the parcel cut from the area, if it lies inside
 abbrev pub parcel_of : List ℕ → TransactionData → Option Parcel
 parcel_of area d =
@@ -46,9 +44,6 @@ pub record Written : Type 0 where
   pub notes : List (ℕ × Note)
   pub stop : Option Stop
 
-abbrev pub ends_here : Entry → ℕ → Stop → Written
-ends_here e size x = record { entries = e ∷ []; consumed = size; notes = []; stop = Some x }
-
 abbrev pub goes_on : Entry → ℕ → List (ℕ × Note) → Written → Written
 goes_on e size notes rest = record { entries = e ∷ rest.entries; consumed = size + rest.consumed; notes = notes ++ rest.notes; stop = rest.stop }
 
@@ -60,8 +55,8 @@ written s seat area i (c ∷ cs) fault =
     let o = step s seat x in
     let e : Entry = record { seat = seat; step = x; answer = o.answer } in
     elim o.answer [
-      | StepAnswer.Stopped y ↦ ends_here e c.1 (Stop.Cause y)
-      | StepAnswer.Refused y ↦ ends_here e c.1 (Stop.Fault y)
+      | StepAnswer.Stopped y ↦ record { entries = e ∷ []; consumed = c.1; notes = []; stop = Some (Stop.Cause y) }
+      | StepAnswer.Refused y ↦ record { entries = e ∷ []; consumed = c.1; notes = []; stop = Some (Stop.Fault y) }
       | StepAnswer.Noted n ↦ goes_on e c.1 ((i, n) ∷ []) (written o.space seat area (suc i) cs fault)
       | _ ↦ goes_on e c.1 [] (written o.space seat area (suc i) cs fault)
     ]

@@ -14,12 +14,12 @@ use Rattle.bd_space.specs.declared.step.ObjectId.{ObjectId}
 use Rattle.bd_space.specs.declared.space.Object.{Object}
 use Rattle.bd_space.specs.declared.space.Item.{Item}
 use Rattle.bd_space.specs.declared.space.Work.{Work}
-use Rattle.bd_space.specs.Words.{is_some_and}
+use Rattle.bd_space.specs.Words.{is_some_and, overwritten}
 use Rattle.bd_space.specs.Space.{Space}
 use Rattle.bd_space.specs.References.{object_in}
 use Rattle.bd_space.specs.Names.{assign_numbers, names_go, has_number_past_limit}
 use Rattle.bd_uapi.specs.Kinds.{is_own, is_strong_kind}
-use Rattle.bd_space.specs.Parcels.{object_of_item, translate_item, translated, translation}
+use Rattle.bd_space.specs.Parcels.{object_of_item, translated, translation}
 use Rattle.bd_space.specs.Todo.{is_notice}
 use Rattle.bd_space.specs.Delivery.{Delivery, make_objects, refer, known_by, withdraw_notice, buffer_of, add_buffer, own_notices}
 use Rattle.bd_objects.specs.declared.table.ObjectTable.{ObjectTable}
@@ -44,16 +44,19 @@ todo-more n t s f items k d lt h = subst (λ (todo : List Work). StandsAt n t (r
 
 -- ---- the translation
 
+abbrev written : Space → ℕ → List ℕ → Item → List ℕ
+written s q bytes x = overwritten bytes x.at (object_bytes (translated s.objects s.names q x))
+
 pub translated-more : (s : Space) (q : ℕ) (base bytes new : List ℕ) (items : List Item) (k : ℕ) (d : Item) (flat : FlatObject) → k < length items
     → new ≡ take (get_or items k d).at bytes ++ object_bytes flat ++ drop ((get_or items k d).at + 24) bytes
     → flat ≡ translated s.objects s.names q (get_or items k d)
-    → bytes ≡ fold (translate_item s.objects s.names q) base (take k items)
-    → new ≡ fold (translate_item s.objects s.names q) base (take (k + 1) items)
+    → bytes ≡ fold (written s q) base (take k items)
+    → new ≡ fold (written s q) base (take (k + 1) items)
 translated-more s q base bytes new items k d flat lt e is so_far =
     let x = get_or items k d in
     e ∙ ap (λ (y : FlatObject). take x.at bytes ++ object_bytes y ++ drop (x.at + 24) bytes) is
-    ∙ ap (λ (bs : List ℕ). translate_item s.objects s.names q bs x) so_far
-    ∙ sym (fold_more (translate_item s.objects s.names q) base items k d lt)
+    ∙ ap (λ (bs : List ℕ). written s q bs x) so_far
+    ∙ sym (fold_more (written s q) base items k d lt)
 
 -- ---- objects, references and names
 

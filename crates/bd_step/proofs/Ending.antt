@@ -22,7 +22,7 @@ use Rattle.bd_space.specs.Todo.{is_on, hands_out}
 use Rattle.bd_space.specs.Notices.{follow}
 use Rattle.bd_space.specs.Settle.{settle}
 use Rattle.bd_space.specs.Outcomes.{Outcome, accepted, noted}
-use Rattle.bd_space.specs.Freeing.{free_step, free_outcome, buffer_at_pointer, without_buffer, is_made_at, is_buffer_at}
+use Rattle.bd_space.specs.Freeing.{free_step, free_outcome, pointer, buffer_at_pointer, without_buffer, is_made_at}
 use Rattle.bd_space.specs.ThreadExits.{thread_goes, is_lost_with, exit_thread_step}
 use Rattle.bd_space.specs.ProcessExits.{threads_go, without_process, tell_deaths, exit_process_step, seat_of}
 use Rattle.bd_space.specs.Steps.{command_step, change, by_actor}
@@ -116,7 +116,7 @@ freed-stay s b c l e false = (c, l, refl)
 pub free-ended : (s : Space) (p ptr : ℕ) (b : Buffer) → Pairs Earlier s.buffers → buffer_at_pointer s p ptr ≡ Some b → HasEndings (b.made ∷ []) s (free_step s p ptr).space
 unfolding free_step buffer_at_pointer
 free-ended s p ptr b order found =
-    let here = (find-in (is_buffer_at p ptr) b s.buffers found).0 in
+    let here = (find-in (λ (x : Buffer). (x.receiver == p) && (pointer x == ptr)) b s.buffers found).0 in
     let z = free_outcome s (Some b) in
     subst (λ (o : Option Buffer). HasEndings (b.made ∷ []) s (free_outcome s o).space) (sym found)
     (ap (filter (is_gone z.space.buffers)) (sym (one-made b s.buffers order here)) ∙ by-test (is_made_at b.made) s z.space (λ c l e. freed-stay s b c l e b.handed))

@@ -15,7 +15,7 @@ use Rattle.bd_space.specs.Words.{same}
 use Rattle.bd_space.specs.Space.{Space}
 use Rattle.bd_space.specs.References.{is_of_buffer, gives_name_to}
 use Rattle.bd_space.specs.Returns.{buffer_in}
-use Rattle.bd_space.specs.Freeing.{without_buffer, is_made_at, is_buffer_at, buffer_at_pointer}
+use Rattle.bd_space.specs.Freeing.{pointer, without_buffer, is_made_at, buffer_at_pointer}
 use Rattle.bd_space.specs.Turns.{turn_of}
 use Rattle.bd_space.specs.Notices.{follow}
 use Rattle.bd_space.specs.Outcomes.{completed}
@@ -134,14 +134,17 @@ freed-ordered s made turn h = ripened-ordered turn (without_buffer s made) h
 
 -- ---- the buffer that may be freed is the process's
 
+abbrev at_buffer : ℕ → ℕ → Buffer → Bool
+at_buffer p at b = (b.receiver == p) && (pointer b == at)
+
 pub freed-buffer : (s : Space) (p pointer made : ℕ) → Ok made ≡ freed_buffer (buffer_at_pointer s p pointer) → (b : Buffer) × In b s.buffers × (b.made ≡ made) × (b.receiver ≡ p)
 unfolding buffer_at_pointer
-freed-buffer s p pointer made e = at (find (is_buffer_at p pointer) s.buffers) refl e
+freed-buffer s p pointer made e = at (find (at_buffer p pointer) s.buffers) refl e
   where
     handed : (b : Buffer) → In b s.buffers → b.receiver ≡ p → (h : Bool) → Ok made ≡ (if h then Ok b.made else Err NotHandedOut) → (c : Buffer) × In c s.buffers × (c.made ≡ made) × (c.receiver ≡ p)
     handed b l its true k = (b, l, cc, its)
     handed b l its false k = absurd (cc)
 
-    at : (f : Option Buffer) → find (is_buffer_at p pointer) s.buffers ≡ f → Ok made ≡ freed_buffer f → (b : Buffer) × In b s.buffers × (b.made ≡ made) × (b.receiver ≡ p)
+    at : (f : Option Buffer) → find (at_buffer p pointer) s.buffers ≡ f → Ok made ≡ freed_buffer f → (b : Buffer) × In b s.buffers × (b.made ≡ made) × (b.receiver ≡ p)
     at None f k = absurd (cc)
-    at (Some b) f k = let l = find-in (is_buffer_at p pointer) b s.buffers f in handed b l.0 (eqb-true b.receiver p (both (b.receiver == p) _ l.1).0) b.handed k
+    at (Some b) f k = let l = find-in (at_buffer p pointer) b s.buffers f in handed b l.0 (eqb-true b.receiver p (both (b.receiver == p) _ l.1).0) b.handed k

@@ -7,6 +7,8 @@ use Rattle.bd_uapi.specs.declared.command.Return.TheVariants.{DeadReply, FailedR
 use Rattle.bd_uapi.specs.declared.fault.Fault.{Fault}
 use Rattle.bd_uapi.specs.declared.fault.Cause.{Cause}
 use Rattle.bd_uapi.specs.declared.fault.Note.{Note}
+use Rattle.bd_uapi.specs.declared.fault.Note.TheVariants.{NoneTold}
+use Rattle.bd_space.specs.Words.{ok_or}
 use Rattle.bd_space.specs.declared.step.ObjectId.{ObjectId}
 use Rattle.bd_space.specs.declared.step.Parcel.{Parcel}
 use Rattle.bd_space.specs.declared.step.Step.{Step}
@@ -34,8 +36,8 @@ use Rattle.bd_space.specs.Delivery.{Delivery, delivered, own_notices, add_buffer
 use Rattle.bd_space.specs.Transactions.{transaction_step, transaction_outcome, transaction_check, transacted, refusal}
 use Rattle.bd_space.specs.Replies.{reply_step, reply_to, reply_outcome, reply_check, replied, reply_refused}
 use Rattle.bd_space.specs.Freeing.{is_made_at}
-use Rattle.bd_space.specs.Asking.{ask_step, ask_check, ask, drop_step, drop_check, drop_asked, done_step, done_check, acknowledge}
-use Rattle.bd_space.specs.Deaths.{request_step, request_check, requested, clear_step, clear_check, cleared, death_done_step, death_done_outcome, told_death}
+use Rattle.bd_space.specs.Asking.{ask_check, ask, drop_check, drop_asked, done_check, acknowledge}
+use Rattle.bd_space.specs.Deaths.{request_check, requested, clear_check, cleared, told_death, death_done}
 use Rattle.bd_space.specs.Spam.{is_spam, spam_step, with_spam_detection}
 use Rattle.bd_space.specs.Steps.{command_step, with_looping, change, by_actor, open_step, open_outcome, open_fault, attach_step, attach_outcome, manager_step, manager_outcome, is_manager_busy, with_thread, with_process, with_manager}
 use Rattle.bd_space.specs.ReadItems.{read_step, read_fault, read_taking, read_by, taken, hand_out, handed_buffers, buffer_taken}
@@ -144,7 +146,7 @@ acknowledged-buffers : (s : Space) (o : ObjectId) (strong : Bool) → (acknowled
 unfolding acknowledge
 acknowledged-buffers s o strong = refl
 
-death_done-live : (s : Space) (seat : ℕ) (o : Option DeathNotification) → AllLive s.buffers (death_done_outcome s seat o).space.buffers
+death_done-live : (s : Space) (seat : ℕ) (o : Option DeathNotification) → AllLive s.buffers (by_check s (death_done s seat) (ok_or o NoneTold)).space.buffers
 death_done-live s seat None = all-live s.buffers
 death_done-live s seat (Some x) = completed-live s _ (untouched-live s _ (on-done s (λ y. Untouched y s) (on_deaths-untouched s) seat x))
 
@@ -159,7 +161,7 @@ can_end step_of.ExitProcess = true
 can_end _ = false
 
 command-live : (s : Space) (a : Actor) (c : Command) (parcel : Option Parcel) → can_end (step_of.Command c parcel) ≡ false → AllLive s.buffers (command_step s a c parcel).space.buffers
-unfolding command_step transaction_step reply_step ask_step drop_step done_step request_step clear_step death_done_step
+unfolding command_step transaction_step reply_step
 command-live s a (bc.Transaction d) parcel other = transaction-live s a d (transaction_check s a d parcel)
 command-live s a (bc.Reply d) parcel other = reply-live s a d parcel (served_innermost s a.thread.seat)
 command-live s a (bc.FreeBuffer ptr) parcel other = absurd (cc)

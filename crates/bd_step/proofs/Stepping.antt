@@ -26,7 +26,7 @@ use Rattle.bd_space.specs.Windows.{buffers_of}
 use Rattle.bd_space.specs.Spam.{floods, is_spam}
 use Rattle.bd_space.specs.Delivery.{Delivery, placed_for, delivered, known_by, own_notices, add_buffer, refer, make_objects}
 use Rattle.bd_space.specs.Outcomes.{accepted, stopped}
-use Rattle.bd_space.specs.Transactions.{is_one_way, handle_of, not_own, target_of, owner_of, with_owner, callee_of, caller_cause, sent_to, transaction_check, call_out, called, transacted, refusal, transaction_step, transaction_outcome}
+use Rattle.bd_space.specs.Transactions.{is_one_way, handle_of, not_own, target_of, owner_of, callee_of, caller_cause, transaction_check, call_out, called, transacted, refusal, transaction_step, transaction_outcome}
 use Rattle.bd_space.specs.Replies.{caller_of, reply_check, replied, reply_refused, reply_outcome, reply_to, reply_step}
 use Rattle.bd_calls.specs.Stacked.{IsStacked}
 use Rattle.bd_step.specs.declared.tables.Tables.{Tables}
@@ -44,6 +44,9 @@ if-lives ps made (Some q) e = found-lives ps made q (sym e)
 
 abbrev callee : ObjectId → Process → Callee
 callee o q = record { object = o; process = q }
+
+abbrev with_owner : Space → ObjectId → Result Callee Cause
+with_owner s o = ok_or (option_map (callee o) (owner_of s o)) DeadOwner
 
 pub target-manager : (s : Space) (p handle : ℕ) (o : ObjectId) → handle ≡ 0 → s.manager ≡ Some o → not_own s p o ≡ target_of s p handle
 unfolding target_of
@@ -67,8 +70,11 @@ no-target s p handle x e = ap (λ (r : Result ObjectId Cause). and_then r (with_
 -- ---- the whole test of a transaction
 
 module _ (s : Space) (a : Actor) (d : TransactionData) (parcel : Option Parcel) (n : ℕ) (handle : n ≡ handle_of d) where
+  abbrev sent_to : Callee → Result Delivery Cause
+  sent_to c = and_then (sending_of s a.process.made d parcel) (placed_for s d c.process (Some c.object) (is_one_way d))
+
   abbrev rest : Callee → Result Delivery Cause
-  rest c = and_then (unless (if is_one_way d then None else caller_cause s a.thread.seat) c) (sent_to s a d parcel)
+  rest c = and_then (unless (if is_one_way d then None else caller_cause s a.thread.seat) c) sent_to
 
   pub no-callee : (x : Cause) → Err x ≡ callee_of s a.process.made n → Err x ≡ transaction_check s a d parcel
   unfolding transaction_check
@@ -77,7 +83,7 @@ module _ (s : Space) (a : Actor) (d : TransactionData) (parcel : Option Parcel) 
   pub may-not-call : (c : Callee) (b : Bool) (x : Cause) → Ok c ≡ callee_of s a.process.made n → b ≡ is_one_way d → Some x ≡ (if b then None else caller_cause s a.thread.seat) → Err x ≡ transaction_check s a d parcel
   unfolding transaction_check
   may-not-call c b x e o k =
-      ap (λ (y : Option Cause). and_then (unless y c) (sent_to s a d parcel)) (k ∙ ap (λ (v : Bool). if v then None else caller_cause s a.thread.seat) o)
+      ap (λ (y : Option Cause). and_then (unless y c) sent_to) (k ∙ ap (λ (v : Bool). if v then None else caller_cause s a.thread.seat) o)
       ∙ ap (λ (r : Result Callee Cause). and_then r rest) (e ∙ ap (callee_of s a.process.made) handle)
 
   pub may-call : (c : Callee) (b : Bool) → Ok c ≡ callee_of s a.process.made n → b ≡ is_one_way d → None ≡ (if b then None else caller_cause s a.thread.seat)
@@ -85,7 +91,7 @@ module _ (s : Space) (a : Actor) (d : TransactionData) (parcel : Option Parcel) 
   unfolding transaction_check
   may-call c b e o k =
       ap (λ (v : Bool). and_then (sending_of s a.process.made d parcel) (placed_for s d c.process (Some c.object) v)) o
-      ∙ ap (λ (y : Option Cause). and_then (unless y c) (sent_to s a d parcel)) (k ∙ ap (λ (v : Bool). if v then None else caller_cause s a.thread.seat) o)
+      ∙ ap (λ (y : Option Cause). and_then (unless y c) sent_to) (k ∙ ap (λ (v : Bool). if v then None else caller_cause s a.thread.seat) o)
       ∙ ap (λ (r : Result Callee Cause). and_then r rest) (e ∙ ap (callee_of s a.process.made) handle)
 
 -- ---- the change of a transaction

@@ -7,6 +7,8 @@ ghost use Rattle.bd_space.specs.declared.space.TodoList.TheVariants.{OfProcess};
 ghost use Rattle.bd_space.specs.declared.space.WorkKind.TheVariants.{Death};
 ghost use Rattle.bd_space.specs.Todo as todo;
 ghost use Rattle.bd_space.specs.Deaths as deaths;
+ghost use Rattle.bd_space.specs.{Words.{ok_or}, Outcomes.{by_check}};
+ghost use Rattle.bd_uapi.specs.declared.fault.Note.TheVariants.{NoneTold};
 ghost use Rattle.bd_space.specs.Space.{Space};
 ghost use Rattle.bd_space.specs.ProcessExits as exits;
 ghost use Rattle.bd_ways.specs.Tables.{MakesWhere};
@@ -74,7 +76,8 @@ impl Tables {
 
     /// The step by which a process asks to be told of an owner's end. Nothing follows from it.
     pub(crate) fn request_death(&mut self, a: Actor, n: u32, cookie: u64) -> Result<Plain, Why>
-        ensures step { IsStep self.old self.new (IsBy a) (λ s. deaths.request_step s a.process.made n cookie) result }
+        ensures step { IsStep self.old self.new (IsBy a)
+            (λ s. by_check s (λ o. deaths.requested s a.process.made o cookie) (deaths.request_check s a.process.made n)) result }
         ensures told { KeepsTold self.old self.new }
     {
         let o = match self.objects.request_check(a.process.made, n) {
@@ -118,7 +121,7 @@ impl Tables {
     /// The step by which a process takes back that it asked to be told of an owner's end. Nothing follows from it.
     pub(crate) fn clear_death(&mut self, a: Actor, n: u32, cookie: u64) -> Result<Plain, Why>
         ensures step { IsStep self.old self.new (IsBy a)
-            (λ s. deaths.clear_step s a.thread.seat a.process.made n cookie) result }
+            (λ s. by_check s (deaths.cleared s a.thread.seat) (deaths.clear_check s a.process.made n cookie)) result }
         ensures told { KeepsTold self.old self.new }
     {
         let x = match self.objects.clear_check(a.process.made, n, cookie) {
@@ -148,7 +151,7 @@ impl Tables {
     /// The step by which a process acknowledges that it was told of an owner's end. Nothing follows from it.
     pub(crate) fn death_done(&mut self, a: Actor, cookie: u64) -> Result<Plain, Why>
         ensures step { IsStep self.old self.new (IsBy a)
-            (λ s. deaths.death_done_step s a.thread.seat a.process.made cookie) result }
+            (λ s. by_check s (deaths.death_done s a.thread.seat) (ok_or (deaths.told_death s a.process.made cookie) NoneTold)) result }
         ensures told { KeepsTold self.old self.new }
     {
         let x = match self.objects.told_death(a.process.made, cookie) {

@@ -4,7 +4,7 @@
 ghost use Rattle.std.specs.Prelude.{◌≡◌, ◌≤◌, IfErr, OnOk, OnErr};
 ghost use Rattle.bd_space.specs.Names.{has_number_past_limit};
 ghost use Rattle.bd_space.specs.Asking as asking;
-ghost use Rattle.bd_space.specs.Outcomes.{completed};
+ghost use Rattle.bd_space.specs.Outcomes.{completed, by_check};
 ghost use Rattle.bd_objects.specs.Room.{reference_room, name_room};
 ghost use Rattle.bd_calls.specs.Room.{work_room};
 ghost use Rattle.bd_step.specs.{Stands.{MakesOfTidy, PassesLimit, KeepsTold}, Meets.{IsBy, IsKept, IsStep}};
@@ -40,7 +40,8 @@ impl Tables {
 
     /// The step by which a process asks for an object, weakly or strongly.
     pub(crate) fn ask(&mut self, a: Actor, n: u32, strong: bool) -> Result<Plain, Why>
-        ensures step { IsStep self.old self.new (IsBy a) (λ s. asking.ask_step s a.process.made n strong) result }
+        ensures step { IsStep self.old self.new (IsBy a)
+            (λ s. by_check s (λ o. asking.ask s a.process.made o strong) (asking.ask_check s a.process.made n strong)) result }
         ensures told { KeepsTold self.old self.new }
     {
         let o = match self
@@ -76,7 +77,9 @@ impl Tables {
 
     /// The step by which a process drops a reference that it asked for.
     pub(crate) fn drop_asked(&mut self, a: Actor, n: u32, strong: bool) -> Result<Plain, Why>
-        ensures step { IsStep self.old self.new (IsBy a) (λ s. asking.drop_step s a.process.made n strong) result }
+        ensures step { IsStep self.old self.new (IsBy a)
+            (λ s. by_check s (λ o. asking.drop_asked s a.process.made o strong)
+            (asking.drop_check s a.process.made n strong)) result }
         ensures told { KeepsTold self.old self.new }
     {
         let o = match self.objects.drop_check(a.process.made, n, strong) {
@@ -108,7 +111,9 @@ impl Tables {
         cookie: u64,
         strong: bool,
     ) -> Result<Plain, Why>
-        ensures step { IsStep self.old self.new (IsBy a) (λ s. asking.done_step s a.process.made ptr cookie strong) result }
+        ensures step { IsStep self.old self.new (IsBy a)
+            (λ s. by_check s (λ x. asking.acknowledge s x.id strong)
+            (asking.done_check s a.process.made ptr cookie strong)) result }
         ensures told { KeepsTold self.old self.new }
     {
         let x = match self.objects.done_check(a.process.made, ptr, cookie, strong) {

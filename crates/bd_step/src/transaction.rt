@@ -39,7 +39,7 @@ fn handle_of(d: &TransactionData) -> u32
 
 // The thread is in a frame, and doesn't serve it.
 fn is_unserved(seat: u32, innermost: Option<Frame>) -> bool
-    ensures { result ≡ (is_some innermost && is_none (option_and_then (frames.if_served seat) innermost)) }
+    ensures { result ≡ (is_some innermost && is_none (option_and_then (λ f. if frames.serves seat f.server then Some f else None) innermost)) }
 {
     match innermost {
         Some(f) => !serves(seat, f.server),

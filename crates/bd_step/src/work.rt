@@ -6,7 +6,7 @@ ghost use Rattle.bd_uapi.specs.declared.command.Return.TheVariants as br;
 ghost use Rattle.bd_codec.specs.Spelling.{return_bytes};
 ghost use Rattle.bd_space.specs.Words.{option_to_list, round_up as rounded};
 ghost use Rattle.bd_space.specs.Seats as seats;
-ghost use Rattle.bd_space.specs.{Frames.{is_frame}, Freeing.{pointer}};
+ghost use Rattle.bd_space.specs.{References.{object_in}, Frames.{is_frame}, Freeing.{pointer}};
 ghost use Rattle.bd_space.specs.Returns as spec;
 ghost use Rattle.bd_space.specs.Steps.{is_pid};
 ghost use Rattle.bd_space.specs.declared.space.WorkKind.TheVariants as work;
@@ -104,7 +104,7 @@ impl Tables {
 
     // The object that a call is on, if it is one.
     fn called_object(&self, b: &Buffer) -> Option<Object>
-        ensures { TellsBefore self.now result (λ s. spec.target_in s.objects b.now) }
+        ensures { TellsBefore self.now result (λ s. option_and_then (object_in s.objects) b.now.target) }
     {
         match b.target {
             Some(o) => self.objects.object(o),
@@ -115,9 +115,9 @@ impl Tables {
     // The ptr and the cookie of that object, else 0.
     fn called_words(&self, b: &Buffer) -> (u64, u64)
         ensures target { TellsBefore self.now result.0
-            (λ s. unwrap_or (option_map (λ o. o.ptr) (spec.target_in s.objects b.now)) 0) }
+            (λ s. unwrap_or (option_map (λ o. o.ptr) (option_and_then (object_in s.objects) b.now.target)) 0) }
         ensures cookie { TellsBefore self.now result.1
-            (λ s. unwrap_or (option_map (λ o. o.cookie) (spec.target_in s.objects b.now)) 0) }
+            (λ s. unwrap_or (option_map (λ o. o.cookie) (option_and_then (object_in s.objects) b.now.target)) 0) }
     {
         match self.called_object(b) {
             Some(o) => (o.ptr, o.cookie),

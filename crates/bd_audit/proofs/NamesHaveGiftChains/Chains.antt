@@ -1,7 +1,7 @@
 -- For NamesHaveGiftChains: each name has a gift chain.
 use Rattle.bd_laws.proofs.words.Logic.{◌≡◌, ℕ, ◌+◌, ◌<◌, ◌≤◌, ◌==◌, Bool, true, cond, ◌&&◌, List, [], ◌∷◌, ◌++◌, Option, Some, Ok, ◌⊎◌, inl, inr, refl, ap, sym, subst, ◌∙◌, length, arith, length-append, append_assoc, append-nil, eq-eqb}
 use Rattle.bd_laws.proofs.words.Types.{ObjectId, Entry, Parcel, Command, Accepted, Actor, Object, Name, Holder, Carried}
-use Rattle.bd_laws.proofs.words.Space.{same, is_some_and, Space, opening, actor, owned_in, named, ask_check, ask_step, command_step, change, counted, History, after, next, space_after}
+use Rattle.bd_laws.proofs.words.Space.{same, is_some_and, Space, opening, actor, owned_in, named, ask_check, command_step, change, counted, History, after, next, space_after}
 use Rattle.bd_uapi.specs.declared.command.Command.TheVariants as bc
 use Rattle.bd_laws.proofs.words.Laws.{In}
 use Rattle.bd_laws.proofs.Lists.{any-in}
@@ -78,7 +78,7 @@ asking-0 strong parcel = search arith
 
 accepts : (s : Space) (seat : ℕ) (a : Actor) (o : ObjectId) (strong : Bool) (parcel : Option Parcel) → actor s seat ≡ Some a → ask_check s a.process.made 0 strong ≡ Ok o
     → (change s seat (Command (cond strong (bc.Acquire 0) (bc.Increfs 0)) parcel)).answer ≡ Accepted
-unfolding change command_step ask_step
+unfolding change command_step
 accepts s seat a o strong parcel acts check = search arith
 
 pub asks : (s : Space) (e : Entry) (m : Name) (z : Space) → ByAsking s e.seat e.step m z → AsksManager s e m.object m.process

@@ -1,7 +1,7 @@
 -- For NamesHaveGiftChains: names that come, and what comes later in the step.
-use Rattle.bd_laws.proofs.words.Logic.{arith, filter, ◌≡◌, ℕ, ◌+◌, Bool, false, cond, not, ◌&&◌, List, [], ◌∷◌, ◌++◌, Option, Some, Ok, ◌⊎◌, inl, inr, refl, ap, sym, subst, ◌∙◌, map, is_some}
+use Rattle.bd_laws.proofs.words.Logic.{fold, arith, filter, ◌≡◌, ℕ, ◌+◌, Bool, false, cond, not, ◌&&◌, List, [], ◌∷◌, ◌++◌, Option, Some, Ok, ◌⊎◌, inl, inr, refl, ap, sym, subst, ◌∙◌, map, is_some}
 use Rattle.bd_laws.proofs.words.Types.{TransactionData, ObjectId, Step, Actor, Frame, Process, Object, Reference, Buffer, Carried, Name, Item, is_strong_kind}
-use Rattle.bd_laws.proofs.words.Space.{Space, actor, reference_of, stays_in, objects_go, is_named_in, number_in, free_number, with_name, with_names, assign_numbers, names_go, follow, notify, work_goes, deaths_go, Delivery, delivered, buffer_of, own_notices, add_buffer, known_by, refer, make_objects, buffer_references, object_of_item, ask_check}
+use Rattle.bd_laws.proofs.words.Space.{Space, actor, reference_of, stays_in, objects_go, is_named_in, number_in, free_number, with_name, assign_numbers, names_go, follow, notify, work_goes, deaths_go, Delivery, delivered, buffer_of, own_notices, add_buffer, known_by, refer, make_objects, buffer_references, object_of_item, ask_check}
 use Rattle.bd_laws.specs.Lists.{In}
 use Rattle.bd_laws.proofs.Lists.{in-right, in-push, in-last, in-filter, filter-in, in-map}
 use Rattle.bd_laws.proofs.Tests.{both, not-true}
@@ -52,7 +52,7 @@ module _ (manager : Option ObjectId) (objects : List Object) (references : List 
       → In m names ⊎ ((m.process ≡ p) × (m.object ≡ o) × (is_some (number_in names p o) ≡ false))
   new-name names o m i = one-name (is_named_in objects references p o && not (is_some (number_in names p o))) names o m refl i
 
-  pub new-names : (os : List ObjectId) (names : List Name) (m : Name) → In m (with_names manager objects references p names os) → In m names ⊎ ((m.process ≡ p) × In m.object os)
+  pub new-names : (os : List ObjectId) (names : List Name) (m : Name) → In m (fold (with_name manager objects references p) names os) → In m names ⊎ ((m.process ≡ p) × In m.object os)
   new-names [] names m i = inl i
   new-names (o ∷ os) names m i = elim (new-names os (with_name manager objects references p names o) m i) [
     | inl k ↦ elim (new-name names o m k) [ inl j ↦ inl j | inr n ↦ inr (n.0, inl (sym n.1)) ]

@@ -1,7 +1,7 @@
 -- For OnlyOwnersHear: what is heard of an object is heard by its owner.
 use Rattle.bd_laws.proofs.words.Logic.{arith, ◌≡◌, ℕ, ◌==◌, Bool, true, false, cond, ◌&&◌, List, [], ◌∷◌, Option, Some, None, ◌⊎◌, inl, inr, refl, find, eqb-true}
 use Rattle.bd_laws.proofs.words.Types.{ObjectId, Step, StepAnswer, Entry, Object, Actor, Work}
-use Rattle.bd_laws.proofs.words.Space.{same, is_some_and, Space, opening, actor, owned_in, list_to_read, is_own_with, taken, after}
+use Rattle.bd_laws.proofs.words.Space.{same, is_some_and, Space, opening, actor, owned_in, list_to_read, taken, after}
 use Rattle.bd_laws.specs.Lists.{In}
 use Rattle.bd_laws.proofs.Lists.{in-filter, find-in}
 use Rattle.bd_laws.proofs.Tests.{both, same-eq}
@@ -35,13 +35,16 @@ module _ (s : Space) (live : Live s) (sits : SitsIn s) (seat : ℕ) (a : Actor) 
           owns-test s.objects a.process.made o (x.0, x.1, x.2, reads-own w.0 x.0.owner l (sits w.0 o x.0 due w.2 x.1 x.2)))
     ]
 
+    abbrev own_with : ℕ → ℕ → Object → Bool
+    own_with ptr cookie x = (x.owner == a.process.made) && (x.ptr == ptr) && (x.cookie == cookie)
+
     names-owned : (ptr cookie : ℕ) → names_own s o a.process.made ptr cookie ≡ true → IsOwned
-    names-owned ptr cookie h = at (find (is_own_with a.process.made ptr cookie) s.objects) refl h
+    names-owned ptr cookie h = at (find (own_with ptr cookie) s.objects) refl h
       where
-        at : (f : Option Object) → find (is_own_with a.process.made ptr cookie) s.objects ≡ f → is_some_and f (λ (x : Object). same x.id o) ≡ true → IsOwned
+        at : (f : Option Object) → find (own_with ptr cookie) s.objects ≡ f → is_some_and f (λ (x : Object). same x.id o) ≡ true → IsOwned
         at None g k = absurd (cc)
         at (Some y) g k =
-            let l = find-in (is_own_with a.process.made ptr cookie) y s.objects g in
+            let l = find-in (own_with ptr cookie) y s.objects g in
             let t = both (y.owner == a.process.made) (y.ptr == ptr) (both ((y.owner == a.process.made) && (y.ptr == ptr)) (y.cookie == cookie) l.1).0 in
             owns-test s.objects a.process.made o (y, l.0, same-eq y.id o k, eqb-true y.owner a.process.made t.0)
 

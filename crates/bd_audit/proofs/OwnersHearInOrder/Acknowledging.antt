@@ -1,7 +1,8 @@
 -- For OwnersHearInOrder: an accepted acknowledgement is of what was heard and not yet acknowledged.
-use Rattle.bd_laws.proofs.words.Logic.{◌≡◌, ℕ, ◌+◌, suc, ◌≤◌, ◌==◌, Bool, true, false, cond, not, List, [], ◌∷◌, Some, Ok, inl, inr, refl, ap, sym, ◌∙◌, find, arith, list_any, eq-eqb}
+use Rattle.bd_laws.proofs.words.Logic.{◌&&◌, ◌≡◌, ℕ, ◌+◌, suc, ◌≤◌, ◌==◌, Bool, true, false, cond, not, List, [], ◌∷◌, Some, Ok, inl, inr, refl, ap, sym, ◌∙◌, find, arith, list_any, eq-eqb}
 use Rattle.bd_laws.proofs.words.Types.{DeadReply, ObjectId, Process, Actor, Object, Reference}
-use Rattle.bd_laws.proofs.words.Space.{same, without_first, owe, ripen, follow, Space, actor, lives_in, is_shaking, is_handshake, same_strength, closed, completed, is_own_with, done_check, acknowledge}
+use mathlib.Core.Bool.{beq}
+use Rattle.bd_laws.proofs.words.Space.{same, without_first, owe, ripen, follow, Space, actor, lives_in, is_shaking, is_handshake, closed, completed, done_check, acknowledge}
 use Rattle.bd_space.specs.declared.space.WorkKind.TheVariants as work
 use Rattle.bd_laws.proofs.words.Laws.{In, Before}
 use Rattle.bd_laws.proofs.Lists.{without-in, any-in}
@@ -57,6 +58,9 @@ waits-true b n h = search arith
 other-strength : (o : ObjectId) (r : Reference) (b : Bool) → is_shaking o (not b) r ≡ true → is_shaking o b r ≡ false
 other-strength o r b h = search (arith, shaking-parts)
 
+abbrev pub is_own_with : ℕ → ℕ → ℕ → Object → Bool
+is_own_with p ptr cookie x = (x.owner == p) && (x.ptr == ptr) && (x.cookie == cookie)
+
 pub done-checked : (s : Space) (p ptr cookie : ℕ) (strong : Bool) (y : Object) → done_check s p ptr cookie strong ≡ Ok y
     → (find (is_own_with p ptr cookie) s.objects ≡ Some y) × (list_any (is_shaking y.id strong) s.references ≡ true)
 unfolding done_check
@@ -90,7 +94,7 @@ module _ (o : ObjectId) (st : Hearing) (s : Space) (before : Before s) (h : Hear
   other-done i strong other x l e live =
       tells-same ⊥ ⊥ o s.references _ x st (record {
         shakes = λ b. tally-without (is_shaking o b) (is_shaking i strong) s.references (λ r k. shakes-object i strong r (λ f. other (sym f ∙ (shaking-parts o b r k).0)));
-        manages = λ r m f g. without-in (is_shaking i strong) r s.references m (and-false (same_strength strong r) (same r.object i) (is_handshake r.holder) (rw g refl));
+        manages = λ r m f g. without-in (is_shaking i strong) r s.references m (and-false (beq r.strong strong) (same r.object i) (is_handshake r.holder) (rw g refl));
       }) (λ n. n) (h.tracks x l e live)
 
   -- one Handshake of this strength less

@@ -1,7 +1,7 @@
 -- For OwnersHearInOrder: in every history the owner of an object hears of it in order.
 use Rattle.bd_laws.proofs.words.Logic.{◌≡◌, ℕ, ◌-◌, ◌==◌, Bool, true, false, cond, not, List, [], ◌∷◌, Option, Some, None, Result, Ok, Err, refl, ap, sym, subst, ◌∙◌, arith, list_any, is_some, eqb-true}
 use Rattle.bd_laws.proofs.words.Types.{Fault, Note, ObjectId, Parcel, Entry, Step, Command, Read, StepAnswer, Actor, Object, Buffer}
-use Rattle.bd_laws.proofs.words.Space.{same, is_some_and, Space, opening, actor, lives_in, is_shaking, list_to_read, follow, Outcome, refused, by_check, is_own_with, done_check, acknowledge, done_step, command_step, read_by, taken, buffer_taken, got, read_taking, read_fault, read_step, stream_of, change, counted, by_actor, History, IsHistory, Follows, EntryFollows, next}
+use Rattle.bd_laws.proofs.words.Space.{same, is_some_and, Space, opening, actor, lives_in, is_shaking, list_to_read, follow, Outcome, refused, by_check, done_check, acknowledge, command_step, read_by, taken, buffer_taken, got, read_taking, read_fault, read_step, stream_of, change, counted, by_actor, History, IsHistory, Follows, EntryFollows, next}
 use Rattle.bd_uapi.specs.declared.command.Command as command
 use Rattle.bd_uapi.specs.declared.command.Command.TheVariants as bc
 use Rattle.bd_laws.proofs.words.Laws.{In, IsTidy}
@@ -17,7 +17,7 @@ use Rattle.bd_audit.specs.Hearing.{Event, heard_in, names_own, is_got, is_accept
 use Rattle.bd_audit.proofs.OwnersHearInOrder.Orders.{hears-append, in-order, Hearing, unheard, hears_all}
 use Rattle.bd_audit.proofs.OwnersHearInOrder.Telling.{follow-told, quiet-step}
 use Rattle.bd_audit.proofs.OwnersHearInOrder.Tracking.{Tracks, HeardBefore}
-use Rattle.bd_audit.proofs.OwnersHearInOrder.Acknowledging.{done_event, done-checked, actor-alive, HeardAfter, silent-after, other-done, own-done, completed-after}
+use Rattle.bd_audit.proofs.OwnersHearInOrder.Acknowledging.{done_event, is_own_with, done-checked, actor-alive, HeardAfter, silent-after, other-done, own-done, completed-after}
 use Rattle.bd_audit.proofs.OwnersHearInOrder.Readings.{reads-all, read-list-once}
 
 -- ---- every step
@@ -96,8 +96,11 @@ module _ (o : ObjectId) (st : Hearing) (s : Space) (tidy : IsTidy s) (h : HeardB
       → (by_actor s f (λ a. command_step s a (cond strong (bc.AcquireDone ptr cookie) (bc.IncrefsDone ptr cookie)) parcel)).answer ≡ answer
       → HeardAfter o st s.steps (events (Command (cond strong (bc.AcquireDone ptr cookie) (bc.IncrefsDone ptr cookie)) parcel) f)
       (by_actor s f (λ a. command_step s a (cond strong (bc.AcquireDone ptr cookie) (bc.IncrefsDone ptr cookie)) parcel)).space
-  unfolding command_step done_step
-  goes-done strong ptr cookie parcel f e k = search (arith, same-space, done-after)
+  unfolding command_step
+  goes-done true ptr cookie parcel None e k = same-space
+  goes-done true ptr cookie parcel (Some a) e k = done-after a ptr cookie true (done_check s a.process.made ptr cookie true) e refl k
+  goes-done false ptr cookie parcel None e k = same-space
+  goes-done false ptr cookie parcel (Some a) e k = done-after a ptr cookie false (done_check s a.process.made ptr cookie false) e refl k
 
   -- ---- a reading
 

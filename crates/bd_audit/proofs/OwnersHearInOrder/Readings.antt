@@ -1,7 +1,8 @@
 -- For OwnersHearInOrder: a reading tells of an object what goes on from what was heard of it.
 use Rattle.bd_laws.proofs.words.Logic.{◌≡◌, ℕ, suc, ◌+◌, ◌-◌, ◌≤◌, Bool, true, false, cond, ◌&&◌, List, [], ◌∷◌, ◌++◌, Some, inl, inr, refl, ap, sym, subst, ◌∙◌, length, arith, flat_map, filter_map, nat_lt}
 use Rattle.bd_laws.proofs.words.Types.{Return, ObjectId, Object, Reference, Handshake, Work, Thread}
-use Rattle.bd_laws.proofs.words.Space.{same, Space, lives_in, held_in, strong_in, object_in, is_shaking, is_handshake, same_strength, notice_of, list_to_read, returns_of, returns_of_object, bytes_read, shakes, handshakes, told_objects, told_of, is_told_by, read_by, taken, ends_read}
+use mathlib.Core.Bool.{beq}
+use Rattle.bd_laws.proofs.words.Space.{changed, same, Space, lives_in, held_in, strong_in, object_in, is_shaking, is_handshake, notice_of, list_to_read, returns_of, returns_of_object, bytes_read, shakes, handshakes, told_of, is_told_by, read_by, taken, ends_read}
 use Rattle.bd_space.specs.declared.space.WorkKind.TheVariants as work
 use Rattle.bd_laws.proofs.words.Laws.{In, Before, Once}
 use Rattle.bd_laws.proofs.Lists.{in-left, in-append, in-changed, any-found, any-in, pairs-filter}
@@ -36,12 +37,12 @@ shaken-so references o b h = search (arith, any-found, tally-unmet, shaking-part
 unheld : (references : List Reference) (o : ObjectId) → ((r : Reference) → In r references → r.holder ≡ Handshake) → ((b : Bool) → shaken references o b ≡ 0)
     → (r : Reference) → In r references → r.object ≡ o → ⊥
 unheld references o all none r l e =
-    let own = and-both (same_strength r.strong r) (same r.object o) (own-strength r r.strong refl) (eq-same r.object o e) in
-    let yes = any-in (is_shaking o r.strong) r references l (and-both (same_strength r.strong r && same r.object o) (is_handshake r.holder) own (ap is_handshake (all r l))) in
+    let own = and-both (beq r.strong r.strong) (same r.object o) (own-strength r r.strong refl) (eq-same r.object o e) in
+    let yes = any-in (is_shaking o r.strong) r references l (and-both (beq r.strong r.strong && same r.object o) (is_handshake r.holder) own (ap is_handshake (all r l))) in
     let first = tally-first (is_shaking o r.strong) references yes in
     let no = none r.strong in absurd (omega arith)
   where
-    own-strength : (r : Reference) (b : Bool) → r.strong ≡ b → same_strength b r ≡ true
+    own-strength : (r : Reference) (b : Bool) → r.strong ≡ b → beq r.strong b ≡ true
     own-strength r b e = search arith
 
 returns-found : (s : Space) (o : ObjectId) (y : Object) → object_in s.objects o ≡ Some y
@@ -89,7 +90,7 @@ module _ (o : ObjectId) (st : Hearing) (s : Space) (before : Before s) (live : L
     shaken-is b = search (arith, tally-append, once-shaken, taken, shakes, returns-found)
 
     -- each object of this identity is the one that was told
-    told-is : (x : Object) → In x (told_objects s ws) → x.id ≡ o → x ≡ told_of s.references y
+    told-is : (x : Object) → In x (changed (λ x. is_told_by ws x.id) (told_of s.references) s.objects) → x.id ≡ o → x ≡ told_of s.references y
     told-is x l e = search (arith, in-changed, told-id, one-object, speaks-told, taken)
 
     reads-tells : Tells ⊥ s.references o y st → Reads

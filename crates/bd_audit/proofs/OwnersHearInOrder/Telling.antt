@@ -1,7 +1,8 @@
 -- For OwnersHearInOrder: what an owner was told of an object agrees with what it has heard of it.
 use Rattle.bd_laws.proofs.words.Logic.{◌≡◌, ℕ, ◌+◌, ◌≤◌, ◌==◌, Bool, true, false, not, ◌&&◌, ◌||◌, List, [], ◌∷◌, Option, Ok, inl, inr, refl, ap, sym, subst, ◌∙◌, filter, arith, eqb-true}
 use Rattle.bd_laws.proofs.words.Types.{TransactionData, ObjectId, Parcel, Step, Process, Actor, Frame, Object, Reference, Asked, Manager, Item, OfThread}
-use Rattle.bd_laws.proofs.words.Space.{same, with_looping, Space, lives_in, reference_of, held_in, owned_in, objects_go, is_asking, is_shaking, is_of_buffer, is_handshake, same_strength, names_go, assign_numbers, closed, owe, ripen, follow, notify, work_goes, deaths_go, Delivery, delivered, own_notices, add_buffer, known_by, refer, make_objects, buffer_references, transaction_check, transacted, reply_check, replied, ask, drop_asked, without_buffer, thread_goes, is_lost_reference, threads_go, without_process, is_dropped_with, with_thread, with_process, with_manager, is_spam, with_spam_detection}
+use mathlib.Core.Bool.{beq}
+use Rattle.bd_laws.proofs.words.Space.{same, with_looping, Space, lives_in, reference_of, held_in, owned_in, objects_go, is_asking, is_shaking, is_of_buffer, is_handshake, names_go, assign_numbers, closed, owe, ripen, follow, notify, work_goes, deaths_go, Delivery, delivered, own_notices, add_buffer, known_by, refer, make_objects, buffer_references, transaction_check, transacted, reply_check, replied, ask, drop_asked, without_buffer, thread_goes, is_lost_reference, threads_go, without_process, is_dropped_with, with_thread, with_process, with_manager, is_spam, with_spam_detection}
 use Rattle.bd_space.specs.declared.space.WorkKind.TheVariants as work
 use Rattle.bd_laws.proofs.words.Laws.{In, Pairs, Differ, KeptBefore, Before}
 use Rattle.bd_laws.proofs.Earlier.{in_order-differ}
@@ -180,7 +181,7 @@ module _ (o : ObjectId) (st : Hearing) where
           frees = λ p ptr b e t. same-told s _ (same-filter o s.references (λ (r : Reference). not (is_of_buffer b.made r.holder)) (λ r e own. rw (own-buffer r.holder own) refl)) h.tracks;
           asks = λ a n strong i e j t. same-told s _ (same-more o s.references (reference_of s.steps 0 i strong (Asked a.process.made) ∷ []) (one-unshaken _ refl)) h.tracks;
           drops = λ p i strong. same-told s _
-              (same-without o s.references (is_asking p i strong) (λ r own. and-false (same_strength strong r) (same r.object i) _ (own-unasked r.holder p own))) h.tracks;
+              (same-without o s.references (is_asking p i strong) (λ r own. and-false (beq r.strong strong) (same r.object i) _ (own-unasked r.holder p own))) h.tracks;
           acknowledges = λ i strong done. absurd (no_done strong done);
           loops = λ a looping e. h.tracks;
           on_deaths = on-commands s _ (on-kept H told-on_deaths s h.tracks);

@@ -1,7 +1,8 @@
 -- For OwnersHearInOrder: what has been heard of an object, what was told of it, and references that keep it.
 use Rattle.bd_laws.proofs.words.Logic.{arith, ◌≡◌, ℕ, ◌≤◌, Bool, true, false, cond, List, ◌++◌, None, ◌⊎◌, filter}
 use Rattle.bd_laws.proofs.words.Types.{ObjectId, Object, Reference, Holder, Manager}
-use Rattle.bd_laws.proofs.words.Space.{without_first, Space, lives_in, is_asked_by, is_shaking, is_in_window, is_handshake, is_of_owner, buffer_of_holder, same_strength}
+use mathlib.Core.Bool.{beq}
+use Rattle.bd_laws.proofs.words.Space.{without_first, Space, lives_in, is_asked_by, is_shaking, is_in_window, is_handshake, is_of_owner, buffer_of_holder}
 use Rattle.bd_laws.proofs.words.Laws.{In}
 use Rattle.bd_laws.proofs.Lists.{in-left, filter-in, without-in}
 use Rattle.bd_laws.proofs.Tests.{both, same-eq}
@@ -68,7 +69,7 @@ pub record HeardBefore (o : ObjectId) (st : Hearing) (s : Space) : Type 0 where
 
 -- ---- references
 
-pub shaking-parts : (o : ObjectId) (b : Bool) (r : Reference) → is_shaking o b r ≡ true → (r.object ≡ o) × (is_handshake r.holder ≡ true) × (same_strength b r ≡ true)
+pub shaking-parts : (o : ObjectId) (b : Bool) (r : Reference) → is_shaking o b r ≡ true → (r.object ≡ o) × (is_handshake r.holder ≡ true) × (beq r.strong b ≡ true)
 shaking-parts o b r h = search (arith, both, same-eq)
 
 handshake-own : (h : Holder) → is_handshake h ≡ true → is_of_owner h ≡ true

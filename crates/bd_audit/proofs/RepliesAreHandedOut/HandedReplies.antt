@@ -4,7 +4,7 @@ use Rattle.bd_laws.proofs.words.Logic.{arith, ◌≡◌, ℕ, ◌-◌, Bool, tru
 use Rattle.std.proofs.lemmas.List.Folds.{concat-append}
 use Rattle.std.specs.Option.{option_to_list}
 use Rattle.bd_laws.proofs.words.Types.{TransactionData, Return, Cause, Fault, Note, Parcel, Step, Open, Attach, SetManager, Command, Read, ExitThread, ExitProcess, StepAnswer, Got, Entry, Process, Object, Reference, Frame, Buffer, Work, Actor, DeathNotification, WorkKind, SetSpam}
-use Rattle.bd_laws.proofs.words.Space.{Space, opening, actor, thread_in, process_with_pid, object_in, list_to_read, Delivery, transaction_step, transaction_outcome, reply_step, reply_to, reply_outcome, free_step, free_outcome, is_made_at, ask_step, drop_step, done_step, request_step, is_notification, clear_step, death_done_step, death_done_outcome, command_step, read_taking, got, taken, buffer_taken, stream_of, bytes_read, buffer_in, data_of, returns_of, returns_of_object, exit_thread_step, exit_process_step, Outcome, by_check, change, open_step, open_outcome, open_fault, attach_step, attach_outcome, manager_step, manager_outcome, is_manager_busy, by_actor, History, IsHistory, Follows, after, spam_step}
+use Rattle.bd_laws.proofs.words.Space.{Space, opening, actor, thread_in, process_with_pid, object_in, list_to_read, Delivery, transaction_step, transaction_outcome, reply_step, reply_to, reply_outcome, free_step, free_outcome, is_made_at, is_notification, command_step, read_taking, got, taken, buffer_taken, stream_of, bytes_read, buffer_in, data_of, returns_of, returns_of_object, exit_thread_step, exit_process_step, Outcome, by_check, change, open_step, open_outcome, open_fault, attach_step, attach_outcome, manager_step, manager_outcome, is_manager_busy, by_actor, History, IsHistory, Follows, after, spam_step}
 use Rattle.bd_uapi.specs.declared.command.Command as command
 use Rattle.bd_uapi.specs.declared.command.Return.TheVariants as br
 use Rattle.bd_codec.specs.Spelling.{return_bytes}
@@ -98,12 +98,9 @@ free-silent s o = search arith
 check-silent : {A : Type 0} (s : Space) (f : A → Space) (r : Result A Note) → IsSilent (by_check s f r)
 check-silent s f r = search arith
 
-death_done-silent : (s : Space) (t : ℕ) (o : Option DeathNotification) → IsSilent (death_done_outcome s t o)
-death_done-silent s t o = search arith
-
 command-silent : (s : Space) (a : Actor) (c : command.Command) (parcel : Option Parcel) → IsSilent (command_step s a c parcel)
-unfolding command_step transaction_step reply_step free_step ask_step drop_step done_step request_step clear_step death_done_step
-command-silent s a c parcel = search (arith, transaction-silent, reply_to-silent, free-silent, check-silent, death_done-silent)
+unfolding command_step transaction_step reply_step free_step
+command-silent s a c parcel = search (arith, transaction-silent, reply_to-silent, free-silent, check-silent)
 
 open-silent : (s : Space) (seat pid euid window : ℕ) (o : Option Fault) → IsSilent (open_outcome s seat pid euid window o)
 open-silent s seat pid euid window o = search arith

@@ -2,7 +2,7 @@
 -- are due have behind them.
 use Rattle.bd_laws.proofs.words.Logic.{◌≡◌, ℕ, ◌-◌, Bool, true, false, cond, not, List, [], ◌∷◌, ◌++◌, length, Option, Some, None, Ok, refl, ap, sym, subst, ◌∙◌, length-append, arith, list_any, eqb-true, eq-eqb}
 use Rattle.bd_laws.proofs.words.Types.{TransactionData, Parcel, Command, Read, Entry, Work, Frame, Actor, Serving, OfThread}
-use Rattle.bd_laws.proofs.words.Space.{Space, opening, actor, owe, is_call, list_to_read, is_item, closed, is_frame, innermost, served_innermost, is_deepest_in, ripen, Delivery, delivered, completed, transaction_check, transacted, called, is_one_way, reply_check, replied, taken, read_by, serve, served_frames, read_fault, change, counted, after, next, is_spam}
+use Rattle.bd_laws.proofs.words.Space.{changed, Space, opening, actor, owe, is_call, list_to_read, is_item, closed, is_frame, innermost, served_innermost, is_deepest_in, ripen, Delivery, delivered, completed, transaction_check, transacted, called, is_one_way, reply_check, replied, taken, read_by, serve, read_fault, change, counted, after, next, is_spam}
 use Rattle.bd_uapi.specs.declared.command.Command.TheVariants as bc
 use Rattle.bd_space.specs.declared.space.WorkKind.TheVariants as work
 use Rattle.bd_laws.specs.Lists.{In}
@@ -161,7 +161,7 @@ module _ (es : List Entry) (e : Entry) (h : Traced es (after opening es)) where
           served : Frame → Bool
           served g = list_any (λ (w : Work). is_call g.made w.kind) items
 
-          was : (f : Frame) → In f (served_frames a.thread.seat items s.frames)
+          was : (f : Frame) → In f (changed (λ f. list_any (λ w. is_call f.made w.kind) items) (serve a.thread.seat) s.frames)
               → (g : Frame) × In g s.frames × (f.made ≡ g.made) × (f.caller ≡ g.caller) × (f.server ≡ (cond (list_any (λ (w : Work). is_call g.made w.kind) items) (serve a.thread.seat g) g).server)
           was f l =
               let g = in-changed (λ (g : Frame). list_any (λ (w : Work). is_call g.made w.kind) items) (serve a.thread.seat) f s.frames l in (

@@ -1,8 +1,8 @@
 -- For FollowingIsLocal, with lemmas for NothingIsPending: what a delivery leaves pending, at the objects that are sent, and
 -- nowhere else.
-use Rattle.bd_laws.proofs.words.Logic.{◌≡◌, ℕ, ◌==◌, Bool, true, false, ◌||◌, List, [], ◌∷◌, ◌++◌, Option, Some, ◌⊎◌, inl, inr, refl, sym, ◌∙◌, map, arith, list_any, not, ◌&&◌, ap, filter, list_any-append}
+use Rattle.bd_laws.proofs.words.Logic.{fold, ◌≡◌, ℕ, ◌==◌, Bool, true, false, ◌||◌, List, [], ◌∷◌, ◌++◌, Option, Some, ◌⊎◌, inl, inr, refl, sym, ◌∙◌, map, arith, list_any, not, ◌&&◌, ap, filter, list_any-append}
 use Rattle.bd_laws.proofs.words.Types.{TransactionData, ObjectId, Object, Reference, Name, Item, Actor, Work, DeathNotification, WorkKind, TodoList, OfThread}
-use Rattle.bd_laws.proofs.words.Space.{buffer_of, same, is_some_and, Space, object_in, held_in, strong_in, is_named_in, with_name, with_names, assign_numbers, with_work, is_call, wants_notice, has_notice_in, is_name_of, object_of_item, Delivery, delivered, own_notices, add_buffer, known_by, refer, make_objects, buffer_references, ObjectTest, no_name, objects_of_items, lives_in, owned_in, stays_in, is_notice, add_notice, withdraw_notice}
+use Rattle.bd_laws.proofs.words.Space.{buffer_of, same, is_some_and, Space, object_in, held_in, strong_in, is_named_in, with_name, assign_numbers, with_work, is_call, wants_notice, has_notice_in, is_name_of, object_of_item, Delivery, delivered, own_notices, add_buffer, known_by, refer, make_objects, buffer_references, ObjectTest, no_name, objects_of_items, lives_in, owned_in, stays_in, is_notice, add_notice, withdraw_notice}
 use Rattle.bd_space.specs.declared.space.WorkKind.TheVariants as work
 use Rattle.bd_laws.proofs.words.Laws.{In, KeptBefore, Elsewhere, IsFollowed}
 use Rattle.bd_laws.proofs.Lists.{in-push, in-filter, filter-in, any-found, any-in, find-in, fold-keeps, in-append}
@@ -15,7 +15,7 @@ use Rattle.bd_laws.proofs.FollowingIsLocal.Finding.{any-more, any-same, any-none
 -- ---- names that come are named
 
 pub with_names-named : (manager : Option ObjectId) (objects : List Object) (references : List Reference) (p : ℕ) (os : List ObjectId) (names : List Name) (m : Name)
-    → In m (with_names manager objects references p names os) → In m names ⊎ (is_named_in objects references m.process m.object ≡ true)
+    → In m (fold (with_name manager objects references p) names os) → In m names ⊎ (is_named_in objects references m.process m.object ≡ true)
 with_names-named manager objects references p [] names m l = inl l
 with_names-named manager objects references p (o ∷ os) names m l = search (arith, with_names-named manager objects references p os (with_name manager objects references p names o) m l, in-push)
 

@@ -1,7 +1,7 @@
 -- For FollowingIsLocal, with lemmas for NothingIsPending: of a reading, only objects whose Notices it takes need a look.
 use Rattle.bd_laws.proofs.words.Logic.{arith, ◌≡◌, ℕ, ◌==◌, true, false, not, ◌&&◌, ◌||◌, List, ◌++◌, refl, ap, sym, subst, ◌∙◌, list_any, list_any-append}
 use Rattle.bd_laws.proofs.words.Types.{ObjectId, Thread, Object, Reference, DeathNotification, Work, WorkKind, Told}
-use Rattle.bd_laws.proofs.words.Space.{same, is_some_and, Space, lives_in, object_in, held_in, strong_in, is_item, is_notice, notice_of, list_to_read, without_taken, wants_notice, follow, read_by, taken, handshakes, is_told_by, told_objects, is_told_of_death, ObjectTest, no_name, follow_of}
+use Rattle.bd_laws.proofs.words.Space.{changed, told_of, same, is_some_and, Space, lives_in, object_in, held_in, strong_in, is_item, is_notice, notice_of, list_to_read, without_taken, wants_notice, follow, read_by, taken, handshakes, is_told_by, is_told_of_death, ObjectTest, no_name, follow_of}
 use Rattle.bd_laws.proofs.words.Laws.{In, Elsewhere, IsQuiet, Distinct}
 use Rattle.bd_laws.proofs.Lists.{in-filter, in-changed, any-changed, find-changed, any-found, any-in, find-in}
 use Rattle.bd_laws.proofs.Tests.{and-both, same-eq, eq-same, notice-kind, to-false}
@@ -40,11 +40,11 @@ module _ (s : Space) (t : Thread) (seat left : ℕ) (h : IsQuiet s) (distinct : 
   wants-same x none = search (arith, same-said)
 
   -- an object that wasn't told is as it was
-  was : (x : Object) → In x (told_objects s ws) → told x.id ≡ false → In x s.objects
+  was : (x : Object) → In x (changed (λ x. is_told_by ws x.id) (told_of s.references) s.objects) → told x.id ≡ false → In x s.objects
   was x l none = search (arith, in-changed)
 
   read-due : (o : ObjectId) → told o ≡ false → is_some_and (object_in s.objects o) (wants_notice s.processes s.references) ≡ true
-      → is_some_and (object_in (told_objects s ws) o) (wants_notice s.processes more) ≡ true
+      → is_some_and (object_in (changed (λ x. is_told_by ws x.id) (told_of s.references) s.objects) o) (wants_notice s.processes more) ≡ true
   read-due o none due = search (arith, find-changed, find-in, wants-same)
 
   -- a Notice of an object that wasn't told isn't taken

@@ -1,7 +1,7 @@
 -- For SpacesAreTidy and the audit's laws: what a step leaves of processes, objects and buffers, and what it makes.
-use Rattle.bd_laws.proofs.words.Logic.{suc, ◌≡◌, ℕ, ◌==◌, Bool, true, false, cond, not, List, [], ◌∷◌, ◌++◌, Some, ◌⊎◌, inl, inr, refl, ap, sym, ◌∙◌, filter, arith, eqb-true, eq-eqb}
+use Rattle.bd_laws.proofs.words.Logic.{◌&&◌, suc, ◌≡◌, ℕ, ◌==◌, Bool, true, false, cond, not, List, [], ◌∷◌, ◌++◌, Some, ◌⊎◌, inl, inr, refl, ap, sym, ◌∙◌, filter, arith, eqb-true, eq-eqb}
 use Rattle.bd_laws.proofs.words.Types.{ObjectId, Step, Entry, Process, Buffer, Turn, Work, TodoList, OfThread, OfProcess}
-use Rattle.bd_laws.proofs.words.Space.{Space, with_work, hands_out, is_on, closed, turn_of, turns_of, is_ripe, ripened, ripen, follow, is_buffer_at, buffer_at_pointer, thread_goes, is_lost_with, threads_go, without_process, tell_deaths, change}
+use Rattle.bd_laws.proofs.words.Space.{pointer, Space, with_work, hands_out, is_on, closed, turn_of, turns_of, is_ripe, ripened, ripen, follow, buffer_at_pointer, thread_goes, is_lost_with, threads_go, without_process, tell_deaths, change}
 use Rattle.bd_space.specs.declared.space.WorkKind.TheVariants as work
 use Rattle.bd_laws.proofs.words.Laws.{In, InTurn, On, OnLists}
 use Rattle.bd_laws.proofs.Lists.{in-filter, filter-in, any-found, find-in, in-filter_map, all-push}
@@ -94,7 +94,7 @@ ends-passed s p l =
 
 pub at_pointer-in : (s : Space) (p ptr : ℕ) (b : Buffer) → buffer_at_pointer s p ptr ≡ Some b → In b s.buffers
 unfolding buffer_at_pointer
-at_pointer-in s p ptr b h = (find-in (is_buffer_at p ptr) b s.buffers h).0
+at_pointer-in s p ptr b h = (find-in (λ (x : Buffer). (x.receiver == p) && (pointer x == ptr)) b s.buffers h).0
 
 pub record Passing (s z : Space) : Type 0 where
   pub turns : Turning z

@@ -2,7 +2,7 @@
 -- so, and that the commands on death notifications do.
 use Rattle.bd_laws.proofs.words.Logic.{arith, ◌≡◌, ℕ, suc, ◌==◌, true, ◌&&◌, Some, inl, inr, refl, sym, ap, ◌∙◌, eqb-true, ◌<◌, Bool, cond, List, ◌++◌, [], ◌∷◌}
 use Rattle.bd_laws.proofs.words.Types.{ObjectId, DeathNotification, Phase, Queued, Armed, Done, OfThread, OfProcess, Work, TodoList}
-use Rattle.bd_laws.proofs.words.Space.{owner_lives_in, Space, owe, is_notification, requested, with_death, without_death, with_phase, mark_cleared, death_ended, cleared, death_done, is_out, is_told, told_death, is_told_with, changed, with_work}
+use Rattle.bd_laws.proofs.words.Space.{is_some_and, object_in, lives_in, Space, owe, is_notification, requested, with_death, without_death, with_phase, mark_cleared, death_ended, cleared, death_done, is_out, is_told, told_death, is_told_with, changed, with_work}
 use Rattle.bd_space.specs.declared.space.WorkKind.TheVariants as work
 use Rattle.bd_laws.proofs.words.Laws.{In, Queues}
 use Rattle.bd_laws.proofs.Lists.{in-push, find-in, in-filter, in-changed, pairs-push, pairs-filter, pairs-changed}
@@ -66,7 +66,7 @@ with_death-q s p o cookie phase h = death-more (suc s.steps) s.todo s.deaths _ (
 requested-q : (s : Space) (p : ℕ) (o : ObjectId) (cookie : ℕ) → Before s → Q (suc s.steps) (requested s p o cookie)
 unfolding requested with_death owe
 requested-q s p o cookie h =
-    either (Q (suc s.steps)) (owner_lives_in s.processes s.objects o) _ _ (with_death-q s p o cookie Armed h)
+    either (Q (suc s.steps)) (is_some_and (object_in s.objects o) (λ x. lives_in s.processes x.owner)) _ _ (with_death-q s p o cookie Armed h)
     (death-item (suc s.steps) s.steps s.steps s.todo _ (OfProcess p) h.silent (λ x l e. elim (in-push x _ s.deaths l) [
       | inl i ↦ absurd (unborn s h x i e)
       | inr is ↦ (sym (ap (λ (y : DeathNotification). y.phase) is), ap (λ (y : DeathNotification). OfProcess y.process) is)

@@ -2,7 +2,7 @@
 -- their identities differ: part by part.
 use Rattle.bd_laws.proofs.words.Logic.{find, filter, ◌≡◌, ℕ, Bool, true, false, List, [], ◌∷◌, ◌++◌, Option, Some, inl, inr, refl, ap, sym, subst, ◌∙◌, arith, eq-eqb}
 use Rattle.bd_laws.proofs.words.Types.{Step, TransactionData, ObjectId, Object, Reference, Frame, Actor, Work, DeathNotification, WorkKind, TodoList, OfThread, OfProcess, Queued}
-use Rattle.bd_laws.proofs.words.Space.{same, is_some_and, Space, object_in, stays_in, objects_go, names_go, assign_numbers, closed, goes_to, with_work, owe, ripen, wants_notice, still_due, deaths_go, work_goes, notify, follow, Delivery, delivered, own_notices, add_buffer, known_by, refer, make_objects, buffer_references, transacted, called, call_out, replied, request_check, requested, with_death, without_death, with_phase, owner_lives_in, mark_cleared, death_ended, cleared, death_done, is_out, read_by, thread_goes, threads_go, without_process, tell_deaths, buffer_of, without_buffer, ask, drop_asked, acknowledge, with_looping}
+use Rattle.bd_laws.proofs.words.Space.{lives_in, same, is_some_and, Space, object_in, stays_in, objects_go, names_go, assign_numbers, closed, goes_to, with_work, owe, ripen, wants_notice, still_due, deaths_go, work_goes, notify, follow, Delivery, delivered, own_notices, add_buffer, known_by, refer, make_objects, buffer_references, transacted, called, call_out, replied, request_check, requested, with_death, without_death, with_phase, mark_cleared, death_ended, cleared, death_done, is_out, read_by, thread_goes, threads_go, without_process, tell_deaths, buffer_of, without_buffer, ask, drop_asked, acknowledge, with_looping}
 use Rattle.bd_space.specs.declared.space.WorkKind.TheVariants as work
 use Rattle.bd_laws.proofs.words.Laws.{In, Distinct, Fresh, Told, IsQuiet}
 use Rattle.bd_laws.proofs.Lists.{in-last, in-push, in-filter, filter-in, any-in, find-in}
@@ -154,7 +154,7 @@ ended-mid s t x h = search (arith, owe-mid, fewer-mid)
 commands-mid : (s : Space) → Told s → IsQuiet s → DeathCommands s (Mid s.steps)
 unfolding requested with_death cleared mark_cleared death_done with_phase deaths_go names_go objects_go request_check
 commands-mid s h quiet = record {
-  requests = λ p n cookie o e. either (Mid s.steps) (owner_lives_in s.processes s.objects o) _ _ (fewer-mid s _ h refl (λ w l. l))
+  requests = λ p n cookie o e. either (Mid s.steps) (is_some_and (object_in s.objects o) (λ x. lives_in s.processes x.owner)) _ _ (fewer-mid s _ h refl (λ w l. l))
       (owe-mid s.steps (with_death s p o cookie Queued) (OfProcess p) (work.Death s.steps) (search (arith, and_then-ok, unless-ok, named-has, found-ok, filter-in, any-in, and-both, eq-eqb, eq-same, in-last)) (fewer-mid s _ h refl (λ w l. l)));
   clears = λ t x. either (Mid s.steps) (is_out x.phase) _ _ (fewer-mid s _ h refl (λ w l. l)) (ended-mid s t x h);
   dones = λ t p cookie x e. either (Mid s.steps) x.cleared _ _ (ended-mid s t x h) (fewer-mid s _ h refl (λ w l. l));

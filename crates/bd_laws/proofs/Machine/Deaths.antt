@@ -1,6 +1,6 @@
 -- For every law: parts of a step that change death notifications, and add work items of them alone.
 use Rattle.bd_laws.proofs.words.Types.{ObjectId, DeathNotification, OfThread, OfProcess}
-use Rattle.bd_laws.proofs.words.Space.{Space, owe, request_check, with_phase, with_death, without_death, requested, owner_lives_in, told_death, mark_cleared, death_ended, cleared, death_done, is_out, tell_death, tell_deaths}
+use Rattle.bd_laws.proofs.words.Space.{is_some_and, object_in, lives_in, Space, owe, request_check, with_phase, with_death, without_death, requested, told_death, mark_cleared, death_ended, cleared, death_done, is_out, tell_death, tell_deaths}
 use Rattle.std.proofs.Common.{arith, ◌≡◌, ℕ, Bool, cond, List, Some, Ok}
 use Rattle.bd_space.specs.declared.space.WorkKind.TheVariants as work
 use Rattle.bd_laws.proofs.Lists.{fold-keeps}
@@ -17,7 +17,7 @@ either R b z y h k = search arith
 module _ (z : Space) (R : Space → Type 0) (k : OnDeaths z R) where
   pub on-requested : (p : ℕ) (o : ObjectId) (cookie : ℕ) → R (requested z p o cookie)
   unfolding requested with_death
-  on-requested p o cookie = either R (owner_lives_in z.processes z.objects o) _ _ (k.others _) (k.dies _ p z.steps)
+  on-requested p o cookie = either R (is_some_and (object_in z.objects o) (λ x. lives_in z.processes x.owner)) _ _ (k.others _) (k.dies _ p z.steps)
 
   on-ended : (t : ℕ) (x : DeathNotification) → R (death_ended z t x)
   unfolding death_ended without_death

@@ -1,7 +1,7 @@
 -- For every law: what holds after every step, from what its parts leave: the walk over them.
 use Rattle.bd_laws.proofs.words.Logic.{arith, ◌≡◌, ℕ, ◌-◌, Bool, true, false, cond, List, Option, Some, None, Result, Ok, refl}
-use Rattle.bd_laws.proofs.words.Types.{TransactionData, Note, Cause, NoCall, ObjectId, Parcel, Step, Open, Attach, SetManager, Command, Read, ExitThread, ExitProcess, Process, Thread, Object, Reference, Frame, Buffer, DeathNotification, Actor, OfThread, Accepted, Noted, NotHandedOut, SetSpam}
-use Rattle.bd_laws.proofs.words.Space.{Space, actor, thread_in, served_innermost, owe, list_to_read, settle, Delivery, transaction_step, transaction_outcome, transaction_check, transacted, refusal, reply_step, reply_to, reply_outcome, reply_check, replied, reply_refused, free_step, free_outcome, buffer_at_pointer, without_buffer, ask_step, ask_check, ask, drop_step, drop_asked, done_step, acknowledge, request_step, request_check, requested, told_death, cleared, clear_step, death_done_step, death_done_outcome, command_step, with_looping, follow, read_step, read_taking, read_fault, read_by, taken, thread_goes, exit_thread_step, threads_go, without_process, tell_deaths, exit_process_step, Outcome, completed, by_check, ripen, change, open_step, attach_step, manager_step, is_manager_busy, by_actor, with_thread, with_process, with_manager, spam_step, with_spam_detection}
+use Rattle.bd_laws.proofs.words.Types.{TransactionData, Note, Cause, NoCall, ObjectId, Parcel, Step, Open, Attach, SetManager, Command, Read, ExitThread, ExitProcess, Process, Thread, Object, Reference, Frame, Buffer, DeathNotification, Actor, OfThread, Accepted, Noted, NotHandedOut, NoneTold, SetSpam}
+use Rattle.bd_laws.proofs.words.Space.{death_done, ok_or, Space, actor, thread_in, served_innermost, owe, list_to_read, settle, Delivery, transaction_step, transaction_outcome, transaction_check, transacted, refusal, reply_step, reply_to, reply_outcome, reply_check, replied, reply_refused, free_step, free_outcome, buffer_at_pointer, without_buffer, ask_check, ask, drop_asked, acknowledge, request_check, requested, told_death, cleared, command_step, with_looping, follow, read_step, read_taking, read_fault, read_by, taken, thread_goes, exit_thread_step, threads_go, without_process, tell_deaths, exit_process_step, Outcome, completed, by_check, ripen, change, open_step, attach_step, manager_step, is_manager_busy, by_actor, with_thread, with_process, with_manager, spam_step, with_spam_detection}
 use Rattle.bd_uapi.specs.declared.command.Command.TheVariants as bc
 use Rattle.bd_space.specs.declared.space.WorkKind.TheVariants as work
 use Rattle.bd_laws.proofs.Machine.Deaths.{DeathCommands}
@@ -105,11 +105,11 @@ module _ (s : Space) (seat : ℕ) (x : Step) (M F : Space → Type 0) (k : Endin
   clears-of : (t : ℕ) (r : Result DeathNotification Note) → F (by_check s (cleared s t) r).space
   clears-of t r = search arith
 
-  is_done-of : (t p cookie : ℕ) (o : Option DeathNotification) → told_death s p cookie ≡ o → F (death_done_outcome s t o).space
+  is_done-of : (t p cookie : ℕ) (o : Option DeathNotification) → told_death s p cookie ≡ o → F (by_check s (death_done s t) (ok_or o NoneTold)).space
   is_done-of t p cookie o e = search arith
 
   changes : (y : Step) → x ≡ y → F (change s seat y).space
-  unfolding change open_step attach_step manager_step spam_step read_step exit_thread_step exit_process_step read_taking ask_step clear_step command_step death_done_step done_step drop_step free_step reply_step request_step transaction_step
+  unfolding change open_step attach_step manager_step spam_step read_step exit_thread_step exit_process_step read_taking command_step free_step reply_step transaction_step
   changes (Open pid euid window) e = search arith
   changes (Attach pid) e = search arith
   changes SetManager e = acts (actor s seat) _ refl (λ a h. search arith)

@@ -2,7 +2,7 @@
 use Rattle.bd_laws.proofs.words.Logic.{arith, ◌≡◌, ℕ, ◌==◌, ◌-◌, ◌+◌, suc, Bool, true, false, cond, not, ◌&&◌, ◌||◌, List, [], ◌∷◌, ◌++◌, Option, Some, None, Ok, ◌⊎◌, inl, inr, refl, ap, sym, subst, ◌∙◌, filter, map, find, list_any, eqb-true, eq-eqb, count_by, option_or}
 use Rattle.std.proofs.lemmas.List.Folds.{find-append}
 use Rattle.bd_laws.proofs.words.Types.{ObjectId, Process, Thread, Object, Reference, Name, DeathNotification, Frame, Actor, Parcel, Buffer, Work, Step, Command, Read, Return, DeadReply, FailedReply, TransactionComplete, TransactionData, TodoList, OfThread, OfProcess, WorkKind, Server, Pending, Serving, Gone, Cause, Turn}
-use Rattle.bd_laws.proofs.words.Space.{Space, changed, takes_part, calls, serves, is_gone, is_frame, thread_in, actor, closed, owe, tell_caller, is_some_and, with_work, keeps_from_calling, is_on, is_call, still_due, follow, work_goes, notify, names_go, objects_go, deaths_go, ripen, settle, tell_deaths, thread_goes, threads_go, without_process, frame_without, unread_frame, seat_of, call_out, called, delivered, transacted, replied, reply_refused, served_innermost, is_abandoned, Delivery, read_by, taken, list_to_read, serve, served_frames, is_spam, refusal, with_thread, with_process, with_looping, with_manager, with_spam_detection, without_buffer, ask, drop_asked, acknowledge, assign_numbers, cleared, requested, death_done, change}
+use Rattle.bd_laws.proofs.words.Space.{Space, changed, takes_part, calls, serves, is_gone, is_frame, thread_in, actor, closed, owe, tell_caller, is_some_and, with_work, keeps_from_calling, is_on, is_call, still_due, follow, work_goes, notify, names_go, objects_go, deaths_go, ripen, settle, tell_deaths, thread_goes, threads_go, without_process, frame_without, unread_frame, seat_of, call_out, called, delivered, transacted, replied, reply_refused, served_innermost, is_abandoned, Delivery, read_by, taken, list_to_read, serve, is_spam, refusal, with_thread, with_process, with_looping, with_manager, with_spam_detection, without_buffer, ask, drop_asked, acknowledge, assign_numbers, cleared, requested, death_done, change}
 use Rattle.bd_space.specs.declared.space.WorkKind.TheVariants as work
 use Rattle.bd_laws.proofs.words.Laws.{In, Framed, OnPaths, OtherFrame, Pairs}
 use Rattle.bd_laws.proofs.Lists.{in-left, in-last, filter-in, in-filter, find-in, fold-keeps, any-found}

@@ -40,7 +40,7 @@ pub use Rattle.bd_uapi.specs.declared.fault.Cause.TheVariants.{CallerGone, DeadO
 pub use Rattle.bd_uapi.specs.declared.fault.Fault.{Fault}
 pub use Rattle.bd_uapi.specs.declared.fault.Fault.TheVariants.{NoMemory}
 pub use Rattle.bd_uapi.specs.declared.fault.Note.{Note}
-pub use Rattle.bd_uapi.specs.declared.fault.Note.TheVariants.{NoHandshake, NoSuchNumber, NoSuchObject, NotHandedOut}
+pub use Rattle.bd_uapi.specs.declared.fault.Note.TheVariants.{NoHandshake, NoneTold, NoSuchNumber, NoSuchObject, NotHandedOut}
 pub use Rattle.bd_uapi.specs.declared.object.FlatObject.{FlatObject}
 pub use Rattle.bd_uapi.specs.declared.object.ObjectKind.{ObjectKind}
 pub use Rattle.bd_uapi.specs.declared.object.ObjectKind.TheVariants.{Binder, Handle, WeakBinder, WeakHandle}

@@ -4,7 +4,7 @@ use Rattle.std.proofs.lemmas.List.{take_all}
 use Rattle.std.proofs.lemmas.List.Folds.{list_any_more}
 use Rattle.bd_space.specs.Words.{changed, is_some_and}
 use Rattle.bd_space.specs.Todo.{death_of}
-use Rattle.bd_space.specs.ReadItems.{told_deaths, is_told_of_death}
+use Rattle.bd_space.specs.ReadItems.{is_told_of_death}
 use Rattle.bd_space.specs.declared.space.Work.{Work}
 use Rattle.bd_space.specs.declared.space.DeathNotification.{DeathNotification}
 use Rattle.bd_space.specs.declared.space.Phase.TheVariants.{Told}
@@ -21,7 +21,9 @@ loop-w-init c = record {
 
 -- one more item
 read-next : (ws : List Work) (k : ℕ) (d : Work) (xs : List DeathNotification) → k < length ws
-    → changed (λ x. is_some_and (death_of (get_or ws k d).kind) (λ n. n == x.made)) (λ x. record x { phase = Told }) (told_deaths (take k ws) xs) ≡ told_deaths (take (k + 1) ws) xs
+    → changed (λ x. is_some_and (death_of (get_or ws k d).kind) (λ n. n == x.made)) (λ x. record x { phase = Told })
+    (changed (is_told_of_death (take k ws)) (λ x. record x { phase = Told }) xs)
+    ≡ changed (is_told_of_death (take (k + 1) ws)) (λ x. record x { phase = Told }) xs
 read-next ws k d xs h =
     let told = λ (x : DeathNotification). record x { phase = Told } in
     let here = λ (x : DeathNotification). is_some_and (death_of (get_or ws k d).kind) (λ n. n == x.made) in
@@ -38,4 +40,4 @@ loop-w-preserved c = record {
 
 pub returns-clause-stands : goal.returns-clause-stands
 returns-clause-stands c = λ l h.
-    subst (λ ws. AreIn c.loop-w.self (told_deaths ws l)) (take_all c.loop-w.w-index c.args.taken.now (omega arith)) (c.loop-w.invariant.so_far l h)
+    subst (λ ws. AreIn c.loop-w.self (changed (is_told_of_death ws) (λ x. record x { phase = Told }) l)) (take_all c.loop-w.w-index c.args.taken.now (omega arith)) (c.loop-w.invariant.so_far l h)

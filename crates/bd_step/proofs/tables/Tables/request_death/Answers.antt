@@ -1,5 +1,5 @@
 use Rattle.std.proofs.Common.{sym}
-use Rattle.bd_space.specs.Deaths.{request_step, request_check, requested}
+use Rattle.bd_space.specs.Deaths.{request_check, requested}
 use Rattle.bd_laws.proofs.Others.{requested-local}
 use Rattle.bd_step.proofs.Accepting.{checked-notes, checked-accepts-alone}
 use Rattle.bd_step.proofs.New.{new-death}
@@ -7,13 +7,11 @@ use Rattle.bd_step.proofs.Meeting.{taken-step}
 use Rattle.bd_step.proofs.tables.Tables.request_death.Goals as goal
 
 pub returns-in-Err-clause-step : goal.returns-in-Err-clause-step
-unfolding request_step
 returns-in-Err-clause-step c = taken-step _ _ _ _ _ (
     checked-notes _ _ (λ s o. requested s c.args.a.process.made o c.args.cookie) (λ s. request_check s c.args.a.process.made c.args.n) _
     (λ s h. c.in-Err.ensures s h.objects_stand))
 
 pub returns-clause-step : goal.returns-clause-step
-unfolding request_step
 returns-clause-step c = taken-step _ _ _ _ _ (
     checked-accepts-alone _ _ (λ s o. requested s c.args.a.process.made o c.args.cookie) (λ s. request_check s c.args.a.process.made c.args.n) _
     (λ s h. c.in-Ok.ensures s h.objects_stand) _ _ c.reserve.ensures.stands

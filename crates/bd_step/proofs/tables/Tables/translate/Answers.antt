@@ -1,5 +1,6 @@
 use Rattle.std.proofs.Common.{arith, ◌∙◌}
-use Rattle.bd_space.specs.Parcels.{translation, translate_item}
+use Rattle.bd_uapi.specs.Records.{object_bytes}
+use Rattle.bd_space.specs.{Words.{overwritten}, Parcels.{translation, translated}}
 use Rattle.bd_step.proofs.Deliveries.{translated-more, fold-all}
 use Rattle.bd_step.proofs.tables.Tables.translate.Goals as goal
 
@@ -9,4 +10,4 @@ loop-x-preserved c = λ n s h.
 
 pub returns : goal.returns
 unfolding translation
-returns c = λ n s h. c.loop-x.invariant n s h ∙ fold-all (translate_item s.objects s.names c.args.q) c.args.bytes.now c.args.items.now c.loop-x.x-index (omega arith)
+returns c = λ n s h. c.loop-x.invariant n s h ∙ fold-all (λ bytes x. overwritten bytes x.at (object_bytes (translated s.objects s.names c.args.q x))) c.args.bytes.now c.args.items.now c.loop-x.x-index (omega arith)

@@ -1,5 +1,6 @@
-use Rattle.std.proofs.Common.{◌∙◌, ap, sym}
-use Rattle.bd_space.specs.ProcessExits.{without_process, manager_without}
+use Rattle.std.proofs.Common.{◌∙◌, ap, sym, Some, None}
+use Rattle.std.specs.Prelude.{if◌then◌else◌, option_and_then}
+use Rattle.bd_space.specs.{References.{owned_in}, ProcessExits.{without_process}}
 use Rattle.bd_step.proofs.tables.Tables.without_process.Goals as goal
 
 pub returns-clause-stands : goal.returns-clause-stands
@@ -8,7 +9,7 @@ returns-clause-stands c = λ s h. record {
   own = record {
     steps_are = h.own.steps_are;
     processes_are = c.remove.ensures.stands s.processes h.own.processes_are;
-    manager_is = ap (manager_without s.objects c.args.p) h.own.manager_is ∙ sym (c.manager_without-self.ensures s h.objects_stand);
+    manager_is = ap (option_and_then (λ o. if owned_in s.objects c.args.p o then None else Some o)) h.own.manager_is ∙ sym (c.manager_without-self.ensures s h.objects_stand);
   };
   objects_stand = c.without_process.ensures.stands s h.objects_stand;
   calls_stand = c.process_goes.ensures.stands s h.calls_stand;
