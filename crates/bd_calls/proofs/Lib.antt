@@ -12,4 +12,5 @@ pub mod Plain
 pub mod Rooms
 pub mod Seats
 pub mod Settling
+pub mod Threads
 pub mod Works

@@ -129,7 +129,8 @@ impl ReadySeats {
         }
     }
 
-    fn forget_seat(&mut self, seat: u32)
+    /// The seat's thread may have changed, or what is on its list.
+    pub(crate) fn forget_seat(&mut self, seat: u32)
         ensures { spec.KeepsOnly self.old self.new (λ at _. seat == at) }
     {
         let at = seat as usize;

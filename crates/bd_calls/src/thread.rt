@@ -1,7 +1,7 @@
 //! Threads.
 #![tactic(auto, unfolding(bd_space::specs::Steps::with_thread, bd_space::specs::Steps::with_looping, crate::specs::Room::rooms, crate::specs::Told::Recalls, crate::specs::Told::HasRoomToTell))]
 
-ghost use Rattle.std.specs.Prelude.{◌≡◌, ◌==◌, ◌≤◌, map, filter, length, IfOk, OnErr};
+ghost use Rattle.std.specs.Prelude.{◌≡◌, ◌==◌, ◌≤◌, None, map, filter, length, IfOk, OnErr};
 ghost use Rattle.bd_space.specs.{Seats.{thread_in}, ProcessExits.{seat_of}};
 
 use crate::table::CallTable;
@@ -10,7 +10,7 @@ use std::alloc::{AllocError, Global};
 
 impl CallTable {
     ghost use Rattle.bd_space.specs.{Space.{Space}, Steps.{with_thread, with_looping}};
-    ghost use Rattle.bd_ways.specs.Tables.{Tells, Makes, MakesAt};
+    ghost use Rattle.bd_ways.specs.Tables.{Tells, Makes, MakesWhere, IsAt};
     ghost use Rattle.bd_calls.specs.{Stands.{StandsFor}, Told.{KeepsTold, ReachesFew}, Room.{Uses, UsesNothing, nothing, thread_room}};
 
     /// The live thread of a seat.
@@ -31,16 +31,17 @@ impl CallTable {
         self.threads.seats_of(alloc, process)
     }
 
-    /// A thread comes in, made at this place.
+    /// A thread comes in, made at this place, for a seat that has none.
     pub fn add_thread(&mut self, place: u32, seat: u32, process: u32)
         requires { 1 ≤ thread_room self.old }
-        ensures stands { MakesAt place (StandsFor self.old) (StandsFor self.new) (λ s. with_thread s seat process) }
+        ensures stands { MakesWhere (StandsFor self.old) (λ s. IsAt place s × (thread_in s.threads seat ≡ None))
+            (StandsFor self.new) (λ s. with_thread s seat process) }
         ensures uses { Uses self.old self.new (record nothing { threads = 1 }) }
         ensures told { KeepsTold self.old self.new }
         ensures few { ReachesFew 0 self.old self.new }
     {
         self.sure_room = self.sure_room.saturating_sub(1);
-        self.ready.forget_all();
+        self.ready.forget_seat(seat);
         self.threads.push(Thread {
             made: place,
             seat,
@@ -56,7 +57,7 @@ impl CallTable {
         ensures told { KeepsTold self.old self.new }
         ensures few { ReachesFew 0 self.old self.new }
     {
-        self.ready.forget_all();
+        self.ready.forget_seat(seat);
         self.threads.set_looping(seat, looping);
     }
 }

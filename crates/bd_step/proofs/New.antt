@@ -30,7 +30,7 @@ use Rattle.bd_laws.proofs.Sendings.{Made, none-made, resolves, resolved-by, send
 use Rattle.bd_nodes.specs.New.{IsNewIn, AreNewIn}
 use Rattle.bd_objects.specs.New.{IsNewManager, IsNewDeath}
 
-is-none : {A : Type 0} (o : Option A) → is_some o ≡ false → o ≡ None
+pub is-none : {A : Type 0} (o : Option A) → is_some o ≡ false → o ≡ None
 is-none None h = refl
 is-none (Some x) h = absurd (cc)
 
@@ -116,14 +116,19 @@ new-death s place p n o at tidy check =
 
 -- ---- processes
 
-unfaulted : (a b c d : Bool) (w x y z : Fault) → first_of (when a w ∷ when b x ∷ when c y ∷ when d z ∷ []) ≡ None → d ≡ false
+unfaulted : (a b c d : Bool) (w x y z : Fault) → first_of (when a w ∷ when b x ∷ when c y ∷ when d z ∷ []) ≡ None → (c ≡ false) × (d ≡ false)
 unfaulted true b c d w x y z e = absurd (cc)
 unfaulted false true c d w x y z e = absurd (cc)
 unfaulted false false true d w x y z e = absurd (cc)
 unfaulted false false false true w x y z e = absurd (cc)
-unfaulted false false false false w x y z e = refl
+unfaulted false false false false w x y z e = (refl, refl)
 
-pub new-pid : (s : Space) (seat pid window : ℕ) → open_fault s seat pid window ≡ None → process_with_pid s.processes pid ≡ None
-new-pid s seat pid window e =
-    is-none (process_with_pid s.processes pid)
-    (unfaulted (not (is_pid pid)) (not (is_window window)) (is_some (thread_in s.threads seat)) (is_some (process_with_pid s.processes pid)) _ _ _ _ e)
+module _ (s : Space) (seat pid window : ℕ) (e : open_fault s seat pid window ≡ None) where
+  free : (is_some (thread_in s.threads seat) ≡ false) × (is_some (process_with_pid s.processes pid) ≡ false)
+  free = unfaulted (not (is_pid pid)) (not (is_window window)) (is_some (thread_in s.threads seat)) (is_some (process_with_pid s.processes pid)) _ _ _ _ e
+
+  pub new-seat : thread_in s.threads seat ≡ None
+  new-seat = is-none (thread_in s.threads seat) free.0
+
+  pub new-pid : process_with_pid s.processes pid ≡ None
+  new-pid = is-none (process_with_pid s.processes pid) free.1

@@ -1,18 +1,18 @@
 //! Threads: whose seat it is, which are ready, and how they attach, enter the loop, leave it and end.
 
-ghost use Rattle.std.specs.Prelude.{true, ◌≡◌, Ok, IfSome, ◌≤◌, ◌<◌, ◌^◌, if◌then◌else◌};
+ghost use Rattle.std.specs.Prelude.{ℕ, true, None, ◌≡◌, Ok, IfSome, ◌≤◌, ◌<◌, ◌^◌, if◌then◌else◌};
 ghost use Rattle.bd_uapi.specs.Limits.{most_seats};
 ghost use Rattle.bd_space.specs.Seats as seats;
 ghost use Rattle.bd_space.specs.{Steps.{is_pid}, Histories.{is_ready, ready_below}};
 ghost use Rattle.bd_space.specs.Steps as steps;
 ghost use Rattle.bd_space.specs.Outcomes.{accepted};
 ghost use Rattle.bd_space.specs.ThreadExits as exits;
-ghost use Rattle.bd_ways.specs.Tables.{Makes as Changes};
+ghost use Rattle.bd_ways.specs.Tables.{MakesWhere, Makes as Changes};
 ghost use Rattle.bd_objects.specs.Room as object_rooms;
 ghost use Rattle.bd_objects.specs.Stands.{StandsFor};
 ghost use Rattle.bd_buffers.specs.WindowsStand.{StandsIn};
 ghost use Rattle.bd_calls.specs.Room.{thread_room};
-ghost use Rattle.bd_step.specs.{Stands.{Tells, Makes, MakesWithin, UsesNothing, KeepsTold}, Meets.{IsAny, IsBy, IsStep}};
+ghost use Rattle.bd_step.specs.{Stands.{StandsAt, Tells, MakesWithin, UsesNothing, KeepsTold}, Meets.{IsAny, IsBy, IsStep}};
 ghost use Rattle.bd_step.specs.Handed.{without_handed, without_all_handed};
 
 use crate::answer::Plain;
@@ -94,10 +94,11 @@ impl Tables {
         ready
     }
 
-    // A thread comes in.
+    // A thread comes in, for a seat that has none.
     pub(crate) fn with_thread(&mut self, seat: u32, process: u32)
         requires { 1 ≤ thread_room self.old.calls }
-        ensures stands { Makes self.old self.new (λ s. steps.with_thread s seat process) }
+        ensures stands { (n : ℕ) → MakesWhere (StandsAt n self.old) (λ s. seats.thread_in s.threads seat ≡ None)
+            (StandsAt n self.new) (λ s. steps.with_thread s seat process) }
         ensures told { KeepsTold self.old self.new }
     {
         self.calls.add_thread(self.steps, seat, process);

@@ -1,2 +1,2 @@
-pub mod Seated
-pub mod Apart
+pub mod Inverse
+pub mod Rows

@@ -1,4 +1,3 @@
-pub mod Apart
-pub mod New
+pub mod Rows
 pub mod Listed
 pub mod Room

@@ -2,9 +2,7 @@
 #![tactic(auto)]
 
 mod change;
-mod list;
 mod look;
-mod places;
 mod table;
 
 pub use table::ThreadTable;

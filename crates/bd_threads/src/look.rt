@@ -1,58 +1,22 @@
 //! Looking for threads.
 
-ghost use Rattle.std.specs.Prelude.{◌≡◌, ◌<◌, ◌≤◌, ◌==◌, true, false, not, map, filter, All, IfSome, IfOk, OnErr, MatchOption, length, slice_index_or};
+ghost use Rattle.std.specs.Prelude.{◌≡◌, ◌≤◌, ◌==◌, map, filter, IfOk, OnErr, length};
 ghost use Rattle.bd_space.specs.{ProcessExits.{seat_of}, Seats.{thread_in}};
 
-use crate::list::{index_of, is_newest, seats_in, thread_among};
-use crate::places::place_of;
 use crate::table::ThreadTable;
 use bd_space::Thread;
 use std::alloc::{AllocError, Global};
 
-// Up to so many threads a walk through all of them takes less time than a look into the map.
-const FEW: usize = 8;
-
 impl ThreadTable {
-    ghost use Rattle.bd_space.specs.declared.space.Thread as declared;
-    ghost use Rattle.bd_threads.specs.{New.{IsNewIn}, Listed.{listed}};
-
-    /// The index of a seat's thread, where threads are found by places.
-    pub(crate) fn index_at(&self, seat: u32) -> Option<usize>
-        ensures within { IfSome result (λ i. i < length (listed self.now)) }
-        ensures found { self.now.apart ≡ true → MatchOption result
-            (All (λ t. (t.seat == seat) ≡ false) (listed self.now))
-            (λ i. (d : declared.Thread) → (slice_index_or (listed self.now) i d).seat ≡ seat) }
-    {
-        let made = place_of(&self.places, seat)?;
-        index_of(&self.rows, made)
-    }
-
-    /// Whether threads are found by places with this one too: it comes in after all others, for a seat that has none.
-    pub(crate) fn stays_apart(&self, thread: Thread) -> bool
-        ensures was { result ≡ true → self.now.apart ≡ true }
-        ensures new { result ≡ true → IsNewIn (listed self.now) thread }
-    {
-        self.apart
-            && is_newest(&self.rows, thread.made)
-            && place_of(&self.places, thread.seat).is_none()
-    }
-
-    // The thread of a seat, where threads are found by places.
-    fn thread_at(&self, seat: u32) -> Option<Thread>
-        ensures { self.now.apart ≡ true → result ≡ thread_in (listed self.now) seat }
-    {
-        let i = self.index_at(seat)?;
-        Some(self.rows[i])
-    }
+    ghost use Rattle.bd_threads.specs.Listed.{listed};
 
     /// The thread of a seat.
     pub fn thread(&self, seat: u32) -> Option<Thread>
         ensures { result ≡ thread_in (listed self.now) seat }
     {
-        if self.apart && self.rows.len() > FEW {
-            self.thread_at(seat)
-        } else {
-            thread_among(&self.rows, seat)
+        match self.places.get(&seat) {
+            Some(row) => self.rows[*row],
+            None => None,
         }
     }
 
@@ -63,6 +27,14 @@ impl ThreadTable {
         // Memory was asked for: there was a seat to put into it.
         ensures grown { OnErr result (1 ≤ length (filter (λ t. t.process == process) (listed self.now))) }
     {
-        seats_in(alloc, &self.rows, process)
+        let mut seats = Vec::new(alloc);
+        for row in &self.rows {
+            if let Some(thread) = row {
+                if thread.process == process {
+                    seats.push(thread.seat)?;
+                }
+            }
+        }
+        Ok(seats)
     }
 }

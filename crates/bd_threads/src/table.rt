@@ -1,22 +1,27 @@
 //! The table, and its memory.
+#![tactic(auto, unfolding(crate::specs::Room::thread_room))]
 
-ghost use Rattle.std.specs.Prelude.{◌≡◌, ◌≤◌, ◌<◌, [], true, OnOk, OnErr};
-ghost use Rattle.bd_threads.specs.Apart.{AreApart, place_at};
+ghost use Rattle.std.specs.{Prelude.{◌≡◌, ◌≤◌, ◌<◌, [], length, IfOk, OnOk, OnErr}, HashMap.{hash_map_len}};
+ghost use Rattle.bd_threads.specs.Rows.{AreInverse, live, place_at, seat_at};
 
+use bd_keys::room_anew;
 use bd_space::Thread;
 use std::alloc::{AllocError, Global};
 use std::collections::HashMap;
 
+// Room is made anew for so many threads at least.
+const LEAST: usize = 16;
+
 /// The live threads.
 #[derive(Drop)]
 pub struct ThreadTable {
-    // In the order in which they came in.
-    pub(crate) rows: Vec<Thread>,
-    // Where each seat's thread was made.
-    pub(crate) places: HashMap<u32, u32>,
-    // Whether threads are found by places: while each comes in after all others, for a seat that has none.
-    pub(crate) apart: bool,
-    ghost are_apart: { apart ≡ true → AreApart (place_at places) rows.items },
+    // In the order in which they came in. A row whose thread has gone is empty.
+    pub(crate) rows: Vec<Option<Thread>>,
+    // In which row each seat's thread is.
+    pub(crate) places: HashMap<u32, usize>,
+    ghost found: { AreInverse (place_at places) (seat_at rows.items) },
+    // What has gone leaves nothing in the map.
+    ghost left: { hash_map_len places ≡ length (live rows.items) },
 }
 
 impl ThreadTable {
@@ -29,12 +34,37 @@ impl ThreadTable {
         ThreadTable {
             rows: Vec::new(alloc),
             places: HashMap::new(alloc),
-            apart: true,
         }
     }
 
+    // Makes room behind the rows that there are.
+    fn grow(&mut self, more: usize) -> Result<(), AllocError>
+        ensures listed { listed self.new ≡ listed self.old }
+        ensures uses { thread_room self.old ≤ thread_room self.new }
+        ensures room { OnOk result (more ≤ thread_room self.new) }
+        ensures grown { OnErr result (thread_room self.old < more) }
+    {
+        self.rows.reserve(more)?;
+        self.places.reserve(more)
+    }
+
+    // The same threads in new memory, without the rows of those that went.
+    fn rebuilt(&self, more: usize) -> Result<ThreadTable, AllocError>
+        ensures listed { IfOk result (λ t. listed t ≡ listed self.now) }
+        ensures room { IfOk result (λ t. more ≤ thread_room t) }
+    {
+        let room = room_anew(LEAST, self.places.len(), more)?;
+        let mut fresh = ThreadTable::new(*self.rows.allocator());
+        fresh.grow(room)?;
+        for row in &self.rows {
+            if let Some(thread) = row {
+                fresh.push(*thread);
+            }
+        }
+        Ok(fresh)
+    }
+
     /// Makes room for so many more. Changes nothing else, also on an `Err`.
-    #[tactic(auto, unfolding(crate::specs::Room::thread_room))]
     pub fn reserve(&mut self, more: usize) -> Result<(), AllocError>
         ensures listed { listed self.new ≡ listed self.old }
         ensures uses { thread_room self.old ≤ thread_room self.new }
@@ -42,7 +72,12 @@ impl ThreadTable {
         // Memory was asked for: there was no room.
         ensures grown { OnErr result (thread_room self.old < more) }
     {
-        self.rows.reserve(more)?;
-        self.places.reserve(more)
+        let is_short = self.rows.capacity() - self.rows.len() < more;
+        // Those that went since the last rebuilding pay for the next.
+        if is_short && self.places.len() < self.rows.len() / 2 {
+            *self = self.rebuilt(more)?;
+            return Ok(());
+        }
+        self.grow(more)
     }
 }

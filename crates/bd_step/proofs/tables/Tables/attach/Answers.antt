@@ -2,8 +2,9 @@ use Rattle.std.proofs.Common.{◌+◌, false, Option, refl, ap, sym, ◌∙◌}
 use Rattle.std.specs.Prelude.{is_some}
 use Rattle.bd_uapi.specs.declared.fault.Fault.TheVariants.{HasProcess, NoSuchPid}
 use Rattle.bd_space.specs.declared.space.Process.{Process}
-use Rattle.bd_space.specs.Seats.{process_with_pid}
+use Rattle.bd_space.specs.Seats.{thread_in, process_with_pid}
 use Rattle.bd_space.specs.Steps.{attach_step, attach_outcome, with_thread}
+use Rattle.bd_step.proofs.New.{is-none}
 use Rattle.bd_step.proofs.Standing.{within}
 use Rattle.bd_step.proofs.Meeting.{taken-step, meets, in-case, is-refused}
 use Rattle.bd_step.proofs.tables.Tables.attach.Goals as goal
@@ -28,7 +29,10 @@ pub returns-clause-step : goal.returns-clause-step
 unfolding attach_step with_thread
 returns-clause-step c = taken-step _ _ _ _ _ (
     meets _ _ _ _ _ (λ s h by.
-    in-case _ _ (attach_outcome s c.args.seat (process_with_pid s.processes c.args.pid)) _ _
-    (ap is_some (sym (c.thread.ensures s h.calls_stand)) ∙ sym c.is_some.ensures ∙ c.if-is_some.false)
+    let free = ap is_some (sym (c.thread.ensures s h.calls_stand)) ∙ sym c.is_some.ensures ∙ c.if-is_some.false in
+    in-case _ _ (attach_outcome s c.args.seat (process_with_pid s.processes c.args.pid)) _ _ free
     (in-case _ _ (λ (q : Option Process). attach_outcome s c.args.seat q false) _ _ (sym (c.process_with_pid.ensures s.steps s h) ∙ c.in-Some.is)
-    (record { answered = refl; stands = c.with_thread.ensures.stands (s.steps + 1) s (within _ s (c.reserve.ensures.stands s h)) }))))
+    (record {
+      answered = refl;
+      stands = c.with_thread.ensures.stands (s.steps + 1) s (within _ s (c.reserve.ensures.stands s h)) (is-none (thread_in s.threads c.args.seat) free);
+    }))))

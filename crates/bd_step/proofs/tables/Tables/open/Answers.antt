@@ -2,7 +2,7 @@ use Rattle.std.proofs.Common.{◌+◌, refl, sym, subst, ◌∙◌}
 use Rattle.bd_space.specs.Steps.{open_step, open_outcome, with_thread, with_process}
 use Rattle.bd_step.specs.Stands.{StandsAt}
 use Rattle.bd_step.proofs.Meeting.{taken-step, meets, in-case, is-refused}
-use Rattle.bd_step.proofs.New.{new-pid}
+use Rattle.bd_step.proofs.New.{new-seat, new-pid}
 use Rattle.bd_step.proofs.tables.Tables.open.Goals as goal
 
 pub returns-in-Some-clause-step : goal.returns-in-Some-clause-step
@@ -19,6 +19,6 @@ returns-clause-step c = taken-step _ _ _ _ _ (
     let none = sym (c.open_fault.ensures.fault s h) ∙ c.in_default.is in
     let free = new-pid s c.args.seat c.args.pid c.args.size none in
     let opened = c.with_process.ensures.stands s (c.reserve_process.ensures.stands s h) free c.in-Ok.ensures.window in
-    let both = c.with_thread.ensures.stands (s.steps + 1) _ opened in
+    let both = c.with_thread.ensures.stands (s.steps + 1) _ opened (new-seat s c.args.seat c.args.pid c.args.size none) in
     in-case _ _ (open_outcome s c.args.seat c.args.pid c.args.euid c.args.size) _ _ none
     (record { answered = refl; stands = subst (λ p. StandsAt (s.steps + 1) c.with_thread.new.self (with_thread (with_process s c.args.pid c.args.euid c.args.size) c.args.seat p)) (sym opened.own.steps_are) both })))

@@ -1,15 +1,50 @@
-use Rattle.std.proofs.Common.{subst, sym}
-use Rattle.bd_threads.specs.Apart.{AreApart, place_at}
-use Rattle.bd_threads.proofs.Apart.{apart_more}
+use Rattle.std.proofs.Common.{◌≡◌, ℕ, ◌+◌, true, cond, length, List, [], ◌∷◌, ◌++◌, ◌==◌, None, Some, sym, ap, ◌∙◌, arith, Result, Ok, Err, Option}
+use Rattle.std.specs.Prelude.{IfOk, OnOk, is_some, option_map}
+use Rattle.std.specs.Result.{is_ok}
+use Rattle.std.proofs.lemmas.List.{get_or_past, length_push}
+use Rattle.std.proofs.lemmas.List.Elements.{filter_map-append}
+use Rattle.bd_space.specs.declared.space.Thread.{Thread}
+use Rattle.bd_space.specs.Seats.{thread_in}
+use Rattle.bd_keys.proofs.Found.{find_gone}
+use Rattle.bd_threads.specs.Listed.{listed}
+use Rattle.bd_threads.specs.Rows.{live, place_at, seat_at}
+use Rattle.bd_threads.proofs.Inverse.{inverse_more}
+use Rattle.bd_threads.proofs.Rows.{seat_of, unplaced, seat_push}
 use Rattle.bd_threads.proofs.table.ThreadTable.push.Goals as goal
+
+done : {T E P : Type 0} (r : Result T E) → is_ok r ≡ true → OnOk r P → P
+done (Ok x) is p = p
+done (Err e) is p = absurd (cc)
+
+counted : {E : Type 0} (r : Result (Option ℕ) E) (before : Option ℕ) (n m : ℕ) → is_ok r ≡ true → before ≡ None
+    → IfOk r (λ o. o ≡ before) → IfOk r (λ o. n ≡ m + cond (is_some o) 0 1) → n ≡ m + 1
+counted (Ok o) before n m is none was len = len ∙ ap (λ x. m + cond (is_some x) 0 1) (was ∙ none)
+counted (Err e) before n m is none was len = absurd (cc)
+
+more : (rows new : List (Option Thread)) (t : Thread) → new ≡ rows ++ Some t ∷ [] → live new ≡ live rows ++ t ∷ []
+more rows new t is = ap live is ∙ filter_map-append (λ (o : Option Thread). o) rows (Some t ∷ [])
 
 pub invariant_of-self : goal.invariant_of-self
 invariant_of-self c =
-    let old = c.args.self.now in
-    let new = place_at c.add_place.new.places in
-    let keeps = c.stays_apart-self.ensures in
+    let t = c.remove.new.self in
+    let rows = t.rows.items in
+    let one = c.args.thread in
+    let items = c.push_reserved.ensures.items in
+    let ok = sym c.is_ok.ensures.value ∙ c.if-is_ok.true in
+    let none = unplaced t one.seat
+    (ap (λ ts. thread_in ts one.seat) c.remove.ensures.listed ∙ find_gone seat_of one.seat (listed c.args.self.now)) in
+    let at : c.len-row.result ≡ length rows = omega (arith, c.len-row.ensures, t.rows.ok) in
+    let len = counted c.insert.result _ _ _ ok none c.insert.ensures.old c.insert.ensures.len in
     record {
-      are_apart = λ apart.
-          subst (AreApart new) (sym c.push_reserved.ensures.items)
-          (apart_more (place_at old.places) new old.rows.items (old.are_apart (keeps.was apart)) c.args.thread (keeps.new apart) (c.add_place.ensures.places apart));
+      found = inverse_more (place_at t.places) (seat_at rows) _ _ t.found one.seat _ none
+          (ap (option_map seat_of) (get_or_past rows c.len-row.result None (omega (arith, at))))
+          (done c.insert.result ok c.insert.ensures.updates).0
+          (λ j. ap (λ rs. seat_at rs j) items ∙ seat_push rows (Some one) j
+          ∙ ap (λ n. cond (n == j) (Some one.seat) (seat_at rows j)) (sym at));
+      left = omega (arith, len, t.left, ap length (more rows _ one items), length_push (live rows) one);
     }
+
+pub returns-then-is_ok-clause-listed : goal.returns-then-is_ok-clause-listed
+returns-then-is_ok-clause-listed c =
+    more c.remove.new.self.rows.items _ c.args.thread c.push_reserved.ensures.items
+    ∙ ap (λ ts. ts ++ c.args.thread ∷ []) c.remove.ensures.listed

@@ -1,0 +1,42 @@
+-- What is kept of the seats, where the thread of one changes.
+use Rattle.std.proofs.Common.{◌≡◌, ℕ, ◌==◌, Bool, true, false, cond, List, [], ◌∷◌, ◌++◌, Some, None, refl, ap, sym, ◌∙◌, ne_eqb}
+use Rattle.std.specs.Option.{option_or}
+use Rattle.std.proofs.lemmas.Bool.{eqb-true, eqb-false}
+use Rattle.std.proofs.lemmas.List.Folds.{find-append}
+use Rattle.bd_keys.proofs.Options.{or_none}
+use Rattle.bd_space.specs.declared.space.Thread.{Thread}
+use Rattle.bd_space.specs.declared.space.Work.{Work}
+use Rattle.bd_space.specs.Seats.{thread_in}
+use Rattle.bd_space.specs.Words.{changed}
+use Rattle.bd_calls.specs.declared.ready.ReadySeats.{ReadySeats}
+use Rattle.bd_calls.specs.Ready.{KeepsOnly, AreSeen}
+
+-- where the other seats have the threads that they had, what is kept of them is so still
+pub kept-beside : (old new : ReadySeats) (ts us : List Thread) (ws : List Work) (seat : ℕ) → AreSeen old ts ws → KeepsOnly old new (λ at _. seat == at)
+    → ((at : ℕ) → (seat ≡ at → ⊥) → thread_in us at ≡ thread_in ts at) → AreSeen new us ws
+kept-beside old new ts us ws seat before kept as_before = λ at x is.
+    let k = kept at x is in
+    let seen = before at x k.0 in
+    record { thread = seen.thread ∙ sym (as_before at (eqb-false seat at k.1)); own = seen.own; shared = seen.shared }
+
+-- a thread comes in
+pub pushed-beside : (ts : List Thread) (t : Thread) (at : ℕ) → (t.seat ≡ at → ⊥) → thread_in (ts ++ t ∷ []) at ≡ thread_in ts at
+pushed-beside ts t at other =
+    find-append (λ u. u.seat == at) ts (t ∷ []) ∙ ap (λ b. option_or (thread_in ts at) (cond b (Some t) None)) (ne_eqb t.seat at other) ∙ or_none (thread_in ts at)
+
+-- one enters the loop, or leaves it
+pub turned-beside : (looping : Bool) (ts : List Thread) (seat at : ℕ) → (seat ≡ at → ⊥)
+    → thread_in (changed (λ t. t.seat == seat) (λ t. record t { looping = looping }) ts) at ≡ thread_in ts at
+turned-beside looping [] seat at other = refl
+turned-beside looping (t ∷ ts) seat at other = by (t.seat == seat) refl (turned-beside looping ts seat at other)
+  where
+    f : Thread → Thread
+    f u = record u { looping = looping }
+
+    by : (b : Bool) → (t.seat == seat) ≡ b → thread_in (changed (λ u. u.seat == seat) f ts) at ≡ thread_in ts at
+        → thread_in (cond b (f t) t ∷ changed (λ u. u.seat == seat) f ts) at ≡ thread_in (t ∷ ts) at
+    by true e rest =
+        let differs = ne_eqb t.seat at (λ same. other (sym (eqb-true t.seat seat e) ∙ same)) in
+        ap (λ b. cond b (Some (f t)) (thread_in (changed (λ u. u.seat == seat) f ts) at)) differs ∙ rest
+        ∙ sym (ap (λ b. cond b (Some t) (thread_in ts at)) differs)
+    by false e rest = ap (λ o. cond (t.seat == at) (Some t) o) rest
