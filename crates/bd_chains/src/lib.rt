@@ -4,6 +4,7 @@
 mod chains;
 mod items;
 mod links;
+mod set;
 
 pub use chains::Chains;
 pub use items::Items;

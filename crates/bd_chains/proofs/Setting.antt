@@ -1,0 +1,80 @@
+-- Rows in one of which another value stands.
+use Rattle.std.proofs.Common.{◌≡◌, ℕ, ◌==◌, ◌&&◌, Bool, true, false, cond, List, [], ◌∷◌, length, Option, Some, None, is_some, refl, sym, ap, ◌∙◌, subst, arith}
+use Rattle.std.specs.Prelude.{option_map}
+use Rattle.std.proofs.lemmas.Bool.{eqb-true, eq-eqb}
+use Rattle.slab.specs.Slab.{Slab, get, slab_len}
+use Rattle.bd_chains.specs.declared.links.Held.{Held}
+use Rattle.bd_chains.specs.declared.links.Ends.{Ends}
+use Rattle.bd_chains.specs.declared.chains.Chains.{Chains}
+use Rattle.bd_chains.specs.Chain.{next_from, prev_from, Apart}
+use Rattle.bd_chains.specs.Rows.{Row, keys, ring, row_at, counted_on, is_end}
+use Rattle.bd_chains.specs.Setting.{set_held, set_row, with_value}
+use Rattle.bd_chains.specs.Columns.{next_at, prev_at, shown, count_of, is_open, Holds}
+
+module _ {T : Type 0} (x : ℕ) (v : T) where
+  -- a row keeps its slot and its list
+  row_same : {A : Type 0} (f : Row T → A) (r : Row T) → f (set_row v r) ≡ f r → (b : Bool) → f (cond b (set_row v r) r) ≡ f r
+  row_same f r e true = e
+  row_same f r e false = refl
+
+  pub keys_set : (rs : List (Row T)) → keys (with_value x v rs) ≡ keys rs
+  keys_set [] = refl
+  keys_set (r ∷ rs) = rw (row_same (λ (s : Row T). s.key) r refl (r.key == x), keys_set rs) refl
+
+  pub length_set : (rs : List (Row T)) → length (with_value x v rs) ≡ length rs
+  length_set [] = refl
+  length_set (r ∷ rs) = let n = length_set rs in omega (arith, n)
+
+  pub ring_set : (l : ℕ) (rs : List (Row T)) → ring l (with_value x v rs) ≡ ring l rs
+  ring_set l [] = refl
+  ring_set l (r ∷ rs) = rw (row_same (λ (s : Row T). s.key) r refl (r.key == x), row_same (λ (s : Row T). s.list) r refl (r.key == x), ring_set l rs) refl
+
+  pub counted_set : (l : ℕ) (rs : List (Row T)) → counted_on l (with_value x v rs) ≡ counted_on l rs
+  counted_set l [] = refl
+  counted_set l (r ∷ rs) = rw (row_same (λ (s : Row T). s.list) r refl (r.key == x), row_same (λ (s : Row T). s.held.counted) r refl (r.key == x), counted_set l rs) refl
+
+  pub at_set : (k : ℕ) (rs : List (Row T)) → row_at k (with_value x v rs) ≡ cond (x == k) (option_map (set_held v) (row_at k rs)) (row_at k rs)
+  at_set k [] = same (x == k)
+    where
+      same : (b : Bool) → ◌≡◌ {A = Option (ℕ × Held T)} None (cond b None None)
+      same true = refl
+      same false = refl
+  at_set k (r ∷ rs) = at (r.key == x) (r.key == k) (x == k) refl refl refl (at_set k rs)
+    where
+      clash : {b : Bool} → b ≡ true → b ≡ false → ⊥
+      clash h k = cc
+
+      at : (b c d : Bool) → (r.key == x) ≡ b → (r.key == k) ≡ c → (x == k) ≡ d
+          → row_at k (with_value x v rs) ≡ cond d (option_map (set_held v) (row_at k rs)) (row_at k rs)
+          → row_at k (cond b (set_row v r) r ∷ with_value x v rs) ≡ cond d (option_map (set_held v) (cond c (Some (r.list, r.held)) (row_at k rs))) (cond c (Some (r.list, r.held)) (row_at k rs))
+      at true true true e f g more = ap (λ c. cond c (Some (r.list, record r.held { value = v })) (row_at k (with_value x v rs))) f
+      at true true false e f g more = absurd (clash (eq-eqb x k (sym (eqb-true r.key x e) ∙ eqb-true r.key k f)) g)
+      at true false true e f g more = absurd (clash (eq-eqb r.key k (eqb-true r.key x e ∙ eqb-true x k g)) f)
+      at true false false e f g more = ap (λ c. cond c (Some (r.list, record r.held { value = v })) (row_at k (with_value x v rs))) f ∙ more
+      at false true true e f g more = absurd (clash (eq-eqb r.key x (eqb-true r.key k f ∙ sym (eqb-true x k g))) e)
+      at false true false e f g more = ap (λ c. cond c (Some (r.list, r.held)) (row_at k (with_value x v rs))) f
+      at false false true e f g more = ap (λ c. cond c (Some (r.list, r.held)) (row_at k (with_value x v rs))) f ∙ more
+      at false false false e f g more = ap (λ c. cond c (Some (r.list, r.held)) (row_at k (with_value x v rs))) f ∙ more
+
+  pub set_holds : (t u : Chains T) (rs : List (Row T)) → Holds t rs → ((k : ℕ) → shown u k ≡ cond (x == k) (option_map (set_held v) (shown t k)) (shown t k))
+      → ((m : ℕ) (o : Option ℕ) → next_at u m o ≡ next_at t m o) → ((m : ℕ) (o : Option ℕ) → prev_at u m o ≡ prev_at t m o)
+      → u.ends ≡ t.ends → slab_len u.items ≡ slab_len t.items → Holds u (with_value x v rs)
+  set_holds t u rs h shows nexts prevs ends len = record {
+    stands = record {
+      apart = subst (Apart None) (sym (keys_set rs)) h.stands.apart;
+      shown = λ k. shows k ∙ ap (λ s. cond (x == k) (option_map (set_held v) s) s) (h.stands.shown k) ∙ sym (at_set k rs);
+      nexts = λ l o on. nexts l o ∙ h.stands.nexts l o (subst (λ ks. is_end o ks ≡ true) (ring_set l rs) on) ∙ sym (ap (λ ks. next_from None ks o) (ring_set l rs));
+      prevs = λ l o on. prevs l o ∙ h.stands.prevs l o (subst (λ ks. is_end o ks ≡ true) (ring_set l rs) on) ∙ sym (ap (λ ks. prev_from None ks o) (ring_set l rs));
+      counts = λ l. ap (λ (s : Slab Ends). count_of (get s l)) ends ∙ h.stands.counts l ∙ sym (counted_set l rs);
+    };
+    within = λ k l w is. ap (λ (s : Slab Ends). is_some (get s l)) ends ∙ listed k l w (x == k) (shown t k) refl (sym (shows k) ∙ is);
+    len = len ∙ h.len ∙ sym (length_set rs);
+  }
+    where
+      list_is : {a b : ℕ} {w z : Held T} → ◌≡◌ {A = Option (ℕ × Held T)} (Some (a, w)) (Some (b, z)) → a ≡ b
+      list_is e = ap (λ (o : Option (ℕ × Held T)). elim o [ None ↦ 0 | Some p ↦ p.0 ]) e
+
+      listed : (k l : ℕ) (w : Held T) (b : Bool) (o : Option (ℕ × Held T)) → shown t k ≡ o → cond b (option_map (set_held v) o) o ≡ Some (l, w) → is_open t l ≡ true
+      listed k l w true None e is = absurd (cc)
+      listed k l w true (Some p) e is = subst (λ n. is_open t n ≡ true) (list_is is) (h.within k p.0 p.1 e)
+      listed k l w false o e is = h.within k l w (e ∙ is)
