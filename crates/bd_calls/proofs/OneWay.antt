@@ -1,11 +1,12 @@
 -- The one-way calls of changed buffers.
-use Rattle.std.proofs.Common.{◌≡◌, ◌==◌, ℕ, Bool, true, false, cond, not, List, [], ◌∷◌, ◌++◌, Option, Some, None, refl, ap, sym, ◌∙◌, filter, find, arith}
+use Rattle.std.proofs.Common.{◌≡◌, ◌==◌, ◌<◌, ℕ, All, ne_eqb, Bool, true, false, cond, not, List, [], ◌∷◌, ◌++◌, Option, Some, None, refl, ap, sym, ◌∙◌, filter, find, arith}
 use Rattle.std.specs.Option.{option_map, option_to_list, option_and_then}
-use Rattle.std.specs.List.{cons_option}
+use Rattle.std.specs.List.{cons_option, list_any}
+use Rattle.std.proofs.lemmas.List.Elements.{All-head, All-tail}
 use Rattle.bd_space.specs.declared.step.ObjectId.{ObjectId}
 use Rattle.bd_space.specs.declared.space.Buffer.{Buffer}
 use Rattle.bd_space.specs.declared.space.Turn.{Turn}
-use Rattle.bd_space.specs.Words.{changed}
+use Rattle.bd_space.specs.Words.{changed, is_some_and}
 use Rattle.bd_space.specs.Turns.{turn_of, turns_of}
 use Rattle.bd_space.specs.Freeing.{is_made_at}
 use Rattle.bd_space.specs.Returns.{buffer_in}
@@ -88,6 +89,25 @@ turn-of b t h = of b.one_way b.target h
 
 turn-made : (b : Buffer) (t : Turn) → turn_of b ≡ Some t → t.made ≡ b.made
 turn-made b t h = (turn-of b t h).0
+
+-- no one-way call was made where a later buffer is
+none-later : (made : ℕ) (bs : List Buffer) → All (λ b. b.made < made) bs → list_any (λ t. t.made == made) (turns_of bs) ≡ false
+none-later made [] before = refl
+none-later made (b ∷ bs) before = of (turn_of b) refl (none-later made bs (All-tail (λ (c : Buffer). c.made < made) b bs before))
+  where
+    of : (o : Option Turn) → turn_of b ≡ o → list_any (λ t. t.made == made) (turns_of bs) ≡ false → list_any (λ t. t.made == made) (cons_option o (turns_of bs)) ≡ false
+    of None e h = h
+    of (Some t) e h =
+        let low = All-head (λ (c : Buffer). c.made < made) b bs before in
+        let same = turn-made b t e in
+        rw (ne_eqb t.made made (λ k. absurd (omega (arith, low, same, k)))) h
+
+pub turn-new : (bs : List Buffer) (b : Buffer) → All (λ c. c.made < b.made) bs → is_some_and (turn_of b) (λ t. list_any (λ u. u.made == t.made) (turns_of bs)) ≡ false
+turn-new bs b before = of (turn_of b) refl
+  where
+    of : (o : Option Turn) → turn_of b ≡ o → is_some_and o (λ t. list_any (λ u. u.made == t.made) (turns_of bs)) ≡ false
+    of None e = refl
+    of (Some t) e = ap (λ m. list_any (λ (u : Turn). u.made == m) (turns_of bs)) (turn-made b t e) ∙ none-later b.made bs before
 
 -- the buffer made here goes
 pub turns-without : (made : ℕ) (bs : List Buffer) → turns_of (filter (λ b. not (is_made_at made b)) bs) ≡ filter (λ t. not (t.made == made)) (turns_of bs)

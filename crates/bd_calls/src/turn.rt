@@ -1,7 +1,7 @@
 //! One-way calls: of one object's, one is due or handed out at a time, in the order in which they were made.
 #![tactic(auto, unfolding(bd_space::specs::Turns::ripen, bd_ways::specs::Local::ripen_of, crate::specs::Room::rooms, crate::specs::Told::Recalls, crate::specs::Told::HasRoomToTell))]
 
-ghost use Rattle.std.specs.Prelude.{ℕ, Bool, List, ◌≡◌, ◌==◌, ◌||◌, ◌&&◌, ◌+◌, ◌<◌, ◌≤◌, ◌^◌, ◌++◌, ◌∷◌, [], false, not, nat_le, map, filter, find, reverse, length, count_by, Option, Some, None, option_map, IfOk, OnOk, OnErr, vec_len, vec_capacity};
+ghost use Rattle.std.specs.Prelude.{ℕ, Bool, List, ◌≡◌, ◌==◌, ◌||◌, ◌&&◌, ◌+◌, ◌<◌, ◌≤◌, ◌^◌, ◌++◌, ◌∷◌, [], false, not, All, nat_le, map, filter, find, reverse, length, count_by, Option, Some, None, option_map, IfOk, OnOk, OnErr, vec_len, vec_capacity};
 ghost use Rattle.std.specs.{Option.{option_to_list}, List.{list_any}};
 ghost use Rattle.bd_space.specs.Words.{first_of, is_some_and};
 ghost use Rattle.bd_space.specs.Todo as works;
@@ -9,6 +9,7 @@ ghost use Rattle.bd_space.specs.ThreadExits as exits;
 ghost use Rattle.bd_space.specs.Turns as spec;
 ghost use Rattle.bd_ways.specs.Local as local;
 ghost use Rattle.bd_space.specs.declared.space.Work as declared;
+ghost use Rattle.bd_space.specs.declared.space.Turn as one_way;
 ghost use Rattle.bd_todo.specs.Stands as links;
 ghost use Rattle.bd_turns.specs.Stands as turn_table;
 ghost use Rattle.bd_turns.specs.Room as turn_rooms;
@@ -62,9 +63,11 @@ fn forget_receiver(ready: &mut ReadySeats, turn: Option<Turn>)
     }
 }
 
+// It was made where none of the others was.
 fn push_turn(turns: &mut TurnTable, turn: Option<Turn>)
     requires { 1 ≤ turn_rooms.turn_room turns.old }
-    ensures turns { turn_table.Makes turns.old turns.new (λ l. l ++ option_to_list turn) }
+    ensures turns { (l : List one_way.Turn) → is_some_and turn (λ t. list_any (λ u. u.made == t.made) l) ≡ false
+        → turn_table.TurnsAre turns.old l → turn_table.TurnsAre turns.new (l ++ option_to_list turn) }
     ensures uses { turn_rooms.Uses turns.old turns.new 1 }
 {
     if let Some(turn) = turn {
@@ -113,7 +116,7 @@ impl CallTable {
     pub fn add_turn(&mut self, turn: Option<Turn>)
         requires { 1 ≤ turn_room self.old }
         ensures stands { (s : Space) (b : Buffer) → StandsFor self.old s → turn ≡ spec.turn_of b
-            → StandsFor self.new (add_buffer s b) }
+            → All (λ c. c.made < b.made) s.buffers → StandsFor self.new (add_buffer s b) }
         ensures uses { Uses self.old self.new (record nothing { turns = 1 }) }
         ensures told { KeepsTold self.old self.new }
         ensures few { ReachesFew 0 self.old self.new }

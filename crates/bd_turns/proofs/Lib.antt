@@ -1,10 +1,5 @@
-pub mod Written
-pub mod Tests
-pub mod Chains
-pub mod Pushing
-pub mod Going
-pub mod Standing
-pub mod Sweeping
+pub mod Keys
 pub mod Listing
-pub mod Places
-pub mod Renewing
+pub mod Mapped
+pub mod Entries
+pub mod Changes

@@ -1,7 +1,7 @@
 pub mod Turn
-pub mod Slots
-pub mod Sweep
-pub mod Ends
-pub mod Listed
+pub mod Keys
+pub mod Lists
+pub mod Spots
+pub mod Entries
 pub mod Stands
 pub mod Room

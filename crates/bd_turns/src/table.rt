@@ -1,28 +1,35 @@
 //! The table: its room, its changes and what it tells.
 #![tactic(auto, unfolding(crate::specs::Room::turn_room, crate::specs::Room::turn_count))]
 
-ghost use Rattle.std.specs.Prelude.{ℕ, Bool, List, ◌≡◌, ◌==◌, ◌≤◌, ◌++◌, ◌∷◌, [], not, filter, find, OnOk, OnErr};
+ghost use Rattle.std.specs.Prelude.{ℕ, Bool, List, ◌≡◌, ◌==◌, ◌≤◌, ◌++◌, ◌∷◌, [], false, not, filter, find, OnOk, OnErr};
+ghost use Rattle.std.specs.List.{list_any};
 ghost use Rattle.bd_space.specs.declared.space.Turn as declared;
 ghost use Rattle.bd_space.specs.Words.{changed, same};
 ghost use Rattle.bd_turns.specs.{Turn.{hand_turn}, Room.{Uses, turn_room}};
 
-use crate::queue::Queue;
-use bd_groups::{Group, Groups};
+use crate::key::ListKey;
+use crate::lists::Lists;
+use crate::spot::{Mark, Spot, mark_of, put_spot, spot_at};
 use bd_space::{ObjectId, Turn};
 use std::alloc::{AllocError, Global};
+use std::collections::HashMap;
 
 /// The one-way calls of a driver whose buffers live.
 pub struct TurnTable {
-    pub(crate) queue: Queue,
-    // The slots of the calls in each process's window, also of such as have gone.
-    pub(crate) received: Groups<usize>,
+    // Of each object, the oldest first.
+    pub(crate) objects: Lists<Turn>,
+    // In each process's window.
+    pub(crate) windows: Lists<Mark>,
+    // By where they were made.
+    pub(crate) spots: HashMap<u32, Spot>,
 }
 
 impl Drop for TurnTable {
     fn drop(self) {
         let TurnTable {
-            queue: _,
-            received: _,
+            objects: _,
+            windows: _,
+            spots: _,
         } = self;
     }
 }
@@ -35,8 +42,9 @@ impl TurnTable {
         ensures { TurnsAre result [] }
     {
         TurnTable {
-            queue: Queue::new(alloc),
-            received: Groups::new(alloc),
+            objects: Lists::new(alloc),
+            windows: Lists::new(alloc),
+            spots: HashMap::new(alloc),
         }
     }
 
@@ -48,30 +56,30 @@ impl TurnTable {
         // Memory was asked for, or would have been past what there can be: there was no room.
         ensures grown { OnErr result (more ≤ turn_room self.old → ⊥) }
     {
-        if self.room() < more {
-            *self = self.renewed(more)?;
-        }
-        Ok(())
+        self.objects.reserve(more)?;
+        self.windows.reserve(more)?;
+        self.spots.reserve(more)
     }
 
-    /// A one-way call comes in. Takes no memory.
+    /// A one-way call comes in, made where none of the others was. Takes no memory.
     pub fn push(&mut self, turn: Turn)
         requires { 1 ≤ turn_room self.old }
-        ensures stands { Makes self.old self.new (λ l. l ++ turn ∷ []) }
+        ensures stands { (l : List declared.Turn) → list_any (λ t. t.made == turn.made) l ≡ false
+            → TurnsAre self.old l → TurnsAre self.new (l ++ turn ∷ []) }
         ensures uses { Uses self.old self.new 1 }
     {
-        let window = Group::Process {
-            made: turn.receiver,
-        };
-        self.received.push(window, self.queue.slots.len());
-        self.queue.push(turn);
+        let call = self.objects.push(ListKey::Object(turn.target), turn);
+        let mark = self
+            .windows
+            .push(ListKey::Window(turn.receiver), mark_of(turn));
+        put_spot(&mut self.spots, turn.made, Spot { call, mark });
     }
 
     /// The oldest one-way call on an object.
     pub fn oldest_on(&self, object: ObjectId) -> Option<Turn>
         ensures { Tells self.now result (λ l. find (λ t. same t.target object) l) }
     {
-        self.queue.oldest_on(object)
+        self.objects.front(ListKey::Object(object))
     }
 
     /// The one-way call made at this place is handed out, if there is one.
@@ -79,8 +87,15 @@ impl TurnTable {
         ensures stands { Makes self.old self.new (λ l. changed (λ t. t.made == made) hand_turn l) }
         ensures uses { Uses self.old self.new 0 }
     {
-        let range = self.queue.range_of(made);
-        self.queue.hand_out_in(range, made);
+        if let Some(spot) = spot_at(&self.spots, made) {
+            if let Some(turn) = self.objects.chains.get(spot.call) {
+                let turn = Turn {
+                    handed: true,
+                    ..turn
+                };
+                self.objects.chains.set(spot.call, turn);
+            }
+        }
     }
 
     /// The one-way call made at this place goes, if there is one.
@@ -88,8 +103,25 @@ impl TurnTable {
         ensures stands { Makes self.old self.new (λ l. filter (λ t. not (t.made == made)) l) }
         ensures uses { Uses self.old self.new 0 }
     {
-        let range = self.queue.range_of(made);
-        self.queue.keep_in(range, |t| t.made != made);
+        if let Some(spot) = self.spots.remove(&made) {
+            let _mark = self.windows.chains.remove(spot.mark);
+            if let Some(turn) = self.objects.chains.remove(spot.call) {
+                self.objects.give_back(ListKey::Object(turn.target));
+            }
+        }
+    }
+
+    // One after the other goes, until there is none in the window.
+    fn pop_received(&mut self, process: u32)
+        ensures stands { Makes self.old self.new (λ l. filter (λ t. not (t.receiver == process)) l) }
+        ensures uses { Uses self.old self.new 0 }
+    {
+        for _ in 0..self.windows.chains.len() {
+            match self.windows.front(ListKey::Window(process)) {
+                Some(mark) => self.remove(mark.made),
+                None => return,
+            }
+        }
     }
 
     /// The one-way calls in a process's window go.
@@ -97,9 +129,7 @@ impl TurnTable {
         ensures stands { Makes self.old self.new (λ l. filter (λ t. not (t.receiver == process)) l) }
         ensures uses { Uses self.old self.new 0 }
     {
-        let window = Group::Process { made: process };
-        self.queue
-            .remove_received_in(self.received.of(window), process);
-        self.received.forget(window);
+        self.pop_received(process);
+        self.windows.give_back(ListKey::Window(process));
     }
 }

@@ -1,3 +1,5 @@
+use Rattle.std.proofs.Common.{◌<◌, All, subst}
+use Rattle.bd_space.specs.declared.space.Buffer.{Buffer}
 use Rattle.bd_space.specs.Delivery.{add_buffer}
 use Rattle.bd_step.proofs.tables.Tables.add_buffer.Goals as goal
 
@@ -6,6 +8,6 @@ unfolding add_buffer
 returns-clause-stands c = λ s h m. record {
   own = h.own;
   objects_stand = h.objects_stand;
-  calls_stand = c.add_turn.ensures.stands s c.args.buffer h.calls_stand c.turn_of.ensures;
+  calls_stand = c.add_turn.ensures.stands s c.args.buffer h.calls_stand c.turn_of.ensures (subst (λ n. All (λ (b : Buffer). b.made < n) s.buffers) m h.windows_stand.made.buffers_before);
   windows_stand = c.add.ensures s h.windows_stand m;
 }

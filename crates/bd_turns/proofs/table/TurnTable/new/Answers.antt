@@ -1,8 +1,15 @@
-use Rattle.bd_turns.proofs.Listing.{listed-none}
+use Rattle.std.proofs.Common.{[], refl, arith}
+use Rattle.bd_turns.specs.Keys.{by_object, by_window}
 use Rattle.bd_turns.proofs.table.TurnTable.new.Goals as goal
 
 pub returns : goal.returns
 returns c = record {
-  queue_is = c.new.ensures;
-  listed = listed-none _ _ c.new.ensures.turns_are;
+  entries = [];
+  are = record {
+    on_objects = c.new.ensures by_object;
+    in_windows = c.new-2.ensures by_window;
+    distinct = λ i j d lt h. absurd (omega arith);
+    spots_are = λ m. search arith;
+  };
+  turns_are = refl;
 }

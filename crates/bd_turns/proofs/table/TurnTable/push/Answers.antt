@@ -1,17 +1,14 @@
-use Rattle.std.proofs.Common.{true, sym, subst, arith}
-use Rattle.std.proofs.lemmas.List.{length-map}
-use Rattle.bd_turns.specs.declared.slots.Slot.{Slot}
-use Rattle.bd_turns.specs.Slots.{entries}
-use Rattle.bd_turns.specs.Listed.{AreListed}
-use Rattle.bd_turns.proofs.Listing.{listed-push}
+use Rattle.std.proofs.Common.{false, [], ◌∷◌, ◌++◌, refl, ap, subst}
+use Rattle.bd_turns.specs.Keys.{by_object, by_window}
+use Rattle.bd_turns.specs.Lists.{Shows}
+use Rattle.bd_turns.proofs.Changes.{turns_pushed}
 use Rattle.bd_turns.proofs.table.TurnTable.push.Goals as goal
 
 pub returns-clause-stands : goal.returns-clause-stands
-returns-clause-stands c = λ l are.
-    let es = entries c.args.self.now.queue.slots.items in
-    let shown = length-map c.args.self.now.queue.slots.items (λ (s : Slot). s.entry) in
-    record {
-      queue_is = c.push-2.ensures.stands l are.queue_is;
-      listed = subst (AreListed _) (sym c.push-2.ensures.entries)
-          (listed-push _ _ es (record { turn = c.args.turn; live = true }) _ (omega (arith, shown)) c.push.ensures.put are.listed);
-    }
+returns-clause-stands c = λ l new h.
+    turns_pushed c.args.self.now _ c.args.turn (record { call = c.push-call.result; mark = c.push-mark.result }) l new h
+    (λ rs s. c.push-call.ensures.stands by_object rs refl s)
+    (λ rs s.
+    let w = c.push-mark.ensures.stands by_window rs (ap by_window c.mark_of.ensures) s in
+    (w.0, subst (λ v. Shows by_window c.push-mark.new.self (rs ++ record { key = c.push-mark.result; list = w.0; held = record { value = v; counted = false } } ∷ [])) c.mark_of.ensures w.1))
+    c.put_spot.ensures.put

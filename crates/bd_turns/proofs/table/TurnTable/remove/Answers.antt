@@ -1,13 +1,37 @@
-use Rattle.std.proofs.Common.{rules, tests, ◌≡◌, ◌==◌, Bool, true, false, not, refl}
+use Rattle.std.proofs.Common.{refl, sym, ◌∙◌, arith}
+use Rattle.bd_chains.specs.Rows.{drop_key}
+use Rattle.bd_turns.specs.Keys.{by_object, by_window}
+use Rattle.bd_turns.specs.Lists.{number_at}
+use Rattle.bd_turns.specs.Room.{turn_room, turn_count}
+use Rattle.bd_turns.proofs.Listing.{kept_shows, listed_less}
+use Rattle.bd_turns.proofs.Changes.{more_chains, more_room, turns_removed, turns_absent}
 use Rattle.bd_turns.proofs.table.TurnTable.remove.Goals as goal
 
-twice : (b : Bool) → not (not b) ≡ true → b ≡ true
-twice true h = refl
-twice false h = absurd (cc)
+pub returns-in-Some-remove-clause-stands : goal.returns-in-Some-remove-clause-stands
+returns-in-Some-remove-clause-stands c = λ l h.
+    let t = c.args.self.now in
+    turns_removed t _ c.args.made c.in-Some.spot l h (sym c.remove.ensures.value ∙ c.in-Some.is)
+    (λ rs s. c.give_back.ensures.stands by_object (drop_key c.in-Some.spot.call rs)
+    (kept_shows by_object t.objects _ rs (drop_key c.in-Some.spot.call rs) s (c.remove-in-Some.ensures.stands rs s.holds) (listed_less by_object (number_at t.objects.numbers) c.in-Some.spot.call rs s.listed) c.remove-in-Some.ensures.open (λ k. refl)))
+    (λ rs s. kept_shows by_window t.windows _ rs (drop_key c.in-Some.spot.mark rs) s (c.remove-mark.ensures.stands rs s.holds) (listed_less by_window (number_at t.windows.numbers) c.in-Some.spot.mark rs s.listed) c.remove-mark.ensures.open (λ k. refl))
+    c.remove.ensures.updates.0
 
-pub returns-clause-stands : goal.returns-clause-stands
-returns-clause-stands c = λ l are. record {
-  queue_is = c.keep_in.ensures.stands (λ t. not (t.made == c.args.made)) (λ t b h. search (rules, tests)) l are.queue_is
-      (λ i e there no. c.range_of-range.ensures.within l are.queue_is i e there (twice (e.turn.made == c.args.made) no));
-  listed = c.keep_in.ensures.listed _ are.listed;
-}
+pub returns-in-Some-remove-clause-uses : goal.returns-in-Some-remove-clause-uses
+unfolding turn_room turn_count
+returns-in-Some-remove-clause-uses c =
+    let len = c.remove.ensures.len in
+    let marks = more_chains _ _ _ _ _ c.remove-mark.ensures.items c.remove-mark.ensures.lists in
+    let calls = more_chains _ _ _ _ _ c.remove-in-Some.ensures.items c.remove-in-Some.ensures.lists in
+    record { room = more_room _ _ _ _ _ _ _ calls c.give_back.ensures.uses marks c.remove.ensures.spare; count = omega (arith, len) }
+
+pub returns-in_default-remove-clause-stands : goal.returns-in_default-remove-clause-stands
+returns-in_default-remove-clause-stands c = λ l h.
+    let t = c.args.self.now in
+    turns_removed t _ c.args.made c.in-Some.spot l h (sym c.remove.ensures.value ∙ c.in-Some.is)
+    (λ rs s. kept_shows by_object t.objects _ rs (drop_key c.in-Some.spot.call rs) s (c.remove-in-Some.ensures.stands rs s.holds) (listed_less by_object (number_at t.objects.numbers) c.in-Some.spot.call rs s.listed) c.remove-in-Some.ensures.open (λ k. refl))
+    (λ rs s. kept_shows by_window t.windows _ rs (drop_key c.in-Some.spot.mark rs) s (c.remove-mark.ensures.stands rs s.holds) (listed_less by_window (number_at t.windows.numbers) c.in-Some.spot.mark rs s.listed) c.remove-mark.ensures.open (λ k. refl))
+    c.remove.ensures.updates.0
+
+pub returns-in_default-clause-stands : goal.returns-in_default-clause-stands
+returns-in_default-clause-stands c = λ l h.
+    turns_absent c.args.self.now _ c.args.made l h (sym c.remove.ensures.value ∙ c.in_default.is) refl refl c.remove.ensures.updates.0

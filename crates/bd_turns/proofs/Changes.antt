@@ -1,0 +1,218 @@
+-- The table after a change.
+use Rattle.std.proofs.Common.{◌≡◌, ℕ, ◌==◌, ◌+◌, ◌≤◌, Bool, true, false, not, cond, List, [], ◌∷◌, ◌++◌, find, filter, map, length, Option, Some, None, refl, sym, ap, subst, ◌∙◌, arith}
+use Rattle.std.specs.Prelude.{option_map, min}
+use Rattle.std.specs.List.{list_any}
+use Rattle.std.proofs.lemmas.List.{map-append, length-map}
+use Rattle.std.proofs.lemmas.List.Kept.{AllPairs-filter}
+use Rattle.std.proofs.lemmas.List.Quantifiers.{all_pairs_push}
+use Rattle.bd_space.specs.declared.space.Turn.{Turn}
+use Rattle.bd_space.specs.Words.{changed}
+use Rattle.bd_space.proofs.Keyed.{changed_none, pairs_changed, tags_changed}
+use Rattle.bd_keys.proofs.Rising.{has, without, filter_none}
+use Rattle.bd_keys.proofs.Found.{none_found, apart_from, tags_more}
+use Rattle.bd_chains.specs.declared.links.Held.{Held}
+use Rattle.bd_chains.specs.declared.chains.Chains.{Chains}
+use Rattle.bd_chains.specs.Rows.{Row, drop_key}
+use Rattle.bd_chains.specs.Setting.{with_value}
+use Rattle.bd_chains.specs.Columns.{value_at, is_open, Holds}
+use Rattle.bd_turns.specs.declared.key.ListKey.TheVariants.{Window}
+use Rattle.bd_turns.specs.declared.spot.Mark.{Mark}
+use Rattle.bd_turns.specs.declared.spot.Spot.{Spot}
+use Rattle.bd_turns.specs.declared.table.TurnTable.{TurnTable}
+use Rattle.bd_turns.specs.Turn.{hand_turn}
+use Rattle.bd_turns.specs.Keys.{same_key, by_object, by_window}
+use Rattle.bd_turns.specs.Lists.{number_at, AreListed, Shows}
+use Rattle.bd_turns.specs.Spots.{spot_at, mark_of}
+use Rattle.bd_turns.specs.Entries.{Entry, made_of, call_row, mark_row, hand_entry, EntriesAre}
+use Rattle.bd_turns.specs.Stands.{TurnsAre}
+use Rattle.bd_turns.proofs.Listing.{kept_shows}
+use Rattle.bd_turns.proofs.Entries.{turn_of, row_went, row_found, row_handed, none_made, spots_went, none_in, first_went}
+use Rattle.bd_turns.proofs.Mapped.{map_map, filter_map, find_map, changed_map, kept_map}
+
+-- ---- room
+
+pub more_chains : (i j n m s : ℕ) → i ≤ j → m ≡ n → min (min i n) s ≤ min (min j m) s
+more_chains i j n m s items lists = omega arith
+
+pub more_room : (l k m v w s t : ℕ) → l ≤ k → k ≤ m → v ≤ w → s ≤ t → min (min l v) s ≤ min (min m w) t + 0
+more_room l k m v w s t a b c d = omega arith
+
+-- a call that was found
+record Found (es : List Entry) (made : ℕ) (s : Spot) : Type 0 where
+  entry : Entry
+  is : find (has made_of made) es ≡ Some entry
+  spot : entry.spot ≡ s
+
+found : (t : TurnTable) (es : List Entry) (made : ℕ) (s : Spot) → EntriesAre t es → spot_at t.spots made ≡ Some s → Found es made s
+found t es made s h at = of (find (has made_of made) es) refl (sym (h.spots_are made) ∙ at)
+  where
+    of : (o : Option Entry) → find (has made_of made) es ≡ o → option_map (λ (e : Entry). e.spot) o ≡ Some s → Found es made s
+    of None e k = absurd cc
+    of (Some x) e k = record { entry = x; is = e; spot = cc }
+
+absent : (t : TurnTable) (es : List Entry) (made : ℕ) → EntriesAre t es → spot_at t.spots made ≡ None → find (has made_of made) es ≡ None
+absent t es made h at = of (find (has made_of made) es) (sym (h.spots_are made) ∙ at)
+  where
+    of : (o : Option Entry) → option_map (λ (e : Entry). e.spot) o ≡ None → o ≡ None
+    of None k = refl
+    of (Some x) k = absurd cc
+
+-- ---- one comes
+
+pub turns_pushed : (t u : TurnTable) (turn : Turn) (spot : Spot) (l : List Turn) → list_any (λ t. t.made == turn.made) l ≡ false → TurnsAre t l
+    → ((rs : List (Row Turn)) → Shows by_object t.objects rs → (n : ℕ) × Shows by_object u.objects (rs ++ record { key = spot.call; list = n; held = record { value = turn; counted = false } } ∷ []))
+    → ((rs : List (Row Mark)) → Shows by_window t.windows rs → (n : ℕ) × Shows by_window u.windows (rs ++ record { key = spot.mark; list = n; held = record { value = mark_of turn; counted = false } } ∷ []))
+    → ((m : ℕ) → spot_at u.spots m ≡ cond (turn.made == m) (Some spot) (spot_at t.spots m)) → TurnsAre u (l ++ turn ∷ [])
+turns_pushed t u turn spot l new h calls marks spots =
+    let es = h.entries in
+    let none = none_made turn.made es (ap (list_any (λ (t : Turn). t.made == turn.made)) h.turns_are ∙ new) in
+    let c = calls (map call_row es) h.are.on_objects in
+    let w = marks (map mark_row es) h.are.in_windows in
+    let e : Entry = record { turn = turn; spot = spot; lists = record { call = c.0; mark = w.0 } } in
+    record {
+      entries = es ++ e ∷ [];
+      are = record {
+        on_objects = subst (Shows by_object u.objects) (sym (map-append call_row es (e ∷ []))) c.1;
+        in_windows = subst (Shows by_window u.windows) (sym (map-append mark_row es (e ∷ []))) w.1;
+        distinct = all_pairs_push (λ a b. made_of a ≡ made_of b → ⊥) es e h.are.distinct (apart_from made_of es e none);
+        spots_are = λ m. spots m ∙ ap (λ o. cond (turn.made == m) (Some spot) o) (h.are.spots_are m) ∙ tags_more made_of (λ (d : Entry). d.spot) es e m none;
+      };
+      turns_are = map-append turn_of es (e ∷ []) ∙ ap (λ ts. ts ++ turn ∷ []) h.turns_are;
+    }
+
+-- ---- one goes
+
+pub turns_removed : (t u : TurnTable) (made : ℕ) (s : Spot) (l : List Turn) → TurnsAre t l → spot_at t.spots made ≡ Some s
+    → ((rs : List (Row Turn)) → Shows by_object t.objects rs → Shows by_object u.objects (drop_key s.call rs))
+    → ((rs : List (Row Mark)) → Shows by_window t.windows rs → Shows by_window u.windows (drop_key s.mark rs))
+    → ((m : ℕ) → spot_at u.spots m ≡ cond (made == m) None (spot_at t.spots m)) → TurnsAre u (filter (λ t. not (t.made == made)) l)
+turns_removed t u made s l h at calls marks spots =
+    let es = h.entries in
+    let f = found t es made s h.are at in
+    record {
+      entries = without made_of made es;
+      are = record {
+        on_objects = subst (Shows by_object u.objects)
+            (ap (λ (p : Spot). drop_key p.call (map call_row es)) (sym f.spot) ∙ row_went call_row made es f.entry None h.are.distinct h.are.on_objects.holds.stands.apart f.is)
+            (calls (map call_row es) h.are.on_objects);
+        in_windows = subst (Shows by_window u.windows)
+            (ap (λ (p : Spot). drop_key p.mark (map mark_row es)) (sym f.spot) ∙ row_went mark_row made es f.entry None h.are.distinct h.are.in_windows.holds.stands.apart f.is)
+            (marks (map mark_row es) h.are.in_windows);
+        distinct = AllPairs-filter (λ a b. made_of a ≡ made_of b → ⊥) (λ e. not (has made_of made e)) es h.are.distinct;
+        spots_are = λ m. spots m ∙ ap (λ o. cond (made == m) None o) (h.are.spots_are m) ∙ spots_went made m es;
+      };
+      turns_are = filter_map turn_of (λ t. not (t.made == made)) es ∙ ap (filter (λ t. not (t.made == made))) h.turns_are;
+    }
+
+-- there was none
+pub turns_absent : (t u : TurnTable) (made : ℕ) (l : List Turn) → TurnsAre t l → spot_at t.spots made ≡ None → u.objects ≡ t.objects → u.windows ≡ t.windows
+    → ((m : ℕ) → spot_at u.spots m ≡ cond (made == m) None (spot_at t.spots m)) → TurnsAre u (filter (λ t. not (t.made == made)) l)
+turns_absent t u made l h at objects windows spots =
+    let es = h.entries in
+    let stay = filter_none made_of made es (none_found (has made_of made) es (absent t es made h.are at)) in
+    record {
+      entries = es;
+      are = record {
+        on_objects = subst (λ x. Shows by_object x (map call_row es)) (sym objects) h.are.on_objects;
+        in_windows = subst (λ x. Shows by_window x (map mark_row es)) (sym windows) h.are.in_windows;
+        distinct = h.are.distinct;
+        spots_are = λ m. spots m ∙ ap (λ o. cond (made == m) None o) (h.are.spots_are m) ∙ spots_went made m es ∙ ap (λ ds. option_map (λ (e : Entry). e.spot) (find (has made_of m) ds)) stay;
+      };
+      turns_are = ap (map turn_of) (sym stay) ∙ filter_map turn_of (λ t. not (t.made == made)) es ∙ ap (filter (λ t. not (t.made == made))) h.turns_are;
+    }
+
+-- ---- one is handed out
+
+listed_handed : (N : _ → Option ℕ) (m : ℕ) (es : List Entry) → AreListed by_object N (map call_row es) → AreListed by_object N (map call_row (changed (has made_of m) hand_entry es))
+listed_handed N m [] h = tt
+listed_handed N m (x ∷ es) h = at (made_of x == m) (listed_handed N m es h.1)
+  where
+    at : (b : Bool) → AreListed by_object N (map call_row (changed (has made_of m) hand_entry es)) → AreListed by_object N (call_row (cond b (hand_entry x) x) ∷ map call_row (changed (has made_of m) hand_entry es))
+    at true k = (h.0, k)
+    at false k = (h.0, k)
+
+-- what stands in its slot
+pub value_is : (t : TurnTable) (made : ℕ) (s : Spot) (l : List Turn) → (h : TurnsAre t l) → spot_at t.spots made ≡ Some s → (e : Entry) × (find (has made_of made) h.entries ≡ Some e) × (e.spot ≡ s) × (value_at t.objects.chains s.call ≡ Some e.turn)
+value_is t made s l h at =
+    let f = found t h.entries made s h.are at in (
+      f.entry,
+      f.is,
+      f.spot,
+      ap (λ (p : Spot). value_at t.objects.chains p.call) (sym f.spot)
+          ∙ ap (option_map (λ (p : ℕ × Held Turn). p.1.value)) (h.are.on_objects.holds.stands.shown f.entry.spot.call ∙ row_found made h.entries f.entry None h.are.on_objects.holds.stands.apart f.is),
+    )
+
+pub turns_handed_out : (t : TurnTable) (chains : Chains Turn) (made : ℕ) (s : Spot) (v : Turn) (l : List Turn) → TurnsAre t l → spot_at t.spots made ≡ Some s → value_at t.objects.chains s.call ≡ Some v
+    → ((rs : List (Row Turn)) → Holds t.objects.chains rs → Holds chains (with_value s.call (hand_turn v) rs)) → ((m : ℕ) → is_open chains m ≡ is_open t.objects.chains m)
+    → TurnsAre (record { objects = record { chains = chains; numbers = t.objects.numbers }; windows = t.windows; spots = t.spots }) (changed (λ t. t.made == made) hand_turn l)
+turns_handed_out t chains made s v l h at was holds opens =
+    let es = h.entries in
+    let f = value_is t made s l h at in
+    let same : f.0.turn ≡ v = some_is (sym f.3 ∙ was) in
+    let rows = ap (λ (p : Spot). with_value p.call (hand_turn v) (map call_row es)) (sym f.2) ∙ ap (λ w. with_value f.0.spot.call (hand_turn w) (map call_row es)) (sym same)
+    ∙ row_handed made es f.0 None h.are.distinct h.are.on_objects.holds.stands.apart f.1 in
+    record {
+      entries = changed (has made_of made) hand_entry es;
+      are = record {
+        on_objects = kept_shows by_object t.objects _ (map call_row es) (map call_row (changed (has made_of made) hand_entry es)) h.are.on_objects
+            (subst (Holds chains) rows (holds (map call_row es) h.are.on_objects.holds))
+            (listed_handed (number_at t.objects.numbers) made es h.are.on_objects.listed) opens (λ k. refl);
+        in_windows = subst (Shows by_window t.windows) (sym (kept_map mark_row (has made_of made) hand_entry (λ e. refl) es)) h.are.in_windows;
+        distinct = pairs_changed (has made_of made) hand_entry made_of (λ e. refl) (λ a b. a ≡ b → ⊥) es h.are.distinct;
+        spots_are = λ m. h.are.spots_are m ∙ sym (tags_changed (has made_of made) hand_entry made_of (λ e. refl) (λ (e : Entry). e.spot) (λ e. refl) m es);
+      };
+      turns_are = changed_map turn_of (λ t. t.made == made) hand_entry hand_turn (λ e. refl) es ∙ ap (changed (λ t. t.made == made) hand_turn) h.turns_are;
+    }
+  where
+    some_is : {a b : Turn} → Some a ≡ Some b → a ≡ b
+    some_is e = cc
+
+pub nothing_handed : (t : TurnTable) (made : ℕ) (l : List Turn) → TurnsAre t l → spot_at t.spots made ≡ None → TurnsAre t (changed (λ t. t.made == made) hand_turn l)
+nothing_handed t made l h at =
+    let es = h.entries in
+    let stay = changed_none made_of hand_entry made es (none_found (has made_of made) es (absent t es made h.are at)) in
+    record { entries = es; are = h.are; turns_are = ap (map turn_of) (sym stay) ∙ changed_map turn_of (λ t. t.made == made) hand_entry hand_turn (λ e. refl) es ∙ ap (changed (λ t. t.made == made) hand_turn) h.turns_are }
+
+-- ---- those in a window go
+
+module _ (t : TurnTable) (p : ℕ) (l : List Turn) (h : TurnsAre t l) where
+  -- the first mark in the window is the first call's
+  mark_found : find (λ v. same_key (by_window v) (Window p)) (map (λ r. r.held.value) (map mark_row h.entries)) ≡ option_map (λ (e : Entry). mark_of e.turn) (find (λ e. e.turn.receiver == p) h.entries)
+  mark_found = ap (find (λ v. same_key (by_window v) (Window p))) (map_map (λ (r : Row Mark). r.held.value) mark_row h.entries) ∙ find_map (λ (e : Entry). mark_of e.turn) (λ v. same_key (by_window v) (Window p)) h.entries
+
+  abbrev left : List Turn → List Turn
+  left ts = filter (λ t. not (t.receiver == p)) ts
+
+  pub popped : (mark : Mark) → find (λ v. same_key (by_window v) (Window p)) (map (λ r. r.held.value) (map mark_row h.entries)) ≡ Some mark
+      → (left (filter (λ t. not (t.made == mark.made)) l) ≡ left l) × (length (filter (λ t. not (t.made == mark.made)) l) + 1 ≡ length l)
+  popped mark is = of (find (λ e. e.turn.receiver == p) h.entries) refl (sym (mark_found) ∙ is)
+    where
+      of : (o : Option Entry) → find (λ e. e.turn.receiver == p) h.entries ≡ o → option_map (λ (e : Entry). mark_of e.turn) o ≡ Some mark
+          → (left (filter (λ t. not (t.made == mark.made)) l) ≡ left l) × (length (filter (λ t. not (t.made == mark.made)) l) + 1 ≡ length l)
+      of None f k = absurd cc
+      of (Some e) f k =
+          let es = h.entries in
+          let same : made_of e ≡ mark.made = cc in
+          let w = first_went p es e h.are.distinct f in
+          let rest : map turn_of (without made_of (made_of e) es) ≡ filter (λ t. not (t.made == mark.made)) l =
+          filter_map turn_of (λ t. not (t.made == made_of e)) es ∙ ap (λ m. filter (λ (t : Turn). not (t.made == m)) (map turn_of es)) same ∙ ap (filter (λ t. not (t.made == mark.made))) h.turns_are in
+          let n = w.1 in
+          let a = length-map (without made_of (made_of e) es) turn_of in
+          let b = length-map es turn_of in
+          let c = ap length rest in
+          let d = ap length h.turns_are in (
+            ap left (sym rest) ∙ sym (filter_map turn_of (λ t. not (t.receiver == p)) (without made_of (made_of e) es)) ∙ ap (map turn_of) w.0 ∙ filter_map turn_of (λ t. not (t.receiver == p)) es ∙ ap left h.turns_are,
+            omega (arith, n, a, b, c, d),
+          )
+
+  pub emptied : find (λ v. same_key (by_window v) (Window p)) (map (λ r. r.held.value) (map mark_row h.entries)) ≡ None → left l ≡ l
+  emptied is = ap left (sym h.turns_are) ∙ sym (filter_map turn_of (λ t. not (t.receiver == p)) h.entries) ∙ ap (map turn_of) (none_in p h.entries (of (find (λ e. e.turn.receiver == p) h.entries) (sym (mark_found) ∙ is))) ∙ h.turns_are
+    where
+      of : (o : Option Entry) → option_map (λ (e : Entry). mark_of e.turn) o ≡ None → o ≡ None
+      of None k = refl
+      of (Some e) k = absurd cc
+
+-- nothing stays of nothing
+pub none_left : (p : ℕ) (l : List Turn) → length l ≡ 0 → filter (λ t. not (t.receiver == p)) l ≡ l
+none_left p [] e = refl
+none_left p (t ∷ l) e = absurd (omega arith)
