@@ -43,7 +43,7 @@ module _ {T : Type 0} (key : T → ListKey) where
   listed_more N [] r h is = (is, tt)
   listed_more N (q ∷ rs) r h is = (h.0, listed_more N rs r h.1 is)
 
-  pub listed_less : (N : ListKey → Option ℕ) (x : ℕ) (rs : List (Row T)) → AreListed key N rs → AreListed key N (drop_key x rs)
+  listed_less : (N : ListKey → Option ℕ) (x : ℕ) (rs : List (Row T)) → AreListed key N rs → AreListed key N (drop_key x rs)
   listed_less N x [] h = tt
   listed_less N x (r ∷ rs) h = at (r.key == x) (listed_less N x rs h.1)
     where
@@ -60,6 +60,12 @@ module _ {T : Type 0} (key : T → ListKey) where
     opened = λ k n is. opens n ∙ h.opened k n (sym (numbers k) ∙ is);
     one_list = λ k l n a b. h.one_list k l n (sym (numbers k) ∙ a) (sym (numbers l) ∙ b);
   }
+
+  -- what stands in a slot goes
+  pub dropped_shows : (t u : Lists T) (x : ℕ) → ((rs : List (Row T)) → Holds t.chains rs → Holds u.chains (drop_key x rs)) → ((m : ℕ) → is_open u.chains m ≡ is_open t.chains m) → u.numbers ≡ t.numbers
+      → (rs : List (Row T)) → Shows key t rs → Shows key u (drop_key x rs)
+  dropped_shows t u x holds opens numbers rs h =
+      kept_shows t u rs (drop_key x rs) h (holds rs h.holds) (listed_less (number_at t.numbers) x rs h.listed) opens (λ k i. number_at (numbers i) k)
 
   -- a list that wasn't open has a number from now on, which was no other's
   pub opened_shows : (t u : Lists T) (rs : List (Row T)) (own : ListKey) (n : ℕ) → Shows key t rs → number_at t.numbers own ≡ None → Holds u.chains rs → is_open t.chains n ≡ false

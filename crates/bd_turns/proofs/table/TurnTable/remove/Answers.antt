@@ -1,9 +1,8 @@
 use Rattle.std.proofs.Common.{refl, sym, ◌∙◌, arith}
 use Rattle.bd_chains.specs.Rows.{drop_key}
 use Rattle.bd_turns.specs.Keys.{by_object, by_window}
-use Rattle.bd_turns.specs.Lists.{number_at}
 use Rattle.bd_turns.specs.Room.{turn_room, turn_count}
-use Rattle.bd_turns.proofs.Listing.{kept_shows, listed_less}
+use Rattle.bd_turns.proofs.Listing.{dropped_shows}
 use Rattle.bd_turns.proofs.Changes.{more_chains, more_room, turns_removed, turns_absent}
 use Rattle.bd_turns.proofs.table.TurnTable.remove.Goals as goal
 
@@ -12,8 +11,8 @@ returns-in-Some-remove-clause-stands c = λ l h.
     let t = c.args.self.now in
     turns_removed t _ c.args.made c.in-Some.spot l h (sym c.remove.ensures.value ∙ c.in-Some.is)
     (λ rs s. c.give_back.ensures.stands by_object (drop_key c.in-Some.spot.call rs)
-    (kept_shows by_object t.objects _ rs (drop_key c.in-Some.spot.call rs) s (c.remove-in-Some.ensures.stands rs s.holds) (listed_less by_object (number_at t.objects.numbers) c.in-Some.spot.call rs s.listed) c.remove-in-Some.ensures.open (λ k. refl)))
-    (λ rs s. kept_shows by_window t.windows _ rs (drop_key c.in-Some.spot.mark rs) s (c.remove-mark.ensures.stands rs s.holds) (listed_less by_window (number_at t.windows.numbers) c.in-Some.spot.mark rs s.listed) c.remove-mark.ensures.open (λ k. refl))
+    (dropped_shows by_object t.objects _ c.in-Some.spot.call c.remove-in-Some.ensures.stands c.remove-in-Some.ensures.open refl rs s))
+    (dropped_shows by_window t.windows _ c.in-Some.spot.mark c.remove-mark.ensures.stands c.remove-mark.ensures.open refl)
     c.remove.ensures.updates.0
 
 pub returns-in-Some-remove-clause-uses : goal.returns-in-Some-remove-clause-uses
@@ -28,8 +27,8 @@ pub returns-in_default-remove-clause-stands : goal.returns-in_default-remove-cla
 returns-in_default-remove-clause-stands c = λ l h.
     let t = c.args.self.now in
     turns_removed t _ c.args.made c.in-Some.spot l h (sym c.remove.ensures.value ∙ c.in-Some.is)
-    (λ rs s. kept_shows by_object t.objects _ rs (drop_key c.in-Some.spot.call rs) s (c.remove-in-Some.ensures.stands rs s.holds) (listed_less by_object (number_at t.objects.numbers) c.in-Some.spot.call rs s.listed) c.remove-in-Some.ensures.open (λ k. refl))
-    (λ rs s. kept_shows by_window t.windows _ rs (drop_key c.in-Some.spot.mark rs) s (c.remove-mark.ensures.stands rs s.holds) (listed_less by_window (number_at t.windows.numbers) c.in-Some.spot.mark rs s.listed) c.remove-mark.ensures.open (λ k. refl))
+    (dropped_shows by_object t.objects _ c.in-Some.spot.call c.remove-in-Some.ensures.stands c.remove-in-Some.ensures.open refl)
+    (dropped_shows by_window t.windows _ c.in-Some.spot.mark c.remove-mark.ensures.stands c.remove-mark.ensures.open refl)
     c.remove.ensures.updates.0
 
 pub returns-in_default-clause-stands : goal.returns-in_default-clause-stands
