@@ -144,7 +144,7 @@ value_is t made s l h at =
 
 pub turns_handed_out : (t : TurnTable) (chains : Chains Turn) (made : ℕ) (s : Spot) (v : Turn) (l : List Turn) → TurnsAre t l → spot_at t.spots made ≡ Some s → value_at t.objects.chains s.call ≡ Some v
     → ((rs : List (Row Turn)) → Holds t.objects.chains rs → Holds chains (with_value s.call (hand_turn v) rs)) → ((m : ℕ) → is_open chains m ≡ is_open t.objects.chains m)
-    → TurnsAre (record { objects = record { chains = chains; numbers = t.objects.numbers }; windows = t.windows; spots = t.spots }) (changed (λ t. t.made == made) hand_turn l)
+    → TurnsAre (record { objects = record { chains = chains; numbers = t.objects.numbers }; windows = t.windows; spots = t.spots; last = t.last }) (changed (λ t. t.made == made) hand_turn l)
 turns_handed_out t chains made s v l h at was holds opens =
     let es = h.entries in
     let f = value_is t made s l h at in

@@ -22,6 +22,8 @@ pub struct TurnTable {
     pub(crate) windows: Lists<Mark>,
     // By where they were made.
     pub(crate) spots: HashMap<u32, Spot>,
+    // The object whose call went last: of all objects' lists this one alone may be open with nothing on it.
+    pub(crate) last: ObjectId,
 }
 
 impl Drop for TurnTable {
@@ -30,11 +32,14 @@ impl Drop for TurnTable {
             objects: _,
             windows: _,
             spots: _,
+            last: _,
         } = self;
     }
 }
 
 impl TurnTable {
+    ghost use Rattle.bd_chains.specs.Rows.{Row};
+    ghost use Rattle.bd_turns.specs.{Keys.{by_object}, Lists.{Shows, lists_room}};
     ghost use Rattle.bd_turns.specs.Stands.{TurnsAre, Tells, Makes};
 
     /// An empty table. Takes no memory.
@@ -45,6 +50,7 @@ impl TurnTable {
             objects: Lists::new(alloc),
             windows: Lists::new(alloc),
             spots: HashMap::new(alloc),
+            last: ObjectId { place: 0, index: 0 },
         }
     }
 
@@ -98,6 +104,20 @@ impl TurnTable {
         }
     }
 
+    // A call of this object went. If nothing is on its list now, that is closed when another object's call goes: mostly
+    // the next to come is the same object's, and finds it open.
+    fn leave(&mut self, object: ObjectId)
+        ensures objects { (rs : List (Row declared.Turn)) → Shows by_object self.old.objects rs → Shows by_object self.new.objects rs }
+        ensures windows { self.new.windows ≡ self.old.windows }
+        ensures spots { self.new.spots ≡ self.old.spots }
+        ensures room { lists_room self.old.objects ≤ lists_room self.new.objects }
+    {
+        if self.last != object {
+            self.objects.give_back(ListKey::Object(self.last));
+            self.last = object;
+        }
+    }
+
     /// The one-way call made at this place goes, if there is one.
     pub fn remove(&mut self, made: u32)
         ensures stands { Makes self.old self.new (λ l. filter (λ t. not (t.made == made)) l) }
@@ -106,7 +126,7 @@ impl TurnTable {
         if let Some(spot) = self.spots.remove(&made) {
             let _mark = self.windows.chains.remove(spot.mark);
             if let Some(turn) = self.objects.chains.remove(spot.call) {
-                self.objects.give_back(ListKey::Object(turn.target));
+                self.leave(turn.target);
             }
         }
     }
