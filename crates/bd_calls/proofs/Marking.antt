@@ -1,22 +1,17 @@
 -- What was told of the todo lists is known still where a change fills and empties marked lists alone.
-use Rattle.std.proofs.Common.{◌≡◌, ℕ, ◌<◌, ◌≤◌, ◌+◌, Bool, true, false, cond, not, ◌&&◌, ◌||◌, List, [], ◌∷◌, ◌++◌, Some, None, refl, ap, sym, subst, ◌∙◌, length, get_or, filter, take, IfSome}
-use Rattle.std.specs.Prelude.{Option}
+use Rattle.std.proofs.Common.{◌≡◌, ℕ, ◌<◌, ◌≤◌, ◌+◌, Bool, true, false, cond, not, ◌&&◌, ◌||◌, List, [], ◌∷◌, ◌++◌, refl, ap, sym, subst, ◌∙◌, length, get_or, filter, take}
 use Rattle.std.specs.List.{list_any, list_all}
 use Rattle.std.proofs.lemmas.Bool.{or_parts, and_parts}
 use Rattle.std.proofs.lemmas.List.Folds.{list_any-append, list_all-append}
 use Rattle.std.proofs.lemmas.List.{take_more, take_all}
 use Rattle.std.proofs.lemmas.Map.Views.{any-filter_same}
 use Rattle.std.proofs.Math.Bool.{and-false}
-use Rattle.bd_space.specs.declared.space.Turn.{Turn}
 use Rattle.bd_space.specs.declared.space.Work.{Work}
 use Rattle.bd_space.specs.declared.space.WorkKind.{WorkKind}
-use Rattle.bd_space.specs.declared.space.WorkKind.TheVariants as work
 use Rattle.bd_space.specs.declared.space.TodoList.{TodoList}
-use Rattle.bd_space.specs.declared.space.TodoList.TheVariants.{OfProcess}
 use Rattle.bd_space.specs.Words.{same_identity}
 use Rattle.bd_space.specs.ReadItems.{none_due}
-use Rattle.bd_space.specs.Todo.{has_work_in, is_on, same_list, with_work, is_item, is_call, without_taken}
-use Rattle.bd_ways.specs.Local.{first_due}
+use Rattle.bd_space.specs.Todo.{has_work_in, is_on, same_list, with_work, is_item, without_taken}
 use Rattle.bd_todo.specs.declared.table.WorkTable.{WorkTable}
 use Rattle.bd_todo.specs.Stands.{WorksAre}
 use Rattle.bd_todo.proofs.OnList.{any_left}
@@ -172,15 +167,6 @@ pub pushed-beside : (m : Marks) (place : ℕ) (ws : List Work) (to : TodoList) (
     → has_work_in (with_work place ws to kind) list ≡ has_work_in ws list
 pushed-beside m place ws to kind list marked unmarked =
     list_any-append (is_on list) ws _ ∙ ap (λ b. has_work_in ws list || (b || false)) (other m list to unmarked marked) ∙ or-false (has_work_in ws list)
-
-pub due-beside : (m : Marks) (place : ℕ) (ws : List Work) (turn : Option Turn) (list : TodoList) → IfSome turn (λ t. is_marked m (OfProcess t.receiver) ≡ true) → is_marked m list ≡ false
-    → has_work_in (first_due place ws turn) list ≡ has_work_in ws list
-due-beside m place ws None list marked unmarked = refl
-due-beside m place ws (Some t) list marked unmarked = by (not t.handed && not (list_any (λ w. is_call t.made w.kind) ws))
-  where
-    by : (b : Bool) → has_work_in (cond b (with_work place ws (OfProcess t.receiver) (work.Call t.made)) ws) list ≡ has_work_in ws list
-    by true = pushed-beside m place ws (OfProcess t.receiver) (work.Call t.made) list marked unmarked
-    by false = refl
 
 -- work items of marked lists go
 none-taken : (m : Marks) (list : TodoList) (w : Work) (taken : List Work) → list_all (λ d. is_marked m d.list) taken ≡ true → is_marked m list ≡ false → same_list list w.list ≡ true

@@ -1,40 +1,37 @@
 -- What is kept of the seats, and what a change of the work items leaves of it.
-use Rattle.std.proofs.Common.{◌≡◌, ℕ, ◌<◌, ◌≤◌, ◌+◌, ◌==◌, Bool, true, false, cond, not, ◌&&◌, ◌||◌, List, [], ◌∷◌, Some, None, refl, ap, sym, subst, ◌∙◌, length, get_or, set, filter, take, eqb-true, IfSome}
-use Rattle.std.specs.Prelude.{Option}
+use Rattle.std.proofs.Common.{◌≡◌, ℕ, ◌<◌, ◌+◌, ◌==◌, arith, Bool, true, false, cond, not, ◌&&◌, ◌||◌, List, [], ◌∷◌, Some, None, refl, ap, sym, subst, ◌∙◌, length, get_or, set, filter, take, eqb-true, IfSome}
+use Rattle.std.specs.Prelude.{Option, option_map}
 use Rattle.std.specs.Option.{is_none}
 use Rattle.std.specs.List.{list_any}
 use Rattle.std.proofs.lemmas.Bool.{eq-eqb, or_parts}
 use Rattle.std.proofs.lemmas.List.Folds.{list_any-append}
-use Rattle.std.proofs.lemmas.List.{get_or-set_same, get_or-set_other, take_more, take_all}
+use Rattle.std.proofs.lemmas.List.{get_or-set_same, get_or-set_other, take_more}
 use Rattle.std.proofs.lemmas.Map.Views.{any-filter_same}
 use Rattle.std.proofs.Math.Bool.{and-false}
 use Rattle.bd_keys.proofs.Found.{found_passes}
 use Rattle.bd_space.specs.declared.step.ObjectId.{ObjectId}
 use Rattle.bd_space.specs.declared.space.Frame.{Frame}
 use Rattle.bd_space.specs.declared.space.Thread.{Thread}
-use Rattle.bd_space.specs.declared.space.Turn.{Turn}
 use Rattle.bd_space.specs.declared.space.Work.{Work}
 use Rattle.bd_space.specs.declared.space.WorkKind.{WorkKind}
-use Rattle.bd_space.specs.declared.space.WorkKind.TheVariants as work
 use Rattle.bd_space.specs.declared.space.TodoList.{TodoList}
 use Rattle.bd_space.specs.declared.space.TodoList.TheVariants.{OfThread, OfProcess}
 use Rattle.bd_space.specs.Words.{is_some_and, same_identity}
 use Rattle.bd_space.specs.Seats.{thread_in}
 use Rattle.bd_space.specs.Frames.{innermost_in}
 use Rattle.bd_space.specs.ReadItems.{none_due}
-use Rattle.bd_ways.specs.Local.{first_due}
-use Rattle.bd_space.specs.Todo.{has_work_in, is_on, same_list, work_on, reads_in, with_work, is_item, is_call, without_taken, is_notice}
+use Rattle.bd_space.specs.Todo.{has_work_in, is_on, same_list, work_on, reads_in, with_work, is_item, without_taken, is_notice}
 use Rattle.bd_space.specs.Notices.{has_notice_in}
 use Rattle.bd_calls.specs.declared.ready.Seen.{Seen}
 use Rattle.bd_calls.specs.declared.ready.ReadySeats.{ReadySeats}
-use Rattle.bd_calls.specs.Ready.{seen_at, is_of, unless_of, tells_of, KeepsOnly, IsSeen, AreSeen}
+use Rattle.bd_calls.specs.Ready.{seen_at, is_of, with_own, with_shared, told_then, told_after, IsSeen, AreSeen}
 use Rattle.bd_todo.proofs.ListKeys.{same_list-eq}
 use Rattle.bd_calls.proofs.Plain.{anything-to-read}
 
 -- ---- a seat that was seen
 
 -- what was seen tells whether the thread has anything to read
-pub seen-ready : (fs : List Frame) (ts : List Thread) (ws : List Work) (seat : ℕ) (x : Seen) (t : Thread) → x.thread ≡ Some t → IsSeen ts ws seat x
+pub seen-ready : (fs : List Frame) (ts : List Thread) (ws : List Work) (seat : ℕ) (x : Seen) (t : Thread) → x.thread ≡ Some t → IsSeen ts (has_work_in ws) seat x
     → (x.own || (x.shared && (t.looping && is_none (innermost_in fs t.seat)))) ≡ is_some_and (thread_in ts seat) (λ u. not (none_due (work_on ws (reads_in fs ws u))))
 seen-ready fs ts ws seat x t is seen =
     let found : thread_in ts seat ≡ Some t = sym seen.thread ∙ is in
@@ -50,100 +47,139 @@ seen-ready fs ts ws seat x t is seen =
 
 -- ---- what is kept
 
-pub none-seen : (r : ReadySeats) (ts : List Thread) (ws : List Work) → ((seat : ℕ) → seen_at r seat ≡ None) → AreSeen r ts ws
-none-seen r ts ws none = λ seat x is. let never : None ≡ Some x = sym (none seat) ∙ is in absurd (cc)
+pub none-seen : (r : ReadySeats) (ts : List Thread) (told : TodoList → Bool) → ((seat : ℕ) → seen_at r seat ≡ None) → AreSeen r ts told
+none-seen r ts told none = λ seat x is. let never : None ≡ Some x = sym (none seat) ∙ is in absurd (cc)
 
-pub unless-kept : (process : ℕ) (o : Option Seen) (x : Seen) → unless_of process o ≡ Some x → (o ≡ Some x) × (is_of process x ≡ false)
-unless-kept process None x e = absurd (cc)
-unless-kept process (Some y) x e = by (is_of process y) refl e
+pub look-seen : (xs : List (Option Seen)) (i : ℕ) (y : Seen) (ts : List Thread) (told : TodoList → Bool) → i < length xs → IsSeen ts told i y
+    → ((seat : ℕ) (x : Seen) → get_or xs seat None ≡ Some x → IsSeen ts told seat x)
+    → (seat : ℕ) (x : Seen) → get_or (set xs i (Some y)) seat None ≡ Some x → IsSeen ts told seat x
+look-seen xs i y ts told lt is before seat x at = by (seat == i) refl
   where
-    by : (b : Bool) → is_of process y ≡ b → cond b None (Some y) ≡ Some x → (Some y ≡ Some x) × (is_of process x ≡ false)
-    by true k e = absurd (cc)
-    by false k e = let same : y ≡ x = cc in (e, ap (is_of process) (sym same) ∙ k)
-
-pub look-seen : (xs : List (Option Seen)) (i : ℕ) (y : Seen) (ts : List Thread) (ws : List Work) → i < length xs → IsSeen ts ws i y
-    → ((seat : ℕ) (x : Seen) → get_or xs seat None ≡ Some x → IsSeen ts ws seat x)
-    → (seat : ℕ) (x : Seen) → get_or (set xs i (Some y)) seat None ≡ Some x → IsSeen ts ws seat x
-look-seen xs i y ts ws lt is before seat x at = by (seat == i) refl
-  where
-    by : (b : Bool) → (seat == i) ≡ b → IsSeen ts ws seat x
+    by : (b : Bool) → (seat == i) ≡ b → IsSeen ts told seat x
     by true e =
         let same : seat ≡ i = eqb-true seat i e in
         let here : get_or (set xs i (Some y)) seat None ≡ Some y = ap (λ n. get_or (set xs i (Some y)) n None) same ∙ get_or-set_same xs i (Some y) None lt in
         let one : y ≡ x = let eq : Some y ≡ Some x = sym here ∙ at in cc in
-        subst (λ z. IsSeen ts ws seat z) one (subst (λ n. IsSeen ts ws n y) (sym same) is)
+        subst (λ z. IsSeen ts told seat z) one (subst (λ n. IsSeen ts told n y) (sym same) is)
     by false e =
         let apart : seat ≡ i → ⊥ = λ k. let never : false ≡ true = sym e ∙ eq-eqb seat i k in absurd (cc) in
         before seat x (sym (get_or-set_other xs i seat (Some y) None apart) ∙ at)
 
--- ---- a change of the work items
+some-is : {x y : Seen} → Some y ≡ Some x → y ≡ x
+some-is e = cc
 
--- where the lists that are told of are as before, what is kept is so still
-pub kept-seen : (old new : ReadySeats) (lost : ℕ → Seen → Bool) (ts : List Thread) (ws vs : List Work) → AreSeen old ts ws → KeepsOnly old new lost
-    → ((list : TodoList) (seat : ℕ) (x : Seen) → lost seat x ≡ false → tells_of list seat x ≡ true → has_work_in vs list ≡ has_work_in ws list)
-    → AreSeen new ts vs
-kept-seen old new lost ts ws vs before kept as_before = λ seat x at.
-    let k = kept seat x at in
-    let seen = before seat x k.0 in
-    record {
-      thread = seen.thread;
-      own = seen.own ∙ sym (as_before (OfThread seat) seat x k.1 (eq-eqb seat seat refl));
-      shared = shared seat x k.1 x.thread refl seen.shared;
-    }
-  where
-    shared : (seat : ℕ) (x : Seen) → lost seat x ≡ false → (o : Option Thread) → x.thread ≡ o → IfSome o (λ t. x.shared ≡ has_work_in ws (OfProcess t.process))
-        → IfSome o (λ t. x.shared ≡ has_work_in vs (OfProcess t.process))
-    shared seat x gone None is h = tt
-    shared seat x gone (Some t) is h =
-        h ∙ sym (as_before (OfProcess t.process) seat x gone (ap (λ o. is_some_and o (λ u. u.process == t.process)) is ∙ eq-eqb t.process t.process refl))
-
-differs : (a b : TodoList) → (a ≡ b → ⊥) → same_list a b ≡ false
-differs a b far = by (same_list a b) refl
-  where
-    by : (t : Bool) → same_list a b ≡ t → same_list a b ≡ false
-    by false e = e
-    by true e = absurd (far (same_list-eq a b e))
-
--- a list that is told of is another than one that isn't
-apart : (list other : TodoList) (seat : ℕ) (x : Seen) → tells_of list seat x ≡ true → tells_of other seat x ≡ false → list ≡ other → ⊥
-apart list other seat x told gone e = let never : true ≡ false = sym told ∙ ap (λ l. tells_of l seat x) e ∙ gone in cc
+or-true : (b : Bool) → (b || (true || false)) ≡ true
+or-true true = refl
+or-true false = refl
 
 or-false : (b : Bool) → (b || (false || false)) ≡ b
 or-false true = refl
 or-false false = refl
 
--- a work item comes onto another list
-pub pushed-on : (place : ℕ) (ws : List Work) (other : TodoList) (kind : WorkKind) (list : TodoList) (seat : ℕ) (x : Seen)
-    → tells_of other seat x ≡ false → tells_of list seat x ≡ true → has_work_in (with_work place ws other kind) list ≡ has_work_in ws list
-pushed-on place ws other kind list seat x gone told =
-    list_any-append (is_on list) ws _ ∙ ap (λ b. has_work_in ws list || (b || false)) (differs list other (apart list other seat x told gone)) ∙ or-false (has_work_in ws list)
+-- ---- something is on a list from now on, or nothing is
 
-pub due-on : (place : ℕ) (ws : List Work) (turn : Option Turn) (list : TodoList) (seat : ℕ) (x : Seen)
-    → is_some_and turn (λ t. is_of t.receiver x) ≡ false → tells_of list seat x ≡ true → has_work_in (first_due place ws turn) list ≡ has_work_in ws list
-due-on place ws None list seat x gone told = refl
-due-on place ws (Some t) list seat x gone told = by (not t.handed && not (list_any (λ w. is_call t.made w.kind) ws))
+module _ (old new : ReadySeats) (ts : List Thread) (told : TodoList → Bool) (has : Bool) (before : AreSeen old ts told) where
+  -- on a thread's
+  pub own-noted : (t : ℕ) → ((seat : ℕ) → seen_at new seat ≡ cond (t == seat) (option_map (with_own has) (seen_at old seat)) (seen_at old seat))
+      → AreSeen new ts (told_then (OfThread t) has told)
+  own-noted t now = λ seat x is. by seat x (t == seat) refl (seen_at old seat) refl (sym (now seat) ∙ is)
+    where
+      by : (seat : ℕ) (x : Seen) (b : Bool) → (t == seat) ≡ b → (o : Option Seen) → seen_at old seat ≡ o → cond b (option_map (with_own has) o) o ≡ Some x
+          → IsSeen ts (told_then (OfThread t) has told) seat x
+      by seat x b e None was at = absurd (none b at)
+        where
+          none : (b : Bool) → cond b None None ≡ Some x → ⊥
+          none true k = cc
+          none false k = cc
+      by seat x true e (Some y) was at =
+          let seen = before seat y was in
+          subst (IsSeen ts (told_then (OfThread t) has told) seat) (some-is at)
+          (record { thread = seen.thread; own = sym (ap (λ b. cond b has (told (OfThread seat))) e); shared = seen.shared })
+      by seat x false e (Some y) was at =
+          let seen = before seat x (was ∙ at) in
+          record { thread = seen.thread; own = seen.own ∙ sym (ap (λ b. cond b has (told (OfThread seat))) e); shared = seen.shared }
+
+  -- on a process's
+  pub shared-noted : (p : ℕ) → ((seat : ℕ) → seen_at new seat ≡ with_shared p has (seen_at old seat)) → AreSeen new ts (told_then (OfProcess p) has told)
+  shared-noted p now = λ seat x is. by seat x (seen_at old seat) refl (sym (now seat) ∙ is)
+    where
+      shared : (o : Option Thread) (b now : Bool) → is_some_and o (λ t. t.process == p) ≡ b → IfSome o (λ t. now ≡ told (OfProcess t.process))
+          → IfSome o (λ t. cond b has now ≡ told_then (OfProcess p) has told (OfProcess t.process))
+      shared None b now e h = tt
+      shared (Some t) b now e h = of b (turned t.process p ∙ e)
+        where
+          turned : (m n : ℕ) → (n == m) ≡ (m == n)
+          turned m n = grind arith
+
+          of : (b : Bool) → (p == t.process) ≡ b → cond b has now ≡ told_then (OfProcess p) has told (OfProcess t.process)
+          of true k = sym (ap (λ c. cond c has (told (OfProcess t.process))) k)
+          of false k = h ∙ sym (ap (λ c. cond c has (told (OfProcess t.process))) k)
+
+      by : (seat : ℕ) (x : Seen) (o : Option Seen) → seen_at old seat ≡ o → with_shared p has o ≡ Some x → IsSeen ts (told_then (OfProcess p) has told) seat x
+      by seat x None was at = absurd cc
+      by seat x (Some y) was at = of (is_of p y) refl at
+        where
+          seen : IsSeen ts told seat y
+          seen = before seat y was
+
+          of : (b : Bool) → is_of p y ≡ b → cond b (Some (record y { shared = has })) (Some y) ≡ Some x → IsSeen ts (told_then (OfProcess p) has told) seat x
+          of true e k =
+              subst (IsSeen ts (told_then (OfProcess p) has told) seat) (some-is k)
+              (record { thread = seen.thread; own = seen.own; shared = shared y.thread true y.shared e seen.shared })
+          of false e k =
+              subst (IsSeen ts (told_then (OfProcess p) has told) seat) (some-is k)
+              (record { thread = seen.thread; own = seen.own; shared = shared y.thread false y.shared e seen.shared })
+
+-- what is told of each list may be said otherwise
+pub told-same : (r : ReadySeats) (ts : List Thread) (a b : TodoList → Bool) → ((list : TodoList) → a list ≡ b list) → AreSeen r ts a → AreSeen r ts b
+told-same r ts a b same = subst (AreSeen r ts) (λ i list. same list i)
+
+-- ---- a change of the work items
+
+-- a work item comes onto a list
+pub pushed-told : (place : ℕ) (ws : List Work) (to : TodoList) (kind : WorkKind) (list : TodoList) → told_then to true (has_work_in ws) list ≡ has_work_in (with_work place ws to kind) list
+pushed-told place ws to kind list =
+    by (same_list to list) refl ∙ sym (list_any-append (is_on list) ws _ ∙ ap (λ b. has_work_in ws list || (b || false)) (turned list to))
   where
-    by : (b : Bool) → has_work_in (cond b (with_work place ws (OfProcess t.receiver) (work.Call t.made)) ws) list ≡ has_work_in ws list
-    by true = pushed-on place ws (OfProcess t.receiver) (work.Call t.made) list seat x gone told
-    by false = refl
+    turned : (a b : TodoList) → same_list a b ≡ same_list b a
+    turned (OfThread t) (OfThread u) = grind arith
+    turned (OfThread t) (OfProcess q) = refl
+    turned (OfProcess p) (OfThread u) = refl
+    turned (OfProcess p) (OfProcess q) = grind arith
+
+    by : (b : Bool) → same_list to list ≡ b → cond b true (has_work_in ws list) ≡ (has_work_in ws list || (same_list to list || false))
+    by true e = rw e (sym (or-true (has_work_in ws list)))
+    by false e = rw e (sym (or-false (has_work_in ws list)))
 
 -- work items of other lists go
-none-taken : (list : TodoList) (seat : ℕ) (x : Seen) (w : Work) (taken : List Work) → list_any (λ d. tells_of d.list seat x) taken ≡ false → tells_of list seat x ≡ true
-    → same_list list w.list ≡ true → list_any (λ d. is_item w d) taken ≡ false
-none-taken list seat x w [] gone told on = refl
-none-taken list seat x w (d ∷ ds) gone told on =
-    let both = or_parts (tells_of d.list seat x) _ gone in
-    let other = differs d.list list (λ e. apart list d.list seat x told both.0 (sym e)) in
-    let here : same_list d.list w.list ≡ false = ap (same_list d.list) (sym (same_list-eq list w.list on)) ∙ other in
-    ap (λ b. (same_identity w.id d.id && b) || list_any (λ e. is_item w e) ds) here ∙ ap (λ b. b || list_any (λ e. is_item w e) ds) (and-false (same_identity w.id d.id))
-    ∙ none-taken list seat x w ds both.1 told on
+pub taken-told : (taken ws : List Work) (list : TodoList) → told_after (without_taken taken ws) taken (has_work_in ws) list ≡ has_work_in (without_taken taken ws) list
+taken-told taken ws list = by (list_any (λ d. same_list d.list list) taken) refl
+  where
+    none-taken : (w : Work) (ds : List Work) → list_any (λ d. same_list d.list list) ds ≡ false → same_list list w.list ≡ true → list_any (λ d. is_item w d) ds ≡ false
+    none-taken w [] gone on = refl
+    none-taken w (d ∷ ds) gone on =
+        let both = or_parts (same_list d.list list) _ gone in
+        let here : same_list d.list w.list ≡ false = ap (same_list d.list) (sym (same_list-eq list w.list on)) ∙ both.0 in
+        ap (λ b. (same_identity w.id d.id && b) || list_any (λ e. is_item w e) ds) here ∙ ap (λ b. b || list_any (λ e. is_item w e) ds) (and-false (same_identity w.id d.id))
+        ∙ none-taken w ds both.1 on
 
-pub taken-from : (taken ws : List Work) (list : TodoList) (seat : ℕ) (x : Seen) → list_any (λ d. tells_of d.list seat x) taken ≡ false → tells_of list seat x ≡ true
-    → has_work_in (without_taken taken ws) list ≡ has_work_in ws list
-taken-from taken ws list seat x gone told =
-    any-filter_same (is_on list) (λ w. not (list_any (λ d. is_item w d) taken)) true (λ w on. ap not (none-taken list seat x w taken gone told on)) ws
+    by : (b : Bool) → list_any (λ d. same_list d.list list) taken ≡ b → cond b (has_work_in (without_taken taken ws) list) (has_work_in ws list) ≡ has_work_in (without_taken taken ws) list
+    by true e = refl
+    by false e = sym (any-filter_same (is_on list) (λ w. not (list_any (λ d. is_item w d) taken)) true (λ w on. ap not (none-taken w taken e on)) ws)
 
--- nothing goes where there is gone such notice
+-- one work item more was taken
+pub told-more : (todo taken : List Work) (i : ℕ) (d : Work) (told : TodoList → Bool) (list : TodoList) → i < length taken
+    → told_then (get_or taken i d).list (has_work_in todo (get_or taken i d).list) (told_after todo (take i taken) told) list ≡ told_after todo (take (i + 1) taken) told list
+told-more todo taken i d told list lt = rw (take_more taken i d lt, list_any-append (λ e. same_list e.list list) (take i taken) (get_or taken i d ∷ []))
+    (by (same_list (get_or taken i d).list list) refl (list_any (λ e. same_list e.list list) (take i taken)))
+  where
+    by : (b : Bool) → same_list (get_or taken i d).list list ≡ b → (c : Bool) → cond b (has_work_in todo (get_or taken i d).list) (cond c (has_work_in todo list) (told list)) ≡ cond (c || (b || false)) (has_work_in todo list) (told list)
+    by true e true = ap (has_work_in todo) (same_list-eq (get_or taken i d).list list e)
+    by true e false = ap (has_work_in todo) (same_list-eq (get_or taken i d).list list e)
+    by false e true = refl
+    by false e false = refl
+
+-- nothing goes where there is no such notice
 pub no-notice : (o : ObjectId) (ws : List Work) → has_notice_in ws o ≡ false → filter (λ w. not (is_notice o w.kind)) ws ≡ ws
 no-notice o [] e = refl
 no-notice o (w ∷ ws) e = by (is_notice o w.kind) e (no-notice o ws)
@@ -152,25 +188,3 @@ no-notice o (w ∷ ws) e = by (is_notice o w.kind) e (no-notice o ws)
         → cond (not b) (w ∷ filter (λ v. not (is_notice o v.kind)) ws) (filter (λ v. not (is_notice o v.kind)) ws) ≡ w ∷ ws
     by true e rest = absurd (cc)
     by false e rest = ap (λ vs. w ∷ vs) (rest e)
-
--- ---- the lists of some work items, one after the other
-
-abbrev told_by : List Work → ℕ → Seen → Bool
-told_by taken seat x = list_any (λ d. tells_of d.list seat x) taken
-
-pub kept-more : (first old new : ReadySeats) (taken : List Work) (i : ℕ) (d : Work) → i < length taken → KeepsOnly first old (told_by (take i taken))
-    → KeepsOnly old new (tells_of (get_or taken i d).list) → KeepsOnly first new (told_by (take (i + 1) taken))
-kept-more first old new taken i d lt before more = λ seat x at.
-    let k = more seat x at in
-    let j = before seat x k.0 in (
-      j.0,
-      ap (told seat x) (take_more taken i d lt) ∙ list_any-append (λ e. tells_of e.list seat x) (take i taken) _ ∙ ap (λ b. b || (tells_of (get_or taken i d).list seat x || false)) j.1
-          ∙ ap (λ b. b || false) k.1,
-    )
-  where
-    told : (seat : ℕ) → Seen → List Work → Bool
-    told seat x ws = told_by ws seat x
-
-pub kept-all : (first new : ReadySeats) (taken : List Work) (i : ℕ) → length taken ≤ i → KeepsOnly first new (told_by (take i taken)) → KeepsOnly first new (told_by taken)
-kept-all first new taken i le kept = λ seat x at.
-    let k = kept seat x at in (k.0, ap (λ ws. told_by ws seat x) (sym (take_all i taken le)) ∙ k.1)

@@ -7,13 +7,14 @@ use Rattle.bd_keys.proofs.Options.{or_none}
 use Rattle.bd_space.specs.declared.space.Thread.{Thread}
 use Rattle.bd_space.specs.declared.space.Work.{Work}
 use Rattle.bd_space.specs.Seats.{thread_in}
+use Rattle.bd_space.specs.Todo.{has_work_in}
 use Rattle.bd_space.specs.Words.{changed}
 use Rattle.bd_calls.specs.declared.ready.ReadySeats.{ReadySeats}
-use Rattle.bd_calls.specs.Ready.{KeepsOnly, AreSeen}
+use Rattle.bd_calls.specs.Ready.{KeepsBut, AreSeen}
 
 -- where the other seats have the threads that they had, what is kept of them is so still
-pub kept-beside : (old new : ReadySeats) (ts us : List Thread) (ws : List Work) (seat : ℕ) → AreSeen old ts ws → KeepsOnly old new (λ at _. seat == at)
-    → ((at : ℕ) → (seat ≡ at → ⊥) → thread_in us at ≡ thread_in ts at) → AreSeen new us ws
+pub kept-beside : (old new : ReadySeats) (ts us : List Thread) (ws : List Work) (seat : ℕ) → AreSeen old ts (has_work_in ws) → KeepsBut seat old new
+    → ((at : ℕ) → (seat ≡ at → ⊥) → thread_in us at ≡ thread_in ts at) → AreSeen new us (has_work_in ws)
 kept-beside old new ts us ws seat before kept as_before = λ at x is.
     let k = kept at x is in
     let seen = before at x k.0 in

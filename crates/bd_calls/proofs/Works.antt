@@ -2,6 +2,7 @@
 use Rattle.std.proofs.Common.{ℕ, ◌≡◌, List, None, ap, sym, subst, ◌∙◌}
 use Rattle.bd_space.specs.declared.space.Work.{Work}
 use Rattle.bd_space.specs.Space.{Space}
+use Rattle.bd_space.specs.Todo.{has_work_in}
 use Rattle.bd_space.specs.Turns.{turns_of}
 use Rattle.bd_frames.specs.Stands.{FramesAre}
 use Rattle.bd_todo.specs.Stands.{WorksAre}
@@ -14,7 +15,7 @@ use Rattle.bd_calls.proofs.Seats.{none-seen}
 
 -- u has the threads, frames and one-way calls of t
 pub works-stand : (t u : CallTable) (s : Space) (todo : List Work) → StandsFor t s → u.threads ≡ t.threads → u.frames ≡ t.frames → u.turns ≡ t.turns
-    → WorksAre u.todo todo → AreSeen u.ready s.threads todo → Stands u s.threads s.frames todo (turns_of s.buffers)
+    → WorksAre u.todo todo → AreSeen u.ready s.threads (has_work_in todo) → Stands u s.threads s.frames todo (turns_of s.buffers)
 works-stand t u s todo h threads frames turns are seen = record {
   threads_are = ap listed threads ∙ h.threads_are;
   frames_are = subst (λ f. FramesAre f s.frames) (sym frames) h.frames_are;
@@ -26,4 +27,4 @@ works-stand t u s todo h threads frames turns are seen = record {
 -- where nothing is kept
 pub works-stand-unseen : (t u : CallTable) (s : Space) (todo : List Work) → StandsFor t s → u.threads ≡ t.threads → u.frames ≡ t.frames → u.turns ≡ t.turns
     → WorksAre u.todo todo → ((seat : ℕ) → seen_at u.ready seat ≡ None) → Stands u s.threads s.frames todo (turns_of s.buffers)
-works-stand-unseen t u s todo h threads frames turns are none = works-stand t u s todo h threads frames turns are (none-seen u.ready s.threads todo none)
+works-stand-unseen t u s todo h threads frames turns are none = works-stand t u s todo h threads frames turns are (none-seen u.ready s.threads (has_work_in todo) none)

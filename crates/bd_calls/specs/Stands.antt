@@ -3,6 +3,7 @@
 use Rattle.std.specs.Prelude.{◌≡◌, List}
 use Rattle.bd_ways.specs.Words.{Thread, Frame, Work, Turn, Space}
 use Rattle.bd_space.specs.Turns.{turns_of}
+use Rattle.bd_space.specs.Todo.{has_work_in}
 use Rattle.bd_frames.specs.Stands.{FramesAre}
 use Rattle.bd_todo.specs.Stands.{WorksAre}
 use Rattle.bd_turns.specs.Stands.{TurnsAre}
@@ -16,7 +17,7 @@ pub record Stands (t : CallTable) (threads : List Thread) (frames : List Frame) 
   pub frames_are : FramesAre t.frames frames
   pub todo_are : WorksAre t.todo todo
   pub turns_are : TurnsAre t.turns turns
-  pub ready_are : AreSeen t.ready threads todo
+  pub ready_are : AreSeen t.ready threads (has_work_in todo)
 
 abbrev pub StandsFor : CallTable → Space → Type 0
 StandsFor t s = Stands t s.threads s.frames s.todo (turns_of s.buffers)

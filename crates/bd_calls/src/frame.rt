@@ -212,9 +212,9 @@ impl CallTable {
         let parent = newest_made(&self.frames, seat);
         let list = list_from(&self.threads, &self.frames, parent, process);
         self.sure_room = self.sure_room.saturating_sub(1);
-        self.ready.forget_list(list);
         self.marks.mark(&self.todo, list);
         self.todo.push(place, list, WorkKind::Call(place));
+        self.ready.note(list, true);
         let frame = Frame {
             made: place,
             caller: Some(seat),

@@ -1,16 +1,15 @@
 //! Which todo lists may have been filled or emptied since that was last told.
 #![tactic(auto)]
 
-ghost use Rattle.std.specs.Prelude.{◌≡◌, ◌+◌, ◌<◌, ◌≤◌, ◌++◌, ◌∷◌, [], Bool, true, false, not, List, if◌then◌else◌, IfOk, IfSome, OnOk, OnErr, length, vec_len, vec_capacity};
+ghost use Rattle.std.specs.Prelude.{◌≡◌, ◌+◌, ◌<◌, ◌≤◌, ◌++◌, ◌∷◌, [], Bool, true, false, not, List, if◌then◌else◌, IfOk, OnOk, OnErr, length, vec_len, vec_capacity};
 ghost use Rattle.std.specs.List.{list_all};
 ghost use Rattle.bd_space.specs.declared.space.TodoList as lists;
-ghost use Rattle.bd_space.specs.declared.space.TodoList.TheVariants.{OfProcess};
 ghost use Rattle.bd_space.specs.declared.space.Work as works;
 ghost use Rattle.bd_space.specs.Todo.{same_list, has_work_in};
 ghost use Rattle.bd_todo.specs.Stands as links;
 ghost use Rattle.bd_calls.specs.Marks as spec;
 
-use bd_space::{TodoList, Turn, Work};
+use bd_space::{TodoList, Work};
 use bd_todo::WorkTable;
 use std::alloc::{AllocError, Global};
 
@@ -71,17 +70,6 @@ fn list_changed(marks: &[Mark], todo: &WorkTable, reached: &mut Vec<TodoList>)
 {
     for mark in marks {
         push_changed(mark, todo, reached);
-    }
-}
-
-/// The list of the call's receiver may be filled.
-pub(crate) fn mark_receiver(marks: &mut Marks, todo: &WorkTable, turn: Option<Turn>)
-    ensures marked { IfSome turn (λ t. spec.is_marked marks.new (OfProcess t.receiver) ≡ true) }
-    ensures recalls { spec.Goes marks.old marks.new todo.now }
-    ensures few { spec.MarksFew 1 marks.old marks.new }
-{
-    if let Some(turn) = turn {
-        marks.mark(todo, TodoList::OfProcess(turn.receiver));
     }
 }
 

@@ -1,10 +1,11 @@
 //! What is kept of the seats from step to step: whether there is anything on the lists that each may read.
 #![tactic(auto)]
 
-ghost use Rattle.std.specs.Prelude.{ℕ, ◌≡◌, ◌==◌, Bool, true, false, ◌||◌, ◌&&◌, not, List, map, if◌then◌else◌, Option, Some, None, IfOk, get_or, length};
+ghost use Rattle.std.specs.Prelude.{ℕ, ◌≡◌, ◌==◌, Bool, true, false, ◌||◌, ◌&&◌, not, List, map, if◌then◌else◌, Option, Some, None, IfOk, get_or, length, option_map};
 ghost use Rattle.std.specs.List.{list_any};
 ghost use Rattle.bd_space.specs.declared.space.Frame as declared;
 ghost use Rattle.bd_space.specs.declared.space.Thread as threads;
+ghost use Rattle.bd_space.specs.declared.space.TodoList as lists;
 ghost use Rattle.bd_space.specs.declared.space.Work as works;
 ghost use Rattle.bd_space.specs.{Seats.{thread_in}, Words.{is_some_and}};
 ghost use Rattle.bd_space.specs.Todo as todos;
@@ -31,10 +32,12 @@ pub(crate) struct Seen {
     pub(crate) shared: bool,
 }
 
-/// What is kept of the seats: of each what was seen of it, unless a list of which that tells may have changed since.
+/// What is kept of the seats: of each what is so, unless more may have changed since than the lists that were noted.
 #[derive(Drop)]
 pub(crate) struct ReadySeats {
     pub(crate) seats: Vec<Option<Seen>>,
+    // Something is kept of each: there is nothing to look at.
+    pub(crate) whole: bool,
 }
 
 fn is_of(seen: &Seen, process: u32) -> bool
@@ -46,21 +49,27 @@ fn is_of(seen: &Seen, process: u32) -> bool
     }
 }
 
-// What is left of it once the process's list may have changed.
-fn unless_of(seen: Option<Seen>, process: u32) -> Option<Seen>
-    ensures { result ≡ spec.unless_of process seen }
+// What is kept of a seat, once something is on the process's list or nothing is.
+fn with_shared(seen: Option<Seen>, process: u32, has: bool) -> Option<Seen>
+    ensures { result ≡ spec.with_shared process has seen }
 {
     match seen {
-        Some(x) => { if is_of(&x, process) { None } else { Some(x) } }
+        Some(x) => {
+            if is_of(&x, process) {
+                Some(Seen { shared: has, ..x })
+            } else {
+                Some(x)
+            }
+        }
         None => None,
     }
 }
 
-fn forget_members(seats: &mut Vec<Option<Seen>>, process: u32)
-    ensures { seats.new.items ≡ map (spec.unless_of process) seats.old.items }
+fn note_members(seats: &mut Vec<Option<Seen>>, process: u32, has: bool)
+    ensures { seats.new.items ≡ map (spec.with_shared process has) seats.old.items }
 {
     for seen in seats.iter_mut() {
-        *seen = unless_of(*seen, process);
+        *seen = with_shared(*seen, process, has);
     }
 }
 
@@ -74,7 +83,7 @@ fn forget_each(seats: &mut Vec<Option<Seen>>)
 
 /// Looks at a seat.
 pub(crate) fn look_at(threads: &ThreadTable, todo: &WorkTable, seat: u32) -> Seen
-    ensures { (ws : List works.Work) → links.WorksAre todo.now ws → spec.IsSeen (listed threads.now) ws seat result }
+    ensures { (ws : List works.Work) → links.WorksAre todo.now ws → spec.IsSeen (listed threads.now) (todos.has_work_in ws) seat result }
 {
     let own = todo.has_any(TodoList::OfThread(seat));
     let thread = threads.thread(seat);
@@ -92,7 +101,7 @@ pub(crate) fn look_at(threads: &ThreadTable, todo: &WorkTable, seat: u32) -> See
 /// Whether the thread that was seen has anything to read.
 pub(crate) fn has_seen(frames: &FrameTable, seen: &Seen) -> bool
     ensures { (seat : ℕ) (ts : List threads.Thread) (ws : List works.Work) (fs : List declared.Frame)
-        → frame_table.FramesAre frames.now fs → spec.IsSeen ts ws seat seen.now
+        → frame_table.FramesAre frames.now fs → spec.IsSeen ts (todos.has_work_in ws) seat seen.now
         → result ≡ is_some_and (thread_in ts seat) (λ t. not (reading.none_due (todos.work_on ws (todos.reads_in fs ws t)))) }
 {
     match seen.thread {
@@ -108,6 +117,7 @@ impl ReadySeats {
     {
         ReadySeats {
             seats: Vec::new(alloc),
+            whole: true,
         }
     }
 
@@ -116,7 +126,10 @@ impl ReadySeats {
         ensures { IfOk result (λ r. (seat : ℕ) → spec.seen_at r seat ≡ None) }
     {
         let seats = vec![in alloc; None; seats as usize]?;
-        Ok(ReadySeats { seats })
+        Ok(ReadySeats {
+            seats,
+            whole: false,
+        })
     }
 
     /// What was seen of the seat, and is so still.
@@ -129,38 +142,48 @@ impl ReadySeats {
         }
     }
 
-    /// The seat's thread may have changed, or what is on its list.
+    /// The seat's thread may have changed.
     pub(crate) fn forget_seat(&mut self, seat: u32)
-        ensures { spec.KeepsOnly self.old self.new (λ at _. seat == at) }
+        ensures { spec.KeepsBut seat self.old self.new }
     {
         let at = seat as usize;
         if at < self.seats.len() {
             self.seats[at] = None;
         }
+        self.whole = false;
     }
 
-    fn forget_process(&mut self, process: u32)
-        ensures { spec.KeepsOnly self.old self.new (λ _ x. spec.is_of process x) }
+    // Whether there is anything on the list of the seat's thread.
+    fn note_own(&mut self, seat: u32, has: bool)
+        ensures { (at : ℕ) → spec.seen_at self.new at
+            ≡ (if seat == at then option_map (spec.with_own has) (spec.seen_at self.old at) else spec.seen_at self.old at) }
     {
-        forget_members(&mut self.seats, process);
-    }
-
-    /// The list may have changed.
-    pub(crate) fn forget_list(&mut self, list: TodoList)
-        ensures { spec.KeepsOnly self.old self.new (spec.tells_of list) }
-    {
-        match list {
-            TodoList::OfThread(seat) => self.forget_seat(seat),
-            TodoList::OfProcess(process) => self.forget_process(process),
+        let at = seat as usize;
+        if at < self.seats.len() {
+            if let Some(seen) = self.seats[at] {
+                self.seats[at] = Some(Seen { own: has, ..seen });
+            }
         }
     }
 
-    /// The lists of these work items may have changed.
-    pub(crate) fn forget_lists_of(&mut self, taken: &[Work])
-        ensures { spec.KeepsOnly self.old self.new (λ at x. list_any (λ d. spec.tells_of d.list at x) taken.now) }
+    /// There is anything on the list from now on, or nothing.
+    pub(crate) fn note(&mut self, list: TodoList, has: bool)
+        ensures { (ts : List threads.Thread) (told : lists.TodoList → Bool) → spec.AreSeen self.old ts told
+            → spec.AreSeen self.new ts (spec.told_then list has told) }
+    {
+        match list {
+            TodoList::OfThread(seat) => self.note_own(seat, has),
+            TodoList::OfProcess(process) => note_members(&mut self.seats, process, has),
+        }
+    }
+
+    /// These work items went from their lists, as the table now has them.
+    pub(crate) fn note_lists_of(&mut self, todo: &WorkTable, taken: &[Work])
+        ensures { (ts : List threads.Thread) (told : lists.TodoList → Bool) (ws : List works.Work) → links.WorksAre todo.now ws
+            → spec.AreSeen self.old ts told → spec.AreSeen self.new ts (spec.told_after ws taken.now told) }
     {
         for work in taken {
-            self.forget_list(work.list);
+            self.note(work.list, todo.has_any(work.list));
         }
     }
 
@@ -168,13 +191,14 @@ impl ReadySeats {
     pub(crate) fn forget_all(&mut self)
         ensures { (seat : ℕ) → spec.seen_at self.new seat ≡ None }
     {
+        self.whole = false;
         forget_each(&mut self.seats);
     }
 
     // Looks at a seat of which nothing is kept.
     fn look(&mut self, threads: &ThreadTable, todo: &WorkTable, seat: u32)
-        ensures { (ws : List works.Work) → links.WorksAre todo.now ws → spec.AreSeen self.old (listed threads.now) ws
-            → spec.AreSeen self.new (listed threads.now) ws }
+        ensures { (ws : List works.Work) → links.WorksAre todo.now ws → spec.AreSeen self.old (listed threads.now) (todos.has_work_in ws)
+            → spec.AreSeen self.new (listed threads.now) (todos.has_work_in ws) }
     {
         let at = seat as usize;
         if at < self.seats.len() && self.seats[at].is_none() {
@@ -184,12 +208,16 @@ impl ReadySeats {
 
     /// Looks at those seats of which nothing is kept.
     pub(crate) fn refresh(&mut self, threads: &ThreadTable, todo: &WorkTable)
-        ensures { (ws : List works.Work) → links.WorksAre todo.now ws → spec.AreSeen self.old (listed threads.now) ws
-            → spec.AreSeen self.new (listed threads.now) ws }
+        ensures { (ws : List works.Work) → links.WorksAre todo.now ws → spec.AreSeen self.old (listed threads.now) (todos.has_work_in ws)
+            → spec.AreSeen self.new (listed threads.now) (todos.has_work_in ws) }
     {
+        if self.whole {
+            return;
+        }
         let seats = self.seats.len().min(MOST_SEATS as usize) as u32;
         for seat in 0..seats {
             self.look(threads, todo, seat);
         }
+        self.whole = true;
     }
 }

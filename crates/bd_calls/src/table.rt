@@ -151,10 +151,10 @@ impl CallTable {
         ensures told { KeepsTold self.old self.new }
         ensures few { ReachesFew (length taken.now) self.old self.new }
     {
-        self.ready.forget_lists_of(taken);
         self.marks.mark_lists_of(&self.todo, taken);
         serve(&mut self.frames, seat, taken);
         self.todo.remove_taken(taken);
+        self.ready.note_lists_of(&self.todo, taken);
         hand_out_taken(&mut self.turns, taken);
     }
 

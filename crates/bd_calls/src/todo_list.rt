@@ -85,7 +85,7 @@ impl CallTable {
 
     // What is kept of the seat, or what is seen of it now.
     fn seen_at(&self, seat: u32) -> Seen
-        ensures { (s : Space) → StandsFor self.now s → IsSeen s.threads s.todo seat result }
+        ensures { (s : Space) → StandsFor self.now s → IsSeen s.threads (spec.has_work_in s.todo) seat result }
     {
         match self.ready.seen(seat) {
             Some(seen) => seen,
@@ -109,9 +109,9 @@ impl CallTable {
         ensures few { ReachesFew 1 self.old self.new }
     {
         self.sure_room = self.sure_room.saturating_sub(1);
-        self.ready.forget_list(list);
         self.marks.mark(&self.todo, list);
         self.todo.push(place, list, kind);
+        self.ready.note(list, true);
     }
 
     /// The caller of a frame, if it lives, gets a work item, made at this place.
@@ -123,11 +123,7 @@ impl CallTable {
         ensures few { ReachesFew 1 self.old self.new }
     {
         if let Some(seat) = frame.caller {
-            let list = TodoList::OfThread(seat);
-            self.sure_room = self.sure_room.saturating_sub(1);
-            self.ready.forget_list(list);
-            self.marks.mark(&self.todo, list);
-            self.todo.push(place, list, kind);
+            self.owe(place, TodoList::OfThread(seat), kind);
         }
     }
 
@@ -162,10 +158,7 @@ impl CallTable {
         ensures few { ReachesFew 1 self.old self.new }
     {
         if wanted && !self.todo.has_notice(object) {
-            self.sure_room = self.sure_room.saturating_sub(1);
-            self.ready.forget_list(list);
-            self.marks.mark(&self.todo, list);
-            self.todo.push(place, list, WorkKind::Notice(object));
+            self.owe(place, list, WorkKind::Notice(object));
         }
     }
 

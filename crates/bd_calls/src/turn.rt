@@ -13,11 +13,8 @@ ghost use Rattle.bd_space.specs.declared.space.Turn as one_way;
 ghost use Rattle.bd_todo.specs.Stands as links;
 ghost use Rattle.bd_turns.specs.Stands as turn_table;
 ghost use Rattle.bd_turns.specs.Room as turn_rooms;
-ghost use Rattle.bd_calls.specs.Ready as ready_seats;
 ghost use Rattle.bd_calls.specs.Turn.{handed_turns, is_other_than};
 
-use crate::marks::mark_receiver;
-use crate::ready::ReadySeats;
 use crate::table::CallTable;
 use crate::work::handed_by;
 use bd_space::{ObjectId, TodoList, Turn, Work, WorkKind};
@@ -30,37 +27,6 @@ fn is_untold(todo: &WorkTable, turn: Turn) -> bool
         (λ l. not turn.handed && not (list_any (λ w. works.is_call turn.made w.kind) l)) }
 {
     !turn.handed && !todo.has_call(turn.made)
-}
-
-// The call becomes due, unless somebody was told of it before.
-fn push_untold(todo: &mut WorkTable, turn: Turn, place: u32)
-    requires { 1 ≤ links.work_room todo.old }
-    ensures todo { links.Makes todo.old todo.new (λ l. local.first_due place l (Some turn)) }
-    ensures uses { links.work_room todo.old ≤ links.work_room todo.new + 1 }
-{
-    if is_untold(todo, turn) {
-        let list = TodoList::OfProcess(turn.receiver);
-        todo.push(place, list, WorkKind::Call(turn.made));
-    }
-}
-
-fn push_first(todo: &mut WorkTable, turn: Option<Turn>, place: u32)
-    requires { 1 ≤ links.work_room todo.old }
-    ensures todo { links.Makes todo.old todo.new (λ l. local.first_due place l turn) }
-    ensures uses { links.work_room todo.old ≤ links.work_room todo.new + 1 }
-{
-    if let Some(turn) = turn {
-        push_untold(todo, turn, place);
-    }
-}
-
-// The list of the call's receiver may change.
-fn forget_receiver(ready: &mut ReadySeats, turn: Option<Turn>)
-    ensures { ready_seats.KeepsOnly ready.old ready.new (λ at x. is_some_and turn (λ t. ready_seats.is_of t.receiver x)) }
-{
-    if let Some(turn) = turn {
-        ready.forget_list(TodoList::OfProcess(turn.receiver));
-    }
 }
 
 // It was made where none of the others was.
@@ -143,10 +109,11 @@ impl CallTable {
         ensures told { KeepsTold self.old self.new }
         ensures few { ReachesFew 1 self.old self.new }
     {
-        let oldest = self.turns.oldest_on(object);
-        forget_receiver(&mut self.ready, oldest);
-        mark_receiver(&mut self.marks, &self.todo, oldest);
-        self.sure_room = self.sure_room.saturating_sub(1);
-        push_first(&mut self.todo, oldest, place);
+        if let Some(turn) = self.turns.oldest_on(object) {
+            if is_untold(&self.todo, turn) {
+                let list = TodoList::OfProcess(turn.receiver);
+                self.owe(place, list, WorkKind::Call(turn.made));
+            }
+        }
     }
 }

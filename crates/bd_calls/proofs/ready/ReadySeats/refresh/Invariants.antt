@@ -1,9 +1,10 @@
 use Rattle.std.proofs.Common.{List}
 use Rattle.bd_space.specs.declared.space.Work.{Work}
+use Rattle.bd_space.specs.Todo.{has_work_in}
 use Rattle.bd_todo.specs.Stands.{WorksAre}
 use Rattle.bd_threads.specs.Listed.{listed}
 use Rattle.bd_calls.specs.Ready.{AreSeen}
 use Rattle.bd_calls.proofs.ready.ReadySeats.refresh.Given as goal
 
 abbrev pub invariant-loop-seat : goal.invariant-loop-seat
-invariant-loop-seat l = (ws : List Work) → WorksAre l.todo ws → AreSeen l.initial.self (listed l.threads) ws → AreSeen l.self (listed l.threads) ws
+invariant-loop-seat l = (ws : List Work) → WorksAre l.todo ws → AreSeen l.initial.self (listed l.threads) (has_work_in ws) → AreSeen l.self (listed l.threads) (has_work_in ws)

@@ -1,15 +1,15 @@
-use Rattle.std.proofs.Common.{◌∙◌, sym, ap, subst, ◌++◌, ◌∷◌, [], Some, Option, ℕ}
+use Rattle.std.proofs.Common.{◌∙◌, sym, ap, subst, ◌++◌, ◌∷◌, [], true, Some, Option, ℕ}
 use Rattle.std.specs.Prelude.{find, reverse, option_map}
 use Rattle.bd_space.specs.declared.space.Frame.{Frame}
 use Rattle.bd_space.specs.declared.space.Server.TheVariants.{Pending}
 use Rattle.bd_space.specs.declared.space.WorkKind.TheVariants.{Call}
 use Rattle.bd_space.specs.Frames.{innermost, goes_to, list_of_caller, waits_in, ancestry, made_of}
-use Rattle.bd_space.specs.Todo.{owe, with_work}
+use Rattle.bd_space.specs.Todo.{owe, with_work, has_work_in}
 use Rattle.bd_space.specs.Transactions.{call_out}
 use Rattle.bd_frames.specs.Stands.{FramesAre}
 use Rattle.bd_todo.specs.Stands.{WorksAre}
-use Rattle.bd_calls.specs.Ready.{KeepsOnly, tells_of}
-use Rattle.bd_calls.proofs.Seats.{kept-seen, pushed-on}
+use Rattle.bd_calls.specs.Ready.{AreSeen, told_then}
+use Rattle.bd_calls.proofs.Seats.{told-same, pushed-told}
 use Rattle.bd_calls.proofs.Marking.{told-on, pushed-beside}
 use Rattle.bd_calls.specs.Told.{Recalls}
 use Rattle.bd_calls.proofs.table.CallTable.call_out.Goals as goal
@@ -36,8 +36,8 @@ returns-clause-stands c = λ s h k.
       todo_are = subst (λ n. WorksAre c.push.new.self (with_work n s.todo (goes_to s seat p) (Call n))) (sym k.0)
           (subst (λ l. WorksAre c.push.new.self (with_work c.args.place s.todo l (Call c.args.place))) list (c.push.ensures.stands s.todo h.todo_are));
       turns_are = h.turns_are;
-      ready_are = kept-seen c.args.self.now.ready c.forget_list.new.self (tells_of (goes_to s seat p)) s.threads s.todo _ h.ready_are (subst (λ l. KeepsOnly c.args.self.now.ready c.forget_list.new.self (tells_of l)) list c.forget_list.ensures)
-          (λ l at x. pushed-on s.steps s.todo (goes_to s seat p) (Call s.steps) l at x);
+      ready_are = told-same c.note.new.self s.threads _ _ (pushed-told s.steps s.todo (goes_to s seat p) (Call s.steps))
+          (subst (λ l. AreSeen c.note.new.self s.threads (told_then l true (has_work_in s.todo))) list (c.note.ensures s.threads _ h.ready_are));
     }
 
 pub returns-clause-told : goal.returns-clause-told

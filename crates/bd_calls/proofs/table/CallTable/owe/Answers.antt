@@ -2,8 +2,7 @@ use Rattle.std.proofs.Common.{sym, subst, refl}
 use Rattle.bd_space.specs.Todo.{owe, with_work}
 use Rattle.bd_todo.specs.Stands.{WorksAre}
 use Rattle.bd_calls.proofs.Works.{works-stand}
-use Rattle.bd_calls.proofs.Seats.{kept-seen, pushed-on}
-use Rattle.bd_calls.specs.Ready.{tells_of}
+use Rattle.bd_calls.proofs.Seats.{told-same, pushed-told}
 use Rattle.bd_calls.proofs.Marking.{told-on, pushed-beside}
 use Rattle.bd_calls.specs.Told.{Recalls}
 use Rattle.bd_calls.proofs.table.CallTable.owe.Goals as goal
@@ -12,7 +11,7 @@ pub returns-clause-stands : goal.returns-clause-stands
 unfolding owe
 returns-clause-stands c = λ s h at. works-stand _ _ s _ h refl refl refl
     (subst (λ n. WorksAre c.push.new.self (with_work n s.todo c.args.list c.args.kind)) (sym at) (c.push.ensures.stands s.todo h.todo_are))
-    (kept-seen c.args.self.now.ready c.forget_list.new.self (tells_of c.args.list) s.threads s.todo _ h.ready_are c.forget_list.ensures (λ list seat x. pushed-on s.steps s.todo c.args.list c.args.kind list seat x))
+    (told-same c.note.new.self s.threads _ _ (pushed-told s.steps s.todo c.args.list c.args.kind) (c.note.ensures s.threads _ h.ready_are))
 
 pub returns-clause-told : goal.returns-clause-told
 unfolding Recalls

@@ -1,13 +1,11 @@
 use Rattle.std.proofs.Common.{sym, subst, map}
-use Rattle.std.specs.List.{list_any}
 use Rattle.bd_space.specs.declared.space.Work.{Work}
 use Rattle.bd_space.specs.Words.{first_of}
 use Rattle.bd_space.specs.Todo.{hands_out}
 use Rattle.bd_space.specs.ReadItems.{read_by, buffer_taken}
 use Rattle.bd_turns.specs.Stands.{TurnsAre}
 use Rattle.bd_calls.proofs.OneWay.{turns-handed}
-use Rattle.bd_calls.proofs.Seats.{kept-seen, taken-from}
-use Rattle.bd_calls.specs.Ready.{tells_of}
+use Rattle.bd_calls.proofs.Seats.{told-same, taken-told}
 use Rattle.bd_space.specs.Todo.{without_taken}
 use Rattle.bd_calls.proofs.Marking.{told-on, taken-beside}
 use Rattle.bd_calls.specs.Told.{Recalls}
@@ -23,7 +21,8 @@ returns-clause-stands c =
       frames_are = c.serve.ensures.frames _ stands.frames_are;
       todo_are = c.remove_taken.ensures.stands _ stands.todo_are;
       turns_are = subst (TurnsAre c.hand_out_taken.new.turns) (sym (turns-handed s.buffers made)) (c.hand_out_taken.ensures.turns _ stands.turns_are);
-      ready_are = kept-seen c.args.self.now.ready c.forget_lists_of.new.self (λ at x. list_any (λ (d : Work). tells_of d.list at x) c.args.taken.now) s.threads s.todo _ stands.ready_are c.forget_lists_of.ensures (taken-from c.args.taken.now s.todo);
+      ready_are = told-same c.note_lists_of.new.self s.threads _ _ (taken-told c.args.taken.now s.todo)
+          (c.note_lists_of.ensures s.threads _ _ (c.remove_taken.ensures.stands _ stands.todo_are) stands.ready_are);
     }
 
 pub returns-clause-told : goal.returns-clause-told
