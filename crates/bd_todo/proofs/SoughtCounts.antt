@@ -1,6 +1,7 @@
 -- The counts of what is looked up, as entries and work items come and go.
 use Rattle.std.proofs.Common.{◌≡◌, ℕ, ◌+◌, ◌-◌, ◌<◌, ◌==◌, nat_lt, Bool, true, false, not, ◌&&◌, ◌||◌, cond, List, [], ◌∷◌, ◌++◌, length, filter, count_by, Option, Some, None, option_map, unwrap_or, min, ap, refl, sym, ◌∙◌, arith, eqb-true, lt-ltb}
 use Rattle.std.specs.List.{list_any}
+use Rattle.std.specs.Map.{lookup}
 use Rattle.std.proofs.lemmas.List.Sums.{sum_by-append, sum_by-cons, count_by-le-length}
 use Rattle.bd_space.specs.declared.space.Work.{Work}
 use Rattle.bd_todo.specs.declared.spots.Sought.{Sought}
@@ -43,6 +44,11 @@ gone_down t a k m n new none down gone = at (same_sought a k) refl down gone
     at : (b : Bool) → same_sought a k ≡ b → count_at t k ≡ cond b m n → new ≡ cond b 0 (count_at t k) → new ≡ cond b m n
     at true s d g = g ∙ sym none ∙ ap (count_at t) (same_sought-eq a k s) ∙ d
     at false s d g = g ∙ d
+
+-- nothing is found where there is nothing
+pub none_in : {K X : Type 0} (p : K → Bool) (entries : List (K × X)) → length entries ≡ 0 → None ≡ lookup p entries
+none_in p [] e = refl
+none_in p (x ∷ entries) e = absurd (omega arith)
 
 -- the count of what stands is_there, or of what is put is_there
 pub count_or : (o : Option Spot) (new : Spot) → (unwrap_or o new).count ≡ unwrap_or (option_map (λ (s : Spot). s.count) o) new.count

@@ -115,6 +115,10 @@ impl Spots {
     pub fn spot(&self, key: Sought) -> Option<Spot>
         ensures { result ≡ get_by (same_sought key) self.now.spots }
     {
+        // Mostly there are none at all, which takes no hash.
+        if self.spots.is_empty() {
+            return None;
+        }
         self.spots.get(&key).copied()
     }
 
