@@ -1,5 +1,5 @@
 -- What each element of a list is, or each two, as the list changes.
-use Rattle.std.proofs.Common.{Bool, true, false, cond, List, [], ◌∷◌, ◌++◌, filter}
+use Rattle.std.proofs.Common.{List, [], ◌∷◌, ◌++◌}
 use Rattle.bd_todo.specs.Each.{Each, EachPair}
 
 module _ {A : Type 0} (P : A → Type 0) where
@@ -21,14 +21,6 @@ module _ {A : Type 0} (P : A → Type 0) where
   pub each-cut : (xs : List A) (x : A) (ys : List A) → Each P (xs ++ x ∷ ys) → Each P (xs ++ ys)
   each-cut xs x ys h = each-append xs ys (each-left xs (x ∷ ys) h) (each-right xs (x ∷ ys) h).1
 
-  pub each-filter : (p : A → Bool) (xs : List A) → Each P xs → Each P (filter p xs)
-  each-filter p [] h = tt
-  each-filter p (x ∷ xs) h = one (p x) (each-filter p xs h.1)
-    where
-      one : (b : Bool) → Each P (filter p xs) → Each P (cond b (x ∷ filter p xs) (filter p xs))
-      one true k = (h.0, k)
-      one false k = k
-
   pub each-so : (Q : A → Type 0) → ((x : A) → P x → Q x) → (xs : List A) → Each P xs → Each Q xs
   each-so Q so [] h = tt
   each-so Q so (x ∷ xs) h = (so x h.0, each-so Q so xs h.1)
@@ -38,22 +30,6 @@ module _ {A : Type 0} (R : A → A → Type 0) where
   pairs-push [] x h k = (tt, tt)
   pairs-push (y ∷ xs) x h k = (each-push (R y) xs x h.0 k.0, pairs-push xs x h.1 k.1)
 
-  pub pairs-left : (xs ys : List A) → EachPair R (xs ++ ys) → EachPair R xs
-  pairs-left [] ys h = tt
-  pairs-left (x ∷ xs) ys h = (each-left (R x) xs ys h.0, pairs-left xs ys h.1)
-
-  pub pairs-right : (xs ys : List A) → EachPair R (xs ++ ys) → EachPair R ys
-  pairs-right [] ys h = h
-  pairs-right (x ∷ xs) ys h = pairs-right xs ys h.1
-
   pub pairs-cut : (xs : List A) (x : A) (ys : List A) → EachPair R (xs ++ x ∷ ys) → EachPair R (xs ++ ys)
   pairs-cut [] x ys h = h.1
   pairs-cut (z ∷ xs) x ys h = (each-cut (R z) xs x ys h.0, pairs-cut xs x ys h.1)
-
-  pub pairs-filter : (p : A → Bool) (xs : List A) → EachPair R xs → EachPair R (filter p xs)
-  pairs-filter p [] h = tt
-  pairs-filter p (x ∷ xs) h = one (p x) (pairs-filter p xs h.1)
-    where
-      one : (b : Bool) → EachPair R (filter p xs) → EachPair R (cond b (x ∷ filter p xs) (filter p xs))
-      one true k = (each-filter (R x) p xs h.0, k)
-      one false k = k

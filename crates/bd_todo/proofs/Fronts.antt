@@ -1,13 +1,15 @@
 -- The first work item of a list goes, where no other is called the same.
-use Rattle.std.proofs.Common.{◌≡◌, ℕ, zero, suc, ◌≤◌, length, drop, Bool, true, false, not, ◌&&◌, ◌||◌, cond, List, [], ◌∷◌, filter, is_some, refl, sym, ap, ◌∙◌, arith}
+use Rattle.std.proofs.Common.{◌≡◌, ℕ, zero, suc, ◌+◌, ◌*◌, ◌<◌, ◌≤◌, ◌==◌, length, drop, Bool, true, false, not, ◌&&◌, ◌||◌, cond, List, [], ◌∷◌, filter, refl, sym, ap, ◌∙◌, arith, eqb-true}
 use Rattle.std.specs.List.{list_any, slice_get}
 use Rattle.std.proofs.Math.Bool.{and-false}
 use Rattle.std.proofs.lemmas.Bool.{and_parts}
 use Rattle.bd_space.specs.declared.space.Identity.{Identity}
 use Rattle.bd_space.specs.declared.space.Work.{Work}
-use Rattle.bd_space.specs.Words.{same_identity, without_first}
+use Rattle.bd_space.specs.Words.{same_identity, without_first, is_some_and}
 use Rattle.bd_space.specs.Todo.{is_on, is_item, without_taken}
-use Rattle.bd_todo.specs.Front.{is_front}
+use Rattle.bd_todo.specs.Each.{Each}
+use Rattle.bd_todo.specs.Rising.{rank, Rises}
+use Rattle.bd_todo.proofs.Each.{each-so}
 
 -- what was taken goes, one after the other
 pub without_taken-cons : (d : Work) (ds ws : List Work) → without_taken (d ∷ ds) ws ≡ without_taken ds (filter (λ w. not (is_item w d)) ws)
@@ -23,42 +25,37 @@ pub without_taken-none : (ws : List Work) → without_taken [] ws ≡ ws
 without_taken-none [] = refl
 without_taken-none (w ∷ ws) = ap (λ vs. w ∷ vs) (without_taken-none ws)
 
-not_both : (a b : Bool) → (not a && b) ≡ true → (a ≡ false) × (b ≡ true)
-not_both true b h = cc
-not_both false b h = (refl, h)
-
--- nothing is the first of nothing
-pub no_front : (id : Identity) (ws : List Work) → is_some (slice_get ws 0) ≡ false → false ≡ is_front id true ws
-no_front id [] e = refl
-no_front id (w ∷ ws) e = absurd (cc)
+same-rank : (a b : Identity) → same_identity a b ≡ true → rank a ≡ rank b
+same-rank a b h =
+    let r = and_parts (a.place == b.place) (a.index == b.index) h in
+    ap (λ n. n * 18446744073709551616 + a.index) (eqb-true a.place b.place r.0) ∙ ap (λ n. b.place * 18446744073709551616 + n) (eqb-true a.index b.index r.1)
 
 module _ (d : Work) where
-  none_left : (ws : List Work) → is_front d.id false (filter (is_on d.list) ws) ≡ true → filter (λ w. not (is_item w d)) ws ≡ ws
+  -- none that comes later is called the same
+  none_left : (ws : List Work) → Each (λ v. rank d.id < rank v.id) ws → filter (λ w. not (is_item w d)) ws ≡ ws
   none_left [] h = refl
-  none_left (w ∷ ws) h = at (is_on d.list w) refl h (none_left ws)
+  none_left (w ∷ ws) h = rw (other (same_identity w.id d.id) refl) (ap (λ vs. w ∷ vs) (none_left ws h.1))
     where
-      at : (b : Bool) → is_on d.list w ≡ b → is_front d.id false (cond b (w ∷ filter (is_on d.list) ws) (filter (is_on d.list) ws)) ≡ true
-          → (is_front d.id false (filter (is_on d.list) ws) ≡ true → filter (λ w. not (is_item w d)) ws ≡ ws)
-          → cond (not (is_item w d)) (w ∷ filter (λ w. not (is_item w d)) ws) (filter (λ w. not (is_item w d)) ws) ≡ w ∷ ws
-      at true e h k =
-          let r = not_both (same_identity w.id d.id) (is_front d.id false (filter (is_on d.list) ws)) h in
-          ap (λ s. cond (not (s && is_on d.list w)) (w ∷ filter (λ w. not (is_item w d)) ws) (filter (λ w. not (is_item w d)) ws)) r.0 ∙ ap (λ vs. w ∷ vs) (k r.1)
-      at false e h k =
-          ap (λ b. cond (not b) (w ∷ filter (λ w. not (is_item w d)) ws) (filter (λ w. not (is_item w d)) ws)) (ap (λ b. same_identity w.id d.id && b) e ∙ and-false (same_identity w.id d.id)) ∙ ap (λ vs. w ∷ vs) (k h)
+      other : (b : Bool) → same_identity w.id d.id ≡ b → is_item w d ≡ false
+      other true e = let r = same-rank w.id d.id e in let l = h.0 in absurd (omega (arith, r, l))
+      other false e = ap (λ b. b && is_on d.list w) e
 
-  pub front_goes : (ws : List Work) → is_front d.id true (filter (is_on d.list) ws) ≡ true → without_first (is_on d.list) ws ≡ filter (λ w. not (is_item w d)) ws
-  front_goes [] h = refl
-  front_goes (w ∷ ws) h = at (is_on d.list w) refl h (front_goes ws)
+  -- it is the first on its list: there is no other
+  pub front_goes : (ws : List Work) → Rises ws → is_some_and (slice_get (filter (is_on d.list) ws) 0) (λ w. same_identity w.id d.id) ≡ true
+      → without_first (is_on d.list) ws ≡ filter (λ w. not (is_item w d)) ws
+  front_goes [] r h = refl
+  front_goes (w ∷ ws) r h = at (is_on d.list w) refl h (front_goes ws r.1)
     where
-      at : (b : Bool) → is_on d.list w ≡ b → is_front d.id true (cond b (w ∷ filter (is_on d.list) ws) (filter (is_on d.list) ws)) ≡ true
-          → (is_front d.id true (filter (is_on d.list) ws) ≡ true → without_first (is_on d.list) ws ≡ filter (λ w. not (is_item w d)) ws)
-          → cond b ws (w ∷ without_first (is_on d.list) ws) ≡ cond (not (is_item w d)) (w ∷ filter (λ w. not (is_item w d)) ws) (filter (λ w. not (is_item w d)) ws)
+      at : (b : Bool) → is_on d.list w ≡ b → is_some_and (slice_get (cond b (w ∷ filter (is_on d.list) ws) (filter (is_on d.list) ws)) 0) (λ v. same_identity v.id d.id) ≡ true
+          → (is_some_and (slice_get (filter (is_on d.list) ws) 0) (λ v. same_identity v.id d.id) ≡ true → without_first (is_on d.list) ws ≡ filter (λ v. not (is_item v d)) ws)
+          → cond b ws (w ∷ without_first (is_on d.list) ws) ≡ cond (not (is_item w d)) (w ∷ filter (λ v. not (is_item v d)) ws) (filter (λ v. not (is_item v d)) ws)
       at true e h k =
-          let r = and_parts (same_identity w.id d.id) (is_front d.id false (filter (is_on d.list) ws)) h in
-          sym (none_left ws r.1) ∙ ap (λ b. cond (not b) (w ∷ filter (λ w. not (is_item w d)) ws) (filter (λ w. not (is_item w d)) ws)) (sym (ap (λ s. s && is_on d.list w) r.0 ∙ e))
+          let same = same-rank w.id d.id h in
+          sym (none_left ws (each-so (λ (v : Work). rank w.id < rank v.id) (λ (v : Work). rank d.id < rank v.id) (λ v l. omega (arith, l, same)) ws r.0))
+          ∙ ap (λ b. cond (not b) (w ∷ filter (λ v. not (is_item v d)) ws) (filter (λ v. not (is_item v d)) ws)) (sym (ap (λ s. s && is_on d.list w) h ∙ e))
       at false e h k =
           ap (λ vs. w ∷ vs) (k h)
-          ∙ ap (λ b. cond (not b) (w ∷ filter (λ w. not (is_item w d)) ws) (filter (λ w. not (is_item w d)) ws)) (sym (ap (λ b. same_identity w.id d.id && b) e ∙ and-false (same_identity w.id d.id)))
+          ∙ ap (λ b. cond (not b) (w ∷ filter (λ v. not (is_item v d)) ws) (filter (λ v. not (is_item v d)) ws)) (sym (ap (λ b. same_identity w.id d.id && b) e ∙ and-false (same_identity w.id d.id)))
 
 -- all that was taken is gone
 pub taken_all : (ds : List Work) (i : ℕ) (l mid : List Work) → length ds ≤ i → without_taken ds l ≡ without_taken (drop i ds) mid → mid ≡ without_taken ds l

@@ -97,15 +97,6 @@ module _ {S : Type 0} (rs : List (Option ℕ)) (others : HashMap ListKey ℕ S) 
       at None = keys l
       at (Some i) = rows i
 
--- where there are no rows all goes by keys
-pub no-row : (l : TodoList) → row_of 0 l ≡ None
-no-row (OfThread t) = at (nat_lt t 0) refl
-  where
-    at : (b : Bool) → nat_lt t 0 ≡ b → cond b (Some t) None ≡ None
-    at true e = absurd (omega (arith, ltb-true t 0 e))
-    at false e = refl
-no-row (OfProcess p) = refl
-
 -- the same by each key
 pub same-keys : {S : Type 0} (rs : List (Option ℕ)) (was then : HashMap ListKey ℕ S)
     → ((l : TodoList) → get_by (same_key (list_key l)) then ≡ get_by (same_key (list_key l)) was)
@@ -115,11 +106,6 @@ same-keys rs was then same l = at (row_of (length rs) l)
     at : (o : Option ℕ) → head_by rs then l o ≡ head_by rs was l o
     at None = same l
     at (Some i) = refl
-
-pub keys-none : {S : Type 0} (rs : List (Option ℕ)) (others : HashMap ListKey ℕ S) → length rs ≡ 0
-    → ((l : TodoList) → head_by rs others l (row_of (length rs) l) ≡ None)
-    → (l : TodoList) → get_by (same_key (list_key l)) others ≡ None
-keys-none rs others empty none l = sym (ap (head_by rs others l) (ap (λ n. row_of n l) empty ∙ no-row l)) ∙ none l
 
 abbrev nothing : Option ℕ
 nothing = None

@@ -155,14 +155,3 @@ kept_stands t u todo s holds opens heads = record {
   shows = kept_shows t u s.rows s.rows s.shows (holds s.rows s.shows.holds) s.shows.listed opens heads;
   works_are = s.works_are;
 }
-
--- where no list is open, none has a number
-pub none_open : (t : Queues) (todo : List Work) → Stands t todo → ((n : ℕ) → is_open t.chains n ≡ false) → (l : TodoList) → head_at t.lists l ≡ None
-none_open t todo s shut l = at (head_at t.lists l) refl
-  where
-    clash : {b : Bool} → b ≡ true → b ≡ false → ⊥
-    clash a b = cc
-
-    at : (o : Option ℕ) → head_at t.lists l ≡ o → o ≡ None
-    at None e = refl
-    at (Some n) e = absurd (clash (s.shows.opened l n e) (shut n))

@@ -73,10 +73,10 @@ row_absent t rs x r h is reg = subst (λ ss. Registered r (works ss)) (sym (drop
     of (Some v) k = absurd (none_some v.1.value (sym k))
 
 -- nothing was made at a later place
-pub none_at : (t : WorkTable) (place : ℕ) (l : List Work) → WorksAre t l → t.register.latest < place → 0 ≡ count_by (λ w. w.id.place == place) l
-none_at t place l h late = sym (none_later t.register.latest place l h.registered.dated.none_past late)
+pub none_at : (t : WorkTable) (place : ℕ) (l : List Work) → WorksAre t l → t.register.last.place < place → 0 ≡ count_by (λ w. w.id.place == place) l
+none_at t place l h late = sym (none_later t.register.last.place place l h.registered.dated.none_past late)
 
-pub all_at : (t : WorkTable) (place : ℕ) (l : List Work) → WorksAre t l → place ≡ t.register.latest → t.register.count ≡ count_by (λ w. w.id.place == place) l
+pub all_at : (t : WorkTable) (place : ℕ) (l : List Work) → WorksAre t l → place ≡ t.register.last.place → t.register.count ≡ count_by (λ w. w.id.place == place) l
 all_at t place l h same = h.registered.dated.counted ∙ ap (λ n. count_by (λ (w : Work). w.id.place == n) l) (sym same)
 
 -- ---- what is looked up

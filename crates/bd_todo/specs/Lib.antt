@@ -6,7 +6,6 @@ pub mod Heads
 pub mod Rows
 pub mod QueuesStand
 pub mod Dated
-pub mod Front
 pub mod Spots
 pub mod Rising
 pub mod Registered

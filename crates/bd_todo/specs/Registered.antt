@@ -1,5 +1,5 @@
 -- What a register says of all work items.
-use Rattle.std.specs.Prelude.{ℕ, ◌≡◌, true, List, length}
+use Rattle.std.specs.Prelude.{ℕ, ◌≡◌, true, List}
 use Rattle.bd_ways.specs.Words.{Work}
 use Rattle.std.specs.HashMap.{spare}
 use Rattle.bd_todo.specs.declared.register.Register.{Register}
@@ -9,8 +9,7 @@ use Rattle.bd_todo.specs.Spots.{sought_of, Counted}
 
 pub record Registered (t : Register) (todo : List Work) : Type 0 where
   pub counted : Counted (λ w. sought_of w.kind) t.spots todo
-  pub dated : Dated t.latest t.count todo
-  pub len : t.len ≡ length todo
+  pub dated : Dated t.last.place t.count todo
   pub rising : t.rises ≡ true → RisesTo t.last todo
 
 -- how many more it takes without memory

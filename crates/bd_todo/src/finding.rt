@@ -4,12 +4,11 @@ ghost use Rattle.std.specs.{Prelude.{◌≡◌, true, Some}, List.{list_any, sli
 ghost use Rattle.bd_space.specs.Todo as spec;
 ghost use Rattle.bd_space.specs.ThreadExits as exits;
 ghost use Rattle.bd_todo.specs.TodoList as replies;
-ghost use Rattle.bd_todo.specs.Front as front;
 
 use crate::queues::Works;
 use crate::table::WorkTable;
 use crate::work::{is_call, reply_of};
-use bd_space::{Identity, TodoList, Work};
+use bd_space::{TodoList, Work};
 
 fn any_is_call(works: Works<'_>, buffer: u32) -> bool
     ensures { result ≡ list_any (λ w. spec.is_call buffer w.kind) works.entry }
@@ -32,24 +31,6 @@ fn first_reply_among(works: Works<'_>) -> Option<u32>
         }
     }
     None
-}
-
-// The first is called so, and no other is.
-pub(crate) fn is_front(works: Works<'_>, id: Identity) -> bool
-    ensures { result ≡ front.is_front id true works.entry }
-{
-    let mut first = true;
-    for work in works {
-        if first {
-            if work.id != id {
-                return false;
-            }
-            first = false;
-        } else if work.id == id {
-            return false;
-        }
-    }
-    !first
 }
 
 impl WorkTable {

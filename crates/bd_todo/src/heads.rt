@@ -68,8 +68,8 @@ pub struct Recent {
 /// The number of each list that has one.
 #[derive(Drop)]
 pub struct Heads {
-    // Of the lists of threads, by seat: most looks are at these, and take no hash. There are none before the first item.
-    pub(crate) threads: Vec<Option<usize>>,
+    // Of the lists of threads, by seat: most looks are at these, and take no hash.
+    pub(crate) threads: [Option<usize>; SEATS],
     // Of all other lists.
     pub(crate) others: HashMap<ListKey, usize>,
     // Of these the one that was filled last, if it is known: mostly it is the next that is asked for, and then takes no hash.
@@ -85,29 +85,15 @@ impl Heads {
         ensures { (l : declared.TodoList) → heads.head_at result l ≡ None }
     {
         Heads {
-            threads: Vec::new(alloc),
+            threads: [None; SEATS],
             others: HashMap::new(alloc),
             recent: None,
         }
     }
 
-    /// Keeps the lists of seats apart, where no list has a number yet.
-    pub fn begin(&mut self) -> Result<(), AllocError>
-        ensures heads { ((l : declared.TodoList) → heads.head_at self.old l ≡ None)
-            → (l : declared.TodoList) → heads.head_at self.new l ≡ None }
-        ensures others { self.new.others ≡ self.old.others }
-        ensures err { OnErr result (self.new ≡ self.old) }
-    {
-        if self.threads.len() == 0 {
-            let alloc = *self.threads.allocator();
-            self.threads = vec![in alloc; None; SEATS]?;
-        }
-        Ok(())
-    }
-
     // The row of a thread's list, if it has one.
     fn row(&self, list: TodoList) -> Option<usize>
-        ensures { result ≡ heads.row_of (length self.now.threads.items) list }
+        ensures { result ≡ heads.row_of (length self.now.threads) list }
     {
         match list {
             TodoList::OfThread(seat) if (seat as usize) < self.threads.len() => Some(seat as usize),

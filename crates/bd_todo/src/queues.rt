@@ -39,33 +39,6 @@ impl Queues {
         }
     }
 
-    // Rows for the seats' lists, before there is any list.
-    fn begin(&mut self) -> Result<(), AllocError>
-        ensures stands { (todo : List Work) → Stands self.old todo → Stands self.new todo }
-        ensures chains { self.new.chains ≡ self.old.chains }
-        ensures others { self.new.lists.others ≡ self.old.lists.others }
-    {
-        if self.chains.is_unused() {
-            return self.lists.begin();
-        }
-        Ok(())
-    }
-
-    // Slots for so many work items and their lists.
-    fn grow(&mut self, works: usize) -> Result<(), AllocError>
-        ensures stands { (todo : List Work) → Stands self.old todo → Stands self.new todo }
-        ensures lists { self.new.lists.others ≡ self.old.lists.others }
-        ensures ok { OnOk result (works ≤ room_of self.new.chains) }
-        ensures room { room_of self.old.chains ≤ room_of self.new.chains }
-        ensures grown { OnErr result (works ≤ room_of self.old.chains → ⊥) }
-    {
-        if works <= self.chains.room() {
-            return Ok(());
-        }
-        self.begin()?;
-        self.chains.reserve(works)
-    }
-
     /// Makes room for so many more. Fails for want of memory.
     pub fn reserve(&mut self, works: usize) -> Result<(), AllocError>
         ensures stands { (todo : List Work) → Stands self.old todo → Stands self.new todo }
@@ -73,7 +46,7 @@ impl Queues {
         ensures uses { queue_room self.old ≤ queue_room self.new }
         ensures grown { OnErr result (works ≤ queue_room self.old → ⊥) }
     {
-        self.grow(works)?;
+        self.chains.reserve(works)?;
         self.lists.reserve(works)
     }
 

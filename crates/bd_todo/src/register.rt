@@ -1,6 +1,6 @@
 //! What is known of all work items together, whatever their lists.
 
-ghost use Rattle.std.specs.Prelude.{ℕ, Bool, ◌≡◌, ◌==◌, ◌+◌, ◌-◌, ◌<◌, ◌≤◌, ◌&&◌, ◌||◌, ◌∷◌, ◌++◌, [], List, length, count_by, nat_lt, if◌then◌else◌, OnOk, OnErr};
+ghost use Rattle.std.specs.Prelude.{ℕ, ◌≡◌, ◌==◌, ◌+◌, ◌<◌, ◌≤◌, ◌∷◌, ◌++◌, [], List, length, count_by, nat_lt, OnOk, OnErr};
 ghost use Rattle.bd_space.specs.declared.space.Work.{Work};
 ghost use Rattle.bd_todo.specs.{Rising.{rank}, Registered.{Registered, register_room}};
 
@@ -13,25 +13,11 @@ use std::alloc::{AllocError, Global};
 pub struct Register {
     // Notices, calls and deaths, whatever their lists.
     pub(crate) spots: Spots,
-    // No work item was made later than at this place, and so many were made there.
-    pub(crate) latest: u32,
+    // None was made at a later place than the last, and so many were made at its.
+    pub(crate) last: Identity,
     pub(crate) count: u64,
-    // So many there are.
-    pub(crate) len: u64,
     // Their identities rise, up to the last at most: then no two are called the same.
     pub(crate) rises: bool,
-    pub(crate) last: Identity,
-}
-
-// One less, if it is so.
-fn without_one(count: u64, is_so: bool) -> u64
-    ensures { result ≡ (if is_so then count - 1 else count) }
-{
-    if is_so {
-        count.saturating_sub(1)
-    } else {
-        count
-    }
 }
 
 fn is_before(a: Identity, b: Identity) -> bool
@@ -47,11 +33,9 @@ impl Register {
     {
         Register {
             spots: Spots::new(alloc),
-            latest: 0,
-            count: 0,
-            len: 0,
-            rises: true,
             last: Identity { place: 0, index: 0 },
+            count: 0,
+            rises: true,
         }
     }
 
@@ -65,13 +49,6 @@ impl Register {
         self.spots.reserve(more)
     }
 
-    // Identities rise, when this one comes last.
-    fn still_rises(&self, id: Identity) -> bool
-        ensures { result ≡ ((self.now.len == 0) || (self.now.rises && nat_lt (rank self.now.last) (rank id))) }
-    {
-        self.len == 0 || (self.rises && is_before(self.last, id))
-    }
-
     /// A work item came last, into this slot.
     pub fn add(&mut self, work: Work, slot: usize)
         requires { 0 < register_room self.old }
@@ -80,12 +57,10 @@ impl Register {
             → Registered self.old todo → Registered self.new (todo ++ work ∷ []) }
         ensures uses { register_room self.old ≤ register_room self.new + 1 }
     {
-        self.rises = self.still_rises(work.id);
         self.spots.add(sought_of(work.kind), slot);
-        self.last = work.id;
-        self.len = self.len.saturating_add(1);
-        if self.latest <= work.id.place {
-            self.latest = work.id.place;
+        self.rises = self.rises && is_before(self.last, work.id);
+        if self.last.place <= work.id.place {
+            self.last = work.id;
             self.count = work.id.index.saturating_add(1);
         }
     }
@@ -97,7 +72,8 @@ impl Register {
         ensures uses { register_room self.old ≤ register_room self.new }
     {
         self.spots.take(sought_of(work.kind));
-        self.len = self.len.saturating_sub(1);
-        self.count = without_one(self.count, work.id.place == self.latest);
+        if work.id.place == self.last.place {
+            self.count = self.count.saturating_sub(1);
+        }
     }
 }

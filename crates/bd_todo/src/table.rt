@@ -8,10 +8,8 @@ ghost use Rattle.bd_space.specs.{declared.space.Work.{Work}, declared.space.Work
 ghost use Rattle.bd_space.specs.Words as words;
 ghost use Rattle.bd_space.specs.Todo as spec;
 ghost use Rattle.bd_space.specs.Notices as notices;
-ghost use Rattle.bd_todo.specs.Front as front;
 ghost use Rattle.bd_todo.specs.Spots as spots;
 
-use crate::finding::is_front;
 use crate::queues::Queues;
 use crate::register::Register;
 use crate::spots::{Sought, is_sought, sought_notice};
@@ -56,9 +54,9 @@ impl WorkTable {
     fn index_at(&self, place: u32) -> u64
         ensures { Tells self.now result (λ l. count_by (λ w. w.id.place == place) l) }
     {
-        if place == self.register.latest {
+        if place == self.register.last.place {
             self.register.count
-        } else if self.register.latest < place {
+        } else if self.register.last.place < place {
             0
         } else {
             self.queues.count_at(place)
@@ -90,33 +88,6 @@ impl WorkTable {
         }
     }
 
-    // In the slot is the first on the work item's list: whether it is that one, and no other there is called the same.
-    fn is_alone_at(&self, x: usize, item: &Work) -> bool
-        ensures { (l : List Work) → WorksAre self.now l → FrontIn self.now.queues l item.now.list x
-            → result ≡ front.is_front item.now.id true (spec.work_on l (Some item.now.list)) }
-    {
-        if self.register.rises {
-            self.is_called_at(x, item.id)
-        } else {
-            is_front(self.queues.works_on(item.list), item.id)
-        }
-    }
-
-    // The slot of a work item, if it is the first on its list and no other on that is called the same.
-    fn front_slot(&self, item: &Work) -> Option<usize>
-        ensures first { Tells self.now (is_some result)
-            (λ l. front.is_front item.now.id true (spec.work_on l (Some item.now.list))) }
-        ensures front { (l : List Work) → WorksAre self.now l
-            → IfSome result (FrontIn self.now.queues l item.now.list) }
-    {
-        let x = self.queues.front(item.list)?;
-        if self.is_alone_at(x, item) {
-            Some(x)
-        } else {
-            None
-        }
-    }
-
     // The work item in a slot goes, if there is one.
     fn remove_at(&mut self, x: usize)
         ensures rows { (rs : List (Row Work)) → RowsAre self.old rs → RowsAre self.new (drop_key x rs) }
@@ -142,14 +113,14 @@ impl WorkTable {
         }
     }
 
-    // A work item goes: from the front of its list, if it is there and no other is called the same.
+    // A work item goes: from the front of its list, if it is there and surely no other is called the same.
     fn take(&mut self, item: &Work)
         ensures stands { Makes self.old self.new (λ l. filter (λ w. not (spec.is_item w item.now)) l) }
         ensures uses { work_room self.old ≤ work_room self.new }
     {
-        match self.front_slot(item) {
-            Some(x) => self.remove_at(x),
-            None => self.keep(|w| !is_item(item, &w)),
+        match self.queues.front(item.list) {
+            Some(x) if self.register.rises && self.is_called_at(x, item.id) => self.remove_at(x),
+            _ => self.keep(|w| !is_item(item, &w)),
         }
     }
 

@@ -7,4 +7,4 @@ pub returns-clause-heads : goal.returns-clause-heads
 unfolding head_at
 returns-clause-heads c =
     let t = c.args.self.now in
-    same-keys t.threads.items t.others c.reserve.new.self (λ l. c.reserve.ensures.entries.2 (list_key l))
+    same-keys t.threads t.others c.reserve.new.self (λ l. c.reserve.ensures.entries.2 (list_key l))

@@ -7,6 +7,5 @@ pub returns : goal.returns
 returns c = record {
   counted = c.new.ensures (λ (w : Work). sought_of w.kind);
   dated = record { none_past = tt; counted = refl };
-  len = refl;
   rising = λ r. (tt, tt);
 }
