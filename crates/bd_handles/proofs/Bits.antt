@@ -1,9 +1,9 @@
 -- Bits in words: one changes, and the first that is clear.
-use Rattle.std.proofs.Common.{◌≡◌, ◌≢◌, ℕ, ◌+◌, ◌-◌, ◌*◌, ◌/◌, ◌%◌, ◌^◌, ◌<◌, ◌≤◌, ◌&&◌, Bool, true, false, cond, eqb, bit_and, inl, inr, refl, ap, sym, ◌∙◌, subst, arith, w64}
+use Rattle.std.proofs.Common.{◌≡◌, ◌≢◌, ℕ, zero, suc, ◌+◌, ◌-◌, ◌*◌, ◌/◌, ◌%◌, ◌^◌, ◌<◌, ◌≤◌, ◌&&◌, Bool, true, false, cond, eqb, bit_and, Option, Some, None, inl, inr, refl, ap, sym, ◌∙◌, subst, arith, w64}
 use Rattle.std.specs.Int.{bit_at, trailing_ones}
 use Rattle.std.specs.Int.RustNames.{bit_or}
 use Rattle.std.proofs.lemmas.Bool.{cases_lt, eqb-true, eqb-false, eq-eqb, ne_eqb}
-use Rattle.std.proofs.lemmas.Nat.Bits.{bit_at-trailing_ones, bit_at_ones, bit_at_set_same, bit_at_set_other, bit_at_clear_same, bit_at_clear_other}
+use Rattle.std.proofs.lemmas.Nat.Bits.{bit_at-zero, bit_at-trailing_ones, bit_at_ones, bit_at_set_same, bit_at_set_other, bit_at_clear_same, bit_at_clear_other}
 use Rattle.bd_handles.specs.Bits.{bit_of}
 
 -- ---- the first clear bit
@@ -88,8 +88,31 @@ set-word f g p i words =
     let k : i % 64 < 64 = omega arith in
     bits-changed f g p i _ 1 words (bit_at_set_same w64 (f p (i / 64)) (i % 64) k) (λ j lt ne. bit_at_set_other w64 (f p (i / 64)) (i % 64) k j ne)
 
+-- a word with a bit isn't 0
+pub some-bit : (x i : ℕ) → i < 64 → 0 < bit_or x (1 * 2 ^ i % 2 ^ 64)
+some-bit x i lt = at (bit_or x (1 * 2 ^ i % 2 ^ 64)) (bit_at_set_same w64 x i lt)
+  where
+    at : (y : ℕ) → bit_at y i ≡ 1 → 0 < y
+    at zero one = (let none : bit_at 0 i ≡ 0 = bit_at-zero i in absurd (omega arith))
+    at (suc y) one = omega arith
+
 pub clear-word : (f g : ℕ → ℕ → ℕ) (p i : ℕ) → ((q v : ℕ) → g q v ≡ cond (eqb p q && eqb (i / 64) v) (bit_and (f p (i / 64)) (2 ^ 64 - 1 - 1 * 2 ^ (i % 64) % 2 ^ 64)) (f q v))
     → (q j : ℕ) → bit_of g q j ≡ cond (eqb p q && eqb i j) 0 (bit_of f q j)
 clear-word f g p i words =
     let k : i % 64 < 64 = omega arith in
     bits-changed f g p i _ 0 words (bit_at_clear_same w64 (f p (i / 64)) (i % 64) k) (λ j lt ne. bit_at_clear_other w64 (f p (i / 64)) (i % 64) k j lt ne)
+
+-- ---- no word that is kept is 0
+
+abbrev pub IsFilled : Option ℕ → Type 0
+IsFilled o = (x : ℕ) → o ≡ Some x → 0 < x
+
+pub some-filled : (w : ℕ) → 0 < w → IsFilled (Some w)
+some-filled w h x e = (let same : w ≡ x = cc in omega (arith, h, same))
+
+pub none-filled : IsFilled None
+none-filled x e = absurd (cc)
+
+pub filled-updated : (b : Bool) (w old new : Option ℕ) → new ≡ cond b w old → IsFilled w → IsFilled old → IsFilled new
+filled-updated true w old new h here there x e = here x (sym h ∙ e)
+filled-updated false w old new h here there x e = there x (sym h ∙ e)

@@ -3,7 +3,7 @@ use Rattle.std.proofs.Common.{◌≡◌, ◌≢◌, ℕ, ◌+◌, ◌-◌, ◌*�
 use Rattle.std.specs.Int.{trailing_ones}
 use Rattle.std.proofs.lemmas.Bool.{eqb-true, eqb-false}
 use Rattle.bd_handles.specs.Bits.{bit_of}
-use Rattle.bd_handles.specs.Page.{FullIn}
+use Rattle.bd_handles.specs.Full.{FullIn}
 use Rattle.bd_handles.proofs.Bits.{bit-here, ones-before, full-word, IsFirstClear, first-clear-at}
 
 -- a bit says that its place is in use

@@ -5,7 +5,8 @@ use Rattle.bd_space.specs.declared.space.Name.{Name}
 use Rattle.bd_space.specs.Names.{named_in, number_in, has_number_past_limit}
 use Rattle.bd_handles.specs.declared.names.Names.{Names}
 use Rattle.bd_handles.specs.Keys.{number_at}
-use Rattle.bd_handles.specs.Page.{object_at, FullAre}
+use Rattle.bd_handles.specs.Page.{object_at}
+use Rattle.bd_handles.specs.Full.{FullAre}
 use Rattle.bd_handles.specs.Named.{Named, place_of}
 use Rattle.bd_handles.specs.Sound.{Sound}
 use Rattle.bd_handles.proofs.Places.{same-place}

@@ -9,7 +9,8 @@ use Rattle.bd_space.specs.declared.step.ObjectId.{ObjectId}
 use Rattle.bd_handles.specs.declared.page.Page.{Page}
 use Rattle.bd_handles.specs.declared.pages.Pages.{Pages}
 use Rattle.bd_handles.specs.Bits.{bit_of, word_at}
-use Rattle.bd_handles.specs.Page.{place_in, word_in, page_at, object_at, used_at, FullAre}
+use Rattle.bd_handles.specs.Page.{place_in, word_in, page_at, object_at, used_at}
+use Rattle.bd_handles.specs.Full.{FullAre}
 use Rattle.bd_handles.proofs.Bits.{gap-word}
 use Rattle.bd_handles.proofs.Marking.{MarkedIn}
 
@@ -104,9 +105,34 @@ module _ (old new : ℕ → ℕ → Option Page) (p i : ℕ) (page : Option Page
   pub place-changed : (q k : ℕ) → place_in (new q (k / 64)) (k % 64) ≡ cond (eqb p q && eqb i k) value (place_in (old q (k / 64)) (k % 64))
   place-changed q k = of-process q k (eqb p q) refl
 
-pub words-kept : (old new : ℕ → ℕ → Option Page) (p i : ℕ) (page : Option Page) → ((q v : ℕ) → new q v ≡ cond (eqb p q && eqb (i / 64) v) page (old q v))
-    → (q v : ℕ) → (eqb p q && eqb (i / 64) v) ≡ false → word_in (new q v) ≡ word_in (old q v)
-words-kept old new p i page pages q v e = ap word_in (pages q v ∙ ap (λ c. cond {A = Option Page} c page (old q v)) e)
+-- another page
+pub pages-kept : (old new : ℕ → ℕ → Option Page) (p i : ℕ) (page : Option Page) → ((q v : ℕ) → new q v ≡ cond (eqb p q && eqb (i / 64) v) page (old q v))
+    → (q v : ℕ) → (eqb p q && eqb (i / 64) v) ≡ false → new q v ≡ old q v
+pages-kept old new p i page pages q v e = pages q v ∙ ap (λ c. cond {A = Option Page} c page (old q v)) e
+
+-- ---- a page that is there names something
+
+abbrev pub IsFilled : Option Page → Type 0
+IsFilled page = (x : Page) → page ≡ Some x → 0 < x.used
+
+pub filled-word : (page : Option Page) → word_in page ≢ 0 → IsFilled page
+filled-word page h x e = (let ne : x.used ≢ 0 = subst (λ o. word_in o ≢ 0) e h in omega (arith, ne))
+
+pub filled-named : (page : Option Page) (j : ℕ) (o : ObjectId) → place_in page j ≡ Some o → IsFilled page
+filled-named page j o named = filled-word page (λ e. (
+    let one : bit_at (word_in page) j ≡ 1 = bit-named page j ∙ ap (λ x. cond {A = ℕ} (is_some x) 1 0) named in
+    let none : bit_at (word_in page) j ≡ 0 = ap (λ u. bit_at u j) e ∙ bit_at-zero j in
+    absurd (omega arith)))
+
+-- one page changes that names something then, or has gone
+pub filled-changed : (old new : ℕ → ℕ → Option Page) (p w : ℕ) → ((q v : ℕ) → (eqb p q && eqb w v) ≡ false → new q v ≡ old q v)
+    → IsFilled (new p w) → ((q v : ℕ) → IsFilled (old q v)) → (q v : ℕ) → IsFilled (new q v)
+filled-changed old new p w others here all q v = at (eqb p q) (eqb w v) refl refl
+  where
+    at : (b c : Bool) → eqb p q ≡ b → eqb w v ≡ c → IsFilled (new q v)
+    at true true d e = subst (λ r. IsFilled (new r v)) (eqb-true p q d) (subst (λ u. IsFilled (new p u)) (eqb-true w v e) here)
+    at true false d e = subst IsFilled (sym (others q v (rw (d, e) refl))) (all q v)
+    at false c d e = subst IsFilled (sym (others q v (rw d refl))) (all q v)
 
 -- ---- a page that names nothing goes
 
@@ -124,9 +150,6 @@ module _ (old new : ℕ → ℕ → Option Page) (p w : ℕ) (empty : word_in (o
       at true true d e = sym same ∙ ap (λ r. f (old r w)) (eqb-true p q d) ∙ ap (λ u. f (old q u)) (eqb-true w v e)
       at true false d e = refl
       at false c d e = refl
-
-  pub words-left : (q v : ℕ) → word_in (new q v) ≡ word_in (old q v)
-  words-left = by-page word_in empty
 
   pub places-left : (q k : ℕ) → place_in (new q (k / 64)) (k % 64) ≡ place_in (old q (k / 64)) (k % 64)
   places-left q k = by-page (λ x. place_in x (k % 64)) (none-in (old p w) empty (k % 64)) q (k / 64)

@@ -3,5 +3,6 @@ pub mod Stands
 pub mod Bits
 pub mod Keys
 pub mod Page
+pub mod Full
 pub mod Sound
 pub mod Named

@@ -9,7 +9,8 @@ use Rattle.bd_groups.specs.Members.{IsIn, HasMember}
 use Rattle.bd_space.specs.Names.{named_in, number_in, has_number_past_limit}
 use Rattle.bd_handles.specs.declared.names.Names.{Names}
 use Rattle.bd_handles.specs.Keys.{number_at}
-use Rattle.bd_handles.specs.Page.{object_at, FullAre, page_room}
+use Rattle.bd_handles.specs.Page.{object_at}
+use Rattle.bd_handles.specs.Full.{FullAre, page_room}
 use Rattle.bd_handles.specs.Sound.{Sound}
 
 -- the place of a number: the search from 1 on begins at place 0, and never comes to the place of 0

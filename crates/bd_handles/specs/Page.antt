@@ -1,12 +1,10 @@
--- What pages name, and which of them are full.
-use Rattle.std.specs.Prelude.{ℕ, ◌≡◌, ◌/◌, ◌%◌, ◌-◌, ◌^◌, ◌==◌, Option, Some, None, unwrap_or, option_map, option_and_then, if◌then◌else◌, min, get_or}
+-- What pages name.
+use Rattle.std.specs.Prelude.{ℕ, ◌≡◌, ◌/◌, ◌%◌, ◌<◌, ◌==◌, Option, Some, None, unwrap_or, option_map, option_and_then, if◌then◌else◌, get_or}
 use Rattle.bd_ways.specs.Words.{ObjectId}
-use Rattle.std.specs.HashMap.{HashMap, get_by, spare}
+use Rattle.std.specs.HashMap.{HashMap, get_by}
 use Rattle.std.specs.Int.{bit_at}
 use Rattle.bd_handles.specs.declared.keys.NumberKey.{NumberKey}
 use Rattle.bd_handles.specs.declared.page.Page.{Page}
-use Rattle.bd_handles.specs.declared.pages.Pages.{Pages}
-use Rattle.bd_handles.specs.Bits.{word_at, bit_of}
 use Rattle.bd_handles.specs.Keys.{is_number_key}
 
 -- what a place of a page names
@@ -32,13 +30,6 @@ module _ {S : Type 0} (pages : HashMap NumberKey Page S) where
   abbrev pub used_at : ℕ → ℕ → ℕ
   used_at p w = word_in (page_at p w)
 
--- a bit says that its word is full
-abbrev pub FullIn : (ℕ → ℕ → ℕ) → (ℕ → ℕ → ℕ) → Type 0
-FullIn words full = (p w : ℕ) → bit_of full p w ≡ (if words p w == 2 ^ 64 - 1 then 1 else 0)
-
-abbrev pub FullAre : Pages → Type 0
-FullAre t = FullIn (used_at t.pages) (word_at t.full)
-
--- how many places can come to name something without memory
-abbrev pub page_room : Pages → ℕ
-page_room t = min (spare t.pages) (spare t.full.words)
+  -- each page that there is names something
+  abbrev pub AreFilled : Type 0
+  AreFilled = (p w : ℕ) (page : Page) → page_at p w ≡ Some page → 0 < page.used

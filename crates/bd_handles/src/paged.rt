@@ -2,7 +2,7 @@
 
 ghost use Rattle.std.specs.Prelude.{ℕ, ◌≡◌, ◌==◌, ◌≤◌, ◌<◌, ◌+◌, ◌/◌, ◌&&◌, Some, None, false, if◌then◌else◌};
 ghost use Rattle.std.specs.HashMap.{spare};
-ghost use Rattle.bd_handles.specs.Page.{object_at, used_at};
+ghost use Rattle.bd_handles.specs.Page.{page_at, object_at, used_at, AreFilled};
 
 use crate::keys::NumberKey;
 use crate::page::Page;
@@ -40,8 +40,9 @@ pub fn used_of(pages: &HashMap<NumberKey, Page>, p: u32, w: u32) -> u64
 pub fn put_object(pages: &mut HashMap<NumberKey, Page>, p: u32, i: u32, o: ObjectId) -> u64
     requires { 0 < spare pages.old }
     ensures at { (q k : ℕ) → object_at pages.new q k ≡ (if (p == q) && (i == k) then Some o else object_at pages.old q k) }
-    ensures others { (q v : ℕ) → ((p == q) && (i / 64 == v)) ≡ false → used_at pages.new q v ≡ used_at pages.old q v }
+    ensures others { (q v : ℕ) → ((p == q) && (i / 64 == v)) ≡ false → page_at pages.new q v ≡ page_at pages.old q v }
     ensures word { result ≡ used_at pages.new p (i / 64) }
+    ensures filled { AreFilled pages.old → AreFilled pages.new }
     ensures spare { spare pages.old ≤ spare pages.new + 1 }
 {
     let key = NumberKey {
@@ -66,7 +67,7 @@ pub fn put_object(pages: &mut HashMap<NumberKey, Page>, p: u32, i: u32, o: Objec
 // The process's place names nothing from now on. The word of its page.
 fn clear_place(pages: &mut HashMap<NumberKey, Page>, p: u32, i: u32) -> u64
     ensures at { (q k : ℕ) → object_at pages.new q k ≡ (if (p == q) && (i == k) then None else object_at pages.old q k) }
-    ensures others { (q v : ℕ) → ((p == q) && (i / 64 == v)) ≡ false → used_at pages.new q v ≡ used_at pages.old q v }
+    ensures others { (q v : ℕ) → ((p == q) && (i / 64 == v)) ≡ false → page_at pages.new q v ≡ page_at pages.old q v }
     ensures word { result ≡ used_at pages.new p (i / 64) }
     ensures spare { spare pages.old ≤ spare pages.new }
 {
@@ -86,7 +87,7 @@ fn clear_place(pages: &mut HashMap<NumberKey, Page>, p: u32, i: u32) -> u64
 fn forget_page(pages: &mut HashMap<NumberKey, Page>, p: u32, w: u32)
     requires { used_at pages.old p w ≡ 0 }
     ensures at { (q k : ℕ) → object_at pages.new q k ≡ object_at pages.old q k }
-    ensures words { (q v : ℕ) → used_at pages.new q v ≡ used_at pages.old q v }
+    ensures gone { (q v : ℕ) → page_at pages.new q v ≡ (if (p == q) && (w == v) then None else page_at pages.old q v) }
     ensures spare { spare pages.old ≤ spare pages.new }
 {
     let _gone = pages.remove(&NumberKey {
@@ -98,7 +99,8 @@ fn forget_page(pages: &mut HashMap<NumberKey, Page>, p: u32, w: u32)
 /// The process's place names nothing from now on.
 pub fn take_object(pages: &mut HashMap<NumberKey, Page>, p: u32, i: u32)
     ensures at { (q k : ℕ) → object_at pages.new q k ≡ (if (p == q) && (i == k) then None else object_at pages.old q k) }
-    ensures others { (q v : ℕ) → ((p == q) && (i / 64 == v)) ≡ false → used_at pages.new q v ≡ used_at pages.old q v }
+    ensures others { (q v : ℕ) → ((p == q) && (i / 64 == v)) ≡ false → page_at pages.new q v ≡ page_at pages.old q v }
+    ensures filled { AreFilled pages.old → AreFilled pages.new }
     ensures spare { spare pages.old ≤ spare pages.new }
 {
     if clear_place(pages, p, i) == 0 {

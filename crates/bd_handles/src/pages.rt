@@ -1,7 +1,7 @@
 //! Pages, and the least place that names nothing.
 
 ghost use Rattle.std.specs.Prelude.{ℕ, ◌≡◌, ◌==◌, ◌≤◌, ◌<◌, ◌+◌, ◌&&◌, true, false, is_some, Some, None, IfSome, MatchOption, if◌then◌else◌, OnOk, OnErr};
-ghost use Rattle.bd_handles.specs.Page.{object_at, FullAre, page_room};
+ghost use Rattle.bd_handles.specs.Page.{object_at, AreFilled};
 
 use crate::keys::NumberKey;
 use crate::page::Page;
@@ -16,9 +16,12 @@ use std::collections::HashMap;
 pub struct Pages {
     pub(crate) pages: HashMap<NumberKey, Page>,
     pub(crate) full: Words,
+    ghost filled: { AreFilled pages },
 }
 
 impl Pages {
+    ghost use Rattle.bd_handles.specs.Full.{FullAre, page_room};
+
     /// No place names anything.
     pub fn new(alloc: Global) -> Pages
         ensures at { (p i : ℕ) → object_at result.pages p i ≡ None }

@@ -1,8 +1,8 @@
 //! Sets of numbers, one a process, as words of 64 bits.
 
-ghost use Rattle.std.specs.Prelude.{ℕ, ◌≡◌, ◌≢◌, ◌==◌, ◌≤◌, ◌<◌, ◌+◌, ◌-◌, ◌*◌, ◌/◌, ◌^◌, ◌&&◌, MatchOption, if◌then◌else◌, OnOk, OnErr};
-ghost use Rattle.std.specs.HashMap.{spare};
-ghost use Rattle.bd_handles.specs.Bits.{word_at, bit_of};
+ghost use Rattle.std.specs.Prelude.{ℕ, ◌≡◌, ◌≢◌, ◌==◌, ◌≤◌, ◌<◌, ◌+◌, ◌-◌, ◌*◌, ◌/◌, ◌^◌, ◌&&◌, Some, MatchOption, if◌then◌else◌, OnOk, OnErr};
+ghost use Rattle.std.specs.HashMap.{get_by, spare};
+ghost use Rattle.bd_handles.specs.Keys.{is_number_key};
 
 use crate::keys::NumberKey;
 use bd_keys::insert_reserved;
@@ -13,9 +13,12 @@ use std::collections::HashMap;
 #[derive(Drop)]
 pub struct Words {
     pub(crate) words: HashMap<NumberKey, u64>,
+    ghost filled: { (p w x : ℕ) → get_by (is_number_key p w) words ≡ Some x → 0 < x },
 }
 
 impl Words {
+    ghost use Rattle.bd_handles.specs.Bits.{word_at, bit_of};
+
     /// Empty sets.
     pub fn new(alloc: Global) -> Words
         ensures { (p w : ℕ) → word_at result p w ≡ 0 }
@@ -50,7 +53,8 @@ impl Words {
 
     // A word is set, which may be a new one.
     fn raise(&mut self, p: u32, w: u32, x: u64)
-        requires { 0 < spare self.old.words }
+        requires room { 0 < spare self.old.words }
+        requires filled { 0 < x }
         ensures words { (q v : ℕ) → word_at self.new q v ≡ (if (p == q) && (w == v) then x else word_at self.old q v) }
         ensures spare { spare self.old.words ≤ spare self.new.words + 1 }
     {
@@ -74,7 +78,8 @@ impl Words {
 
     // A word that isn't 0 is set.
     fn replace(&mut self, p: u32, w: u32, x: u64)
-        requires { word_at self.old p w ≢ 0 }
+        requires there { word_at self.old p w ≢ 0 }
+        requires filled { 0 < x }
         ensures words { (q v : ℕ) → word_at self.new q v ≡ (if (p == q) && (w == v) then x else word_at self.old q v) }
         ensures spare { spare self.old.words ≤ spare self.new.words }
     {

@@ -1,12 +1,12 @@
 -- Counters by key, as those of one use change.
-use Rattle.std.proofs.Common.{◌≡◌, ℕ, ◌+◌, ◌-◌, ◌<◌, ◌^◌, Bool, true, false, cond, ◌&&◌, Option, unwrap_or, refl, ap, ◌∙◌, arith}
+use Rattle.std.proofs.Common.{◌≡◌, ℕ, ◌+◌, ◌-◌, ◌<◌, ◌^◌, Bool, true, false, cond, ◌&&◌, Option, Some, None, option_map, unwrap_or, refl, ap, sym, ◌∙◌, arith}
 use Rattle.std.specs.Bool.{beq}
 use Rattle.bd_holds.specs.declared.count.Count.{Count}
 use Rattle.bd_holds.specs.declared.keys.UseKey.{UseKey}
 use Rattle.bd_holds.specs.declared.keys.CountKey.{CountKey}
 use Rattle.bd_holds.specs.Count.{no_count, of_strength, only, one_more, less, is_empty}
 use Rattle.bd_holds.specs.Keys.{same_use, same_key, use_of}
-use Rattle.bd_holds.proofs.Strengths.{strength-only, strength-less, strength-more, strength-empty}
+use Rattle.bd_holds.proofs.Strengths.{strength-only, strength-less, strength-more, strength-empty, some-strength}
 use Rattle.bd_holds.proofs.Tests.{use-eq, key-eq}
 
 -- what isn't there is none
@@ -97,3 +97,70 @@ none-fewer f k q new m fewer none = at (same_key k q) refl fewer
 pub still : (b : Bool) (m n : ℕ) → m ≡ 0 → n ≡ n - cond b m 0
 still true m n none = omega (arith, none)
 still false m n none = omega arith
+
+-- ---- no counters of a use are kept that are both 0
+
+abbrev pub IsFilled : Option Count → Type 0
+IsFilled o = (c : Count) → o ≡ Some c → 0 < c.weak + c.strong
+
+pub filled-count : (n : Count) → is_empty n ≡ false → IsFilled (Some n)
+filled-count n h c e =
+    let is : n ≡ c = cc in
+    let some = some-strength n h in
+    let one = by some.0 some.1 in
+    let w : n.weak ≡ c.weak = ap (λ (x : Count). x.weak) is in
+    let s : n.strong ≡ c.strong = ap (λ (x : Count). x.strong) is in
+    omega (arith, one, w, s)
+  where
+    by : (s : Bool) → 0 < of_strength s n → 0 < n.weak + n.strong
+    by true lt = omega (arith, lt)
+    by false lt = omega (arith, lt)
+
+pub filled-none : IsFilled None
+filled-none c e = absurd (cc)
+
+pub filled-updated : (b : Bool) (w old new : Option Count) → new ≡ cond b w old → IsFilled w → IsFilled old → IsFilled new
+filled-updated true w old new h here there c e = here c (sym h ∙ e)
+filled-updated false w old new h here there c e = there c (sym h ∙ e)
+
+pub more-filled : (s : Bool) (n d : Count) → d ≡ one_more s n → IsFilled (Some d)
+more-filled s n d is c e = (let same : one_more s n ≡ c = sym is ∙ cc in by s same)
+  where
+    by : (s : Bool) → one_more s n ≡ c → 0 < c.weak + c.strong
+    by true h = (let k = ap (λ (x : Count). x.strong) h in omega (arith, k))
+    by false h = (let k = ap (λ (x : Count). x.weak) h in omega (arith, k))
+
+-- ---- some fewer of a use, whose counters stay at first
+
+map-less : (o : Option Count) (d : Count) → unwrap_or (option_map (λ c. less c d) o) no_count ≡ less (unwrap_or o no_count) d
+map-less None d = (let w : 0 ≡ 0 - d.weak = omega arith in let s : 0 ≡ 0 - d.strong = omega arith in (λ i. record { weak = w i; strong = s i }))
+map-less (Some c) d = refl
+
+module _ (old mid : UseKey → Option Count) (u : UseKey) (d : Count)
+    (lowered : (v : UseKey) → mid v ≡ cond (same_use u v) (option_map (λ c. less c d) (old u)) (old v)) where
+  pub lowered-less : (v : UseKey) (s : Bool)
+      → of_strength s (unwrap_or (mid v) no_count) ≡ of_strength s (unwrap_or (old v) no_count) - cond (same_use u v) (of_strength s d) 0
+  lowered-less v s =
+      set-less (λ (x : UseKey). unwrap_or (old x) no_count) u v s _ _
+      (both-updated (same_use u v) (option_map (λ c. less c d) (old u)) (old v) (mid v) (lowered v)) d (map-less (old u) d)
+
+  pub lowered-filled : is_empty (less (unwrap_or (old u) no_count) d) ≡ false → ((v : UseKey) → IsFilled (old v)) → (v : UseKey) → IsFilled (mid v)
+  lowered-filled some all v = filled-updated (same_use u v) (option_map (λ c. less c d) (old u)) (old v) (mid v) (lowered v) (by (old u) some) (all v)
+    where
+      by : (o : Option Count) → is_empty (less (unwrap_or o no_count) d) ≡ false → IsFilled (option_map (λ c. less c d) o)
+      by None h = filled-none
+      by (Some c) h = filled-count (less c d) h
+
+  module _ (new : UseKey → Option Count) (gone : (v : UseKey) → new v ≡ cond (same_use u v) None (mid v)) where
+    pub gone-counts : is_empty (less (unwrap_or (old u) no_count) d) ≡ true → (v : UseKey) (s : Bool)
+        → of_strength s (unwrap_or (new v) no_count) ≡ of_strength s (unwrap_or (old v) no_count) - cond (same_use u v) (of_strength s d) 0
+    gone-counts none v s =
+        gone-less (λ (x : UseKey). unwrap_or (old x) no_count) u v s d _ _ (lowered-less v s)
+        (set-none (λ (x : UseKey). unwrap_or (mid x) no_count) u v s _ no_count (both-updated (same_use u v) None (mid v) (new v) (gone v)) refl) none
+
+    pub gone-filled : ((v : UseKey) → IsFilled (old v)) → (v : UseKey) → IsFilled (new v)
+    gone-filled all v = by (same_use u v) (gone v) (lowered v)
+      where
+        by : (b : Bool) → new v ≡ cond b None (mid v) → mid v ≡ cond b (option_map (λ c. less c d) (old u)) (old v) → IsFilled (new v)
+        by true g l c e = absurd (let no : None ≡ Some c = sym g ∙ e in cc)
+        by false g l c e = all v c (sym (g ∙ l) ∙ e)

@@ -6,6 +6,7 @@ pub mod Keyed
 pub mod Gathers
 pub mod Entries
 pub mod Counting
+mod Ends
 pub mod Tallying
 pub mod ByKind
 pub mod Loads

@@ -1,5 +1,5 @@
 -- What there is by buffer and index.
-use Rattle.std.specs.Prelude.{ℕ, zero, suc, ◌+◌, Bool, true, false, List, [], ◌∷◌, Option, Some, None, ◌==◌, unwrap_or}
+use Rattle.std.specs.Prelude.{ℕ, zero, suc, ◌≡◌, ◌≤◌, ◌+◌, Bool, true, false, List, [], ◌∷◌, Option, Some, None, ◌==◌, unwrap_or}
 use Rattle.bd_ways.specs.Words.{Reference}
 use Rattle.std.specs.HashMap.{HashMap, get, get_by}
 use Rattle.bd_holds.specs.declared.keys.ItemKey.{ItemKey}
@@ -28,3 +28,8 @@ held_in held ends b = gathered (item_in held b) 0 (end_in ends b)
 abbrev pub is_used : {A : Type 0} → List A → Bool
 is_used [] = false
 is_used (x ∷ xs) = true
+
+-- each buffer that holds something has an end, past which it holds nothing; no other has one
+pub record AreEnds {S T : Type 0} (held : HashMap ItemKey Reference S) (ends : HashMap ℕ ℕ T) : Type 0 where
+  pub past : (b i : ℕ) → end_in ends b ≤ i → item_in held b i ≡ None
+  pub used : (b n : ℕ) → get_by (λ c. b == c) ends ≡ Some n → is_used (held_in held ends b) ≡ true

@@ -1,7 +1,9 @@
 //! How many references there are, by what they are to, what for, and how strong.
 
-ghost use Rattle.std.specs.{Prelude.{◌≡◌, ◌≤◌, ◌<◌, ◌+◌, ◌-◌, ◌^◌, false, if◌then◌else◌, OnOk, OnErr}, HashMap.{spare}};
-ghost use Rattle.bd_holds.specs.{Count.{of_strength}, Keys.{same_use, same_key, use_of}, Counted.{both_at, count_at}};
+ghost use Rattle.std.specs.Prelude.{◌≡◌, ◌≤◌, ◌<◌, ◌+◌, ◌-◌, ◌^◌, false, Some, option_map, unwrap_or, if◌then◌else◌, OnOk, OnErr};
+ghost use Rattle.std.specs.HashMap.{get, spare};
+ghost use Rattle.bd_holds.specs.declared.{keys.UseKey.{UseKey}, count.Count.{Count}};
+ghost use Rattle.bd_holds.specs.{Count.{no_count, of_strength, less}, Keys.{same_use, same_key, use_of}};
 
 use crate::count::Count;
 use crate::keys::{CountKey, UseKey, use_of};
@@ -11,6 +13,7 @@ use std::collections::HashMap;
 /// The counters that aren't 0: those of both strengths stand together, since most steps look at both.
 pub(crate) struct Counts {
     pub(crate) counts: HashMap<UseKey, Count>,
+    ghost filled: { (u : UseKey) (c : Count) → get same_use counts u ≡ Some c → 0 < c.weak + c.strong },
 }
 
 impl Drop for Counts {
@@ -19,7 +22,26 @@ impl Drop for Counts {
     }
 }
 
+// So many fewer. The counters stay, even if they become 0.
+#[tactic(auto, unfolding(crate::specs::Keys::same_use))]
+fn lower(counts: &mut HashMap<UseKey, Count>, u: UseKey, fewer: Count) -> Count
+    ensures before { result ≡ unwrap_or (get same_use counts.old u) no_count }
+    ensures lowered { (v : UseKey) → get same_use counts.new v ≡ (if same_use u v
+        then option_map (λ c. less c fewer) (get same_use counts.old u) else get same_use counts.old v) }
+    ensures spare { spare counts.old ≤ spare counts.new }
+{
+    match counts.get_mut(&u) {
+        Some(count) => {
+            let before = *count;
+            *count = before.less(fewer);
+            before
+        }
+        None => Count::none(),
+    }
+}
+
 impl Counts {
+    ghost use Rattle.bd_holds.specs.Counted.{both_at, count_at};
     ghost use Rattle.bd_holds.specs.declared.keys.CountKey as declared;
 
     /// Nothing is counted.
@@ -70,24 +92,6 @@ impl Counts {
         self.counts.remove(&u).unwrap_or(Count::none())
     }
 
-    // So many fewer. The counters stay, even if they become 0.
-    #[tactic(auto, unfolding(crate::specs::Keys::same_use))]
-    fn lower(&mut self, u: UseKey, fewer: Count) -> Count
-        ensures before { result ≡ both_at self.old u }
-        ensures counts { (q : declared.CountKey) → count_at self.new q
-            ≡ count_at self.old q - (if same_use u (use_of q) then of_strength q.strong fewer else 0) }
-        ensures spare { spare self.old.counts ≤ spare self.new.counts }
-    {
-        match self.counts.get_mut(&u) {
-            Some(count) => {
-                let before = *count;
-                *count = before.less(fewer);
-                before
-            }
-            None => Count::none(),
-        }
-    }
-
     /// One more. Tells how many there were, of both strengths.
     #[tactic(auto, unfolding(crate::specs::Keys::same_use))]
     pub(crate) fn add(&mut self, k: CountKey) -> Count
@@ -112,15 +116,16 @@ impl Counts {
     }
 
     /// So many fewer, of both strengths. Tells how many there were.
+    #[tactic(auto, unfolding(crate::specs::Keys::same_use))]
     pub(crate) fn take_both(&mut self, u: UseKey, fewer: Count) -> Count
         ensures before { result ≡ both_at self.old u }
         ensures counts { (q : declared.CountKey) → count_at self.new q
             ≡ count_at self.old q - (if same_use u (use_of q) then of_strength q.strong fewer else 0) }
         ensures spare { spare self.old.counts ≤ spare self.new.counts }
     {
-        let before = self.lower(u, fewer);
-        if !before.is_empty() && before.less(fewer).is_empty() {
-            self.forget(u);
+        let before = lower(&mut self.counts, u, fewer);
+        if before.less(fewer).is_empty() {
+            let _gone = self.counts.remove(&u);
         }
         before
     }

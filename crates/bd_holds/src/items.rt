@@ -1,9 +1,9 @@
 //! What each buffer holds, in order.
 
 ghost use Rattle.std.specs.Prelude.{ℕ, ◌≡◌, ◌≤◌, ◌<◌, ◌+◌, ◌-◌, ◌^◌, ◌==◌, ◌++◌, ◌∷◌, [], Some, None, false, not, filter, ◌&&◌, if◌then◌else◌, OnOk, OnErr};
-ghost use Rattle.std.specs.HashMap.{spare};
+ghost use Rattle.std.specs.HashMap.{get_by, spare};
 ghost use Rattle.bd_space.specs.References as refer;
-ghost use Rattle.bd_holds.specs.{Gathered.{item_in, end_in}, Listed.{AreWindows}};
+ghost use Rattle.bd_holds.specs.{Gathered.{item_in, end_in, AreEnds}, Listed.{AreWindows}};
 
 use crate::held::{HeldReferences, end_of};
 use crate::holders::buffer_of_holder;
@@ -24,6 +24,7 @@ pub(crate) struct Items {
     pub(crate) windows: Groups<u32>,
     pub(crate) alloc: Global,
     ghost listed: { AreWindows held ends windows },
+    ghost ended: { AreEnds held ends },
 }
 
 impl Drop for Items {
@@ -55,6 +56,7 @@ fn put(held: &mut HashMap<ItemKey, Reference>, b: u32, i: u64, r: Reference)
 fn set_end(ends: &mut HashMap<u32, u64>, b: u32, i: u64)
     requires { 0 < spare ends.old }
     ensures ends { (c : ℕ) → end_in ends.new c ≡ (if b == c then i else end_in ends.old c) }
+    ensures put { (c : ℕ) → get_by (λ d. c == d) ends.new ≡ (if b == c then Some i else get_by (λ d. c == d) ends.old) }
     ensures spare { spare ends.old ≤ spare ends.new + 1 }
 {
     insert_reserved(ends, b, i);
@@ -65,6 +67,7 @@ fn set_end(ends: &mut HashMap<u32, u64>, b: u32, i: u64)
 fn clear_to(held: &mut HashMap<ItemKey, Reference>, b: u32, end: u64)
     ensures others { (c j : ℕ) → (b == c) ≡ false → item_in held.new c j ≡ item_in held.old c j }
     ensures gone { (j : ℕ) → j < end → item_in held.new b j ≡ None }
+    ensures above { (j : ℕ) → end ≤ j → item_in held.new b j ≡ item_in held.old b j }
     ensures spare { spare held.old ≤ spare held.new }
 {
     for i in 0..end {
@@ -113,9 +116,12 @@ impl Items {
         ensures uses { item_room self.old ≤ item_room self.new + 1 }
     {
         let end = end_of(&self.ends, b);
-        list_window(&mut self.windows, b, r.holder);
-        put(&mut self.held, b, end, r);
-        set_end(&mut self.ends, b, end.saturating_add(1));
+        // No index is above the number of those that ever came in.
+        if let Some(next) = end.checked_add(1) {
+            list_window(&mut self.windows, b, r.holder);
+            put(&mut self.held, b, end, r);
+            set_end(&mut self.ends, b, next);
+        }
     }
 
     /// A reference comes in. Its buffer holds it, if it has one.

@@ -92,6 +92,7 @@ fn leave_to(held: &mut HashMap<ItemKey, Reference>, b: u32, end: u64, p: u32)
     ensures others { (c j : ℕ) → (b == c) ≡ false → gather.item_in held.new c j ≡ gather.item_in held.old c j }
     ensures kept { (j : ℕ) → j < end
         → gather.item_in held.new b j ≡ kept (λ r. not (refer.is_in_window p r.holder)) (gather.item_in held.old b j) }
+    ensures above { (j : ℕ) → end ≤ j → gather.item_in held.new b j ≡ gather.item_in held.old b j }
     ensures spare { spare held.old ≤ spare held.new }
 {
     for i in 0..end {
@@ -110,6 +111,7 @@ fn leave_window(
         then filter (λ r. not (refer.is_in_window p r.holder)) (gather.held_in held.old ends.old c)
         else gather.held_in held.old ends.old c) }
     ensures ends { (c : ℕ) → gather.end_in ends.new c ≤ gather.end_in ends.old c }
+    ensures ended { gather.AreEnds held.old ends.old → gather.AreEnds held.new ends.new }
     ensures held_spare { spare held.old ≤ spare held.new }
     ensures ends_spare { spare ends.old ≤ spare ends.new }
 {
@@ -131,6 +133,7 @@ pub(crate) fn leave_each(
         then filter (λ r. not (refer.is_in_window p r.holder)) (gather.held_in held.old ends.old c)
         else gather.held_in held.old ends.old c) }
     ensures ends { (c : ℕ) → gather.end_in ends.new c ≤ gather.end_in ends.old c }
+    ensures ended { gather.AreEnds held.old ends.old → gather.AreEnds held.new ends.new }
     ensures held_spare { spare held.old ≤ spare held.new }
     ensures ends_spare { spare ends.old ≤ spare ends.new }
 {

@@ -14,6 +14,7 @@ loop-b-preserved c =
           (held_in c.loop-b.held c.loop-b.ends d) (held_in c.leave_window.new.held c.leave_window.new.ends d) _
           c.in-Some.ensures.steps (c.leave_window.ensures.items d) (inv.items d);
       ends = λ d. (let now = inv.ends d in let more = c.leave_window.ensures.ends d in omega (arith, now, more));
+      ended = λ are. c.leave_window.ensures.ended (inv.ended are);
       held_spare = omega (arith, inv.held_spare, c.leave_window.ensures.held_spare);
       ends_spare = omega (arith, inv.ends_spare, c.leave_window.ensures.ends_spare);
     }

@@ -1,8 +1,9 @@
-use Rattle.std.proofs.Common.{rules, ◌≡◌, ℕ, ◌<◌, ◌==◌, false, None, cond, refl, ap, sym, subst, ◌∙◌}
+use Rattle.std.proofs.Common.{rules, ◌≡◌, ℕ, ◌<◌, ◌==◌, false, None, cond, refl, ap, sym, subst, ◌∙◌, arith}
 use Rattle.std.specs.HashMap.{get_by}
 use Rattle.std.proofs.lemmas.Bool.{eq-eqb}
 use Rattle.bd_keys.proofs.Options.{updated}
 use Rattle.bd_holds.specs.Gathered.{item_in, end_in, gathered, is_used}
+use Rattle.bd_holds.proofs.Ends.{none-gathered, ends-changed, ends-gone}
 use Rattle.bd_holds.proofs.Gathers.{forgotten}
 use Rattle.bd_holds.proofs.Updated.{fewer}
 use Rattle.bd_holds.proofs.Viewed.{window-left}
@@ -32,3 +33,25 @@ returns-else-not-is_used-clause-items c =
     let ends = c.args.ends.now in
     window-left c.args.p c.args.held.now c.leave_to.new.held ends ends c.args.b c.leave_to.ensures.others
     (λ j lt. c.leave_to.ensures.kept j (subst (λ n. j < n) (sym c.end_of-end.ensures) lt)) (λ d e. refl) refl
+
+pub returns-then-not-is_used-clause-ended : goal.returns-then-not-is_used-clause-ended
+returns-then-not-is_used-clause-ended c = λ are.
+    let b = c.args.b in
+    let ends = c.args.ends.now in
+    let after = c.leave_to.new.held in
+    let end = c.end_of-end.ensures in
+    let none : is_used (gathered (item_in after b) 0 (end_in ends b)) ≡ false =
+    ap (λ n. is_used (gathered (item_in after b) 0 n)) (sym end) ∙ sym c.is_used.ensures ∙ search rules in
+    ends-gone c.args.held.now after ends c.remove-gone.new.self b
+    (λ j lt. none-gathered (item_in after b) 0 (end_in ends b) j none (omega arith) (omega (arith, lt))) (λ j le. c.leave_to.ensures.above j (omega (arith, le, end)))
+    c.leave_to.ensures.others c.remove-gone.ensures.updates.0 (eq-eqb b b refl) are
+
+pub returns-else-not-is_used-clause-ended : goal.returns-else-not-is_used-clause-ended
+returns-else-not-is_used-clause-ended c = λ are.
+    let b = c.args.b in
+    let ends = c.args.ends.now in
+    let after = c.leave_to.new.held in
+    let end = c.end_of-end.ensures in
+    ends-changed c.args.held.now after ends ends b c.leave_to.ensures.others (λ d e. refl)
+    (λ i le. c.leave_to.ensures.above i (omega (arith, le, end)) ∙ are.past b i le)
+    (λ n is. ap (λ n. is_used (gathered (item_in after b) 0 n)) (sym end) ∙ sym c.is_used.ensures ∙ search rules) are

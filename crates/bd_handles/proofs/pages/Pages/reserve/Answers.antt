@@ -14,3 +14,10 @@ pub returns-clause-full : goal.returns-clause-full
 returns-clause-full c = λ full p w.
     let k : NumberKey = record { process = p; number = w } in
     ap (λ x. bit_at x (w % 64)) (c.reserve-2.ensures.same p (w / 64)) ∙ full p w ∙ ap (λ x. full_mark (word_in x)) (sym (c.reserve.ensures.entries.2 k))
+
+pub invariant_of-self-2 : goal.invariant_of-self-2
+invariant_of-self-2 c = record {
+  filled = λ p w page e.
+      let k : NumberKey = record { process = p; number = w } in
+      c.args.self.now.filled p w page (sym (c.reserve.ensures.entries.2 k) ∙ e);
+}

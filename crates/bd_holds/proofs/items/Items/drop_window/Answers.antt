@@ -8,17 +8,15 @@ use Rattle.bd_holds.specs.Held.{items_of}
 use Rattle.bd_holds.proofs.Viewed.{all-left, windows-left}
 use Rattle.bd_holds.proofs.items.Items.drop_window.Goals as goal
 
-pub invariant_of-self : goal.invariant_of-self
+pub invariant_of-self-clause-listed : goal.invariant_of-self-clause-listed
 unfolding same_group
-invariant_of-self c =
+invariant_of-self-clause-listed c =
     let old = c.args.self.now in
     let stays = λ (r : Reference). not (is_in_window c.args.p r.holder) in
-    record {
-      listed = windows-left c.args.p old.held c.leave_each.new.held old.ends c.leave_each.new.ends old.windows old.listed
-          (λ d. c.leave_each.ensures.items d
-          ∙ ap (λ (bs : List ℕ). cond (list_any (λ b. b == d) bs) (filter stays (items_of old d)) (items_of old d)) c.of.ensures)
-          c.forget.new.self (λ q. c.forget.ensures.gone (Process q));
-    }
+    windows-left c.args.p old.held c.leave_each.new.held old.ends c.leave_each.new.ends old.windows old.listed
+    (λ d. c.leave_each.ensures.items d
+    ∙ ap (λ (bs : List ℕ). cond (list_any (λ b. b == d) bs) (filter stays (items_of old d)) (items_of old d)) c.of.ensures)
+    c.forget.new.self (λ q. c.forget.ensures.gone (Process q))
 
 pub returns-clause-items : goal.returns-clause-items
 returns-clause-items c =

@@ -1,6 +1,7 @@
 use Rattle.std.proofs.Common.{◌∙◌, ap, unwrap_or}
 use Rattle.bd_holds.specs.Keys.{same_item}
 use Rattle.bd_holds.specs.Gathered.{item_in, gathered}
+use Rattle.bd_holds.proofs.Ends.{ends-same}
 use Rattle.bd_holds.proofs.Gathers.{agrees}
 use Rattle.bd_holds.proofs.Viewed.{windows-same}
 use Rattle.bd_holds.proofs.items.Items.reserve.Goals as goal
@@ -28,6 +29,8 @@ invariant_of-self-in-Break-branch-2 c =
       listed = windows-same old.held c.reserve.new.self old.ends c.reserve-2.new.self old.windows
           (λ b i. c.reserve.ensures.entries.2 (record { buffer = b; index = i }))
           (λ b. ap (λ o. unwrap_or o 0) (c.reserve-2.ensures.entries.2 b)) old.listed;
+      ended = ends-same old.held c.reserve.new.self old.ends c.reserve-2.new.self
+          (λ b i. c.reserve.ensures.entries.2 (record { buffer = b; index = i })) c.reserve-2.ensures.entries.2 old.ended;
     }
 
 pub invariant_of-self-2 : goal.invariant_of-self-2
@@ -38,4 +41,6 @@ invariant_of-self-2 c =
       listed = c.reserve_windows.ensures.are (windows-same old.held c.reserve.new.self old.ends c.reserve-2.new.self old.windows
           (λ b i. c.reserve.ensures.entries.2 (record { buffer = b; index = i }))
           (λ b. ap (λ o. unwrap_or o 0) (c.reserve-2.ensures.entries.2 b)) old.listed);
+      ended = ends-same old.held c.reserve.new.self old.ends c.reserve-2.new.self
+          (λ b i. c.reserve.ensures.entries.2 (record { buffer = b; index = i })) c.reserve-2.ensures.entries.2 old.ended;
     }
