@@ -71,8 +71,10 @@ impl DeathTable {
         ensures room { OnOk result (2 * more ≤ group_room self.new.groups) }
         ensures grown { OnErr result (2 * more ≤ group_room self.old.groups → ⊥) }
     {
-        // A room is a usize.
-        let _ = self.groups.room();
+        // Each comes in twice.
+        if more <= self.groups.room() / 2 {
+            return Ok(());
+        }
         let members = more.checked_mul(2).ok_or(AllocError)?;
         let left = self.list.slots.len().saturating_mul(2);
         if self.groups.is_worn(left, members) {
