@@ -1,5 +1,5 @@
 -- What is at a key, and how many new keys may still come without memory.
-use Rattle.std.specs.Prelude.{ℕ, ◌-◌, min, List, get_or, Option, Some, None, vec_len, vec_capacity}
+use Rattle.std.specs.Prelude.{ℕ, ◌-◌, min, List, get_or, Option, Some, None, is_some, count_by, vec_len, vec_capacity}
 use Rattle.bd_keys.specs.declared.key.WordKey.{WordKey}
 use Rattle.bd_keys.specs.declared.map.WordMap.{WordMap}
 use Rattle.bd_keys.specs.Keys.{place_in}
@@ -20,3 +20,10 @@ look m k = value_at m.values.items (place_of m k)
 
 unfoldable pub word_room : {V : Type 0} → WordMap V → ℕ
 word_room m = min (tree_room m.tree) (vec_capacity m.values - vec_len m.values)
+
+-- how many keys there are, and how many of them have a value
+abbrev pub key_count : {V : Type 0} → WordMap V → ℕ
+key_count m = vec_len m.values
+
+abbrev pub value_count : {V : Type 0} → WordMap V → ℕ
+value_count m = count_by is_some m.values.items

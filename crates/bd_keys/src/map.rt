@@ -1,6 +1,6 @@
 //! Values by process and word.
 
-ghost use Rattle.std.specs.Prelude.{◌≡◌, ◌+◌, ◌≤◌, ◌<◌, if◌then◌else◌, Some, None, OnOk, OnErr, IfOk, IfSome, is_some, count_by, length};
+ghost use Rattle.std.specs.Prelude.{◌≡◌, ◌+◌, ◌*◌, ◌≤◌, ◌<◌, if◌then◌else◌, Some, None, OnOk, OnErr, IfOk, IfSome, is_some, count_by, length};
 ghost use Rattle.std.specs.Option.{option_map};
 
 use crate::key::WordKey;
@@ -25,17 +25,25 @@ pub struct WordMap<V> {
 
 impl<V: Copy> WordMap<V> {
     ghost use Rattle.bd_keys.specs.{declared.key.WordKey.{WordKey}, Keys.{same_word}};
-    ghost use Rattle.bd_keys.specs.Look.{place_of, look, word_room};
+    ghost use Rattle.bd_keys.specs.Look.{place_of, look, word_room, key_count, value_count};
 
-    /// An empty map. Takes no memory.
-    pub fn new(alloc: Global) -> WordMap<V>
-        ensures { (k : WordKey) → look result k ≡ None }
+    // No keys.
+    fn empty(alloc: Global) -> WordMap<V>
+        ensures values { (k : WordKey) → look result k ≡ None }
+        ensures keys { key_count result ≡ 0 }
     {
         WordMap {
             tree: Tree::new(alloc),
             values: Vec::new(alloc),
             live: 0,
         }
+    }
+
+    /// An empty map. Takes no memory.
+    pub fn new(alloc: Global) -> WordMap<V>
+        ensures { (k : WordKey) → look result k ≡ None }
+    {
+        WordMap::empty(alloc)
     }
 
     // How many new keys may still come without memory.
@@ -49,6 +57,7 @@ impl<V: Copy> WordMap<V> {
     // Makes room beside the keys that there are.
     fn grow(&mut self, more: usize) -> Result<(), AllocError>
         ensures kept { (k : WordKey) → look self.new k ≡ look self.old k }
+        ensures keys { key_count self.new ≡ key_count self.old }
         ensures uses { word_room self.old ≤ word_room self.new }
         ensures room { OnOk result (more ≤ word_room self.new) }
     {
@@ -59,10 +68,11 @@ impl<V: Copy> WordMap<V> {
     // The same values in new memory, without the keys that have none.
     fn rebuilt(&self, more: usize) -> Result<WordMap<V>, AllocError>
         ensures kept { IfOk result (λ m. (k : WordKey) → look m k ≡ look self.now k) }
+        ensures keys { IfOk result (λ m. key_count m ≤ value_count self.now) }
         ensures room { IfOk result (λ m. more ≤ word_room m) }
     {
         let room = room_anew(LEAST, self.live, more)?;
-        let mut fresh = WordMap::new(*self.values.allocator());
+        let mut fresh = WordMap::empty(*self.values.allocator());
         fresh.grow(room)?;
         for (at, value) in self.values.iter().enumerate() {
             if let Some(v) = value {
@@ -77,6 +87,8 @@ impl<V: Copy> WordMap<V> {
         ensures kept { (k : WordKey) → look self.new k ≡ look self.old k }
         ensures uses { word_room self.old ≤ word_room self.new }
         ensures room { OnOk result (more ≤ word_room self.new) }
+        // Where there was no room, keys without a value are few from now on.
+        ensures keys { OnOk result ((more ≤ word_room self.old → ⊥) → key_count self.new ≤ 2 * value_count self.old + 1) }
         ensures grown { OnErr result (more ≤ word_room self.old → ⊥) }
     {
         if more <= self.room() {
@@ -120,6 +132,7 @@ impl<V: Copy> WordMap<V> {
         ensures put { (k l : WordKey) → place_of self.old k ≡ Some at
             → look self.new l ≡ (if same_word k l then value else look self.old l) }
         ensures room { word_room self.new ≡ word_room self.old }
+        ensures keys { key_count self.new ≡ key_count self.old }
     {
         let was = self.values[at].is_some() as usize;
         self.live = self.live - was + value.is_some() as usize;
@@ -131,6 +144,7 @@ impl<V: Copy> WordMap<V> {
         requires { 1 ≤ word_room self.old }
         ensures put { (l : WordKey) → look self.new l ≡ (if same_word k l then Some v else look self.old l) }
         ensures room { word_room self.old ≤ word_room self.new + 1 }
+        ensures keys { key_count self.new ≤ key_count self.old + 1 }
     {
         match self.place(k) {
             Some(at) => self.put(at, Some(v)),

@@ -30,6 +30,7 @@ loop-at-preserved g c =
                 ∙ below-insert ns m.tree.stands vs i w.key.result k w.in-Some.v (look c.loop-at.fresh k)
                 (omega (arith, less, m.alike)) w.key.ensures here (inv.shown k);
             room = omega (arith, inv.room, w.insert.ensures.room, counts, one);
+            keys = omega (arith, inv.keys, w.insert.ensures.keys, counts, one);
           })
       | in_default w ↦ rw w.fresh-is (
           let here = sym item ∙ w.in_default.is in
@@ -37,6 +38,7 @@ loop-at-preserved g c =
           record {
             shown = λ k. inv.shown k ∙ below-skip vs i (place_in (keys ns) k) here;
             room = omega (arith, inv.room, counts, none);
+            keys = omega (arith, inv.keys, counts, none);
           })
     ]
 

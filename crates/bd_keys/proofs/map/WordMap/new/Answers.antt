@@ -1,8 +1,0 @@
-use Rattle.std.proofs.Common.{ap}
-use Rattle.bd_keys.specs.Keys.{place_in}
-use Rattle.bd_keys.specs.Look.{look, value_at}
-use Rattle.bd_keys.proofs.map.WordMap.new.Goals as goal
-
-pub returns : goal.returns
-unfolding look place_in
-returns g c = λ k. ap (λ ks. value_at c.new-2.result.items (place_in ks k)) c.new.ensures
