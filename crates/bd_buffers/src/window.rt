@@ -113,7 +113,8 @@ impl Window {
 
     // The place of a new buffer for data and offsets of these sizes.
     fn place_for(&self, one_way: bool, data_size: u64, offsets_size: u64) -> Result<u32, Cause>
-        ensures { result ≡ start_for self.now.size self.now.buffers one_way (needed data_size offsets_size) }
+        ensures computed { result ≡ start_for self.now.size self.now.buffers one_way (needed data_size offsets_size) }
+        ensures fits { IfOk result (λ p. needed data_size offsets_size ≤ 4194304) }
     {
         let size = u64::from(self.ground.size);
         if data_size > size || offsets_size > size {
@@ -131,6 +132,7 @@ impl Window {
         ensures can_take { IfOk result (λ p. CanHold self.now one_way (needed data_size offsets_size) p) }
         ensures least { (size : ℕ) (bs : List Buffer) → Stands self.now size bs
             → IfOk result (λ p. IsLeastFree size bs (needed data_size offsets_size) p) }
+        ensures fits { IfOk result (λ p. needed data_size offsets_size ≤ 4194304) }
         ensures budget { (size : ℕ) (bs : List Buffer) → Stands self.now size bs
             → IfOk result (λ p. IsTrue one_way → IsInBudget size bs (needed data_size offsets_size)) }
         ensures cause { (size : ℕ) (bs : List Buffer) → Stands self.now size bs

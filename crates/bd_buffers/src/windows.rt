@@ -115,10 +115,7 @@ impl Windows {
     {
         match self.owned(p) {
             None => Err(Cause::NoRoom),
-            Some(w) => {
-                w.window.check();
-                w.window.place(one_way, data_size, offsets_size)
-            }
+            Some(w) => w.window.place(one_way, data_size, offsets_size),
         }
     }
 

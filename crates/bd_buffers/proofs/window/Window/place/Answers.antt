@@ -20,14 +20,14 @@ for_all w size live one_way n r e is =
     e ∙ ap (λ m. start_for m w.buffers one_way n) is.size_is ∙ ap (λ xs. start_for size xs one_way n) is.buffers_are
 
 pub returns-clause-can_take : goal.returns-clause-can_take
-returns-clause-can_take c = can_take_of c.args.self.now _ _ _ c.place_for.ensures
+returns-clause-can_take c = can_take_of c.args.self.now _ _ _ c.place_for.ensures.computed
 
 pub returns-clause-least : goal.returns-clause-least
-returns-clause-least c = λ size bs is. least_of size bs c.args.one_way _ _ (for_all c.args.self.now size bs _ _ _ c.place_for.ensures is)
+returns-clause-least c = λ size bs is. least_of size bs c.args.one_way _ _ (for_all c.args.self.now size bs _ _ _ c.place_for.ensures.computed is)
 
 pub returns-clause-budget : goal.returns-clause-budget
-returns-clause-budget c = λ size bs is. budget_of size bs c.args.one_way _ _ (for_all c.args.self.now size bs _ _ _ c.place_for.ensures is)
+returns-clause-budget c = λ size bs is. budget_of size bs c.args.one_way _ _ (for_all c.args.self.now size bs _ _ _ c.place_for.ensures.computed is)
 
 pub returns-clause-cause : goal.returns-clause-cause
 returns-clause-cause c = λ size bs is.
-    cause_of size bs c.args.one_way c.args.data_size c.args.offsets_size _ (for_all c.args.self.now size bs _ _ _ c.place_for.ensures is)
+    cause_of size bs c.args.one_way c.args.data_size c.args.offsets_size _ (for_all c.args.self.now size bs _ _ _ c.place_for.ensures.computed is)

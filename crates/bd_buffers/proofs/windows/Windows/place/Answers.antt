@@ -1,4 +1,4 @@
-use Rattle.std.proofs.Common.{ℕ, Bool, ◌≡◌, Some, Ok, Err, sym, find, refl}
+use Rattle.std.proofs.Common.{ℕ, Bool, ◌≡◌, Some, Ok, Err, sym, find}
 use Rattle.std.specs.Prelude.{Result, IfOk}
 use Rattle.bd_uapi.specs.declared.fault.Cause.{Cause}
 use Rattle.bd_space.specs.Windows.{needed}
@@ -6,7 +6,7 @@ use Rattle.bd_buffers.specs.Stands.{CanHold}
 use Rattle.bd_buffers.specs.declared.owned.OwnedWindow.{OwnedWindow}
 use Rattle.bd_buffers.specs.declared.windows.Windows.{Windows}
 use Rattle.bd_buffers.specs.WindowsStand.{is_owned_by, CanAdd}
-use Rattle.bd_buffers.proofs.AllWindows.{can_hold_back, fits_whole}
+use Rattle.bd_buffers.proofs.AllWindows.{can_hold_back}
 use Rattle.bd_buffers.proofs.windows.Windows.place.Goals as goal
 
 can_add_of : (t : Windows) (p : ℕ) (w : OwnedWindow) (one_way : Bool) (n : ℕ) (r : Result ℕ Cause) → find (is_owned_by p) t.windows ≡ Some w
@@ -18,10 +18,3 @@ can_add_of t p w one_way n (Err x) found can = tt
 pub returns-in-Some-clause-can_add : goal.returns-in-Some-clause-can_add
 returns-in-Some-clause-can_add c =
     can_add_of c.args.self.now c.args.p c.in-Some.w.now c.args.one_way (needed c.args.data_size c.args.offsets_size) c.place.result (sym c.in-Some.ensures.found) c.place.ensures.can_take
-
-pub returns-in-Some-clause-fits : goal.returns-in-Some-clause-fits
-returns-in-Some-clause-fits c =
-    let w = c.in-Some.w.now.window in
-    fits_whole w.size w.buffers (needed c.args.data_size c.args.offsets_size) c.place.result
-    (c.check.ensures.window w.size w.buffers (record { size_is = refl; buffers_are = refl }))
-    (c.place.ensures.least w.size w.buffers (record { size_is = refl; buffers_are = refl }))
