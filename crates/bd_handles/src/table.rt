@@ -1,6 +1,8 @@
 //! The table of names.
 
-ghost use Rattle.std.specs.Prelude.{◌≡◌, ◌==◌, ◌≤◌, ◌<◌, ◌+◌, ◌-◌, ◌&&◌, ◌++◌, ◌∷◌, not, filter, vec_len, vec_capacity, List, [], None, OnOk, OnErr};
+ghost use Rattle.std.specs.Prelude.{◌≡◌, ◌==◌, ◌≤◌, ◌<◌, ◌+◌, ◌-◌, ◌*◌, ◌&&◌, ◌++◌, ◌∷◌, not, filter, vec_len, vec_capacity, List, [], None, OnOk, OnErr};
+ghost use Rattle.std.specs.HashMap.{hash_map_len};
+ghost use Rattle.bd_groups.specs.Members.{group_room, member_count};
 ghost use Rattle.bd_space.specs.declared.space.Name as declared;
 ghost use Rattle.bd_space.specs.Words as words;
 ghost use Rattle.bd_space.specs.Names as names_of;
@@ -42,6 +44,9 @@ impl NameTable {
         ensures stands { (base l : List declared.Name) → NamesSince self.old base l → NamesSince self.new base l }
         ensures uses { Uses self.old self.new 0 }
         ensures room { OnOk result (more ≤ name_room self.new) }
+        // Where there was no room among the numbers of processes, few are of names that are gone.
+        ensures few { OnOk result ((more ≤ group_room self.old.held → ⊥)
+            → member_count self.new.held ≤ 2 * hash_map_len self.new.names.numbers + 1) }
         // Memory was asked for: there was no room.
         ensures grown { OnErr result (more ≤ name_room self.old → ⊥) }
     {

@@ -1,7 +1,8 @@
 //! What each buffer holds, in order.
 
-ghost use Rattle.std.specs.Prelude.{ℕ, ◌≡◌, ◌≤◌, ◌<◌, ◌+◌, ◌-◌, ◌^◌, ◌==◌, ◌++◌, ◌∷◌, [], Some, None, false, not, filter, ◌&&◌, if◌then◌else◌, OnOk, OnErr};
-ghost use Rattle.std.specs.HashMap.{get_by, spare};
+ghost use Rattle.std.specs.Prelude.{ℕ, ◌≡◌, ◌≤◌, ◌<◌, ◌+◌, ◌-◌, ◌*◌, ◌^◌, ◌==◌, ◌++◌, ◌∷◌, [], Some, None, false, not, filter, ◌&&◌, if◌then◌else◌, OnOk, OnErr};
+ghost use Rattle.std.specs.HashMap.{get_by, hash_map_len, spare};
+ghost use Rattle.bd_groups.specs.Members.{group_room, member_count};
 ghost use Rattle.bd_space.specs.References as refer;
 ghost use Rattle.bd_holds.specs.{Gathered.{item_in, end_in, AreEnds}, Listed.{AreWindows}};
 
@@ -100,6 +101,9 @@ impl Items {
         ensures ends { (b : ℕ) → end_at self.new b ≡ end_at self.old b }
         ensures uses { item_room self.old ≤ item_room self.new }
         ensures room { OnOk result (more ≤ item_room self.new) }
+        // Where there was no room among the buffers of windows, few hold nothing.
+        ensures few { OnOk result ((more ≤ group_room self.old.windows → ⊥)
+            → member_count self.new.windows ≤ 2 * hash_map_len self.new.held + 1) }
         ensures grown { OnErr result (more ≤ item_room self.old → ⊥) }
     {
         self.held.reserve(more)?;

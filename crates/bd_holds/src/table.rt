@@ -1,6 +1,8 @@
 //! The table, and its memory.
 
-ghost use Rattle.std.specs.Prelude.{◌≡◌, ◌+◌, ◌≤◌, ◌++◌, ◌∷◌, [], List, OnOk, OnErr};
+ghost use Rattle.std.specs.Prelude.{◌≡◌, ◌+◌, ◌*◌, ◌≤◌, ◌++◌, ◌∷◌, [], List, OnOk, OnErr};
+ghost use Rattle.std.specs.HashMap.{hash_map_len};
+ghost use Rattle.bd_groups.specs.Members.{group_room, member_count};
 ghost use Rattle.bd_space.specs.declared.space.Reference.{Reference};
 
 use crate::items::Items;
@@ -47,6 +49,11 @@ impl ReferenceTable {
         ensures stands { (l : List Reference) → ReferencesAre self.old l → ReferencesAre self.new l }
         ensures uses { reference_room self.old ≤ reference_room self.new }
         ensures room { OnOk result (more ≤ reference_room self.new) }
+        // Where there was no room among what is listed by process, little is of what went.
+        ensures few_users { OnOk result ((more ≤ group_room self.old.tallies.users → ⊥)
+            → member_count self.new.tallies.users ≤ 2 * hash_map_len self.new.tallies.uses.counts + 1) }
+        ensures few_windows { OnOk result ((more ≤ group_room self.old.items.windows → ⊥)
+            → member_count self.new.items.windows ≤ 2 * hash_map_len self.new.items.held + 1) }
         // There was no room: memory was asked for, or more would come in than `made` can count.
         ensures grown { OnErr result (more ≤ reference_room self.old → ⊥) }
     {

@@ -1,7 +1,8 @@
 //! How many references there are, by what they are for, and in all.
 
-ghost use Rattle.std.specs.Prelude.{◌≡◌, ◌≤◌, ◌<◌, ◌+◌, ◌-◌, ◌^◌, ◌++◌, ◌∷◌, [], nat_lt, Bool, true, List, length, filter, not, ◌||◌, ◌&&◌, OnOk, OnErr};
-ghost use Rattle.std.specs.List.{list_any};
+ghost use Rattle.std.specs.Prelude.{◌≡◌, ◌≤◌, ◌<◌, ◌+◌, ◌-◌, ◌*◌, ◌^◌, ◌++◌, ◌∷◌, [], nat_lt, Bool, true, List, length, filter, not, ◌||◌, ◌&&◌, OnOk, OnErr};
+ghost use Rattle.std.specs.{List.{list_any}, HashMap.{hash_map_len}};
+ghost use Rattle.bd_groups.specs.Members.{group_room, member_count};
 ghost use Rattle.bd_space.specs.declared.space.Reference as declared;
 ghost use Rattle.bd_space.specs.Words.{same, without_first};
 ghost use Rattle.bd_space.specs.References as refer;
@@ -64,6 +65,9 @@ impl Tallies {
         ensures stands { (l : List declared.Reference) → Tallied self.old l → Tallied self.new l }
         ensures uses { tally_room self.old ≤ tally_room self.new }
         ensures room { OnOk result (more ≤ tally_room self.new) }
+        // Where there was no room among the uses of processes, few count nothing.
+        ensures few { OnOk result ((more ≤ group_room self.old.users → ⊥)
+            → member_count self.new.users ≤ 2 * hash_map_len self.new.uses.counts + 1) }
         ensures grown { OnErr result (more ≤ tally_room self.old → ⊥) }
     {
         self.uses.reserve(more)?;

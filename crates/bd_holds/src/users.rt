@@ -1,8 +1,8 @@
 //! The uses of objects, listed for the processes for which they count.
 
-ghost use Rattle.std.specs.Prelude.{ℕ, ◌≡◌, ◌≤◌, ◌<◌, ◌+◌, ◌++◌, ◌∷◌, true, false, map, filter, if◌then◌else◌, IfOk, OnOk, OnErr};
-ghost use Rattle.std.specs.List.{list_any};
-ghost use Rattle.bd_groups.specs.{declared.group.Group.TheVariants.{Process}, Members.{members, group_room}};
+ghost use Rattle.std.specs.Prelude.{ℕ, ◌≡◌, ◌≤◌, ◌<◌, ◌+◌, ◌*◌, ◌++◌, ◌∷◌, true, false, map, filter, if◌then◌else◌, IfOk, OnOk, OnErr};
+ghost use Rattle.std.specs.{List.{list_any}, HashMap.{hash_map_len}};
+ghost use Rattle.bd_groups.specs.{declared.group.Group.TheVariants.{Process}, Members.{members, group_room, member_count}};
 ghost use Rattle.bd_holds.specs.declared.keys.CountKey as key;
 ghost use Rattle.bd_holds.specs.declared.counts.Counts as counters;
 ghost use Rattle.bd_holds.specs.Keys as keys;
@@ -21,6 +21,7 @@ fn put_user(users: &mut Groups<UseKey>, u: UseKey)
     requires { 1 ≤ group_room users.old }
     ensures put { (p : ℕ) → members users.new (Process p)
         ≡ (if keys.is_of_process p u.kind then u ∷ members users.old (Process p) else members users.old (Process p)) }
+    ensures count { member_count users.new ≤ member_count users.old + 1 }
     ensures uses { group_room users.old ≤ group_room users.new + 1 }
 {
     if let Some(p) = process_of(u.kind) {
@@ -44,6 +45,7 @@ pub(crate) fn enlist(users: &mut Groups<UseKey>, u: UseKey, before: Count)
 // The uses of these counters alone.
 fn renewed(uses: &Counts, alloc: Global, more: usize) -> Result<Groups<UseKey>, AllocError>
     ensures are { IfOk result (λ users. AreUsers uses.now users) }
+    ensures few { IfOk result (λ users. member_count users ≤ hash_map_len uses.now.counts) }
     ensures room { IfOk result (λ users. more ≤ group_room users) }
 {
     let mut users = Groups::with_room(alloc, uses.counts.len(), more)?;
@@ -61,6 +63,8 @@ pub(crate) fn reserve_users(
     more: usize,
 ) -> Result<(), AllocError>
     ensures are { AreUsers uses.now users.old → AreUsers uses.now users.new }
+    // Where there was no room, few of the uses count nothing.
+    ensures few { OnOk result ((more ≤ group_room users.old → ⊥) → member_count users.new ≤ 2 * hash_map_len uses.now.counts + 1) }
     ensures uses { group_room users.old ≤ group_room users.new }
     ensures room { OnOk result (more ≤ group_room users.new) }
     ensures grown { OnErr result (more ≤ group_room users.old → ⊥) }

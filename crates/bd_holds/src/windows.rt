@@ -1,8 +1,8 @@
 //! The buffers, listed for the processes in whose windows they hold something.
 
-ghost use Rattle.std.specs.Prelude.{ℕ, ◌≡◌, ◌==◌, ◌≤◌, ◌<◌, ◌+◌, ◌&&◌, true, false, not, filter, if◌then◌else◌, IfOk, OnOk, OnErr};
-ghost use Rattle.std.specs.{List.{list_any}, HashMap.{spare}};
-ghost use Rattle.bd_groups.specs.Members.{group_room};
+ghost use Rattle.std.specs.Prelude.{ℕ, ◌≡◌, ◌==◌, ◌≤◌, ◌<◌, ◌+◌, ◌*◌, ◌&&◌, true, false, not, filter, if◌then◌else◌, IfOk, OnOk, OnErr};
+ghost use Rattle.std.specs.{List.{list_any}, HashMap.{hash_map_len, spare}};
+ghost use Rattle.bd_groups.specs.Members.{group_room, member_count};
 ghost use Rattle.bd_nodes.specs.Keys.{kept};
 ghost use Rattle.bd_space.specs.References as refer;
 ghost use Rattle.bd_holds.specs.Gathered as gather;
@@ -22,6 +22,7 @@ pub(crate) fn list_window(windows: &mut Groups<u32>, b: u32, holder: Holder)
     requires { 1 ≤ group_room windows.old }
     ensures has { (p : ℕ) → refer.is_in_window p holder ≡ true → has_buffer windows.new p b ≡ true }
     ensures keeps { (p c : ℕ) → has_buffer windows.old p c ≡ true → has_buffer windows.new p c ≡ true }
+    ensures count { member_count windows.new ≤ member_count windows.old + 1 }
     ensures uses { group_room windows.old ≤ group_room windows.new + 1 }
 {
     if let Some(p) = window_of(holder) {
@@ -40,6 +41,7 @@ fn renewed(
     more: usize,
 ) -> Result<Groups<u32>, AllocError>
     ensures are { IfOk result (λ windows. AreWindows held.now ends.now windows) }
+    ensures few { IfOk result (λ windows. member_count windows ≤ hash_map_len held.now) }
     ensures room { IfOk result (λ windows. more ≤ group_room windows) }
 {
     let mut windows = Groups::with_room(alloc, held.len(), more)?;
@@ -58,6 +60,8 @@ pub(crate) fn reserve_windows(
     more: usize,
 ) -> Result<(), AllocError>
     ensures are { AreWindows held.now ends.now windows.old → AreWindows held.now ends.now windows.new }
+    // Where there was no room, few are of buffers that hold nothing.
+    ensures few { OnOk result ((more ≤ group_room windows.old → ⊥) → member_count windows.new ≤ 2 * hash_map_len held.now + 1) }
     ensures uses { group_room windows.old ≤ group_room windows.new }
     ensures room { OnOk result (more ≤ group_room windows.new) }
     ensures grown { OnErr result (more ≤ group_room windows.old → ⊥) }

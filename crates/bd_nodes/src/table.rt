@@ -1,6 +1,6 @@
 //! The table, and its memory.
 
-ghost use Rattle.std.specs.Prelude.{◌≡◌, ◌≤◌, [], List, length, OnOk, OnErr, IfOk};
+ghost use Rattle.std.specs.Prelude.{◌≡◌, ◌≤◌, ◌+◌, ◌*◌, [], List, length, OnOk, OnErr, IfOk};
 
 use crate::key::owner_group;
 use bd_groups::Groups;
@@ -34,7 +34,7 @@ impl Drop for NodeTable {
 impl NodeTable {
     ghost use Rattle.bd_space.specs.declared.space.Object.{Object};
     ghost use Rattle.bd_nodes.specs.{Stands.{NodesAre, IsKept, Lists}, Room.{Uses, node_room, node_count}};
-    ghost use Rattle.bd_groups.specs.Members.{group_room};
+    ghost use Rattle.bd_groups.specs.Members.{group_room, member_count};
 
     /// An empty table.
     pub fn new(alloc: Global) -> NodeTable
@@ -55,6 +55,8 @@ impl NodeTable {
         ensures uses { Uses self.old self.new 0 }
         ensures count { node_count self.new ≡ node_count self.old }
         ensures room { OnOk result (more ≤ node_room self.new) }
+        // Where there was no room among those of processes, few are of objects that went.
+        ensures few { OnOk result ((more ≤ group_room self.old.owned → ⊥) → member_count self.new.owned ≤ 2 * node_count self.new + 1) }
         // Memory was asked for: there was no room.
         ensures grown { OnErr result (more ≤ node_room self.old → ⊥) }
     {
@@ -72,8 +74,10 @@ impl NodeTable {
     }
 
     // The objects of each process in new memory, without those that went, and with room for so many more.
+    #[tactic(auto, unfolding(crate::specs::Room::node_count))]
     fn renewed(&self, more: usize) -> Result<Groups<ObjectId>, AllocError>
         ensures lists { IfOk result (Lists self.now.objects) }
+        ensures few { IfOk result (λ g. member_count g ≤ node_count self.now) }
         ensures room { IfOk result (λ g. more ≤ group_room g) }
     {
         let mut fresh = Groups::with_room(self.alloc, self.objects.len(), more)?;

@@ -12,6 +12,7 @@ loop-k-preserved c =
       coming = λ p o n found. come c.loop-k.held c.push.new.self c.in-Some.k.now c.in-Some.n.now _ _ c.push.ensures.has c.push.ensures.keeps first p o n
           (c.loop-k.invariant.coming p o n found);
       room = omega (arith, fewer, c.loop-k.invariant.room, c.push.ensures.uses);
+      few = omega (arith, fewer, c.loop-k.invariant.few, c.push.ensures.count);
     }
 
 pub returns-clause-listed : goal.returns-clause-listed

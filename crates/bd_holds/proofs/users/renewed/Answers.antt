@@ -28,4 +28,5 @@ loop-u-preserved c =
       ];
       only = λ u p h. put-only j old new put u p (inv.only u p) h;
       room = omega (arith, fewer, inv.room, c.put_user.ensures.uses);
+      few = omega (arith, fewer, inv.few, c.put_user.ensures.count);
     }

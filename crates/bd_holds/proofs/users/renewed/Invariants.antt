@@ -1,6 +1,7 @@
 use Rattle.std.proofs.Common.{◌≡◌, ℕ, ◌+◌, ◌≤◌, true, Some, length, ◌⊎◌}
 use Rattle.std.specs.Map.{lookup}
-use Rattle.bd_groups.specs.Members.{group_room}
+use Rattle.std.specs.HashMap.{hash_map_len}
+use Rattle.bd_groups.specs.Members.{group_room, member_count}
 use Rattle.bd_holds.specs.declared.count.Count.{Count}
 use Rattle.bd_holds.specs.declared.keys.UseKey.{UseKey}
 use Rattle.bd_holds.specs.Keys.{same_use, is_of_process}
@@ -13,4 +14,5 @@ invariant-loop-u l = record {
       → (lookup (same_use u) l.u-iterator ≡ Some n) ⊎ (has_use l.users p u ≡ true);
   only : (u : UseKey) (p : ℕ) → has_use l.users p u ≡ true → is_of_process p u.kind ≡ true;
   room : length l.u-iterator + l.more ≤ group_room l.users;
+  few : member_count l.users + length l.u-iterator ≤ hash_map_len l.uses.counts;
 }

@@ -28,6 +28,7 @@ loop-k-preserved c =
         | inr has ↦ inr (c.list_window.ensures.keeps p k.buffer has)
       ];
       room = omega (arith, fewer, inv.room, c.list_window.ensures.uses);
+      few = omega (arith, fewer, inv.few, c.list_window.ensures.count);
     }
 
 pub returns-clause-are : goal.returns-clause-are

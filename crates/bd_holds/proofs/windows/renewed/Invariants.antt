@@ -1,6 +1,7 @@
 use Rattle.std.proofs.Common.{◌≡◌, ℕ, ◌+◌, ◌≤◌, true, Some, length, ◌⊎◌}
 use Rattle.std.specs.Map.{lookup}
-use Rattle.bd_groups.specs.Members.{group_room}
+use Rattle.std.specs.HashMap.{hash_map_len}
+use Rattle.bd_groups.specs.Members.{group_room, member_count}
 use Rattle.bd_space.specs.declared.space.Reference.{Reference}
 use Rattle.bd_space.specs.References.{is_in_window}
 use Rattle.bd_holds.specs.declared.keys.ItemKey.{ItemKey}
@@ -13,4 +14,5 @@ invariant-loop-k l = record {
   has : (k : ItemKey) (p : ℕ) (r : Reference) → lookup (same_item k) l.held.entries ≡ Some r → is_in_window p r.holder ≡ true
       → (lookup (same_item k) l.k-iterator ≡ Some r) ⊎ (has_buffer l.windows p k.buffer ≡ true);
   room : length l.k-iterator + l.more ≤ group_room l.windows;
+  few : member_count l.windows + length l.k-iterator ≤ hash_map_len l.held;
 }

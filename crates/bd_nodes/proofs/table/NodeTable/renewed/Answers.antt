@@ -1,4 +1,4 @@
-use Rattle.std.proofs.Common.{rules, ◌≡◌, [], ◌∷◌, All, subst, sym}
+use Rattle.std.proofs.Common.{rules, ◌≡◌, [], ◌∷◌, All, length, ap, subst, sym, arith}
 use Rattle.std.proofs.lemmas.List.Elements.{All-cons, All-nil}
 use Rattle.std.proofs.lemmas.Map.Views.{IfSome-lookup_from_All}
 use Rattle.bd_groups.specs.declared.group.Group.{Group}
@@ -19,6 +19,7 @@ loop-x-preserved c =
           (λ y is. kept y (c.push.ensures.keeps (owner_group y.owner) y.id is))
           (subst (All (IsListed g)) (sym next) (All-cons (IsListed g) x c.next.new.self (kept x is_listed) all));
       room = search rules;
+      few = (let shorter = ap length next in omega (arith, shorter, c.loop-x.invariant.few, c.push.ensures.count));
     }
 
 pub returns-clause-lists : goal.returns-clause-lists
