@@ -67,7 +67,7 @@ pub fn read_command(bytes: &[u8]) -> Result<(Command, usize), Fault>
     first_command(bytes)
 }
 
-/// The command's spelling, without memory.
+/// Spells the command, and takes no memory for it.
 pub fn spell_command(c: &Command) -> Spelling
     ensures spelled { result ≡ command_bytes c.now }
     ensures within { length result ≤ 68 }

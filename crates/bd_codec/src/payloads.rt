@@ -20,7 +20,7 @@ fn enough(bytes: &[u8], size: usize) -> Result<(), Fault>
     Ok(())
 }
 
-// The code.
+// Reads the code, which every command and every return begins with.
 pub fn code(bytes: &[u8]) -> Result<u32, Fault>
     ensures { result ≡ sized 4 bytes.now (word_at 0 bytes.now) }
 {

@@ -58,7 +58,7 @@ pub fn read_return(bytes: &[u8]) -> Result<(Return, usize), Fault>
     first_return(bytes)
 }
 
-/// The return's spelling, without memory.
+/// Spells the return, and takes no memory for it.
 pub fn spell_return(r: &Return) -> Spelling
     ensures spelled { result ≡ return_bytes r.now }
     ensures within { length result ≤ 68 }

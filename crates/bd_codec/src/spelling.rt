@@ -27,7 +27,7 @@ impl Model for Spelling {
 }
 
 impl Spelling {
-    /// The bytes.
+    /// What was spelled.
     pub fn as_slice(&self) -> &[u8]
         ensures { result.now ≡ self.now }
     {
@@ -68,7 +68,7 @@ impl Spelling {
         }
     }
 
-    // A record behind the code.
+    // Spells a record behind the code. Nothing comes after it: the two fill 68 bytes.
     pub(crate) fn record(self, t: &TransactionData) -> Spelling
         requires { length self ≡ 4 }
         ensures spelled { result ≡ self ++ record_bytes t.now }

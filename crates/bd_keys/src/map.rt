@@ -118,7 +118,7 @@ impl<V: Copy> WordMap<V> {
         self.values[at]
     }
 
-    /// The value at a key.
+    /// The value at a key, if there is one.
     pub fn get(&self, k: WordKey) -> Option<V>
         ensures { result ≡ look self.now k }
     {

@@ -41,7 +41,7 @@ fn end(nodes: &[Node], k: WordKey) -> usize
     at
 }
 
-// The place of a key.
+// Finds the place of a key: the walk ends at its node, or at another key's where it has none.
 fn place(nodes: &[Node], k: WordKey) -> Option<usize>
     requires { IsTree nodes.now }
     ensures { result ≡ place_in (keys nodes.now) k }
@@ -83,7 +83,6 @@ pub(crate) struct Tree {
 impl Tree {
     ghost use Rattle.bd_keys.specs.Room.{tree_room};
 
-    /// An empty tree.
     pub(crate) fn new(alloc: Global) -> Tree
         ensures { keys result.nodes.items ≡ [] }
     {
@@ -111,14 +110,14 @@ impl Tree {
         self.nodes.reserve(more)
     }
 
-    /// The place of a key.
+    /// Finds the place of a key, if it is there.
     pub(crate) fn find(&self, k: WordKey) -> Option<usize>
         ensures { result ≡ place_in (keys self.now.nodes.items) k }
     {
         place(&self.nodes, k)
     }
 
-    /// The key at a place.
+    /// The key at a place, of those that there are.
     pub(crate) fn key(&self, at: usize) -> WordKey
         requires { at < length self.now.nodes.items }
         ensures { result ≡ get_or (keys self.now.nodes.items) at blank }

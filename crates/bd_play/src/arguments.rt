@@ -188,7 +188,7 @@ fn script_command<'a>(alloc: Global) -> Making<'a> {
     Making::new(alloc, "script", about, SCRIPT_HELP)
 }
 
-// The program, with all its commands.
+// The program as `clap` is told of it, with all its commands.
 fn program<'a>(alloc: Global) -> Making<'a> {
     let program = Making::program(alloc, "bplay", VERSION, ABOUT, PROGRAM_HELP)
         .command(run_command(alloc))

@@ -32,13 +32,13 @@ impl<'a> Making<'a> {
         }
     }
 
-    /// The same with an argument more.
+    /// Adds an argument, unless something failed before.
     pub fn arg(self, arg: Arg<'a>) -> Making<'a> {
         let Making(made) = self;
         Making(with_arg(made, arg))
     }
 
-    /// The same with a command more below it.
+    /// Adds a command below it, unless something failed before.
     pub fn command(self, below: Making<'a>) -> Making<'a> {
         let (Making(made), Making(below)) = (self, below);
         match below {
@@ -47,7 +47,7 @@ impl<'a> Making<'a> {
         }
     }
 
-    /// The command.
+    /// The command, or what failed first.
     pub fn made(self) -> Result<Command<'a>, Error> {
         let Making(made) = self;
         made

@@ -60,7 +60,7 @@ where
     status.max(ended(out.end(), err))
 }
 
-// The words of the program.
+// The words that the program was started with. That there is no memory for them is another fault than that they can't be had.
 fn words<H: Runtime<A = Global>>(rt: &H) -> Result<Vec<String>, Fault> {
     match env::args(rt) {
         Ok(args) => args

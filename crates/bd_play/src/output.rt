@@ -12,7 +12,7 @@ pub struct Output<W: Drop> {
 }
 
 impl<W: Write + Drop> Output<W> {
-    /// Writes here.
+    /// Nothing is written yet, and nothing has failed.
     pub fn new(out: W) -> Output<W> {
         Output { out, failed: false }
     }

@@ -110,7 +110,7 @@ pub struct Counted<'a, W, H> {
 }
 
 impl<'a, W: Write, H: Clock + Eprint> Counted<'a, W, H> {
-    /// Writes here.
+    /// Counts the lines that are written from now on, of so many in all.
     pub fn new(out: &'a mut W, progress: Progress<'a, H>, all: u64) -> Counted<'a, W, H> {
         Counted {
             out,

@@ -40,7 +40,7 @@ pub struct Source<'a> {
     pub progress: bool,
 }
 
-/// The record of a journal, judged.
+/// Reads a journal and judges its record.
 pub fn judged_in<H: AllocGlobal + Files + Input + Clock + Eprint>(
     rt: &H,
     source: Source<'_>,

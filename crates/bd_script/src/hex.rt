@@ -10,7 +10,7 @@ use std::alloc::{AllocError, Global};
 // The most bytes that a word spells.
 const MOST_BYTES: usize = 4_194_304;
 
-// What a digit stands for.
+// What a digit of hex stands for.
 fn digit_value(byte: u8) -> Option<u8>
     ensures { result ≡ digit_of byte }
 {

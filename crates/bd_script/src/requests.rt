@@ -58,21 +58,21 @@ fn four_words<'a>(args: &[&'a [u8]]) -> Result<(&'a [u8], &'a [u8], &'a [u8], &'
     }
 }
 
-// One number, of 32 bits.
+// Reads the only argument, as a number of 32 bits.
 fn one_number(args: &[&[u8]]) -> Result<u32, Trouble>
     ensures { ReadsAs result (one_number_of (shown args.now)) }
 {
     word_in(one_word(args)?)
 }
 
-// One number, 0 for off or 1 for on.
+// Reads the only argument, as a switch: 0 is off, 1 is on.
 fn one_switch(args: &[&[u8]]) -> Result<bool, Trouble>
     ensures { ReadsAs result (one_switch_of (shown args.now)) }
 {
     Ok(number_in(one_word(args)?, 1)? == 1)
 }
 
-// One number, of 64 bits.
+// Reads the only argument, as a number of 64 bits.
 fn one_long(args: &[&[u8]]) -> Result<u64, Trouble>
     ensures { ReadsAs result (one_long_of (shown args.now)) }
 {
@@ -307,7 +307,7 @@ fn request_of(alloc: Global, verb: &[u8], args: &[&[u8]]) -> Result<Request, Tro
     }
 }
 
-// The write of a verb.
+// Reads a request of a verb that writes commands.
 #[tactic(auto, unfolding(crate::specs::Requests::write_with))]
 fn write_with(alloc: Global, verb: &[u8], args: &[&[u8]]) -> Result<Request, Trouble>
     ensures { ReadsOrMemory result (write_with verb.now (shown args.now)) }

@@ -30,7 +30,7 @@ pub fn is(word: &[u8], name: &[u8]) -> bool
     word == name
 }
 
-// A number of 32 bits that is at most this.
+// Reads a number that is at most this.
 pub fn number_in(word: &[u8], most: u32) -> Result<u32, Trouble>
     ensures { ReadsAs result (number_of most word.now) }
 {
@@ -40,14 +40,14 @@ pub fn number_in(word: &[u8], most: u32) -> Result<u32, Trouble>
     }
 }
 
-// A number of 32 bits.
+// Reads a number of 32 bits.
 pub fn word_in(word: &[u8]) -> Result<u32, Trouble>
     ensures { ReadsAs result (word_of word.now) }
 {
     number_in(word, u32::MAX)
 }
 
-// A number of 64 bits.
+// Reads a number of 64 bits.
 pub fn long_in(word: &[u8]) -> Result<u64, Trouble>
     ensures { ReadsAs result (long_of word.now) }
 {
@@ -57,7 +57,7 @@ pub fn long_in(word: &[u8]) -> Result<u64, Trouble>
     }
 }
 
-// Bytes in hex, or nothing.
+// Reads bytes in hex, or the word for none.
 pub fn hex_in(alloc: Global, word: &[u8]) -> Result<Bytes, Trouble>
     ensures exact { ReadsOrMemory result (hex_of word.now) }
     ensures spelled { IfOk result (λ bytes. word.now ≡ hex_word bytes) }
