@@ -9,14 +9,13 @@ use Rattle.bd_space.specs.declared.step.Entry.{Entry}
 use Rattle.bd_space.specs.declared.record.Record.{Record}
 use Rattle.bd_journal.specs.declared.fault.ReadError.{ReadError}
 use Rattle.bd_journal.specs.declared.versions.Version.{Version}
-use Rattle.bd_journal.specs.declared.versions.Version.TheVariants.{One, Two, Three}
-use Rattle.bd_journal.specs.Spelling.{magic, block, step_bytes, answer_bytes, entry_bytes, heading_in, count_bytes, count_limit, IsRecordSeats, IsSeatsIn, IsEntryIn, Tells}
-use Rattle.bd_journal.specs.Reading.{◌>>=◌, Gives, word_from, entry_from, version_from, seats_from, count_from}
+use Rattle.bd_journal.specs.Spelling.{block, step_bytes, answer_bytes, entry_bytes, heading_in, count_limit, IsRecordSeats, IsSeatsIn, IsEntryIn, Tells}
+use Rattle.bd_journal.specs.Reading.{◌>>=◌, Gives, Heading, word_from, entry_from, heading_from}
 use Rattle.bd_journal.specs.Steps.{IsFirstWhole}
-use Rattle.bd_journal.specs.Cut.{behind, whole_with, whole_from, cut_in, IsCutIn, IsCut, Continues}
-use Rattle.bd_journal.proofs.FieldLaws.{bind_some, some_is, Takes, Takes-then, counts}
+use Rattle.bd_journal.specs.Cut.{behind, whole_behind, whole_with, whole_from, cut_in, IsCutIn, IsCut, Continues}
+use Rattle.bd_journal.proofs.FieldLaws.{bind_some, some_is, Takes, Takes-then}
 use Rattle.bd_journal.proofs.SeatsTold.{seats_in}
-use Rattle.bd_journal.proofs.Laws.{entry_takes, entry_again, magic_takes, magic_again, seats_take, seats_again, seats_small}
+use Rattle.bd_journal.proofs.Laws.{entry_takes, entry_again, heading_takes, heading_again, seats_small}
 
 -- ---- entries
 
@@ -144,18 +143,10 @@ first_whole v seats bytes (Some x) fits read = one_whole v seats bytes x fits re
 
 -- ---- the record
 
--- what is read behind a heading
-abbrev read_behind : Version → ℕ → List ℕ → Option (Record × List ℕ)
-read_behind v seats tail = let read = whole_from v seats (length tail) tail in Some (record { seats = seats; entries = read.0 }, read.1)
-
 heading_read : (v : Version) (seats count : ℕ) (tail : List ℕ) → IsSeatsIn v seats → count < count_limit v
-    → cut_in (heading_in v seats count ++ tail) ≡ read_behind v seats tail
+    → cut_in (heading_in v seats count ++ tail) ≡ Some (whole_behind (v, seats, count, tail))
 unfolding cut_in
-heading_read v seats count tail are fits =
-    let counted = count_bytes v count ++ tail in
-    let regrouped : heading_in v seats count ++ tail ≡ magic v ++ (word seats ++ counted) =
-    append_assoc (magic v ++ word seats) (count_bytes v count) tail ∙ append_assoc (magic v) (word seats) counted in
-    ap cut_in regrouped ∙ rw (magic_again v (word seats ++ counted), seats_again v seats counted are, (counts v).again count tail fits) refl
+heading_read v seats count tail are fits = ap (λ x. x >>= λ h. Some (whole_behind h)) (heading_again v seats count tail are fits)
 
 -- the same of a cut journal, whatever stands behind
 module _ (v : Version) (count : ℕ) (bytes : List ℕ) (r : Record) (left : List ℕ) (is : IsCutIn v count bytes r left) where
@@ -194,36 +185,30 @@ module _ (v : Version) (count : ℕ) (bytes : List ℕ) (r : Record) (left : Lis
 pub is_told : (bytes : List ℕ) (r : Record) (left : List ℕ) → IsCut bytes r left → cut_in bytes ≡ Some (r, left)
 is_told bytes r left is = told is.0 is.1 bytes r left is.2
 
+-- what is read behind a heading is so
+pub whole_found : (bytes : List ℕ) (h : Heading) → IsBytes bytes → heading_from bytes ≡ Some h → IsCut bytes (whole_behind h).0 (whole_behind h).1
+whole_found bytes h fits e =
+    let t = heading_takes bytes h fits e in
+    let read = whole_takes h.0 h.1 (length h.3) h.3 t.0.rest_fits in
+    let whole = whole_from h.0 h.1 (length h.3) h.3 in
+    let all = Takes-then bytes (heading_in h.0 h.1 h.2) h.3 (flat_map entry_bytes whole.0) whole.1 t.0 read.0 in (
+      h.0,
+      h.2,
+      record {
+        seats = t.1.0;
+        count_fits = t.1.1;
+        entries = read.1;
+        parts = all.parts;
+        none_left = stops h.0 h.1 (length h.3) h.3 t.0.rest_fits (omega arith);
+      },
+    )
+
 -- what is read is so
 pub found_in : (bytes : List ℕ) (x : Record × List ℕ) → IsBytes bytes → cut_in bytes ≡ Some x → IsCut bytes x.0 x.1
 unfolding cut_in
 found_in bytes x fits e =
-    let p = bind_some (version_from bytes) (λ a. seats_from a.0 a.1 >>= λ b. count_from a.0 b.1 >>= λ c. read_behind a.0 b.0 c.1) x e in
-    let v = p.0.0 in
-    let q = bind_some (seats_from v p.0.1) (λ b. count_from v b.1 >>= λ c. read_behind v b.0 c.1) x p.2 in
-    let seats = q.0.0 in
-    let u = bind_some (count_from v q.0.1) (λ c. read_behind v seats c.1) x q.2 in
-    let tail = u.0.1 in
-    let read = whole_from v seats (length tail) tail in
-    let begun = magic_takes bytes p.0 fits p.1 in
-    let s = seats_take v p.0.1 q.0 begun.rest_fits q.1 in
-    let t0 : Takes bytes (magic v ++ word seats) q.0.1 = Takes-then bytes (magic v) p.0.1 (word seats) q.0.1 begun s.0 in
-    let t1 = (counts v).takes q.0.1 u.0 t0.rest_fits u.1 in
-    let t2 = Takes-then bytes (magic v ++ word seats) q.0.1 (count_bytes v u.0.0) tail t0 t1.0 in
-    let t3 = whole_takes v seats (length tail) tail t2.rest_fits in
-    let all = Takes-then bytes (heading_in v seats u.0.0) tail (flat_map entry_bytes read.0) read.1 t2 t3.0 in
-    let made : IsCut bytes (record { seats = seats; entries = read.0 }) read.1 = (
-      v,
-      u.0.0,
-      record {
-        seats = s.1;
-        count_fits = t1.1;
-        entries = t3.1;
-        parts = all.parts;
-        none_left = stops v seats (length tail) tail t2.rest_fits (omega arith);
-      },
-    ) in
-    subst (λ (y : Record × List ℕ). IsCut bytes y.0 y.1) (some_is (record { seats = seats; entries = read.0 }, read.1) x u.2) made
+    let p = bind_some (heading_from bytes) (λ h. Some (whole_behind h)) x e in
+    subst (λ (y : Record × List ℕ). IsCut bytes y.0 y.1) (some_is (whole_behind p.0) x p.2) (whole_found bytes p.0 fits p.1)
 
 -- of a whole journal nothing is left
 pub whole_told : (bytes : List ℕ) (r : Record) → Tells bytes r → IsCut bytes r []

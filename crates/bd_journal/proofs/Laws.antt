@@ -28,8 +28,8 @@ use Rattle.bd_journal.specs.declared.versions.Version.TheVariants.{One, Two, Thr
 use Rattle.bd_journal.specs.declared.fault.ReadError.{ReadError}
 use Rattle.bd_journal.specs.declared.codes.TheConstants.{NOTES, CAUSES, FAULTS}
 use Rattle.bd_journal.specs.Codes.{numbered, bit, bits, note_number, cause_number, fault_number}
-use Rattle.bd_journal.specs.Spelling.{block, magic, least_seats_in, most_seats_in, count_bytes, has_spam, carries, parcel_bytes, step_bytes, answer_bytes, entry_bytes, heading_in, spelling_in, IsBlock, IsParcel, IsStepIn, IsAnswer, IsSeatsIn, IsEntryIn, IsJournalIn, Tells}
-use Rattle.bd_journal.specs.Reading.{◌>>=◌, Gives, byte_from, word_from, block_from, whole, whole_block_from, spelled_by, command_in, blocks_from, parcel_by, parcel_from, command_step_from, open_from, number_step_from, numbered_from, tagged, later_step_rows, step_rows, step_from, got_from, answer_rows, answer_from, entry_from, entries_from, version_from, seats_from, count_from, record_from, journal_in}
+use Rattle.bd_journal.specs.Spelling.{block, magic, least_seats_in, most_seats_in, count_bytes, count_limit, has_spam, carries, parcel_bytes, step_bytes, answer_bytes, entry_bytes, heading_in, spelling_in, IsBlock, IsParcel, IsStepIn, IsAnswer, IsSeatsIn, IsEntryIn, IsJournalIn, Tells}
+use Rattle.bd_journal.specs.Reading.{◌>>=◌, Gives, byte_from, word_from, block_from, whole, whole_block_from, spelled_by, command_in, blocks_from, parcel_by, parcel_from, command_step_from, open_from, number_step_from, numbered_from, tagged, later_step_rows, step_rows, step_from, got_from, answer_rows, answer_from, entry_from, entries_from, version_from, seats_from, count_from, Heading, heading_from, record_from, journal_in}
 use Rattle.bd_journal.proofs.FieldLaws.{bind_some, demand_some, some_is, Takes, Takes-then, Takes-behind, IsBytes-rest, byte_takes, words, counts, blocks, block_bytes}
 use Rattle.bd_journal.proofs.Tags.{Row, RowOf, bare_row, once_row, thrice_row, thrice_again, numbered_row, rows_take}
 
@@ -390,51 +390,70 @@ pub seats_again : (v : Version) (n : ℕ) (rest : List ℕ) → IsSeatsIn v n �
 unfolding seats_from
 seats_again v n rest fits = rw (words.again n rest (seats_small v n fits.1), le-leb (least_seats_in v) n fits.0, le-leb n (most_seats_in v) fits.1) refl
 
--- what is read behind the magic is a journal of this version
-record_takes : (v : Version) (bytes behind : List ℕ) (r : Record) → Takes bytes (magic v) behind → record_from v behind ≡ Some r → IsJournalIn v r × (bytes ≡ spelling_in v r)
+-- the number of seats and of entries are what a heading of this version has
+abbrev pub IsHeadingIn : Heading → Type 0
+IsHeadingIn h = IsSeatsIn h.0 h.1 × (h.2 < count_limit h.0)
+
+pub heading_takes : (bytes : List ℕ) (h : Heading) → IsBytes bytes → heading_from bytes ≡ Some h → Takes bytes (heading_in h.0 h.1 h.2) h.3 × IsHeadingIn h
+unfolding heading_from
+heading_takes bytes h fits e =
+    let p = bind_some (version_from bytes) (λ a. seats_from a.0 a.1 >>= λ b. count_from a.0 b.1 >>= λ c. Some (a.0, b.0, c.0, c.1)) h e in
+    let v = p.0.0 in
+    let q = bind_some (seats_from v p.0.1) (λ b. count_from v b.1 >>= λ c. Some (v, b.0, c.0, c.1)) h p.2 in
+    let u = bind_some (count_from v q.0.1) (λ c. Some (v, q.0.0, c.0, c.1)) h q.2 in
+    let begun = magic_takes bytes p.0 fits p.1 in
+    let s = seats_take v p.0.1 q.0 begun.rest_fits q.1 in
+    let t0 : Takes bytes (magic v ++ word q.0.0) q.0.1 = Takes-then bytes (magic v) p.0.1 (word q.0.0) q.0.1 begun s.0 in
+    let t1 = (counts v).takes q.0.1 u.0 t0.rest_fits u.1 in
+    let all = Takes-then bytes (magic v ++ word q.0.0) q.0.1 (count_bytes v u.0.0) u.0.1 t0 t1.0 in
+    let made : Takes bytes (heading_in v q.0.0 u.0.0) u.0.1 × IsHeadingIn (v, q.0.0, u.0.0, u.0.1) = (all, (s.1, t1.1)) in
+    subst (λ (y : Heading). Takes bytes (heading_in y.0 y.1 y.2) y.3 × IsHeadingIn y) (some_is (v, q.0.0, u.0.0, u.0.1) h u.2) made
+
+pub heading_again : (v : Version) (seats count : ℕ) (tail : List ℕ) → IsSeatsIn v seats → count < count_limit v
+    → heading_from (heading_in v seats count ++ tail) ≡ Some (v, seats, count, tail)
+unfolding heading_from
+heading_again v seats count tail are fits =
+    let counted = count_bytes v count ++ tail in
+    let regrouped : heading_in v seats count ++ tail ≡ magic v ++ (word seats ++ counted) =
+    append_assoc (magic v ++ word seats) (count_bytes v count) tail ∙ append_assoc (magic v) (word seats) counted in
+    ap heading_from regrouped ∙ rw (magic_again v (word seats ++ counted), seats_again v seats counted are, (counts v).again count tail fits) refl
+
+-- what is read behind a heading is a journal of its version
+record_takes : (bytes : List ℕ) (h : Heading) (r : Record) → Takes bytes (heading_in h.0 h.1 h.2) h.3 → IsHeadingIn h → record_from h ≡ Some r → IsJournalIn h.0 r × (bytes ≡ spelling_in h.0 r)
 unfolding record_from
-record_takes v bytes behind r begun e =
-    let p = bind_some (seats_from v behind) (λ a. count_from v a.1 >>= λ b. entries_from v a.0 b.0 b.1 >>= λ c. cond (eqb (length c.1) 0) (Some (record { seats = a.0; entries = c.0 })) None) r e in
-    let q = bind_some (count_from v p.0.1) (λ b. entries_from v p.0.0 b.0 b.1 >>= λ c. cond (eqb (length c.1) 0) (Some (record { seats = p.0.0; entries = c.0 })) None) r p.2 in
-    let u = bind_some (entries_from v p.0.0 q.0.0 q.0.1) (λ c. cond (eqb (length c.1) 0) (Some (record { seats = p.0.0; entries = c.0 })) None) r q.2 in
-    let found : Record = record { seats = p.0.0; entries = u.0.0 } in
+record_takes bytes h r begun fits e =
+    let v = h.0 in
+    let seats = h.1 in
+    let u = bind_some (entries_from v seats h.2 h.3) (λ c. cond (eqb (length c.1) 0) (Some (record { seats = seats; entries = c.0 })) None) r e in
+    let found : Record = record { seats = seats; entries = u.0.0 } in
     let d = demand_some (eqb (length u.0.1) 0) (Some found) r u.2 in
-    let s = seats_take v behind p.0 begun.rest_fits p.1 in
-    let t0 : Takes bytes (magic v ++ word p.0.0) p.0.1 = Takes-then bytes (magic v) behind (word p.0.0) p.0.1 begun s.0 in
-    let t1 = (counts v).takes p.0.1 q.0 t0.rest_fits q.1 in
-    let t2 = entries_take v p.0.0 q.0.0 q.0.1 u.0 t1.0.rest_fits u.1 in
+    let t = entries_take v seats h.2 h.3 u.0 begun.rest_fits u.1 in
     let nothing : u.0.1 ≡ [] = nil_from_length u.0.1 (eqb-true _ _ d.0) in
-    let heading : Takes bytes (magic v ++ word p.0.0 ++ count_bytes v (length u.0.0)) q.0.1 =
-    subst (λ (n : ℕ). Takes bytes (magic v ++ word p.0.0 ++ count_bytes v n) q.0.1) (sym t2.1) (Takes-then bytes (magic v ++ word p.0.0) p.0.1 (count_bytes v q.0.0) q.0.1 t0 t1.0) in
-    let parts = (Takes-then bytes (heading_in v p.0.0 (length u.0.0)) q.0.1 (flat_map entry_bytes u.0.0) u.0.1 heading t2.0).parts in
+    let heading : Takes bytes (heading_in v seats (length u.0.0)) h.3 = subst (λ (n : ℕ). Takes bytes (heading_in v seats n) h.3) (sym t.1) begun in
+    let parts = (Takes-then bytes (heading_in v seats (length u.0.0)) h.3 (flat_map entry_bytes u.0.0) u.0.1 heading t.0).parts in
     let all : bytes ≡ spelling_in v found = parts ∙ ap (λ (t : List ℕ). spelling_in v found ++ t) nothing ∙ append-nil (spelling_in v found) in
-    let made : IsJournalIn v found × (bytes ≡ spelling_in v found) = (record { seats = s.1; count = omega (arith, t1.1, t2.1); entries = t2.2 }, all) in
+    let made : IsJournalIn v found × (bytes ≡ spelling_in v found) = (record { seats = fits.0; count = omega (arith, fits.1, t.1); entries = t.2 }, all) in
     subst (λ (y : Record). IsJournalIn v y × (bytes ≡ spelling_in v y)) (some_is found r d.1) made
 
 pub journal_takes : (bytes : List ℕ) (r : Record) → IsBytes bytes → journal_in bytes ≡ Some r → Tells bytes r
 unfolding journal_in
 journal_takes bytes r fits e =
-    let p = bind_some (version_from bytes) (λ x. record_from x.0 x.1) r e in
-    let t = record_takes p.0.0 bytes p.0.1 r (magic_takes bytes p.0 fits p.1) p.2 in
+    let p = bind_some (heading_from bytes) record_from r e in
+    let begun = heading_takes bytes p.0 fits p.1 in
+    let t = record_takes bytes p.0 r begun.0 begun.1 p.2 in
     (p.0.0, t.0, t.1)
 
--- what stands behind the magic
-abbrev behind : Version → Record → List ℕ
-behind v r = word r.seats ++ (count_bytes v (length r.entries) ++ flat_map entry_bytes r.entries)
-
-record_again : (v : Version) (r : Record) → IsJournalIn v r → record_from v (behind v r) ≡ Some r
+record_again : (v : Version) (r : Record) → IsJournalIn v r → record_from (v, r.seats, length r.entries, flat_map entry_bytes r.entries) ≡ Some r
 unfolding record_from
 record_again v r fits =
     let rest : entries_from v r.seats (length r.entries) (flat_map entry_bytes r.entries) ≡ Some (r.entries, []) =
     ap (entries_from v r.seats (length r.entries)) (sym (append-nil (flat_map entry_bytes r.entries))) ∙ entries_again v r.seats r.entries [] (seats_small v r.seats fits.seats.1) fits.entries in
-    rw (seats_again v r.seats (count_bytes v (length r.entries) ++ flat_map entry_bytes r.entries) fits.seats, (counts v).again (length r.entries) (flat_map entry_bytes r.entries) fits.count, rest) refl
+    rw rest refl
 
 journal_again : (v : Version) (r : Record) → IsJournalIn v r → journal_in (spelling_in v r) ≡ Some r
 unfolding journal_in
 journal_again v r fits =
-    let regrouped : spelling_in v r ≡ magic v ++ behind v r =
-    append_assoc (magic v ++ word r.seats) (count_bytes v (length r.entries)) (flat_map entry_bytes r.entries) ∙ append_assoc (magic v) (word r.seats) (count_bytes v (length r.entries) ++ flat_map entry_bytes r.entries) in
-    ap (λ (bytes : List ℕ). version_from bytes >>= λ x. record_from x.0 x.1) regrouped ∙ rw (magic_again v (behind v r)) (record_again v r fits)
+    ap (λ x. x >>= record_from) (heading_again v r.seats (length r.entries) (flat_map entry_bytes r.entries) fits.seats fits.count) ∙ record_again v r fits
 
 pub is_told : (bytes : List ℕ) (r : Record) → Tells bytes r → journal_in bytes ≡ Some r
 is_told bytes r told = ap journal_in told.2 ∙ journal_again told.0 r told.1

@@ -5,7 +5,7 @@ use Rattle.bd_space.specs.declared.step.Entry.{Entry}
 use Rattle.bd_space.specs.declared.record.Record.{Record}
 use Rattle.bd_journal.specs.declared.versions.Version.{Version}
 use Rattle.bd_journal.specs.Spelling.{count_limit, entry_bytes, heading_in, IsSeatsIn, IsEntryIn}
-use Rattle.bd_journal.specs.Reading.{◌>>=◌, entry_from, version_from, seats_from, count_from}
+use Rattle.bd_journal.specs.Reading.{◌>>=◌, Heading, entry_from, heading_from}
 
 -- these entries before what is read behind them
 abbrev pub behind : List Entry → List Entry × List ℕ → List Entry × List ℕ
@@ -23,12 +23,11 @@ whole_from v seats (suc n) bytes = whole_with (whole_from v seats n) bytes (entr
 
 -- the record of the entries that are whole behind a heading, whose count isn't looked at, and the bytes behind them: an entry has
 -- bytes, so there are no more entries than bytes
+abbrev pub whole_behind : Heading → Record × List ℕ
+whole_behind heading = let read = whole_from heading.0 heading.1 (length heading.3) heading.3 in (record { seats = heading.1; entries = read.0 }, read.1)
+
 unfoldable pub cut_in : List ℕ → Option (Record × List ℕ)
-cut_in bytes = do
-  begun ← version_from bytes
-  seats ← seats_from begun.0 begun.1
-  count ← count_from begun.0 seats.1
-  let read = whole_from begun.0 seats.0 (length count.1) count.1 in Some (record { seats = seats.0; entries = read.0 }, read.1)
+cut_in bytes = heading_from bytes >>= λ heading. Some (whole_behind heading)
 
 -- the bytes are a heading with some count, the spelling of each entry, and then bytes that no entry begins
 pub record IsCutIn (v : Version) (count : ℕ) (bytes : List ℕ) (r : Record) (left : List ℕ) : Type 0 where

@@ -7,13 +7,14 @@ ghost use Rattle.bd_journal.specs.Reading.{Gives};
 ghost use Rattle.bd_journal.specs.Spelling.{IsRecordSeats, Tells};
 
 use crate::fault::ReadError;
-use crate::reading::{count_at, entry_at, seats_at};
-use crate::versions::{Version, version_at};
+use crate::heading::heading_at;
+use crate::reading::entry_at;
+use crate::versions::Version;
 use bd_space::{Entries, Entry, Record};
 use std::alloc::Global;
 
 // The entries that are whole, and the bytes behind them. Only memory stops it before those.
-fn whole_at(
+fn whole_entries_at(
     alloc: Global,
     version: Version,
     seats: u32,
@@ -42,14 +43,10 @@ fn whole_at(
 fn cut_of(alloc: Global, bytes: &[u8]) -> Result<(Record, &[u8]), ReadError>
     ensures { Gives (λ x. (x.0, x.1.now)) result (cut_in bytes.now) }
 {
-    let Some((version, rest)) = version_at(bytes) else {
-        return Err(ReadError::Malformed);
-    };
-    let (seats, rest) = seats_at(version, rest)?;
-    let (_, rest) = count_at(version, rest)?;
-    let (entries, rest) = whole_at(alloc, version, seats, rest)?;
+    let heading = heading_at(bytes)?;
+    let (entries, rest) = whole_entries_at(alloc, heading.version, heading.seats, heading.rest)?;
     let record = Record {
-        seats,
+        seats: heading.seats,
         entries: Entries::new(entries),
     };
     Ok((record, rest))

@@ -5,6 +5,7 @@ mod codes;
 mod cut;
 mod fault;
 mod fields;
+mod heading;
 mod reading;
 mod sending;
 mod steps;

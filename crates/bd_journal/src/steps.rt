@@ -1,21 +1,22 @@
 //! Reading a journal entry by entry.
 
-ghost use Rattle.std.specs.Prelude.{◌≡◌, ◌<◌, List, ℕ, length, option_map, Some, IfOk, IfErr, IfSome, MatchResult};
+ghost use Rattle.std.specs.Prelude.{◌≡◌, ◌<◌, List, ℕ, length, option_map, Some, IfOk, IfErr, IfSome, IsOkAnd};
 ghost use Rattle.bd_space.specs.declared.{record.Record.{Record}, step.Entry.{Entry}};
 ghost use Rattle.bd_journal.specs.Reading.{Fails, Gives, heading_from};
 ghost use Rattle.bd_journal.specs.Spelling.{IsRecordSeats, Tells};
 ghost use Rattle.bd_journal.specs.Cut.{IsCut};
 ghost use Rattle.bd_journal.specs.Steps.{IsFirstWhole, bytes_left, count_left, cut_left, entries_left, record_left, seats_of, whole_left, with_next, with_whole};
-ghost use Rattle.bd_journal.specs.declared.fault.ReadError.TheVariants.{Memory};
+ghost use Rattle.bd_journal.specs.declared.fault.ReadError.TheVariants.{Malformed, Memory};
 
 use crate::fault::ReadError;
-use crate::reading::{count_at, entry_at, seats_at};
-use crate::versions::{Version, version_at};
+use crate::heading::heading_at;
+use crate::reading::entry_at;
+use crate::versions::Version;
 use bd_space::Entry;
 use std::alloc::Global;
 
 // The entry that is whole at the front of these bytes, and the bytes behind it. Only memory stops it.
-fn whole_at(
+fn whole_entry_at(
     alloc: Global,
     version: Version,
     seats: u32,
@@ -33,7 +34,7 @@ fn whole_at(
 
 /// The entries of a journal, read one after the other: whoever keeps none of them holds no more than one, however many there
 /// are.
-#[derive(Clone, Copy, Debug)]
+#[derive(Debug, Drop)]
 pub struct JournalReader<'a> {
     version: Version,
     seats: u32,
@@ -42,21 +43,16 @@ pub struct JournalReader<'a> {
 }
 
 impl<'a> JournalReader<'a> {
-    // The heading, read.
-    #[tactic(auto, unfolding(crate::specs::Reading::heading_from))]
     fn begun(bytes: &'a [u8]) -> Result<JournalReader<'a>, ReadError>
-        ensures { Gives (λ r. (r.version, r.seats, r.left, r.rest.now)) result (heading_from bytes.now) }
+        ensures given { Gives (λ r. (r.version, r.seats, r.left, r.rest.now)) result (heading_from bytes.now) }
+        ensures error { IfErr result (λ e. e ≡ Malformed) }
     {
-        let Some((version, rest)) = version_at(bytes) else {
-            return Err(ReadError::Malformed);
-        };
-        let (seats, rest) = seats_at(version, rest)?;
-        let (left, rest) = count_at(version, rest)?;
+        let heading = heading_at(bytes)?;
         Ok(JournalReader {
-            version,
-            seats,
-            left,
-            rest,
+            version: heading.version,
+            seats: heading.seats,
+            left: heading.count,
+            rest: heading.rest,
         })
     }
 
@@ -67,14 +63,16 @@ impl<'a> JournalReader<'a> {
     pub fn new(bytes: &'a [u8]) -> Result<JournalReader<'a>, ReadError>
         // What it comes to is spelled so, each byte of it.
         ensures found { IfOk result (λ r. (x : Record) → record_left r ≡ Some x → Tells bytes.now x) }
-        // What is spelled so is what it comes to, unless memory runs out.
-        ensures only { (x : Record) → Tells bytes.now x → MatchResult result (λ r. record_left r ≡ Some x) (λ e. e ≡ Memory) }
+        // What is spelled so is what it comes to.
+        ensures only { (x : Record) → Tells bytes.now x → IsOkAnd result (λ r. record_left r ≡ Some x) }
         // It has as many seats as a record may.
         ensures seats { IfOk result (λ r. IsRecordSeats (seats_of r)) }
         // Of a journal that was cut off it comes to what is whole,
         ensures cut { IfOk result (λ r. IsCut bytes.now (cut_left r).0 (cut_left r).1) }
         // and to nothing else.
-        ensures only_cut { (x : Record) (left : List ℕ) → IsCut bytes.now x left → MatchResult result (λ r. cut_left r ≡ (x, left)) (λ e. e ≡ Memory) }
+        ensures only_cut { (x : Record) (left : List ℕ) → IsCut bytes.now x left → IsOkAnd result (λ r. cut_left r ≡ (x, left)) }
+        // It takes no memory.
+        ensures error { IfErr result (λ e. e ≡ Malformed) }
     {
         JournalReader::begun(bytes)
     }
@@ -86,7 +84,7 @@ impl<'a> JournalReader<'a> {
         self.seats
     }
 
-    /// How many entries are still to come, as the heading says.
+    /// How many entries are still to come, as the heading says: `next` counts those that it reads, `next_whole` doesn't.
     #[tactic(auto, using(crate::proofs::Stepping::so_many_left))]
     pub fn left(&self) -> u64
         ensures left { result ≡ count_left self.now }
@@ -103,6 +101,8 @@ impl<'a> JournalReader<'a> {
     pub fn next(&mut self, alloc: Global) -> Result<Option<Entry>, ReadError>
         ensures entry { IfOk result (λ e. entries_left self.old ≡ with_next e (entries_left self.new)) }
         ensures error { IfErr result (λ e. Fails e (entries_left self.old)) }
+        // Behind an error it stands where it stood.
+        ensures stays { IfErr result (λ _. self.new ≡ self.old) }
         ensures seats { seats_of self.new ≡ seats_of self.old }
         ensures fewer { IfOk result (λ e. IfSome e (λ _. count_left self.new < count_left self.old)) }
     {
@@ -117,6 +117,7 @@ impl<'a> JournalReader<'a> {
         self.rest = rest;
         Ok(Some(entry))
     }
+
     /// How many bytes are still to be read.
     pub fn bytes_left(&self) -> usize
         ensures { result ≡ length (bytes_left self.now) }
@@ -131,10 +132,14 @@ impl<'a> JournalReader<'a> {
     pub fn next_whole(&mut self, alloc: Global) -> Result<Option<Entry>, ReadError>
         ensures entry { IfOk result (λ e. whole_left self.old ≡ with_whole e self.new) }
         ensures error { IfErr result (λ e. e ≡ Memory) }
+        // Behind an error it stands where it stood.
+        ensures stays { IfErr result (λ _. self.new ≡ self.old) }
         ensures seats { seats_of self.new ≡ seats_of self.old }
+        // The heading's number stays, too.
+        ensures left { count_left self.new ≡ count_left self.old }
         ensures fewer { IfOk result (λ e. IfSome e (λ _. length (bytes_left self.new) < length (bytes_left self.old))) }
     {
-        let Some((entry, rest)) = whole_at(alloc, self.version, self.seats, self.rest)? else {
+        let Some((entry, rest)) = whole_entry_at(alloc, self.version, self.seats, self.rest)? else {
             return Ok(None);
         };
         self.rest = rest;

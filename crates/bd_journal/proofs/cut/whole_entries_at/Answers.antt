@@ -2,7 +2,7 @@ use Rattle.std.proofs.Common.{ap, length, subst, Some}
 use Rattle.bd_journal.specs.Reading.{Fails, entry_from}
 use Rattle.bd_journal.specs.Cut.{whole_from}
 use Rattle.bd_journal.proofs.Whole.{goes_on, ends, is_done}
-use Rattle.bd_journal.proofs.cut.whole_at.Goals as goal
+use Rattle.bd_journal.proofs.cut.whole_entries_at.Goals as goal
 
 pub returns-in-Err-Malformed : goal.returns-in-Err-Malformed
 returns-in-Err-Malformed c =

@@ -1,7 +1,7 @@
 use Rattle.std.proofs.Common.{None, Some, arith, subst}
 use Rattle.bd_journal.specs.Reading.{Fails, entry_from}
 use Rattle.bd_journal.proofs.Cuts.{first_whole}
-use Rattle.bd_journal.proofs.steps.whole_at.Goals as goal
+use Rattle.bd_journal.proofs.steps.whole_entry_at.Goals as goal
 
 pub returns-in-Ok-clause-entry : goal.returns-in-Ok-clause-entry
 returns-in-Ok-clause-entry c =
