@@ -1,5 +1,5 @@
 # SPDX-License-Identifier: Apache-2.0 OR MIT
-"""What crates.txt says, and the words by which the kit's compiler works over libraries that the gate has built."""
+"""What crates.txt says, the words by which the kit's compiler works over libraries that the gate has built, and the crates' edits."""
 import functools
 import glob
 import os
@@ -75,3 +75,27 @@ def with_kit(archive, out):
         subprocess.run(["cc", *IN_C, f"-I{ROOT}/include", "-c", f"{ROOT}/library/new.c", "-o", f"{room}/1/new.pic.o"], check=True)
         subprocess.run(["ar", "rcsD", f"{room}/made.a", *sorted(glob.glob(f"{room}/?/*"))], check=True)
         shutil.move(f"{room}/made.a", out)
+
+
+class Edit:
+    """A wrong body of a crate, as its file says it."""
+
+    def __init__(self, path):
+        self.crate, self.folder, self.name = path[len(f"{ROOT}/crates/") : -len(".edit")].split("/")
+        with open(path, encoding="utf-8") as file:
+            self.lines = file.read().split("\n")
+        self.function, self.clause = self.said("function"), self.said("clause")
+
+    def __str__(self):
+        return f"{self.crate}: {self.name}"
+
+    def said(self, word):
+        """What a line of the file says behind this word."""
+        return next((it[len(word) + 2 :].strip() for it in self.lines if it.startswith(f"{word}: ")), None)
+
+
+def edits(kind=Edit):
+    """All edits, in the order of crates.txt and then of their names."""
+    order = list(uses())
+    paths = glob.glob(f"{ROOT}/crates/*/must-fail/*.edit") + glob.glob(f"{ROOT}/crates/*/edits/*.edit")
+    return sorted(map(kind, paths), key=lambda it: (order.index(it.crate), it.name))
