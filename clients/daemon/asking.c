@@ -154,14 +154,17 @@ static bool is_page(const struct state_page *page, const struct control_request 
     return page->count <= STATE_ROOM && (!page->next || is_behind);
 }
 
-/* Fetches page after page. Why they can't be had, or NULL. */
+/* More pages than any daemon tells of a device: what listens there may be none, and would be asked until there is no memory. */
+#define PAGES_MAX (1u << 18)
+
+/* Fetches page after page, up to the last. Why they can't be had, or NULL. */
 static const char *fetch_all(int fd, const char *device, struct records *records)
 {
     struct control_request request = {.op = CONTROL_STATE};
     struct state_page page = {.next = 1};
     const char *why = NULL;
-    while (!why && page.next) {
-        why = why_not(ask(fd, &request, device, &page, sizeof page, NULL), &page.error);
+    for (uint32_t i = 0; !why && page.next; i++) {
+        why = i == PAGES_MAX ? no_daemon : why_not(ask(fd, &request, device, &page, sizeof page, NULL), &page.error);
         if (!why && !is_page(&page, &request))
             why = no_daemon;
         if (!why && !keep(records, &page))

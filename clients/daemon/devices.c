@@ -94,7 +94,8 @@ static bool can_lock(int fd)
 }
 
 /* Opens a file, once and for good; what is in it stays. Nobody is waited for: a pipe has its reader already, or can't be had. A name that
-   nobody has chosen is no link to somewhere else, and no further name of somebody's file. Why it can't be had, or NULL. */
+   nobody has chosen is no link to somewhere else, and none is a further name of somebody's file, which would be written anew with it. Why it
+   can't be had, or NULL. */
 static const char *open_file(const char *path, bool is_chosen, int *fd, struct opened *opened)
 {
     struct stat *file = &opened->files[opened->count];
@@ -105,7 +106,7 @@ static const char *open_file(const char *path, bool is_chosen, int *fd, struct o
         return strerror(errno);
     if (!S_ISREG(file->st_mode) && !(is_chosen && S_ISFIFO(file->st_mode)))
         return is_chosen ? "it is neither a file nor a pipe" : "it is no file";
-    if (!is_chosen && file->st_nlink > 1)
+    if (S_ISREG(file->st_mode) && file->st_nlink > 1)
         return "it is a file that has other names";
     if (is_among(file, opened))
         return "two devices can't have one journal, nor may one stand beside another's";

@@ -266,6 +266,7 @@ def refused_beginnings(build):
             os.unlink(f"{folder}/new.{ending}")
             os.link(old, f"{folder}/new.{ending}")
             refuses(build, ["--socket", f"{folder}/socket", "--journal", f"{folder}/new"], f"new.{ending}: it is a file that has other names")
+        refuses(build, ["--socket", f"{folder}/socket", "--journal", old], f"{old}: it is a file that has other names")
         refuses(build, ["--socket", f"{folder}/socket", "--journal", taken, "--journal", f"/dev/hwbinder={taken}.times"], "two devices")
         with Stage(build, journal=DEVICE) as stage:  # whose journal is judged, so that it wasn't written anew either
             stage.run([build.raw("oneway")], 60)

@@ -2,6 +2,7 @@
 """What one can rely on of a device's ring (../ring.h): that its slots say what the steps were, whoever reads while they are written, and
 that nobody else sees it."""
 import fcntl
+import itertools
 import os
 import re
 import shutil
@@ -311,6 +312,7 @@ def state(build):
 # what a daemon answers (../protocol.h), and a page of `--state` with so many records
 ANSWER, PAGE, RECORDS, RECORD_SIZE = struct.Struct("=iIQ"), struct.Struct("=iIQQQ"), 16, 112
 LATEST = 4096 + 8192 * SLOT.size
+PAGES_MAX = 1 << 18  # as asking.c has it
 NO_DAEMON = "no daemon of this build answers"
 
 
@@ -338,7 +340,7 @@ def answer_all(listener, answers, memory):
             memory = None
 
 
-def told_by(build, folder, words, answers, memory=None):
+def told_by(build, folder, words, answers, memory=None, patience=20):
     """What the program says of one that listens, and isn't a daemon."""
     path = f"{folder}/lies"
     with socket.socket(socket.AF_UNIX, socket.SOCK_SEQPACKET) as listener:
@@ -347,7 +349,7 @@ def told_by(build, folder, words, answers, memory=None):
         answering = threading.Thread(target=answer_all, args=(listener, answers, memory), daemon=True)
         answering.start()
         done = subprocess.run([build.daemon, *words, "--socket", path], env={**os.environ, **build.environment}, capture_output=True, text=True,
-                              timeout=20)
+                              timeout=patience)
         answering.join(20)
     os.unlink(path)
     if memory is not None:
@@ -370,6 +372,8 @@ def ring_lies(build):
         pages = [opened, page_of(0, 7), page_of(0, 7, 1), page_of(0, 8), last]
         good_pages = told_by(build, folder, ["--state", DEVICE], pages)
         told += [told_by(build, folder, ["--state", DEVICE], [opened, page, last]) for page in (page_of(RECORDS + 1, 0), page_of(RECORDS + 1, 1))]
+        endless = (page_of(0, after) for after in range(1, 2 * PAGES_MAX))
+        told.append(told_by(build, folder, ["--state", DEVICE], itertools.chain([opened], endless, [last]), patience=120))
         for stays in (page_of(0, 7), page_of(0, 6, 9)):
             told.append(told_by(build, folder, ["--state", DEVICE], [opened, page_of(0, 7), stays, last]))
     expect(good[0] == 0 and good_pages[0] == 0, f"what a daemon tells is refused: {good}, {good_pages}")

@@ -220,6 +220,7 @@ impl Drop for Judge {
 #[cfg(test)]
 mod tests {
     use super::*;
+    use std::mem::size_of;
 
     #[test]
     fn what_was_read_differs_from_a_byte_on() {
@@ -237,5 +238,45 @@ mod tests {
             assert!(line.contains(&format!("= {number},")), "{line}");
         }
         assert!(HEADER.contains(&format!("#define HULLPIPPIN_VERSION 0x0{VERSION}")));
+    }
+
+    /// The size and the alignment of a member's type in C, on this machine.
+    fn of_type(name: &str) -> usize {
+        match name {
+            "uint32_t" | "int32_t" => 4,
+            "size_t" => size_of::<usize>(),
+            "uint64_t" => 8,
+            _ => panic!("a member of the type {name}"),
+        }
+    }
+
+    /// Where a structure ends whose members stand one behind the other, each where its type may.
+    fn size_in_c(members: &str) -> usize {
+        let (mut end, mut most) = (0usize, 1);
+        for member in members.split(';').map(str::trim).filter(|it| !it.is_empty()) {
+            let (kind, names) = member.split_once(' ').expect("a type");
+            let size = of_type(kind);
+            for name in names.split(',') {
+                let count =
+                    name.split_once('[').map_or(1, |(_, it)| it.trim_end_matches(']').parse().expect("a number"));
+                end = (end + size - 1) / size * size + count * size;
+            }
+            most = most.max(size);
+        }
+        (end + most - 1) / most * most
+    }
+
+    #[test]
+    fn there_is_room_for_what_the_library_tells() {
+        const HEADER: &str = include_str!("../../include/hullpippin.h");
+        let before = HEADER.split("} hullpippin_answer;").next().expect("the answer's members");
+        let members = before.rsplit("typedef struct {").next().expect("the answer's members");
+        let bare: String = members.split("/*").map(|it| it.split_once("*/").map_or(it, |(_, behind)| behind)).collect();
+        assert_eq!(size_of::<Came>(), size_in_c(&bare), "{bare}");
+        // Each function that the judge calls is handed the same.
+        for name in ["open", "attach", "manager", "set_spam", "command", "read", "exit_thread", "exit_process"] {
+            let call = HEADER.split(&format!("hullpippin_live_{name}(")).nth(1).and_then(|it| it.split(");").next());
+            assert!(call.expect(name).ends_with("hullpippin_answer *answer"), "{name}");
+        }
     }
 }

@@ -2,12 +2,13 @@
 //! The daemon's socket, and what is asked there (clients/protocol.h).
 use super::Where;
 use crate::record::u32_at;
-use anyhow::{anyhow, ensure, Context, Result};
+use anyhow::{anyhow, bail, ensure, Context, Result};
 use nix::errno::Errno;
 use nix::sys::socket::{
-    connect, getsockopt, recvmsg, send, socket, sockopt, AddressFamily, ControlMessageOwned, MsgFlags, SockFlag,
-    SockType, UnixAddr,
+    connect, getsockopt, recvmsg, send, setsockopt, socket, sockopt, AddressFamily, ControlMessageOwned, MsgFlags,
+    SockFlag, SockType, UnixAddr,
 };
+use nix::sys::time::{TimeVal, TimeValLike};
 use nix::unistd::geteuid;
 use std::env;
 use std::fs::File;
@@ -21,6 +22,10 @@ const CONTROL_RING: u32 = 7;
 const CONTROL_STATE: u32 = 8;
 const DEVICE_ROOM: usize = 64;
 const ANSWER_SIZE: usize = 16;
+/// So many seconds a daemon may take for a connection, and for each answer.
+const PATIENCE: i64 = 5;
+/// More pages than any daemon tells of a device: what listens there may be none, and would be asked for ever.
+const MOST_PAGES: u32 = 1 << 18;
 
 /// The number in the line `#define PROTOCOL_VERSION Nu`.
 fn protocol_version() -> u32 {
@@ -49,6 +54,9 @@ fn owned(fd: RawFd) -> File {
 
 fn dial(path: &str, is_chosen: bool) -> Result<File, Errno> {
     let end = owned(socket(AddressFamily::Unix, SockType::SeqPacket, SockFlag::SOCK_CLOEXEC, None)?);
+    // Both before it is connected, which takes as long as a packet to be sent.
+    setsockopt(end.as_raw_fd(), sockopt::SendTimeout, &TimeVal::seconds(PATIENCE))?;
+    setsockopt(end.as_raw_fd(), sockopt::ReceiveTimeout, &TimeVal::seconds(PATIENCE))?;
     connect(end.as_raw_fd(), &UnixAddr::new(path)?)?;
     // At an address that anybody can take there is one's own daemon, or root's, or none.
     let peer = getsockopt(end.as_raw_fd(), sockopt::PeerCredentials)?.uid();
@@ -125,7 +133,7 @@ pub fn each_page(place: &Where, size: usize, mut call: impl FnMut(&[u8]) -> [u64
         return Err(refusal(Some(error), device));
     }
     let (mut next, mut page) = ([0; 2], vec![0; size]);
-    loop {
+    for _ in 0..MOST_PAGES {
         if let (Some(error), _) = asked(&end, &request(CONTROL_STATE, next, device)?, &mut page)? {
             return Err(refusal(Some(error), device));
         }
@@ -134,9 +142,9 @@ pub fn each_page(place: &Where, size: usize, mut call: impl FnMut(&[u8]) -> [u64
         if next[0] == 0 {
             return Ok(());
         }
-        // What listens there may be no daemon, and would be asked for ever.
         ensure!(next > before, "{device}: what the daemon tells of it doesn't go on");
     }
+    bail!("{device}: what the daemon tells of it doesn't end")
 }
 
 /// What a daemon gives, for who can't do without one.
@@ -161,6 +169,10 @@ pub fn needed_ring(place: &Where) -> Result<super::ring::Ring> {
 #[cfg(test)]
 mod tests {
     use super::*;
+    use nix::sys::socket::{accept, bind, listen, recv};
+    use std::sync::mpsc::channel;
+    use std::thread;
+    use std::time::Duration;
 
     #[test]
     fn a_request_is_as_the_header_has_it() {
@@ -176,5 +188,53 @@ mod tests {
         let is = |op: u32, name| names[op as usize - 1].trim_start().starts_with(name);
         assert!(is(CONTROL_OPEN, "CONTROL_OPEN") && is(CONTROL_RING, "CONTROL_RING"), "{names:?}");
         assert!(is(CONTROL_STATE, "CONTROL_STATE"), "{names:?}");
+    }
+
+    /// What listens at a path of this test's own.
+    fn listener(name: &str) -> (File, String) {
+        let path = format!("/tmp/hullpippin-{name}-{}", std::process::id());
+        let _ = std::fs::remove_file(&path);
+        let end = owned(socket(AddressFamily::Unix, SockType::SeqPacket, SockFlag::SOCK_CLOEXEC, None).unwrap());
+        bind(end.as_raw_fd(), &UnixAddr::new(path.as_str()).unwrap()).unwrap();
+        listen(end.as_raw_fd(), 1).unwrap();
+        (end, path)
+    }
+
+    fn at(path: &str) -> Where {
+        Where { socket: Some(path.into()), device: "/dev/binder".into() }
+    }
+
+    #[test]
+    fn who_never_answers_is_not_waited_for() {
+        let (_end, path) = listener("mute");
+        let (told, tells) = channel();
+        let there = at(&path);
+        thread::spawn(move || told.send(ring(&there).err().map(|it| format!("{it:#}"))));
+        let told = tells.recv_timeout(Duration::from_secs(4 * PATIENCE as u64)).expect("it still waits");
+        assert!(told.as_ref().map_or(false, |it| it.contains("EAGAIN")), "{told:?}");
+        std::fs::remove_file(path).unwrap();
+    }
+
+    #[test]
+    fn who_tells_for_ever_is_not_listened_to() {
+        let (end, path) = listener("endless");
+        let answering = thread::spawn(move || {
+            let client = owned(accept(end.as_raw_fd()).unwrap());
+            let mut request = [0; 256];
+            let mut answer = vec![0; ANSWER_SIZE];
+            while recv(client.as_raw_fd(), &mut request, MsgFlags::empty()).map_or(false, |it| it > 0) {
+                let _ = send(client.as_raw_fd(), &answer, MsgFlags::MSG_NOSIGNAL);
+                answer = vec![0; 8];
+            }
+        });
+        let mut pages = 0;
+        let told = each_page(&at(&path), 8, |_| {
+            pages += 1;
+            [if pages > 2 * u64::from(MOST_PAGES) { 0 } else { pages }, 0]
+        });
+        assert!(told.expect_err("no end").to_string().contains("doesn't end"));
+        assert_eq!(pages, u64::from(MOST_PAGES));
+        answering.join().unwrap();
+        std::fs::remove_file(path).unwrap();
     }
 }
