@@ -7,4 +7,5 @@ pub mod Laws
 pub mod SeatsTold
 pub mod Whole
 pub mod Cuts
+pub mod Unread
 pub mod Stepping

@@ -4,7 +4,9 @@ use Rattle.std.specs.List.{flat_map, AllByRecursion}
 use Rattle.bd_space.specs.declared.step.Entry.{Entry}
 use Rattle.bd_space.specs.declared.record.Record.{Record}
 use Rattle.bd_journal.specs.declared.versions.Version.{Version}
-use Rattle.bd_journal.specs.Spelling.{count_limit, entry_bytes, heading_in, IsSeatsIn, IsEntryIn}
+use Rattle.bd_journal.specs.declared.fault.ReadError.{ReadError}
+use Rattle.bd_journal.specs.declared.fault.ReadError.TheVariants as errors
+use Rattle.bd_journal.specs.Spelling.{count_limit, entry_bytes, heading_in, IsSeatsIn, IsEntryIn, Tells}
 use Rattle.bd_journal.specs.Reading.{◌>>=◌, Heading, entry_from, heading_from}
 
 -- these entries before what is read behind them
@@ -40,6 +42,20 @@ pub record IsCutIn (v : Version) (count : ℕ) (bytes : List ℕ) (r : Record) (
 -- the same in one of the versions
 abbrev pub IsCut : List ℕ → Record → List ℕ → Type 0
 IsCut bytes r left = (v : Version) × (count : ℕ) × IsCutIn v count bytes r left
+
+-- the bytes begin with a heading, and then with what is whole of a record
+abbrev pub HasHeading : List ℕ → Type 0
+HasHeading bytes = (r : Record) × (left : List ℕ) × IsCut bytes r left
+
+-- why no record is read: none is spelled so, or memory was refused, which nobody asks for before a heading was read
+abbrev pub IsUnread : List ℕ → ReadError → Type 0
+IsUnread bytes errors.Malformed = (r : Record) → Tells bytes r → ⊥
+IsUnread bytes errors.Memory = HasHeading bytes
+
+-- the same of what is whole of a journal that was cut off
+abbrev pub IsUncut : List ℕ → ReadError → Type 0
+IsUncut bytes errors.Malformed = HasHeading bytes → ⊥
+IsUncut bytes errors.Memory = HasHeading bytes
 
 -- a record that has as many seats, and these entries before others
 pub record Continues (r more : Record) : Type 0 where

@@ -1,9 +1,10 @@
 //! Reading a journal that was cut off, or that is still being written.
 
-ghost use Rattle.std.specs.Prelude.{◌≡◌, List, ℕ, [], ◌++◌, length, IfOk, Some};
+ghost use Rattle.std.specs.Prelude.{◌≡◌, List, ℕ, [], ◌++◌, length, IfOk, IfErr, None, Some};
 ghost use Rattle.bd_space.specs.declared.record.Record.{Record};
-ghost use Rattle.bd_journal.specs.Cut.{Continues, IsCut, cut_in, whole_from};
-ghost use Rattle.bd_journal.specs.Reading.{Gives};
+ghost use Rattle.bd_journal.specs.Cut.{Continues, IsCut, IsUncut, cut_in, whole_from};
+ghost use Rattle.bd_journal.specs.Reading.{Gives, heading_from};
+ghost use Rattle.bd_journal.specs.declared.fault.ReadError.TheVariants.{Malformed};
 ghost use Rattle.bd_journal.specs.Spelling.{IsRecordSeats, Tells};
 
 use crate::fault::ReadError;
@@ -41,7 +42,8 @@ fn whole_entries_at(
 
 #[tactic(auto, unfolding(crate::specs::Cut::cut_in))]
 fn cut_of(alloc: Global, bytes: &[u8]) -> Result<(Record, &[u8]), ReadError>
-    ensures { Gives (λ x. (x.0, x.1.now)) result (cut_in bytes.now) }
+    ensures given { Gives (λ x. (x.0, x.1.now)) result (cut_in bytes.now) }
+    ensures error { heading_from bytes.now ≡ None → IfErr result (λ e. e ≡ Malformed) }
 {
     let heading = heading_at(bytes)?;
     let (entries, rest) = whole_entries_at(alloc, heading.version, heading.seats, heading.rest)?;
@@ -74,6 +76,8 @@ pub fn read_cut(alloc: Global, bytes: &[u8]) -> Result<(Record, &[u8]), ReadErro
     // Whatever stands behind the bytes, these entries are read first of all.
     ensures beginning { IfOk result (λ x. (lost : List ℕ) → (y : Record) × (left : List ℕ)
         × (cut_in (bytes.now ++ lost) ≡ Some (y, left)) × Continues x.0 y) }
+    // Where nothing is read, that is why.
+    ensures fault { IfErr result (IsUncut bytes.now) }
     // All of it at once, by a function that computes.
     ensures computed { Gives (λ x. (x.0, x.1.now)) result (cut_in bytes.now) }
 {
