@@ -1,16 +1,16 @@
 -- For most laws of the audit and for its searches: the first entries of a history are a history, and what a next entry must
 -- meet.
-use Rattle.bd_laws.proofs.words.Logic.{◌≡◌, ◌≤◌, ◌<◌, ◌+◌, ℕ, Bool, true, false, ◌||◌, List, [], ◌∷◌, ◌++◌, length, take, drop, get_or, Some, refl, ap, sym, ◌∙◌, subst, arith, length-append, nat_lt, nat_le, list_all, lt-leb, take-append-drop, take_all, take_more, length-take-le}
+use Rattle.bd_laws.proofs.words.Logic.{◌≡◌, ◌≤◌, ◌<◌, ◌+◌, ℕ, Bool, true, false, ◌||◌, List, [], ◌∷◌, ◌++◌, length, take, drop, get_or, Some, refl, ap, sym, ◌∙◌, subst, arith, length-append, nat_lt, nat_le, list_all, lt-leb, take-append-drop, take_all, take_more}
 use Rattle.bd_laws.proofs.words.Types.{Entry, StepAnswer, Step}
 use Rattle.bd_laws.proofs.words.Space.{Space, opening, step, History, IsHistory, EntryFollows, Follows, after, next, space_after, is_at_limit}
 use Rattle.bd_engine.specs.Why.{Why}
 use Rattle.bd_engine.specs.Why.TheVariants as why
 use Rattle.bd_engine.specs.Refusals.{FullOnly}
-use Rattle.bd_engine.specs.declared.live.Live.{Live}
-use Rattle.bd_engine.specs.Follows.{Follows as IsFollowed}
 use Rattle.bd_audit.specs.declared.judging.AuditFault.{AuditFault}
 use Rattle.bd_audit.specs.declared.judging.AuditFault.TheVariants.{Unlawful, NoMemory}
-use Rattle.bd_audit.specs.Replays.{with_entry, beginning, IsEntryAt, IfUnlawful, fault_of, StopsAt}
+use Rattle.bd_audit.specs.declared.judge.Judge.{Judge}
+use Rattle.bd_audit.specs.Judging.{HasJudged}
+use Rattle.bd_audit.specs.Replays.{with_entry, beginning, IsEntryAt, IfUnlawful, fault_of}
 use Rattle.bd_laws.proofs.Tests.{both}
 use Rattle.std.proofs.lemmas.List.Folds.{list_all-append}
 use Rattle.std.proofs.lemmas.Option.{slice_get_within, get_or_from_slice_get}
@@ -109,28 +109,12 @@ next-lawful h g i e es lawful at_i same_es below found = subst IsHistory (sym (o
 pub entry-lawful : (h g : History) (i : ℕ) (e : Entry) → IsHistory h → IsEntryAt h i g e → IsHistory (with_entry g e)
 entry-lawful h g i e lawful at = next-lawful h g i e h.entries lawful at.begins refl (slice_get_within h.entries i e at.stands) (sym (get_or_from_slice_get h.entries i e e at.stands))
 
--- what a next entry that isn't taken says of the whole
-abbrev pub IsRefusedAt : History → ℕ → Entry → AuditFault → Type 0
-IsRefusedAt h i e f = IfUnlawful f (λ at. (at ≡ length (beginning i h).entries) × (IsHistory (with_entry (beginning i h) e) → ⊥))
-
 module _ (h : History) (i : ℕ) (e : Entry) (es : List Entry) (same_es : es ≡ h.entries) (below : i < length es) (found : e ≡ get_or es i e) where
   next-is : with_entry (beginning i h) e ≡ beginning (i + 1) h
   next-is = one-next h (beginning i h) i e es refl same_es below found
 
-  pub follows-next : (l : Live) → IsFollowed l (with_entry (beginning i h) e) → IsFollowed l (beginning (i + 1) h)
-  follows-next l follows = subst (IsFollowed l) next-is follows
-
-  pub not-history : (f : AuditFault) → IsRefusedAt h i e f → IfUnlawful f (λ at. IsHistory h → ⊥)
-  not-history (Unlawful at) refusal = λ lawful. refusal.1 (subst IsHistory (sym next-is) (take-history (i + 1) h lawful))
-  not-history NoMemory refusal = tt
-
-  pub stops-there : (f : AuditFault) → IsHistory (beginning i h) → IsRefusedAt h i e f → IfUnlawful f (StopsAt h)
-  stops-there (Unlawful at) lawful refusal =
-      let inside : i < length h.entries = subst (λ (xs : List Entry). i < length xs) same_es below in
-      let here : i ≡ at = sym (refusal.0 ∙ length-take-le i h.entries (omega (arith, inside))) in
-      let stops : IsHistory (beginning (i + 1) h) → ⊥ = λ lawful. refusal.1 (subst IsHistory (sym next-is) lawful) in
-      subst (StopsAt h) here (record { inside = inside; before = lawful; stops = stops })
-  stops-there NoMemory lawful refusal = tt
+  pub judged-next : (j : Judge) → HasJudged j (with_entry (beginning i h) e) → HasJudged j (beginning (i + 1) h)
+  judged-next j seen = subst (HasJudged j) next-is seen
 
 pub next-beginning : (h g k : History) (i : ℕ) (e : Entry) (es : List Entry) → g ≡ beginning i h → es ≡ h.entries → i < length es → e ≡ get_or es i e → k ≡ with_entry g e → k ≡ beginning (i + 1) h
 next-beginning h g k i e es at_i same_es below found is = is ∙ one-next h g i e es at_i same_es below found
@@ -140,3 +124,6 @@ pub all-played : (h g : History) (i : ℕ) (es : List Entry) → g ≡ beginning
 all-played h g i es at_i same_es le =
     let past : length h.entries ≤ i = subst (λ xs. length xs ≤ i) same_es le in
     at_i ∙ ap (λ xs. let k : History = record { seats = h.seats; entries = xs } in k) (take_all i h.entries past)
+
+pub judged-all : (h : History) (i : ℕ) (es : List Entry) (j : Judge) → es ≡ h.entries → length es ≤ i → HasJudged j (beginning i h) → HasJudged j h
+judged-all h i es j same_es le seen = subst (HasJudged j) (all-played h (beginning i h) i es refl same_es le) seen

@@ -1,5 +1,5 @@
 -- Where a history that grows stops being one.
-use Rattle.bd_laws.proofs.words.Logic.{◌≡◌, ◌≤◌, ◌<◌, ◌+◌, ℕ, List, [], ◌∷◌, ◌++◌, length, take, Option, Some, None, ap, sym, subst, arith, false, is_some, length-append, take_all, take-append-le}
+use Rattle.bd_laws.proofs.words.Logic.{◌≡◌, ◌≤◌, ◌+◌, ℕ, [], ◌∷◌, length, Option, Some, None, ap, sym, subst, arith, false, is_some, length-append, take_all, take-append-le}
 use Rattle.bd_laws.proofs.words.Types.{Entry}
 use Rattle.bd_laws.proofs.words.Space.{History, IsHistory}
 use Rattle.bd_space.specs.Histories.{history_of}

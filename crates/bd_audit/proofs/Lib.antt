@@ -1,5 +1,6 @@
 pub mod Beginnings
 pub mod Judged
+pub mod Shown
 pub mod ReplyCalls
 pub mod CallsOfReadings
 pub mod Seated

@@ -1,5 +1,5 @@
 -- What a judge has seen of a history.
-use Rattle.std.specs.Prelude.{◌≡◌, ℕ, Option, Some, None}
+use Rattle.std.specs.Prelude.{ℕ, Option, Some, None}
 use Rattle.bd_space.specs.Histories.{History, IsHistory}
 use Rattle.bd_engine.specs.declared.live.Live.{Live}
 use Rattle.bd_engine.specs.Follows.{Follows}

@@ -14,3 +14,4 @@ pub mod Hearing
 pub mod Streams
 pub mod HandedReplies
 pub mod Given
+pub mod Journals

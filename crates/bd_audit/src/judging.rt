@@ -7,6 +7,7 @@ ghost use Rattle.bd_audit.specs.Replays as spec;
 ghost use Rattle.bd_audit.specs.Replays.{with_entry, Begins, IfUnlawful, IfNoMemory, StopsAt};
 
 use crate::answers::is_same_answer;
+use crate::judge::Judge;
 use bd_engine::{Live, Why, WideEngine};
 use bd_space::{Entry, Record};
 use std::alloc::Global;
@@ -124,14 +125,19 @@ pub fn replay_watched<W: Watch>(
     ensures first { IfErr result (λ f. IfUnlawful f (StopsAt (history_in «record».now))) }
 {
     let all = record.entries.as_slice().len();
-    let Ok(mut live) = Live::new(alloc, record.seats) else {
+    let Ok(mut judge) = Judge::new(alloc, record.seats) else {
         return Err(AuditFault::NoMemory);
     };
+    let mut done = 0;
     for entry in record.entries.as_slice() {
-        match take(&mut live, entry) {
-            Ok(()) => watch.follow(live.len() as usize, all),
-            Err(fault) => return Err(fault),
-        }
+        let Ok(()) = judge.see(entry) else {
+            return Err(AuditFault::NoMemory);
+        };
+        done += 1;
+        watch.follow(done, all);
     }
-    Ok(())
+    match judge.stopped() {
+        None => Ok(()),
+        Some(at) => Err(AuditFault::Unlawful { at }),
+    }
 }

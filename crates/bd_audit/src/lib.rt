@@ -4,6 +4,7 @@
 mod answers;
 mod gifts;
 mod given;
+mod journals;
 mod judge;
 mod judging;
 mod laws;
@@ -13,6 +14,7 @@ mod turns;
 
 pub use gifts::gift_chain;
 pub use given::{Given, given_at};
+pub use journals::{Judgment, judge_cut, judge_journal};
 pub use judge::Judge;
 pub use judging::{AuditFault, Unwatched, Watch, replay, replay_watched};
 pub use laws::{

@@ -12,3 +12,4 @@ pub mod Walking
 pub mod Ahead
 pub mod Looking
 pub mod Certifying
+pub mod Judged

@@ -1,7 +1,8 @@
 -- The bytes of a history, and what is said of such bytes.
-use Rattle.std.specs.Prelude.{◌≡◌, ◌⊎◌, ℕ, Bool, true, false, List, length}
+use Rattle.std.specs.Prelude.{◌≡◌, ℕ, Bool, true, false, List, length}
 use Rattle.bd_space.specs.declared.record.Record.{Record}
 use Rattle.bd_space.specs.Histories.{IsHistory, history_in}
+use Rattle.bd_journal.specs.Cut.{HasHeading}
 use Rattle.bd_journal.specs.Spelling.{IsJournal, journal_bytes, Tells as IsJournalOf}
 use Rattle.bd_audit.specs.Replays.{StopsAt}
 use Rattle.bd_c.specs.Parts.{Tells}
@@ -18,17 +19,13 @@ abbrev pub Holds : Record → Bool → ℕ → Type 0
 Holds r true entries = IsHistory (history_in r) × (entries ≡ length r.entries)
 Holds r false entries = (IsHistory (history_in r) → ⊥) × StopsAt (history_in r) entries
 
-abbrev pub Judged : Record → Verdict → Verdict → Status → Type 0
-Judged r old new Done = Holds r new.lawful new.entries
-Judged r old new NoMemory = new ≡ old
-Judged r old new _ = ⊥
-
--- the bytes are no journal, or memory was refused
+-- why nothing is said of the bytes: they are no journal, or memory was refused, which nobody asks for before a heading was read
 abbrev pub IsUnread : List ℕ → Status → Type 0
 IsUnread bytes NoJournal = (r : Record) → IsJournalOf bytes r → ⊥
-IsUnread bytes NoMemory = Unit {0}
+IsUnread bytes NoMemory = HasHeading bytes
 IsUnread bytes _ = ⊥
 
--- the record whose journal the bytes are is judged, or there is none to be judged
+-- what is said holds of the record whose journal the bytes are, or nothing is said
 abbrev pub Judges : List ℕ → Verdict → Verdict → Status → Type 0
-Judges bytes old new s = ((r : Record) × IsJournalOf bytes r × Judged r old new s) ⊎ (IsUnread bytes s × (new ≡ old))
+Judges bytes old new Done = (r : Record) × IsJournalOf bytes r × Holds r new.lawful new.entries
+Judges bytes old new s = IsUnread bytes s × (new ≡ old)

@@ -1,11 +1,13 @@
 //! Journals: the bytes of a history, and what they are worth.
-ghost use Rattle.bd_engine.specs.Refusals.{IsLiveSeats};
-ghost use Rattle.bd_c.specs.Journals.{Journals, Judges, Judged};
+
+ghost use Rattle.bd_space.specs.declared.record.Record.{Record};
+ghost use Rattle.bd_audit.specs.Journals.{IsJudgment};
+ghost use Rattle.bd_c.specs.Journals.{Holds, Journals, Judges};
 
 use crate::parts::tell_written;
 use crate::status::Status;
-use bd_audit::{AuditFault, replay};
-use bd_journal::{ReadError, read_journal, write_journal};
+use bd_audit::{Judgment, Unwatched, judge_journal};
+use bd_journal::{ReadError, write_journal};
 use bd_space::Record;
 use std::alloc::Global;
 
@@ -28,36 +30,32 @@ pub(crate) fn write_to(alloc: Global, history: &Record, out: &mut [u8], size: &m
     tell_written(written, journal.as_slice(), out, size)
 }
 
-// What a replay of the record comes to.
-fn judge(alloc: Global, found: &Record, verdict: &mut Verdict) -> Status
-    requires { IsLiveSeats found.now.seats }
-    ensures { Judged found.now verdict.old verdict.new result }
+// What is said of a journal by its judgment.
+fn verdict_of(judgment: Judgment) -> Verdict
+    ensures { (r : Record) → IsJudgment r judgment → Holds r result.lawful result.entries }
 {
-    match replay(alloc, found) {
-        Ok(()) => {
-            *verdict = Verdict {
-                lawful: true,
-                entries: found.entries.as_slice().len(),
-            };
-            Status::Done
-        }
-        Err(AuditFault::Unlawful { at }) => {
-            *verdict = Verdict {
-                lawful: false,
-                entries: at as usize,
-            };
-            Status::Done
-        }
-        Err(AuditFault::NoMemory) => Status::NoMemory,
+    match judgment.stopped {
+        None => Verdict {
+            lawful: true,
+            entries: judgment.entries,
+        },
+        Some(at) => Verdict {
+            lawful: false,
+            entries: at as usize,
+        },
     }
 }
 
-/// Judges the bytes of a journal.
+/// Judges the bytes of a journal as they are read. No entry is kept.
+#[tactic(auto, using(crate::proofs::Judged::judged, crate::proofs::Judged::no_journal, crate::proofs::Judged::no_memory))]
 pub(crate) fn judge_bytes(alloc: Global, journal: &[u8], verdict: &mut Verdict) -> Status
     ensures { Judges journal.now verdict.old verdict.new result }
 {
-    match read_journal(alloc, journal) {
-        Ok(found) => judge(alloc, &found, verdict),
+    match judge_journal(alloc, journal, &mut Unwatched) {
+        Ok(judgment) => {
+            *verdict = verdict_of(judgment);
+            Status::Done
+        }
         Err(ReadError::Malformed) => Status::NoJournal,
         Err(ReadError::Memory) => Status::NoMemory,
     }

@@ -1,6 +1,6 @@
 pub mod Ends
 pub mod Gifts
-pub mod Shown
+pub mod Unjudged
 pub mod Kept
 pub mod Lines
 pub mod Says

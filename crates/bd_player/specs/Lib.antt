@@ -2,7 +2,6 @@ pub mod Journals
 pub mod Playing
 pub mod Printing
 pub mod Verdicts
-pub mod Judging
 pub mod Workers
 pub mod Cuts
 pub mod Pids

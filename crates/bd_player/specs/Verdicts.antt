@@ -3,10 +3,13 @@ use Rattle.std.specs.Prelude.{◌≡◌, ◌≤◌, ℕ, List, length, Option, I
 use Rattle.bd_engine.specs.Refusals.{IsLiveSeats}
 use Rattle.bd_space.specs.declared.record.Record.{Record}
 use Rattle.bd_space.specs.Histories.{IsHistory, history_in}
-use Rattle.bd_journal.specs.Spelling.{Tells}
+use Rattle.bd_journal.specs.{Cut.{HasHeading}, Spelling.{Tells}}
+use Rattle.bd_journal.specs.declared.fault.ReadError.{ReadError}
+use Rattle.bd_journal.specs.declared.fault.ReadError.TheVariants.{Malformed}
+use Rattle.bd_journal.specs.declared.fault.ReadError.TheVariants as read
 use Rattle.bd_audit.specs.Replays.{StopsAt}
 use Rattle.bd_player.specs.declared.faults.Fault.{Fault}
-use Rattle.bd_player.specs.declared.faults.Fault.TheVariants.{Journal}
+use Rattle.bd_player.specs.declared.faults.Fault.TheVariants.{Journal, Memory}
 use Rattle.bd_player.specs.declared.verdicts.Verdict.{Verdict}
 use Rattle.bd_player.specs.declared.verdicts.Verdict.TheVariants.{Lawful, Unlawful}
 use Rattle.bd_player.specs.declared.verdicts.Judged.{Judged}
@@ -29,6 +32,17 @@ Judges bytes j = (r : Record) × Tells bytes r × IsJudged r j
 -- so it is of the record that the bytes spell, where they are known
 abbrev pub JudgesKnown : Option (List ℕ) → Judged → Type 0
 JudgesKnown known j = IfSome known (λ bytes. Judges bytes j)
+
+-- how it is told why a journal isn't read
+abbrev pub fault_told : ReadError → Fault
+fault_told Malformed = Journal
+fault_told read.Memory = Memory
+
+-- why nothing is said of the bytes: they spell no record, or memory was refused, which nobody asks for before a heading was read
+abbrev pub IsUnjudged : List ℕ → Fault → Type 0
+IsUnjudged bytes Journal = (r : Record) → Tells bytes r → ⊥
+IsUnjudged bytes Memory = HasHeading bytes
+IsUnjudged bytes _ = ⊥
 
 -- no record is spelled by the bytes, where they are known
 abbrev pub IsNoJournal : Option (List ℕ) → Type 0

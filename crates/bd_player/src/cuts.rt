@@ -1,15 +1,15 @@
 //! What is whole of a journal that was cut off, or that is still being written.
 
-ghost use Rattle.std.specs.Prelude.{◌≤◌, IfOk, IfSome};
+ghost use Rattle.std.specs.Prelude.{◌≤◌, IfOk, IfErr, IfSome};
 ghost use Rattle.bd_engine.specs.Refusals.{IsLiveSeats};
-ghost use Rattle.bd_player.specs.Cuts.{IsCutVerdict, IsLawfulCutAt0, IsWhole};
+ghost use Rattle.bd_player.specs.Cuts.{IsCutVerdict, IsLawfulCutAt0, IsWhole, SaysNoHeading};
 
 use crate::faults::{DONE, Fault, after_writing, tell};
 use crate::journals::{journal_from, print_unlawful};
-use crate::judging::cut_verdict;
+use crate::judging::{cut_verdict, fault_of};
 use crate::verdicts::Verdict;
 use bd_audit::Watch;
-use bd_journal::{ReadError, read_cut};
+use bd_journal::read_cut;
 use bd_space::Record;
 use std::alloc::Global;
 use std::io::{Read, Write};
@@ -30,10 +30,12 @@ pub struct Whole {
 ///
 /// # Errors
 /// `Journal` where it doesn't begin with a heading, `Memory` where memory was refused, `File` where it can't be read.
-#[tactic(auto, using(crate::proofs::Kept::whole_known))]
+#[tactic(auto, using(crate::proofs::Kept::whole_known, crate::proofs::Unjudged::cut_unjudged, crate::proofs::Unjudged::says_cut))]
 pub fn whole_from<R: Read>(alloc: Global, journal: &mut R) -> Result<Whole, Fault>
     ensures whole { IfOk result (λ w. IfSome (R.remaining journal.old) (λ bytes. IsWhole bytes w)) }
     ensures seats { IfOk result (λ w. IsLiveSeats w.record.seats) }
+    // What is called no journal begins with no heading.
+    ensures journal { IfErr result (SaysNoHeading (R.remaining journal.old)) }
 {
     let bytes = match journal_from(alloc, journal) {
         Ok(bytes) => bytes,
@@ -44,8 +46,7 @@ pub fn whole_from<R: Read>(alloc: Global, journal: &mut R) -> Result<Whole, Faul
             record,
             left: rest.len(),
         }),
-        Err(ReadError::Malformed) => Err(Fault::Journal),
-        Err(ReadError::Memory) => Err(Fault::Memory),
+        Err(error) => Err(fault_of(error)),
     }
 }
 
@@ -66,13 +67,14 @@ pub fn print_whole<W: Write, E: Write>(
 }
 
 // What is said of what is whole of the journal that the reader has, and how many bytes are left.
-#[tactic(auto, using(crate::proofs::Kept::cut_known))]
+#[tactic(auto, using(crate::proofs::Kept::cut_known, crate::proofs::Unjudged::all_say_cut))]
 fn cut_verdict_from<R: Read, P: Watch>(
     alloc: Global,
     journal: &mut R,
     watch: &mut P,
 ) -> Result<(Verdict, usize), Fault>
-    ensures { IfOk result (λ x. IfSome (R.remaining journal.old) (λ bytes. IsCutVerdict bytes x.0 x.1)) }
+    ensures verdict { IfOk result (λ x. IfSome (R.remaining journal.old) (λ bytes. IsCutVerdict bytes x.0 x.1)) }
+    ensures journal { IfErr result (SaysNoHeading (R.remaining journal.old)) }
 {
     match journal_from(alloc, journal) {
         Ok(bytes) => cut_verdict(alloc, &bytes, watch),

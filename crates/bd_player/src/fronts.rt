@@ -6,7 +6,7 @@ ghost use Rattle.std.specs.Io.KnownBytes.{Consumes, IsAtEnd};
 use std::io;
 use std::io::{ErrorKind, Read};
 
-// How often a reader is asked that tells of a signal in place of bytes, before it is given up.
+// How often a reader is asked before it is given up, whether it then gives bytes or tells of a signal.
 const TRIES: u32 = 1_000_000;
 
 /// Fills the slice with a reader's first bytes, or its front with all that there are: how many.

@@ -1,7 +1,7 @@
 //! Writing and judging journals.
 
 ghost use Rattle.std.specs.Prelude.{◌≡◌, ◌≤◌, IfOk, IfErr, IfSome};
-ghost use Rattle.bd_player.specs.{Journals.{Wrote}, Verdicts.{IsAsSaid, IsKnownVerdict, IsLawfulAt0, JudgesKnown, SaysNoJournal}};
+ghost use Rattle.bd_player.specs.{Cuts.{SaysNoHeading}, Journals.{Wrote}, Verdicts.{IsAsSaid, IsKnownVerdict, IsLawfulAt0, JudgesKnown, SaysNoJournal}};
 
 use crate::faults::{DONE, FAULT, Fault, after_writing, tell};
 use crate::fronts::read_front;
@@ -46,11 +46,11 @@ pub fn print_unlawful<W: Write>(at: u32, out: &mut W) -> u8
 }
 
 // What the reader has, if it begins as each journal does. Of what doesn't, no more than these first bytes is read.
-#[tactic(auto, using(crate::proofs::Unread::no_journal, crate::proofs::Unread::front_on))]
+#[tactic(auto, using(crate::proofs::Unread::no_heading, crate::proofs::Unread::front_on))]
 pub fn journal_from<R: Read>(alloc: Global, journal: &mut R) -> Result<Vec<u8>, Fault>
     ensures bytes { IfOk result (λ v. IfSome (R.remaining journal.old) (λ bytes. v.items ≡ bytes)) }
-    // What is called no journal is none.
-    ensures journal { IfErr result (SaysNoJournal (R.remaining journal.old)) }
+    // What is called no journal has no heading.
+    ensures journal { IfErr result (SaysNoHeading (R.remaining journal.old)) }
 {
     let mut first = [0; 8];
     let have = match read_front(journal, &mut first) {
@@ -70,12 +70,14 @@ pub fn judged_from<R: Read>(alloc: Global, journal: &mut R) -> Result<Judged, Fa
     ensures said { IfOk result IsAsSaid }
     // It is said of the record that the journal spells.
     ensures spelled { IfOk result (JudgesKnown (R.remaining journal.old)) }
+    // What is called no journal is none.
+    ensures journal { IfErr result (SaysNoJournal (R.remaining journal.old)) }
 {
     judged_watched(alloc, journal, &mut Unwatched)
 }
 
 /// The same, and tells how far it is.
-#[tactic(auto, using(crate::proofs::Kept::judges_known))]
+#[tactic(auto, using(crate::proofs::Kept::judges_known, crate::proofs::Unjudged::all_say, crate::proofs::Unjudged::no_journal))]
 pub fn judged_watched<R: Read, P: Watch>(
     alloc: Global,
     journal: &mut R,
@@ -83,6 +85,7 @@ pub fn judged_watched<R: Read, P: Watch>(
 ) -> Result<Judged, Fault>
     ensures said { IfOk result IsAsSaid }
     ensures spelled { IfOk result (JudgesKnown (R.remaining journal.old)) }
+    ensures journal { IfErr result (SaysNoJournal (R.remaining journal.old)) }
 {
     match journal_from(alloc, journal) {
         Ok(bytes) => judgment_on(alloc, &bytes, watch),
@@ -104,13 +107,14 @@ pub fn check_journal<R: Read, W: Write, E: Write>(
 }
 
 // What is said of the journal that the reader has.
-#[tactic(auto, using(crate::proofs::Kept::verdict_known))]
+#[tactic(auto, using(crate::proofs::Kept::verdict_known, crate::proofs::Unjudged::all_say, crate::proofs::Unjudged::no_journal))]
 fn verdict_from<R: Read, P: Watch>(
     alloc: Global,
     journal: &mut R,
     watch: &mut P,
 ) -> Result<Verdict, Fault>
-    ensures { IfOk result (IsKnownVerdict (R.remaining journal.old)) }
+    ensures verdict { IfOk result (IsKnownVerdict (R.remaining journal.old)) }
+    ensures journal { IfErr result (SaysNoJournal (R.remaining journal.old)) }
 {
     match journal_from(alloc, journal) {
         Ok(bytes) => verdict_watched(alloc, &bytes, watch),

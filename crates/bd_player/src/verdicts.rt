@@ -5,12 +5,12 @@ ghost use Rattle.bd_engine.specs.Refusals.{IsLiveSeats};
 ghost use Rattle.bd_space.specs.{Histories.{IsHistory, history_in}, declared.record.Record.{Record}};
 ghost use Rattle.bd_audit.specs.Replays.{StopsAt};
 ghost use Rattle.bd_journal.specs.Spelling.{Tells};
-ghost use Rattle.bd_player.specs.{Verdicts.{IsVerdict, IsJudged, Judges}, declared.faults.Fault.TheVariants.{Journal}};
+ghost use Rattle.bd_player.specs.{Verdicts.{IsUnjudged, IsVerdict, IsJudged, Judges}, declared.faults.Fault.TheVariants.{Memory}};
 
 use crate::faults::Fault;
-use crate::judging::verdict_watched;
+use crate::judging::{fault_of, verdict_watched};
 use bd_audit::{AuditFault, Unwatched, Watch, replay_watched};
-use bd_journal::{ReadError, read_journal};
+use bd_journal::read_journal;
 use bd_space::Record;
 use std::alloc::Global;
 
@@ -47,7 +47,7 @@ pub enum Judged {
 pub fn judge<P: Watch>(alloc: Global, found: Record, watch: &mut P) -> Result<Judged, Fault>
     requires seats { IsLiveSeats found.seats }
     ensures judged { IfOk result (IsJudged found) }
-    ensures fault { IfErr result (λ f. f ≡ Journal → ⊥) }
+    ensures fault { IfErr result (λ f. f ≡ Memory) }
 {
     match replay_watched(alloc, &found, watch) {
         Ok(()) => Ok(Judged::History(found)),
@@ -61,19 +61,19 @@ pub fn judge<P: Watch>(alloc: Global, found: Record, watch: &mut P) -> Result<Ju
 ///
 /// # Errors
 /// `Journal` where no record is spelled so, `Memory` where memory was refused.
+#[tactic(auto, using(crate::proofs::Unjudged::unjudged))]
 pub(crate) fn judgment_on<P: Watch>(
     alloc: Global,
     bytes: &[u8],
     watch: &mut P,
 ) -> Result<Judged, Fault>
     ensures judged { IfOk result (Judges bytes.now) }
-    // No journal is called unreadable.
-    ensures journal { IfErr result (λ f. f ≡ Journal → (r : Record) → Tells bytes.now r → ⊥) }
+    // No journal is called unreadable, and memory is wanted for none without a heading.
+    ensures journal { IfErr result (IsUnjudged bytes.now) }
 {
     match read_journal(alloc, bytes) {
         Ok(found) => judge(alloc, found, watch),
-        Err(ReadError::Malformed) => Err(Fault::Journal),
-        Err(ReadError::Memory) => Err(Fault::Memory),
+        Err(error) => Err(fault_of(error)),
     }
 }
 
@@ -85,8 +85,8 @@ pub(crate) fn judgment_on<P: Watch>(
 pub fn verdict_on(alloc: Global, bytes: &[u8]) -> Result<Verdict, Fault>
     // What is said is so of the record that the bytes spell.
     ensures verdict { IfOk result (IsVerdict bytes.now) }
-    // No journal is called unreadable.
-    ensures journal { IfErr result (λ f. f ≡ Journal → (r : Record) → Tells bytes.now r → ⊥) }
+    // No journal is called unreadable, and memory is wanted for none without a heading.
+    ensures journal { IfErr result (IsUnjudged bytes.now) }
 {
     verdict_watched(alloc, bytes, &mut Unwatched)
 }

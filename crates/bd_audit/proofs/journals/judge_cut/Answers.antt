@@ -1,5 +1,8 @@
-use Rattle.bd_player.proofs.Shown.{no_cut_heading}
-use Rattle.bd_player.proofs.judging.cut_verdict.Goals as goal
+use Rattle.bd_audit.proofs.Shown.{no_cut_heading, no_cut_memory}
+use Rattle.bd_audit.proofs.journals.judge_cut.Goals as goal
 
-pub returns-in-Err-clause-journal : goal.returns-in-Err-clause-journal
-returns-in-Err-clause-journal g c = no_cut_heading c.args.bytes.now c.in-Err.error c.fault_of.result c.fault_of.ensures c.in-Err.ensures.only_cut
+pub returns-in-Err-clause-fault : goal.returns-in-Err-clause-fault
+returns-in-Err-clause-fault g c = no_cut_heading c.args.bytes.now c.in-Err.error c.in-Err.ensures.error c.in-Err.ensures.only_cut
+
+pub returns-in-Err-judge_for-clause-fault : goal.returns-in-Err-judge_for-clause-fault
+returns-in-Err-judge_for-clause-fault g c = no_cut_memory c.args.bytes.now c.in-Ok.reader c.in-Err-judge_for.error c.in-Ok.ensures.cut c.in-Err-judge_for.ensures.error

@@ -1,6 +1,6 @@
 use Rattle.bd_journal.specs.Steps.{entries_left}
-use Rattle.bd_player.proofs.Shown.{reads_all, reads_no_more, shows_none, shows_one}
-use Rattle.bd_player.proofs.judging.show_all.Goals as goal
+use Rattle.bd_audit.proofs.Shown.{shows_none, shows_one}
+use Rattle.bd_audit.proofs.journals.show_all.Goals as goal
 
 pub entries-init : goal.entries-init
 entries-init g c = shows_none c.args.judge.now (entries_left c.args.reader.now)

@@ -1,6 +1,6 @@
 use Rattle.bd_journal.specs.Steps.{count_left, entries_left}
-use Rattle.bd_player.proofs.Shown.{IsShown}
-use Rattle.bd_player.proofs.judging.show_all.Given as goal
+use Rattle.bd_audit.proofs.Shown.{IsShown}
+use Rattle.bd_audit.proofs.journals.show_all.Given as goal
 
 abbrev pub invariant-entries : goal.invariant-entries
 invariant-entries g l = IsShown l.initial.judge l.judge (entries_left l.initial.reader) (entries_left l.reader)

@@ -1,7 +1,7 @@
 use Rattle.std.proofs.Common.{arith}
 use Rattle.bd_journal.specs.Steps.{whole_left}
-use Rattle.bd_player.proofs.Shown.{shows_none_whole, shows_one_whole}
-use Rattle.bd_player.proofs.judging.show_whole.Goals as goal
+use Rattle.bd_audit.proofs.Shown.{shows_none_whole, shows_one_whole}
+use Rattle.bd_audit.proofs.journals.show_whole.Goals as goal
 
 pub entries-init : goal.entries-init
 entries-init g c = (shows_none_whole c.args.judge.now (whole_left c.args.reader.now) _ search, search arith)
