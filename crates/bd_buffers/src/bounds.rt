@@ -2,6 +2,7 @@
 
 ghost use Rattle.std.specs.Prelude.{◌≡◌, ◌+◌, ◌*◌, ◌/◌, ◌<◌, ◌≤◌, ℕ, All, OnOk, OnErr, false, true, length, slice_index};
 ghost use Rattle.std.specs.List.Sorted.{IsNonDecreasingBy, IsPartitionPoint};
+ghost use Rattle.bd_keys.specs.Tables.{Makes};
 ghost use Rattle.bd_buffers.specs.declared.hole.Hole.{Hole};
 ghost use Rattle.bd_buffers.specs.Bounds as spec;
 
@@ -112,7 +113,7 @@ impl Bounds {
     /// Makes a bound for each part of a window of this size. Those that there were stay, also on an `Err`.
     pub(crate) fn reserve(&mut self, size: u32) -> Result<(), AllocError>
         requires { size ≤ 4194304 }
-        ensures same { (h : Hole) → spec.IsBounded self.old h → spec.IsBounded self.new h }
+        ensures same { Makes (spec.IsBounded self.old) (spec.IsBounded self.new) (λ h. h) }
         ensures longer { spec.reaches size self.old ≡ true → spec.reaches size self.new ≡ true }
         ensures reaches { OnOk result (spec.reaches size self.new ≡ true) }
         // Memory was asked for: some part had no bound.

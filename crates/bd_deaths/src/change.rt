@@ -1,7 +1,7 @@
 //! Changes of one notification, and of those that are read.
 
 ghost use Rattle.std.specs.Prelude.{◌≡◌, ◌==◌, ◌≤◌, not, filter, vec_len, vec_capacity, List, true};
-ghost use Rattle.bd_keys.specs.Tables.{AnswersBy};
+ghost use Rattle.bd_keys.specs.Tables.{AnswersBy, Makes};
 ghost use Rattle.bd_space.specs.Words.{changed, is_some_and};
 ghost use Rattle.bd_space.specs.Deaths as deaths_of;
 ghost use Rattle.bd_space.specs.Todo.{death_of};
@@ -61,8 +61,8 @@ impl DeathList {
     /// Marks the notification as cleared.
     #[tactic(auto, unfolding(crate::specs::Room::list_room, crate::specs::Room::list_count))]
     pub(crate) fn mark_cleared(&mut self, made: u32)
-        ensures stands { (l : List declared.DeathNotification) → AreIn self.old l
-            → AreIn self.new (changed (deaths_of.is_notification made) (λ x. record x { cleared = true }) l) }
+        ensures stands { Makes (AreIn self.old) (AreIn self.new)
+            (λ l. changed (deaths_of.is_notification made) (λ x. record x { cleared = true }) l) }
         ensures uses { ListUses self.old self.new 0 }
     {
         let range = self.made_range(made);
@@ -77,8 +77,8 @@ impl DeathList {
     // The notification is this far; one that is told is found by a look from then on.
     #[tactic(auto, unfolding(crate::specs::Room::list_room, crate::specs::Room::list_count))]
     fn turn_phase(&mut self, made: u32, phase: Phase)
-        ensures stands { (l : List declared.DeathNotification) → AreIn self.old l
-            → AreIn self.new (changed (deaths_of.is_notification made) (λ x. record x { phase = phase }) l) }
+        ensures stands { Makes (AreIn self.old) (AreIn self.new)
+            (λ l. changed (deaths_of.is_notification made) (λ x. record x { phase = phase }) l) }
         ensures uses { ListUses self.old self.new 0 }
         ensures count { list_count self.new ≡ list_count self.old }
     {
@@ -105,8 +105,8 @@ impl DeathList {
     /// The notification is this far. Of one that was told, and was looked for along the slots, the next look begins behind it.
     #[tactic(auto, unfolding(crate::specs::Room::list_room, crate::specs::Room::list_count))]
     pub(crate) fn set_phase(&mut self, made: u32, phase: Phase)
-        ensures stands { (l : List declared.DeathNotification) → AreIn self.old l
-            → AreIn self.new (changed (deaths_of.is_notification made) (λ x. record x { phase = phase }) l) }
+        ensures stands { Makes (AreIn self.old) (AreIn self.new)
+            (λ l. changed (deaths_of.is_notification made) (λ x. record x { phase = phase }) l) }
         ensures uses { ListUses self.old self.new 0 }
         ensures count { list_count self.new ≡ list_count self.old }
     {
@@ -118,8 +118,8 @@ impl DeathList {
 
     /// The notification goes.
     pub(crate) fn remove(&mut self, made: u32)
-        ensures stands { (l : List declared.DeathNotification) → AreIn self.old l
-            → AreIn self.new (filter (λ x. not (deaths_of.is_notification made x)) l) }
+        ensures stands { Makes (AreIn self.old) (AreIn self.new)
+            (λ l. filter (λ x. not (deaths_of.is_notification made x)) l) }
         ensures uses { ListUses self.old self.new 0 }
     {
         let range = self.made_range(made);
@@ -132,8 +132,8 @@ impl DeathList {
     // What the item told of is told.
     #[tactic(auto, unfolding(crate::specs::Room::list_room, crate::specs::Room::list_count))]
     fn read_one(&mut self, kind: WorkKind)
-        ensures stands { (l : List declared.DeathNotification) → AreIn self.old l → AreIn self.new
-            (changed (λ x. is_some_and (death_of kind) (λ n. n == x.made)) (λ x. record x { phase = Told }) l) }
+        ensures stands { Makes (AreIn self.old) (AreIn self.new)
+            (λ l. changed (λ x. is_some_and (death_of kind) (λ n. n == x.made)) (λ x. record x { phase = Told }) l) }
         ensures uses { ListUses self.old self.new 0 }
     {
         match death_of(kind) {
@@ -144,8 +144,8 @@ impl DeathList {
 
     /// The notifications of which these work items told are told.
     pub(crate) fn read(&mut self, taken: &[Work])
-        ensures stands { (l : List declared.DeathNotification) → AreIn self.old l
-            → AreIn self.new (changed (reading.is_told_of_death taken.now) (λ x. record x { phase = Told }) l) }
+        ensures stands { Makes (AreIn self.old) (AreIn self.new)
+            (λ l. changed (reading.is_told_of_death taken.now) (λ x. record x { phase = Told }) l) }
         ensures uses { ListUses self.old self.new 0 }
     {
         for w in taken {

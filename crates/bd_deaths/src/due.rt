@@ -2,6 +2,7 @@
 
 ghost use Rattle.std.specs.Prelude.{ℕ, ◌≡◌, ◌==◌, ◌&&◌, ◌||◌, ◌++◌, not, true, List, IfOk, OnOk, OnErr};
 ghost use Rattle.std.specs.{List.{list_any}, List.Sorted.{IsStrictlyIncreasing}};
+ghost use Rattle.bd_keys.specs.Tables.{Tells};
 ghost use Rattle.bd_groups.specs.Members.{members};
 ghost use Rattle.bd_space.specs.{ProcessExits.{is_armed}, Words.{changed}, declared.space.Phase.TheVariants.{Queued}};
 ghost use Rattle.bd_space.specs.declared.space.Object.{Object};
@@ -29,31 +30,29 @@ fn is_armed(phase: Phase) -> bool
 
 // Whether the end of the process is to be told by this notification.
 fn is_due(nodes: &NodeTable, p: u32, x: &DeathNotification) -> bool
-    ensures { (objects : List Object) → NodesAre nodes.now objects → result ≡ due.is_due objects p x.now }
+    ensures { Tells (NodesAre nodes.now) result (λ objects. due.is_due objects p x.now) }
 {
     is_armed(x.phase) && nodes.owns(p, x.object)
 }
 
 // Whether the end of the process is to be told to another by this notification.
 fn is_told(nodes: &NodeTable, p: u32, x: &DeathNotification) -> bool
-    ensures { (objects : List Object) → NodesAre nodes.now objects
-        → result ≡ (not (x.now.process == p) && due.is_due objects p x.now) }
+    ensures { Tells (NodesAre nodes.now) result (λ objects. not (x.now.process == p) && due.is_due objects p x.now) }
 {
     x.process != p && is_due(nodes, p, x)
 }
 
 // Whether this one is due, which was made at this place and hasn't gone.
 fn is_due_at(nodes: &NodeTable, p: u32, made: u32, s: &Slot) -> bool
-    ensures { (objects : List Object) → NodesAre nodes.now objects
-        → result ≡ spec.on (due.is_due_at objects p made) s.now }
+    ensures { Tells (NodesAre nodes.now) result (λ objects. spec.on (due.is_due_at objects p made) s.now) }
 {
     s.live && made == s.death.made && is_due(nodes, p, &s.death)
 }
 
 // Whether one of these is due that was made at this place.
 fn has_due(slots: &[Slot], nodes: &NodeTable, p: u32, made: u32) -> bool
-    ensures { (objects : List Object) → NodesAre nodes.now objects
-        → result ≡ list_any (due.is_due_at objects p made) (spec.lives slots.now) }
+    ensures { Tells (NodesAre nodes.now) result
+        (λ objects. list_any (due.is_due_at objects p made) (spec.lives slots.now)) }
 {
     for s in slots {
         if is_due_at(nodes, p, made, s) {
@@ -72,8 +71,8 @@ fn is_place(place: Option<u32>, made: u32) -> bool
 
 // Whether the end of the process is to be told to another by this one, which was made at such a place and hasn't gone.
 fn is_told_by(nodes: &NodeTable, p: u32, place: Option<u32>, s: &Slot) -> bool
-    ensures { (objects : List Object) → NodesAre nodes.now objects → result
-        ≡ spec.on (λ x. due.is_place place x.made && (not (x.process == p) && due.is_due objects p x)) s.now }
+    ensures { Tells (NodesAre nodes.now) result
+        (λ objects. spec.on (λ x. due.is_place place x.made && (not (x.process == p) && due.is_due objects p x)) s.now) }
 {
     s.live && is_place(place, s.death.made) && is_told(nodes, p, &s.death)
 }
@@ -86,8 +85,8 @@ fn put_due(
     place: Option<u32>,
     told: &mut Vec<DeathNotification>,
 ) -> Result<(), AllocError>
-    ensures put { OnOk result ((objects : List Object) → NodesAre nodes.now objects
-        → told.new.items ≡ told.old.items ++ due.due_of (due.is_place place) objects p (spec.lives slots.now)) }
+    ensures put { OnOk result (Tells (NodesAre nodes.now) told.new.items
+        (λ objects. told.old.items ++ due.due_of (due.is_place place) objects p (spec.lives slots.now))) }
     ensures grown { OnErr result ((objects : List Object) → NodesAre nodes.now objects
         → list_any (due.is_due_of (due.is_place place) objects p) (spec.lives slots.now) ≡ true) }
 {

@@ -1,6 +1,7 @@
 //! The end of a process: its own notifications go.
 
 ghost use Rattle.std.specs.Prelude.{◌==◌, ◌&&◌, not, filter, List};
+ghost use Rattle.bd_keys.specs.Tables.{Makes};
 ghost use Rattle.bd_space.specs.declared.space.DeathNotification as declared;
 ghost use Rattle.bd_deaths.specs.Due as due;
 
@@ -13,8 +14,7 @@ impl DeathList {
 
     // The process's notifications of this place go.
     fn drop_at(&mut self, p: u32, made: u32)
-        ensures stands { (l : List declared.DeathNotification) → AreIn self.old l
-            → AreIn self.new (filter (λ x. not (due.is_own_at p made x)) l) }
+        ensures stands { Makes (AreIn self.old) (AreIn self.new) (λ l. filter (λ x. not (due.is_own_at p made x)) l) }
         ensures uses { ListUses self.old self.new 0 }
     {
         let range = self.made_range(made);
@@ -23,8 +23,8 @@ impl DeathList {
 
     // The process's notifications of these places go.
     fn drop_all(&mut self, p: u32, places: Members<'_, u32>)
-        ensures stands { (l : List declared.DeathNotification) → AreIn self.old l
-            → AreIn self.new (filter (λ x. not (due.has_place places.entry x.made && (x.process == p))) l) }
+        ensures stands { Makes (AreIn self.old) (AreIn self.new)
+            (λ l. filter (λ x. not (due.has_place places.entry x.made && (x.process == p))) l) }
         ensures uses { ListUses self.old self.new 0 }
     {
         for made in places {
@@ -39,8 +39,7 @@ impl DeathTable {
     /// The notifications of the process go.
     #[tactic(auto, unfolding(crate::specs::Room::death_room, crate::specs::Room::death_count))]
     pub fn drop_process(&mut self, p: u32)
-        ensures stands { (l : List declared.DeathNotification) → DeathsAre self.old l
-            → DeathsAre self.new (filter (λ x. not (x.process == p)) l) }
+        ensures stands { Makes (DeathsAre self.old) (DeathsAre self.new) (λ l. filter (λ x. not (x.process == p)) l) }
         ensures uses { Uses self.old self.new 0 }
     {
         let own = Group::Process { made: p };

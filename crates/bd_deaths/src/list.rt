@@ -1,7 +1,7 @@
 //! The notifications themselves, in the order in which they were made, with what is kept of those with each key.
 
 ghost use Rattle.std.specs.Prelude.{◌≡◌, ◌≤◌, ◌<◌, ◌++◌, ◌∷◌, [], Bool, true, not, filter, set, List, OnOk, OnErr, vec_len, slice_index_or};
-ghost use Rattle.bd_keys.specs.Tables.{AnswersBy};
+ghost use Rattle.bd_keys.specs.Tables.{AnswersBy, Makes};
 ghost use Rattle.bd_space.specs.declared.space.DeathNotification as declared;
 ghost use Rattle.bd_ways.specs.Ranges.{IsWithin};
 ghost use Rattle.bd_deaths.specs.declared.slot.Slot.{Slot};
@@ -60,7 +60,7 @@ impl DeathList {
     /// Makes room for so many more. Changes nothing else.
     #[tactic(auto, unfolding(crate::specs::Room::list_room, crate::specs::Room::list_count))]
     pub(crate) fn reserve(&mut self, more: usize) -> Result<(), AllocError>
-        ensures stands { (l : List declared.DeathNotification) → AreIn self.old l → AreIn self.new l }
+        ensures stands { Makes (AreIn self.old) (AreIn self.new) (λ l. l) }
         ensures uses { ListUses self.old self.new 0 }
         ensures room { OnOk result (more ≤ list_room self.new) }
         ensures grown { OnErr result (more ≤ list_room self.old → ⊥) }
@@ -73,7 +73,7 @@ impl DeathList {
     #[tactic(auto, unfolding(crate::specs::Room::list_room, crate::specs::Room::list_count))]
     pub(crate) fn push(&mut self, x: DeathNotification)
         requires { 1 ≤ list_room self.old }
-        ensures stands { (l : List declared.DeathNotification) → AreIn self.old l → AreIn self.new (l ++ x ∷ []) }
+        ensures stands { Makes (AreIn self.old) (AreIn self.new) (λ l. l ++ x ∷ []) }
         ensures uses { ListUses self.old self.new 1 }
     {
         self.in_order = self.in_order && self.end <= x.made as u64;
@@ -92,8 +92,7 @@ impl DeathList {
     fn leave_slot(&mut self, i: usize)
         requires within { i < vec_len self.old.slots }
         requires live { (d : Slot) → (slice_index_or self.old.slots.items i d).live ≡ true }
-        ensures stands { (l : List declared.DeathNotification) → AreIn self.old l
-            → AreIn self.new (spec.lives self.new.slots.items) }
+        ensures stands { Makes (AreIn self.old) (AreIn self.new) (λ l. spec.lives self.new.slots.items) }
         ensures len { vec_len self.new.slots ≡ vec_len self.old.slots }
         ensures slots { (d : Slot) → d ≡ slice_index_or self.old.slots.items i d
             → self.new.slots.items ≡ set self.old.slots.items i (spec.gone d) }
@@ -129,7 +128,7 @@ impl DeathList {
     #[tactic(auto, unfolding(crate::specs::Room::list_room, crate::specs::Room::list_count))]
     pub(crate) fn pass_untold(&mut self, to: usize)
         requires { to ≤ vec_len self.old.slots }
-        ensures stands { (l : List declared.DeathNotification) → AreIn self.old l → AreIn self.new l }
+        ensures stands { Makes (AreIn self.old) (AreIn self.new) (λ l. l) }
         ensures uses { ListUses self.old self.new 0 }
         ensures count { list_count self.new ≡ list_count self.old }
     {
@@ -139,7 +138,7 @@ impl DeathList {
     /// Where more than half have gone, the others close up: each that went pays for one that moves.
     #[tactic(auto, unfolding(crate::specs::Room::list_room, crate::specs::Room::list_count))]
     pub(crate) fn close_up(&mut self)
-        ensures stands { (l : List declared.DeathNotification) → AreIn self.old l → AreIn self.new l }
+        ensures stands { Makes (AreIn self.old) (AreIn self.new) (λ l. l) }
         ensures uses { ListUses self.old self.new 0 }
     {
         if self.gone > self.slots.len() / 2 {

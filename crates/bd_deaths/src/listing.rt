@@ -1,6 +1,7 @@
 //! The places of notifications, by their processes and objects.
 
 ghost use Rattle.std.specs.Prelude.{◌≡◌, ◌≤◌, ◌+◌, ◌*◌, IfOk, OnOk, OnErr, List, All, length};
+ghost use Rattle.bd_keys.specs.Tables.{Makes};
 ghost use Rattle.bd_groups.specs.Members.{group_room};
 ghost use Rattle.bd_space.specs.declared.space.DeathNotification as declared;
 ghost use Rattle.bd_deaths.specs.Keys as keys;
@@ -27,7 +28,7 @@ pub(crate) fn group_of(o: ObjectId) -> Group
 pub(crate) fn list_place(groups: &mut Groups<u32>, x: &DeathNotification)
     requires { 2 ≤ group_room groups.old }
     ensures listed { IsListed groups.new x.now }
-    ensures kept { (y : declared.DeathNotification) → IsListed groups.old y → IsListed groups.new y }
+    ensures kept { Makes (IsListed groups.old) (IsListed groups.new) (λ y. y) }
     ensures uses { group_room groups.old ≤ group_room groups.new + 2 }
 {
     groups.push(Group::Process { made: x.process }, x.made);

@@ -1,6 +1,7 @@
 //! Looks by the step that made a notification, by process and cookie, and by process and object.
 
 ghost use Rattle.std.specs.Prelude.{◌≡◌, ◌==◌, if◌then◌else◌, find, count_by, option_map, List, None};
+ghost use Rattle.bd_keys.specs.Tables.{Tells};
 ghost use Rattle.bd_space.specs.Deaths as deaths_of;
 ghost use Rattle.bd_space.specs.declared.space.DeathNotification as declared;
 ghost use Rattle.bd_deaths.specs.Only.{only_uncleared_in};
@@ -88,16 +89,14 @@ impl DeathTable {
 
     /// The notification of this place.
     pub fn death(&self, made: u32) -> Option<DeathNotification>
-        ensures { (l : List declared.DeathNotification) → DeathsAre self.now l
-            → result ≡ find (deaths_of.is_notification made) l }
+        ensures { Tells (DeathsAre self.now) result (λ l. find (deaths_of.is_notification made) l) }
     {
         death_of(made_in(self.list.made_part(made), made))
     }
 
     /// The uncleared notification on the process's name of the object.
     pub fn uncleared(&self, p: u32, o: ObjectId) -> Option<DeathNotification>
-        ensures { (l : List declared.DeathNotification) → DeathsAre self.now l
-            → result ≡ deaths_of.uncleared_in l p o }
+        ensures { Tells (DeathsAre self.now) result (λ l. deaths_of.uncleared_in l p o) }
     {
         death_of(uncleared_in(self.list.key_part(name_key(p, o)), p, o))
     }
@@ -105,16 +104,14 @@ impl DeathTable {
     /// The only uncleared notification on the process's name of the object, where there is just one. Cleared ones may
     /// be on the name too. Looks at one notification where the name has one.
     pub fn only_uncleared(&self, p: u32, o: ObjectId) -> Option<DeathNotification>
-        ensures { (l : List declared.DeathNotification) → DeathsAre self.now l
-            → result ≡ only_uncleared_in l p o }
+        ensures { Tells (DeathsAre self.now) result (λ l. only_uncleared_in l p o) }
     {
         death_of(only_uncleared_in(self.list.key_part(name_key(p, o)), p, o))
     }
 
     /// The least told notification of the process with this cookie.
     pub fn told(&self, p: u32, cookie: u64) -> Option<DeathNotification>
-        ensures { (l : List declared.DeathNotification) → DeathsAre self.now l
-            → result ≡ find (deaths_of.is_told_with p cookie) l }
+        ensures { Tells (DeathsAre self.now) result (λ l. find (deaths_of.is_told_with p cookie) l) }
     {
         death_of(told_in(self.list.told_part(p, cookie), p, cookie))
     }

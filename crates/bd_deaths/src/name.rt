@@ -1,6 +1,7 @@
 //! What is on a process's name of an object, and goes with the name.
 
 ghost use Rattle.std.specs.{Prelude.{◌≡◌, ◌==◌, ◌&&◌, ◌||◌, not, filter, List}, List.{list_any}};
+ghost use Rattle.bd_keys.specs.Tables.{Makes, Tells};
 ghost use Rattle.bd_space.specs.Deaths as deaths_of;
 ghost use Rattle.bd_ways.specs.Local as local;
 ghost use Rattle.bd_space.specs.declared.space.DeathNotification as declared;
@@ -45,8 +46,8 @@ impl DeathList {
 
     // The uncleared notifications on the name go.
     fn remove_uncleared(&mut self, p: u32, o: ObjectId)
-        ensures stands { (l : List declared.DeathNotification) → AreIn self.old l → AreIn self.new
-            (filter (λ x. not (deaths_of.is_uncleared_on p o x)) l) }
+        ensures stands { Makes (AreIn self.old) (AreIn self.new)
+            (λ l. filter (λ x. not (deaths_of.is_uncleared_on p o x)) l) }
         ensures uses { ListUses self.old self.new 0 }
     {
         let range = self.key_range(name_key(p, o));
@@ -60,33 +61,31 @@ impl DeathTable {
 
     /// Whether an uncleared notification is on the name.
     pub fn has_uncleared(&self, p: u32, o: ObjectId) -> bool
-        ensures { (l : List declared.DeathNotification) → DeathsAre self.now l
-            → result ≡ list_any (λ x. local.at_name p o x.process x.object && not x.cleared) l }
+        ensures { Tells (DeathsAre self.now) result
+            (λ l. list_any (λ x. local.at_name p o x.process x.object && not x.cleared) l) }
     {
         self.uncleared(p, o).is_some()
     }
 
     /// Whether any notification is on the name, also a cleared one. Looks at none.
     pub fn has_on(&self, p: u32, o: ObjectId) -> bool
-        ensures { (l : List declared.DeathNotification) → DeathsAre self.now l
-            → result ≡ list_any (λ x. local.at_name p o x.process x.object) l }
+        ensures { Tells (DeathsAre self.now) result (λ l. list_any (λ x. local.at_name p o x.process x.object) l) }
     {
         self.list.has_key(name_key(p, o))
     }
 
     /// Whether the notification that was made there is on the name.
     pub fn is_on(&self, p: u32, o: ObjectId, made: u32) -> bool
-        ensures { (l : List declared.DeathNotification) → DeathsAre self.now l
-            → result ≡ list_any (λ x. (x.made == made) && local.at_name p o x.process x.object) l }
+        ensures { Tells (DeathsAre self.now) result
+            (λ l. list_any (λ x. (x.made == made) && local.at_name p o x.process x.object) l) }
     {
         is_death_at(self.list.made_part(made), p, o, made)
     }
 
     /// Whether the notification that was made there stays, where the name is there or not.
     pub fn stays(&self, named: bool, p: u32, o: ObjectId, made: u32) -> bool
-        ensures { (l : List declared.DeathNotification) → DeathsAre self.now l
-            → result ≡ list_any (λ x. x.made == made)
-            (filter (λ x. not (local.at_name p o x.process x.object) || (x.cleared || named)) l) }
+        ensures { Tells (DeathsAre self.now) result
+            (λ l. list_any (λ x. x.made == made) (filter (λ x. not (local.at_name p o x.process x.object) || (x.cleared || named)) l)) }
     {
         death_stays(self.list.made_part(made), named, p, o, made)
     }
@@ -94,8 +93,8 @@ impl DeathTable {
     /// The uncleared notifications on the name go, unless the name is there.
     #[tactic(auto, unfolding(crate::specs::Room::death_room, crate::specs::Room::death_count))]
     pub fn go_with(&mut self, named: bool, p: u32, o: ObjectId)
-        ensures stands { (l : List declared.DeathNotification) → DeathsAre self.old l → DeathsAre self.new
-            (filter (λ x. not (local.at_name p o x.process x.object) || (x.cleared || named)) l) }
+        ensures stands { Makes (DeathsAre self.old) (DeathsAre self.new)
+            (λ l. filter (λ x. not (local.at_name p o x.process x.object) || (x.cleared || named)) l) }
         ensures uses { Uses self.old self.new 0 }
     {
         if !named {

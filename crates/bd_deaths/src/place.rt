@@ -2,6 +2,7 @@
 
 ghost use Rattle.std.specs.Prelude.{◌≡◌, ◌==◌, ◌≤◌, ◌+◌, ℕ, not, length, vec_len, List, IfSome};
 ghost use Rattle.std.specs.List.{list_any};
+ghost use Rattle.bd_keys.specs.Tables.{Tells};
 ghost use Rattle.bd_space.specs.Deaths as deaths_of;
 ghost use Rattle.bd_space.specs.declared.space.DeathNotification as declared;
 ghost use Rattle.bd_space.specs.Words.{is_some_and};
@@ -49,7 +50,7 @@ impl DeathList {
 
     /// Whether any has this key.
     pub(crate) fn has_key(&self, key: Key) -> bool
-        ensures { (l : List declared.DeathNotification) → AreIn self.now l → result ≡ list_any (keys.has key) l }
+        ensures { Tells (AreIn self.now) result (λ l. list_any (keys.has key) l) }
     {
         self.sharing.at(key).is_some()
     }

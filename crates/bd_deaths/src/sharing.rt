@@ -3,6 +3,7 @@
 ghost use Rattle.std.specs.Prelude.{ℕ, ◌≡◌, ◌≤◌, ◌<◌, ◌+◌, ◌^◌, ◌++◌, ◌∷◌, [], if◌then◌else◌};
 ghost use Rattle.std.specs.{Prelude.{List, length, slice_index_or, Some, None, OnOk, OnErr}, List.{remove}};
 ghost use Rattle.std.specs.HashMap.{get, spare};
+ghost use Rattle.bd_keys.specs.Tables.{Makes};
 ghost use Rattle.bd_keys.specs.{declared.key.WordKey.{WordKey}, Keys.{same_word}, Look.{look, word_room}};
 ghost use Rattle.bd_space.specs.declared.space.DeathNotification.{DeathNotification};
 ghost use Rattle.bd_deaths.specs.declared.key.NameKey.{NameKey};
@@ -114,7 +115,7 @@ impl Sharing {
     /// Makes room for the keys of so many more. Changes nothing else.
     #[tactic(auto, unfolding(crate::specs::SharedAt::key_room))]
     pub(crate) fn reserve(&mut self, more: usize) -> Result<(), AllocError>
-        ensures stands { (l : List DeathNotification) → AreShared self.old l → AreShared self.new l }
+        ensures stands { Makes (AreShared self.old) (AreShared self.new) (λ l. l) }
         ensures uses { key_room self.old ≤ key_room self.new }
         ensures room { OnOk result (more ≤ key_room self.new) }
         ensures grown { OnErr result (more ≤ key_room self.old → ⊥) }

@@ -1,6 +1,7 @@
 //! The table: its memory and its changes.
 
 ghost use Rattle.std.specs.Prelude.{◌≡◌, ◌≤◌, ◌++◌, ◌∷◌, [], not, filter, true, List, OnOk, OnErr};
+ghost use Rattle.bd_keys.specs.Tables.{Makes};
 ghost use Rattle.bd_space.specs.Words.{changed};
 ghost use Rattle.bd_space.specs.Deaths as deaths_of;
 ghost use Rattle.bd_space.specs.ReadItems as reading;
@@ -43,7 +44,7 @@ impl DeathTable {
     /// Makes room for so many more. Changes nothing else.
     #[tactic(auto, unfolding(crate::specs::Room::death_room, crate::specs::Room::death_count))]
     pub fn reserve(&mut self, more: usize) -> Result<(), AllocError>
-        ensures stands { (l : List declared.DeathNotification) → DeathsAre self.old l → DeathsAre self.new l }
+        ensures stands { Makes (DeathsAre self.old) (DeathsAre self.new) (λ l. l) }
         ensures uses { Uses self.old self.new 0 }
         ensures room { OnOk result (more ≤ death_room self.new) }
         // Memory was asked for: there was no room.
@@ -61,8 +62,7 @@ impl DeathTable {
     #[tactic(auto, unfolding(crate::specs::Room::death_room, crate::specs::Room::death_count))]
     pub fn push(&mut self, x: DeathNotification)
         requires { 1 ≤ death_room self.old }
-        ensures stands { (l : List declared.DeathNotification) → DeathsAre self.old l
-            → DeathsAre self.new (l ++ x ∷ []) }
+        ensures stands { Makes (DeathsAre self.old) (DeathsAre self.new) (λ l. l ++ x ∷ []) }
         ensures uses { Uses self.old self.new 1 }
     {
         list_place(&mut self.groups, &x);
@@ -72,8 +72,8 @@ impl DeathTable {
     /// Marks the notification as cleared.
     #[tactic(auto, unfolding(crate::specs::Room::death_room, crate::specs::Room::death_count))]
     pub fn mark_cleared(&mut self, made: u32)
-        ensures stands { (l : List declared.DeathNotification) → DeathsAre self.old l
-            → DeathsAre self.new (changed (deaths_of.is_notification made) (λ x. record x { cleared = true }) l) }
+        ensures stands { Makes (DeathsAre self.old) (DeathsAre self.new)
+            (λ l. changed (deaths_of.is_notification made) (λ x. record x { cleared = true }) l) }
         ensures uses { Uses self.old self.new 0 }
     {
         self.list.mark_cleared(made);
@@ -82,8 +82,8 @@ impl DeathTable {
     /// The notification is this far.
     #[tactic(auto, unfolding(crate::specs::Room::death_room, crate::specs::Room::death_count))]
     pub fn set_phase(&mut self, made: u32, phase: Phase)
-        ensures stands { (l : List declared.DeathNotification) → DeathsAre self.old l
-            → DeathsAre self.new (changed (deaths_of.is_notification made) (λ x. record x { phase = phase }) l) }
+        ensures stands { Makes (DeathsAre self.old) (DeathsAre self.new)
+            (λ l. changed (deaths_of.is_notification made) (λ x. record x { phase = phase }) l) }
         ensures uses { Uses self.old self.new 0 }
         ensures count { death_count self.new ≡ death_count self.old }
     {
@@ -93,8 +93,8 @@ impl DeathTable {
     /// The notification goes.
     #[tactic(auto, unfolding(crate::specs::Room::death_room, crate::specs::Room::death_count))]
     pub fn remove(&mut self, made: u32)
-        ensures stands { (l : List declared.DeathNotification) → DeathsAre self.old l
-            → DeathsAre self.new (filter (λ x. not (deaths_of.is_notification made x)) l) }
+        ensures stands { Makes (DeathsAre self.old) (DeathsAre self.new)
+            (λ l. filter (λ x. not (deaths_of.is_notification made x)) l) }
         ensures uses { Uses self.old self.new 0 }
     {
         self.list.remove(made);
@@ -103,8 +103,8 @@ impl DeathTable {
     /// The notifications of which these work items told are told.
     #[tactic(auto, unfolding(crate::specs::Room::death_room, crate::specs::Room::death_count))]
     pub fn read(&mut self, taken: &[Work])
-        ensures stands { (l : List declared.DeathNotification) → DeathsAre self.old l
-            → DeathsAre self.new (changed (reading.is_told_of_death taken.now) (λ x. record x { phase = Told }) l) }
+        ensures stands { Makes (DeathsAre self.old) (DeathsAre self.new)
+            (λ l. changed (reading.is_told_of_death taken.now) (λ x. record x { phase = Told }) l) }
         ensures uses { Uses self.old self.new 0 }
     {
         self.list.read(taken);

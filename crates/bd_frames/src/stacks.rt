@@ -3,6 +3,7 @@
 
 ghost use Rattle.std.specs.Prelude.{ℕ, Bool, true, false, List, Option, ◌≡◌, ◌==◌, ◌≤◌, ◌<◌, ◌+◌, ◌++◌, ◌∷◌, [], Some, None, length, slice_index_or, vec_len, vec_capacity, if◌then◌else◌, map, set, IfSome, OnOk, OnErr};
 ghost use Rattle.std.specs.{List.{remove as list_remove}, HashMap.{spare}};
+ghost use Rattle.bd_keys.specs.Tables.{Makes};
 ghost use Rattle.bd_space.specs.declared.space.Frame as declared;
 ghost use Rattle.bd_space.specs.Frames as frame_spec;
 ghost use Rattle.bd_space.specs.ReadItems as reading;
@@ -105,7 +106,7 @@ impl Stacks {
 
     /// Makes room for so many more frames.
     pub(crate) fn reserve(&mut self, more: u32) -> Result<(), AllocError>
-        ensures stands { (l : List declared.Frame) → StacksAre self.old l → StacksAre self.new l }
+        ensures stands { Makes (StacksAre self.old) (StacksAre self.new) (λ l. l) }
         ensures uses { stack_room self.old ≤ stack_room self.new }
         ensures room { OnOk result (more ≤ stack_room self.new) }
         ensures grown { OnErr result (stack_room self.old < more) }
@@ -229,8 +230,7 @@ impl Stacks {
 
     /// The thread is gone from all frames.
     pub(crate) fn forget(&mut self, seat: u32)
-        ensures stands { (l : List declared.Frame) → StacksAre self.old l
-            → StacksAre self.new (map (left_frame seat) l) }
+        ensures stands { Makes (StacksAre self.old) (StacksAre self.new) (λ l. map (left_frame seat) l) }
         ensures uses { stack_room self.old ≤ stack_room self.new }
     {
         forget_top(&mut self.tops, seat);

@@ -3,6 +3,7 @@
 
 ghost use Rattle.std.specs.Prelude.{ℕ, Bool, true, List, ◌≡◌, ◌==◌, ◌≤◌, ◌<◌, ◌+◌, ◌++◌, ◌∷◌, [], not, map, filter, find, reverse, length, vec_len, OnOk, OnErr};
 ghost use Rattle.std.specs.List.{list_any, remove as list_remove};
+ghost use Rattle.bd_keys.specs.Tables as tables;
 ghost use Rattle.bd_space.specs.declared.space.Frame as declared;
 ghost use Rattle.bd_space.specs.Frames as spec;
 ghost use Rattle.bd_space.specs.ReadItems as reading;
@@ -97,7 +98,7 @@ impl FrameTable {
     // The frame of this index closes.
     fn remove_at(&mut self, i: usize)
         requires { i < vec_len self.old.frames }
-        ensures stands { (l : List declared.Frame) → FramesAre self.old l → FramesAre self.new (list_remove l i) }
+        ensures stands { tables.Makes (FramesAre self.old) (FramesAre self.new) (λ l. list_remove l i) }
         ensures len { vec_len self.new.frames + 1 ≡ vec_len self.old.frames }
         ensures uses { Uses self.old self.new 0 }
     {

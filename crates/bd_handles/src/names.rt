@@ -1,6 +1,7 @@
 //! Names, found by number and by object.
 
 ghost use Rattle.std.specs.Prelude.{◌≡◌, ◌==◌, ◌≤◌, ◌<◌, ◌+◌, ◌&&◌, ◌++◌, ◌∷◌, [], not, nat_le, is_some, filter, None, List, Some, MatchOption, OnOk, OnErr};
+ghost use Rattle.bd_keys.specs.Tables.{Makes, Tells};
 ghost use Rattle.bd_space.specs.declared.space.Name as declared;
 ghost use Rattle.bd_space.specs.Names as names_of;
 ghost use Rattle.bd_handles.specs.Numbers as numbers;
@@ -49,7 +50,7 @@ impl Names {
 
     /// Room for so many names more.
     pub fn reserve(&mut self, more: usize) -> Result<(), AllocError>
-        ensures stands { (l : List declared.Name) → Named self.old l → Named self.new l }
+        ensures stands { Makes (Named self.old) (Named self.new) (λ l. l) }
         ensures uses { index_room self.old ≤ index_room self.new }
         ensures room { OnOk result (more ≤ index_room self.new) }
         ensures grown { OnErr result (more ≤ index_room self.old → ⊥) }
@@ -60,14 +61,14 @@ impl Names {
 
     /// The object that the number names for the process.
     pub fn named(&self, p: u32, n: u32) -> Option<ObjectId>
-        ensures { (l : List declared.Name) → Named self.now l → result ≡ names_of.named_in l p n }
+        ensures { Tells (Named self.now) result (λ l. names_of.named_in l p n) }
     {
         self.pages.at(p, place_of(n))
     }
 
     // Whether the number is this one or past it, and names something for the process.
     fn is_named_from(&self, p: u32, from: u32, n: u32) -> bool
-        ensures { (l : List declared.Name) → Named self.now l → result ≡ nat_le from n && is_some (names_of.named_in l p n) }
+        ensures { Tells (Named self.now) result (λ l. nat_le from n && is_some (names_of.named_in l p n)) }
     {
         from <= n && self.named(p, n).is_some()
     }
@@ -88,7 +89,7 @@ impl Names {
 
     /// The process's number of the object.
     pub fn number_of(&self, p: u32, o: ObjectId) -> Option<u32>
-        ensures { (l : List declared.Name) → Named self.now l → result ≡ names_of.number_in l p o }
+        ensures { Tells (Named self.now) result (λ l. names_of.number_in l p o) }
     {
         number_of(&self.numbers, p, o)
     }
@@ -151,7 +152,7 @@ impl Names {
 
     /// The process's name of the object goes, if it has one.
     pub fn forget(&mut self, p: u32, o: ObjectId)
-        ensures stands { (l : List declared.Name) → Named self.old l → Named self.new (filter (λ m. not (has_object p o m)) l) }
+        ensures stands { Makes (Named self.old) (Named self.new) (λ l. filter (λ m. not (has_object p o m)) l) }
         ensures uses { index_room self.old ≤ index_room self.new }
     {
         match self.number_of(p, o) {
@@ -162,7 +163,7 @@ impl Names {
 
     // The process's name with this number goes, if it has one.
     fn forget_number(&mut self, p: u32, n: u32)
-        ensures stands { (l : List declared.Name) → Named self.old l → Named self.new (filter (λ m. not (has_number p n m)) l) }
+        ensures stands { Makes (Named self.old) (Named self.new) (λ l. filter (λ m. not (has_number p n m)) l) }
         ensures uses { index_room self.old ≤ index_room self.new }
     {
         match self.named(p, n) {

@@ -2,6 +2,7 @@
 
 ghost use Rattle.std.specs.Prelude.{◌≡◌, ◌==◌, ◌≤◌, ◌<◌, ◌+◌, ◌-◌, ◌*◌, ◌&&◌, ◌++◌, ◌∷◌, not, filter, vec_len, vec_capacity, List, [], None, OnOk, OnErr};
 ghost use Rattle.std.specs.HashMap.{hash_map_len};
+ghost use Rattle.bd_keys.specs.Tables.{Makes};
 ghost use Rattle.bd_groups.specs.Members.{group_room, member_count};
 ghost use Rattle.bd_space.specs.declared.space.Name as declared;
 ghost use Rattle.bd_space.specs.Words as words;
@@ -186,8 +187,8 @@ impl NameTable {
     /// The process's name of the object goes.
     #[tactic(auto, unfolding(crate::specs::Stands::name_room))]
     pub fn drop(&mut self, p: u32, o: ObjectId)
-        ensures stands { (l : List declared.Name) → NamesAre self.old l
-            → NamesAre self.new (filter (λ m. not ((m.process == p) && words.same m.object o)) l) }
+        ensures stands { Makes (NamesAre self.old) (NamesAre self.new)
+            (λ l. filter (λ m. not ((m.process == p) && words.same m.object o)) l) }
         ensures uses { Uses self.old self.new 0 }
     {
         self.names.forget(p, o);
@@ -196,7 +197,7 @@ impl NameTable {
     /// All names of the process go.
     #[tactic(auto, unfolding(crate::specs::Stands::name_room))]
     pub fn drop_process(&mut self, p: u32)
-        ensures stands { (l : List declared.Name) → NamesAre self.old l → NamesAre self.new (filter (λ m. not (m.process == p)) l) }
+        ensures stands { Makes (NamesAre self.old) (NamesAre self.new) (λ l. filter (λ m. not (m.process == p)) l) }
         ensures uses { Uses self.old self.new 0 }
     {
         let group = Group::Process { made: p };

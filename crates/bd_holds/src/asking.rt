@@ -1,6 +1,7 @@
 //! What a process asked for itself, and what an owner has yet to acknowledge.
 
 ghost use Rattle.std.specs.{Prelude.{◌≡◌, ◌≤◌, List}, List.{list_any}};
+ghost use Rattle.bd_keys.specs.Tables.{Makes, Tells};
 ghost use Rattle.bd_space.specs.{declared.space.Reference.{Reference}, Words.{without_first}};
 ghost use Rattle.bd_space.specs.References as refer;
 
@@ -13,14 +14,14 @@ impl ReferenceTable {
 
     /// Whether the process asked for the object in this strength.
     pub fn is_asked(&self, p: u32, o: ObjectId, strong: bool) -> bool
-        ensures { (l : List Reference) → ReferencesAre self.now l → result ≡ list_any (refer.is_asking p o strong) l }
+        ensures { Tells (ReferencesAre self.now) result (λ l. list_any (refer.is_asking p o strong) l) }
     {
         self.tallies.has(o, Kind::Asked(p), strong)
     }
 
     /// Whether the owner is to acknowledge the object in this strength.
     pub fn is_shaken(&self, o: ObjectId, strong: bool) -> bool
-        ensures { (l : List Reference) → ReferencesAre self.now l → result ≡ list_any (refer.is_shaking o strong) l }
+        ensures { Tells (ReferencesAre self.now) result (λ l. list_any (refer.is_shaking o strong) l) }
     {
         self.tallies.has(o, Kind::Handshake, strong)
     }
@@ -28,8 +29,8 @@ impl ReferenceTable {
     /// The least reference of this strength goes that the process asked for, if there is one.
     #[tactic(auto, unfolding(crate::specs::Room::reference_room))]
     pub fn drop_asked(&mut self, p: u32, o: ObjectId, strong: bool)
-        ensures stands { (l : List Reference) → ReferencesAre self.old l
-            → ReferencesAre self.new (without_first (refer.is_asking p o strong) l) }
+        ensures stands { Makes (ReferencesAre self.old) (ReferencesAre self.new)
+            (λ l. without_first (refer.is_asking p o strong) l) }
         ensures uses { reference_room self.old ≤ reference_room self.new }
     {
         self.tallies
@@ -39,8 +40,8 @@ impl ReferenceTable {
     /// The least reference of this strength goes that stands for an acknowledgement, if there is one.
     #[tactic(auto, unfolding(crate::specs::Room::reference_room))]
     pub fn drop_shaken(&mut self, o: ObjectId, strong: bool)
-        ensures stands { (l : List Reference) → ReferencesAre self.old l
-            → ReferencesAre self.new (without_first (refer.is_shaking o strong) l) }
+        ensures stands { Makes (ReferencesAre self.old) (ReferencesAre self.new)
+            (λ l. without_first (refer.is_shaking o strong) l) }
         ensures uses { reference_room self.old ≤ reference_room self.new }
     {
         self.tallies

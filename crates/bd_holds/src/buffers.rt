@@ -1,6 +1,7 @@
 //! What a buffer refers to.
 
 ghost use Rattle.std.specs.Prelude.{◌≡◌, ◌≤◌, ◌++◌, not, map, filter, List, OnOk};
+ghost use Rattle.bd_keys.specs.Tables.{Makes, Tells};
 ghost use Rattle.bd_space.specs.declared.space.Reference.{Reference};
 ghost use Rattle.bd_space.specs.References as refer;
 
@@ -27,8 +28,8 @@ impl ReferenceTable {
     /// The references go that the buffer held.
     #[tactic(auto, unfolding(crate::specs::Room::reference_room))]
     pub fn drop_buffer(&mut self, b: u32)
-        ensures stands { (l : List Reference) → ReferencesAre self.old l
-            → ReferencesAre self.new (filter (λ r. not (refer.is_of_buffer b r.holder)) l) }
+        ensures stands { Makes (ReferencesAre self.old) (ReferencesAre self.new)
+            (λ l. filter (λ r. not (refer.is_of_buffer b r.holder)) l) }
         ensures uses { reference_room self.old ≤ reference_room self.new }
     {
         self.tallies.take_each(self.items.of(b));
@@ -37,8 +38,8 @@ impl ReferenceTable {
 
     /// The objects to which the buffer refers, put after what is there. Fails for want of memory alone.
     pub fn referred(&self, b: u32, touched: &mut Vec<ObjectId>) -> Result<(), AllocError>
-        ensures { OnOk result ((l : List Reference) → ReferencesAre self.now l → touched.new.items
-            ≡ touched.old.items ++ map (λ r. r.object) (filter (λ r. refer.is_of_buffer b r.holder) l)) }
+        ensures { OnOk result (Tells (ReferencesAre self.now) touched.new.items (λ l. touched.old.items ++ map (λ r. r.object) (filter
+            (λ r. refer.is_of_buffer b r.holder) l))) }
     {
         push_objects(self.items.of(b), touched)
     }

@@ -1,6 +1,7 @@
 //! The objects that a buffer carries.
 
 ghost use Rattle.std.specs.{Prelude.{◌≡◌, List}, Iterator.{YieldsFirst, item_count}};
+ghost use Rattle.bd_keys.specs.Tables.{Tells};
 ghost use Rattle.bd_space.specs.{declared.step.ObjectId.{ObjectId}, declared.space.Reference.{Reference}};
 ghost use Rattle.bd_holds.specs.Carried.{is_carried_by, carried_in};
 
@@ -51,7 +52,7 @@ impl ReferenceTable {
 
     /// The objects that the buffer made there carries, one for each object of its parcel, in their order.
     pub fn carried(&self, b: u32) -> CarriedObjects<'_>
-        ensures { (l : List Reference) → ReferencesAre self.now l → result ≡ carried_in l b }
+        ensures { Tells (ReferencesAre self.now) result (λ l. carried_in l b) }
     {
         CarriedObjects {
             made: b,

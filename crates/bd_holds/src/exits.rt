@@ -2,6 +2,7 @@
 
 ghost use Rattle.std.specs.Prelude.{◌≡◌, ◌≤◌, ◌||◌, ◌&&◌, ◌++◌, true, not, map, filter, List, OnOk, OnErr};
 ghost use Rattle.std.specs.List.{list_any};
+ghost use Rattle.bd_keys.specs.Tables.{Makes};
 ghost use Rattle.bd_space.specs.declared.space.Reference.{Reference};
 ghost use Rattle.bd_space.specs.Words as words;
 ghost use Rattle.bd_space.specs.References as refer;
@@ -19,8 +20,8 @@ impl ReferenceTable {
     /// The references go that go with the process: it asked for them, or they lie in its window.
     #[tactic(auto, unfolding(crate::specs::Room::reference_room))]
     pub fn drop_with_process(&mut self, p: u32)
-        ensures stands { (l : List Reference) → ReferencesAre self.old l → ReferencesAre self.new
-            (filter (λ r. not (refer.is_asked_by p r.holder || refer.is_in_window p r.holder)) l) }
+        ensures stands { Makes (ReferencesAre self.old) (ReferencesAre self.new)
+            (λ l. filter (λ r. not (refer.is_asked_by p r.holder || refer.is_in_window p r.holder)) l) }
         ensures uses { reference_room self.old ≤ reference_room self.new }
     {
         self.tallies.drop_with_process(p);
@@ -30,8 +31,8 @@ impl ReferenceTable {
     /// The references go that an owner has to its own object: what it is to acknowledge, and the context manager's.
     #[tactic(auto, unfolding(crate::specs::Room::reference_room))]
     pub fn drop_of_owner(&mut self, o: ObjectId)
-        ensures stands { (l : List Reference) → ReferencesAre self.old l → ReferencesAre self.new
-            (filter (λ r. not (words.same r.object o && refer.is_of_owner r.holder)) l) }
+        ensures stands { Makes (ReferencesAre self.old) (ReferencesAre self.new)
+            (λ l. filter (λ r. not (words.same r.object o && refer.is_of_owner r.holder)) l) }
         ensures uses { reference_room self.old ≤ reference_room self.new }
     {
         self.tallies.drop_of_owner(o);

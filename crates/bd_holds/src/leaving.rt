@@ -1,6 +1,7 @@
 //! All that is counted for some uses goes.
 
 ghost use Rattle.std.specs.{Prelude.{◌≡◌, ◌≤◌, not, filter, List, if◌then◌else◌}, HashMap.{spare}};
+ghost use Rattle.bd_keys.specs.Tables.{Makes};
 ghost use Rattle.bd_space.specs.declared.space.Reference.{Reference};
 ghost use Rattle.bd_holds.specs.declared.keys.CountKey as key;
 ghost use Rattle.bd_holds.specs.Keys as keys;
@@ -14,8 +15,8 @@ use bd_groups::Members;
 pub(crate) fn drop_use(uses: &mut Counts, totals: &mut Counts, u: UseKey)
     ensures counts { (q : key.CountKey) → count_at uses.new q
         ≡ (if keys.same_use u (keys.use_of q) then 0 else count_at uses.old q) }
-    ensures stands { (l : List Reference) → CountBoth uses.old totals.old l
-        → CountBoth uses.new totals.new (filter (λ r. not (keys.is_of_use u r)) l) }
+    ensures stands { Makes (CountBoth uses.old totals.old) (CountBoth uses.new totals.new)
+        (λ l. filter (λ r. not (keys.is_of_use u r)) l) }
     ensures uses_spare { spare uses.old.counts ≤ spare uses.new.counts }
     ensures totals_spare { spare totals.old.counts ≤ spare totals.new.counts }
 {
@@ -29,8 +30,8 @@ pub(crate) fn drop_use(uses: &mut Counts, totals: &mut Counts, u: UseKey)
 pub(crate) fn drop_each(uses: &mut Counts, totals: &mut Counts, listed: Members<'_, UseKey>)
     ensures counts { (q : key.CountKey) → count_at uses.new q
         ≡ (if keys.is_one_of listed.entry (keys.use_of q) then 0 else count_at uses.old q) }
-    ensures stands { (l : List Reference) → CountBoth uses.old totals.old l
-        → CountBoth uses.new totals.new (filter (λ r. not (keys.is_one_of listed.entry (keys.use_of (keys.use_key r)))) l) }
+    ensures stands { Makes (CountBoth uses.old totals.old) (CountBoth uses.new totals.new)
+        (λ l. filter (λ r. not (keys.is_one_of listed.entry (keys.use_of (keys.use_key r)))) l) }
     ensures uses_spare { spare uses.old.counts ≤ spare uses.new.counts }
     ensures totals_spare { spare totals.old.counts ≤ spare totals.new.counts }
 {

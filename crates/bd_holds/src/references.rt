@@ -1,6 +1,7 @@
 //! Which objects are referred to, and by whom.
 
 ghost use Rattle.std.specs.{Prelude.{◌≡◌, ◌≤◌, ◌&&◌, ◌||◌, List}, List.{list_any}};
+ghost use Rattle.bd_keys.specs.Tables.{Tells};
 ghost use Rattle.bd_space.specs.declared.space.Reference.{Reference};
 ghost use Rattle.bd_space.specs.Words as words;
 ghost use Rattle.bd_space.specs.References as refer;
@@ -22,8 +23,8 @@ impl ReferenceTable {
 
     /// How the object is referred to.
     pub fn hold(&self, o: ObjectId) -> Hold
-        ensures held { (l : List Reference) → ReferencesAre self.now l → result.is_held ≡ refer.held_in l o }
-        ensures strong { (l : List Reference) → ReferencesAre self.now l → result.is_strong ≡ refer.strong_in l o }
+        ensures held { Tells (ReferencesAre self.now) result.is_held (λ l. refer.held_in l o) }
+        ensures strong { Tells (ReferencesAre self.now) result.is_strong (λ l. refer.strong_in l o) }
     {
         let total = self.tallies.total(o);
         Hold {
@@ -34,30 +35,30 @@ impl ReferenceTable {
 
     /// Whether anything refers to the object.
     pub fn is_held(&self, o: ObjectId) -> bool
-        ensures { (l : List Reference) → ReferencesAre self.now l → result ≡ refer.held_in l o }
+        ensures { Tells (ReferencesAre self.now) result (λ l. refer.held_in l o) }
     {
         self.hold(o).is_held
     }
 
     /// Whether anything refers to it strongly.
     pub fn is_strong(&self, o: ObjectId) -> bool
-        ensures { (l : List Reference) → ReferencesAre self.now l → result ≡ refer.strong_in l o }
+        ensures { Tells (ReferencesAre self.now) result (λ l. refer.strong_in l o) }
     {
         self.hold(o).is_strong
     }
 
     /// Whether the process refers to it: it asked for it, or a buffer in its window carries it.
     pub fn refers(&self, p: u32, o: ObjectId) -> bool
-        ensures { (l : List Reference) → ReferencesAre self.now l
-            → result ≡ list_any (λ r. words.same r.object o && refer.gives_name_to p r.holder) l }
+        ensures { Tells (ReferencesAre self.now) result
+            (λ l. list_any (λ r. words.same r.object o && refer.gives_name_to p r.holder) l) }
     {
         self.tallies.names(p, o)
     }
 
     /// The same, strongly.
     pub fn refers_strongly(&self, p: u32, o: ObjectId) -> bool
-        ensures { (l : List Reference) → ReferencesAre self.now l
-            → result ≡ list_any (λ r. r.strong && words.same r.object o && refer.gives_name_to p r.holder) l }
+        ensures { Tells (ReferencesAre self.now) result
+            (λ l. list_any (λ r. r.strong && words.same r.object o && refer.gives_name_to p r.holder) l) }
     {
         self.tallies.names_with(p, o, true)
     }

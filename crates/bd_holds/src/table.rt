@@ -2,6 +2,7 @@
 
 ghost use Rattle.std.specs.Prelude.{◌≡◌, ◌+◌, ◌*◌, ◌≤◌, ◌++◌, ◌∷◌, [], List, OnOk, OnErr};
 ghost use Rattle.std.specs.HashMap.{hash_map_len};
+ghost use Rattle.bd_keys.specs.Tables.{Makes};
 ghost use Rattle.bd_groups.specs.Members.{group_room, member_count};
 ghost use Rattle.bd_space.specs.declared.space.Reference.{Reference};
 
@@ -46,7 +47,7 @@ impl ReferenceTable {
     /// Makes room for so many more. Changes nothing else.
     #[tactic(auto, unfolding(crate::specs::Room::reference_room))]
     pub fn reserve(&mut self, more: usize) -> Result<(), AllocError>
-        ensures stands { (l : List Reference) → ReferencesAre self.old l → ReferencesAre self.new l }
+        ensures stands { Makes (ReferencesAre self.old) (ReferencesAre self.new) (λ l. l) }
         ensures uses { reference_room self.old ≤ reference_room self.new }
         ensures room { OnOk result (more ≤ reference_room self.new) }
         // Where there was no room among what is listed by process, little is of what went.
@@ -71,7 +72,7 @@ impl ReferenceTable {
     #[tactic(auto, unfolding(crate::specs::Room::reference_room))]
     pub fn push(&mut self, r: Reference)
         requires { 1 ≤ reference_room self.old }
-        ensures stands { (l : List Reference) → ReferencesAre self.old l → ReferencesAre self.new (l ++ r ∷ []) }
+        ensures stands { Makes (ReferencesAre self.old) (ReferencesAre self.new) (λ l. l ++ r ∷ []) }
         ensures uses { reference_room self.old ≤ reference_room self.new + 1 }
     {
         self.tallies.push(r);

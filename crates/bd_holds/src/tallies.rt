@@ -2,6 +2,7 @@
 
 ghost use Rattle.std.specs.Prelude.{◌≡◌, ◌≤◌, ◌<◌, ◌+◌, ◌-◌, ◌*◌, ◌^◌, ◌++◌, ◌∷◌, [], nat_lt, Bool, true, List, length, filter, not, ◌||◌, ◌&&◌, OnOk, OnErr};
 ghost use Rattle.std.specs.{List.{list_any}, HashMap.{hash_map_len}};
+ghost use Rattle.bd_keys.specs.Tables.{Makes, Tells};
 ghost use Rattle.bd_groups.specs.Members.{group_room, member_count};
 ghost use Rattle.bd_space.specs.declared.space.Reference as declared;
 ghost use Rattle.bd_space.specs.Words.{same, without_first};
@@ -62,7 +63,7 @@ impl Tallies {
 
     /// Room for so many references more.
     pub(crate) fn reserve(&mut self, more: usize) -> Result<(), AllocError>
-        ensures stands { (l : List declared.Reference) → Tallied self.old l → Tallied self.new l }
+        ensures stands { Makes (Tallied self.old) (Tallied self.new) (λ l. l) }
         ensures uses { tally_room self.old ≤ tally_room self.new }
         ensures room { OnOk result (more ≤ tally_room self.new) }
         // Where there was no room among the uses of processes, few count nothing.
@@ -77,40 +78,39 @@ impl Tallies {
 
     /// Whether there is one of this kind, in this strength.
     pub(crate) fn has(&self, o: ObjectId, kind: Kind, strong: bool) -> bool
-        ensures { (l : List declared.Reference) → Tallied self.now l
-            → result ≡ list_any (λ r. keys.same_key (keys.use_key r) (keys.count_key o kind strong)) l }
+        ensures { Tells (Tallied self.now) result
+            (λ l. list_any (λ r. keys.same_key (keys.use_key r) (keys.count_key o kind strong)) l) }
     {
         self.uses.at(count_key(o, kind, strong)) > 0
     }
 
     // Whether there is one of this kind, in either strength.
     fn has_either(&self, o: ObjectId, kind: Kind) -> bool
-        ensures { (l : List declared.Reference) → Tallied self.now l
-            → result ≡ list_any (keys.is_of_use (keys.to_use o kind)) l }
+        ensures { Tells (Tallied self.now) result (λ l. list_any (keys.is_of_use (keys.to_use o kind)) l) }
     {
         !self.uses.both(to_use(o, kind)).is_empty()
     }
 
     /// How many there are of any kind.
     pub(crate) fn total(&self, o: ObjectId) -> Count
-        ensures any { (l : List declared.Reference) → Tallied self.now l → not (is_empty result)
-            ≡ list_any (λ r. keys.same_use (keys.to_use o kinds.Any) (keys.use_of (keys.total_key r))) l }
-        ensures strong { (l : List declared.Reference) → Tallied self.now l → nat_lt 0 result.strong
-            ≡ list_any (λ r. keys.same_key (keys.total_key r) (keys.count_key o kinds.Any true)) l }
+        ensures any { Tells (Tallied self.now) (not (is_empty result))
+            (λ l. list_any (λ r. keys.same_use (keys.to_use o kinds.Any) (keys.use_of (keys.total_key r))) l) }
+        ensures strong { Tells (Tallied self.now) (nat_lt 0 result.strong)
+            (λ l. list_any (λ r. keys.same_key (keys.total_key r) (keys.count_key o kinds.Any true)) l) }
     {
         self.totals.both(to_use(o, Kind::Any))
     }
 
     /// Whether there is one that gives the process a name.
     pub(crate) fn names(&self, p: u32, o: ObjectId) -> bool
-        ensures { (l : List declared.Reference) → Tallied self.now l → result ≡ list_any (keys.names p o) l }
+        ensures { Tells (Tallied self.now) result (λ l. list_any (keys.names p o) l) }
     {
         self.has_either(o, Kind::Asked(p)) || self.has_either(o, Kind::Carried(p))
     }
 
     /// The same, in one strength.
     pub(crate) fn names_with(&self, p: u32, o: ObjectId, strong: bool) -> bool
-        ensures { (l : List declared.Reference) → Tallied self.now l → result ≡ list_any (keys.names_with p o strong) l }
+        ensures { Tells (Tallied self.now) result (λ l. list_any (keys.names_with p o strong) l) }
     {
         self.has(o, Kind::Asked(p), strong) || self.has(o, Kind::Carried(p), strong)
     }
@@ -160,8 +160,8 @@ impl Tallies {
 
     /// Those of a process go.
     pub(crate) fn drop_with_process(&mut self, p: u32)
-        ensures stands { (l : List declared.Reference) → Tallied self.old l
-            → Tallied self.new (filter (λ r. not (refer.is_asked_by p r.holder || refer.is_in_window p r.holder)) l) }
+        ensures stands { Makes (Tallied self.old) (Tallied self.new)
+            (λ l. filter (λ r. not (refer.is_asked_by p r.holder || refer.is_in_window p r.holder)) l) }
         ensures uses { tally_room self.old ≤ tally_room self.new }
     {
         let group = Group::Process { made: p };
@@ -171,8 +171,8 @@ impl Tallies {
 
     /// Those go that an owner has to its own object.
     pub(crate) fn drop_of_owner(&mut self, o: ObjectId)
-        ensures stands { (l : List declared.Reference) → Tallied self.old l
-            → Tallied self.new (filter (λ r. not (same r.object o && refer.is_of_owner r.holder)) l) }
+        ensures stands { Makes (Tallied self.old) (Tallied self.new)
+            (λ l. filter (λ r. not (same r.object o && refer.is_of_owner r.holder)) l) }
         ensures uses { tally_room self.old ≤ tally_room self.new }
     {
         drop_use(&mut self.uses, &mut self.totals, to_use(o, Kind::Handshake));

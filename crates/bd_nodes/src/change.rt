@@ -1,6 +1,7 @@
 //! Changes of the objects.
 
 ghost use Rattle.std.specs.Prelude.{◌≡◌, ◌≤◌, ◌++◌, ◌∷◌, [], not, filter, length, List};
+ghost use Rattle.bd_keys.specs.Tables.{Makes};
 ghost use Rattle.bd_space.specs.Words as words;
 
 use crate::key::{own_key, owner_group};
@@ -39,9 +40,8 @@ impl NodeTable {
     /// The owner was told of the object: whether it is referred to, and whether strongly.
     #[tactic(auto, unfolding(crate::specs::Room::node_room, crate::specs::Room::node_count))]
     pub fn set_told(&mut self, o: ObjectId, weak: bool, strong: bool)
-        ensures stands { (objects : List Object) → NodesAre self.old objects
-            → NodesAre self.new (words.changed (λ x. words.same x.id o)
-            (λ x. record x { told_weak = weak; told_strong = strong }) objects) }
+        ensures stands { Makes (NodesAre self.old) (NodesAre self.new)
+            (λ objects. words.changed (λ x. words.same x.id o) (λ x. record x { told_weak = weak; told_strong = strong }) objects) }
         ensures uses { Uses self.old self.new 0 }
     {
         if let Some(x) = self.objects.get_mut(&o) {
@@ -53,8 +53,8 @@ impl NodeTable {
     /// The object goes.
     #[tactic(auto, unfolding(crate::specs::Room::node_room, crate::specs::Room::node_count))]
     pub fn remove(&mut self, o: ObjectId)
-        ensures stands { (objects : List Object) → NodesAre self.old objects
-            → NodesAre self.new (filter (λ x. not (words.same x.id o)) objects) }
+        ensures stands { Makes (NodesAre self.old) (NodesAre self.new)
+            (λ objects. filter (λ x. not (words.same x.id o)) objects) }
         ensures uses { Uses self.old self.new 0 }
     {
         if let Some(x) = self.objects.remove(&o) {

@@ -1,6 +1,7 @@
 //! Looking at the objects.
 
 ghost use Rattle.std.specs.Prelude.{◌≡◌, ◌==◌, ◌&&◌, find, List};
+ghost use Rattle.bd_keys.specs.Tables.{Tells};
 ghost use Rattle.bd_space.specs.Words as words;
 ghost use Rattle.bd_nodes.specs.Keys as keys;
 
@@ -29,21 +30,21 @@ impl NodeTable {
 
     /// The object with this identity.
     pub fn object(&self, o: ObjectId) -> Option<Object>
-        ensures { (objects : List Object) → NodesAre self.now objects → result ≡ refer.object_in objects o }
+        ensures { Tells (NodesAre self.now) result (λ objects. refer.object_in objects o) }
     {
         self.objects.get(&o).copied()
     }
 
     /// Whether the process owns the object.
     pub fn owns(&self, p: u32, o: ObjectId) -> bool
-        ensures { (objects : List Object) → NodesAre self.now objects → result ≡ refer.owned_in objects p o }
+        ensures { Tells (NodesAre self.now) result (λ objects. refer.owned_in objects p o) }
     {
         self.own_object(p, o).is_some()
     }
 
     /// The process's own object with this ptr.
     pub fn own_with_ptr(&self, p: u32, ptr: u64) -> Option<Object>
-        ensures { (objects : List Object) → NodesAre self.now objects → result ≡ refer.own_in objects p ptr }
+        ensures { Tells (NodesAre self.now) result (λ objects. refer.own_in objects p ptr) }
     {
         let o = self.owns.get(WordKey {
             process: p,
@@ -54,16 +55,16 @@ impl NodeTable {
 
     /// The object of this identity, if the process owns it.
     pub fn own_object(&self, p: u32, o: ObjectId) -> Option<Object>
-        ensures { (objects : List Object) → NodesAre self.now objects
-            → result ≡ find (λ x. words.same x.id o && (x.owner == p)) objects }
+        ensures { Tells (NodesAre self.now) result
+            (λ objects. find (λ x. words.same x.id o && (x.owner == p)) objects) }
     {
         owned(self.object(o), p)
     }
 
     /// The process's own object with this ptr and this cookie.
     pub fn own_with(&self, p: u32, ptr: u64, cookie: u64) -> Option<Object>
-        ensures { (objects : List Object) → NodesAre self.now objects
-            → result ≡ find (λ x. (x.owner == p) && (x.ptr == ptr) && (x.cookie == cookie)) objects }
+        ensures { Tells (NodesAre self.now) result
+            (λ objects. find (λ x. (x.owner == p) && (x.ptr == ptr) && (x.cookie == cookie)) objects) }
     {
         with_cookie(self.own_with_ptr(p, ptr), cookie)
     }

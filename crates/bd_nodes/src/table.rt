@@ -1,6 +1,7 @@
 //! The table, and its memory.
 
 ghost use Rattle.std.specs.Prelude.{◌≡◌, ◌≤◌, ◌+◌, ◌*◌, [], List, length, OnOk, OnErr, IfOk};
+ghost use Rattle.bd_keys.specs.Tables.{Tells};
 
 use crate::key::owner_group;
 use bd_groups::Groups;
@@ -91,7 +92,7 @@ impl NodeTable {
     #[tactic(auto, unfolding(crate::specs::Room::node_count))]
     pub fn len(&self) -> usize
         ensures count { result ≡ node_count self.now }
-        ensures objects { (objects : List Object) → NodesAre self.now objects → result ≡ length objects }
+        ensures objects { Tells (NodesAre self.now) result (λ objects. length objects) }
     {
         self.objects.len()
     }

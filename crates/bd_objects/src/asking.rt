@@ -1,6 +1,7 @@
 //! What a process asks for itself: `BC_INCREFS`, `BC_ACQUIRE`, `BC_RELEASE`, `BC_DECREFS`, and its acknowledgements.
 
 ghost use Rattle.std.specs.Prelude.{◌≡◌, ◌==◌, ◌≤◌, ◌∷◌, [], if◌then◌else◌, List, Option, Result, OnOk, OnErr};
+ghost use Rattle.bd_keys.specs.Tables as tables;
 ghost use Rattle.bd_space.specs.Words.{first_of};
 ghost use Rattle.bd_space.specs.Asking as asking;
 ghost use Rattle.bd_space.specs.{Names.{named_in as named_in_list}, declared.space.Name.{Name}};
@@ -14,9 +15,8 @@ use bd_uapi::Note;
 
 /// The object that the process means by the number: 0 is the context manager's while there is one.
 fn asked_in(manager: Option<ObjectId>, names: &NameTable, p: u32, n: u32) -> Option<ObjectId>
-    ensures { (l : List Name) → NamesAre names.now l → result ≡ (if n == 0
-        then first_of (manager ∷ named_in_list l p 0 ∷ [])
-        else named_in_list l p n) }
+    ensures { tables.Tells (NamesAre names.now) result
+        (λ l. if n == 0 then first_of (manager ∷ named_in_list l p 0 ∷ []) else named_in_list l p n) }
 {
     match manager {
         Some(o) if n == 0 => Some(o),

@@ -2,6 +2,7 @@
 //! receiver gets, and the flat objects as the receiver sees them.
 
 ghost use Rattle.std.specs.Prelude.{◌≡◌, ◌≤◌, ◌+◌, ◌++◌, ◌∷◌, [], length, List, None, OnOk, OnErr};
+ghost use Rattle.bd_keys.specs.Tables.{Makes};
 ghost use Rattle.bd_space.specs.Delivery as delivery;
 ghost use Rattle.bd_space.specs.Parcels as translations;
 ghost use Rattle.bd_space.specs.declared.space.Reference.{Reference};
@@ -64,8 +65,8 @@ fn carried_reference(place: u32, q: u32, index: usize, x: &Item) -> Reference
 /// One reference an item, held by the buffer of this place in the process's window.
 fn add_carried(references: &mut ReferenceTable, place: u32, q: u32, items: &[Item])
     requires { length items.now ≤ room_in references.old }
-    ensures stands { (l : List Reference) → ReferencesAre references.old l
-        → ReferencesAre references.new (l ++ delivery.buffer_references place q 0 items.now None) }
+    ensures stands { Makes (ReferencesAre references.old) (ReferencesAre references.new)
+        (λ l. l ++ delivery.buffer_references place q 0 items.now None) }
     ensures uses { room_in references.old ≤ room_in references.new + length items.now }
 {
     for (i, x) in items.iter().enumerate() {
@@ -82,8 +83,8 @@ fn add_target(
     target: Option<ObjectId>,
 )
     requires { 1 ≤ room_in references.old }
-    ensures stands { (l : List Reference) → ReferencesAre references.old l
-        → ReferencesAre references.new (l ++ delivery.buffer_references place q index [] target) }
+    ensures stands { Makes (ReferencesAre references.old) (ReferencesAre references.new)
+        (λ l. l ++ delivery.buffer_references place q index [] target) }
     ensures uses { room_in references.old ≤ room_in references.new + 1 }
 {
     if let Some(o) = target {
@@ -107,8 +108,8 @@ fn add_references(
     target: Option<ObjectId>,
 )
     requires { length items.now + 1 ≤ room_in references.old }
-    ensures stands { (l : List Reference) → ReferencesAre references.old l
-        → ReferencesAre references.new (l ++ delivery.buffer_references place q 0 items.now target) }
+    ensures stands { Makes (ReferencesAre references.old) (ReferencesAre references.new)
+        (λ l. l ++ delivery.buffer_references place q 0 items.now target) }
     ensures uses { room_in references.old ≤ room_in references.new + (length items.now + 1) }
 {
     add_carried(references, place, q, items);

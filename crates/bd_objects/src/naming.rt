@@ -3,6 +3,7 @@
 
 ghost use Rattle.std.specs.Prelude.{◌≡◌, ◌==◌, ◌≤◌, ◌++◌, length, map, fold, false, List, Option, OnOk, OnErr};
 ghost use Rattle.std.specs.List.{list_any};
+ghost use Rattle.bd_keys.specs.Tables.{Makes, Tells};
 ghost use Rattle.bd_space.specs.References as refer;
 ghost use Rattle.bd_space.specs.Names as names_of;
 ghost use Rattle.bd_space.specs.{Parcels.{object_of_item}, declared.space.Name.{Name}, declared.space.Object.{Object}};
@@ -59,7 +60,7 @@ pub(crate) fn give_asked_name(
     requires { 1 ≤ name_room names.old }
     ensures ok { OnOk result ((objects : List Object) (l : List Name) → NodesAre nodes.now objects
         → NamesAre names.old l → NamesAre names.new (with_other_name manager objects p l o)) }
-    ensures err { OnErr result ((l : List Name) → NamesAre names.old l → NamesAre names.new l) }
+    ensures err { OnErr result (Makes (NamesAre names.old) (NamesAre names.new) (λ l. l)) }
     ensures other { OnErr result ((objects : List Object) → NodesAre nodes.now objects → refer.owned_in objects p o ≡ false) }
     ensures full { OnErr result ((l : List Name) → NamesAre names.old l → IsFull (names_of.is_managers manager o) p l o) }
     ensures uses { Uses names.old names.new 1 }
@@ -93,8 +94,7 @@ fn made_by<'a>(made: &'a [Object], p: u32) -> &'a [Object]
 
 /// Whether the process owns the object, one of these or one of those that are being made.
 fn is_own(nodes: &NodeTable, made: &[Object], p: u32, o: ObjectId) -> bool
-    ensures { (objects : List Object) → NodesAre nodes.now objects
-        → result ≡ refer.owned_in (objects ++ made.now) p o }
+    ensures { Tells (NodesAre nodes.now) result (λ objects. refer.owned_in (objects ++ made.now) p o) }
 {
     nodes.owns(p, o) || owned_in(made, p, o)
 }

@@ -1,6 +1,7 @@
 //! The objects that a parcel sends.
 
 ghost use Rattle.std.specs.Prelude.{◌≡◌, ◌==◌, ◌<◌, ◌%◌, ◌^◌, ◌++◌, length, List, Option, Result};
+ghost use Rattle.bd_keys.specs.Tables.{Tells};
 ghost use Rattle.bd_space.specs.References as refer;
 ghost use Rattle.bd_space.specs.Parcels as parcels;
 ghost use Rattle.bd_space.specs.declared.space.Object.{Object};
@@ -22,8 +23,7 @@ fn handle_in(binder: u64) -> u32
 
 /// The process's own object with this ptr, one of these or one of those that are being made.
 fn own_or_made(nodes: &NodeTable, made: &Made, p: u32, ptr: u64) -> Option<Object>
-    ensures { (objects : List Object) → NodesAre nodes.now objects
-        → result ≡ refer.own_in (objects ++ made_items made.now) p ptr }
+    ensures { Tells (NodesAre nodes.now) result (λ objects. refer.own_in (objects ++ made_items made.now) p ptr) }
 {
     match nodes.own_with_ptr(p, ptr) {
         Some(x) => Some(x),

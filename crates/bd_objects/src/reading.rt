@@ -2,6 +2,7 @@
 
 ghost use Rattle.std.specs.Prelude.{◌≡◌, ◌==◌, ◌≤◌, ◌+◌, ◌*◌, ◌++◌, ℕ, List, length, vec_len, vec_capacity};
 ghost use Rattle.std.specs.List.{flat_map};
+ghost use Rattle.bd_keys.specs.Tables as tables;
 ghost use Rattle.bd_space.specs.{Words.{changed, when, is_some_and, option_to_list, same as same_object}, Todo.{notice_of}};
 ghost use Rattle.bd_space.specs.References as refer;
 ghost use Rattle.bd_space.specs.ReadItems as reading;
@@ -29,8 +30,8 @@ fn return_when(test: bool, r: Return) -> Option<Return>
 
 /// What the owner of this object is told, by the references as they stand.
 fn notice_returns_of(references: &ReferenceTable, x: &Object) -> [Option<Return>; 4]
-    ensures { (l : List Reference) → ReferencesAre references.now l
-        → flat_map option_to_list result ≡ returns.notice_returns l x.now }
+    ensures { tables.Tells (ReferencesAre references.now) (flat_map option_to_list result)
+        (λ l. returns.notice_returns l x.now) }
 {
     let Hold { is_held, is_strong } = references.hold(x.id);
     [
@@ -113,8 +114,8 @@ fn add_acknowledgements(
 ) -> u64
     requires room { 2 ≤ room_in references.old }
     requires index { index + 2 ≤ 18446744073709551615 }
-    ensures stands { (l : List Reference) → ReferencesAre references.old l
-        → ReferencesAre references.new (l ++ reading.handshakes_for place index o (owed weak strong)) }
+    ensures stands { tables.Makes (ReferencesAre references.old) (ReferencesAre references.new)
+        (λ l. l ++ reading.handshakes_for place index o (owed weak strong)) }
     ensures index { result ≡ index + length (owed weak strong) }
     ensures uses { room_in references.old ≤ room_in references.new + 2 }
 {

@@ -1,6 +1,7 @@
 //! Processes that open and end, and what they ask to be told.
 
 ghost use Rattle.std.specs.Prelude.{◌≡◌, ◌==◌, ◌≤◌, ◌+◌, ◌++◌, ◌∷◌, [], true, not, filter, List};
+ghost use Rattle.bd_keys.specs.Tables.{Makes};
 ghost use Rattle.bd_space.specs.{Steps.{is_pid}, Words.{changed}, Spam.{detecting}};
 
 use crate::table::{ProcessTable, pid_key};
@@ -26,8 +27,8 @@ impl ProcessTable {
     /// All but this one stay.
     #[tactic(auto, unfolding(crate::specs::Room::process_room))]
     pub fn remove(&mut self, made: u32)
-        ensures stands { (processes : List Process) → ProcessesAre self.old processes
-            → ProcessesAre self.new (filter (λ q. not (q.made == made)) processes) }
+        ensures stands { Makes (ProcessesAre self.old) (ProcessesAre self.new)
+            (λ processes. filter (λ q. not (q.made == made)) processes) }
         ensures uses { process_room self.old ≤ process_room self.new }
     {
         if let Some(i) = self.index_of(made) {
@@ -39,8 +40,8 @@ impl ProcessTable {
     /// This process is told of its own one-way flooding, or no longer. Takes no memory.
     #[tactic(auto, unfolding(crate::specs::Room::process_room))]
     pub fn set_spam_detection(&mut self, made: u32, on: bool)
-        ensures stands { (processes : List Process) → ProcessesAre self.old processes
-            → ProcessesAre self.new (changed (λ q. q.made == made) (detecting on) processes) }
+        ensures stands { Makes (ProcessesAre self.old) (ProcessesAre self.new)
+            (λ processes. changed (λ q. q.made == made) (detecting on) processes) }
         ensures uses { process_room self.old ≤ process_room self.new }
     {
         if let Some(i) = self.index_of(made) {

@@ -1,6 +1,7 @@
 //! Looking at the processes.
 
 ghost use Rattle.std.specs.Prelude.{◌≡◌, ◌<◌, ◌==◌, true, false, nat_le, find, All, List, IfSome, MatchOption, length, slice_index_or};
+ghost use Rattle.bd_keys.specs.Tables.{Tells};
 ghost use Rattle.bd_space.specs.Seats as seats;
 ghost use Rattle.bd_space.specs.Steps.{is_pid};
 
@@ -24,8 +25,7 @@ impl ProcessTable {
 
     /// The process with this identity.
     pub fn made_at(&self, made: u32) -> Option<Process>
-        ensures found { (processes : List Process) → ProcessesAre self.now processes
-            → result ≡ seats.process_in processes made }
+        ensures found { Tells (ProcessesAre self.now) result (λ processes. seats.process_in processes made) }
         ensures pid { IfSome result (λ q. is_pid q.pid ≡ true) }
     {
         list::made_at(self.list.as_slice(), made)
@@ -33,8 +33,7 @@ impl ProcessTable {
 
     /// The process with this pid.
     pub fn with_pid(&self, pid: u32) -> Option<Process>
-        ensures { (processes : List Process) → ProcessesAre self.now processes
-            → result ≡ seats.process_with_pid processes pid }
+        ensures { Tells (ProcessesAre self.now) result (λ processes. seats.process_with_pid processes pid) }
     {
         let made = self.by_pid.get(pid_key(pid))?;
         self.made_at(made)
@@ -42,16 +41,14 @@ impl ProcessTable {
 
     /// The first process that was opened at this place or behind it.
     pub fn next_from(&self, from: u32) -> Option<Process>
-        ensures { (processes : List Process) → ProcessesAre self.now processes
-            → result ≡ find (λ q. nat_le from q.made) processes }
+        ensures { Tells (ProcessesAre self.now) result (λ processes. find (λ q. nat_le from q.made) processes) }
     {
         list::first_from(self.list.as_slice(), from)
     }
 
     /// Whether the process with this identity lives.
     pub fn lives(&self, made: u32) -> bool
-        ensures { (processes : List Process) → ProcessesAre self.now processes
-            → result ≡ seats.lives_in processes made }
+        ensures { Tells (ProcessesAre self.now) result (λ processes. seats.lives_in processes made) }
     {
         self.made_at(made).is_some()
     }

@@ -2,6 +2,7 @@
 
 ghost use Rattle.std.specs.Prelude.{ℕ, ◌≡◌, ◌+◌, ◌<◌, ◌≤◌, ◌==◌, ◌&&◌, ◌++◌, ◌∷◌, [], false, List, length, count_by, is_some, Some, IfSome, OnOk, OnErr};
 ghost use Rattle.std.specs.{List.{list_any}, HashMap.{spare}};
+ghost use Rattle.bd_keys.specs.Tables.{Makes, Tells};
 ghost use Rattle.bd_space.specs.declared.space.Work.{Work};
 ghost use Rattle.bd_space.specs.Words.{is_some_and};
 ghost use Rattle.bd_space.specs.Todo as spec;
@@ -41,7 +42,7 @@ impl Queues {
 
     /// Makes room for so many more. Fails for want of memory.
     pub fn reserve(&mut self, works: usize) -> Result<(), AllocError>
-        ensures stands { (todo : List Work) → Stands self.old todo → Stands self.new todo }
+        ensures stands { Makes (Stands self.old) (Stands self.new) (λ todo. todo) }
         ensures room { OnOk result (works ≤ queue_room self.new) }
         ensures uses { queue_room self.old ≤ queue_room self.new }
         ensures grown { OnErr result (works ≤ queue_room self.old → ⊥) }
@@ -54,7 +55,7 @@ impl Queues {
     fn head_for(&mut self, list: TodoList) -> usize
         requires open { 1 ≤ list_room self.old.chains }
         requires room { 0 < spare self.old.lists.others }
-        ensures stands { (todo : List Work) → Stands self.old todo → Stands self.new todo }
+        ensures stands { Makes (Stands self.old) (Stands self.new) (λ todo. todo) }
         ensures head { head_at self.new.lists list ≡ Some result }
         ensures items { item_room self.new.chains ≡ item_room self.old.chains }
         ensures open { list_room self.old.chains ≤ list_room self.new.chains + 1 }
@@ -71,7 +72,7 @@ impl Queues {
     /// One work item more. Answers its slot.
     pub fn push(&mut self, work: Work) -> usize
         requires { 1 ≤ queue_room self.old }
-        ensures stands { (todo : List Work) → Stands self.old todo → Stands self.new (todo ++ work ∷ []) }
+        ensures stands { Makes (Stands self.old) (Stands self.new) (λ todo. todo ++ work ∷ []) }
         ensures few { (todo : List Work) → Stands self.old todo → length todo < 18446744073709551615 }
         ensures uses { queue_room self.old ≤ queue_room self.new + 1 }
     {
@@ -82,7 +83,7 @@ impl Queues {
     /// The work item in a slot goes, if there is one.
     pub fn remove_at(&mut self, x: usize) -> Option<Work>
         ensures gone { result ≡ work_at self.old x }
-        ensures shows { (rs : List (Row Work)) → Shows self.old rs → Shows self.new (drop_key x rs) }
+        ensures shows { Makes (Shows self.old) (Shows self.new) (λ rs. drop_key x rs) }
         ensures uses { queue_room self.old ≤ queue_room self.new }
     {
         self.chains.remove(x)
@@ -108,7 +109,7 @@ impl Queues {
 
     /// The slot of the first work item on a list.
     pub fn front(&self, list: TodoList) -> Option<usize>
-        ensures any { (todo : List Work) → Stands self.now todo → is_some result ≡ list_any (spec.is_on list) todo }
+        ensures any { Tells (Stands self.now) (is_some result) (λ todo. list_any (spec.is_on list) todo) }
         ensures some { (todo : List Work) → Stands self.now todo → IfSome result (FrontIn self.now todo list) }
     {
         match self.lists.of(list) {
@@ -119,8 +120,8 @@ impl Queues {
 
     /// Whether a call, a reply or a verdict is on a list.
     pub fn has_unread(&self, list: TodoList) -> bool
-        ensures { (todo : List Work) → Stands self.now todo
-            → result ≡ list_any (λ w. spec.is_on list w && spec.keeps_from_calling w.kind) todo }
+        ensures { Tells (Stands self.now) result
+            (λ todo. list_any (λ w. spec.is_on list w && spec.keeps_from_calling w.kind) todo) }
     {
         match self.lists.of(list) {
             Some(head) => self.chains.has_counted(head),
@@ -130,7 +131,7 @@ impl Queues {
 
     /// The work items on a list, oldest first.
     pub fn works_on(&self, list: TodoList) -> Works<'_>
-        ensures { (todo : List Work) → Stands self.now todo → result ≡ spec.work_on todo (Some list) }
+        ensures { Tells (Stands self.now) result (λ todo. spec.work_on todo (Some list)) }
     {
         match self.lists.of(list) {
             Some(head) => self.chains.items_on(head),
@@ -150,7 +151,7 @@ impl Queues {
 
     /// How many were made at this place. Goes over all slots.
     pub fn count_at(&self, place: u32) -> u64
-        ensures { (todo : List Work) → Stands self.now todo → result ≡ count_by (λ w. w.id.place == place) todo }
+        ensures { Tells (Stands self.now) result (λ todo. count_by (λ w. w.id.place == place) todo) }
     {
         let mut count: u64 = 0;
         for x in 0..self.chains.slots() {

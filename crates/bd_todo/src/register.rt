@@ -1,6 +1,7 @@
 //! What is known of all work items together, whatever their lists.
 
 ghost use Rattle.std.specs.Prelude.{ℕ, ◌≡◌, ◌==◌, ◌+◌, ◌<◌, ◌≤◌, ◌∷◌, ◌++◌, [], List, length, count_by, nat_lt, OnOk, OnErr};
+ghost use Rattle.bd_keys.specs.Tables.{Makes};
 ghost use Rattle.bd_space.specs.declared.space.Work.{Work};
 ghost use Rattle.bd_todo.specs.{Rising.{rank}, Registered.{Registered, register_room}};
 
@@ -41,7 +42,7 @@ impl Register {
 
     /// Room for so many more.
     pub fn reserve(&mut self, more: usize) -> Result<(), AllocError>
-        ensures stands { (todo : List Work) → Registered self.old todo → Registered self.new todo }
+        ensures stands { Makes (Registered self.old) (Registered self.new) (λ todo. todo) }
         ensures room { OnOk result (more ≤ register_room self.new) }
         ensures uses { register_room self.old ≤ register_room self.new }
         ensures grown { OnErr result (more ≤ register_room self.old → ⊥) }

@@ -3,6 +3,7 @@
 
 ghost use Rattle.std.specs.Prelude.{ℕ, Bool, true, List, ◌≡◌, ◌&&◌, ◌+◌, ◌≤◌, ◌==◌, [], count_by, not, filter, Some, is_some, OnOk, OnErr, IfSome};
 ghost use Rattle.std.specs.List.{list_any};
+ghost use Rattle.bd_keys.specs.Tables as tables;
 ghost use Rattle.bd_keys.specs.Tables.{AnswersBy};
 ghost use Rattle.bd_space.specs.{declared.space.Work.{Work}, declared.space.WorkKind.{WorkKind}};
 ghost use Rattle.bd_space.specs.Words as words;
@@ -90,7 +91,7 @@ impl WorkTable {
 
     // The work item in a slot goes, if there is one.
     fn remove_at(&mut self, x: usize)
-        ensures rows { (rs : List (Row Work)) → RowsAre self.old rs → RowsAre self.new (drop_key x rs) }
+        ensures rows { tables.Makes (RowsAre self.old) (RowsAre self.new) (λ rs. drop_key x rs) }
         ensures uses { work_room self.old ≤ work_room self.new }
     {
         if let Some(work) = self.queues.remove_at(x) {

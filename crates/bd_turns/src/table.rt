@@ -3,6 +3,7 @@
 
 ghost use Rattle.std.specs.Prelude.{ℕ, Bool, List, ◌≡◌, ◌==◌, ◌≤◌, ◌++◌, ◌∷◌, [], false, not, filter, find, OnOk, OnErr};
 ghost use Rattle.std.specs.List.{list_any};
+ghost use Rattle.bd_keys.specs.Tables as tables;
 ghost use Rattle.bd_space.specs.declared.space.Turn as declared;
 ghost use Rattle.bd_space.specs.Words.{changed, same};
 ghost use Rattle.bd_turns.specs.{Turn.{hand_turn}, Room.{Uses, turn_room}};
@@ -107,7 +108,7 @@ impl TurnTable {
     // A call of this object went. If nothing is on its list now, that is closed when another object's call goes: mostly
     // the next to come is the same object's, and finds it open.
     fn leave(&mut self, object: ObjectId)
-        ensures objects { (rs : List (Row declared.Turn)) → Shows by_object self.old.objects rs → Shows by_object self.new.objects rs }
+        ensures objects { tables.Makes (Shows by_object self.old.objects) (Shows by_object self.new.objects) (λ rs. rs) }
         ensures windows { self.new.windows ≡ self.old.windows }
         ensures spots { self.new.spots ≡ self.old.spots }
         ensures room { lists_room self.old.objects ≤ lists_room self.new.objects }
