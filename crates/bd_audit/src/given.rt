@@ -1,6 +1,6 @@
 //! What the rules give for an entry of a record.
 
-ghost use Rattle.std.specs.Prelude.{◌≡◌, ◌≤◌, IfOk, IfErr};
+ghost use Rattle.std.specs.Prelude.{◌≡◌, IfOk, IfErr};
 ghost use Rattle.bd_engine.specs.Refusals.{IsLiveSeats};
 ghost use Rattle.bd_uapi.specs.declared.fault.Fault.TheVariants as faults;
 ghost use Rattle.bd_space.specs.Histories.{IsHistory, history_in};

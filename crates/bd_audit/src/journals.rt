@@ -1,6 +1,6 @@
 //! Judging a journal as it is read: no entry is kept.
 
-ghost use Rattle.std.specs.Prelude.{◌≡◌, List, [], ℕ, None, IfOk, IfErr};
+ghost use Rattle.std.specs.Prelude.{◌≡◌, [], None, IfOk, IfErr};
 ghost use Rattle.bd_engine.specs.Refusals.{IsLiveSeats};
 ghost use Rattle.bd_space.specs.Histories.{history_of};
 ghost use Rattle.bd_journal.specs.{Cut.{IsUncut, IsUnread}, Reading.{Fails}, Steps.{entries_left, seats_of, whole_left}};

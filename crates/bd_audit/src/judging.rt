@@ -1,6 +1,6 @@
 //! Whether a record is a history.
 
-ghost use Rattle.std.specs.Prelude.{◌≡◌, ◌≤◌, ◌<◌, length, IfOk, IfErr, MatchResult};
+ghost use Rattle.std.specs.Prelude.{◌≡◌, ◌<◌, length, IfOk, IfErr, MatchResult};
 ghost use Rattle.bd_engine.specs.{Follows.{Follows}, Refusals.{IsLiveSeats}};
 ghost use Rattle.bd_space.specs.Histories.{History, IsHistory, history_in};
 ghost use Rattle.bd_audit.specs.Replays as spec;

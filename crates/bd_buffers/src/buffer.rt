@@ -1,6 +1,6 @@
 //! A buffer: its room, its place and its pointer.
 
-ghost use Rattle.std.specs.Prelude.{◌≡◌, ◌+◌, ◌<◌, ◌^◌, ℕ};
+ghost use Rattle.std.specs.Prelude.{◌≡◌, ◌+◌, ◌<◌, ◌^◌};
 ghost use Rattle.bd_space.specs.Windows as room;
 ghost use Rattle.bd_space.specs.Freeing as freeing;
 ghost use Rattle.bd_buffers.specs.Buffer as spec;

@@ -1,6 +1,6 @@
 //! A live engine that C has, the entry of its latest step, which buffers ended by it, which seats had something to read, and which
 //! todo lists were filled or emptied.
-ghost use Rattle.std.specs.Prelude.{◌≡◌, ◌<◌, IfOk, IfErr};
+ghost use Rattle.std.specs.Prelude.{◌<◌, IfOk, IfErr};
 ghost use Rattle.bd_c.specs.Lives.{Begins, IsLiveRefusal, Steps};
 
 use crate::answers::Told;

@@ -163,7 +163,7 @@ pub(crate) fn leave_frames(frames: &mut FrameTable, todo: &WorkTable, seat: u32)
 impl CallTable {
     ghost use Rattle.bd_space.specs.{Space.{Space}, Transactions.{call_out}};
     ghost use Rattle.bd_ways.specs.Tables.{IsAt, Tells, Makes, MakesAt, MakesWhere};
-    ghost use Rattle.bd_calls.specs.{Stands.{Stands, StandsFor}, Stacked.{TellsOfStacked, MakesOfStackedAt}};
+    ghost use Rattle.bd_calls.specs.{Stands.{StandsFor}, Stacked.{TellsOfStacked, MakesOfStackedAt}};
     ghost use Rattle.bd_calls.specs.{Told.{KeepsTold, ReachesFew}, Room.{Uses, UsesNothing, nothing, frame_room, work_room, frame_count}};
     ghost use Rattle.bd_calls.specs.Closing.{IsAmongAt};
     ghost use Rattle.bd_frames.specs.InOrder.{IsInOrder};

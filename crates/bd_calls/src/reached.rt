@@ -13,7 +13,7 @@ impl CallTable {
     ghost use Rattle.bd_space.specs.Space.{Space};
     ghost use Rattle.bd_ways.specs.Tables.{Makes};
     ghost use Rattle.bd_calls.specs.{Marks.{is_among, differs}, Told.{Recalls, KeepsTold, knows_all, ReachesFew, HasRoomToTell, list_room}};
-    ghost use Rattle.bd_calls.specs.{Stands.{Stands, StandsFor}, Room.{Uses, UsesNothing, nothing}};
+    ghost use Rattle.bd_calls.specs.{Stands.{StandsFor}, Room.{UsesNothing}};
 
     /// Makes room for so many todo lists in all that may be filled or emptied before that is told. Fails for want of memory,
     /// and then changes nothing.

@@ -1,8 +1,7 @@
 //! What is kept of the seats from step to step: whether there is anything on the lists that each may read.
 #![tactic(auto)]
 
-ghost use Rattle.std.specs.Prelude.{ℕ, ◌≡◌, ◌==◌, Bool, true, false, ◌||◌, ◌&&◌, not, List, map, if◌then◌else◌, Option, Some, None, IfOk, get_or, length, option_map};
-ghost use Rattle.std.specs.List.{list_any};
+ghost use Rattle.std.specs.Prelude.{ℕ, ◌≡◌, ◌==◌, Bool, true, false, ◌||◌, ◌&&◌, not, List, map, if◌then◌else◌, Option, Some, None, IfOk, option_map};
 ghost use Rattle.bd_space.specs.declared.space.Frame as declared;
 ghost use Rattle.bd_space.specs.declared.space.Thread as threads;
 ghost use Rattle.bd_space.specs.declared.space.TodoList as lists;

@@ -39,13 +39,13 @@ pub struct CallTable {
 }
 
 impl CallTable {
-    ghost use Rattle.bd_space.specs.Space.{Space, opening};
+    ghost use Rattle.bd_space.specs.Space.{opening};
     ghost use Rattle.bd_space.specs.ProcessExits as exits;
     ghost use Rattle.bd_space.specs.ThreadExits as thread_exits;
     ghost use Rattle.bd_space.specs.ReadItems as reading;
-    ghost use Rattle.bd_ways.specs.Tables.{Tells, Makes, MakesAt};
-    ghost use Rattle.bd_calls.specs.Stands.{Stands, StandsFor};
-    ghost use Rattle.bd_calls.specs.{Told.{KeepsTold, ReachesFew}, Room.{Uses, UsesNothing, nothing, HasRoom, HasEach, frame_count}};
+    ghost use Rattle.bd_ways.specs.Tables.{Makes};
+    ghost use Rattle.bd_calls.specs.Stands.{StandsFor};
+    ghost use Rattle.bd_calls.specs.{Told.{KeepsTold, ReachesFew}, Room.{UsesNothing, HasRoom, HasEach, frame_count}};
 
     /// An empty table. Takes no memory.
     pub fn new(alloc: Global) -> CallTable

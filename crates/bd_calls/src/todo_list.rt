@@ -1,8 +1,8 @@
 //! Todo lists: which work items are still to be read, and by whom.
 #![tactic(auto, unfolding(bd_space::specs::Todo::owe, bd_space::specs::Todo::has_unread, bd_space::specs::Todo::list_to_read, crate::specs::Room::rooms, crate::specs::Told::Recalls, crate::specs::Told::HasRoomToTell))]
 
-ghost use Rattle.std.specs.Prelude.{ℕ, Bool, List, ◌≡◌, ◌==◌, ◌||◌, ◌&&◌, ◌+◌, ◌<◌, ◌≤◌, ◌^◌, ◌++◌, ◌∷◌, [], false, not, nat_le, map, filter, find, reverse, length, count_by, Option, Some, None, option_map, IfOk, OnOk, OnErr, vec_len, vec_capacity};
-ghost use Rattle.std.specs.{List.{list_any, slice_get}, Option.{is_none}};
+ghost use Rattle.std.specs.Prelude.{Bool, List, ◌≡◌, ◌==◌, ◌&&◌, ◌<◌, ◌≤◌, not, filter, Option, Some, None};
+ghost use Rattle.std.specs.{List.{slice_get}, Option.{is_none}};
 ghost use Rattle.bd_keys.specs.Tables.{AnswersBy};
 ghost use Rattle.bd_space.specs.{declared.space.WorkKind.{WorkKind}, Frames.{innermost_in}, Words.{is_some_and}};
 ghost use Rattle.bd_space.specs.Todo as spec;
@@ -44,7 +44,7 @@ fn reads_in(frames: &FrameTable, todo: &WorkTable, thread: &Thread) -> Option<To
 impl CallTable {
     ghost use Rattle.bd_space.specs.{declared.space.Object.{Object}, Space.{Space}, Histories.{is_ready}};
     ghost use Rattle.bd_ways.specs.Tables.{Tells, Makes, MakesAt};
-    ghost use Rattle.bd_calls.specs.{Ready.{IsSeen}, Stands.{Stands, StandsFor}};
+    ghost use Rattle.bd_calls.specs.{Ready.{IsSeen}, Stands.{StandsFor}};
     ghost use Rattle.bd_calls.specs.{Told.{KeepsTold, ReachesFew}, Room.{Uses, UsesNothing, nothing, work_room}};
 
     /// Whether an unread call, reply or verdict on a thread's own list keeps it from calling.

@@ -1,7 +1,7 @@
 //! One-way calls: of one object's, one is due or handed out at a time, in the order in which they were made.
 #![tactic(auto, unfolding(bd_space::specs::Turns::ripen, bd_ways::specs::Local::ripen_of, crate::specs::Room::rooms, crate::specs::Told::Recalls, crate::specs::Told::HasRoomToTell))]
 
-ghost use Rattle.std.specs.Prelude.{ℕ, Bool, List, ◌≡◌, ◌==◌, ◌||◌, ◌&&◌, ◌+◌, ◌<◌, ◌≤◌, ◌^◌, ◌++◌, ◌∷◌, [], false, not, All, nat_le, map, filter, find, reverse, length, count_by, Option, Some, None, option_map, IfOk, OnOk, OnErr, vec_len, vec_capacity};
+ghost use Rattle.std.specs.Prelude.{List, ◌≡◌, ◌==◌, ◌&&◌, ◌+◌, ◌<◌, ◌≤◌, ◌++◌, false, not, All, map, filter, Option, Some};
 ghost use Rattle.std.specs.{Option.{option_to_list}, List.{list_any}};
 ghost use Rattle.bd_space.specs.Words.{first_of, is_some_and};
 ghost use Rattle.bd_space.specs.Todo as works;
@@ -74,9 +74,9 @@ pub(crate) fn lose_turns(turns: &mut TurnTable, todo: &WorkTable, list: TodoList
 impl CallTable {
     ghost use Rattle.bd_space.specs.{declared.space.Buffer.{Buffer}, Space.{Space}, Delivery.{add_buffer}};
     ghost use Rattle.bd_space.specs.Freeing.{without_buffer};
-    ghost use Rattle.bd_ways.specs.Tables.{Tells, Makes, MakesAt};
-    ghost use Rattle.bd_calls.specs.Stands.{Stands, StandsFor};
-    ghost use Rattle.bd_calls.specs.{Told.{KeepsTold, ReachesFew}, Room.{Uses, UsesNothing, nothing, turn_room, work_room, turn_count}};
+    ghost use Rattle.bd_ways.specs.Tables.{Makes, MakesAt};
+    ghost use Rattle.bd_calls.specs.Stands.{StandsFor};
+    ghost use Rattle.bd_calls.specs.{Told.{KeepsTold, ReachesFew}, Room.{Uses, UsesNothing, nothing, turn_room, work_room}};
 
     /// The one-way call of a new buffer comes in, if it is one.
     pub fn add_turn(&mut self, turn: Option<Turn>)

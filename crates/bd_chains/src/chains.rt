@@ -38,7 +38,7 @@ fn lowered(count: u64, is_so: bool) -> u64
 }
 
 impl<T: Copy> Chains<T> {
-    ghost use Rattle.slab.specs.Slab.{get, slab_len, HasRoomFor};
+    ghost use Rattle.slab.specs.Slab.{get, slab_len};
     ghost use Rattle.bd_chains.specs.Chain.{is_at, next_from};
     ghost use Rattle.bd_chains.specs.Rows.{Row, ring, values_on, counted_on, hits, drop_key};
     ghost use Rattle.bd_chains.specs.Columns.{next_at, prev_at, shown, value_at, count_at, is_open, is_there, Holds, item_room, list_room, room_of};

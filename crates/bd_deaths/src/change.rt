@@ -1,6 +1,6 @@
 //! Changes of one notification, and of those that are read.
 
-ghost use Rattle.std.specs.Prelude.{◌≡◌, ◌==◌, ◌≤◌, not, filter, vec_len, vec_capacity, List, true};
+ghost use Rattle.std.specs.Prelude.{◌≡◌, ◌==◌, ◌≤◌, not, filter, vec_len, vec_capacity, true};
 ghost use Rattle.bd_keys.specs.Tables.{AnswersBy, Makes};
 ghost use Rattle.bd_space.specs.Words.{changed, is_some_and};
 ghost use Rattle.bd_space.specs.Deaths as deaths_of;

@@ -1,8 +1,7 @@
 //! The end of a process: its own notifications go.
 
-ghost use Rattle.std.specs.Prelude.{◌==◌, ◌&&◌, not, filter, List};
+ghost use Rattle.std.specs.Prelude.{◌==◌, ◌&&◌, not, filter};
 ghost use Rattle.bd_keys.specs.Tables.{Makes};
-ghost use Rattle.bd_space.specs.declared.space.DeathNotification as declared;
 ghost use Rattle.bd_deaths.specs.Due as due;
 
 use crate::list::DeathList;

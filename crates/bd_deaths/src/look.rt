@@ -1,9 +1,8 @@
 //! Looks by the step that made a notification, by process and cookie, and by process and object.
 
-ghost use Rattle.std.specs.Prelude.{◌≡◌, ◌==◌, if◌then◌else◌, find, count_by, option_map, List, None};
+ghost use Rattle.std.specs.Prelude.{◌≡◌, ◌==◌, if◌then◌else◌, find, count_by, option_map, None};
 ghost use Rattle.bd_keys.specs.Tables.{Tells};
 ghost use Rattle.bd_space.specs.Deaths as deaths_of;
-ghost use Rattle.bd_space.specs.declared.space.DeathNotification as declared;
 ghost use Rattle.bd_deaths.specs.Only.{only_uncleared_in};
 ghost use Rattle.bd_deaths.specs.Slots as spec;
 

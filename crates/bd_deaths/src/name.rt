@@ -1,10 +1,9 @@
 //! What is on a process's name of an object, and goes with the name.
 
-ghost use Rattle.std.specs.{Prelude.{◌≡◌, ◌==◌, ◌&&◌, ◌||◌, not, filter, List}, List.{list_any}};
+ghost use Rattle.std.specs.{Prelude.{◌≡◌, ◌==◌, ◌&&◌, ◌||◌, not, filter}, List.{list_any}};
 ghost use Rattle.bd_keys.specs.Tables.{Makes, Tells};
 ghost use Rattle.bd_space.specs.Deaths as deaths_of;
 ghost use Rattle.bd_ways.specs.Local as local;
-ghost use Rattle.bd_space.specs.declared.space.DeathNotification as declared;
 ghost use Rattle.bd_deaths.specs.Slots as spec;
 
 use crate::key::name_key;

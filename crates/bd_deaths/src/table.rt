@@ -1,11 +1,10 @@
 //! The table: its memory and its changes.
 
-ghost use Rattle.std.specs.Prelude.{◌≡◌, ◌≤◌, ◌++◌, ◌∷◌, [], not, filter, true, List, OnOk, OnErr};
+ghost use Rattle.std.specs.Prelude.{◌≡◌, ◌≤◌, ◌++◌, ◌∷◌, [], not, filter, true, OnOk, OnErr};
 ghost use Rattle.bd_keys.specs.Tables.{Makes};
 ghost use Rattle.bd_space.specs.Words.{changed};
 ghost use Rattle.bd_space.specs.Deaths as deaths_of;
 ghost use Rattle.bd_space.specs.ReadItems as reading;
-ghost use Rattle.bd_space.specs.declared.space.DeathNotification as declared;
 ghost use Rattle.bd_space.specs.declared.space.Phase.TheVariants.{Told};
 
 use crate::list::DeathList;

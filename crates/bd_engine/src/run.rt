@@ -1,6 +1,6 @@
 //! The run of a request: one step, or for a write one for each of its commands.
 
-ghost use Rattle.std.specs.Prelude.{◌≡◌, ◌≤◌, ◌<◌, true, Some, length, IfOk, IfErr, OnErr, MatchOption};
+ghost use Rattle.std.specs.Prelude.{◌≡◌, ◌<◌, true, Some, IfOk, IfErr, OnErr, MatchOption};
 ghost use Rattle.bd_ways.specs.Words as words;
 ghost use Rattle.bd_space.specs.{declared.step.Request.{Request}, declared.step.Request.TheVariants.{Write}};
 ghost use Rattle.bd_space.specs.{Space.{Space}, Histories.{HasPlace, is_at_limit}};

@@ -1,6 +1,6 @@
 //! The frames on the way from a frame by parents.
 
-ghost use Rattle.std.specs.{Prelude.{ℕ, ◌≡◌, List, reverse}, Iterator.{YieldsFirst, item_count}};
+ghost use Rattle.std.specs.{Prelude.{◌≡◌, List, reverse}, Iterator.{YieldsFirst, item_count}};
 ghost use Rattle.bd_space.specs.declared.space.Frame as declared;
 ghost use Rattle.bd_space.specs.Frames as spec;
 ghost use Rattle.bd_frames.specs.Places.{RiseIf};

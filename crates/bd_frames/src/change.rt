@@ -1,6 +1,6 @@
 //! Changes of frames where they stand.
 
-ghost use Rattle.std.specs.Prelude.{ℕ, Bool, ◌≡◌, ◌==◌, ◌≤◌, map, vec_len, vec_capacity};
+ghost use Rattle.std.specs.Prelude.{◌≡◌, ◌==◌, ◌≤◌, map, vec_len, vec_capacity};
 ghost use Rattle.bd_keys.specs.Tables.{AnswersBy};
 ghost use Rattle.bd_space.specs.declared.space.Frame as declared;
 ghost use Rattle.bd_space.specs.Frames as spec;

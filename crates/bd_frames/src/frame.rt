@@ -1,6 +1,6 @@
 //! What is looked for among frames. Where a thread's stack isn't known, its innermost is looked for from the newest on.
 
-ghost use Rattle.std.specs.Prelude.{ℕ, Bool, true, ◌≡◌, ◌==◌, ◌&&◌, ◌≤◌, ◌++◌, ◌∷◌, [], map, filter, find, vec_len, OnOk};
+ghost use Rattle.std.specs.Prelude.{true, ◌≡◌, ◌==◌, ◌&&◌, ◌≤◌, ◌++◌, ◌∷◌, [], map, filter, find, vec_len, OnOk};
 ghost use Rattle.std.specs.List.{list_any};
 ghost use Rattle.bd_space.specs.Frames as spec;
 ghost use Rattle.bd_frames.specs.{Places.{IsAfter}, InOrder.{IsBefore}, Children.{is_left_alone}};

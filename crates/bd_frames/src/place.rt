@@ -1,6 +1,6 @@
 //! Where the frames stand that are looked for.
 
-ghost use Rattle.std.specs.Prelude.{ℕ, Bool, ◌≤◌, ◌<◌, ◌+◌, IfSome, length};
+ghost use Rattle.std.specs.Prelude.{◌≤◌, ◌<◌, ◌+◌, IfSome, length};
 ghost use Rattle.bd_space.specs.Frames as spec;
 ghost use Rattle.bd_ways.specs.Ranges.{IsWithin};
 ghost use Rattle.bd_frames.specs.Places.{IsRising, RiseIf, IsNewestAt};

@@ -1,7 +1,7 @@
 //! Each thread's frames as a stack, linked by the places where they were made.
 #![tactic(auto, unfolding(crate::specs::Room::stack_room))]
 
-ghost use Rattle.std.specs.Prelude.{ℕ, Bool, true, false, List, Option, ◌≡◌, ◌==◌, ◌≤◌, ◌<◌, ◌+◌, ◌++◌, ◌∷◌, [], Some, None, length, slice_index_or, vec_len, vec_capacity, if◌then◌else◌, map, set, IfSome, OnOk, OnErr};
+ghost use Rattle.std.specs.Prelude.{ℕ, true, false, List, Option, ◌≡◌, ◌==◌, ◌≤◌, ◌<◌, ◌+◌, ◌++◌, ◌∷◌, [], Some, None, length, slice_index_or, vec_len, vec_capacity, if◌then◌else◌, map, set, IfSome, OnOk, OnErr};
 ghost use Rattle.std.specs.{List.{remove as list_remove}, HashMap.{spare}};
 ghost use Rattle.bd_keys.specs.Tables.{Makes};
 ghost use Rattle.bd_space.specs.declared.space.Frame as declared;

@@ -1,7 +1,7 @@
 //! The table: its room, its changes and what it tells.
 #![tactic(auto, unfolding(crate::specs::Room::frame_room, crate::specs::Room::frame_count))]
 
-ghost use Rattle.std.specs.Prelude.{ℕ, Bool, true, List, ◌≡◌, ◌==◌, ◌≤◌, ◌<◌, ◌+◌, ◌++◌, ◌∷◌, [], not, map, filter, find, reverse, length, vec_len, OnOk, OnErr};
+ghost use Rattle.std.specs.Prelude.{true, List, ◌≡◌, ◌≤◌, ◌<◌, ◌+◌, ◌++◌, ◌∷◌, [], not, map, filter, find, reverse, length, vec_len, OnOk, OnErr};
 ghost use Rattle.std.specs.List.{list_any, remove as list_remove};
 ghost use Rattle.bd_keys.specs.Tables as tables;
 ghost use Rattle.bd_space.specs.declared.space.Frame as declared;

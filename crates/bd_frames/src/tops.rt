@@ -1,6 +1,6 @@
 //! Where each thread's innermost frame was made.
 
-ghost use Rattle.std.specs.Prelude.{ℕ, Bool, true, ◌≡◌, ◌==◌, ◌≤◌, ◌<◌, ◌+◌, Some, if◌then◌else◌};
+ghost use Rattle.std.specs.Prelude.{ℕ, true, ◌≡◌, ◌==◌, ◌≤◌, ◌<◌, ◌+◌, Some, if◌then◌else◌};
 ghost use Rattle.std.specs.{Option.{option_and_then}, HashMap.{spare}};
 ghost use Rattle.bd_space.specs.Words.{is_some_and};
 ghost use Rattle.bd_frames.specs.Children.{kept_at};

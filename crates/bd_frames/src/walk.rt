@@ -1,6 +1,6 @@
 //! The way down a thread's stack, from its innermost frame to the next older one, and so on.
 
-ghost use Rattle.std.specs.Prelude.{ℕ, Bool, List, Option, ◌≡◌, ◌≤◌, ◌<◌, ◌++◌, IfSome, OnOk, length, take, drop, map, filter, reverse, vec_len, vec_capacity};
+ghost use Rattle.std.specs.Prelude.{Option, ◌≡◌, ◌≤◌, ◌<◌, ◌++◌, IfSome, OnOk, length, take, drop, map, filter, reverse, vec_len, vec_capacity};
 ghost use Rattle.std.specs.{Option.{option_and_then}, List.{slice_get}};
 ghost use Rattle.bd_space.specs.Frames as spec;
 ghost use Rattle.bd_frames.specs.Places.{IsRising};

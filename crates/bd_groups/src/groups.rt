@@ -1,6 +1,6 @@
 //! Members by their groups.
 
-ghost use Rattle.std.specs.Prelude.{ℕ, ◌≡◌, ◌+◌, ◌≤◌, ◌<◌, ◌∷◌, [], true, false, Some, None, length, nat_lt, ◌&&◌, ◌/◌, IfOk, OnOk, OnErr, if◌then◌else◌};
+ghost use Rattle.std.specs.Prelude.{ℕ, ◌≡◌, ◌+◌, ◌≤◌, ◌<◌, ◌∷◌, [], false, Some, None, length, nat_lt, ◌&&◌, ◌/◌, IfOk, OnOk, OnErr, if◌then◌else◌};
 ghost use Rattle.std.specs.HashMap.{spare};
 ghost use Rattle.bd_groups.specs.declared.group.Group as group;
 ghost use Rattle.bd_groups.specs.Group as groups;

@@ -1,6 +1,6 @@
 //! The numbers of each process's names, in groups; some may be of names that are gone.
 
-ghost use Rattle.std.specs.Prelude.{◌≡◌, ◌≤◌, ◌+◌, ◌*◌, List, IfOk, OnOk, OnErr};
+ghost use Rattle.std.specs.Prelude.{◌≤◌, ◌+◌, ◌*◌, List, IfOk, OnOk, OnErr};
 ghost use Rattle.std.specs.HashMap.{hash_map_len};
 ghost use Rattle.bd_space.specs.declared.space.Name as declared;
 ghost use Rattle.bd_groups.specs.Members.{group_room, member_count};

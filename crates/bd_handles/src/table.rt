@@ -1,6 +1,6 @@
 //! The table of names.
 
-ghost use Rattle.std.specs.Prelude.{◌≡◌, ◌==◌, ◌≤◌, ◌<◌, ◌+◌, ◌-◌, ◌*◌, ◌&&◌, ◌++◌, ◌∷◌, not, filter, vec_len, vec_capacity, List, [], None, OnOk, OnErr};
+ghost use Rattle.std.specs.Prelude.{◌≡◌, ◌==◌, ◌≤◌, ◌<◌, ◌+◌, ◌-◌, ◌*◌, ◌&&◌, ◌++◌, ◌∷◌, not, filter, vec_len, List, [], None, OnOk, OnErr};
 ghost use Rattle.std.specs.HashMap.{hash_map_len};
 ghost use Rattle.bd_keys.specs.Tables.{Makes};
 ghost use Rattle.bd_groups.specs.Members.{group_room, member_count};

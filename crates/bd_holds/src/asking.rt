@@ -1,8 +1,8 @@
 //! What a process asked for itself, and what an owner has yet to acknowledge.
 
-ghost use Rattle.std.specs.{Prelude.{◌≡◌, ◌≤◌, List}, List.{list_any}};
+ghost use Rattle.std.specs.{Prelude.{◌≤◌}, List.{list_any}};
 ghost use Rattle.bd_keys.specs.Tables.{Makes, Tells};
-ghost use Rattle.bd_space.specs.{declared.space.Reference.{Reference}, Words.{without_first}};
+ghost use Rattle.bd_space.specs.{Words.{without_first}};
 ghost use Rattle.bd_space.specs.References as refer;
 
 use crate::keys::{Kind, count_key};

@@ -1,8 +1,7 @@
 //! What a buffer refers to.
 
-ghost use Rattle.std.specs.Prelude.{◌≡◌, ◌≤◌, ◌++◌, not, map, filter, List, OnOk};
+ghost use Rattle.std.specs.Prelude.{◌≡◌, ◌≤◌, ◌++◌, not, map, filter, OnOk};
 ghost use Rattle.bd_keys.specs.Tables.{Makes, Tells};
-ghost use Rattle.bd_space.specs.declared.space.Reference.{Reference};
 ghost use Rattle.bd_space.specs.References as refer;
 
 use crate::held::HeldReferences;

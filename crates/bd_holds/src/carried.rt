@@ -2,7 +2,7 @@
 
 ghost use Rattle.std.specs.{Prelude.{◌≡◌, List}, Iterator.{YieldsFirst, item_count}};
 ghost use Rattle.bd_keys.specs.Tables.{Tells};
-ghost use Rattle.bd_space.specs.{declared.step.ObjectId.{ObjectId}, declared.space.Reference.{Reference}};
+ghost use Rattle.bd_space.specs.{declared.step.ObjectId.{ObjectId}};
 ghost use Rattle.bd_holds.specs.Carried.{is_carried_by, carried_in};
 
 use crate::held::HeldReferences;

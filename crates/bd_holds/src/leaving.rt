@@ -1,8 +1,7 @@
 //! All that is counted for some uses goes.
 
-ghost use Rattle.std.specs.{Prelude.{◌≡◌, ◌≤◌, not, filter, List, if◌then◌else◌}, HashMap.{spare}};
+ghost use Rattle.std.specs.{Prelude.{◌≡◌, ◌≤◌, not, filter, if◌then◌else◌}, HashMap.{spare}};
 ghost use Rattle.bd_keys.specs.Tables.{Makes};
-ghost use Rattle.bd_space.specs.declared.space.Reference.{Reference};
 ghost use Rattle.bd_holds.specs.declared.keys.CountKey as key;
 ghost use Rattle.bd_holds.specs.Keys as keys;
 ghost use Rattle.bd_holds.specs.Counted.{count_at, CountBoth};

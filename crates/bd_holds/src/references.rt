@@ -1,8 +1,7 @@
 //! Which objects are referred to, and by whom.
 
-ghost use Rattle.std.specs.{Prelude.{◌≡◌, ◌≤◌, ◌&&◌, ◌||◌, List}, List.{list_any}};
+ghost use Rattle.std.specs.{Prelude.{◌&&◌}, List.{list_any}};
 ghost use Rattle.bd_keys.specs.Tables.{Tells};
-ghost use Rattle.bd_space.specs.declared.space.Reference.{Reference};
 ghost use Rattle.bd_space.specs.Words as words;
 ghost use Rattle.bd_space.specs.References as refer;
 

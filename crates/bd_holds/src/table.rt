@@ -1,6 +1,6 @@
 //! The table, and its memory.
 
-ghost use Rattle.std.specs.Prelude.{◌≡◌, ◌+◌, ◌*◌, ◌≤◌, ◌++◌, ◌∷◌, [], List, OnOk, OnErr};
+ghost use Rattle.std.specs.Prelude.{◌+◌, ◌*◌, ◌≤◌, ◌++◌, ◌∷◌, [], OnOk, OnErr};
 ghost use Rattle.std.specs.HashMap.{hash_map_len};
 ghost use Rattle.bd_keys.specs.Tables.{Makes};
 ghost use Rattle.bd_groups.specs.Members.{group_room, member_count};

@@ -1,6 +1,6 @@
 //! A node of the tree.
 
-ghost use Rattle.std.specs.Prelude.{◌≡◌, ◌+◌, ◌<◌, replicate};
+ghost use Rattle.std.specs.Prelude.{◌≡◌, ◌<◌, replicate};
 ghost use Rattle.bd_keys.specs.Keys.{spread};
 
 use crate::key::WordKey;

@@ -1,6 +1,6 @@
 //! The tree: the place of each key.
 
-ghost use Rattle.std.specs.Prelude.{◌≡◌, ◌≤◌, ◌<◌, ◌+◌, ◌^◌, ◌++◌, ◌∷◌, [], length, get_or, vec_len, vec_capacity, Some, None, OnOk, OnErr};
+ghost use Rattle.std.specs.Prelude.{◌≡◌, ◌≤◌, ◌<◌, ◌+◌, ◌^◌, ◌++◌, ◌∷◌, [], length, get_or, vec_len, vec_capacity, Some, None, OnOk};
 ghost use Rattle.bd_keys.specs.{Keys.{place_in}, Walk.{blank, leaf, keys, next, end_of}, Tree.{IsTree}};
 
 use crate::key::WordKey;

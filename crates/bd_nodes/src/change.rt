@@ -1,6 +1,6 @@
 //! Changes of the objects.
 
-ghost use Rattle.std.specs.Prelude.{◌≡◌, ◌≤◌, ◌++◌, ◌∷◌, [], not, filter, length, List};
+ghost use Rattle.std.specs.Prelude.{◌≤◌, ◌++◌, ◌∷◌, [], not, filter, length, List};
 ghost use Rattle.bd_keys.specs.Tables.{Makes};
 ghost use Rattle.bd_space.specs.Words as words;
 

@@ -1,6 +1,6 @@
 //! Looking at the objects.
 
-ghost use Rattle.std.specs.Prelude.{◌≡◌, ◌==◌, ◌&&◌, find, List};
+ghost use Rattle.std.specs.Prelude.{◌≡◌, ◌==◌, ◌&&◌, find};
 ghost use Rattle.bd_keys.specs.Tables.{Tells};
 ghost use Rattle.bd_space.specs.Words as words;
 ghost use Rattle.bd_nodes.specs.Keys as keys;

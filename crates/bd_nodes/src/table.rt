@@ -1,6 +1,6 @@
 //! The table, and its memory.
 
-ghost use Rattle.std.specs.Prelude.{◌≡◌, ◌≤◌, ◌+◌, ◌*◌, [], List, length, OnOk, OnErr, IfOk};
+ghost use Rattle.std.specs.Prelude.{◌≡◌, ◌≤◌, ◌+◌, ◌*◌, [], length, OnOk, OnErr, IfOk};
 ghost use Rattle.bd_keys.specs.Tables.{Tells};
 
 use crate::key::owner_group;

@@ -1,10 +1,10 @@
 //! What a process asks for itself: `BC_INCREFS`, `BC_ACQUIRE`, `BC_RELEASE`, `BC_DECREFS`, and its acknowledgements.
 
-ghost use Rattle.std.specs.Prelude.{◌≡◌, ◌==◌, ◌≤◌, ◌∷◌, [], if◌then◌else◌, List, Option, Result, OnOk, OnErr};
+ghost use Rattle.std.specs.Prelude.{◌==◌, ◌≤◌, ◌∷◌, [], if◌then◌else◌, Option, Result, OnOk, OnErr};
 ghost use Rattle.bd_keys.specs.Tables as tables;
 ghost use Rattle.bd_space.specs.Words.{first_of};
 ghost use Rattle.bd_space.specs.Asking as asking;
-ghost use Rattle.bd_space.specs.{Names.{named_in as named_in_list}, declared.space.Name.{Name}};
+ghost use Rattle.bd_space.specs.{Names.{named_in as named_in_list}};
 ghost use Rattle.bd_handles.specs.Stands.{NamesAre};
 
 use crate::naming::give_asked_name;

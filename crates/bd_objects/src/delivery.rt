@@ -1,7 +1,7 @@
 //! What a delivery leaves: the objects that a parcel makes, the references that its buffer holds, the names that the
 //! receiver gets, and the flat objects as the receiver sees them.
 
-ghost use Rattle.std.specs.Prelude.{◌≡◌, ◌≤◌, ◌+◌, ◌++◌, ◌∷◌, [], length, List, None, OnOk, OnErr};
+ghost use Rattle.std.specs.Prelude.{◌≡◌, ◌≤◌, ◌+◌, ◌++◌, ◌∷◌, [], length, None, OnOk, OnErr};
 ghost use Rattle.bd_keys.specs.Tables.{Makes};
 ghost use Rattle.bd_space.specs.Delivery as delivery;
 ghost use Rattle.bd_space.specs.Parcels as translations;

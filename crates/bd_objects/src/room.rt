@@ -1,6 +1,6 @@
 //! Room in the table.
 
-ghost use Rattle.std.specs.Prelude.{◌≡◌, ℕ, true};
+ghost use Rattle.std.specs.Prelude.{◌≡◌, true};
 ghost use Rattle.bd_objects.specs.Within.{IsWithin};
 
 /// For so many more of each.

@@ -1,6 +1,6 @@
 //! What follows from a change at one name and one object: nothing else is looked at.
 
-ghost use Rattle.std.specs.{Prelude.{◌≡◌, ◌==◌, ◌||◌, not, false, IfSome}, List.{list_any}};
+ghost use Rattle.std.specs.{Prelude.{◌==◌, ◌||◌, not, false, IfSome}, List.{list_any}};
 ghost use Rattle.bd_space.specs.{Words.{is_some_and}, References.{object_in}};
 ghost use Rattle.bd_space.specs.declared.space.WorkKind as declared;
 ghost use Rattle.bd_space.specs.Todo as todo;

@@ -1,6 +1,6 @@
 //! Certificates of a history: how a process came to a name, which call a reply answers, the turns of an object.
 
-ghost use Rattle.std.specs.{Prelude.{◌≡◌, ◌≤◌, Some, length, IfOk, IfSome, MatchOption, is_some}, List.{slice_get}};
+ghost use Rattle.std.specs.{Prelude.{◌≡◌, Some, length, IfOk, IfSome, MatchOption, is_some}, List.{slice_get}};
 ghost use Rattle.bd_engine.specs.Refusals.{IsLiveSeats};
 ghost use Rattle.bd_space.specs.Histories.{IsHistory, space_after, history_in};
 ghost use Rattle.bd_engine.specs.Looks as looks;

@@ -1,6 +1,6 @@
 //! What is whole of a journal that was cut off, or that is still being written.
 
-ghost use Rattle.std.specs.Prelude.{◌≤◌, IfOk, IfErr, IfSome};
+ghost use Rattle.std.specs.Prelude.{IfOk, IfErr, IfSome};
 ghost use Rattle.bd_engine.specs.Refusals.{IsLiveSeats};
 ghost use Rattle.bd_player.specs.Cuts.{IsCutVerdict, IsLawfulCutAt0, IsWhole, SaysNoHeading};
 

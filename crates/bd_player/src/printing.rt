@@ -1,6 +1,6 @@
 //! Printing what lines say.
 
-ghost use Rattle.std.specs.Prelude.{◌≡◌, ◌≤◌, max, false};
+ghost use Rattle.std.specs.Prelude.{◌≡◌, false};
 ghost use Rattle.bd_player.specs.Printing.{PrintsLine};
 
 use crate::blocks::Blocks;

@@ -1,10 +1,8 @@
 //! What a journal's bytes are.
 
-ghost use Rattle.std.specs.Prelude.{◌≡◌, ◌≤◌, length, IfOk, IfErr};
+ghost use Rattle.std.specs.Prelude.{◌≡◌, IfOk, IfErr};
 ghost use Rattle.bd_engine.specs.Refusals.{IsLiveSeats};
-ghost use Rattle.bd_space.specs.{Histories.{IsHistory, history_in}, declared.record.Record.{Record}};
-ghost use Rattle.bd_audit.specs.Replays.{StopsAt};
-ghost use Rattle.bd_journal.specs.Spelling.{Tells};
+ghost use Rattle.bd_space.specs.{declared.record.Record.{Record}};
 ghost use Rattle.bd_player.specs.{Verdicts.{IsUnjudged, IsVerdict, IsJudged, Judges}, declared.faults.Fault.TheVariants.{Memory}};
 
 use crate::faults::Fault;

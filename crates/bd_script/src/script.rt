@@ -1,6 +1,6 @@
 //! Whole scripts.
 
-ghost use Rattle.std.specs.{Prelude.{◌≡◌, ◌≤◌, IfOk, None, Some, MatchResult}, List.{list_any}};
+ghost use Rattle.std.specs.{Prelude.{◌≡◌, IfOk, None, Some, MatchResult}, List.{list_any}};
 ghost use Rattle.bd_uapi.specs.Limits.{IsSeats};
 ghost use Rattle.bd_script.specs.Words.{ReadsOrMemory};
 ghost use Rattle.bd_script.specs.Scripts.{SaysAs, error_at, read, is_bad, is_idle, line_of, script_of, seats_of, with_line};

@@ -1,7 +1,7 @@
 //! Delivery: the objects, references and names of a parcel, its buffer with the translated data, and the notices of its
 //! sender's own objects.
 
-ghost use Rattle.std.specs.Prelude.{◌≡◌, ◌+◌, ◌≤◌, IfOk, OnOk, OnErr, length, Some, None, map, fold, not, ◌&&◌, if◌then◌else◌};
+ghost use Rattle.std.specs.Prelude.{◌≡◌, ◌≤◌, IfOk, OnOk, OnErr, length, Some, None, map, fold, not, ◌&&◌, if◌then◌else◌};
 ghost use Rattle.bd_uapi.specs.Kinds as kinds;
 ghost use Rattle.bd_space.specs.{References.{object_in}, Space.{Space}, Seats.{process_in}};
 ghost use Rattle.bd_space.specs.Windows as room;

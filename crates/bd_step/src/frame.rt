@@ -3,7 +3,7 @@
 ghost use Rattle.std.specs.Prelude.{◌≡◌, ◌≤◌, ℕ, Some, IfSome, find, option_and_then};
 ghost use Rattle.bd_space.specs.Frames as frames;
 ghost use Rattle.bd_space.specs.Transactions as transactions;
-ghost use Rattle.bd_space.specs.{Frames.{serves, is_frame}, Space.{Space}, Seats.{process_in}};
+ghost use Rattle.bd_space.specs.{Frames.{is_frame}, Space.{Space}, Seats.{process_in}};
 ghost use Rattle.bd_space.specs.Replies as replies;
 ghost use Rattle.bd_calls.specs.Room.{work_room, frame_room};
 ghost use Rattle.bd_step.specs.Stands.{Makes, MakesOfStacked, Tells, StandsAt, TellsBefore, KeepsTold};

@@ -2,7 +2,6 @@
 //! `BC_INCREFS_DONE` and `BC_ACQUIRE_DONE`.
 
 ghost use Rattle.std.specs.Prelude.{◌≡◌, ◌≤◌, IfErr, OnOk, OnErr};
-ghost use Rattle.bd_space.specs.Names.{has_number_past_limit};
 ghost use Rattle.bd_space.specs.Asking as asking;
 ghost use Rattle.bd_space.specs.Outcomes.{completed, by_check};
 ghost use Rattle.bd_objects.specs.Room.{reference_room, name_room};

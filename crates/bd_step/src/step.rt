@@ -1,6 +1,6 @@
 //! Every step of the tables.
 
-ghost use Rattle.bd_space.specs.{Seats.{actor}, Steps.{change, command_step}};
+ghost use Rattle.bd_space.specs.{Steps.{change, command_step}};
 ghost use Rattle.bd_step.specs.{Stands.{KeepsTold}, Meets.{IsAny, IsBy, IsNobody, IsStep, IsStepWritten}};
 
 use crate::answer::{Brief, Plain, written};

@@ -51,7 +51,7 @@ impl Drop for Tables {
 }
 
 impl Tables {
-    ghost use Rattle.bd_space.specs.Space.{Space, opening};
+    ghost use Rattle.bd_space.specs.Space.{opening};
     ghost use Rattle.bd_step.specs.{Stands.{Before, HasRoom, IsReserved, KeepsRoom, KeepsTold}, Meets.{IsKept}};
 
     /// The tables of a new engine. Takes no memory.

@@ -9,7 +9,6 @@ ghost use Rattle.bd_space.specs.Seats as seats;
 ghost use Rattle.bd_space.specs.{References.{object_in}, Frames.{is_frame}, Freeing.{pointer}};
 ghost use Rattle.bd_space.specs.Returns as spec;
 ghost use Rattle.bd_space.specs.Steps.{is_pid};
-ghost use Rattle.bd_space.specs.declared.space.WorkKind.TheVariants as work;
 ghost use Rattle.bd_buffers.specs.WindowsStand.{IsInWindow};
 ghost use Rattle.bd_step.specs.Stands.{TellsBefore};
 

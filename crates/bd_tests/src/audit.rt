@@ -1,7 +1,7 @@
 //! Certificates, with ample memory: of a reply, by the worked example 'call and reply' (examples/), what the rules
 //! give there, and of a name by ten gifts, where an object goes to and fro between two processes.
 
-ghost use Rattle.std.specs.Prelude.{◌≡◌, ◌≤◌, IfOk};
+ghost use Rattle.std.specs.Prelude.{IfOk};
 ghost use Rattle.bd_uapi.specs.Limits.{IsSeats};
 ghost use Rattle.bd_space.specs.Histories.{IsHistory, history_in};
 

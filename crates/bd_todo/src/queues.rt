@@ -1,6 +1,6 @@
 //! Work items in queues: each on the list that it names, whose number stands by seat or by process.
 
-ghost use Rattle.std.specs.Prelude.{ℕ, ◌≡◌, ◌+◌, ◌<◌, ◌≤◌, ◌==◌, ◌&&◌, ◌++◌, ◌∷◌, [], false, List, length, count_by, is_some, Some, IfSome, OnOk, OnErr};
+ghost use Rattle.std.specs.Prelude.{◌≡◌, ◌+◌, ◌<◌, ◌≤◌, ◌==◌, ◌&&◌, ◌++◌, ◌∷◌, [], false, List, length, count_by, is_some, Some, IfSome, OnOk, OnErr};
 ghost use Rattle.std.specs.{List.{list_any}, HashMap.{spare}};
 ghost use Rattle.bd_keys.specs.Tables.{Makes, Tells};
 ghost use Rattle.bd_space.specs.declared.space.Work.{Work};
@@ -26,8 +26,8 @@ pub struct Queues {
 }
 
 impl Queues {
-    ghost use Rattle.bd_chains.specs.Rows.{Row, drop_key};
-    ghost use Rattle.bd_chains.specs.Columns.{item_room, list_room, room_of};
+    ghost use Rattle.bd_chains.specs.Rows.{drop_key};
+    ghost use Rattle.bd_chains.specs.Columns.{item_room, list_room};
     ghost use Rattle.bd_todo.specs.QueuesStand.{Shows, Stands, FrontIn, work_at, queue_room};
 
     /// No queues. Takes no memory.

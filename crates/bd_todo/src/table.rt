@@ -1,7 +1,7 @@
 //! The table: its room, its changes and what it tells.
 #![tactic(auto, unfolding(crate::specs::Stands::work_room))]
 
-ghost use Rattle.std.specs.Prelude.{ℕ, Bool, true, List, ◌≡◌, ◌&&◌, ◌+◌, ◌≤◌, ◌==◌, [], count_by, not, filter, Some, is_some, OnOk, OnErr, IfSome};
+ghost use Rattle.std.specs.Prelude.{Bool, true, ◌≡◌, ◌&&◌, ◌+◌, ◌≤◌, ◌==◌, [], count_by, not, filter, Some, OnOk, OnErr, IfSome};
 ghost use Rattle.std.specs.List.{list_any};
 ghost use Rattle.bd_keys.specs.Tables as tables;
 ghost use Rattle.bd_keys.specs.Tables.{AnswersBy};
@@ -26,8 +26,8 @@ pub struct WorkTable {
 }
 
 impl WorkTable {
-    ghost use Rattle.bd_chains.specs.Rows.{Row, drop_key};
-    ghost use Rattle.bd_todo.specs.{QueuesStand.{FrontIn, work_at}, Stands.{WorksAre, RowsAre, Tells, Makes, work_room}};
+    ghost use Rattle.bd_chains.specs.Rows.{drop_key};
+    ghost use Rattle.bd_todo.specs.{QueuesStand.{work_at}, Stands.{WorksAre, RowsAre, Tells, Makes, work_room}};
 
     /// An empty table. Takes no memory.
     pub fn new(alloc: Global) -> WorkTable

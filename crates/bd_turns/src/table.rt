@@ -1,7 +1,7 @@
 //! The table: its room, its changes and what it tells.
 #![tactic(auto, unfolding(crate::specs::Room::turn_room, crate::specs::Room::turn_count))]
 
-ghost use Rattle.std.specs.Prelude.{ℕ, Bool, List, ◌≡◌, ◌==◌, ◌≤◌, ◌++◌, ◌∷◌, [], false, not, filter, find, OnOk, OnErr};
+ghost use Rattle.std.specs.Prelude.{List, ◌≡◌, ◌==◌, ◌≤◌, ◌++◌, ◌∷◌, [], false, not, filter, find, OnOk, OnErr};
 ghost use Rattle.std.specs.List.{list_any};
 ghost use Rattle.bd_keys.specs.Tables as tables;
 ghost use Rattle.bd_space.specs.declared.space.Turn as declared;
@@ -39,7 +39,6 @@ impl Drop for TurnTable {
 }
 
 impl TurnTable {
-    ghost use Rattle.bd_chains.specs.Rows.{Row};
     ghost use Rattle.bd_turns.specs.{Keys.{by_object}, Lists.{Shows, lists_room}};
     ghost use Rattle.bd_turns.specs.Stands.{TurnsAre, Tells, Makes};
 

@@ -1,6 +1,6 @@
 //! The flags of a transaction.
 
-ghost use Rattle.std.specs.{Prelude.{⊤, ◌≡◌, [], ◌∷◌, codes, nat_eq, ◌↔◌, ◌%◌, IsTrue}, Int.RustNames.{bit_and}};
+ghost use Rattle.std.specs.{Prelude.{⊤, ◌≡◌, [], ◌∷◌, codes, ◌↔◌, ◌%◌, IsTrue}};
 
 use bitflags::{Flag, Flags};
 

@@ -1,6 +1,6 @@
 //! Playing scripts, and writing and judging journals.
 
-ghost use Rattle.std.specs.Prelude.{◌≡◌, ◌≤◌, IfOk};
+ghost use Rattle.std.specs.Prelude.{IfOk};
 ghost use Rattle.bd_uapi.specs.Limits.{IsSeats};
 ghost use Rattle.bd_space.specs.Histories.{IsHistory, history_in};
 

@@ -1,6 +1,6 @@
 //! Many threads, and a thread that can't be started.
 
-ghost use Rattle.std.specs.Prelude.{◌≡◌, ◌<◌};
+ghost use Rattle.std.specs.Prelude.{◌<◌};
 ghost use Rattle.bd_uapi.specs.Limits.{most_seats, IsSeats};
 
 use super::playing::Printed;
