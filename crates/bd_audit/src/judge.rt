@@ -7,7 +7,7 @@ ghost use Rattle.bd_uapi.specs.declared.fault.Fault.TheVariants as faults;
 ghost use Rattle.bd_audit.specs.Judging.{HasJudged, IsStop};
 ghost use Rattle.bd_audit.specs.Replays.{with_entry};
 
-use crate::judging::{AuditFault, take};
+use crate::judging::{AuditFault, accept_live};
 use bd_engine::Live;
 use bd_space::Entry;
 use bd_uapi::Fault;
@@ -43,7 +43,7 @@ impl Judge {
         if self.stopped.is_some() {
             return Ok(());
         }
-        match take(&mut self.live, entry) {
+        match accept_live(&mut self.live, entry) {
             Ok(()) => Ok(()),
             Err(AuditFault::Unlawful { at }) => {
                 self.stopped = Some(at);

@@ -63,7 +63,7 @@ pub(crate) fn accept(engine: &mut WideEngine, entry: &Entry) -> Result<(), Audit
 }
 
 // Makes the entry's step after whatever history is followed, if its answer is then the entry's.
-pub(crate) fn take(live: &mut Live, entry: &Entry) -> Result<(), AuditFault>
+pub(crate) fn accept_live(live: &mut Live, entry: &Entry) -> Result<(), AuditFault>
     ensures ok { IfOk result (λ _. (h : History) → Follows live.old h → Follows live.new (with_entry h entry.now)) }
     ensures unlawful { IfErr result (λ f. (h : History) → Follows live.old h → IfUnlawful f (λ at.
         (at ≡ length h.entries) × (IsHistory (with_entry h entry.now) → ⊥))) }

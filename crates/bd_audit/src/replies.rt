@@ -27,7 +27,7 @@ pub fn played_to(alloc: Global, record: &Record, place: usize) -> Result<WideEng
 }
 
 // The reply that the entry's reading takes: the first on the thread's list, if it is not the first any more after it.
-fn take_reply(engine: &mut WideEngine, entry: &Entry) -> Result<Option<u32>, Fault>
+fn read_reply(engine: &mut WideEngine, entry: &Entry) -> Result<Option<u32>, Fault>
     requires lawful { IsHistory (with_entry engine.old entry.now) }
     ensures { MatchResult result (λ r. r ≡ spec.reply_taken (space_after engine.old) entry.now) (λ f. f ≡ faults.NoMemory) }
 {
@@ -52,7 +52,7 @@ fn reply_taken_at(alloc: Global, record: &Record, place: u32) -> Result<Option<u
     ensures { MatchResult result (λ r. r ≡ spec.reply_taken_at (history_in «record».now) place) (λ f. f ≡ faults.NoMemory) }
 {
     match entry_at(alloc, record, place)? {
-        Some((mut engine, entry)) => take_reply(&mut engine, entry),
+        Some((mut engine, entry)) => read_reply(&mut engine, entry),
         None => Ok(None),
     }
 }

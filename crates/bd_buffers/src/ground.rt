@@ -10,7 +10,7 @@ ghost use Rattle.bd_buffers.specs.{Bounds.{AreBounded, AreWithin, reaches}, Wind
 
 use crate::bounds::Bounds;
 use crate::buffer::{one_way_share, pointer_of};
-use crate::hole::{Hole, begin_of, give_back, take};
+use crate::hole::{Hole, begin_of, cut_hole, give_back};
 use crate::rows::Rows;
 use crate::senders::lower;
 use bd_keys::{WordKey, WordMap};
@@ -62,7 +62,7 @@ impl Ground {
         ensures len { vec_len self.new.holes ≤ vec_len self.old.holes }
         ensures capacity { vec_capacity self.new.holes ≡ vec_capacity self.old.holes }
     {
-        self.tail = take(&mut self.holes, self.tail, place, n);
+        self.tail = cut_hole(&mut self.holes, self.tail, place, n);
         self.bounds.refresh(&self.holes, place + n);
         self.bounds.refresh(&self.holes, place);
     }

@@ -50,7 +50,7 @@ fn first_hole<'a>(bounds: &Bounds, holes: &'a [Hole], n: u32) -> Option<&'a Hole
 
 /// Where the first n free bytes in a row begin.
 #[tactic(auto, unfolding(crate::specs::Holes::first_fit))]
-pub(crate) fn first_place(
+pub(crate) fn first_start(
     bounds: &Bounds,
     size: u32,
     tail: u32,
@@ -91,7 +91,7 @@ pub(crate) fn begin_of(holes: &[Hole], tail: u32, place: u32) -> u32
 }
 
 /// Takes n bytes off the start of what is free from a place on, and answers where the tail begins then.
-pub(crate) fn take(holes: &mut Vec<Hole>, tail: u32, place: u32, n: u32) -> u32
+pub(crate) fn cut_hole(holes: &mut Vec<Hole>, tail: u32, place: u32, n: u32) -> u32
     requires spaced { free.Spaced tail 0 holes.old.items }
     requires begins { free.Begins tail place n holes.old.items }
     requires fits { (place + n < 2 ^ 32) × (tail + n < 2 ^ 32) }

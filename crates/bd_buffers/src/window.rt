@@ -8,7 +8,7 @@ ghost use Rattle.bd_space.specs.{ReadItems.{hand_out}, Returns.{buffer_in}, Spam
 use crate::bounds::Bounds;
 use crate::buffer::{needed, one_way_share, pointer_of};
 use crate::ground::{Ground, end_row, key_at};
-use crate::hole::first_place;
+use crate::hole::first_start;
 use crate::home::forget;
 use crate::listing::{list_made, next_from};
 use crate::rows::Rows;
@@ -77,7 +77,7 @@ impl Window {
         requires small { n ≤ 8388608 }
         ensures { result ≡ start_in self.now.size self.now.buffers n }
     {
-        first_place(
+        first_start(
             &self.ground.bounds,
             self.ground.size,
             self.ground.tail,
@@ -97,7 +97,7 @@ impl Window {
 
     // The place of a new buffer that takes n bytes.
     #[tactic(auto, unfolding(bd_space::specs::Windows::start_for))]
-    fn place_of(&self, one_way: bool, n: u32) -> Result<u32, Cause>
+    fn start_of(&self, one_way: bool, n: u32) -> Result<u32, Cause>
         requires filled { 8 ≤ n }
         requires small { n ≤ 8388608 }
         ensures { result ≡ start_for self.now.size self.now.buffers one_way n }
@@ -112,7 +112,7 @@ impl Window {
     }
 
     // The place of a new buffer for data and offsets of these sizes.
-    fn place_for(&self, one_way: bool, data_size: u64, offsets_size: u64) -> Result<u32, Cause>
+    fn start_of_data(&self, one_way: bool, data_size: u64, offsets_size: u64) -> Result<u32, Cause>
         ensures computed { result ≡ start_for self.now.size self.now.buffers one_way (needed data_size offsets_size) }
         ensures fits { IfOk result (λ p. needed data_size offsets_size ≤ 4194304) }
     {
@@ -120,13 +120,13 @@ impl Window {
         if data_size > size || offsets_size > size {
             return Err(Cause::NoRoom);
         }
-        self.place_of(one_way, needed(data_size, offsets_size))
+        self.start_of(one_way, needed(data_size, offsets_size))
     }
 
     /// Where a buffer for data and offsets of these sizes in bytes would begin: at the least multiple of 8 with
     /// room for both, each rounded up to a multiple of 8, and for 8 bytes at least. `NoRoom` where there is none;
     /// then `OverBudget` where one-way buffers would take more than half of the window.
-    pub fn place(&self, one_way: bool, data_size: u64, offsets_size: u64) -> Result<u32, Cause>
+    pub fn start_for(&self, one_way: bool, data_size: u64, offsets_size: u64) -> Result<u32, Cause>
         ensures computed { WindowTells (Stands self.now) result
             (λ size bs. start_for size bs one_way (needed data_size offsets_size)) }
         ensures can_take { IfOk result (λ p. CanHold self.now one_way (needed data_size offsets_size) p) }
@@ -138,7 +138,7 @@ impl Window {
         ensures cause { (size : ℕ) (bs : List Buffer) → Stands self.now size bs
             → IfErr result (λ x. Refuses size bs one_way (needed data_size offsets_size) x) }
     {
-        self.place_for(one_way, data_size, offsets_size)
+        self.start_of_data(one_way, data_size, offsets_size)
     }
 
     // Whether the one-way buffers of a sender take more than a quarter of the window.

@@ -100,7 +100,7 @@ impl Windows {
     /// Where a buffer for data and offsets of these sizes in bytes would begin in the window of a process.
     /// `NoRoom` where there is no room or no such process; `OverBudget` where one-way buffers would take more than
     /// half of the window.
-    pub fn place(
+    pub fn start_for(
         &self,
         p: u32,
         one_way: bool,
@@ -115,7 +115,7 @@ impl Windows {
     {
         match self.owned(p) {
             None => Err(Cause::NoRoom),
-            Some(w) => w.window.place(one_way, data_size, offsets_size),
+            Some(w) => w.window.start_for(one_way, data_size, offsets_size),
         }
     }
 

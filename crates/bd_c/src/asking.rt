@@ -10,7 +10,7 @@ use bd_driver::{Outcome, Page, Served};
 use bd_space::Request;
 
 // Takes the request that came back, if one did; else what is there stays.
-fn take_back(latest: &mut Option<Outcome>) -> Option<Request>
+fn take_request(latest: &mut Option<Outcome>) -> Option<Request>
     ensures taken { result ≡ given_back latest.old }
     ensures stays { result ≡ None → latest.new ≡ latest.old }
 {
@@ -54,7 +54,7 @@ impl OwnedSeat {
         if self.seat.is_waiting() {
             return Status::Waiting;
         }
-        let Some(request) = take_back(&mut self.latest) else {
+        let Some(request) = take_request(&mut self.latest) else {
             return Status::NoSuchRequest;
         };
         let outcome = self.keyed.driver.call(&mut self.seat, request);

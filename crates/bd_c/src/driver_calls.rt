@@ -47,7 +47,7 @@ pub extern "C" fn hullpippin_take_seat(alloc: Global, driver: &mut Handle, seat:
     let Ok(mut room) = Box::new(alloc, Held::Nothing) else {
         return Status::NoMemory.number();
     };
-    match host.take() {
+    match host.take_seat() {
         Ok(taken) => {
             *room = Held::Seat(taken);
             put(seat, room);
@@ -85,7 +85,7 @@ pub extern "C" fn hullpippin_return_seat(
         return Status::NoMemory.number();
     }
     match Box::into_inner(take(alloc, seat)) {
-        Held::Seat(seat) => host.take_back(seat),
+        Held::Seat(seat) => host.return_seat(seat),
         _ => unreachable!(),
     }
     Status::Done.number()

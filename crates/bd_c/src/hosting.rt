@@ -32,7 +32,7 @@ impl Host {
     }
 
     /// Hands out the first seat that is there.
-    pub(crate) fn take(&mut self) -> Result<OwnedSeat, Status>
+    pub(crate) fn take_seat(&mut self) -> Result<OwnedSeat, Status>
         ensures ok { IfOk result (Hands self.old self.new) }
         ensures refused { IfErr result (Keeps self.old self.new) }
     {
@@ -65,7 +65,7 @@ impl Host {
     }
 
     /// A seat that was away comes back, for which there is room.
-    pub(crate) fn take_back(&mut self, seat: OwnedSeat)
+    pub(crate) fn return_seat(&mut self, seat: OwnedSeat)
         requires own { seat.seat.table ≡ (arc_value self.old.keyed).driver.table }
         requires away { is_seat_away self.old ≡ true }
         ensures { TakesBack self.old self.new seat }

@@ -10,7 +10,7 @@ ghost use Rattle.bd_todo.specs.Stands.{work_room};
 use crate::frame::{leave_frames, lose_unread, serve};
 use crate::marks::Marks;
 use crate::ready::ReadySeats;
-use crate::turn::{hand_out_taken, lose_turns};
+use crate::turn::{hand_out_taken, remove_turns_on};
 use bd_frames::FrameTable;
 use bd_space::{TodoList, Work};
 use bd_threads::ThreadTable;
@@ -168,14 +168,14 @@ impl CallTable {
         let list = TodoList::OfThread(seat);
         self.marks.mark(&self.todo, list);
         leave_frames(&mut self.frames, &self.todo, seat);
-        lose_turns(&mut self.turns, &self.todo, list);
+        remove_turns_on(&mut self.turns, &self.todo, list);
         self.todo.clear_list(list);
         self.threads.remove(seat);
         self.ready.forget_all();
     }
 
     /// A process without threads ends: its list goes, and the one-way calls in its window.
-    pub fn process_goes(&mut self, process: u32)
+    pub fn end_process(&mut self, process: u32)
         ensures stands { Makes (StandsFor self.old) (StandsFor self.new) (λ s. exits.without_process s process) }
         ensures uses { UsesNothing self.old self.new }
         ensures told { KeepsTold self.old self.new }

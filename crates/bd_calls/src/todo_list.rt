@@ -142,7 +142,7 @@ impl CallTable {
     {
         self.ready.forget_all();
         self.marks.mark_all();
-        self.todo.keep_kinds(f);
+        self.todo.retain_kinds(f);
     }
 
     /// The notice of an object whose owner is to be told comes onto a list, if it is missing, made at this place.

@@ -52,7 +52,7 @@ pub(crate) fn hand_out_taken(turns: &mut TurnTable, taken: &[Work])
 }
 
 // The one-way call goes whose buffer a work item of this kind hands over.
-fn lose_turn(turns: &mut TurnTable, kind: WorkKind)
+fn remove_turn_of(turns: &mut TurnTable, kind: WorkKind)
     ensures turns { turn_table.Makes turns.old turns.new (λ l. filter (is_other_than kind) l) }
     ensures uses { turn_rooms.Uses turns.old turns.new 0 }
 {
@@ -61,13 +61,13 @@ fn lose_turn(turns: &mut TurnTable, kind: WorkKind)
     }
 }
 
-pub(crate) fn lose_turns(turns: &mut TurnTable, todo: &WorkTable, list: TodoList)
+pub(crate) fn remove_turns_on(turns: &mut TurnTable, todo: &WorkTable, list: TodoList)
     ensures turns { (works : List declared.Work) → links.WorksAre todo.now works → turn_table.Makes turns.old turns.new
         (λ l. filter (λ t. not (exits.is_lost_with works list t.made)) l) }
     ensures uses { turn_rooms.Uses turns.old turns.new 0 }
 {
     for work in todo.works_on(list) {
-        lose_turn(turns, work.kind);
+        remove_turn_of(turns, work.kind);
     }
 }
 
@@ -92,7 +92,7 @@ impl CallTable {
     }
 
     /// The one-way call of a freed buffer goes, if it is one.
-    pub fn drop_turn(&mut self, made: u32)
+    pub fn remove_turn(&mut self, made: u32)
         ensures stands { Makes (StandsFor self.old) (StandsFor self.new) (λ s. without_buffer s made) }
         ensures uses { UsesNothing self.old self.new }
         ensures told { KeepsTold self.old self.new }

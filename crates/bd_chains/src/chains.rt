@@ -152,7 +152,7 @@ impl<T: Copy> Chains<T> {
     }
 
     // A value comes into a slot, whose neighbours aren't told.
-    fn enter(&mut self, item: Item<T>) -> usize
+    fn insert(&mut self, item: Item<T>) -> usize
         requires { 1 ≤ item_room self.old }
         ensures fresh { shown self.old result ≡ None }
         ensures shown { (k : ℕ) → shown self.new k ≡ (if result == k then Some (item.list, item.held) else shown self.old k) }
@@ -170,7 +170,7 @@ impl<T: Copy> Chains<T> {
     }
 
     // A value leaves its slot, whose neighbours aren't told.
-    fn leave(&mut self, x: usize) -> Option<Item<T>>
+    fn vacate(&mut self, x: usize) -> Option<Item<T>>
         ensures was { result ≡ get self.old.items x }
         ensures shown { (k : ℕ) → shown self.new k ≡ (if x == k then None else shown self.old k) }
         ensures nexts { (m : ℕ) (o : Option ℕ) → next_at self.new m o ≡ (if is_at x o then None else next_at self.old m o) }
@@ -303,7 +303,7 @@ impl<T: Copy> Chains<T> {
         let held = Held { value, counted };
         let last = self.last(list);
         let count = raised(self.count(list), counted);
-        let x = self.enter(Item {
+        let x = self.insert(Item {
             held,
             list,
             prev: last,
@@ -323,7 +323,7 @@ impl<T: Copy> Chains<T> {
         ensures items { item_room self.old ≤ item_room self.new }
         ensures lists { list_room self.new ≡ list_room self.old }
     {
-        let item = self.leave(x)?;
+        let item = self.vacate(x)?;
         let count = lowered(self.count(item.list), item.held.counted);
         self.set_next(item.list, item.prev, item.next);
         self.set_prev(item.list, item.next, item.prev);

@@ -8,7 +8,7 @@ use Rattle.std.proofs.lemmas.Bool.{leb-true}
 use Rattle.std.proofs.Math.Nat.{mod-add-mod, add-mod_right, mod-eq_of_lt}
 use Rattle.bd_space.specs.declared.space.DeathNotification.{DeathNotification}
 use Rattle.bd_space.specs.Words.{changed}
-use Rattle.bd_deaths.specs.declared.key.Group.{Group}
+use Rattle.bd_deaths.specs.declared.key.Sharers.{Sharers}
 use Rattle.bd_deaths.specs.Keys.{group, with_one, without_one}
 
 abbrev pub made_of : DeathNotification → ℕ
@@ -17,7 +17,7 @@ made_of x = x.made
 abbrev pub places : List DeathNotification → ℕ
 places ys = sum_by made_of ys
 
-abbrev kept_as : ℕ → ℕ → Option Group
+abbrev kept_as : ℕ → ℕ → Option Sharers
 kept_as count sum = Some (record { count = count; sum = sum })
 
 same-kept : (m n s t : ℕ) → m ≡ n → s ≡ t → kept_as m s ≡ kept_as n t

@@ -10,7 +10,7 @@ use Rattle.bd_space.specs.Words.{changed}
 use Rattle.bd_space.specs.Deaths.{is_notification}
 use Rattle.bd_ways.specs.Ranges.{IsWithin}
 use Rattle.bd_ways.proofs.Ranges.{none-before, none-after, Implies, no-head, within-fewer}
-use Rattle.bd_deaths.specs.declared.key.Group.{Group}
+use Rattle.bd_deaths.specs.declared.key.Sharers.{Sharers}
 use Rattle.bd_deaths.specs.Keys.{group}
 use Rattle.bd_deaths.specs.declared.slot.Slot.{Slot}
 use Rattle.bd_deaths.specs.Slots.{deaths_in, lives, of, with}
@@ -71,7 +71,7 @@ empty : (ys : List DeathNotification) → group ys ≡ None → ys ≡ []
 empty [] h = refl
 empty (y ∷ ys) h = absurd (cc)
 
-single : (x : DeathNotification) (ys : List DeathNotification) (g : Group) → x.made < 2 ^ 32 → group (x ∷ ys) ≡ Some g
+single : (x : DeathNotification) (ys : List DeathNotification) (g : Sharers) → x.made < 2 ^ 32 → group (x ∷ ys) ≡ Some g
     → g.count ≡ 1 → (x.made ≡ g.sum) × (ys ≡ [])
 single x [] g fits h one =
     let is : (0 + x.made) % 2 ^ 32 ≡ g.sum = cc in (sym (sum-of-one x.made fits) ∙ is, refl)
@@ -95,7 +95,7 @@ nothing-implies q r [] h = tt
 nothing-implies q r (x ∷ xs) h = let g = no-head (q x) _ h in (λ e. absurd (cc), nothing-implies q r xs g.1)
 
 -- one passes, of the place that its group says
-one-implies : (q : DeathNotification → Bool) (g : Group) → g.count ≡ 1 → (xs : List DeathNotification)
+one-implies : (q : DeathNotification → Bool) (g : Sharers) → g.count ≡ 1 → (xs : List DeathNotification)
     → All (λ x. x.made < 2 ^ 32) xs → group (filter q xs) ≡ Some g → Implies q (is_notification g.sum) xs
 one-implies q g one [] fit h = tt
 one-implies q g one (x ∷ xs) fit h = by (q x) refl h (one-implies q g one xs (All-tail fits x xs fit))
@@ -111,7 +111,7 @@ one-implies q g one (x ∷ xs) fit h = by (q x) refl h (one-implies q g one xs (
         (λ _. eq-eqb x.made g.sum s.0, nothing-implies q (is_notification g.sum) xs (none-pass q xs s.1))
     by false e h further = (λ t. absurd (cc), further h)
 
-pub within-one : (q : DeathNotification → Bool) (g : Group) → g.count ≡ 1 → (i j : ℕ) (xs : List DeathNotification)
+pub within-one : (q : DeathNotification → Bool) (g : Sharers) → g.count ≡ 1 → (i j : ℕ) (xs : List DeathNotification)
     → All (λ x. x.made < 2 ^ 32) xs → group (filter q xs) ≡ Some g
     → IsWithin (is_notification g.sum) i j xs → IsWithin q i j xs
 within-one q g one i j xs fit h w = within-fewer q (is_notification g.sum) xs i j (one-implies q g one xs fit h) w

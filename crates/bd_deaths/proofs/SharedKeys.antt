@@ -11,7 +11,7 @@ use Rattle.bd_space.specs.declared.space.DeathNotification.{DeathNotification}
 use Rattle.bd_deaths.specs.declared.key.NameKey.{NameKey}
 use Rattle.bd_deaths.specs.declared.key.Key.{Key}
 use Rattle.bd_deaths.specs.declared.key.Key.TheVariants.{Name, Cookie}
-use Rattle.bd_deaths.specs.declared.key.Group.{Group}
+use Rattle.bd_deaths.specs.declared.key.Sharers.{Sharers}
 use Rattle.bd_deaths.specs.declared.sharing.Sharing.{Sharing}
 use Rattle.bd_deaths.specs.Keys.{same_name, has, group, with_one, without_one}
 use Rattle.bd_deaths.specs.SharedAt.{AreShared, group_at}
@@ -32,7 +32,7 @@ module _ {K : Type 0} (eq : K → K → Bool) (alike : (a b : K) → eq a b ≡ 
   abbrev on : K → DeathNotification → Bool
   on k x = eq (of x) k
 
-  module _ (g h : K → Option Group) (xs : List DeathNotification)
+  module _ (g h : K → Option Sharers) (xs : List DeathNotification)
       (stood : (k : K) → g k ≡ group (filter (on k) xs)) where
     pub one-more : (x : DeathNotification) → length xs + 1 < 2 ^ 64 → x.made < 2 ^ 32
         → ((k : K) → h k ≡ cond (eq (of x) k) (Some (with_one x.made (g (of x)))) (g k))
@@ -62,7 +62,7 @@ module _ {K : Type 0} (eq : K → K → Bool) (alike : (a b : K) → eq a b ≡ 
 -- ---- what is left of a key
 
 -- what is changed at a key is what is left there
-pub set-left : (made : ℕ) (o : Option Group) (now : Group) → without_one made o ≡ Some now
+pub set-left : (made : ℕ) (o : Option Sharers) (now : Sharers) → without_one made o ≡ Some now
     → option_map (λ _. now) o ≡ without_one made o
 set-left made None now h = absurd (cc)
 set-left made (Some g) now h = sym h

@@ -8,7 +8,7 @@ use Rattle.bd_groups.specs.declared.group.Group.TheVariants.{Object}
 use Rattle.bd_deaths.specs.declared.key.NameKey.{NameKey}
 use Rattle.bd_deaths.specs.declared.key.Key.{Key}
 use Rattle.bd_deaths.specs.declared.key.Key.TheVariants.{Name, Cookie}
-use Rattle.bd_deaths.specs.declared.key.Group.{Group}
+use Rattle.bd_deaths.specs.declared.key.Sharers.{Sharers}
 use Rattle.bd_deaths.specs.contracts.key.NameKeyPartialEq.TheImpl as names
 
 abbrev pub same_name : NameKey → NameKey → Bool
@@ -34,23 +34,23 @@ has (Name k) x = same_name (name_of x) k
 has (Cookie k) x = same_word (cookie_of x) k
 
 -- what is kept of these: the sum of their places wraps, and is the place where there is one
-abbrev pub group : List DeathNotification → Option Group
+abbrev pub group : List DeathNotification → Option Sharers
 group [] = None
 group (x ∷ xs) = Some (record { count = length (x ∷ xs); sum = sum_by (λ y. y.made) (x ∷ xs) % 2 ^ 32 })
 
 -- one more, of this place
-abbrev pub with_one : ℕ → Option Group → Group
+abbrev pub with_one : ℕ → Option Sharers → Sharers
 with_one made None = record { count = 1; sum = made }
 with_one made (Some g) = record { count = (g.count + 1) % 2 ^ 64; sum = (g.sum + made) % 2 ^ 32 }
 
 -- one less, of this place
-abbrev pub without_one : ℕ → Option Group → Option Group
+abbrev pub without_one : ℕ → Option Sharers → Option Sharers
 without_one made None = None
 without_one made (Some g) =
     if nat_le g.count 1 then None
     else Some (record { count = g.count - 1; sum = (g.sum + (2 ^ 32 - made)) % 2 ^ 32 })
 
 -- this, where there was something
-abbrev pub instead : Group → Option Group → Option Group
+abbrev pub instead : Sharers → Option Sharers → Option Sharers
 instead now None = None
 instead now (Some g) = Some now

@@ -5,11 +5,11 @@ use Rattle.std.specs.HashMap.{get, spare}
 use Rattle.bd_keys.specs.Look.{look, word_room}
 use Rattle.bd_deaths.specs.declared.key.Key.{Key}
 use Rattle.bd_deaths.specs.declared.key.Key.TheVariants.{Name, Cookie}
-use Rattle.bd_deaths.specs.declared.key.Group.{Group}
+use Rattle.bd_deaths.specs.declared.key.Sharers.{Sharers}
 use Rattle.bd_deaths.specs.declared.sharing.Sharing.{Sharing}
 use Rattle.bd_deaths.specs.Keys.{same_name, has, group}
 
-abbrev pub group_at : Sharing → Key → Option Group
+abbrev pub group_at : Sharing → Key → Option Sharers
 group_at s (Name k) = get same_name s.names k
 group_at s (Cookie k) = look s.cookies k
 

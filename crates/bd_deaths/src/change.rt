@@ -124,9 +124,9 @@ impl DeathList {
     {
         let range = self.made_range(made);
         let to = self.walked_to(made, range.end);
-        self.drop_in(range, |x| x.made == made);
+        self.remove_if(range, |x| x.made == made);
         self.pass_untold(to);
-        self.close_up();
+        self.compact();
     }
 
     // What the item told of is told.

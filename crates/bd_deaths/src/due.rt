@@ -78,7 +78,7 @@ fn is_told_by(nodes: &NodeTable, p: u32, place: Option<u32>, s: &Slot) -> bool
 }
 
 // Puts those of others that are due to what is there, of this place where one is given.
-fn put_due(
+fn push_due(
     slots: &[Slot],
     nodes: &NodeTable,
     p: u32,
@@ -135,7 +135,7 @@ impl DeathList {
         ensures grown { OnErr result (OneIsDue nodes.now self.now p) }
     {
         let mut told = Vec::new(alloc);
-        put_due(&self.slots, nodes, p, None, &mut told)?;
+        push_due(&self.slots, nodes, p, None, &mut told)?;
         Ok(told)
     }
 
@@ -156,7 +156,7 @@ impl DeathList {
     {
         let mut told = Vec::new(alloc);
         for made in places {
-            put_due(self.made_part(*made), nodes, p, Some(*made), &mut told)?;
+            push_due(self.made_part(*made), nodes, p, Some(*made), &mut told)?;
         }
         Ok(told)
     }
@@ -201,7 +201,7 @@ impl DeathTable {
     }
 
     // Puts the places of the notifications that are due to what is there, in some order, perhaps some twice.
-    fn put_due_places(
+    fn push_due_places(
         &self,
         nodes: &NodeTable,
         p: u32,
@@ -225,7 +225,7 @@ impl DeathTable {
         ensures grown { OnErr result (OneIsDue nodes.now self.now.list p) }
     {
         let mut places = Vec::new(alloc);
-        self.put_due_places(nodes, p, &mut places)?;
+        self.push_due_places(nodes, p, &mut places)?;
         places.sort_unstable();
         places.dedup();
         Ok(places)

@@ -12,22 +12,22 @@ impl DeathList {
     ghost use Rattle.bd_deaths.specs.{Stands.{AreIn}, Room.{ListUses}};
 
     // The process's notifications of this place go.
-    fn drop_at(&mut self, p: u32, made: u32)
+    fn remove_at(&mut self, p: u32, made: u32)
         ensures stands { Makes (AreIn self.old) (AreIn self.new) (λ l. filter (λ x. not (due.is_own_at p made x)) l) }
         ensures uses { ListUses self.old self.new 0 }
     {
         let range = self.made_range(made);
-        self.drop_in(range, |x| x.made == made && x.process == p);
+        self.remove_if(range, |x| x.made == made && x.process == p);
     }
 
     // The process's notifications of these places go.
-    fn drop_all(&mut self, p: u32, places: Members<'_, u32>)
+    fn remove_each(&mut self, p: u32, places: Members<'_, u32>)
         ensures stands { Makes (AreIn self.old) (AreIn self.new)
             (λ l. filter (λ x. not (due.has_place places.entry x.made && (x.process == p))) l) }
         ensures uses { ListUses self.old self.new 0 }
     {
         for made in places {
-            self.drop_at(p, made);
+            self.remove_at(p, made);
         }
     }
 }
@@ -37,13 +37,13 @@ impl DeathTable {
 
     /// The notifications of the process go.
     #[tactic(auto, unfolding(crate::specs::Room::death_room, crate::specs::Room::death_count))]
-    pub fn drop_process(&mut self, p: u32)
+    pub fn remove_process(&mut self, p: u32)
         ensures stands { Makes (DeathsAre self.old) (DeathsAre self.new) (λ l. filter (λ x. not (x.process == p)) l) }
         ensures uses { Uses self.old self.new 0 }
     {
         let own = Group::Process { made: p };
-        self.list.drop_all(p, self.groups.of(own));
-        self.list.close_up();
+        self.list.remove_each(p, self.groups.of(own));
+        self.list.compact();
         self.groups.forget(own);
     }
 }

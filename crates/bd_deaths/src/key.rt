@@ -39,7 +39,7 @@ pub(crate) enum Key {
 
 /// Those with a key.
 #[derive(Clone, Copy)]
-pub(crate) struct Group {
+pub(crate) struct Sharers {
     pub(crate) count: usize,
     // The sum of their places, which wraps. So what goes needs no search for who is left: the sum of one is its place.
     pub(crate) sum: u32,
@@ -84,15 +84,15 @@ pub(crate) fn cookie_of(x: &DeathNotification) -> WordKey
 }
 
 /// With one more, of this place.
-pub(crate) fn with_one(group: Option<Group>, made: u32) -> Group
+pub(crate) fn with_one(group: Option<Sharers>, made: u32) -> Sharers
     ensures { result ≡ keys.with_one made group }
 {
     match group {
-        None => Group {
+        None => Sharers {
             count: 1,
             sum: made,
         },
-        Some(group) => Group {
+        Some(group) => Sharers {
             count: group.count.wrapping_add(1),
             sum: group.sum.wrapping_add(made),
         },
@@ -100,7 +100,7 @@ pub(crate) fn with_one(group: Option<Group>, made: u32) -> Group
 }
 
 /// Without one, of this place: nothing where it was the last.
-pub(crate) fn without_one(group: Option<Group>, made: u32) -> Option<Group>
+pub(crate) fn without_one(group: Option<Sharers>, made: u32) -> Option<Sharers>
     ensures { result ≡ keys.without_one made group }
 {
     match group {
@@ -108,7 +108,7 @@ pub(crate) fn without_one(group: Option<Group>, made: u32) -> Option<Group>
             if group.count <= 1 {
                 None
             } else {
-                Some(Group {
+                Some(Sharers {
                     count: group.count - 1,
                     sum: group.sum.wrapping_sub(made),
                 })

@@ -100,12 +100,12 @@ impl DeathList {
     {
         let x = self.slots[i].death;
         self.slots[i].live = false;
-        self.sharing.take(&x);
+        self.sharing.remove(&x);
         self.gone = self.gone.saturating_add(1);
     }
 
     /// Of the notifications of these slots those go for which `f` answers `true`.
-    pub(crate) fn drop_in<F: Fn(DeathNotification) -> bool>(&mut self, range: Range<usize>, f: F)
+    pub(crate) fn remove_if<F: Fn(DeathNotification) -> bool>(&mut self, range: Range<usize>, f: F)
         requires calls { F.IsAlwaysCallable f }
         requires from { range.start ≤ range.end }
         requires to { range.end ≤ vec_len self.old.slots }
@@ -137,7 +137,7 @@ impl DeathList {
 
     /// Where more than half have gone, the others close up: each that went pays for one that moves.
     #[tactic(auto, unfolding(crate::specs::Room::list_room, crate::specs::Room::list_count))]
-    pub(crate) fn close_up(&mut self)
+    pub(crate) fn compact(&mut self)
         ensures stands { Makes (AreIn self.old) (AreIn self.new) (λ l. l) }
         ensures uses { ListUses self.old self.new 0 }
     {

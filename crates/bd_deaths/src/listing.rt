@@ -25,7 +25,7 @@ pub(crate) fn group_of(o: ObjectId) -> Group
 }
 
 /// The notification's place comes into the groups of its process and its object.
-pub(crate) fn list_place(groups: &mut Groups<u32>, x: &DeathNotification)
+pub(crate) fn push_place(groups: &mut Groups<u32>, x: &DeathNotification)
     requires { 2 ≤ group_room groups.old }
     ensures listed { IsListed groups.new x.now }
     ensures kept { Makes (IsListed groups.old) (IsListed groups.new) (λ y. y) }
@@ -36,14 +36,14 @@ pub(crate) fn list_place(groups: &mut Groups<u32>, x: &DeathNotification)
 }
 
 /// The places of those of these notifications that haven't gone come into the groups.
-fn list_places(groups: &mut Groups<u32>, slots: &[Slot])
+fn push_places(groups: &mut Groups<u32>, slots: &[Slot])
     requires { 2 * length slots.now ≤ group_room groups.old }
     ensures listed { All (IsListed groups.new) (spec.lives slots.now) }
     ensures uses { group_room groups.old ≤ group_room groups.new + 2 * length slots.now }
 {
     for s in slots {
         if s.live {
-            list_place(groups, &s.death);
+            push_place(groups, &s.death);
         }
     }
 }
@@ -60,7 +60,7 @@ impl DeathTable {
         let slots = &self.list.slots;
         let left = slots.len().checked_mul(2).ok_or(AllocError)?;
         let mut groups = Groups::with_room(*slots.allocator(), left, more)?;
-        list_places(&mut groups, slots);
+        push_places(&mut groups, slots);
         Ok(groups)
     }
 

@@ -50,8 +50,8 @@ impl DeathList {
         ensures uses { ListUses self.old self.new 0 }
     {
         let range = self.key_range(name_key(p, o));
-        self.drop_in(range, |x| is_uncleared_on(p, o, &x));
-        self.close_up();
+        self.remove_if(range, |x| is_uncleared_on(p, o, &x));
+        self.compact();
     }
 }
 
@@ -91,7 +91,7 @@ impl DeathTable {
 
     /// The uncleared notifications on the name go, unless the name is there.
     #[tactic(auto, unfolding(crate::specs::Room::death_room, crate::specs::Room::death_count))]
-    pub fn go_with(&mut self, named: bool, p: u32, o: ObjectId)
+    pub fn remove_unnamed(&mut self, named: bool, p: u32, o: ObjectId)
         ensures stands { Makes (DeathsAre self.old) (DeathsAre self.new)
             (λ l. filter (λ x. not (local.at_name p o x.process x.object) || (x.cleared || named)) l) }
         ensures uses { Uses self.old self.new 0 }

@@ -10,7 +10,7 @@ ghost use Rattle.bd_deaths.specs.declared.key.NameKey.{NameKey};
 ghost use Rattle.bd_deaths.specs.Keys as keys;
 ghost use Rattle.bd_deaths.specs.SharedAt.{group_at, AreShared, key_room};
 
-use crate::key::{Group, Key, NameKey, cookie_of, name_of, with_one, without_one};
+use crate::key::{Key, NameKey, Sharers, cookie_of, name_of, with_one, without_one};
 use bd_keys::{WordMap, insert_reserved};
 use bd_space::DeathNotification;
 use std::alloc::{AllocError, Global};
@@ -18,9 +18,9 @@ use std::collections::HashMap;
 
 /// What is kept of the notifications with each key.
 pub(crate) struct Sharing {
-    pub(crate) names: HashMap<NameKey, Group>,
+    pub(crate) names: HashMap<NameKey, Sharers>,
     // A process picks its cookies: whatever it picks, a look stays short.
-    pub(crate) cookies: WordMap<Group>,
+    pub(crate) cookies: WordMap<Sharers>,
 }
 
 impl Drop for Sharing {
@@ -33,7 +33,7 @@ impl Drop for Sharing {
 }
 
 /// One more has its name.
-fn add_name(names: &mut HashMap<NameKey, Group>, x: &DeathNotification)
+fn add_name(names: &mut HashMap<NameKey, Sharers>, x: &DeathNotification)
     requires { 0 < spare names.old }
     ensures at { (k : NameKey) → get keys.same_name names.new k ≡ (if keys.same_name (keys.name_of x.now) k
         then Some (keys.with_one x.now.made (get keys.same_name names.old (keys.name_of x.now)))
@@ -47,7 +47,7 @@ fn add_name(names: &mut HashMap<NameKey, Group>, x: &DeathNotification)
 }
 
 /// One more has its cookie.
-fn add_cookie(cookies: &mut WordMap<Group>, x: &DeathNotification)
+fn add_cookie(cookies: &mut WordMap<Sharers>, x: &DeathNotification)
     requires { 1 ≤ word_room cookies.old }
     ensures at { (k : WordKey) → look cookies.new k ≡ (if same_word (keys.cookie_of x.now) k
         then Some (keys.with_one x.now.made (look cookies.old (keys.cookie_of x.now))) else look cookies.old k) }
@@ -59,7 +59,7 @@ fn add_cookie(cookies: &mut WordMap<Group>, x: &DeathNotification)
 }
 
 /// These have the name from now on, where some had it.
-fn set_name(names: &mut HashMap<NameKey, Group>, key: NameKey, now: Group)
+fn set_name(names: &mut HashMap<NameKey, Sharers>, key: NameKey, now: Sharers)
     ensures at { (k : NameKey) → get keys.same_name names.new k ≡ (if keys.same_name key k
         then keys.instead now (get keys.same_name names.old key) else get keys.same_name names.old k) }
     ensures room { spare names.old ≤ spare names.new }
@@ -70,7 +70,7 @@ fn set_name(names: &mut HashMap<NameKey, Group>, key: NameKey, now: Group)
 }
 
 /// One less has its name.
-fn take_name(names: &mut HashMap<NameKey, Group>, x: &DeathNotification)
+fn remove_name(names: &mut HashMap<NameKey, Sharers>, x: &DeathNotification)
     ensures at { (k : NameKey) → get keys.same_name names.new k ≡ (if keys.same_name (keys.name_of x.now) k
         then keys.without_one x.now.made (get keys.same_name names.old (keys.name_of x.now))
         else get keys.same_name names.old k) }
@@ -86,7 +86,7 @@ fn take_name(names: &mut HashMap<NameKey, Group>, x: &DeathNotification)
 }
 
 /// One less has its cookie.
-fn take_cookie(cookies: &mut WordMap<Group>, x: &DeathNotification)
+fn remove_cookie(cookies: &mut WordMap<Sharers>, x: &DeathNotification)
     ensures at { (k : WordKey) → look cookies.new k ≡ (if same_word (keys.cookie_of x.now) k
         then keys.without_one x.now.made (look cookies.old (keys.cookie_of x.now))
         else look cookies.old k) }
@@ -125,7 +125,7 @@ impl Sharing {
     }
 
     /// What is kept of those with the key.
-    pub(crate) fn at(&self, key: Key) -> Option<Group>
+    pub(crate) fn at(&self, key: Key) -> Option<Sharers>
         ensures { result ≡ group_at self.now key }
     {
         match key {
@@ -148,12 +148,12 @@ impl Sharing {
 
     /// One notification less.
     #[tactic(auto, unfolding(crate::specs::SharedAt::key_room))]
-    pub(crate) fn take(&mut self, x: &DeathNotification)
+    pub(crate) fn remove(&mut self, x: &DeathNotification)
         ensures stands { (l : List DeathNotification) (i : ℕ) → AreShared self.old l → i < length l
             → slice_index_or l i x.now ≡ x.now → AreShared self.new (remove l i) }
         ensures room { key_room self.old ≤ key_room self.new }
     {
-        take_name(&mut self.names, x);
-        take_cookie(&mut self.cookies, x);
+        remove_name(&mut self.names, x);
+        remove_cookie(&mut self.cookies, x);
     }
 }

@@ -8,7 +8,7 @@ ghost use Rattle.bd_space.specs.ReadItems as reading;
 ghost use Rattle.bd_space.specs.declared.space.Phase.TheVariants.{Told};
 
 use crate::list::DeathList;
-use crate::listing::list_place;
+use crate::listing::push_place;
 use bd_groups::Groups;
 use bd_space::{DeathNotification, Phase, Work};
 use std::alloc::{AllocError, Global};
@@ -64,7 +64,7 @@ impl DeathTable {
         ensures stands { Makes (DeathsAre self.old) (DeathsAre self.new) (λ l. l ++ x ∷ []) }
         ensures uses { Uses self.old self.new 1 }
     {
-        list_place(&mut self.groups, &x);
+        push_place(&mut self.groups, &x);
         self.list.push(x);
     }
 

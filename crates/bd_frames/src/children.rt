@@ -41,7 +41,7 @@ fn forget(children: &mut HashMap<u32, u64>, made: u32)
 }
 
 // The call made there has one less.
-fn take_one(children: &mut HashMap<u32, u64>, made: u32)
+fn remove_one(children: &mut HashMap<u32, u64>, made: u32)
     ensures counts { (m : ℕ) → kept_at children.new m
         ≡ (if made == m then spec.if_any (spec.child_count children.old made - 1) else kept_at children.old m) }
     ensures spare { spare children.old ≤ spare children.new }
@@ -68,12 +68,12 @@ pub(crate) fn add_child(children: &mut HashMap<u32, u64>, frame: Frame)
 }
 
 /// This frame goes.
-pub(crate) fn take_child(children: &mut HashMap<u32, u64>, frame: Frame)
+pub(crate) fn remove_child(children: &mut HashMap<u32, u64>, frame: Frame)
     ensures counts { (l : List declared.Frame) (i : ℕ) → AreChildren children.old l → i < length l
         → slice_index_or l i frame ≡ frame → AreChildren children.new (remove l i) }
     ensures spare { spare children.old ≤ spare children.new }
 {
     if let Some(made) = frame.parent {
-        take_one(children, made);
+        remove_one(children, made);
     }
 }

@@ -14,7 +14,7 @@ ghost use Rattle.bd_frames.specs.Words.{newest_in, abandoned_in, oldest_in, lost
 
 use crate::ancestry::{Ancestry, ancestry_among};
 use crate::change::{change_in, frame_lost, frame_served};
-use crate::children::{add_child, take_child};
+use crate::children::{add_child, remove_child};
 use crate::frame::{
     abandoned_among, frame_among, is_after_parent, is_newest, newest_among, oldest_among,
     push_served, takes_part_among,
@@ -103,7 +103,7 @@ impl FrameTable {
         ensures uses { Uses self.old self.new 0 }
     {
         let frame = self.frames.remove(i);
-        take_child(&mut self.children, frame);
+        remove_child(&mut self.children, frame);
         self.stacks.remove(frame, i);
     }
 

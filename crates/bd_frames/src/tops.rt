@@ -61,7 +61,7 @@ fn lower_top(tops: &mut HashMap<u32, u32>, seat: u32, made: u32)
 }
 
 // What was below the thread's innermost frame is its innermost one.
-fn drop_top(tops: &mut HashMap<u32, u32>, seat: u32, below: Option<u32>)
+fn replace_top(tops: &mut HashMap<u32, u32>, seat: u32, below: Option<u32>)
     requires { is_some_and (kept_at tops.old seat) (λ _. true) ≡ true }
     ensures tops { (s : ℕ) → kept_at tops.new s ≡ (if seat == s then below else kept_at tops.old s) }
     ensures spare { spare tops.old ≤ spare tops.new }
@@ -90,6 +90,6 @@ pub(crate) fn pop_top(
     if top_of(tops, seat) != Some(made) {
         return false;
     }
-    drop_top(tops, seat, below);
+    replace_top(tops, seat, below);
     true
 }

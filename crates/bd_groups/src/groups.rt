@@ -32,7 +32,7 @@ fn reserve_latest(latest: &mut HashMap<Group, usize>, more: usize) -> Result<(),
 
 // The group's latest member stands there from now on. Answers where the one before it stands.
 #[tactic(auto, unfolding(crate::specs::Group::same_group))]
-fn put_latest(latest: &mut HashMap<Group, usize>, g: Group, at: usize) -> Option<usize>
+fn insert_latest(latest: &mut HashMap<Group, usize>, g: Group, at: usize) -> Option<usize>
     requires { 0 < spare latest.old }
     ensures before { result ≡ latest_at latest.old g }
     ensures at { (h : group.Group) → latest_at latest.new h
@@ -43,7 +43,7 @@ fn put_latest(latest: &mut HashMap<Group, usize>, g: Group, at: usize) -> Option
 }
 
 #[tactic(auto, unfolding(crate::specs::Group::same_group))]
-fn take_latest(latest: &mut HashMap<Group, usize>, g: Group)
+fn remove_latest(latest: &mut HashMap<Group, usize>, g: Group)
     ensures at { (h : group.Group) → latest_at latest.new h
         ≡ (if groups.same_group g h then None else latest_at latest.old h) }
     ensures spare { spare latest.old ≤ spare latest.new }
@@ -141,7 +141,7 @@ impl<T: Copy> Groups<T> {
         ensures uses { group_room self.old ≤ group_room self.new + 1 }
     {
         let at = self.links.len();
-        let before = put_latest(&mut self.latest, g, at);
+        let before = insert_latest(&mut self.latest, g, at);
         self.links.push_reserved(Link { member, before });
     }
 
@@ -154,7 +154,7 @@ impl<T: Copy> Groups<T> {
         ensures count { member_count self.new ≡ member_count self.old }
         ensures uses { group_room self.old ≤ group_room self.new }
     {
-        take_latest(&mut self.latest, g);
+        remove_latest(&mut self.latest, g);
     }
 
     /// The members of a group, the latest first.

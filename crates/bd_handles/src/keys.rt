@@ -62,7 +62,7 @@ pub fn number_of(numbers: &HashMap<ObjectKey, u32>, p: u32, o: ObjectId) -> Opti
 }
 
 /// The object has this number of the process from now on.
-pub fn put_number(numbers: &mut HashMap<ObjectKey, u32>, p: u32, o: ObjectId, n: u32)
+pub fn insert_number(numbers: &mut HashMap<ObjectKey, u32>, p: u32, o: ObjectId, n: u32)
     requires { 0 < spare numbers.old }
     ensures at { (q : ℕ) (x : declared.ObjectId) → number_at numbers.new q x
         ≡ (if (p == q) && same o x then Some n else number_at numbers.old q x) }
@@ -76,7 +76,7 @@ pub fn put_number(numbers: &mut HashMap<ObjectKey, u32>, p: u32, o: ObjectId, n:
 }
 
 /// The object has no number of the process from now on.
-pub fn take_number(numbers: &mut HashMap<ObjectKey, u32>, p: u32, o: ObjectId)
+pub fn remove_number(numbers: &mut HashMap<ObjectKey, u32>, p: u32, o: ObjectId)
     ensures at { (q : ℕ) (x : declared.ObjectId) → number_at numbers.new q x
         ≡ (if (p == q) && same o x then None else number_at numbers.old q x) }
     ensures spare { spare numbers.old ≤ spare numbers.new }

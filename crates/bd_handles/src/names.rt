@@ -8,7 +8,7 @@ ghost use Rattle.bd_handles.specs.Numbers as numbers;
 ghost use Rattle.bd_handles.specs.Numbers.{IsNextNumber};
 ghost use Rattle.bd_handles.specs.{Sound.{has_number, has_object}, Named.{Named, HasNumbers, index_room, place_of}};
 
-use crate::keys::{ObjectKey, number_of, put_number, take_number};
+use crate::keys::{ObjectKey, insert_number, number_of, remove_number};
 use crate::pages::Pages;
 use bd_groups::Members;
 use bd_space::{Name, ObjectId};
@@ -129,15 +129,15 @@ impl Names {
     }
 
     /// A name comes in.
-    pub fn enter(&mut self, m: Name)
+    pub fn insert(&mut self, m: Name)
         requires { 1 ≤ index_room self.old }
         ensures stands { (l : List declared.Name) → Named self.old l → m.number ≤ 4294967294
             → names_of.named_in l m.process m.number ≡ None → names_of.number_in l m.process m.object ≡ None
             → Named self.new (l ++ m ∷ []) }
         ensures uses { index_room self.old ≤ index_room self.new + 1 }
     {
-        self.pages.put(m.process, place_of(m.number), m.object);
-        put_number(&mut self.numbers, m.process, m.object, m.number);
+        self.pages.insert(m.process, place_of(m.number), m.object);
+        insert_number(&mut self.numbers, m.process, m.object, m.number);
     }
 
     // The process's name of the object goes, which has this number.
@@ -146,12 +146,12 @@ impl Names {
             → Named self.new (filter (λ m. not (has_object p o m)) l) }
         ensures uses { index_room self.old ≤ index_room self.new }
     {
-        self.pages.take(p, place_of(n));
-        take_number(&mut self.numbers, p, o);
+        self.pages.remove(p, place_of(n));
+        remove_number(&mut self.numbers, p, o);
     }
 
     /// The process's name of the object goes, if it has one.
-    pub fn forget(&mut self, p: u32, o: ObjectId)
+    pub fn remove_object(&mut self, p: u32, o: ObjectId)
         ensures stands { Makes (Named self.old) (Named self.new) (λ l. filter (λ m. not (has_object p o m)) l) }
         ensures uses { index_room self.old ≤ index_room self.new }
     {
@@ -162,7 +162,7 @@ impl Names {
     }
 
     // The process's name with this number goes, if it has one.
-    fn forget_number(&mut self, p: u32, n: u32)
+    fn remove_number(&mut self, p: u32, n: u32)
         ensures stands { Makes (Named self.old) (Named self.new) (λ l. filter (λ m. not (has_number p n m)) l) }
         ensures uses { index_room self.old ≤ index_room self.new }
     {
@@ -173,13 +173,13 @@ impl Names {
     }
 
     /// All names of the process go, whose numbers are among these.
-    pub fn forget_process(&mut self, p: u32, numbers: Members<'_, u32>)
+    pub fn remove_process(&mut self, p: u32, numbers: Members<'_, u32>)
         ensures stands { (l : List declared.Name) → Named self.old l → HasNumbers numbers.entry p l
             → Named self.new (filter (λ m. not (m.process == p)) l) }
         ensures uses { index_room self.old ≤ index_room self.new }
     {
         for n in numbers {
-            self.forget_number(p, n);
+            self.remove_number(p, n);
         }
     }
 }

@@ -37,7 +37,7 @@ impl Page {
     }
 
     /// The place names the object from now on.
-    pub fn put(&mut self, i: u32, o: ObjectId)
+    pub fn insert(&mut self, i: u32, o: ObjectId)
         requires { i < 64 }
         ensures { (j : ℕ) → j < 64 → place_at self.new j ≡ (if i == j then Some o else place_at self.old j) }
     {
@@ -46,7 +46,7 @@ impl Page {
     }
 
     /// The place names nothing from now on.
-    pub fn take(&mut self, i: u32)
+    pub fn remove(&mut self, i: u32)
         requires { i < 64 }
         ensures { (j : ℕ) → j < 64 → place_at self.new j ≡ (if i == j then None else place_at self.old j) }
     {

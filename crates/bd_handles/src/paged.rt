@@ -37,7 +37,7 @@ pub fn used_of(pages: &HashMap<NumberKey, Page>, p: u32, w: u32) -> u64
 }
 
 /// The process's place names the object from now on. The word of its page.
-pub fn put_object(pages: &mut HashMap<NumberKey, Page>, p: u32, i: u32, o: ObjectId) -> u64
+pub fn insert_object(pages: &mut HashMap<NumberKey, Page>, p: u32, i: u32, o: ObjectId) -> u64
     requires { 0 < spare pages.old }
     ensures at { (q k : ℕ) → object_at pages.new q k ≡ (if (p == q) && (i == k) then Some o else object_at pages.old q k) }
     ensures others { (q v : ℕ) → ((p == q) && (i / 64 == v)) ≡ false → page_at pages.new q v ≡ page_at pages.old q v }
@@ -51,12 +51,12 @@ pub fn put_object(pages: &mut HashMap<NumberKey, Page>, p: u32, i: u32, o: Objec
     };
     match pages.get_mut(&key) {
         Some(page) => {
-            page.put(i % 64, o);
+            page.insert(i % 64, o);
             page.used
         }
         None => {
             let mut page = Page::new();
-            page.put(i % 64, o);
+            page.insert(i % 64, o);
             let used = page.used;
             insert_reserved(pages, key, page);
             used
@@ -65,7 +65,7 @@ pub fn put_object(pages: &mut HashMap<NumberKey, Page>, p: u32, i: u32, o: Objec
 }
 
 // The process's place names nothing from now on. The word of its page.
-fn clear_place(pages: &mut HashMap<NumberKey, Page>, p: u32, i: u32) -> u64
+fn remove_place(pages: &mut HashMap<NumberKey, Page>, p: u32, i: u32) -> u64
     ensures at { (q k : ℕ) → object_at pages.new q k ≡ (if (p == q) && (i == k) then None else object_at pages.old q k) }
     ensures others { (q v : ℕ) → ((p == q) && (i / 64 == v)) ≡ false → page_at pages.new q v ≡ page_at pages.old q v }
     ensures word { result ≡ used_at pages.new p (i / 64) }
@@ -76,7 +76,7 @@ fn clear_place(pages: &mut HashMap<NumberKey, Page>, p: u32, i: u32) -> u64
         number: i / 64,
     }) {
         Some(page) => {
-            page.take(i % 64);
+            page.remove(i % 64);
             page.used
         }
         None => 0,
@@ -84,7 +84,7 @@ fn clear_place(pages: &mut HashMap<NumberKey, Page>, p: u32, i: u32) -> u64
 }
 
 // A page that names nothing goes.
-fn forget_page(pages: &mut HashMap<NumberKey, Page>, p: u32, w: u32)
+fn remove_page(pages: &mut HashMap<NumberKey, Page>, p: u32, w: u32)
     requires { used_at pages.old p w ≡ 0 }
     ensures at { (q k : ℕ) → object_at pages.new q k ≡ object_at pages.old q k }
     ensures gone { (q v : ℕ) → page_at pages.new q v ≡ (if (p == q) && (w == v) then None else page_at pages.old q v) }
@@ -97,13 +97,13 @@ fn forget_page(pages: &mut HashMap<NumberKey, Page>, p: u32, w: u32)
 }
 
 /// The process's place names nothing from now on.
-pub fn take_object(pages: &mut HashMap<NumberKey, Page>, p: u32, i: u32)
+pub fn remove_object(pages: &mut HashMap<NumberKey, Page>, p: u32, i: u32)
     ensures at { (q k : ℕ) → object_at pages.new q k ≡ (if (p == q) && (i == k) then None else object_at pages.old q k) }
     ensures others { (q v : ℕ) → ((p == q) && (i / 64 == v)) ≡ false → page_at pages.new q v ≡ page_at pages.old q v }
     ensures filled { AreFilled pages.old → AreFilled pages.new }
     ensures spare { spare pages.old ≤ spare pages.new }
 {
-    if clear_place(pages, p, i) == 0 {
-        forget_page(pages, p, i / 64);
+    if remove_place(pages, p, i) == 0 {
+        remove_page(pages, p, i / 64);
     }
 }

@@ -5,7 +5,7 @@ ghost use Rattle.bd_handles.specs.Page.{object_at, AreFilled};
 
 use crate::keys::NumberKey;
 use crate::page::Page;
-use crate::paged::{object_of, put_object, take_object, used_of};
+use crate::paged::{insert_object, object_of, remove_object, used_of};
 use crate::words::Words;
 use bd_space::ObjectId;
 use std::alloc::{AllocError, Global};
@@ -70,26 +70,26 @@ impl Pages {
     }
 
     /// The process's place, which names nothing, names the object from now on.
-    pub fn put(&mut self, p: u32, i: u32, o: ObjectId)
+    pub fn insert(&mut self, p: u32, i: u32, o: ObjectId)
         requires { 1 ≤ page_room self.old }
         ensures at { (q k : ℕ) → object_at self.new.pages q k
             ≡ (if (p == q) && (i == k) then Some o else object_at self.old.pages q k) }
         ensures full { object_at self.old.pages p i ≡ None → FullAre self.old → FullAre self.new }
         ensures uses { page_room self.old ≤ page_room self.new + 1 }
     {
-        if put_object(&mut self.pages, p, i, o) == u64::MAX {
+        if insert_object(&mut self.pages, p, i, o) == u64::MAX {
             self.full.set(p, i / 64);
         }
     }
 
     /// The process's place names nothing from now on.
-    pub fn take(&mut self, p: u32, i: u32)
+    pub fn remove(&mut self, p: u32, i: u32)
         ensures at { (q k : ℕ) → object_at self.new.pages q k
             ≡ (if (p == q) && (i == k) then None else object_at self.old.pages q k) }
         ensures full { FullAre self.old → FullAre self.new }
         ensures uses { page_room self.old ≤ page_room self.new }
     {
-        take_object(&mut self.pages, p, i);
+        remove_object(&mut self.pages, p, i);
         self.full.clear(p, i / 64);
     }
 }

@@ -145,7 +145,7 @@ impl NameTable {
             → NamesSince self.new base (l ++ m ∷ []) }
         ensures uses { Uses self.old self.new 1 }
     {
-        self.names.enter(m);
+        self.names.insert(m);
         self.held.push(Group::Process { made: m.process }, m.number);
         self.given.push_reserved(m);
     }
@@ -161,47 +161,47 @@ impl NameTable {
 
     // What was given last is taken back.
     #[tactic(auto, unfolding(crate::specs::Stands::name_room))]
-    fn take_last(&mut self)
+    fn roll_back_last(&mut self)
         ensures stands { (base l : List declared.Name) → NamesSince self.old base l
             → NamesSince self.new base (base ++ self.new.given.items) }
         ensures fewer { vec_len self.new.given ≡ vec_len self.old.given - 1 }
         ensures uses { Uses self.old self.new 0 }
     {
         match self.given.pop() {
-            Some(m) => self.names.forget(m.process, m.object),
+            Some(m) => self.names.remove_object(m.process, m.object),
             None => {}
         }
     }
 
     /// What was given since the table was settled is taken back.
     #[tactic(auto, unfolding(crate::specs::Stands::name_room))]
-    pub fn take_back(&mut self)
+    pub fn roll_back(&mut self)
         ensures stands { (base l : List declared.Name) → NamesSince self.old base l → NamesAre self.new base }
         ensures uses { Uses self.old self.new 0 }
     {
         for _ in 0..self.given.len() {
-            self.take_last();
+            self.roll_back_last();
         }
     }
 
     /// The process's name of the object goes.
     #[tactic(auto, unfolding(crate::specs::Stands::name_room))]
-    pub fn drop(&mut self, p: u32, o: ObjectId)
+    pub fn remove(&mut self, p: u32, o: ObjectId)
         ensures stands { Makes (NamesAre self.old) (NamesAre self.new)
             (λ l. filter (λ m. not ((m.process == p) && words.same m.object o)) l) }
         ensures uses { Uses self.old self.new 0 }
     {
-        self.names.forget(p, o);
+        self.names.remove_object(p, o);
     }
 
     /// All names of the process go.
     #[tactic(auto, unfolding(crate::specs::Stands::name_room))]
-    pub fn drop_process(&mut self, p: u32)
+    pub fn remove_process(&mut self, p: u32)
         ensures stands { Makes (NamesAre self.old) (NamesAre self.new) (λ l. filter (λ m. not (m.process == p)) l) }
         ensures uses { Uses self.old self.new 0 }
     {
         let group = Group::Process { made: p };
-        self.names.forget_process(p, self.held.of(group));
+        self.names.remove_process(p, self.held.of(group));
         self.held.forget(group);
     }
 }

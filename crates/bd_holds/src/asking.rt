@@ -34,7 +34,7 @@ impl ReferenceTable {
         ensures uses { reference_room self.old ≤ reference_room self.new }
     {
         self.tallies
-            .drop_first(count_key(o, Kind::Asked(p), strong));
+            .remove_first(count_key(o, Kind::Asked(p), strong));
     }
 
     /// The least reference of this strength goes that stands for an acknowledgement, if there is one.
@@ -45,6 +45,6 @@ impl ReferenceTable {
         ensures uses { reference_room self.old ≤ reference_room self.new }
     {
         self.tallies
-            .drop_first(count_key(o, Kind::Handshake, strong));
+            .remove_first(count_key(o, Kind::Handshake, strong));
     }
 }

@@ -26,12 +26,12 @@ impl ReferenceTable {
 
     /// The references go that the buffer held.
     #[tactic(auto, unfolding(crate::specs::Room::reference_room))]
-    pub fn drop_buffer(&mut self, b: u32)
+    pub fn remove_buffer(&mut self, b: u32)
         ensures stands { Makes (ReferencesAre self.old) (ReferencesAre self.new)
             (λ l. filter (λ r. not (refer.is_of_buffer b r.holder)) l) }
         ensures uses { reference_room self.old ≤ reference_room self.new }
     {
-        self.tallies.take_each(self.items.of(b));
+        self.tallies.remove_each(self.items.of(b));
         self.items.clear(b);
     }
 

@@ -84,7 +84,7 @@ impl Counts {
 
     /// The counters of a use become 0. Tells how many there were.
     #[tactic(auto, unfolding(crate::specs::Keys::same_use))]
-    pub(crate) fn forget(&mut self, u: UseKey) -> Count
+    pub(crate) fn remove(&mut self, u: UseKey) -> Count
         ensures before { result ≡ both_at self.old u }
         ensures counts { (q : declared.CountKey) → count_at self.new q ≡ (if same_use u (use_of q) then 0 else count_at self.old q) }
         ensures spare { spare self.old.counts ≤ spare self.new.counts }
@@ -117,7 +117,7 @@ impl Counts {
 
     /// So many fewer, of both strengths. Tells how many there were.
     #[tactic(auto, unfolding(crate::specs::Keys::same_use))]
-    pub(crate) fn take_both(&mut self, u: UseKey, fewer: Count) -> Count
+    pub(crate) fn subtract_both(&mut self, u: UseKey, fewer: Count) -> Count
         ensures before { result ≡ both_at self.old u }
         ensures counts { (q : declared.CountKey) → count_at self.new q
             ≡ count_at self.old q - (if same_use u (use_of q) then of_strength q.strong fewer else 0) }
@@ -131,12 +131,12 @@ impl Counts {
     }
 
     /// So many fewer. Tells how many there were.
-    pub(crate) fn take(&mut self, k: CountKey, fewer: u64) -> u64
+    pub(crate) fn subtract(&mut self, k: CountKey, fewer: u64) -> u64
         ensures before { result ≡ count_at self.old k }
         ensures counts { (q : declared.CountKey) → count_at self.new q ≡ count_at self.old q - (if same_key k q then fewer else 0) }
         ensures spare { spare self.old.counts ≤ spare self.new.counts }
     {
-        self.take_both(use_of(k), Count::only(k.strong, fewer))
+        self.subtract_both(use_of(k), Count::only(k.strong, fewer))
             .of(k.strong)
     }
 }

@@ -19,23 +19,23 @@ impl ReferenceTable {
 
     /// The references go that go with the process: it asked for them, or they lie in its window.
     #[tactic(auto, unfolding(crate::specs::Room::reference_room))]
-    pub fn drop_with_process(&mut self, p: u32)
+    pub fn remove_with_process(&mut self, p: u32)
         ensures stands { Makes (ReferencesAre self.old) (ReferencesAre self.new)
             (λ l. filter (λ r. not (refer.is_asked_by p r.holder || refer.is_in_window p r.holder)) l) }
         ensures uses { reference_room self.old ≤ reference_room self.new }
     {
-        self.tallies.drop_with_process(p);
-        self.items.drop_window(p);
+        self.tallies.remove_with_process(p);
+        self.items.remove_window(p);
     }
 
     /// The references go that an owner has to its own object: what it is to acknowledge, and the context manager's.
     #[tactic(auto, unfolding(crate::specs::Room::reference_room))]
-    pub fn drop_of_owner(&mut self, o: ObjectId)
+    pub fn remove_of_owner(&mut self, o: ObjectId)
         ensures stands { Makes (ReferencesAre self.old) (ReferencesAre self.new)
             (λ l. filter (λ r. not (words.same r.object o && refer.is_of_owner r.holder)) l) }
         ensures uses { reference_room self.old ≤ reference_room self.new }
     {
-        self.tallies.drop_of_owner(o);
+        self.tallies.remove_of_owner(o);
     }
 
     /// Puts the objects of the references that the process asked for, or that lie in its window, to what is there, in

@@ -9,7 +9,7 @@ ghost use Rattle.bd_holds.specs.{Gathered.{item_in, end_in, AreEnds}, Listed.{Ar
 use crate::held::{HeldReferences, end_of};
 use crate::holders::buffer_of_holder;
 use crate::keys::ItemKey;
-use crate::windows::{leave_each, list_window, reserve_windows};
+use crate::windows::{list_window, remove_in_each, reserve_windows};
 use bd_groups::{Group, Groups};
 use bd_keys::insert_reserved;
 use bd_space::Reference;
@@ -165,14 +165,14 @@ impl Items {
     }
 
     /// What lies in the window goes from all buffers.
-    pub(crate) fn drop_window(&mut self, p: u32)
+    pub(crate) fn remove_window(&mut self, p: u32)
         ensures items { (c : ℕ) → items_of self.new c
             ≡ filter (λ r. not (refer.is_in_window p r.holder)) (items_of self.old c) }
         ensures ends { (c : ℕ) → end_at self.new c ≤ end_at self.old c }
         ensures uses { item_room self.old ≤ item_room self.new }
     {
         let group = Group::Process { made: p };
-        leave_each(&mut self.held, &mut self.ends, self.windows.of(group), p);
+        remove_in_each(&mut self.held, &mut self.ends, self.windows.of(group), p);
         self.windows.forget(group);
     }
 }

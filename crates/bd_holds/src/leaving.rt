@@ -11,7 +11,7 @@ use crate::keys::{UseKey, any_use};
 use bd_groups::Members;
 
 /// What is counted for the use goes, of both strengths. Where that is nothing, nothing changes.
-pub(crate) fn drop_use(uses: &mut Counts, totals: &mut Counts, u: UseKey)
+pub(crate) fn remove_use(uses: &mut Counts, totals: &mut Counts, u: UseKey)
     ensures counts { (q : key.CountKey) → count_at uses.new q
         ≡ (if keys.same_use u (keys.use_of q) then 0 else count_at uses.old q) }
     ensures stands { Makes (CountBoth uses.old totals.old) (CountBoth uses.new totals.new)
@@ -19,14 +19,14 @@ pub(crate) fn drop_use(uses: &mut Counts, totals: &mut Counts, u: UseKey)
     ensures uses_spare { spare uses.old.counts ≤ spare uses.new.counts }
     ensures totals_spare { spare totals.old.counts ≤ spare totals.new.counts }
 {
-    let gone = uses.forget(u);
+    let gone = uses.remove(u);
     if !gone.is_empty() {
-        totals.take_both(any_use(u), gone);
+        totals.subtract_both(any_use(u), gone);
     }
 }
 
 /// What is counted for these uses goes.
-pub(crate) fn drop_each(uses: &mut Counts, totals: &mut Counts, listed: Members<'_, UseKey>)
+pub(crate) fn remove_uses(uses: &mut Counts, totals: &mut Counts, listed: Members<'_, UseKey>)
     ensures counts { (q : key.CountKey) → count_at uses.new q
         ≡ (if keys.is_one_of listed.entry (keys.use_of q) then 0 else count_at uses.old q) }
     ensures stands { Makes (CountBoth uses.old totals.old) (CountBoth uses.new totals.new)
@@ -35,6 +35,6 @@ pub(crate) fn drop_each(uses: &mut Counts, totals: &mut Counts, listed: Members<
     ensures totals_spare { spare totals.old.counts ≤ spare totals.new.counts }
 {
     for u in listed {
-        drop_use(uses, totals, u);
+        remove_use(uses, totals, u);
     }
 }

@@ -17,8 +17,8 @@ use crate::held::HeldReferences;
 use crate::keys::{
     CountKey, Kind, UseKey, any_kind, count_key, to_use, total_key, use_key, use_of,
 };
-use crate::leaving::{drop_each, drop_use};
-use crate::users::{enlist, reserve_users};
+use crate::leaving::{remove_use, remove_uses};
+use crate::users::{push_new_user, reserve_users};
 use bd_groups::{Group, Groups};
 use bd_space::{ObjectId, Reference};
 use std::alloc::{AllocError, Global};
@@ -123,59 +123,59 @@ impl Tallies {
     {
         let k = use_key(r);
         let before = self.uses.add(k);
-        enlist(&mut self.users, use_of(k), before);
+        push_new_user(&mut self.users, use_of(k), before);
         self.totals.add(total_key(r));
     }
 
     // One reference fewer.
-    fn take(&mut self, r: Reference)
+    fn remove(&mut self, r: Reference)
         ensures taken { TakenBack self.old self.new (r ∷ []) }
         ensures uses { tally_room self.old ≤ tally_room self.new }
     {
-        self.uses.take(use_key(r), 1);
-        self.totals.take(total_key(r), 1);
+        self.uses.subtract(use_key(r), 1);
+        self.totals.subtract(total_key(r), 1);
     }
 
     /// These go.
-    pub(crate) fn take_each(&mut self, references: HeldReferences<'_>)
+    pub(crate) fn remove_each(&mut self, references: HeldReferences<'_>)
         ensures taken { TakenBack self.old self.new references.entry }
         ensures uses { tally_room self.old ≤ tally_room self.new }
     {
         for r in references {
-            self.take(r);
+            self.remove(r);
         }
     }
 
     /// The first goes with this key, if there is one.
-    pub(crate) fn drop_first(&mut self, k: CountKey)
+    pub(crate) fn remove_first(&mut self, k: CountKey)
         ensures stands { (l : List declared.Reference) (test : declared.Reference → Bool)
             → ((r : declared.Reference) → test r ≡ keys.same_key (keys.use_key r) k)
             → Tallied self.old l → Tallied self.new (without_first test l) }
         ensures uses { tally_room self.old ≤ tally_room self.new }
     {
-        if self.uses.take(k, 1) > 0 {
-            self.totals.take(any_kind(k), 1);
+        if self.uses.subtract(k, 1) > 0 {
+            self.totals.subtract(any_kind(k), 1);
         }
     }
 
     /// Those of a process go.
-    pub(crate) fn drop_with_process(&mut self, p: u32)
+    pub(crate) fn remove_with_process(&mut self, p: u32)
         ensures stands { Makes (Tallied self.old) (Tallied self.new)
             (λ l. filter (λ r. not (refer.is_asked_by p r.holder || refer.is_in_window p r.holder)) l) }
         ensures uses { tally_room self.old ≤ tally_room self.new }
     {
         let group = Group::Process { made: p };
-        drop_each(&mut self.uses, &mut self.totals, self.users.of(group));
+        remove_uses(&mut self.uses, &mut self.totals, self.users.of(group));
         self.users.forget(group);
     }
 
     /// Those go that an owner has to its own object.
-    pub(crate) fn drop_of_owner(&mut self, o: ObjectId)
+    pub(crate) fn remove_of_owner(&mut self, o: ObjectId)
         ensures stands { Makes (Tallied self.old) (Tallied self.new)
             (λ l. filter (λ r. not (same r.object o && refer.is_of_owner r.holder)) l) }
         ensures uses { tally_room self.old ≤ tally_room self.new }
     {
-        drop_use(&mut self.uses, &mut self.totals, to_use(o, Kind::Handshake));
-        drop_use(&mut self.uses, &mut self.totals, to_use(o, Kind::Manager));
+        remove_use(&mut self.uses, &mut self.totals, to_use(o, Kind::Handshake));
+        remove_use(&mut self.uses, &mut self.totals, to_use(o, Kind::Manager));
     }
 }

@@ -17,7 +17,7 @@ use std::alloc::{AllocError, Global};
 
 // The use comes in for its process, if it has one.
 #[tactic(auto, unfolding(bd_groups::specs::Group::same_group))]
-fn put_user(users: &mut Groups<UseKey>, u: UseKey)
+fn push_user(users: &mut Groups<UseKey>, u: UseKey)
     requires { 1 ≤ group_room users.old }
     ensures put { (p : ℕ) → members users.new (Process p)
         ≡ (if keys.is_of_process p u.kind then u ∷ members users.old (Process p) else members users.old (Process p)) }
@@ -30,7 +30,7 @@ fn put_user(users: &mut Groups<UseKey>, u: UseKey)
 }
 
 /// A counter of the use rose: where both were 0 before, the use comes in.
-pub(crate) fn enlist(users: &mut Groups<UseKey>, u: UseKey, before: Count)
+pub(crate) fn push_new_user(users: &mut Groups<UseKey>, u: UseKey, before: Count)
     requires { 1 ≤ group_room users.old }
     ensures are { (was later : counters.Counts) → before ≡ both_at was u
         → ((q : key.CountKey) → keys.same_use u (keys.use_of q) ≡ false → count_at later q ≡ count_at was q)
@@ -38,7 +38,7 @@ pub(crate) fn enlist(users: &mut Groups<UseKey>, u: UseKey, before: Count)
     ensures uses { group_room users.old ≤ group_room users.new + 1 }
 {
     if before.is_empty() {
-        put_user(users, u);
+        push_user(users, u);
     }
 }
 
@@ -50,7 +50,7 @@ fn renewed(uses: &Counts, alloc: Global, more: usize) -> Result<Groups<UseKey>, 
 {
     let mut users = Groups::with_room(alloc, uses.counts.len(), more)?;
     for (u, _) in uses.counts.iter() {
-        put_user(&mut users, *u);
+        push_user(&mut users, *u);
     }
     Ok(users)
 }

@@ -75,7 +75,7 @@ pub(crate) fn reserve_windows(
 
 // What the buffer holds there goes if it lies in the window.
 #[tactic(auto, unfolding(crate::specs::Keys::same_item))]
-fn leave_at(held: &mut HashMap<ItemKey, Reference>, b: u32, i: u64, p: u32)
+fn remove_at(held: &mut HashMap<ItemKey, Reference>, b: u32, i: u64, p: u32)
     ensures items { (c j : ℕ) → gather.item_in held.new c j ≡ (if (b == c) && (i == j)
         then kept (λ r. not (refer.is_in_window p r.holder)) (gather.item_in held.old c j)
         else gather.item_in held.old c j) }
@@ -92,7 +92,7 @@ fn leave_at(held: &mut HashMap<ItemKey, Reference>, b: u32, i: u64, p: u32)
 }
 
 // What the buffer holds in the window at these indexes goes.
-fn leave_to(held: &mut HashMap<ItemKey, Reference>, b: u32, end: u64, p: u32)
+fn remove_to(held: &mut HashMap<ItemKey, Reference>, b: u32, end: u64, p: u32)
     ensures others { (c j : ℕ) → (b == c) ≡ false → gather.item_in held.new c j ≡ gather.item_in held.old c j }
     ensures kept { (j : ℕ) → j < end
         → gather.item_in held.new b j ≡ kept (λ r. not (refer.is_in_window p r.holder)) (gather.item_in held.old b j) }
@@ -100,17 +100,12 @@ fn leave_to(held: &mut HashMap<ItemKey, Reference>, b: u32, end: u64, p: u32)
     ensures spare { spare held.old ≤ spare held.new }
 {
     for i in 0..end {
-        leave_at(held, b, i, p);
+        remove_at(held, b, i, p);
     }
 }
 
 // What the buffer holds in the window goes. A buffer that holds nothing is forgotten.
-fn leave_window(
-    held: &mut HashMap<ItemKey, Reference>,
-    ends: &mut HashMap<u32, u64>,
-    b: u32,
-    p: u32,
-)
+fn remove_in(held: &mut HashMap<ItemKey, Reference>, ends: &mut HashMap<u32, u64>, b: u32, p: u32)
     ensures items { (c : ℕ) → gather.held_in held.new ends.new c ≡ (if b == c
         then filter (λ r. not (refer.is_in_window p r.holder)) (gather.held_in held.old ends.old c)
         else gather.held_in held.old ends.old c) }
@@ -120,14 +115,14 @@ fn leave_window(
     ensures ends_spare { spare ends.old ≤ spare ends.new }
 {
     let end = end_of(ends, b);
-    leave_to(held, b, end, p);
+    remove_to(held, b, end, p);
     if !is_used(held, b, end) {
         let _gone = ends.remove(&b);
     }
 }
 
 /// What these buffers hold in the window goes. Those that hold nothing are forgotten.
-pub(crate) fn leave_each(
+pub(crate) fn remove_in_each(
     held: &mut HashMap<ItemKey, Reference>,
     ends: &mut HashMap<u32, u64>,
     buffers: Members<'_, u32>,
@@ -142,6 +137,6 @@ pub(crate) fn leave_each(
     ensures ends_spare { spare ends.old ≤ spare ends.new }
 {
     for b in buffers {
-        leave_window(held, ends, b, p);
+        remove_in(held, ends, b, p);
     }
 }

@@ -103,7 +103,7 @@ impl<V: Copy> WordMap<V> {
     }
 
     // The place of a key that has a value, or had one.
-    fn place(&self, k: WordKey) -> Option<usize>
+    fn index_of(&self, k: WordKey) -> Option<usize>
         ensures place { result ≡ place_of self.now k }
         ensures within { IfSome result (λ at. at < length self.now.values.items) }
     {
@@ -122,12 +122,12 @@ impl<V: Copy> WordMap<V> {
     pub fn get(&self, k: WordKey) -> Option<V>
         ensures { result ≡ look self.now k }
     {
-        let at = self.place(k)?;
+        let at = self.index_of(k)?;
         self.value(at)
     }
 
     // Changes what the key of a place has.
-    fn put(&mut self, at: usize, value: Option<V>)
+    fn set_at(&mut self, at: usize, value: Option<V>)
         requires { at < length self.old.values.items }
         ensures put { (k l : WordKey) → place_of self.old k ≡ Some at
             → look self.new l ≡ (if same_word k l then value else look self.old l) }
@@ -146,8 +146,8 @@ impl<V: Copy> WordMap<V> {
         ensures room { word_room self.old ≤ word_room self.new + 1 }
         ensures keys { key_count self.new ≤ key_count self.old + 1 }
     {
-        match self.place(k) {
-            Some(at) => self.put(at, Some(v)),
+        match self.index_of(k) {
+            Some(at) => self.set_at(at, Some(v)),
             None => {
                 self.tree.push(k);
                 self.values.push_reserved(Some(v));
@@ -162,9 +162,9 @@ impl<V: Copy> WordMap<V> {
             ≡ (if same_word k l then option_map (λ _. v) (look self.old l) else look self.old l) }
         ensures room { word_room self.old ≤ word_room self.new }
     {
-        if let Some(at) = self.place(k) {
+        if let Some(at) = self.index_of(k) {
             if self.value(at).is_some() {
-                self.put(at, Some(v));
+                self.set_at(at, Some(v));
             }
         }
     }
@@ -175,9 +175,9 @@ impl<V: Copy> WordMap<V> {
         ensures gone { (l : WordKey) → look self.new l ≡ (if same_word k l then None else look self.old l) }
         ensures room { word_room self.old ≤ word_room self.new }
     {
-        let at = self.place(k)?;
+        let at = self.index_of(k)?;
         let value = self.value(at);
-        self.put(at, None);
+        self.set_at(at, None);
         value
     }
 }

@@ -42,7 +42,7 @@ fn end(nodes: &[Node], k: WordKey) -> usize
 }
 
 // Finds the place of a key: the walk ends at its node, or at another key's where it has none.
-fn place(nodes: &[Node], k: WordKey) -> Option<usize>
+fn index_of(nodes: &[Node], k: WordKey) -> Option<usize>
     requires { IsTree nodes.now }
     ensures { result ≡ place_in (keys nodes.now) k }
 {
@@ -114,7 +114,7 @@ impl Tree {
     pub(crate) fn find(&self, k: WordKey) -> Option<usize>
         ensures { result ≡ place_in (keys self.now.nodes.items) k }
     {
-        place(&self.nodes, k)
+        index_of(&self.nodes, k)
     }
 
     /// The key at a place, of those that there are.

@@ -15,26 +15,26 @@ use bd_space::ObjectId;
 use std::alloc::AllocError;
 
 // The references go that the process has as owner of this object, if it owns it.
-fn drop_of_owner(references: &mut ReferenceTable, nodes: &NodeTable, p: u32, o: ObjectId)
+fn remove_of_owner(references: &mut ReferenceTable, nodes: &NodeTable, p: u32, o: ObjectId)
     ensures stands { (objects : List Object) (l : List Reference) → NodesAre nodes.now objects
         → ReferencesAre references.old l → ReferencesAre references.new
         (filter (λ r. not ((owned_in objects p r.object && is_of_owner r.holder) && same r.object o)) l) }
     ensures uses { reference_room references.old ≤ reference_room references.new }
 {
     if nodes.owns(p, o) {
-        references.drop_of_owner(o);
+        references.remove_of_owner(o);
     }
 }
 
 // The references go that the process has as owner of its objects.
-fn drop_of_owned(references: &mut ReferenceTable, nodes: &NodeTable, p: u32)
+fn remove_of_owned(references: &mut ReferenceTable, nodes: &NodeTable, p: u32)
     ensures stands { (objects : List Object) (l : List Reference) → NodesAre nodes.now objects
         → ReferencesAre references.old l → ReferencesAre references.new
         (filter (λ r. not (owned_in objects p r.object && is_of_owner r.holder)) l) }
     ensures uses { reference_room references.old ≤ reference_room references.new }
 {
     for o in nodes.listed(p) {
-        drop_of_owner(references, nodes, p, o);
+        remove_of_owner(references, nodes, p, o);
     }
 }
 
@@ -50,10 +50,10 @@ impl ObjectTable {
         ensures stands { Makes (StandsFor self.old) (StandsFor self.new) (λ s. process_exits.without_process s p) }
         ensures uses { UsesNothing self.old self.new }
     {
-        self.references.drop_with_process(p);
-        drop_of_owned(&mut self.references, &self.nodes, p);
-        self.names.drop_process(p);
-        self.deaths.drop_process(p);
+        self.references.remove_with_process(p);
+        remove_of_owned(&mut self.references, &self.nodes, p);
+        self.names.remove_process(p);
+        self.deaths.remove_process(p);
     }
 
     /// Puts the objects that the process owns, and those of the references that go with it, to what is there, in some

@@ -126,7 +126,7 @@ pub(crate) fn give_names(
         let own = is_own(nodes, made, p, x.object);
         let given = give_name(names, manager, own, p, x.object);
         if given.is_err() {
-            names.take_back();
+            names.roll_back();
             return given;
         }
     }

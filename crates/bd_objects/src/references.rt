@@ -27,7 +27,7 @@ impl ObjectTable {
         ensures stands { Makes (StandsFor self.old) (StandsFor self.new) (λ s. freeing.without_buffer s made) }
         ensures uses { UsesNothing self.old self.new }
     {
-        self.references.drop_buffer(made);
+        self.references.remove_buffer(made);
     }
 
     /// The objects to which a buffer refers, put after what is there. Fails for want of memory alone.

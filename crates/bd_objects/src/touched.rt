@@ -19,18 +19,18 @@ impl ObjectTable {
 
     /// The process's name of the object goes, if no reference carries it any more.
     #[tactic(auto, unfolding(bd_ways::specs::Local::names_go_of, crate::specs::Room::rooms))]
-    pub fn name_goes(&mut self, p: u32, o: ObjectId)
+    pub fn remove_unused_name(&mut self, p: u32, o: ObjectId)
         ensures stands { Makes (StandsFor self.old) (StandsFor self.new) (local.names_go_of (local.at_name p o)) }
         ensures uses { UsesNothing self.old self.new }
     {
         if !self.is_named(p, o) {
-            self.names.drop(p, o);
+            self.names.remove(p, o);
         }
     }
 
     /// The object goes, if nothing keeps it. Returns the live owner that is then to be told of it. Takes the live processes.
     #[tactic(auto, unfolding(bd_ways::specs::Local::objects_go_of, crate::specs::Room::rooms))]
-    pub fn object_goes(&mut self, processes: &ProcessTable, o: ObjectId) -> Option<u32>
+    pub fn remove_unused_object(&mut self, processes: &ProcessTable, o: ObjectId) -> Option<u32>
         ensures stands { MakesWhere (StandsFor self.old) (HasProcesses processes.now) (StandsFor self.new)
             (local.objects_go_of (local.at_object o)) }
         ensures owner { TellsWhere (StandsFor self.old) (HasProcesses processes.now) result
@@ -83,11 +83,11 @@ impl ObjectTable {
 
     /// The process's uncleared notifications on its name of the object go, if that is gone.
     #[tactic(auto, unfolding(bd_ways::specs::Local::deaths_go_of, crate::specs::Room::rooms))]
-    pub fn deaths_go_with(&mut self, p: u32, o: ObjectId)
+    pub fn remove_unnamed_deaths(&mut self, p: u32, o: ObjectId)
         ensures stands { Makes (StandsFor self.old) (StandsFor self.new) (local.deaths_go_of (local.at_name p o)) }
         ensures uses { UsesNothing self.old self.new }
     {
-        self.deaths.go_with(self.names.has(p, o), p, o);
+        self.deaths.remove_unnamed(self.names.has(p, o), p, o);
     }
 
     /// Whether a work item of this kind stays: a death's item goes with its notification, if that is on the process's

@@ -14,7 +14,7 @@ fn asked_elsewhere(word: &str) -> Option<&'static str> {
 }
 
 /// Tells where the word went that comes behind the program's name, if it went.
-pub fn hint<E: Write>(words: &[String], err: &mut E) {
+pub fn print_hint<E: Write>(words: &[String], err: &mut E) {
     let Some(word) = words.get(1) else {
         return;
     };

@@ -19,7 +19,7 @@ use asking::ask;
 use bd_player::{DONE, Fault, after_writing, tell};
 use cuts::{check_cut_file, mend_file};
 use files::{check_file, run_file};
-use hints::hint;
+use hints::print_hint;
 use output::Output;
 use script_help::SCRIPT_HELP;
 use std::alloc::Global;
@@ -80,7 +80,7 @@ fn refuse<H: Runtime<A = Global>, E: Write>(
     match refused {
         Refused::Fault(fault) => {
             let status = tell(fault, err);
-            hint(words, err);
+            print_hint(words, err);
             status
         }
         Refused::Help(help) => ended(help.print(rt).map_err(|_| Fault::Output), err),

@@ -39,15 +39,15 @@ impl<'a, W: Write> Blocks<'a, W> {
     }
 
     // Hands on what is gathered.
-    fn put(&mut self) -> io::Result<()> {
+    fn write_out(&mut self) -> io::Result<()> {
         let filled = self.filled.min(BLOCK);
         self.filled = 0;
         self.out.write_all(&self.block[..filled])
     }
 
     // Hands on what is gathered, and then these bytes, or gathers them.
-    fn put_and_add(&mut self, bytes: &[u8]) -> io::Result<()> {
-        self.put()?;
+    fn write_out_and_add(&mut self, bytes: &[u8]) -> io::Result<()> {
+        self.write_out()?;
         if self.add(bytes) {
             return Ok(());
         }
@@ -57,7 +57,7 @@ impl<'a, W: Write> Blocks<'a, W> {
     /// Hands on the rest of what was written here. Whether all could be written.
     pub fn end(mut self, written: fmt::Result) -> io::Result<()> {
         written?;
-        self.put()
+        self.write_out()
     }
 }
 
@@ -66,6 +66,6 @@ impl<W: Write> fmt::Write for Blocks<'_, W> {
         if self.add(s.as_bytes()) {
             return Ok(());
         }
-        self.put_and_add(s.as_bytes()).map_err(|_| fmt::Error)
+        self.write_out_and_add(s.as_bytes()).map_err(|_| fmt::Error)
     }
 }

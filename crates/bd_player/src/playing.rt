@@ -112,7 +112,7 @@ fn run_line<D: Desk, S: Sink>(
     }
     let said = act(desk, &mut seats[place], line.verb, turns);
     let status = said.status();
-    let has_room = sink.take(line.number, said);
+    let has_room = sink.accept(line.number, said);
     if status != DONE {
         return false;
     }

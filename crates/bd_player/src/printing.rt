@@ -49,7 +49,7 @@ impl<W: Write> Sink for Printer<'_, W> {
 
     ghost is_full = { λ _. false };
 
-    fn take(&mut self, number: u64, said: Said) -> bool {
+    fn accept(&mut self, number: u64, said: Said) -> bool {
         self.status = print(number, &said, self.out, self.status);
         true
     }

@@ -14,7 +14,7 @@ pub trait Sink {
     ghost is_full: { Self → Bool };
 
     /// Takes what the line of this number said. Whether a further line may be run.
-    fn take(&mut self, number: u64, said: Said) -> bool
+    fn accept(&mut self, number: u64, said: Said) -> bool
         ensures takes { takes self.old number said self.new }
         ensures room { result ≡ not (is_full self.new) };
 }

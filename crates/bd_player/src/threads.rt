@@ -48,7 +48,7 @@ impl Sink for Kept {
 
     ghost is_full = { λ s. s.starved };
 
-    fn take(&mut self, number: u64, said: Said) -> bool {
+    fn accept(&mut self, number: u64, said: Said) -> bool {
         if self.said.push((number, said)).is_err() {
             self.starved = true;
         }
@@ -202,7 +202,7 @@ fn run_parts<H: Threads + Wait + Sync, D: Desk + Sync>(
 }
 
 // Adds a seat, where there is room for it.
-fn keep(seats: &mut Vec<Seat>, seat: Seat)
+fn add_seat(seats: &mut Vec<Seat>, seat: Seat)
     ensures { (t : TableId) → All (λ s. s.table ≡ t) seats.old.items → seat.table ≡ t → All (λ s. s.table ≡ t) seats.new.items }
 {
     match seats.push(seat) {
@@ -227,7 +227,7 @@ pub fn gather<H: Threads, W: Write, E: Write>(
             Some(worker) => {
                 let told = worker.join(rt);
                 status = print_told(&told, out, err, status);
-                keep(seats, told.seat);
+                add_seat(seats, told.seat);
             }
             None => status = status.max(tell(Fault::Thread, err)),
         }

@@ -13,7 +13,7 @@ impl ProcessTable {
 
     /// One more, opened after the others. Takes no memory.
     #[tactic(auto, unfolding(crate::specs::Room::process_room))]
-    pub fn add(&mut self, process: Process)
+    pub fn push(&mut self, process: Process)
         requires room { 1 ≤ process_room self.old }
         requires pid { is_pid process.pid ≡ true }
         ensures stands { (processes : List Process) → ProcessesAre self.old processes → IsNewIn processes process

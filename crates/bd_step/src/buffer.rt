@@ -108,14 +108,14 @@ impl Tables {
     }
 
     // The buffer goes, with the references that it held and its turn.
-    fn drop_buffer(&mut self, made: u32)
+    fn remove_buffer(&mut self, made: u32)
         ensures stands { MakesWithin self.old self.new (λ s. freeing.without_buffer s made) }
         ensures uses { UsesNothing self.old self.new }
         ensures told { KeepsTold self.old self.new }
     {
         self.windows.free(made);
         self.objects.without_buffer(made);
-        self.calls.drop_turn(made);
+        self.calls.remove_turn(made);
     }
 
     // The object on which the buffer made there is a one-way call.
@@ -143,7 +143,7 @@ impl Tables {
 
     // The process's buffer goes, and what follows from that: a call may ripen on its target, and the process's names go, and
     // the objects, that it alone kept. No call is abandoned by it.
-    fn lose_buffer(&mut self, p: u32, made: u32, touched: &[ObjectId])
+    fn release_buffer(&mut self, p: u32, made: u32, touched: &[ObjectId])
         requires in_order { Pairs NotLater touched.now }
         requires room { CanFollow self.old (length touched.now + 2) }
         ensures stands { (s : Space) → Within self.old s → freed.IsFreeing p made touched.now s
@@ -151,7 +151,7 @@ impl Tables {
         ensures told { KeepsTold self.old self.new }
     {
         let target = self.turn_target_at(made);
-        self.drop_buffer(made);
+        self.remove_buffer(made);
         self.ripen_next(target);
         self.follow_among(p, touched);
     }
@@ -168,7 +168,7 @@ impl Tables {
         let Ok(touched) = self.ready_to_free(made) else {
             return Err(Why::NoMemory);
         };
-        self.lose_buffer(a.process.made, made, touched.as_slice());
+        self.release_buffer(a.process.made, made, touched.as_slice());
         Ok(Plain::Accepted)
     }
 }

@@ -106,7 +106,7 @@ impl Tables {
     }
 
     // A notification is cleared: marked where it is queued or told; else it goes.
-    fn drop_request(&mut self, seat: u32, x: DeathNotification)
+    fn clear_request(&mut self, seat: u32, x: DeathNotification)
         requires { 1 ≤ work_room self.old.calls }
         ensures stands { MakesWithin self.old self.new (λ s. deaths.cleared s seat x) }
         ensures told { KeepsTold self.old self.new }
@@ -131,12 +131,12 @@ impl Tables {
         if self.reserve(NOTHING, 1).is_err() {
             return Err(Why::NoMemory);
         }
-        self.drop_request(a.thread.seat, x);
+        self.clear_request(a.thread.seat, x);
         Ok(Plain::Accepted)
     }
 
     // The process knows of the owner's end: a marked notification goes; else it is done.
-    fn know_death(&mut self, seat: u32, x: DeathNotification)
+    fn acknowledge_death(&mut self, seat: u32, x: DeathNotification)
         requires { 1 ≤ work_room self.old.calls }
         ensures stands { MakesWithin self.old self.new (λ s. deaths.death_done s seat x) }
         ensures told { KeepsTold self.old self.new }
@@ -161,7 +161,7 @@ impl Tables {
         if self.reserve(NOTHING, 1).is_err() {
             return Err(Why::NoMemory);
         }
-        self.know_death(a.thread.seat, x);
+        self.acknowledge_death(a.thread.seat, x);
         Ok(Plain::Accepted)
     }
 

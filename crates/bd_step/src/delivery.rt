@@ -119,7 +119,7 @@ impl Tables {
     {
         match self
             .windows
-            .place(receiver.made, one_way, d.data_size, d.offsets_size)
+            .start_for(receiver.made, one_way, d.data_size, d.offsets_size)
         {
             Err(cause) => Ok(Err(cause)),
             Ok(start) => {

@@ -82,7 +82,7 @@ impl Tables {
         ensures threads { thread_room self.new.calls ≡ thread_room self.old.calls }
         ensures told { KeepsTold self.old self.new }
     {
-        self.processes.add(Process {
+        self.processes.push(Process {
             made: self.steps,
             pid,
             euid,
@@ -143,7 +143,7 @@ impl Tables {
     {
         self.manager = self.objects.manager_without(self.manager, p);
         self.objects.without_process(p);
-        self.calls.process_goes(p);
+        self.calls.end_process(p);
         self.windows.close(p);
         self.processes.remove(p);
     }
@@ -165,7 +165,7 @@ impl Tables {
     }
 
     // A process ends, with its threads, and that is told by these notifications.
-    fn process_goes(&mut self, seats: &[u32], due: &[DeathNotification], p: u32)
+    fn end_process(&mut self, seats: &[u32], due: &[DeathNotification], p: u32)
         requires { length due.now ≤ work_room self.old.calls }
         ensures stands { (s : Space) → Within self.old s
             → seats.now ≡ map exits.seat_of (filter (λ t. t.process == p) s.threads)
@@ -188,7 +188,7 @@ impl Tables {
         let Ok((seats, exit)) = self.begin_exit(p) else {
             return Err(Why::NoMemory);
         };
-        self.process_goes(seats.as_slice(), exit.deaths(), p);
+        self.end_process(seats.as_slice(), exit.deaths(), p);
         self.follow_objects(exit.objects());
         let mut frames = exit.into_frames();
         self.close_among(frames.as_mut_slice());

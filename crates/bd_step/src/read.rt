@@ -168,7 +168,7 @@ impl Tables {
     }
 
     // One work item more is taken.
-    fn take_one(&self, work: Work, taking: &mut Taking) -> Result<(), AllocError>
+    fn select_one(&self, work: Work, taking: &mut Taking) -> Result<(), AllocError>
         ensures works { OnOk result (taking.new.works.items ≡ taking.old.works.items ++ work ∷ []) }
         ensures stream { OnOk result
             (TellsBefore self.now taking.new.stream.items (λ s. taking.old.stream.items ++ returns.bytes_read s work)) }
@@ -179,7 +179,7 @@ impl Tables {
     }
 
     // What a read takes off a list: item after item, while at least 68 bytes are left and none ends the read.
-    fn take(&self, list: TodoList, limit: u32) -> Result<Taking, AllocError>
+    fn select(&self, list: TodoList, limit: u32) -> Result<Taking, AllocError>
         ensures { IfOk result
             (λ t. (s : Space) → Before self.now s
             → AreTaken s limit (todo.work_on s.todo (Some list)) t.works.items t.stream.items) }
@@ -189,7 +189,7 @@ impl Tables {
             if taking.is_full(limit) {
                 return Ok(taking);
             }
-            self.take_one(work, &mut taking)?;
+            self.select_one(work, &mut taking)?;
             if ends_read(work.kind) {
                 return Ok(taking);
             }
@@ -256,7 +256,7 @@ impl Tables {
         ensures err { OnErr result (IsKept self.old self.new) }
         ensures told { KeepsTold self.old self.new }
     {
-        let Taking { works, stream } = self.take(list, limit)?;
+        let Taking { works, stream } = self.select(list, limit)?;
         let buffer = self.buffer_taken(works.as_slice());
         let made = made_of(buffer);
         *answer = got(self.alloc, buffer, stream)?;

@@ -65,7 +65,7 @@ impl Tables {
     }
 
     // The reference goes that the process asked for, and what follows at its name and at the object.
-    fn lose_asked(&mut self, p: u32, o: ObjectId, strong: bool)
+    fn release_asked(&mut self, p: u32, o: ObjectId, strong: bool)
         requires { 1 ≤ work_room self.old.calls }
         ensures stands { MakesOfTidy self.old self.new (λ s. completed (asking.drop_asked s p o strong)) }
         ensures told { KeepsTold self.old self.new }
@@ -88,12 +88,12 @@ impl Tables {
         if self.reserve(NOTHING, 0).is_err() {
             return Err(Why::NoMemory);
         }
-        self.lose_asked(a.process.made, o, strong);
+        self.release_asked(a.process.made, o, strong);
         Ok(Plain::Accepted)
     }
 
     // The reference goes that stood for an acknowledgement, and what follows at the object.
-    fn lose_handshake(&mut self, o: ObjectId, strong: bool)
+    fn release_handshake(&mut self, o: ObjectId, strong: bool)
         requires { 1 ≤ work_room self.old.calls }
         ensures stands { MakesOfTidy self.old self.new (λ s. completed (asking.acknowledge s o strong)) }
         ensures told { KeepsTold self.old self.new }
@@ -122,7 +122,7 @@ impl Tables {
         if self.reserve(NOTHING, 0).is_err() {
             return Err(Why::NoMemory);
         }
-        self.lose_handshake(x.id, strong);
+        self.release_handshake(x.id, strong);
         Ok(Plain::Accepted)
     }
 }

@@ -49,7 +49,7 @@ impl Tables {
             return;
         }
         self.withdraw_deaths(p, o);
-        self.objects.deaths_go_with(p, o);
+        self.objects.remove_unnamed_deaths(p, o);
     }
 
     // The process's name of the object goes with the references that it rests on, and its death notifications with it.
@@ -58,20 +58,20 @@ impl Tables {
         ensures uses { UsesNothing self.old self.new }
         ensures told { KeepsTold self.old self.new }
     {
-        self.objects.name_goes(p, o);
+        self.objects.remove_unused_name(p, o);
         self.follow_deaths(p, o);
     }
 
     // This object goes if nothing keeps it, and its notice if that has nothing left to say. Returns the live owner that is
     // then to be told of it.
-    fn shed_object(&mut self, o: ObjectId) -> Option<u32>
+    fn remove_unkept(&mut self, o: ObjectId) -> Option<u32>
         ensures stands { MakesWithin self.old self.new (shed_of (at_object o)) }
         ensures owner { TellsWithin self.old result
             (λ s. owner_due s (object_in (shed_of (at_object o) s).objects o)) }
         ensures uses { UsesNothing self.old self.new }
         ensures told { KeepsTold self.old self.new }
     {
-        let owner = self.objects.object_goes(&self.processes, o);
+        let owner = self.objects.remove_unused_object(&self.processes, o);
         if owner.is_none() {
             self.calls.withdraw_notice(o);
         }
@@ -93,13 +93,13 @@ impl Tables {
     }
 
     // Of these objects those go that nothing keeps, and the notices that have nothing left to say.
-    fn shed_objects(&mut self, touched: &[ObjectId])
+    fn remove_each_unkept(&mut self, touched: &[ObjectId])
         ensures stands { MakesWithin self.old self.new (shed_of (is_among touched.now)) }
         ensures uses { UsesNothing self.old self.new }
         ensures told { KeepsTold self.old self.new }
     {
         for o in touched {
-            self.shed_object(*o);
+            self.remove_unkept(*o);
         }
     }
 
@@ -123,7 +123,7 @@ impl Tables {
         ensures uses { Uses self.old self.new 0 0 0 1 }
         ensures told { KeepsTold self.old self.new }
     {
-        let owner = self.shed_object(o);
+        let owner = self.remove_unkept(o);
         self.tell_owner(owner, o);
     }
 
@@ -139,7 +139,7 @@ impl Tables {
         if touched.len() == 1 {
             self.follow_object(touched[0]);
         } else {
-            self.shed_objects(touched);
+            self.remove_each_unkept(touched);
             self.notify_objects(touched);
         }
     }

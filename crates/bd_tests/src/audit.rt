@@ -45,7 +45,7 @@ fn reply_step(alloc: Global, place: u32) -> (u32, Step) {
     }
 }
 
-fn take(engine: &mut Engine, seat: u32, step: Step) -> bool {
+fn try_step(engine: &mut Engine, seat: u32, step: Step) -> bool {
     seat < engine.seats() && engine.step(seat, step).is_ok()
 }
 
@@ -66,7 +66,7 @@ fn engine_of_a_reply(rt: &(impl Abort + Alloc<A = Global>)) -> Result<Engine, Fa
     holds(rt, "room for the steps", engine.reserve(10).is_ok());
     for place in 0..10 {
         let (seat, step) = reply_step(rt.alloc(), place);
-        holds(rt, "a step", take(&mut engine, seat, step));
+        holds(rt, "a step", try_step(&mut engine, seat, step));
     }
     Ok(engine)
 }
@@ -197,7 +197,7 @@ fn engine_of_gifts(rt: &(impl Abort + Alloc<A = Global>)) -> Result<Engine, Fail
     let mut engine = Engine::new(rt.alloc(), 3)?;
     for place in 0..45 {
         let (seat, step) = gift_step(rt.alloc(), place)?;
-        holds(rt, "a step", take(&mut engine, seat, step));
+        holds(rt, "a step", try_step(&mut engine, seat, step));
     }
     Ok(engine)
 }

@@ -154,7 +154,7 @@ impl Heads {
     }
 
     /// A list has this number from now on.
-    pub fn put(&mut self, list: TodoList, head: usize)
+    pub fn insert(&mut self, list: TodoList, head: usize)
         requires { 0 < spare self.old.others }
         ensures heads { (l : declared.TodoList) → heads.head_at self.new l
             ≡ (if same_list list l then Some head else heads.head_at self.old l) }
@@ -170,7 +170,7 @@ impl Heads {
     }
 
     /// The list has no number from now on.
-    pub fn take(&mut self, list: TodoList)
+    pub fn remove(&mut self, list: TodoList)
         ensures heads { (l : declared.TodoList) → heads.head_at self.new l
             ≡ (if same_list list l then None else heads.head_at self.old l) }
         ensures spare { spare self.old.others ≤ spare self.new.others }

@@ -65,7 +65,7 @@ impl Queues {
             return head;
         }
         let head = self.chains.open();
-        self.lists.put(list, head);
+        self.lists.insert(list, head);
         head
     }
 
@@ -95,7 +95,7 @@ impl Queues {
         ensures uses { queue_room self.old ≤ queue_room self.new }
     {
         if let Some(head) = self.lists.of(list) {
-            self.lists.take(list);
+            self.lists.remove(list);
             self.chains.close(head);
         }
     }

@@ -67,12 +67,12 @@ impl Register {
     }
 
     /// A work item went.
-    pub fn take(&mut self, work: Work)
+    pub fn remove(&mut self, work: Work)
         ensures stands { (before after : List Work) → Registered self.old (before ++ work ∷ after)
             → Registered self.new (before ++ after) }
         ensures uses { register_room self.old ≤ register_room self.new }
     {
-        self.spots.take(sought_of(work.kind));
+        self.spots.remove(sought_of(work.kind));
         if work.id.place == self.last.place {
             self.count = self.count.saturating_sub(1);
         }

@@ -204,7 +204,7 @@ impl Spots {
     }
 
     /// A work item went that was looked up so, or not at all.
-    pub fn take(&mut self, key: Option<Sought>)
+    pub fn remove(&mut self, key: Option<Sought>)
         ensures counted { (f : Work → Option declared.Sought) (work : Work) (before after : List Work) → key ≡ f work
             → Counted f self.old (before ++ work ∷ after) → Counted f self.new (before ++ after) }
         ensures uses { spare self.old.spots ≤ spare self.new.spots }

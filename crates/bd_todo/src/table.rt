@@ -95,12 +95,12 @@ impl WorkTable {
         ensures uses { work_room self.old ≤ work_room self.new }
     {
         if let Some(work) = self.queues.remove_at(x) {
-            self.register.take(work);
+            self.register.remove(work);
         }
     }
 
     // Only the work items for which `f` answers `true` stay. Goes over all slots.
-    fn keep<F: Fn(Work) -> bool>(&mut self, f: F)
+    fn retain<F: Fn(Work) -> bool>(&mut self, f: F)
         requires { F.IsAlwaysCallable f }
         ensures stands { (p : Work → Bool) → AnswersBy (λ w b. F.post f w b) p → Makes self.old self.new (λ l. filter p l) }
         ensures uses { work_room self.old ≤ work_room self.new }
@@ -115,13 +115,13 @@ impl WorkTable {
     }
 
     // A work item goes: from the front of its list, if it is there and surely no other is called the same.
-    fn take(&mut self, item: &Work)
+    fn remove_item(&mut self, item: &Work)
         ensures stands { Makes self.old self.new (λ l. filter (λ w. not (spec.is_item w item.now)) l) }
         ensures uses { work_room self.old ≤ work_room self.new }
     {
         match self.queues.front(item.list) {
             Some(x) if self.register.rises && self.is_called_at(x, item.id) => self.remove_at(x),
-            _ => self.keep(|w| !is_item(item, &w)),
+            _ => self.retain(|w| !is_item(item, &w)),
         }
     }
 
@@ -168,7 +168,7 @@ impl WorkTable {
         ensures uses { work_room self.old ≤ work_room self.new }
     {
         for item in taken {
-            self.take(item);
+            self.remove_item(item);
         }
     }
 
@@ -203,7 +203,7 @@ impl WorkTable {
         if let Some(x) = self.only(key) {
             self.remove_at(x);
         } else if self.register.spots.has(key) {
-            self.keep(|w| !is_sought(key, w.kind));
+            self.retain(|w| !is_sought(key, w.kind));
         }
     }
 
@@ -224,13 +224,13 @@ impl WorkTable {
     }
 
     /// Only the work items of the kinds for which `f` answers `true` stay.
-    pub fn keep_kinds<F: Fn(WorkKind) -> bool>(&mut self, f: F)
+    pub fn retain_kinds<F: Fn(WorkKind) -> bool>(&mut self, f: F)
         requires { F.IsAlwaysCallable f }
         ensures stands { (p : WorkKind → Bool) → AnswersBy (λ kind b. F.post f kind b) p
             → Makes self.old self.new (λ l. filter (λ w. p w.kind) l) }
         ensures uses { work_room self.old ≤ work_room self.new }
     {
-        self.keep(|w| f(w.kind));
+        self.retain(|w| f(w.kind));
     }
 
     // All work items on a list go.

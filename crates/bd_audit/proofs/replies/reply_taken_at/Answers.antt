@@ -7,8 +7,8 @@ use Rattle.bd_audit.proofs.replies.reply_taken_at.Goals as goal
 pub entry_at-requires-clause-before : goal.entry_at-requires-clause-before
 entry_at-requires-clause-before c = take-history c.args.place (history_in c.args.record.now) c.requires.lawful
 
-pub take_reply-requires : goal.take_reply-requires
-take_reply-requires c =
+pub read_reply-requires : goal.read_reply-requires
+read_reply-requires c =
     let at = rw c.in-Some.is at c.in_ok-engine.ensures.found in
     record { lawful = entry-lawful (history_in c.args.record.now) c.in-Some.engine c.args.place c.in-Some.entry.now c.requires.lawful at }
 
@@ -17,8 +17,8 @@ returns-in-Some c =
     let h = history_in c.args.record.now in
     let engine = c.in-Some.engine in
     let at = rw c.in-Some.is at c.in_ok-engine.ensures.found in
-    by_name c.take_reply.result (reply_taken (space_after engine) c.in-Some.entry.now) (reply_taken_at h c.args.place)
-    (there-taken h engine c.args.place c.in-Some.entry.now at.begins at.stands) c.take_reply.ensures
+    by_name c.read_reply.result (reply_taken (space_after engine) c.in-Some.entry.now) (reply_taken_at h c.args.place)
+    (there-taken h engine c.args.place c.in-Some.entry.now at.begins at.stands) c.read_reply.ensures
 
 pub returns-in-None : goal.returns-in-None
 returns-in-None c = past-taken (history_in c.args.record.now) c.args.place (rw c.in-None.is at c.in_ok-engine.ensures.found)

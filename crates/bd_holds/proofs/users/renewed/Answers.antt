@@ -14,8 +14,8 @@ loop-u-preserved c =
     let inv = c.loop-u.invariant in
     let j = c.in-Some.u.now in
     let old = c.loop-u.users in
-    let new = c.put_user.new.users in
-    let put = c.put_user.ensures.put in
+    let new = c.push_user.new.users in
+    let put = c.push_user.ensures.put in
     let first = rest_more deref_pair _ _ _ (c.in-Some.u, c.in-Some.field-0-1) c.in-Some.is c.next.ensures.steps in
     let fewer = ap length first in
     record {
@@ -27,6 +27,6 @@ loop-u-preserved c =
         | inr has ↦ inr (put-keeps j old new put u p has)
       ];
       only = λ u p h. put-only j old new put u p (inv.only u p) h;
-      room = omega (arith, fewer, inv.room, c.put_user.ensures.uses);
-      few = omega (arith, fewer, inv.few, c.put_user.ensures.count);
+      room = omega (arith, fewer, inv.room, c.push_user.ensures.uses);
+      few = omega (arith, fewer, inv.few, c.push_user.ensures.count);
     }

@@ -20,7 +20,7 @@ loop-x-preserved c =
 pub returns-then-is_err-clause-err : goal.returns-then-is_err-clause-err
 returns-then-is_err-clause-err c =
     let kept = of-err c.give_name-given.result (sym c.is_err.ensures.value ∙ c.if-is_err.true) c.give_name-given.ensures.err in
-    on-err c.give_name-given.result (λ objects l n h. c.take_back.ensures.stands l _ (kept l _ (c.loop-x.invariant.so_far objects l n h)))
+    on-err c.give_name-given.result (λ objects l n h. c.roll_back.ensures.stands l _ (kept l _ (c.loop-x.invariant.so_far objects l n h)))
 
 pub returns-then-is_err-clause-full : goal.returns-then-is_err-clause-full
 returns-then-is_err-clause-full c =

@@ -8,7 +8,7 @@ loop-worker-preserved-in-Some-worker g c = λ t hw hs.
     let both = All-pop (λ o. IfSome o (λ w. w.promise.0.value.table ≡ t)) c.loop-worker.workers.items c.pop.new.self.items c.pop.result c.pop.ensures.items ih.0 in
     let some = subst (λ r. IfSome r (λ o. IfSome o (λ w. w.promise.0.value.table ≡ t))) c.in-Some.is both.1 in
     let there : c.in-Some-worker.worker.promise.0.value.table ≡ t = subst (λ o. IfSome o (λ w. w.promise.0.value.table ≡ t)) c.in-Some-worker.is some in
-    (both.0, c.keep.ensures t ih.1 (c.join-told.ensures ∙ there))
+    (both.0, c.add_seat.ensures t ih.1 (c.join-told.ensures ∙ there))
 
 pub loop-worker-preserved : goal.loop-worker-preserved
 loop-worker-preserved g c = λ t hw hs.

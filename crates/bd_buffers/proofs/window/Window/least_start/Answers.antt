@@ -9,8 +9,8 @@ use Rattle.bd_buffers.proofs.Bounded.{in_block_order}
 use Rattle.bd_buffers.proofs.Fits.{fit_is}
 use Rattle.bd_buffers.proofs.window.Window.least_start.Goals as goal
 
-pub first_place-requires-clause-order : goal.first_place-requires-clause-order
-first_place-requires-clause-order c =
+pub first_start-requires-clause-order : goal.first_start-requires-clause-order
+first_start-requires-clause-order c =
     let g = c.self.inside.ground in
     let P : List Hole → Type 0 = λ xs. IsNonDecreasingBy (λ h. h.start / 4096) xs in
     subst P (sym c.deref.ensures.value) (in_block_order g.tail g.holes.items c.self.invariant.free.spaced)
@@ -18,6 +18,6 @@ first_place-requires-clause-order c =
 pub returns : goal.returns
 returns c =
     let w = c.self.inside in
-    c.first_place.ensures ∙ ap (first_fit w.ground.size w.ground.tail c.args.n) c.deref.ensures.value
+    c.first_start.ensures ∙ ap (first_fit w.ground.size w.ground.tail c.args.n) c.deref.ensures.value
     ∙ fit_is w.ground.size w.ground.tail c.args.n (live w.buffers.rows) w.ground.holes.items c.self.invariant.free c.self.invariant.window c.requires.filled
     ∙ ap (λ (v : Window). start_in v.size v.buffers c.args.n) c.self.view_is

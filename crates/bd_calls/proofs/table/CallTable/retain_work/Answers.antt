@@ -6,14 +6,14 @@ use Rattle.bd_calls.specs.Told.{Recalls}
 use Rattle.bd_calls.proofs.table.CallTable.retain_work.Goals as goal
 
 pub returns-clause-kept : goal.returns-clause-kept
-returns-clause-kept g c = λ s p stands answers. works-stand-unseen _ _ s _ stands refl refl refl (c.keep_kinds.ensures.stands p answers s.todo stands.todo_are) c.forget_all.ensures
+returns-clause-kept g c = λ s p stands answers. works-stand-unseen _ _ s _ stands refl refl refl (c.retain_kinds.ensures.stands p answers s.todo stands.todo_are) c.forget_all.ensures
 
 pub returns-clause-stands : goal.returns-clause-stands
 unfolding work_goes
 returns-clause-stands g c =
     λ s stands answers.
     let due = still_due s.processes s.objects s.references s.deaths in
-    works-stand-unseen _ _ s _ stands refl refl refl (c.keep_kinds.ensures.stands due answers s.todo stands.todo_are) c.forget_all.ensures
+    works-stand-unseen _ _ s _ stands refl refl refl (c.retain_kinds.ensures.stands due answers s.todo stands.todo_are) c.forget_all.ensures
 
 pub returns-clause-told : goal.returns-clause-told
 unfolding Recalls

@@ -21,8 +21,8 @@ returns-clause-stands c =
       threads_are = c.remove.ensures.listed ∙ ap (filter (λ (t : Thread). not (t.seat == seat))) stands.threads_are;
       frames_are = c.leave_frames.ensures.frames s.todo stands.todo_are _ stands.frames_are;
       todo_are = c.clear_list.ensures.stands _ stands.todo_are;
-      turns_are = subst (TurnsAre c.lose_turns.new.turns) (sym (turns-lost (is_lost_with s.todo list) s.buffers))
-          (c.lose_turns.ensures.turns s.todo stands.todo_are _ stands.turns_are);
+      turns_are = subst (TurnsAre c.remove_turns_on.new.turns) (sym (turns-lost (is_lost_with s.todo list) s.buffers))
+          (c.remove_turns_on.ensures.turns s.todo stands.todo_are _ stands.turns_are);
       ready_are = none-seen c.forget_all.new.self _ _ c.forget_all.ensures;
     }
 

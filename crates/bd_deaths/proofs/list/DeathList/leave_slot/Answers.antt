@@ -20,8 +20,8 @@ returns-clause-stands c = λ l h.
     record {
       lives_are = refl;
       rising = λ e. subst (IsRising 0 c.args.self.now.end) (sym (map-set_same (λ (r : Slot). r.death) ss i (gone d) d (ap (λ (r : Slot). r.death) c.index_mut.ensures.value))) (h.rising e);
-      keyed = subst (AreShared c.take.new.self) (sym left)
-          (c.take.ensures.stands (lives ss) (rank i ss) (subst (AreShared c.args.self.now.sharing) (sym h.lives_are) h.keyed)
+      keyed = subst (AreShared c.remove.new.self) (sym left)
+          (c.remove.ensures.stands (lives ss) (rank i ss) (subst (AreShared c.args.self.now.sharing) (sym h.lives_are) h.keyed)
           (rank-within ss i s within (c.requires.live s)) there);
       none_told = told-set c.args.self.now.told_from ss i d h.none_told;
     }

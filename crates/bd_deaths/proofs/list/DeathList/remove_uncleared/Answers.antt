@@ -17,5 +17,5 @@ returns-clause-stands c = λ l h.
     let r = c.key_range-range.result in
     let ss = c.args.self.now.slots.items in
     let there = subst (λ (k : Key). IsWithin (on (has k)) r.start r.end ss) c.name_key.ensures (c.key_range-range.ensures.within l h) in
-    c.close_up.ensures.stands _ (c.drop_in.ensures.stands q (λ x b k. search rules) l h
+    c.compact.ensures.stands _ (c.remove_if.ensures.stands q (λ x b k. search rules) l h
     (within-on q (has (name_key p o)) (λ x e. last-two (not x.cleared) (x.process == p) (same x.object o) e) r.start r.end ss there))

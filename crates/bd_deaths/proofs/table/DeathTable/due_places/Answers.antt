@@ -15,5 +15,5 @@ pub returns-clause-all : goal.returns-clause-all
 returns-clause-all c = λ objects l ns h n e.
     let sorted = c.sort_unstable.new.self.items in
     let once = c.dedup.new.self.items in
-    still-there c.put_due_places.new.touched.items sorted once c.sort_unstable.ensures.permutation
-    (dedup_is eqb sorted once c.dedup.ensures.filtered) n (c.in_ok-put_due_places.ensures.all objects l ns h n e)
+    still-there c.push_due_places.new.touched.items sorted once c.sort_unstable.ensures.permutation
+    (dedup_is eqb sorted once c.dedup.ensures.filtered) n (c.in_ok-push_due_places.ensures.all objects l ns h n e)

@@ -15,7 +15,7 @@ returns-clause-stands c = λ l h.
       items_are = c.remove-frame.ensures.items ∙ ap (λ zs. remove zs i) h.items_are;
       rises = λ e. rising-remove 0 l i within (h.rises e);
       older = λ e. older-remove l i within (h.older e);
-      children_are = c.take_child.ensures.counts l i h.children_are within at;
+      children_are = c.remove_child.ensures.counts l i h.children_are within at;
       stacks_are = c.remove.ensures.stands l h.stacks_are within at;
     }
 

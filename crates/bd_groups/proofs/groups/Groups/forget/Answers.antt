@@ -8,7 +8,7 @@ pub returns-clause-gone : goal.returns-clause-gone
 unfolding members
 returns-clause-gone g c = λ h.
     let ls = reverse c.args.self.now.links.items in
-    ap (trail ls) (c.take_latest.ensures.at h) ∙ forgotten ls _ _
+    ap (trail ls) (c.remove_latest.ensures.at h) ∙ forgotten ls _ _
 
 pub returns-clause-keeps : goal.returns-clause-keeps
 returns-clause-keeps g c = λ h x other is.

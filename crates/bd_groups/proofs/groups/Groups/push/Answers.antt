@@ -10,10 +10,10 @@ pub returns-clause-put : goal.returns-clause-put
 unfolding members
 returns-clause-put g c = λ h.
     let t = c.args.self.now in
-    ap (λ ls. trail (reverse ls) (latest_at c.put_latest-before.new.latest h)) c.push_reserved.ensures.items
-    ∙ ap (trail (reverse (t.links.items ++ record { member = c.args.member; before = c.put_latest-before.result } ∷ []))) (c.put_latest-before.ensures.at h)
-    ∙ pushed t.links.items (latest_at t.latest) t.within c.args.g h c.args.member c.len-at.result c.put_latest-before.result
-    (c.len-at.ensures ∙ t.links.ok.0) c.put_latest-before.ensures.before
+    ap (λ ls. trail (reverse ls) (latest_at c.insert_latest-before.new.latest h)) c.push_reserved.ensures.items
+    ∙ ap (trail (reverse (t.links.items ++ record { member = c.args.member; before = c.insert_latest-before.result } ∷ []))) (c.insert_latest-before.ensures.at h)
+    ∙ pushed t.links.items (latest_at t.latest) t.within c.args.g h c.args.member c.len-at.result c.insert_latest-before.result
+    (c.len-at.ensures ∙ t.links.ok.0) c.insert_latest-before.ensures.before
 
 pub returns-clause-has : goal.returns-clause-has
 returns-clause-has g c =

@@ -14,4 +14,4 @@ returns-clause-stands c = λ l h has.
     let n = c.args.n in
     let keep = λ (m : Name). not (has_object p o m) in
     named-gone c.args.self.now _ l _ p n c.place_of.result (λ q x. eqb p q && same o x) (omega arith) c.place_of.ensures h (gone-sound l keep h.sound) (fits-filter keep l h.fits)
-    (gone-object l h.sound p o n has) (gone-number l h.sound p o n has) c.take.ensures.at c.take_number.ensures.at (c.take.ensures.full h.full_are)
+    (gone-object l h.sound p o n has) (gone-number l h.sound p o n has) c.remove.ensures.at c.remove_number.ensures.at (c.remove.ensures.full h.full_are)

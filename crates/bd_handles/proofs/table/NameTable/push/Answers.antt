@@ -5,7 +5,7 @@ use Rattle.bd_handles.proofs.table.NameTable.push.Goals as goal
 
 pub returns-clause-stands : goal.returns-clause-stands
 returns-clause-stands c = λ base l h small free new. record {
-  stands = c.enter.ensures.stands l h.stands small free new;
+  stands = c.insert.ensures.stands l h.stands small free new;
   listed = listed-push c.args.self.now.held c.push.new.self c.args.m c.push.ensures.has c.push.ensures.keeps l h.listed;
   grows = one-given base c.args.self.now.given.items l c.args.m h.grows ∙ ap (λ g. base ++ g) (sym c.push_reserved.ensures.items);
 }

@@ -12,7 +12,7 @@ returns-clause-stands c = λ l are.
     let test = is_shaking c.args.o c.args.strong in
     let fewer = length-without test l in
     record {
-      tallied = c.drop_first.ensures.stands l test
+      tallied = c.remove_first.ensures.stands l test
           (λ r. shaking-key c.args.o c.args.strong r ∙ ap (same_key (use_key r)) (sym c.count_key.ensures)) are.tallied;
       held = λ b. are.held b ∙ sym (filter-without (λ (r : Reference). is_of_buffer b r.holder) test l
           (shaken-apart c.args.o c.args.strong b));

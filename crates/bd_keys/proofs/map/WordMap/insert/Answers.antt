@@ -14,7 +14,7 @@ unfolding word_room
 push_reserved-requires g c = omega (arith, c.requires)
 
 pub returns-in-Some-clause-put : goal.returns-in-Some-clause-put
-returns-in-Some-clause-put g c = λ l. c.put.ensures.put c.args.k l (sym c.place.ensures.place ∙ c.in-Some.is)
+returns-in-Some-clause-put g c = λ l. c.set_at.ensures.put c.args.k l (sym c.index_of.ensures.place ∙ c.in-Some.is)
 
 pub returns-in-None-clause-put : goal.returns-in-None-clause-put
 unfolding look
@@ -22,7 +22,7 @@ returns-in-None-clause-put g c = λ l.
     let m = c.args.self.now in
     alike-values c.push_reserved.new.self.items _ _ _ l c.push_reserved.ensures.items c.push.ensures.keys
     ∙ value-push (keys m.tree.nodes.items) m.values.items c.args.k l (Some c.args.v)
-    (sym c.place.ensures.place ∙ c.in-None.is) (m.alike ∙ sym (keys-length m.tree.nodes.items))
+    (sym c.index_of.ensures.place ∙ c.in-None.is) (m.alike ∙ sym (keys-length m.tree.nodes.items))
 
 pub returns-in-None-clause-room : goal.returns-in-None-clause-room
 unfolding word_room

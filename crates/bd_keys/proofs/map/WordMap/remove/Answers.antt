@@ -5,16 +5,16 @@ use Rattle.bd_keys.proofs.map.WordMap.remove.Goals as goal
 
 pub returns-in_err-at-clause-taken : goal.returns-in_err-at-clause-taken
 returns-in_err-at-clause-taken g c =
-    c.from_residual.ensures ∙ sym (look-none c.args.self.now c.args.k (sym c.place.ensures.place ∙ c.in_err-at.was))
+    c.from_residual.ensures ∙ sym (look-none c.args.self.now c.args.k (sym c.index_of.ensures.place ∙ c.in_err-at.was))
 
 pub returns-in_err-at-clause-gone : goal.returns-in_err-at-clause-gone
 returns-in_err-at-clause-gone g c = λ l.
     let m = c.args.self.now in
     hidden (look m) c.args.k l (λ o. None)
-    (look-none m c.args.k (sym c.place.ensures.place ∙ c.in_err-at.was)) refl
+    (look-none m c.args.k (sym c.index_of.ensures.place ∙ c.in_err-at.was)) refl
 
 pub returns-clause-taken : goal.returns-clause-taken
-returns-clause-taken g c = c.value-value.ensures c.args.k (sym c.place.ensures.place ∙ c.in_ok-at.was)
+returns-clause-taken g c = c.value-value.ensures c.args.k (sym c.index_of.ensures.place ∙ c.in_ok-at.was)
 
 pub returns-clause-gone : goal.returns-clause-gone
-returns-clause-gone g c = λ l. c.put.ensures.put c.args.k l (sym c.place.ensures.place ∙ c.in_ok-at.was)
+returns-clause-gone g c = λ l. c.set_at.ensures.put c.args.k l (sym c.index_of.ensures.place ∙ c.in_ok-at.was)

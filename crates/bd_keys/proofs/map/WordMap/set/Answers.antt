@@ -7,14 +7,14 @@ use Rattle.bd_keys.proofs.map.WordMap.set.Goals as goal
 
 pub returns-then-is_some-clause-set : goal.returns-then-is_some-clause-set
 returns-then-is_some-clause-set g c = λ l.
-    let here = sym c.place.ensures.place ∙ c.in-Some.is in
-    c.put.ensures.put c.args.k l here
+    let here = sym c.index_of.ensures.place ∙ c.in-Some.is in
+    c.set_at.ensures.put c.args.k l here
     ∙ some-there (look c.args.self.now) c.args.k l c.args.v
     (ap is_some (sym (c.value.ensures c.args.k here)) ∙ sym c.is_some.ensures ∙ c.if-is_some.true)
 
 pub returns-else-is_some-clause-set : goal.returns-else-is_some-clause-set
 returns-else-is_some-clause-set g c = λ l.
-    let here = sym c.place.ensures.place ∙ c.in-Some.is in
+    let here = sym c.index_of.ensures.place ∙ c.in-Some.is in
     hidden (look c.args.self.now) c.args.k l (option_map (λ x. c.args.v))
     (sym (c.value.ensures c.args.k here) ∙ none_is c.value.result (sym c.is_some.ensures ∙ c.if-is_some.false)) refl
 
@@ -22,4 +22,4 @@ pub returns-in_default-clause-set : goal.returns-in_default-clause-set
 returns-in_default-clause-set g c = λ l.
     let m = c.args.self.now in
     hidden (look m) c.args.k l (option_map (λ x. c.args.v))
-    (look-none m c.args.k (sym c.place.ensures.place ∙ c.in_default.is)) refl
+    (look-none m c.args.k (sym c.index_of.ensures.place ∙ c.in_default.is)) refl

@@ -12,6 +12,6 @@ returns-in-None-clause-step c = taken-step _ _ _ _ _ (
 
 pub returns-clause-step : goal.returns-clause-step
 returns-clause-step c = taken-step _ _ _ _ _ (
-    accepts-alone _ c.reserve.new.self _ _ _ (λ s. death_done s c.args.a.thread.seat c.in-Some.x) c.reserve.ensures.stands (λ s h by. c.know_death.ensures.stands s)
+    accepts-alone _ c.reserve.new.self _ _ _ (λ s. death_done s c.args.a.thread.seat c.in-Some.x) c.reserve.ensures.stands (λ s h by. c.acknowledge_death.ensures.stands s)
     (λ s h by. done-local s c.args.a.thread.seat c.args.a.process.made c.args.cookie c.in-Some.x by.tidy (sym (c.in-Some.ensures s h.objects_stand)))
     (λ s h by. sym (ap (λ o. by_check s (death_done s c.args.a.thread.seat) (ok_or o NoneTold)) (c.in-Some.ensures s h.objects_stand))))

@@ -12,5 +12,5 @@ returns-clause-step c = taken-step _ _ _ _ _ (
       answered = refl;
       stands =
           process-ends _ _ _ s c.args.a.process.made c.in-Ok.exit _ _ c.objects.ensures (c.as_mut_slice.ensures.value ∙ c.into_frames-frames.ensures) by.tidy (c.in-Ok.ensures.has s h)
-          (c.process_goes.ensures.stands s (within _ s (c.begin_exit.ensures.stands s h)) (c.as_slice.ensures.value ∙ c.in-Ok.ensures.seats s h) (c.deaths.ensures ∙ c.in-Ok.ensures.deaths s h)) c.follow_objects.ensures.stands c.close_among.ensures.stands;
+          (c.end_process.ensures.stands s (within _ s (c.begin_exit.ensures.stands s h)) (c.as_slice.ensures.value ∙ c.in-Ok.ensures.seats s h) (c.deaths.ensures ∙ c.in-Ok.ensures.deaths s h)) c.follow_objects.ensures.stands c.close_among.ensures.stands;
     }))

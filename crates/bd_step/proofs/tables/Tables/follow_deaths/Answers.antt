@@ -11,7 +11,7 @@ returns-clause-stands c = λ s h.
     let k = c.withdraw_deaths.ensures.stands s h in
     record {
       own = k.own;
-      objects_stand = c.deaths_go_with.ensures.stands (deaths_withdrawn (at_name c.args.p c.args.o) s) k.objects_stand;
+      objects_stand = c.remove_unnamed_deaths.ensures.stands (deaths_withdrawn (at_name c.args.p c.args.o) s) k.objects_stand;
       calls_stand = k.calls_stand;
       windows_stand = k.windows_stand;
     }

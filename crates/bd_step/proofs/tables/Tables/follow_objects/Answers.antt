@@ -14,4 +14,4 @@ pub returns-else-touched-eq1-clause-stands : goal.returns-else-touched-eq1-claus
 returns-else-touched-eq1-clause-stands c = λ s h ordered.
     let os = c.args.touched.now in
     subst (Within c.notify_objects.new.self) (objects-followed os s c.requires.in_order ordered)
-    (c.notify_objects.ensures.stands (shed_of (is_among os) s) (c.shed_objects.ensures.stands s h))
+    (c.notify_objects.ensures.stands (shed_of (is_among os) s) (c.remove_each_unkept.ensures.stands s h))

@@ -25,8 +25,8 @@ abbrev freed_outcome : Space → Result ℕ Note → Outcome
 freed_outcome s (Err n) = noted s n
 freed_outcome s (Ok made) = accepted (without_buffer s made)
 
-pub lose_buffer-requires-clause-in_order : goal.lose_buffer-requires-clause-in_order
-lose_buffer-requires-clause-in_order c = subst (Pairs NotLater) (sym c.as_slice.ensures.value) c.in-Ok-ready_to_free.ensures.in_order
+pub release_buffer-requires-clause-in_order : goal.release_buffer-requires-clause-in_order
+release_buffer-requires-clause-in_order c = subst (Pairs NotLater) (sym c.as_slice.ensures.value) c.in-Ok-ready_to_free.ensures.in_order
 
 if_handed : (s : Space) (made : ℕ) (handed : Bool)
     → freed_outcome s (if handed then Ok made else Err NotHandedOut) ≡ (if handed then accepted (without_buffer s made) else noted s NotHandedOut)
@@ -58,8 +58,8 @@ returns-clause-step c =
           let b = freed-buffer s p c.args.pointer made checked in
           record {
             answered = ap (λ (o : Outcome). o.answer) is;
-            stands = subst (λ (o : Outcome). Within c.lose_buffer.new.self o.space) is
-                (c.lose_buffer.ensures.stands s (within _ s (c.in-Ok-ready_to_free.ensures.stands s h)) (record {
+            stands = subst (λ (o : Outcome). Within c.release_buffer.new.self o.space) is
+                (c.release_buffer.ensures.stands s (within _ s (c.in-Ok-ready_to_free.ensures.stands s h)) (record {
                   tidy = by.tidy;
                   buffer = b.0;
                   here = b.1;

@@ -15,8 +15,8 @@ returns-clause-stands c = λ s h free w.
     record {
       own = record {
         steps_are = here;
-        processes_are = subst (λ place. ProcessesAre c.add.new.self (s.processes ++ process place c.args.pid c.args.euid c.args.size ∷ [])) (sym here)
-            (c.add.ensures.stands s.processes h.own.processes_are (record { newest = newest; free = free }));
+        processes_are = subst (λ place. ProcessesAre c.push.new.self (s.processes ++ process place c.args.pid c.args.euid c.args.size ∷ [])) (sym here)
+            (c.push.ensures.stands s.processes h.own.processes_are (record { newest = newest; free = free }));
         manager_is = h.own.manager_is;
       };
       objects_stand = h.objects_stand;

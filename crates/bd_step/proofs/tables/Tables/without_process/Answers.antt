@@ -12,6 +12,6 @@ returns-clause-stands c = λ s h. record {
     manager_is = ap (option_and_then (λ o. if owned_in s.objects c.args.p o then None else Some o)) h.own.manager_is ∙ sym (c.manager_without-self.ensures s h.objects_stand);
   };
   objects_stand = c.without_process.ensures.stands s h.objects_stand;
-  calls_stand = c.process_goes.ensures.stands s h.calls_stand;
+  calls_stand = c.end_process.ensures.stands s h.calls_stand;
   windows_stand = c.close.ensures s h.windows_stand;
 }

@@ -18,9 +18,9 @@ returns-clause-stands c = λ todo stands.
     record {
       rows = s.rows;
       shows = opened_shows t _ s.rows c.args.list c.open-head.result s.shows (c.find.ensures.heads c.args.list ∙ sym c.find.ensures.found ∙ c.in_default.is)
-          (c.open-head.ensures.stands s.rows s.shows.holds) c.open-head.ensures.fresh c.open-head.ensures.open c.put.ensures.heads;
+          (c.open-head.ensures.stands s.rows s.shows.holds) c.open-head.ensures.fresh c.open-head.ensures.open c.insert.ensures.heads;
       works_are = s.works_are;
     }
 
 pub returns-clause-head : goal.returns-clause-head
-returns-clause-head c = c.put.ensures.heads c.args.list ∙ ap (λ b. cond b (Some c.open-head.result) (head_at c.find.new.self c.args.list)) (same_list-refl c.args.list)
+returns-clause-head c = c.insert.ensures.heads c.args.list ∙ ap (λ b. cond b (Some c.open-head.result) (head_at c.find.new.self c.args.list)) (same_list-refl c.args.list)

@@ -20,7 +20,7 @@ loop-item-preserved c = record {
   uses = omega arith;
   left = λ l h.
       let m = c.loop-item.invariant.left l h in
-      (_, c.take.ensures.stands m.0 m.1, m.2 ∙ ap (λ ds. without_taken ds m.0) (drop_more c.args.taken.now c.loop-item.item-index blank (omega arith)) ∙ without_taken-cons (get_or c.args.taken.now c.loop-item.item-index blank) _ m.0);
+      (_, c.remove_item.ensures.stands m.0 m.1, m.2 ∙ ap (λ ds. without_taken ds m.0) (drop_more c.args.taken.now c.loop-item.item-index blank (omega arith)) ∙ without_taken-cons (get_or c.args.taken.now c.loop-item.item-index blank) _ m.0);
 }
 
 pub returns-clause-stands : goal.returns-clause-stands

@@ -9,7 +9,7 @@ use Rattle.bd_todo.proofs.WorksStand.{only_goes, has_sought_is}
 use Rattle.bd_todo.proofs.table.WorkTable.withdraw.Goals as goal
 
 pub returns-then-has-clause-stands : goal.returns-then-has-clause-stands
-returns-then-has-clause-stands c = λ l h. c.keep.ensures.stands (λ (w : Work). not (is_sought c.args.key w.kind)) (λ x b k. search (rules, tests)) l h
+returns-then-has-clause-stands c = λ l h. c.retain.ensures.stands (λ (w : Work). not (is_sought c.args.key w.kind)) (λ x b k. search (rules, tests)) l h
 
 pub returns-else-has-clause-stands : goal.returns-else-has-clause-stands
 returns-else-has-clause-stands c = λ l h.
