@@ -30,10 +30,8 @@ impl ThreadTable {
         if self.rows.len() <= FEW {
             return thread_along(&self.rows, seat);
         }
-        match self.places.get(&seat) {
-            Some(row) => self.rows[*row],
-            None => None,
-        }
+        let row = self.places.get(&seat)?;
+        self.rows[*row]
     }
 
     /// The seats of a process's threads. Fails for want of memory alone, and never where there are none.

@@ -1,4 +1,4 @@
-use Rattle.std.proofs.Common.{◌≡◌, ℕ, ◌+◌, true, cond, length, List, [], ◌∷◌, ◌++◌, ◌==◌, None, Some, sym, ap, ◌∙◌, arith, Result, Ok, Err, Option}
+use Rattle.std.proofs.Common.{◌≡◌, ℕ, ◌+◌, true, cond, length, List, [], ◌∷◌, ◌++◌, None, Some, sym, ap, ◌∙◌, arith, Result, Ok, Err, Option}
 use Rattle.std.specs.Prelude.{IfOk, OnOk, is_some, option_map}
 use Rattle.std.specs.Result.{is_ok}
 use Rattle.std.proofs.lemmas.List.{get_or_past, length_push}
@@ -16,10 +16,9 @@ done : {T E P : Type 0} (r : Result T E) → is_ok r ≡ true → OnOk r P → P
 done (Ok x) is p = p
 done (Err e) is p = absurd (cc)
 
-counted : {E : Type 0} (r : Result (Option ℕ) E) (before : Option ℕ) (n m : ℕ) → is_ok r ≡ true → before ≡ None
-    → IfOk r (λ o. o ≡ before) → IfOk r (λ o. n ≡ m + cond (is_some o) 0 1) → n ≡ m + 1
-counted (Ok o) before n m is none was len = len ∙ ap (λ x. m + cond (is_some x) 0 1) (was ∙ none)
-counted (Err e) before n m is none was len = absurd (cc)
+counted : {E : Type 0} (r : Result (Option ℕ) E) (n m : ℕ) → is_ok r ≡ true → IfOk r (λ o. o ≡ None) → IfOk r (λ o. n ≡ m + cond (is_some o) 0 1) → n ≡ m + 1
+counted (Ok o) n m is was len = grind (arith, was, len)
+counted (Err e) n m is was len = absurd (cc)
 
 more : (rows new : List (Option Thread)) (t : Thread) → new ≡ rows ++ Some t ∷ [] → live new ≡ live rows ++ t ∷ []
 more rows new t is = ap live is ∙ filter_map-append (λ (o : Option Thread). o) rows (Some t ∷ [])
@@ -34,13 +33,12 @@ invariant_of-self c =
     let none = unplaced t one.seat
     (ap (λ ts. thread_in ts one.seat) c.remove.ensures.listed ∙ find_gone seat_of one.seat (listed c.args.self.now)) in
     let at : c.len-row.result ≡ length rows = omega (arith, c.len-row.ensures, t.rows.ok) in
-    let len = counted c.insert.result _ _ _ ok none c.insert.ensures.old c.insert.ensures.len in
+    let len = counted c.insert.result _ _ ok (rw none at c.insert.ensures.old) c.insert.ensures.len in
     record {
       found = inverse_more (place_at t.places) (seat_at rows) _ _ t.found one.seat _ none
           (ap (option_map seat_of) (get_or_past rows c.len-row.result None (omega (arith, at))))
           (done c.insert.result ok c.insert.ensures.updates).0
-          (λ j. ap (λ rs. seat_at rs j) items ∙ seat_push rows (Some one) j
-          ∙ ap (λ n. cond (n == j) (Some one.seat) (seat_at rows j)) (sym at));
+          (λ j. let seats = seat_push rows (Some one) j in rw (items, at) seats);
       left = omega (arith, len, t.left, ap length (more rows _ one items), length_push (live rows) one);
     }
 

@@ -5,14 +5,15 @@ use Rattle.bd_threads.proofs.Rows.{seat_of, inside, read, row_found, none_found}
 use Rattle.bd_threads.proofs.table.ThreadTable.thread.Goals as goal
 
 pub index-requires : goal.index-requires
-index-requires c = omega (arith, c.args.self.now.rows.ok, inside c.args.self.now c.args.seat _ c.in-Some.ensures.value)
+index-requires c = omega (arith, c.args.self.now.rows.ok, inside c.args.self.now c.args.seat _ c.in_ok-row.ensures.value)
 
-pub returns-in-Some : goal.returns-in-Some
-returns-in-Some c =
+pub returns : goal.returns
+returns c =
     let t = c.args.self.now in
-    let place = c.in-Some.ensures.value in
+    let place = c.in_ok-row.ensures.value in
     sym ((row_found t c.args.seat _ place).found ∙ read t c.args.seat _ place _ _ c.index.ensures refl)
 
-pub returns-in-None : goal.returns-in-None
-returns-in-None c =
-    let t = c.args.self.now in sym (find_none seat_of c.args.seat (listed t) (none_found t c.args.seat c.in-None.ensures.value))
+pub returns-in_err-row : goal.returns-in_err-row
+returns-in_err-row c =
+    let t = c.args.self.now in
+    c.from_residual.ensures ∙ sym (find_none seat_of c.args.seat (listed t) (none_found t c.args.seat c.in_err-row.ensures.value))
