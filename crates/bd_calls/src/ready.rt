@@ -35,7 +35,7 @@ pub(crate) struct Seen {
 #[derive(Drop)]
 pub(crate) struct ReadySeats {
     pub(crate) seats: Vec<Option<Seen>>,
-    // Something is kept of each: there is nothing to look at.
+    // Something is kept of each, so there is nothing to look at. No clause speaks of it.
     pub(crate) whole: bool,
 }
 

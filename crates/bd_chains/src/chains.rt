@@ -63,13 +63,6 @@ impl<T: Copy> Chains<T> {
         items.min(lists)
     }
 
-    /// Whether there was never room for a list.
-    pub fn is_unused(&self) -> bool
-        ensures { result ≡ true → (l : ℕ) → is_open self.now l ≡ false }
-    {
-        self.ends.capacity() == 0
-    }
-
     /// Makes room for so many values more, and for as many lists. What stands on them is the same after it, also on an `Err`.
     pub fn reserve(&mut self, more: usize) -> Result<(), AllocError>
         ensures stands { (rs : List (Row T)) → Holds self.old rs → Holds self.new rs }
