@@ -6,7 +6,6 @@ use Rattle.std.proofs.lemmas.Bool.{cases_lt}
 use Rattle.std.proofs.lemmas.Option.{none-some}
 use Rattle.std.specs.Io.KnownBytes.{Consumes, IsAtEnd}
 use Rattle.bd_uapi.specs.Bytes.{word}
-use Rattle.bd_space.specs.declared.record.Record.{Record}
 use Rattle.bd_journal.specs.declared.versions.Version.{Version}
 use Rattle.bd_journal.specs.declared.versions.Version.TheVariants.{One, Two, Three}
 use Rattle.bd_journal.specs.Cut.{HasHeading}

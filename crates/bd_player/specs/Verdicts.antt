@@ -1,5 +1,5 @@
 -- What is said of a journal, and when that is so.
-use Rattle.std.specs.Prelude.{◌≡◌, ◌≤◌, ℕ, List, length, Option, IfSome}
+use Rattle.std.specs.Prelude.{◌≡◌, ℕ, List, length, Option, IfSome}
 use Rattle.bd_engine.specs.Refusals.{IsLiveSeats}
 use Rattle.bd_space.specs.declared.record.Record.{Record}
 use Rattle.bd_space.specs.Histories.{IsHistory, history_in}

@@ -2,7 +2,7 @@ use Rattle.std.proofs.Common.{rules, arith, ◌≡◌, ◌∙◌, ◌+◌, ℕ, 
 use Rattle.std.specs.List.{slice_get}
 use Rattle.std.proofs.lemmas.List.Elements.{All-nil, All-push}
 use Rattle.bd_space.specs.Histories.{history_in}
-use Rattle.bd_audit.proofs.Beginnings.{all-played, next-beginning, next-lawful, one-next}
+use Rattle.bd_audit.proofs.Beginnings.{next-beginning, next-lawful, one-next}
 use Rattle.bd_player.specs.Certified.{IsGiftOf}
 use Rattle.bd_player.proofs.Gifts.{AreSoFar, all_given, gives, made_there, none_yet, passes, placed, so_many}
 use Rattle.bd_player.proofs.certificates.gifts_at.Goals as goal

@@ -1,4 +1,4 @@
-use Rattle.std.proofs.Common.{arith, sym, ◌∙◌}
+use Rattle.std.proofs.Common.{arith, sym}
 use Rattle.bd_player.proofs.Streams.{one_read, none_read}
 use Rattle.bd_player.proofs.returns.split_return.Goals as goal
 
