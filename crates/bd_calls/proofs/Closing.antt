@@ -1,4 +1,4 @@
--- Closing step by step, and upwards.
+-- Closing upwards, step by step.
 use Rattle.std.proofs.Common.{◌≡◌, ℕ, zero, suc, ◌+◌, ◌-◌, ◌<◌, ◌≤◌, not, ◌&&◌, List, length, filter, Option, Some, None, refl, ap, sym, subst, ◌∙◌, find, arith}
 use Rattle.std.proofs.lemmas.Bool.{eq-eqb}
 use Rattle.bd_space.specs.declared.space.Frame.{Frame}
@@ -10,29 +10,9 @@ use Rattle.bd_ways.specs.Tables.{Tells, MakesAt}
 use Rattle.bd_frames.specs.Words.{abandoned_in}
 use Rattle.bd_calls.specs.declared.table.CallTable.{CallTable}
 use Rattle.bd_calls.specs.Stands.{StandsFor}
-use Rattle.bd_calls.specs.Closing.{IsClosingAt}
 use Rattle.bd_calls.proofs.Settling.{one-steps}
 use Rattle.bd_calls.proofs.Choosing.{next, next-frames}
 use Rattle.bd_calls.proofs.InList.{In, found-in, found-nowhere, length-in, one-less}
-
--- ---- any way of closing
-
--- of each space that the table stood for it stands, after so many calls, for one from which closing goes on to the same end
-abbrev pub IsClosing : (old new : CallTable) → ℕ → (begun close : ℕ → Space → Space) → ℕ → Type 0
-IsClosing old new place begun close n =
-    (s : Space) → StandsFor old s → s.steps ≡ place → IsClosingAt new place close (length s.frames - n) (begun (length s.frames) s)
-
-module _ (t : CallTable) (place : ℕ) (close : ℕ → Space → Space) where
-  pub closing-begins : IsClosing t t place close close 0
-  closing-begins = λ s stands at.
-      let all : length s.frames - 0 ≡ length s.frames = omega arith in
-      record { mid = s; stands = stands; at = at; goes_on = ap (λ n. close n s) all }
-
-  pub closing-left : (n k : ℕ) (whole : Space) → n ≡ k → IsClosingAt t place close n whole → IsClosingAt t place close k whole
-  closing-left n k whole is h = record { mid = h.mid; stands = h.stands; at = h.at; goes_on = ap (λ m. close m h.mid) (sym is) ∙ h.goes_on }
-
-  pub closing-over : (left : ℕ) (whole : Space) → ((s : Space) → close 0 s ≡ s) → left ≡ 0 → IsClosingAt t place close left whole → StandsFor t whole
-  closing-over left whole over none h = subst (StandsFor t) (sym (over h.mid) ∙ sym (ap (λ n. close n h.mid) none) ∙ h.goes_on) h.stands
 
 -- ---- one call closes
 

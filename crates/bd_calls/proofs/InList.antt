@@ -1,10 +1,12 @@
 -- Frames of a list: which are found, and what a filter leaves of them.
-use Rattle.std.proofs.Common.{◌≡◌, ℕ, suc, ◌<◌, ◌≤◌, Bool, true, false, cond, not, ◌&&◌, ◌||◌, List, [], ◌∷◌, Some, None, ◌⊎◌, inl, inr, refl, ap, sym, subst, ◌∙◌, length, filter, find, arith}
+use Rattle.std.proofs.Common.{◌≡◌, ℕ, suc, ◌<◌, ◌≤◌, Bool, true, false, cond, not, ◌&&◌, ◌||◌, List, [], ◌∷◌, Option, Some, None, ◌⊎◌, inl, inr, refl, ap, sym, subst, ◌∙◌, length, filter, find, arith}
 use Rattle.std.specs.List.{list_any}
+use Rattle.std.specs.Option.{option_map}
 use Rattle.bd_space.specs.declared.space.Frame.{Frame}
-use Rattle.bd_frames.specs.Places.{IsRising}
+use Rattle.bd_space.specs.Frames.{made_of}
+use Rattle.bd_frames.specs.Places.{IsRising, IsAfter}
 use Rattle.bd_frames.proofs.Places.{rising-from}
-use Rattle.bd_frames.specs.InOrder.{ParentsOlder}
+use Rattle.bd_frames.specs.InOrder.{IsBefore, ParentsOlder}
 
 -- ---- tests
 
@@ -38,6 +40,23 @@ found-in p (g ∷ fs) f h = at (p g) h (found-in p fs f)
     at : (b : Bool) → cond b (Some g) (find p fs) ≡ Some f → (find p fs ≡ Some f → In f fs) → In f (g ∷ fs)
     at true e rest = inl (cc)
     at false e rest = inr (rest e)
+
+-- where all were made before n, so was the one that is found
+pub found-before : (p : Frame → Bool) (n : ℕ) (fs : List Frame) → IsRising 0 fs → IsAfter 0 fs n → IsBefore (option_map made_of (find p fs)) n
+found-before p n fs r h = at (find p fs) refl
+  where
+    up : (m : ℕ) (gs : List Frame) → IsRising m gs → IsAfter m gs n → m ≤ n
+    up m [] r h = h
+    up m (g ∷ gs) r h = let a = r.0 in let b = up (suc g.made) gs r.1 h in omega (arith, a, b)
+
+    each : (m : ℕ) (gs : List Frame) (f : Frame) → IsRising m gs → IsAfter m gs n → In f gs → f.made < n
+    each m [] f r h i = absurd i
+    each m (g ∷ gs) f r h (inl is) = let same : f.made ≡ g.made = ap (λ x. x.made) is in let b = up (suc g.made) gs r.1 h in omega (arith, same, b)
+    each m (g ∷ gs) f r h (inr j) = each (suc g.made) gs f r.1 h j
+
+    at : (o : Option Frame) → find p fs ≡ o → IsBefore (option_map made_of o) n
+    at None e = tt
+    at (Some f) e = each 0 fs f r h (found-in p fs f e)
 
 pub none-found : (p : Frame → Bool) (fs : List Frame) (g : Frame) → find p fs ≡ None → In g fs → p g ≡ false
 none-found p [] g h i = absurd i

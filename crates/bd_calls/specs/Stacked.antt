@@ -4,6 +4,7 @@ use Rattle.bd_ways.specs.Words.{Space}
 use Rattle.bd_space.specs.Frames.{innermost_in}
 use Rattle.bd_ways.specs.Tables as tables
 pub use Rattle.bd_frames.specs.Words.{newest_in}
+pub use Rattle.bd_frames.specs.Places.{IsAfter}
 use Rattle.bd_calls.specs.declared.table.CallTable.{CallTable}
 use Rattle.bd_calls.specs.Stands.{StandsFor}
 
@@ -15,7 +16,12 @@ IsStacked s = (seat : ℕ) → innermost_in s.frames seat ≡ newest_in s.frames
 abbrev pub TellsOfStacked : {A : Type 0} → CallTable → A → (Space → A) → Type 0
 TellsOfStacked t x f = tables.TellsWhere (StandsFor t) IsStacked x f
 
+-- and all of them were made before the step: so a call may come in
+pub record TakesCalls (s : Space) : Type 0 where
+  pub stacked : IsStacked s
+  pub before : IsAfter 0 s.frames s.steps
+
 -- the step at this place makes one by f from every such space
 abbrev pub MakesOfStackedAt : ℕ → CallTable → CallTable → (Space → Space) → Type 0
 MakesOfStackedAt place old new f =
-    tables.MakesWhere (StandsFor old) (λ s. tables.IsAt place s × IsStacked s) (StandsFor new) f
+    tables.MakesWhere (StandsFor old) (λ s. tables.IsAt place s × TakesCalls s) (StandsFor new) f

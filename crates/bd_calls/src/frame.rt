@@ -1,7 +1,7 @@
 //! Frames: open two-way calls. A thread's innermost frame is its newest, as its frames are a stack.
 #![tactic(auto, unfolding(bd_space::specs::Frames::innermost, bd_space::specs::Frames::served_innermost, bd_space::specs::Frames::goes_to, bd_space::specs::Frames::closed, bd_space::specs::Transactions::call_out, bd_space::specs::Todo::owe, crate::specs::Room::rooms, crate::specs::Told::Recalls, crate::specs::Told::HasRoomToTell))]
 
-ghost use Rattle.std.specs.Prelude.{ℕ, List, ◌≡◌, ◌==◌, ◌&&◌, ◌+◌, ◌-◌, ◌≤◌, ◌++◌, true, false, map, filter, find, reverse, length, Option, Some, None, option_map, OnOk};
+ghost use Rattle.std.specs.Prelude.{List, ◌≡◌, ◌==◌, ◌&&◌, ◌+◌, ◌-◌, ◌≤◌, ◌++◌, map, filter, find, reverse, length, Option, Some, None, option_map, OnOk};
 ghost use Rattle.std.specs.{List.{list_any}, Option.{is_none}};
 ghost use Rattle.bd_space.specs.declared.space.Work as declared;
 ghost use Rattle.bd_space.specs.Words.{changed};
@@ -16,7 +16,7 @@ ghost use Rattle.bd_frames.specs.Stands as frame_table;
 ghost use Rattle.bd_frames.specs.Room as frame_rooms;
 ghost use Rattle.bd_frames.specs.Words.{newest_in, is_place_among, abandoned_in, lost_frame};
 ghost use Rattle.bd_threads.specs.Listed.{listed};
-ghost use Rattle.bd_calls.specs.{Closing.{chosen_after}, Losing.{lost_frames}};
+ghost use Rattle.bd_calls.specs.Losing.{lost_frames};
 
 use crate::table::CallTable;
 use bd_frames::{FrameTable, serves};
@@ -59,9 +59,7 @@ fn first_waiting(
     ensures { frame_table.Tells frames.now result
         (λ l. find (spec.waits_in (listed threads.now) process) (spec.ancestry from (reverse l))) }
 {
-    frames
-        .ancestry_of(from)
-        .find(|f| waits(threads, process, f))
+    frames.first_on_way(from, |f| waits(threads, process, &f))
 }
 
 fn list_of_caller(process: u32, frame: Option<Frame>) -> TodoList
@@ -84,21 +82,6 @@ fn list_from(
         (find (spec.waits_in (listed threads.now) process) (spec.ancestry from (reverse l)))) }
 {
     list_of_caller(process, first_waiting(threads, frames, from, process))
-}
-
-// In the place of a call that closes the one is chosen in which it was made.
-fn parent_or_same(one: u32, made: u32, parent: u32) -> u32
-    ensures { result ≡ chosen_after made parent one }
-{
-    if one == made { parent } else { one }
-}
-
-fn choose_parent(chosen: &mut [u32], made: u32, parent: u32)
-    ensures { chosen.new ≡ map (chosen_after made parent) chosen.old }
-{
-    for one in chosen.iter_mut() {
-        *one = parent_or_same(*one, made, parent);
-    }
 }
 
 fn serve_call(frames: &mut FrameTable, seat: u32, kind: WorkKind)
@@ -162,11 +145,9 @@ pub(crate) fn leave_frames(frames: &mut FrameTable, todo: &WorkTable, seat: u32)
 
 impl CallTable {
     ghost use Rattle.bd_space.specs.{Space.{Space}, Transactions.{call_out}};
-    ghost use Rattle.bd_ways.specs.Tables.{IsAt, Tells, Makes, MakesAt, MakesWhere};
+    ghost use Rattle.bd_ways.specs.Tables.{IsAt, Tells, Makes, MakesAt};
     ghost use Rattle.bd_calls.specs.{Stands.{StandsFor}, Stacked.{TellsOfStacked, MakesOfStackedAt}};
     ghost use Rattle.bd_calls.specs.{Told.{KeepsTold, ReachesFew}, Room.{Uses, UsesNothing, nothing, frame_room, work_room, frame_count}};
-    ghost use Rattle.bd_calls.specs.Closing.{IsAmongAt};
-    ghost use Rattle.bd_frames.specs.InOrder.{IsInOrder};
 
     /// The frame of the call made at this place.
     pub fn frame(&self, made: u32) -> Option<Frame>
@@ -320,64 +301,6 @@ impl CallTable {
         let _ = self.close_up_within(place, made, count);
     }
 
-    // As `close_among`, where each frame was made after those before it and after its parent: the chosen ones close in turn
-    // from the oldest on, each upwards.
-    #[tactic(auto)]
-    fn close_in_order(&mut self, place: u32, chosen: &mut [u32])
-        requires { frame_count self.old ≤ work_room self.old }
-        ensures stands { MakesWhere (StandsFor self.old) (λ s. IsAt place s × IsInOrder s.frames) (StandsFor self.new)
-            (λ s. local.close_among (length s.frames) (is_place_among chosen.old) s) }
-        ensures uses { Uses self.old self.new (record nothing { works = frame_count self.old }) }
-        ensures told { KeepsTold self.old self.new }
-        ensures few { ReachesFew (frame_count self.old) self.old self.new }
-    {
-        chosen.sort_unstable();
-        let mut left = self.count_frames();
-        for made in chosen.iter() {
-            left = self.close_up_within(place, Some(*made), left);
-        }
-    }
-
-    // The oldest abandoned call among the chosen ones closes, and the one in which it was made is chosen for it;
-    // whether there was one.
-    #[tactic(auto)]
-    fn close_oldest_among(&mut self, place: u32, chosen: &mut [u32]) -> bool
-        requires { 1 ≤ work_room self.old }
-        ensures goes_on { (left : ℕ) (whole : Space) → result ≡ true
-            → IsAmongAt self.old place chosen.old (left + 1) whole → IsAmongAt self.new place chosen.new left whole }
-        ensures done { (left : ℕ) (whole : Space) → result ≡ false → IsAmongAt self.old place chosen.old left whole
-            → StandsFor self.new whole }
-        ensures uses { Uses self.old self.new (record nothing { works = 1 }) }
-        ensures told { KeepsTold self.old self.new }
-        ensures few { ReachesFew 1 self.old self.new }
-    {
-        let Some(oldest) = self.frames.oldest_abandoned_among(chosen) else {
-            return false;
-        };
-        self.abandon(place, oldest);
-        if let Some(parent) = oldest.parent {
-            choose_parent(chosen, oldest.made, parent);
-        }
-        true
-    }
-
-    // As `close_among`, whatever the frames: the oldest is looked for anew each time.
-    #[tactic(auto)]
-    fn close_one_by_one(&mut self, place: u32, chosen: &mut [u32])
-        requires { frame_count self.old ≤ work_room self.old }
-        ensures stands { MakesAt place (StandsFor self.old) (StandsFor self.new)
-            (λ s. local.close_among (length s.frames) (is_place_among chosen.old) s) }
-        ensures uses { Uses self.old self.new (record nothing { works = frame_count self.old }) }
-        ensures told { KeepsTold self.old self.new }
-        ensures few { ReachesFew (frame_count self.old) self.old self.new }
-    {
-        for _closed in 0..self.count_frames() {
-            if !self.close_oldest_among(place, chosen) {
-                return;
-            }
-        }
-    }
-
     /// Of the chosen calls those close that are abandoned, oldest first, until there are none left; where one closes, the
     /// one in which it was made is chosen for it. Each caller that lives is told, by a work item made at this place.
     #[tactic(auto)]
@@ -389,10 +312,11 @@ impl CallTable {
         ensures told { KeepsTold self.old self.new }
         ensures few { ReachesFew (frame_count self.old) self.old self.new }
     {
-        if self.frames.is_in_order() {
-            self.close_in_order(place, chosen);
-        } else {
-            self.close_one_by_one(place, chosen);
+        // A parent is older than its child, so what is chosen for one comes before all that are chosen after it.
+        chosen.sort_unstable();
+        let mut left = self.count_frames();
+        for made in chosen.iter() {
+            left = self.close_up_within(place, Some(*made), left);
         }
     }
 

@@ -1,11 +1,11 @@
--- Threads take part in a frame as before, or one more or one less does.
-use Rattle.std.proofs.Common.{◌≡◌, ℕ, ◌==◌, ◌||◌, Bool, true, false, cond, Option, Some, None, refl, ap, sym, ◌∙◌, eqb-true}
+-- Threads take part in a frame as before, or fewer do.
+use Rattle.std.proofs.Common.{◌≡◌, ℕ, ◌==◌, ◌||◌, Bool, true, false, cond, List, [], ◌∷◌, map, Option, Some, None, refl, ap, sym, ◌∙◌, eqb-true}
 use Rattle.std.proofs.lemmas.Bool.{or_parts}
 use Rattle.std.proofs.Math.Bool.{or-false}
 use Rattle.bd_space.specs.declared.space.Frame.{Frame}
 use Rattle.bd_space.specs.declared.space.Server.{Server}
 use Rattle.bd_space.specs.declared.space.Server.TheVariants.{Pending, Serving, Gone}
-use Rattle.bd_space.specs.Words.{is_some_and}
+use Rattle.bd_space.specs.Words.{is_some_and, changed}
 use Rattle.bd_space.specs.Frames.{calls, serves, takes_part}
 use Rattle.bd_space.specs.ThreadExits.{gone_caller, gone_server}
 use Rattle.bd_space.specs.ReadItems.{serve}
@@ -16,12 +16,12 @@ or-left a b e = ap (λ x. x || b) e
 
 -- ---- who would have served it has gone
 
-pub lost-serves : (s : ℕ) (v : Server) → serves s (lost v) ≡ serves s v
+lost-serves : (s : ℕ) (v : Server) → serves s (lost v) ≡ serves s v
 lost-serves s Pending = refl
 lost-serves s (Serving t) = refl
 lost-serves s Gone = refl
 
-pub lost-takes : (s : ℕ) (f : Frame) → takes_part s (lost_frame f) ≡ takes_part s f
+lost-takes : (s : ℕ) (f : Frame) → takes_part s (lost_frame f) ≡ takes_part s f
 lost-takes s f = ap (λ b. calls s f || b) (lost-serves s f.server)
 
 -- ---- a thread has gone
@@ -60,10 +60,10 @@ server-gone seat (Serving t) = at (t == seat) refl
     at true g = refl
     at false g = g
 
-pub left-calls : (seat s : ℕ) (f : Frame) → (seat == s) ≡ false → calls s (left_frame seat f) ≡ calls s f
+left-calls : (seat s : ℕ) (f : Frame) → (seat == s) ≡ false → calls s (left_frame seat f) ≡ calls s f
 left-calls seat s f e = caller-kept seat s f.caller e
 
-pub left-takes : (seat s : ℕ) (f : Frame) → (seat == s) ≡ false → takes_part s (left_frame seat f) ≡ takes_part s f
+left-takes : (seat s : ℕ) (f : Frame) → (seat == s) ≡ false → takes_part s (left_frame seat f) ≡ takes_part s f
 left-takes seat s f e =
     ap (λ b. b || serves s (gone_server seat f.server)) (caller-kept seat s f.caller e) ∙ ap (λ b. calls s f || b) (server-kept seat s f.server e)
 
@@ -87,15 +87,70 @@ left-other seat f e =
     ap (λ (o : Option ℕ). record f { caller = o; server = gone_server seat f.server }) (no-caller seat f.caller g.0)
     ∙ ap (λ (v : Server). record f { server = v }) (no-server seat f.server g.1)
 
--- ---- a thread serves it
-
-pub pending-serves : (s : ℕ) (v : Server) → is_pending v ≡ true → serves s v ≡ false
-pending-serves s Pending e = refl
-pending-serves s (Serving t) e = absurd (cc)
-pending-serves s Gone e = absurd (cc)
+-- ---- nobody has read its call
 
 pub pending-takes : (s : ℕ) (f : Frame) → is_pending f.server ≡ true → takes_part s f ≡ calls s f
-pending-takes s f e = ap (λ b. calls s f || b) (pending-serves s f.server e) ∙ or-false (calls s f)
+pending-takes s f e = ap (λ b. calls s f || b) (by f.server e) ∙ or-false (calls s f)
+  where
+    by : (v : Server) → is_pending v ≡ true → serves s v ≡ false
+    by Pending e = refl
+    by (Serving t) e = absurd (cc)
+    by Gone e = absurd (cc)
 
-pub served-takes : (seat s : ℕ) (f : Frame) → is_pending f.server ≡ true → (seat == s) ≡ false → takes_part s (serve seat f) ≡ takes_part s f
-served-takes seat s f e n = ap (λ b. calls s f || b) n ∙ or-false (calls s f) ∙ sym (pending-takes s f e)
+-- ---- no thread more
+
+pub record IsFewer (f g : Frame) : Type 0 where
+  pub made : g.made ≡ f.made
+  pub parts : (s : ℕ) → takes_part s g ≡ true → takes_part s f ≡ true
+  pub callers : (s : ℕ) → takes_part s g ≡ true → calls s g ≡ calls s f
+
+pub same-fewer : (f : Frame) → IsFewer f f
+same-fewer f = record { made = refl; parts = λ s e. e; callers = λ s e. refl }
+
+pub lost-fewer : (f : Frame) → IsFewer f (lost_frame f)
+lost-fewer f = record { made = refl; parts = λ s e. sym (lost-takes s f) ∙ e; callers = λ s e. refl }
+
+pub left-fewer : (seat : ℕ) (f : Frame) → IsFewer f (left_frame seat f)
+left-fewer seat f = record { made = refl; parts = λ s e. (by s e (seat == s) refl).0; callers = λ s e. (by s e (seat == s) refl).1 }
+  where
+    by : (s : ℕ) → takes_part s (left_frame seat f) ≡ true → (b : Bool) → (seat == s) ≡ b → (takes_part s f ≡ true) × (calls s (left_frame seat f) ≡ calls s f)
+    by s e true g = let no = sym e ∙ ap (λ n. takes_part n (left_frame seat f)) (sym (eqb-true seat s g)) ∙ left-gone seat f in absurd (cc no)
+    by s e false g = (sym (left-takes seat s f g) ∙ e, left-calls seat s f g)
+
+-- who serves it called it
+pub own-fewer : (seat : ℕ) (f : Frame) → calls seat f ≡ true → IsFewer f (serve seat f)
+own-fewer seat f own = record { made = refl; parts = λ s e. by s (calls s f) refl e; callers = λ s e. refl }
+  where
+    by : (s : ℕ) (b : Bool) → calls s f ≡ b → (b || (seat == s)) ≡ true → takes_part s f ≡ true
+    by s true g e = or-left (calls s f) _ g
+    by s false g e = or-left (calls s f) _ (ap (λ n. calls n f) (sym (eqb-true seat s e)) ∙ own)
+
+-- but who serves it from now on
+pub serve-takes : (seat s : ℕ) (f : Frame) → (seat == s) ≡ false → takes_part s (serve seat f) ≡ true → takes_part s f ≡ true
+serve-takes seat s f n e = by (calls s f) refl e
+  where
+    by : (b : Bool) → calls s f ≡ b → (b || (seat == s)) ≡ true → takes_part s f ≡ true
+    by true g e = or-left (calls s f) _ g
+    by false g e = absurd (cc)
+
+abbrev pub AreFewer : List Frame → List Frame → Type 0
+AreFewer [] [] = Unit {0}
+AreFewer [] (g ∷ gs) = ⊥
+AreFewer (f ∷ fs) [] = ⊥
+AreFewer (f ∷ fs) (g ∷ gs) = IsFewer f g × AreFewer fs gs
+
+pub all-same : (fs : List Frame) → AreFewer fs fs
+all-same [] = tt
+all-same (f ∷ fs) = (same-fewer f, all-same fs)
+
+pub map-fewer : (g : Frame → Frame) → ((f : Frame) → IsFewer f (g f)) → (fs : List Frame) → AreFewer fs (map g fs)
+map-fewer g h [] = tt
+map-fewer g h (f ∷ fs) = (h f, map-fewer g h fs)
+
+pub changed-fewer : (q : Frame → Bool) (g : Frame → Frame) → ((f : Frame) → IsFewer f (g f)) → (fs : List Frame) → AreFewer fs (changed q g fs)
+changed-fewer q g h [] = tt
+changed-fewer q g h (f ∷ fs) = (at (q f), changed-fewer q g h fs)
+  where
+    at : (b : Bool) → IsFewer f (cond b (g f) f)
+    at true = h f
+    at false = same-fewer f

@@ -1,24 +1,28 @@
 -- The way down a thread's stack.
-use Rattle.std.proofs.Common.{◌≡◌, ℕ, zero, suc, ◌≤◌, ◌<◌, Bool, true, false, cond, List, [], ◌∷◌, ◌++◌, Option, Some, None, map, filter, reverse, take, drop, length, get_or, set, is_some, refl, ap, sym, subst, ◌∙◌, arith, append-nil, append_assoc}
+use Rattle.std.proofs.Common.{◌≡◌, ℕ, zero, suc, ◌+◌, ◌≤◌, ◌<◌, Bool, true, false, cond, List, [], ◌∷◌, ◌++◌, Option, None, map, filter, reverse, take, drop, length, get_or, set, refl, ap, sym, subst, ◌∙◌, arith, append-nil, append_assoc}
 use Rattle.std.specs.List.{list_any, slice_get}
 use Rattle.std.specs.Option.{option_and_then}
 use Rattle.std.proofs.lemmas.List.{reverse-reverse}
 use Rattle.std.proofs.lemmas.Grind.{reverse_onto}
 use Rattle.bd_space.specs.declared.space.Frame.{Frame}
 use Rattle.bd_space.specs.declared.space.Server.TheVariants.{Pending}
-use Rattle.bd_space.specs.Frames.{takes_part, is_frame, calls, serves, made_of}
+use Rattle.bd_space.specs.Frames.{takes_part, calls, serves, made_of}
 use Rattle.bd_frames.specs.declared.stacks.Below.{Below}
 use Rattle.bd_frames.specs.declared.stacks.Stacks.{Stacks}
 use Rattle.bd_frames.specs.declared.walk.Way.{Way}
 use Rattle.bd_frames.specs.Children.{kept_at}
 use Rattle.bd_frames.specs.Places.{IsRising}
-use Rattle.bd_frames.specs.Linked.{below_of, with_frame, tops_of, no_tops, Linked, AreStacks, IsNext, IsStep, IsWay}
+use Rattle.bd_frames.specs.Linked.{below_of, Reaches, Bounds, Linked, any_bound, AreStacks, IsNext, IsStep, IsWay}
 use Rattle.bd_ways.proofs.Ranges.{no-head}
-use Rattle.bd_frames.proofs.Linking.{Tops, linked-long, top-here, link-got}
+use Rattle.bd_frames.proofs.Places.{take-take}
+use Rattle.bd_frames.proofs.Linking.{Reach, Says, More, linked-long, link-at, got-there}
 
 -- what stands where a list has ended
 abbrev pub no_frame : Frame
 no_frame = record { made = 0; caller = None; server = Pending; parent = None }
+
+no_below : Below
+no_below = record { caller = None; server = None }
 
 pub rising-take : (m n : ℕ) (fs : List Frame) → IsRising m fs → IsRising m (take n fs)
 rising-take m zero [] r = r
@@ -26,23 +30,13 @@ rising-take m (suc n) [] r = r
 rising-take m zero (f ∷ fs) r = tt
 rising-take m (suc n) (f ∷ fs) r = (r.0, rising-take (suc f.made) n fs r.1)
 
-pub linked-take : (t : Tops) (n : ℕ) (fs : List Frame) (bs : List Below) → Linked t fs bs → Linked t (take n fs) (take n bs)
-linked-take t zero [] [] k = k
-linked-take t (suc n) [] [] k = k
-linked-take t n [] (b ∷ bs) k = absurd k
-linked-take t n (f ∷ fs) [] k = absurd k
-linked-take t zero (f ∷ fs) (b ∷ bs) k = tt
-linked-take t (suc n) (f ∷ fs) (b ∷ bs) k = (k.0, linked-take (with_frame t f) n fs bs k.1)
-
-pub take-take : {A : Type 0} (i n : ℕ) (xs : List A) → i ≤ n → take i (take n xs) ≡ take i xs
-take-take zero zero [] h = refl
-take-take zero (suc n) [] h = refl
-take-take (suc i) zero [] h = refl
-take-take (suc i) (suc n) [] h = refl
-take-take zero zero (x ∷ xs) h = refl
-take-take zero (suc n) (x ∷ xs) h = refl
-take-take (suc i) zero (x ∷ xs) h = absurd (omega arith)
-take-take (suc i) (suc n) (x ∷ xs) h = ap (λ ys. x ∷ ys) (take-take i n xs (omega arith))
+linked-take : (R : Reach) (C : Says) (n : ℕ) (fs : List Frame) (bs : List Below) → Linked R C fs bs → Linked R C (take n fs) (take n bs)
+linked-take R C zero [] [] k = k
+linked-take R C (suc n) [] [] k = k
+linked-take R C n [] (b ∷ bs) k = absurd k
+linked-take R C n (f ∷ fs) [] k = absurd k
+linked-take R C zero (f ∷ fs) (b ∷ bs) k = tt
+linked-take R C (suc n) (f ∷ fs) (b ∷ bs) k = (k.0, linked-take R (More R C f) n fs bs k.1)
 
 got-take : {A : Type 0} (i n : ℕ) (xs : List A) → i < n → slice_get (take n xs) i ≡ slice_get xs i
 got-take i zero xs h = absurd (omega arith)
@@ -53,53 +47,58 @@ got-take (suc i) (suc n) (x ∷ xs) h = got-take i n xs (omega arith)
 
 -- ---- from one frame to the next older one
 
-pub no-step : (seat : ℕ) (fs : List Frame) (bs : List Below) (w : Way) → IsWay seat fs bs w → w.next ≡ None → is_some (tops_of (take w.end fs) seat) ≡ false
-no-step seat fs bs w k e = ap is_some (sym k.next ∙ e)
+bounds-take : (R : Reach) (s : ℕ) (o : Option ℕ) (n : ℕ) (fs : List Frame) → Bounds R s o fs → Bounds R s o (take n fs)
+bounds-take R s o zero [] b = tt
+bounds-take R s o (suc n) [] b = tt
+bounds-take R s o zero (f ∷ fs) b = tt
+bounds-take R s o (suc n) (f ∷ fs) b = (b.0, bounds-take R s o n fs b.1)
 
-module _ (seat : ℕ) (fs : List Frame) (bs : List Below) (w : Way) (k : IsWay seat fs bs w) (made : ℕ) (there : w.next ≡ Some made) where
-  pub steps-to : (i : ℕ) (d : Frame) (next : Option ℕ) → i < length (take w.end fs) → i < w.end → is_frame made (get_or (take w.end fs) i d) ≡ true
-      → next ≡ option_and_then (below_of seat (get_or (take w.end fs) i d)) (slice_get bs i)
-      → (get_or (take w.end fs) i d).made ≡ made → IsNext seat (take w.end fs) (record { end = i; next = next })
-  steps-to i d next lt low is lead at =
+module _ (st : Stacks) (seat : ℕ) (fs : List Frame) (w : Way) (k : IsWay st seat fs w) where
+  pub steps-to : (i : ℕ) (d : Frame) (next : Option ℕ) → i < length (take w.end fs) → i < w.end → takes_part seat (get_or (take w.end fs) i d) ≡ true
+      → list_any (takes_part seat) (drop (i + 1) (take w.end fs)) ≡ false
+      → next ≡ option_and_then (below_of seat (get_or (take w.end fs) i d)) (slice_get st.below.items i)
+      → IsNext st seat (take w.end fs) (record { end = i; next = next })
+  steps-to i d next lt low is none lead =
       let xs = take w.end fs in
-      let top : tops_of xs seat ≡ Some (get_or xs i d).made = sym k.next ∙ there ∙ ap (λ (n : ℕ). Some n) (sym at) in
-      let here = top-here 0 no_tops xs i d seat k.rising lt (λ n e. absurd (cc)) top in
+      let ys = take w.end st.below.items in
+      let long = linked-long (Reaches st.floor) any_bound xs ys k.linked in
+      let one : i + 1 ≡ suc i = omega arith in
+      let f = get_or xs i d in
+      let b = no_below in
+      let at = link-at (Reaches st.floor) any_bound xs ys i d b seat k.linked lt is in
+      let same : next ≡ below_of seat f (get_or ys i b) =
+      lead ∙ ap (option_and_then (below_of seat f)) (sym (got-take i w.end st.below.items low))
+      ∙ ap (option_and_then (below_of seat f)) (got-there ys i b (omega (arith, lt, long))) in
       record {
         within = lt;
-        newest = here.1;
-        next = lead ∙ ap (option_and_then (below_of seat (get_or xs i d))) (sym (got-take i w.end bs low))
-            ∙ link-got no_tops xs (take w.end bs) i d seat k.linked lt here.0;
+        newest = ap (λ n. list_any (takes_part seat) (drop n xs)) (sym one) ∙ none;
+        next = subst (λ (o : Option ℕ). Bounds (Reaches st.floor) seat o (take i xs)) (sym same) at.1;
       }
 
-pub way-on : (seat : ℕ) (fs : List Frame) (bs : List Below) (w v : Way) → IsWay seat fs bs w → v.end < w.end → IsNext seat (take w.end fs) v → IsWay seat fs bs v
-way-on seat fs bs w v k low n =
+pub way-on : (st : Stacks) (seat : ℕ) (fs : List Frame) (w v : Way) → IsWay st seat fs w → v.end < w.end → IsNext st seat (take w.end fs) v → IsWay st seat fs v
+way-on st seat fs w v k low n =
     let shorter : take v.end (take w.end fs) ≡ take v.end fs = take-take v.end w.end fs (omega arith) in
     record {
       rising = subst (λ (xs : List Frame). IsRising 0 xs) shorter (rising-take 0 v.end (take w.end fs) k.rising);
-      linked = subst (λ (ys : List Below). Linked no_tops (take v.end fs) ys) (take-take v.end w.end bs (omega arith))
-          (subst (λ (xs : List Frame). Linked no_tops xs (take v.end (take w.end bs))) shorter (linked-take no_tops v.end (take w.end fs) (take w.end bs) k.linked));
-      next = n.next ∙ ap (λ (xs : List Frame). tops_of xs seat) shorter;
+      linked = subst (λ (ys : List Below). Linked (Reaches st.floor) any_bound (take v.end fs) ys) (take-take v.end w.end st.below.items (omega arith))
+          (subst (λ (xs : List Frame). Linked (Reaches st.floor) any_bound xs (take v.end (take w.end st.below.items))) shorter
+          (linked-take (Reaches st.floor) any_bound v.end (take w.end fs) (take w.end st.below.items) k.linked));
+      next = subst (λ (xs : List Frame). Bounds (Reaches st.floor) seat v.next xs) shorter n.next;
     }
 
 -- the same of frames that begin in the same way
-pub way-same : (seat : ℕ) (fs gs : List Frame) (bs : List Below) (w : Way) → take w.end fs ≡ take w.end gs → IsWay seat fs bs w → IsWay seat gs bs w
-way-same seat fs gs bs w e k = record {
+way-same : (st : Stacks) (seat : ℕ) (fs gs : List Frame) (w : Way) → take w.end fs ≡ take w.end gs → IsWay st seat fs w → IsWay st seat gs w
+way-same st seat fs gs w e k = record {
   rising = subst (λ (xs : List Frame). IsRising 0 xs) e k.rising;
-  linked = subst (λ (xs : List Frame). Linked no_tops xs (take w.end bs)) e k.linked;
-  next = k.next ∙ ap (λ (xs : List Frame). tops_of xs seat) e;
+  linked = subst (λ (xs : List Frame). Linked (Reaches st.floor) any_bound xs (take w.end st.below.items)) e k.linked;
+  next = subst (λ (xs : List Frame). Bounds (Reaches st.floor) seat w.next xs) e k.next;
 }
 
-pub step-same : (seat : ℕ) (fs gs : List Frame) (bs : List Below) (w : Way) (o : Option Way) → take w.end fs ≡ take w.end gs
-    → (IsWay seat gs bs w → IsStep seat (take w.end gs) o) → IsWay seat fs bs w → IsStep seat (take w.end fs) o
-step-same seat fs gs bs w o e f k = subst (λ (xs : List Frame). IsStep seat xs o) (sym e) (f (way-same seat fs gs bs w e k))
+pub step-same : (st : Stacks) (seat : ℕ) (fs gs : List Frame) (w : Way) (o : Option Way) → take w.end fs ≡ take w.end gs
+    → (IsWay st seat gs w → IsStep st seat (take w.end gs) o) → IsWay st seat fs w → IsStep st seat (take w.end fs) o
+step-same st seat fs gs w o e f k = subst (λ (xs : List Frame). IsStep st seat xs o) (sym e) (f (way-same st seat fs gs w e k))
 
 -- ---- what is done on the way
-
-map-kept : (q : Frame → Bool) (g : Frame → Frame) → ((x : Frame) → q x ≡ false → g x ≡ x) → (fs : List Frame) → list_any q fs ≡ false → fs ≡ map g fs
-map-kept q g h [] e = refl
-map-kept q g h (f ∷ fs) e =
-    let n = no-head (q f) _ e in
-    ap (λ (xs : List Frame). f ∷ xs) (map-kept q g h fs n.1) ∙ ap (λ (x : Frame). x ∷ map g fs) (sym (h f n.0))
 
 pub map-left : (q : Frame → Bool) (g : Frame → Frame) → ((x : Frame) → q x ≡ false → g x ≡ x) → (n : ℕ) (fs : List Frame) → list_any q (take n fs) ≡ false
     → take n fs ++ map g (drop n fs) ≡ map g fs
@@ -147,17 +146,14 @@ drop-whole (suc n) [] h = refl
 drop-whole zero (x ∷ xs) h = absurd (omega (arith, h))
 drop-whole (suc n) (x ∷ xs) h = drop-whole n xs (omega (arith, h))
 
--- from the top of a whole stack
-pub way-begins : (s : Stacks) (fs : List Frame) (seat n : ℕ) (top : Option ℕ) → AreStacks s fs → n ≡ length fs → top ≡ kept_at s.tops seat
-    → IsWay seat fs s.below.items (record { end = n; next = top })
-way-begins s fs seat n top k long is =
-    let all = take-whole n fs long in
-    record {
-      rising = subst (λ (xs : List Frame). IsRising 0 xs) (sym all) k.rising;
-      linked = subst (λ (xs : List Frame). Linked no_tops xs (take n s.below.items)) (sym all)
-          (subst (λ (ys : List Below). Linked no_tops fs ys) (sym (take-whole n s.below.items (long ∙ linked-long no_tops fs s.below.items k.linked))) k.linked);
-      next = is ∙ k.tops_are seat ∙ ap (λ (xs : List Frame). tops_of xs seat) (sym all);
-    }
+-- from the top of a stack
+pub way-begins : (st : Stacks) (fs : List Frame) (seat n : ℕ) (top : Option ℕ) → AreStacks st fs → IsRising 0 fs → n ≡ length fs → top ≡ kept_at st.tops seat
+    → IsWay st seat fs (record { end = n; next = top })
+way-begins st fs seat n top k rising long is = record {
+  rising = rising-take 0 n fs rising;
+  linked = linked-take (Reaches st.floor) any_bound n fs st.below.items k.linked;
+  next = bounds-take (Reaches st.floor) seat top n fs (subst (λ (o : Option ℕ). Bounds (Reaches st.floor) seat o fs) (sym is) (k.tops_are seat));
+}
 
 -- what came last comes first
 pub turned : {A : Type 0} (n : ℕ) (xs ys zs : List A) → n ≡ length xs → zs ≡ xs ++ reverse ys → take n zs ++ reverse (drop n zs) ≡ xs ++ ys

@@ -1,11 +1,9 @@
 pub mod Places
 pub mod InOrder
-pub mod Newest
-pub mod Removing
 pub mod Counting
 pub mod Ways
+pub mod Newest
 pub mod Alike
 pub mod Linking
-pub mod Standing
 pub mod Down
 pub mod Stacking

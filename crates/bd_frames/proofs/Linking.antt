@@ -1,317 +1,276 @@
--- Stacks as frames come, go and change.
-use Rattle.std.proofs.Common.{◌≡◌, ℕ, zero, suc, ◌≤◌, ◌<◌, ◌==◌, ◌||◌, Bool, true, false, cond, List, [], ◌∷◌, ◌++◌, Option, Some, None, map, take, drop, length, get_or, set, refl, ap, sym, subst, ◌∙◌, arith, eqb-true}
+-- Up to where each thread's frames were made, as frames come, go and change.
+use Rattle.std.proofs.Common.{◌≡◌, ℕ, zero, suc, ◌≤◌, ◌<◌, ◌==◌, ◌||◌, Bool, true, false, cond, List, [], ◌∷◌, ◌++◌, Option, Some, None, max, take, drop, length, get_or, set, ltb, refl, ap, sym, subst, ◌∙◌, arith, eqb-true}
 use Rattle.std.specs.List.{list_any, remove, slice_get}
-use Rattle.std.specs.Option.{option_and_then}
-use Rattle.std.proofs.lemmas.Bool.{eq-eqb, ne_eqb, or_right}
+use Rattle.std.specs.List.Sorted.{IsPartitionPoint}
+use Rattle.std.proofs.lemmas.Bool.{or_right, le-leb, leb-true, lt-leb, ltb-true, ltb-false}
 use Rattle.bd_space.specs.declared.space.Frame.{Frame}
 use Rattle.bd_space.specs.Words.{changed}
 use Rattle.bd_space.specs.Frames.{calls, takes_part, is_frame}
 use Rattle.bd_space.specs.ReadItems.{serve}
 use Rattle.bd_frames.specs.declared.stacks.Below.{Below}
-use Rattle.bd_frames.specs.Places.{IsRising}
-use Rattle.bd_frames.specs.Words.{left_frame, lost_frame, is_pending}
-use Rattle.bd_frames.specs.Linked.{below_of, with_frame, tops_after, LeadsTo, Linked}
-use Rattle.bd_ways.proofs.Ranges.{no-head, changed-none}
-use Rattle.bd_frames.proofs.Places.{rising-above}
-use Rattle.bd_frames.proofs.Alike.{or-left, left-takes, left-calls, left-gone, lost-takes, served-takes}
+use Rattle.bd_frames.specs.Places.{IsRising, is_up_to, is_reached}
+use Rattle.bd_frames.specs.Linked.{below_of, raised, Reaches, Bounds, Linked}
+use Rattle.bd_ways.proofs.Ranges.{no-head, none-after}
+use Rattle.bd_frames.proofs.Places.{one-changed, later-changed, GoesDown}
+use Rattle.bd_frames.proofs.Alike.{or-left, AreFewer, all-same, same-fewer, own-fewer, serve-takes}
 
-abbrev pub Tops : Type 0
-Tops = ℕ → Option ℕ
+abbrev pub Reach : Type 1
+Reach = Option ℕ → ℕ → Type 0
 
--- ---- who takes no part in what comes later
+abbrev pub Says : Type 1
+Says = ℕ → Option ℕ → Type 0
 
-pub linked-same : (t u : Tops) (fs : List Frame) (bs : List Below) → ((s : ℕ) → list_any (takes_part s) fs ≡ true → t s ≡ u s) → Linked t fs bs → Linked u fs bs
-linked-same t u [] [] h k = tt
-linked-same t u [] (b ∷ bs) h k = absurd k
-linked-same t u (f ∷ fs) [] h k = absurd k
-linked-same t u (f ∷ fs) (b ∷ bs) h k = (
-  λ s e. k.0 s e ∙ h s (or-left (takes_part s f) _ e),
-  linked-same (with_frame t f) (with_frame u f) fs bs (λ s e. ap (λ (o : Option ℕ). cond (takes_part s f) (Some f.made) o) (h s (or_right (takes_part s f) _ e))) k.1,
+-- C, and that a bound reaches the frame
+abbrev pub More : Reach → Says → Frame → Says
+More R C f = λ s o. C s o × (takes_part s f ≡ true → R o f.made)
+
+-- ---- what is reached
+
+up-down : (o : Option ℕ) → GoesDown (λ n. is_up_to n o)
+up-down None m n h e = absurd (cc)
+up-down (Some k) m n h e = let a = leb-true n k e in le-leb m k (omega (arith, h, a))
+
+pub reach-down : (fl o : Option ℕ) → GoesDown (is_reached fl o)
+reach-down fl o m n h e = by (is_up_to n o) refl e
+  where
+    by : (b : Bool) → is_up_to n o ≡ b → (b || is_up_to n fl) ≡ true → is_reached fl o m ≡ true
+    by true g e = or-left (is_up_to m o) _ (up-down o m n h g)
+    by false g e = or_right (is_up_to m o) _ (up-down fl m n h e)
+
+pub reach-top : (fl : Option ℕ) (k n : ℕ) → n ≤ k → is_reached fl (Some k) n ≡ true
+reach-top fl k n h = or-left (is_up_to n (Some k)) _ (le-leb n k h)
+
+-- above a bound the floor reaches it, whatever the bound
+reach-floor : (fl o : Option ℕ) (k n : ℕ) → k < n → is_reached fl (Some k) n ≡ true → is_reached fl o n ≡ true
+reach-floor fl o k n h e = or_right (is_up_to n o) _ (sym (ap (λ b. b || is_up_to n fl) (lt-leb n k h)) ∙ e)
+
+-- what is reached from where a place isn't was made before it
+pub reach-lower : (fl o : Option ℕ) (made n : ℕ) → is_reached fl o made ≡ false → is_reached fl o n ≡ true → n ≤ made
+reach-lower fl o made n off e = by (ltb made n) refl
+  where
+    by : (b : Bool) → ltb made n ≡ b → n ≤ made
+    by true g = let yes = reach-down fl o made n (ltb-true made n g) e in absurd (cc (sym yes ∙ off))
+    by false g = ltb-false made n g
+
+raised-all : (fl : Option ℕ) (made n : ℕ) → n ≤ made → is_up_to n (raised fl made) ≡ true
+raised-all None made n h = le-leb n made h
+raised-all (Some k) made n h = le-leb n (max k made) (omega (arith, h))
+
+raised-more : (fl : Option ℕ) (made n : ℕ) → is_up_to n fl ≡ true → is_up_to n (raised fl made) ≡ true
+raised-more None made n e = absurd (cc)
+raised-more (Some k) made n e = let a = leb-true n k e in le-leb n (max k made) (omega (arith, a))
+
+pub raised-reaches : (fl o : Option ℕ) (made n : ℕ) → n ≤ made → is_reached (raised fl made) o n ≡ true
+raised-reaches fl o made n h = or_right (is_up_to n o) _ (raised-all fl made n h)
+
+pub raised-keeps : (fl o : Option ℕ) (made n : ℕ) → is_reached fl o n ≡ true → is_reached (raised fl made) o n ≡ true
+raised-keeps fl o made n e = by (is_up_to n o) refl e
+  where
+    by : (b : Bool) → is_up_to n o ≡ b → (b || is_up_to n fl) ≡ true → is_reached (raised fl made) o n ≡ true
+    by true g e = or-left (is_up_to n o) _ g
+    by false g e = or_right (is_up_to n o) _ (raised-more fl made n e)
+
+-- ---- where fewer take part
+
+pub bounds-fewer : (R : Reach) (s : ℕ) (o : Option ℕ) (fs gs : List Frame) → AreFewer fs gs → Bounds R s o fs → Bounds R s o gs
+bounds-fewer R s o [] [] a b = tt
+bounds-fewer R s o [] (g ∷ gs) a b = absurd a
+bounds-fewer R s o (f ∷ fs) [] a b = absurd a
+bounds-fewer R s o (f ∷ fs) (g ∷ gs) a b = (λ e. subst (R o) (sym a.0.made) (b.0 (a.0.parts s e)), bounds-fewer R s o fs gs a.1 b.1)
+
+pub linked-fewer : (R : Reach) (C D : Says) (fs gs : List Frame) (bs : List Below) → ((s : ℕ) (o : Option ℕ) → C s o → D s o) → AreFewer fs gs → Linked R C fs bs → Linked R D gs bs
+linked-fewer R C D [] [] [] h a k = tt
+linked-fewer R C D [] [] (b ∷ bs) h a k = absurd k
+linked-fewer R C D [] (g ∷ gs) bs h a k = absurd a
+linked-fewer R C D (f ∷ fs) [] bs h a k = absurd a
+linked-fewer R C D (f ∷ fs) (g ∷ gs) [] h a k = absurd k
+linked-fewer R C D (f ∷ fs) (g ∷ gs) (b ∷ bs) h a k = (
+  λ s e. subst (λ (c : Bool). D s (cond c b.caller b.server)) (sym (a.0.callers s e)) (h s _ (k.0 s (a.0.parts s e))),
+  linked-fewer R (More R C f) (More R D g) fs gs bs (λ s o c. (h s o c.0, λ e. subst (R o) (sym a.0.made) (c.1 (a.0.parts s e)))) a.1 k.1,
 )
 
-pub tops-same : (t u : Tops) (fs : List Frame) (s : ℕ) → t s ≡ u s → tops_after t fs s ≡ tops_after u fs s
-tops-same t u [] s e = e
-tops-same t u (f ∷ fs) s e = tops-same (with_frame t f) (with_frame u f) fs s (ap (λ (o : Option ℕ). cond (takes_part s f) (Some f.made) o) e)
-
-pub tops-none : (t : Tops) (fs : List Frame) (s : ℕ) → list_any (takes_part s) fs ≡ false → tops_after t fs s ≡ t s
-tops-none t [] s e = refl
-tops-none t (f ∷ fs) s e =
-    let g = no-head (takes_part s f) _ e in
-    tops-none (with_frame t f) fs s g.1 ∙ ap (λ (b : Bool). cond b (Some f.made) (t s)) g.0
-
-tops-above : (m : ℕ) (t : Tops) (fs : List Frame) (s k : ℕ) → IsRising m fs → list_any (takes_part s) fs ≡ true → tops_after t fs s ≡ Some k → m ≤ k
-tops-above m t [] s k r e h = absurd (cc)
-tops-above m t (f ∷ fs) s k r e h = by (list_any (takes_part s) fs) refl (λ g. tops-above (suc f.made) (with_frame t f) fs s k r.1 g h)
-  where
-    by : (b : Bool) → list_any (takes_part s) fs ≡ b → (list_any (takes_part s) fs ≡ true → suc f.made ≤ k) → m ≤ k
-    by true g later = let a = later g in let c = r.0 in omega (arith, a, c)
-    by false g later = at (takes_part s f) refl (sym (tops-none (with_frame t f) fs s g) ∙ h)
-      where
-        at : (b : Bool) → takes_part s f ≡ b → cond b (Some f.made) (t s) ≡ Some k → m ≤ k
-        at true i same = let is : f.made ≡ k = cc in let c = r.0 in omega (arith, is, c)
-        at false i same = let no = sym e ∙ ap (λ (b : Bool). b || list_any (takes_part s) fs) i ∙ g in absurd (cc no)
+-- more is said of those that take part
+linked-weaker : (R : Reach) (C D : Says) (fs : List Frame) (bs : List Below) → ((s : ℕ) (o : Option ℕ) → list_any (takes_part s) fs ≡ true → C s o → D s o)
+    → Linked R C fs bs → Linked R D fs bs
+linked-weaker R C D [] [] h k = tt
+linked-weaker R C D [] (b ∷ bs) h k = absurd k
+linked-weaker R C D (f ∷ fs) [] h k = absurd k
+linked-weaker R C D (f ∷ fs) (b ∷ bs) h k = (
+  λ s e. h s _ (or-left (takes_part s f) _ e) (k.0 s e),
+  linked-weaker R (More R C f) (More R D f) fs bs (λ s o e c. (h s o (or_right (takes_part s f) _ e) c.0, c.1)) k.1,
+)
 
 -- ---- a frame comes
 
-pub linked-push : (t : Tops) (fs : List Frame) (bs : List Below) (f : Frame) (b : Below) → Linked t fs bs → LeadsTo (tops_after t fs) f b → Linked t (fs ++ f ∷ []) (bs ++ b ∷ [])
-linked-push t [] [] f b k h = (h, tt)
-linked-push t [] (c ∷ cs) f b k h = absurd k
-linked-push t (g ∷ gs) [] f b k h = absurd k
-linked-push t (g ∷ gs) (c ∷ cs) f b k h = (k.0, linked-push (with_frame t g) gs cs f b k.1 h)
+pub linked-push : (R : Reach) (C : Says) (fs : List Frame) (bs : List Below) (f : Frame) (b : Below) → Linked R C fs bs
+    → ((s : ℕ) → takes_part s f ≡ true → C s (below_of s f b) × Bounds R s (below_of s f b) fs) → Linked R C (fs ++ f ∷ []) (bs ++ b ∷ [])
+linked-push R C [] [] f b k h = (λ s e. (h s e).0, tt)
+linked-push R C [] (c ∷ cs) f b k h = absurd k
+linked-push R C (g ∷ gs) [] f b k h = absurd k
+linked-push R C (g ∷ gs) (c ∷ cs) f b k h = (k.0, linked-push R (More R C g) gs cs f b k.1 (λ s e. let x = h s e in ((x.0, x.1.0), x.1.1)))
 
-pub tops-push : (t : Tops) (fs : List Frame) (f : Frame) (s : ℕ) → tops_after t (fs ++ f ∷ []) s ≡ with_frame (tops_after t fs) f s
-tops-push t [] f s = refl
-tops-push t (g ∷ gs) f s = tops-push (with_frame t g) gs f s
+pub bounds-push : (R : Reach) (s : ℕ) (o : Option ℕ) (fs : List Frame) (f : Frame) → Bounds R s o fs → (takes_part s f ≡ true → R o f.made) → Bounds R s o (fs ++ f ∷ [])
+bounds-push R s o [] f b h = (h, tt)
+bounds-push R s o (g ∷ gs) f b h = (b.0, bounds-push R s o gs f b.1 h)
 
-pub linked-long : (t : Tops) (fs : List Frame) (bs : List Below) → Linked t fs bs → length fs ≡ length bs
-linked-long t [] [] k = refl
-linked-long t [] (b ∷ bs) k = absurd k
-linked-long t (f ∷ fs) [] k = absurd k
-linked-long t (f ∷ fs) (b ∷ bs) k = ap suc (linked-long (with_frame t f) fs bs k.1)
+-- from the last one all are reached
+pub bounds-last : (fl : Option ℕ) (s m : ℕ) (fs : List Frame) (f : Frame) → IsRising m (fs ++ f ∷ []) → (m ≤ f.made) × Bounds (Reaches fl) s (Some f.made) (fs ++ f ∷ [])
+bounds-last fl s m [] f r = (r.0, (λ e. reach-top fl f.made f.made (omega arith), tt))
+bounds-last fl s m (g ∷ gs) f r =
+    let k = bounds-last fl s (suc g.made) gs f r.1 in
+    let a = r.0 in
+    let b = k.0 in
+    (omega (arith, a, b), (λ e. reach-top fl f.made g.made (omega (arith, b)), k.1))
 
--- ---- the innermost frame
+-- ---- a frame goes
 
-pub top-here : (m : ℕ) (t : Tops) (fs : List Frame) (i : ℕ) (d : Frame) (s : ℕ) → IsRising m fs → i < length fs → ((k : ℕ) → t s ≡ Some k → k < m)
-    → tops_after t fs s ≡ Some (get_or fs i d).made → (takes_part s (get_or fs i d) ≡ true) × (list_any (takes_part s) (drop (suc i) fs) ≡ false)
-top-here m t [] i d s r lt u h = absurd (omega arith)
-top-here m t (f ∷ fs) zero d s r lt u h = by (list_any (takes_part s) fs) refl
+pub linked-remove : (R : Reach) (C : Says) (fs : List Frame) (bs : List Below) (i : ℕ) → i < length fs → Linked R C fs bs → Linked R C (remove fs i) (remove bs i)
+linked-remove R C [] bs i h k = absurd (omega arith)
+linked-remove R C (f ∷ fs) [] i h k = absurd k
+linked-remove R C (f ∷ fs) (b ∷ bs) zero h k = linked-weaker R (More R C f) C fs bs (λ s o e c. c.0) k.1
+linked-remove R C (f ∷ fs) (b ∷ bs) (suc i) h k = (k.0, linked-remove R (More R C f) fs bs i (omega arith) k.1)
+
+pub bounds-remove : (R : Reach) (s : ℕ) (o : Option ℕ) (fs : List Frame) (i : ℕ) → i < length fs → Bounds R s o fs → Bounds R s o (remove fs i)
+bounds-remove R s o [] i h b = absurd (omega arith)
+bounds-remove R s o (f ∷ fs) zero h b = b.1
+bounds-remove R s o (f ∷ fs) (suc i) h b = (b.0, bounds-remove R s o fs i (omega arith) b.1)
+
+pub linked-long : (R : Reach) (C : Says) (fs : List Frame) (bs : List Below) → Linked R C fs bs → length fs ≡ length bs
+linked-long R C [] [] k = refl
+linked-long R C [] (b ∷ bs) k = absurd k
+linked-long R C (f ∷ fs) [] k = absurd k
+linked-long R C (f ∷ fs) (b ∷ bs) k = ap suc (linked-long R (More R C f) fs bs k.1)
+
+-- from a frame those before it are reached
+pub link-at : (R : Reach) (C : Says) (fs : List Frame) (bs : List Below) (i : ℕ) (d : Frame) (b : Below) (s : ℕ) → Linked R C fs bs → i < length fs → takes_part s (get_or fs i d) ≡ true
+    → C s (below_of s (get_or fs i d) (get_or bs i b)) × Bounds R s (below_of s (get_or fs i d) (get_or bs i b)) (take i fs)
+link-at R C [] bs i d b s k lt e = absurd (omega arith)
+link-at R C (f ∷ fs) [] i d b s k lt e = absurd k
+link-at R C (f ∷ fs) (c ∷ cs) zero d b s k lt e = (k.0 s e, tt)
+link-at R C (f ∷ fs) (c ∷ cs) (suc i) d b s k lt e = let x = link-at R (More R C f) fs cs i d b s k.1 (omega arith) e in (x.0.0, (x.0.1, x.1))
+
+pub got-there : {A : Type 0} (xs : List A) (i : ℕ) (d : A) → i < length xs → slice_get xs i ≡ Some (get_or xs i d)
+got-there [] i d h = absurd (omega arith)
+got-there (x ∷ xs) zero d h = refl
+got-there (x ∷ xs) (suc i) d h = got-there xs i d (omega arith)
+
+bounds-above : (fl o : Option ℕ) (s k m : ℕ) (fs : List Frame) → k < m → IsRising m fs → Bounds (Reaches fl) s (Some k) fs → Bounds (Reaches fl) s o fs
+bounds-above fl o s k m [] h r b = tt
+bounds-above fl o s k m (f ∷ fs) h r b =
+    let a = r.0 in
+    (λ e. reach-floor fl o k f.made (omega (arith, h, a)) (b.0 e), bounds-above fl o s k (suc f.made) fs (omega (arith, h, a)) r.1 b.1)
+
+pub bounds-popped : (fl o : Option ℕ) (s m : ℕ) (fs : List Frame) (i : ℕ) (d : Frame) → IsRising m fs → i < length fs → Bounds (Reaches fl) s (Some (get_or fs i d).made) fs
+    → Bounds (Reaches fl) s o (take i fs) → Bounds (Reaches fl) s o (remove fs i)
+bounds-popped fl o s m [] i d r h b t = absurd (omega arith)
+bounds-popped fl o s m (f ∷ fs) zero d r h b t = bounds-above fl o s f.made (suc f.made) fs (omega arith) r.1 b.1
+bounds-popped fl o s m (f ∷ fs) (suc i) d r h b t = (t.0, bounds-popped fl o s (suc f.made) fs i d r.1 (omega arith) b.1 t.1)
+
+-- ---- the frame made there changes
+
+pub bounds-changed : (R : Reach) (s : ℕ) (o : Option ℕ) (q : Frame → Bool) (g : Frame → Frame) → ((f : Frame) → (g f).made ≡ f.made)
+    → ((f : Frame) → takes_part s (g f) ≡ true → takes_part s f ≡ true) → (fs : List Frame) → Bounds R s o fs → Bounds R s o (changed q g fs)
+bounds-changed R s o q g made parts [] b = tt
+bounds-changed R s o q g made parts (f ∷ fs) b = (at (q f), bounds-changed R s o q g made parts fs b.1)
   where
-    at : list_any (takes_part s) fs ≡ false → (b : Bool) → takes_part s f ≡ b → cond b (Some f.made) (t s) ≡ Some f.made → (takes_part s f ≡ true) × (list_any (takes_part s) fs ≡ false)
-    at g true e same = (e, g)
-    at g false e same = let a = u f.made same in let c = r.0 in absurd (omega (arith, a, c))
+    at : (c : Bool) → takes_part s (cond c (g f) f) ≡ true → R o (cond c (g f) f).made
+    at true e = subst (R o) (sym (made f)) (b.0 (parts f e))
+    at false e = b.0 e
 
-    by : (b : Bool) → list_any (takes_part s) fs ≡ b → (takes_part s f ≡ true) × (list_any (takes_part s) fs ≡ false)
-    by true g = let a = tops-above (suc f.made) (with_frame t f) fs s f.made r.1 g h in absurd (omega (arith, a))
-    by false g = at g (takes_part s f) refl (sym (tops-none (with_frame t f) fs s g) ∙ h)
-top-here m t (f ∷ fs) (suc i) d s r lt u h = top-here (suc f.made) (with_frame t f) fs i d s r.1 (omega arith) (λ k e. at (takes_part s f) k e) h
-  where
-    at : (b : Bool) (k : ℕ) → cond b (Some f.made) (t s) ≡ Some k → k < suc f.made
-    at true k e = let is : f.made ≡ k = cc in omega (arith, is)
-    at false k e = let a = u k e in let c = r.0 in omega (arith, a, c)
+-- as it may, where its place is reached from now on
+module _ (R S : Reach) (made : ℕ) (g : Frame → Frame) (kept : (f : Frame) → (g f).made ≡ f.made) where
+  pub bounds-served : (s : ℕ) (o p : Option ℕ) → ((n : ℕ) → R o n → S p n) → S p made → (fs : List Frame) → Bounds R s o fs → Bounds S s p (changed (is_frame made) g fs)
+  bounds-served s o p h there [] b = tt
+  bounds-served s o p h there (f ∷ fs) b = (at (is_frame made f) refl, bounds-served s o p h there fs b.1)
+    where
+      at : (c : Bool) → is_frame made f ≡ c → takes_part s (cond c (g f) f) ≡ true → S p (cond c (g f) f).made
+      at true same e = subst (S p) (sym (kept f ∙ eqb-true f.made made same)) there
+      at false same e = h f.made (b.0 e)
 
-pub link-at : (t : Tops) (fs : List Frame) (bs : List Below) (i : ℕ) (d : Frame) (b : Below) (s : ℕ) → Linked t fs bs → i < length fs → takes_part s (get_or fs i d) ≡ true
-    → below_of s (get_or fs i d) (get_or bs i b) ≡ tops_after t (take i fs) s
-link-at t [] bs i d b s k lt e = absurd (omega arith)
-link-at t (f ∷ fs) [] i d b s k lt e = absurd k
-link-at t (f ∷ fs) (c ∷ cs) zero d b s k lt e = k.0 s e
-link-at t (f ∷ fs) (c ∷ cs) (suc i) d b s k lt e = link-at (with_frame t f) fs cs i d b s k.1 (omega arith) e
-
-pub link-got : (t : Tops) (fs : List Frame) (bs : List Below) (i : ℕ) (d : Frame) (s : ℕ) → Linked t fs bs → i < length fs → takes_part s (get_or fs i d) ≡ true
-    → option_and_then (below_of s (get_or fs i d)) (slice_get bs i) ≡ tops_after t (take i fs) s
-link-got t [] bs i d s k lt e = absurd (omega arith)
-link-got t (f ∷ fs) [] i d s k lt e = absurd k
-link-got t (f ∷ fs) (c ∷ cs) zero d s k lt e = k.0 s e
-link-got t (f ∷ fs) (c ∷ cs) (suc i) d s k lt e = link-got (with_frame t f) fs cs i d s k.1 (omega arith) e
-
--- ---- a frame goes, on top of its threads' stacks
-
-pub linked-remove : (t : Tops) (fs : List Frame) (bs : List Below) (i : ℕ) (d : Frame) → Linked t fs bs → i < length fs
-    → ((s : ℕ) → takes_part s (get_or fs i d) ≡ true → list_any (takes_part s) (drop (suc i) fs) ≡ false) → Linked t (remove fs i) (remove bs i)
-linked-remove t [] bs i d k lt h = absurd (omega arith)
-linked-remove t (f ∷ fs) [] i d k lt h = absurd k
-linked-remove t (f ∷ fs) (b ∷ bs) zero d k lt h = linked-same (with_frame t f) t fs bs (λ s e. at s e (takes_part s f) refl) k.1
-  where
-    at : (s : ℕ) → list_any (takes_part s) fs ≡ true → (c : Bool) → takes_part s f ≡ c → cond c (Some f.made) (t s) ≡ t s
-    at s e true g = let no = sym e ∙ h s g in absurd (cc no)
-    at s e false g = refl
-linked-remove t (f ∷ fs) (b ∷ bs) (suc i) d k lt h = (k.0, linked-remove (with_frame t f) fs bs i d k.1 (omega arith) h)
-
-pub tops-others : (t : Tops) (fs : List Frame) (i : ℕ) (d : Frame) (s : ℕ) → i < length fs → takes_part s (get_or fs i d) ≡ false → tops_after t (remove fs i) s ≡ tops_after t fs s
-tops-others t [] i d s lt e = absurd (omega arith)
-tops-others t (f ∷ fs) zero d s lt e = tops-same t (with_frame t f) fs s (sym (ap (λ (b : Bool). cond b (Some f.made) (t s)) e))
-tops-others t (f ∷ fs) (suc i) d s lt e = tops-others (with_frame t f) fs i d s (omega arith) e
-
-pub tops-below : (t : Tops) (fs : List Frame) (i : ℕ) (s : ℕ) → i < length fs → list_any (takes_part s) (drop (suc i) fs) ≡ false → tops_after t (remove fs i) s ≡ tops_after t (take i fs) s
-tops-below t [] i s lt e = absurd (omega arith)
-tops-below t (f ∷ fs) zero s lt e = tops-none t fs s e
-tops-below t (f ∷ fs) (suc i) s lt e = tops-below (with_frame t f) fs i s (omega arith) e
-
--- ---- a thread has gone
-
-pub linked-left : (seat : ℕ) (t u : Tops) (fs : List Frame) (bs : List Below) → ((s : ℕ) → (seat == s) ≡ false → t s ≡ u s) → Linked t fs bs → Linked u (map (left_frame seat) fs) bs
-linked-left seat t u [] [] h k = tt
-linked-left seat t u [] (b ∷ bs) h k = absurd k
-linked-left seat t u (f ∷ fs) [] h k = absurd k
-linked-left seat t u (f ∷ fs) (b ∷ bs) h k = (λ s e. leads s e (seat == s) refl, linked-left seat (with_frame t f) (with_frame u (left_frame seat f)) fs bs with k.1)
-  where
-    leads : (s : ℕ) → takes_part s (left_frame seat f) ≡ true → (c : Bool) → (seat == s) ≡ c → below_of s (left_frame seat f) b ≡ u s
-    leads s e true g =
-        let no = sym e ∙ ap (λ n. takes_part n (left_frame seat f)) (sym (eqb-true seat s g)) ∙ left-gone seat f in absurd (cc no)
-    leads s e false g =
-        ap (λ (c : Bool). cond c b.caller b.server) (left-calls seat s f g) ∙ k.0 s (sym (left-takes seat s f g) ∙ e) ∙ h s g
-
-    with : (s : ℕ) → (seat == s) ≡ false → with_frame t f s ≡ with_frame u (left_frame seat f) s
-    with s g =
-        ap (λ (o : Option ℕ). cond (takes_part s f) (Some f.made) o) (h s g)
-        ∙ ap (λ (c : Bool). cond c (Some f.made) (u s)) (sym (left-takes seat s f g))
-
-pub tops-left : (seat : ℕ) (t u : Tops) (fs : List Frame) (s : ℕ) → (seat == s) ≡ false → t s ≡ u s → tops_after t fs s ≡ tops_after u (map (left_frame seat) fs) s
-tops-left seat t u [] s g e = e
-tops-left seat t u (f ∷ fs) s g e =
-    tops-left seat (with_frame t f) (with_frame u (left_frame seat f)) fs s g
-    (ap (λ (o : Option ℕ). cond (takes_part s f) (Some f.made) o) e ∙ ap (λ (c : Bool). cond c (Some f.made) (u s)) (sym (left-takes seat s f g)))
-
-pub tops-gone : (seat : ℕ) (u : Tops) (fs : List Frame) → tops_after u (map (left_frame seat) fs) seat ≡ u seat
-tops-gone seat u [] = refl
-tops-gone seat u (f ∷ fs) =
-    tops-gone seat (with_frame u (left_frame seat f)) fs ∙ ap (λ (c : Bool). cond c (Some f.made) (u seat)) (left-gone seat f)
-
--- ---- threads take part as before
-
--- made at the same places, with the same threads
-pub record IsAlike (f g : Frame) : Type 0 where
-  pub made : g.made ≡ f.made
-  pub callers : (s : ℕ) → calls s g ≡ calls s f
-  pub parts : (s : ℕ) → takes_part s g ≡ takes_part s f
-
-abbrev pub AreAlike : List Frame → List Frame → Type 0
-AreAlike [] [] = Unit {0}
-AreAlike [] (g ∷ gs) = ⊥
-AreAlike (f ∷ fs) [] = ⊥
-AreAlike (f ∷ fs) (g ∷ gs) = IsAlike f g × AreAlike fs gs
-
-pub alike-with : (t u : Tops) (f g : Frame) → IsAlike f g → (s : ℕ) → t s ≡ u s → with_frame t f s ≡ with_frame u g s
-alike-with t u f g a s e =
-    ap (λ (o : Option ℕ). cond (takes_part s f) (Some f.made) o) e
-    ∙ ap (λ (n : ℕ). cond (takes_part s f) (Some n) (u s)) (sym a.made)
-    ∙ ap (λ (c : Bool). cond c (Some g.made) (u s)) (sym (a.parts s))
-
-pub linked-alike : (t u : Tops) (fs gs : List Frame) (bs : List Below) → ((s : ℕ) → t s ≡ u s) → AreAlike fs gs → Linked t fs bs → Linked u gs bs
-linked-alike t u [] [] bs h a k = linked-same t u [] bs (λ s e. h s) k
-linked-alike t u [] (g ∷ gs) bs h a k = absurd a
-linked-alike t u (f ∷ fs) [] bs h a k = absurd a
-linked-alike t u (f ∷ fs) (g ∷ gs) [] h a k = absurd k
-linked-alike t u (f ∷ fs) (g ∷ gs) (b ∷ bs) h a k = (
-  λ s e. ap (λ (c : Bool). cond c b.caller b.server) (a.0.callers s) ∙ k.0 s (sym (a.0.parts s) ∙ e) ∙ h s,
-  linked-alike (with_frame t f) (with_frame u g) fs gs bs (λ s. alike-with t u f g a.0 s (h s)) a.1 k.1,
-)
-
-pub tops-alike : (t u : Tops) (fs gs : List Frame) (s : ℕ) → t s ≡ u s → AreAlike fs gs → tops_after t fs s ≡ tops_after u gs s
-tops-alike t u [] [] s e a = e
-tops-alike t u [] (g ∷ gs) s e a = absurd a
-tops-alike t u (f ∷ fs) [] s e a = absurd a
-tops-alike t u (f ∷ fs) (g ∷ gs) s e a = tops-alike (with_frame t f) (with_frame u g) fs gs s (alike-with t u f g a.0 s e) a.1
-
-same-alike : (f : Frame) → IsAlike f f
-same-alike f = record { made = refl; callers = λ s. refl; parts = λ s. refl }
-
-all-same : (fs : List Frame) → AreAlike fs fs
-all-same [] = tt
-all-same (f ∷ fs) = (same-alike f, all-same fs)
-
-pub lost-alike : (q : Frame → Bool) (fs : List Frame) → AreAlike fs (changed q lost_frame fs)
-lost-alike q [] = tt
-lost-alike q (f ∷ fs) = (at (q f), lost-alike q fs)
-  where
-    at : (b : Bool) → IsAlike f (cond b (lost_frame f) f)
-    at true = record { made = refl; callers = λ s. refl; parts = λ s. lost-takes s f }
-    at false = same-alike f
+  -- with all made before it
+  pub linked-raised : (C D : Says) (m : ℕ) → ((o : Option ℕ) (n : ℕ) → R o n → S o n) → ((o : Option ℕ) (n : ℕ) → n ≤ made → S o n)
+      → ((s : ℕ) (o : Option ℕ) → C s o → D s o) → (m ≤ made → (s : ℕ) (o : Option ℕ) → D s o) → (fs : List Frame) (bs : List Below) → IsRising m fs → Linked R C fs bs
+      → Linked S D (changed (is_frame made) g fs) bs
+  linked-raised C D m more low h all [] [] r k = tt
+  linked-raised C D m more low h all [] (b ∷ bs) r k = absurd k
+  linked-raised C D m more low h all (f ∷ fs) [] r k = absurd k
+  linked-raised C D m more low h all (f ∷ fs) (b ∷ bs) r k =
+      at (is_frame made f) refl
+      (λ is. linked-raised (More R C f) (More S D (g f)) (suc f.made) more low (λ s o c. (h s o c.0, λ e. low o (g f).made (subst (λ n. n ≤ made) (sym (kept f)) (omega (arith, is)))))
+      (λ over. absurd (omega (arith, over, is))) fs bs r.1 k.1)
+      (linked-raised (More R C f) (More S D f) (suc f.made) more low (λ s o c. (h s o c.0, λ e. more o f.made (c.1 e)))
+      (λ over s o. (all (let a = r.0 in omega (arith, over, a)) s o, λ e. low o f.made (omega (arith, over)))) fs bs r.1 k.1)
+    where
+      at : (c : Bool) → is_frame made f ≡ c → ((f.made ≡ made) → Linked S (More S D (g f)) (changed (is_frame made) g fs) bs) → Linked S (More S D f) (changed (is_frame made) g fs) bs → Linked S D (cond c (g f) f ∷ changed (is_frame made) g fs) (b ∷ bs)
+      at true same one other =
+          let is = eqb-true f.made made same in
+          let a = r.0 in (λ s e. all (omega (arith, a, is)) s _, one is)
+      at false same one other = (λ s e. h s _ (k.0 s e), other)
 
 -- ---- a thread serves a frame
 
-none-above : (m made : ℕ) (fs : List Frame) → made < m → IsRising m fs → list_any (is_frame made) fs ≡ false
-none-above m made [] h r = refl
-none-above m made (f ∷ fs) h r =
-    let c = r.0 in
-    ap (λ (b : Bool). b || list_any (is_frame made) fs) (ne_eqb f.made made (λ same. omega (arith, same, c)))
-    ∙ none-above (suc f.made) made fs (omega (arith, c)) r.1
+-- its own
+pub own-served : (m : ℕ) (fs : List Frame) (i : ℕ) (d : Frame) (seat : ℕ) → IsRising m fs → i < length fs → calls seat (get_or fs i d) ≡ true
+    → AreFewer fs (changed (is_frame (get_or fs i d).made) (serve seat) fs)
+own-served m [] i d seat r lt own = absurd (omega arith)
+own-served m (f ∷ fs) zero d seat r lt own =
+    subst (λ (gs : List Frame). AreFewer (f ∷ fs) gs) (sym (one-changed m (serve seat) f fs r)) (own-fewer seat f own, all-same fs)
+own-served m (f ∷ fs) (suc i) d seat r lt own =
+    subst (λ (gs : List Frame). AreFewer (f ∷ fs) gs) (sym (later-changed m (serve seat) f fs i d r (omega arith)))
+    (same-fewer f, own-served (suc f.made) fs i d seat r.1 (omega arith) own)
 
-one-changed : (m : ℕ) (g : Frame → Frame) (f : Frame) (fs : List Frame) → IsRising m (f ∷ fs) → changed (is_frame f.made) g (f ∷ fs) ≡ g f ∷ fs
-one-changed m g f fs r =
-    ap (λ (b : Bool). cond b (g f) f ∷ changed (is_frame f.made) g fs) (eq-eqb f.made f.made refl)
-    ∙ ap (λ (xs : List Frame). g f ∷ xs) (changed-none (is_frame f.made) g fs (none-above (suc f.made) f.made fs (omega arith) r.1))
-
-later-changed : (m : ℕ) (g : Frame → Frame) (f : Frame) (fs : List Frame) (i : ℕ) (d : Frame) → IsRising m (f ∷ fs) → i < length fs
-    → changed (is_frame (get_or fs i d).made) g (f ∷ fs) ≡ f ∷ changed (is_frame (get_or fs i d).made) g fs
-later-changed m g f fs i d r lt =
-    let a = rising-above (suc f.made) fs i d r.1 lt in
-    ap (λ (b : Bool). cond b (g f) f ∷ changed (is_frame (get_or fs i d).made) g fs) (ne_eqb f.made (get_or fs i d).made (λ same. omega (arith, same, a)))
-
--- its own caller
-pub own-alike : (m : ℕ) (fs : List Frame) (i : ℕ) (d : Frame) (seat : ℕ) → IsRising m fs → i < length fs → is_pending (get_or fs i d).server ≡ true → calls seat (get_or fs i d) ≡ true
-    → AreAlike fs (changed (is_frame (get_or fs i d).made) (serve seat) fs)
-own-alike m [] i d seat r lt p own = absurd (omega arith)
-own-alike m (f ∷ fs) zero d seat r lt p own =
-    subst (λ (gs : List Frame). AreAlike (f ∷ fs) gs) (sym (one-changed m (serve seat) f fs r)) (record { made = refl; callers = λ s. refl; parts = λ s. at s (seat == s) refl }, all-same fs)
+-- who is reached from a bound takes no part in what isn't
+none-reached : (fl o : Option ℕ) (s k m : ℕ) (fs : List Frame) → k ≤ m → IsRising m fs → is_reached fl o k ≡ false → Bounds (Reaches fl) s o fs → list_any (takes_part s) fs ≡ false
+none-reached fl o s k m [] h r off b = refl
+none-reached fl o s k m (f ∷ fs) h r off b =
+    let a = r.0 in
+    ap (λ (c : Bool). c || list_any (takes_part s) fs) (by (takes_part s f) refl) ∙ none-reached fl o s k (suc f.made) fs (omega (arith, h, a)) r.1 off b.1
   where
-    at : (s : ℕ) → (b : Bool) → (seat == s) ≡ b → takes_part s (serve seat f) ≡ takes_part s f
-    at s true g =
-        let here : calls s f ≡ true = ap (λ n. calls n f) (sym (eqb-true seat s g)) ∙ own in
-        or-left (calls s f) _ here ∙ sym (or-left (calls s f) _ here)
-    at s false g = served-takes seat s f p g
-own-alike m (f ∷ fs) (suc i) d seat r lt p own =
-    subst (λ (gs : List Frame). AreAlike (f ∷ fs) gs) (sym (later-changed m (serve seat) f fs i d r (omega arith)))
-    (same-alike f, own-alike (suc f.made) fs i d seat r.1 (omega arith) p own)
-
--- another thread, in none of the frames after it
-pub linked-serve : (m : ℕ) (t : Tops) (fs : List Frame) (bs : List Below) (i : ℕ) (d : Frame) (b : Below) (seat : ℕ) → IsRising m fs → Linked t fs bs → i < length fs
-    → is_pending (get_or fs i d).server ≡ true → list_any (takes_part seat) (drop i fs) ≡ false
-    → Linked t (changed (is_frame (get_or fs i d).made) (serve seat) fs) (set bs i (record (get_or bs i b) { server = tops_after t fs seat }))
-linked-serve m t [] bs i d b seat r k lt p none = absurd (omega arith)
-linked-serve m t (f ∷ fs) [] i d b seat r k lt p none = absurd k
-linked-serve m t (f ∷ fs) (c ∷ cs) zero d b seat r k lt p none =
-    subst (λ (gs : List Frame). Linked t gs (record c { server = tops_after t (f ∷ fs) seat } ∷ cs)) (sym (one-changed m (serve seat) f fs r))
-    (λ s e. leads s e (calls s f) refl, linked-same (with_frame t f) (with_frame t (serve seat f)) fs cs (λ s e. with s e (seat == s) refl) k.1)
-  where
-    leads : (s : ℕ) → takes_part s (serve seat f) ≡ true → (x : Bool) → calls s f ≡ x → cond (calls s f) c.caller (tops_after t (f ∷ fs) seat) ≡ t s
-    leads s e true g =
-        ap (λ (x : Bool). cond x c.caller (tops_after t (f ∷ fs) seat)) g
-        ∙ ap (λ (x : Bool). cond x c.caller c.server) (sym g) ∙ k.0 s (or-left (calls s f) _ g)
-    leads s e false g =
-        let is : (seat == s) ≡ true = ap (λ (x : Bool). x || (seat == s)) (sym g) ∙ e in
-        ap (λ (x : Bool). cond x c.caller (tops_after t (f ∷ fs) seat)) g ∙ tops-none t (f ∷ fs) seat none ∙ ap t (eqb-true seat s is)
-
-    with : (s : ℕ) → list_any (takes_part s) fs ≡ true → (x : Bool) → (seat == s) ≡ x → with_frame t f s ≡ with_frame t (serve seat f) s
-    with s e true g =
-        let no = sym e ∙ ap (λ n. list_any (takes_part n) fs) (sym (eqb-true seat s g)) ∙ (no-head (takes_part seat f) _ none).1 in absurd (cc no)
-    with s e false g = ap (λ (x : Bool). cond x (Some f.made) (t s)) (sym (served-takes seat s f p g))
-linked-serve m t (f ∷ fs) (c ∷ cs) (suc i) d b seat r k lt p none =
-    subst (λ (gs : List Frame). Linked t gs (c ∷ set cs i (record (get_or cs i b) { server = tops_after t (f ∷ fs) seat }))) (sym (later-changed m (serve seat) f fs i d r (omega arith)))
-    (k.0, linked-serve (suc f.made) (with_frame t f) fs cs i d b seat r.1 k.1 (omega arith) p none)
-
-pub tops-serve : (m : ℕ) (t : Tops) (fs : List Frame) (i : ℕ) (d : Frame) (seat s : ℕ) → IsRising m fs → i < length fs
-    → is_pending (get_or fs i d).server ≡ true → list_any (takes_part seat) (drop i fs) ≡ false
-    → tops_after t (changed (is_frame (get_or fs i d).made) (serve seat) fs) s ≡ cond (seat == s) (Some (get_or fs i d).made) (tops_after t fs s)
-tops-serve m t [] i d seat s r lt p none = absurd (omega arith)
-tops-serve m t (f ∷ fs) zero d seat s r lt p none =
-    ap (λ (gs : List Frame). tops_after t gs s) (one-changed m (serve seat) f fs r) ∙ at (seat == s) refl
-  where
-    at : (x : Bool) → (seat == s) ≡ x → tops_after (with_frame t (serve seat f)) fs s ≡ cond (seat == s) (Some f.made) (tops_after t (f ∷ fs) s)
-    at true g =
-        tops-none (with_frame t (serve seat f)) fs s (ap (λ n. list_any (takes_part n) fs) (sym (eqb-true seat s g)) ∙ (no-head (takes_part seat f) _ none).1)
-        ∙ ap (λ (x : Bool). cond x (Some f.made) (t s)) (or_right (calls s f) (seat == s) g)
-        ∙ sym (ap (λ (x : Bool). cond x (Some f.made) (tops_after t (f ∷ fs) s)) g)
-    at false g =
-        tops-same (with_frame t (serve seat f)) (with_frame t f) fs s (ap (λ (x : Bool). cond x (Some f.made) (t s)) (served-takes seat s f p g))
-        ∙ sym (ap (λ (x : Bool). cond x (Some f.made) (tops_after t (f ∷ fs) s)) g)
-tops-serve m t (f ∷ fs) (suc i) d seat s r lt p none =
-    ap (λ (gs : List Frame). tops_after t gs s) (later-changed m (serve seat) f fs i d r (omega arith))
-    ∙ tops-serve (suc f.made) (with_frame t f) fs i d seat s r.1 (omega arith) p none
-
-tops-there : (t : Tops) (fs : List Frame) (s : ℕ) → list_any (takes_part s) fs ≡ true → tops_after t fs s ≡ None → ⊥
-tops-there t [] s e h = absurd (cc)
-tops-there t (f ∷ fs) s e h = by (list_any (takes_part s) fs) refl (λ g. tops-there (with_frame t f) fs s g h)
-  where
-    by : (b : Bool) → list_any (takes_part s) fs ≡ b → (list_any (takes_part s) fs ≡ true → ⊥) → ⊥
-    by true g later = later g
-    by false g later = at (takes_part s f) refl (sym (tops-none (with_frame t f) fs s g) ∙ h)
-      where
-        at : (b : Bool) → takes_part s f ≡ b → cond b (Some f.made) (t s) ≡ None → ⊥
-        at true i same = absurd (cc)
-        at false i same = let no = sym e ∙ ap (λ (b : Bool). b || list_any (takes_part s) fs) i ∙ g in absurd (cc no)
-
--- what is under a place stands before it
-pub none-from : (m : ℕ) (t : Tops) (fs : List Frame) (i : ℕ) (d : Frame) (s : ℕ) → IsRising m fs → i < length fs
-    → ((k : ℕ) → tops_after t fs s ≡ Some k → k < (get_or fs i d).made) → list_any (takes_part s) (drop i fs) ≡ false
-none-from m t [] i d s r lt h = absurd (omega arith)
-none-from m t (f ∷ fs) zero d s r lt h = by (list_any (takes_part s) (f ∷ fs)) refl
-  where
-    at : list_any (takes_part s) (f ∷ fs) ≡ true → (o : Option ℕ) → tops_after t (f ∷ fs) s ≡ o → list_any (takes_part s) (f ∷ fs) ≡ false
-    at e (Some k) is =
-        let a = tops-above f.made t (f ∷ fs) s k (omega arith, r.1) e is in let c = h k is in absurd (omega (arith, a, c))
-    at e None is = absurd (tops-there t (f ∷ fs) s e is)
-
-    by : (b : Bool) → list_any (takes_part s) (f ∷ fs) ≡ b → list_any (takes_part s) (f ∷ fs) ≡ false
-    by true e = at e (tops_after t (f ∷ fs) s) refl
+    by : (c : Bool) → takes_part s f ≡ c → takes_part s f ≡ false
+    by true e = let low = reach-lower fl o k f.made off (b.0 e) in let a = r.0 in let is : f.made ≡ k = omega (arith, low, a, h) in let yes = ap (is_reached fl o) (sym is) ∙ b.0 e in absurd (cc (sym yes ∙ off))
     by false e = e
-none-from m t (f ∷ fs) (suc i) d s r lt h = none-from (suc f.made) (with_frame t f) fs i d s r.1 (omega arith) h
+
+pub none-from : (fl o : Option ℕ) (s m : ℕ) (fs : List Frame) (i : ℕ) (d : Frame) → IsRising m fs → i < length fs → is_reached fl o (get_or fs i d).made ≡ false
+    → Bounds (Reaches fl) s o fs → list_any (takes_part s) (drop i fs) ≡ false
+none-from fl o s m [] i d r lt off b = absurd (omega arith)
+none-from fl o s m (f ∷ fs) zero d r lt off b = none-reached fl o s f.made f.made (f ∷ fs) (omega arith) (omega arith, r.1) off b
+none-from fl o s m (f ∷ fs) (suc i) d r lt off b = none-from fl o s (suc f.made) fs i d r.1 (omega arith) off b.1
+
+-- of another, in none of the frames from it on
+pub linked-serve : (R : Reach) (C : Says) (m : ℕ) (fs : List Frame) (bs : List Below) (i : ℕ) (d : Frame) (b : Below) (seat : ℕ) (top : Option ℕ) → IsRising m fs → Linked R C fs bs → i < length fs
+    → C seat top → Bounds R seat top fs → list_any (takes_part seat) (drop i fs) ≡ false
+    → Linked R C (changed (is_frame (get_or fs i d).made) (serve seat) fs) (set bs i (record (get_or bs i b) { server = top }))
+linked-serve R C m [] bs i d b seat top r k lt c t none = absurd (omega arith)
+linked-serve R C m (f ∷ fs) [] i d b seat top r k lt c t none = absurd k
+linked-serve R C m (f ∷ fs) (x ∷ xs) zero d b seat top r k lt c t none =
+    subst (λ (gs : List Frame). Linked R C gs (record x { server = top } ∷ xs)) (sym (one-changed m (serve seat) f fs r))
+    (λ s e. leads s e (calls s f) refl, linked-weaker R (More R C f) (More R C (serve seat f)) fs xs (λ s o any y. (y.0, λ e. y.1 (with s any e (seat == s) refl))) k.1)
+  where
+    leads : (s : ℕ) → takes_part s (serve seat f) ≡ true → (y : Bool) → calls s f ≡ y → C s (cond (calls s f) x.caller top)
+    leads s e true g = subst (C s) (ap (λ (y : Bool). cond y x.caller x.server) g ∙ sym (ap (λ (y : Bool). cond y x.caller top) g)) (k.0 s (or-left (calls s f) _ g))
+    leads s e false g =
+        let is : (seat == s) ≡ true = ap (λ (y : Bool). y || (seat == s)) (sym g) ∙ e in
+        subst (C s) (sym (ap (λ (y : Bool). cond y x.caller top) g)) (subst (λ n. C n top) (eqb-true seat s is) c)
+
+    with : (s : ℕ) → list_any (takes_part s) fs ≡ true → takes_part s (serve seat f) ≡ true → (y : Bool) → (seat == s) ≡ y → takes_part s f ≡ true
+    with s any e true g =
+        let no = sym any ∙ ap (λ n. list_any (takes_part n) fs) (sym (eqb-true seat s g)) ∙ (no-head (takes_part seat f) _ none).1 in absurd (cc no)
+    with s any e false g = serve-takes seat s f g e
+linked-serve R C m (f ∷ fs) (x ∷ xs) (suc i) d b seat top r k lt c t none =
+    subst (λ (gs : List Frame). Linked R C gs (x ∷ set xs i (record (get_or xs i b) { server = top }))) (sym (later-changed m (serve seat) f fs i d r (omega arith)))
+    (k.0, linked-serve R (More R C f) (suc f.made) fs xs i d b seat top r.1 k.1 (omega arith) (c, t.0) t.1 none)
+
+-- ---- by halves
+
+bounded-at : (R : Reach) (s : ℕ) (o : Option ℕ) (fs : List Frame) (k : ℕ) (d : Frame) → k < length fs → Bounds R s o fs → takes_part s (get_or fs k d) ≡ true → R o (get_or fs k d).made
+bounded-at R s o [] k d h b e = absurd (omega arith)
+bounded-at R s o (f ∷ fs) zero d h b e = b.0 e
+bounded-at R s o (f ∷ fs) (suc k) d h b e = bounded-at R s o fs k d (omega arith) b.1 e
+
+pub none-after-point : (fl o : Option ℕ) (s : ℕ) (fs : List Frame) (i : ℕ)
+    → IsPartitionPoint (λ (x : Frame). is_reached fl o x.made ≡ true) (λ x. is_reached fl o x.made ≡ false) fs i → Bounds (Reaches fl) s o fs → list_any (takes_part s) (drop i fs) ≡ false
+none-after-point fl o s fs i p b = none-after (takes_part s) fs i (λ k d a h. by k d h (p.1 k d a h) (takes_part s (get_or fs k d)) refl)
+  where
+    by : (k : ℕ) (d : Frame) → k < length fs → is_reached fl o (get_or fs k d).made ≡ false → (c : Bool) → takes_part s (get_or fs k d) ≡ c → c ≡ false
+    by k d h off true e = let yes = bounded-at (Reaches fl) s o fs k d h b e in absurd (cc (sym yes ∙ off))
+    by k d h off false e = refl

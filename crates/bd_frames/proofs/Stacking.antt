@@ -1,6 +1,6 @@
 -- The stacks of a table as its frames come, go and change.
-use Rattle.std.proofs.Common.{◌≡◌, ℕ, suc, ◌<◌, ◌==◌, Bool, true, false, cond, List, [], ◌∷◌, ◌++◌, Option, Some, None, map, drop, length, get_or, set, refl, ap, sym, subst, ◌∙◌, eqb-true}
-use Rattle.std.specs.List.{list_any, remove}
+use Rattle.std.proofs.Common.{◌≡◌, ℕ, ◌<◌, ◌==◌, ◌&&◌, Bool, true, false, cond, List, [], ◌∷◌, ◌++◌, Option, Some, None, map, take, length, get_or, set, refl, ap, sym, subst, ◌∙◌, arith, eqb-true}
+use Rattle.std.specs.List.{remove}
 use Rattle.std.specs.Option.{option_and_then}
 use Rattle.bd_space.specs.declared.space.Frame.{Frame}
 use Rattle.bd_space.specs.Words.{changed, is_some_and}
@@ -9,108 +9,139 @@ use Rattle.bd_space.specs.ReadItems.{serve}
 use Rattle.bd_frames.specs.declared.stacks.Below.{Below}
 use Rattle.bd_frames.specs.declared.stacks.Stacks.{Stacks}
 use Rattle.bd_frames.specs.Children.{kept_at}
-use Rattle.bd_frames.specs.Places.{IsRising}
+use Rattle.bd_frames.specs.Places.{IsRising, is_reached}
 use Rattle.bd_frames.specs.Words.{left_frame, lost_frame, is_pending}
-use Rattle.bd_frames.specs.Linked.{below_of, tops_after, tops_of, no_tops, LeadsTo, Linked, AreStacks}
-use Rattle.bd_frames.proofs.Places.{rising-remove, rising-map, rising-changed}
-use Rattle.bd_frames.proofs.Alike.{pending-takes}
-use Rattle.bd_frames.proofs.Linking.{linked-push, tops-push, top-here, link-at, linked-remove, tops-others, tops-below, linked-left, tops-left, tops-gone, AreAlike, linked-alike, tops-alike, lost-alike, own-alike, linked-serve, tops-serve, none-from}
+use Rattle.bd_frames.specs.Linked.{below_of, raised, Reaches, Bounds, Linked, any_bound, AreStacks}
+use Rattle.bd_frames.proofs.Alike.{pending-takes, AreFewer, map-fewer, changed-fewer, left-fewer, lost-fewer, left-gone, serve-takes}
+use Rattle.bd_frames.proofs.Linking.{reach-top, reach-lower, raised-reaches, raised-keeps, bounds-fewer, linked-fewer, linked-push, bounds-push, bounds-last, linked-remove, bounds-remove, link-at, bounds-popped, bounds-changed, bounds-served, linked-raised, own-served, none-from, linked-serve}
 
-pub kept-same : (t u : Stacks) (l : List Frame) → AreStacks t l → u.below.items ≡ t.below.items → ((s : ℕ) → kept_at u.tops s ≡ kept_at t.tops s) → AreStacks u l
-kept-same t u l k below tops = record {
-  rising = k.rising;
-  linked = subst (λ (bs : List Below). Linked no_tops l bs) (sym below) k.linked;
-  tops_are = λ s. tops s ∙ k.tops_are s;
+-- what is kept of them is so
+pub stack : (u : Stacks) (fl : Option ℕ) (bs : List Below) (tops : ℕ → Option ℕ) (l : List Frame) → u.floor ≡ fl → u.below.items ≡ bs → ((s : ℕ) → kept_at u.tops s ≡ tops s)
+    → Linked (Reaches fl) any_bound l bs → ((s : ℕ) → Bounds (Reaches fl) s (tops s) l) → AreStacks u l
+stack u fl bs tops l floor below are k b = record {
+  linked = subst (λ (x : Option ℕ). Linked (Reaches x) any_bound l u.below.items) (sym floor) (subst (λ (ys : List Below). Linked (Reaches fl) any_bound l ys) (sym below) k);
+  tops_are = λ s. subst (λ (x : Option ℕ). Bounds (Reaches x) s (kept_at u.tops s) l) (sym floor) (subst (λ (o : Option ℕ). Bounds (Reaches fl) s o l) (sym (are s)) (b s));
 }
 
 and-at : (t : ℕ → Option ℕ) (o : Option ℕ) (s : ℕ) → is_some_and o (λ c. c == s) ≡ true → option_and_then t o ≡ t s
 and-at t None s e = absurd (cc)
 and-at t (Some c) s e = ap t (eqb-true c s e)
 
-pub pushed : (t u : Stacks) (l : List Frame) (f : Frame) (b : Below) → AreStacks t l → is_pending f.server ≡ true → IsRising 0 (l ++ f ∷ [])
+pub pushed : (t u : Stacks) (l : List Frame) (f : Frame) (b : Below) → AreStacks t l → is_pending f.server ≡ true → IsRising 0 (l ++ f ∷ []) → u.floor ≡ t.floor
     → u.below.items ≡ t.below.items ++ b ∷ [] → b.caller ≡ option_and_then (kept_at t.tops) f.caller
     → ((s : ℕ) → kept_at u.tops s ≡ cond (calls s f) (Some f.made) (kept_at t.tops s)) → AreStacks u (l ++ f ∷ [])
-pushed t u l f b k p rises below caller tops = record {
-  rising = rises;
-  linked = subst (λ (bs : List Below). Linked no_tops (l ++ f ∷ []) bs) (sym below) (linked-push no_tops l t.below.items f b k.linked leads);
-  tops_are = λ s.
-      tops s ∙ ap (λ (o : Option ℕ). cond (calls s f) (Some f.made) o) (k.tops_are s)
-      ∙ ap (λ (c : Bool). cond c (Some f.made) (tops_of l s)) (sym (pending-takes s f p)) ∙ sym (tops-push no_tops l f s);
-}
+pushed t u l f b k p rises floor below caller tops =
+    stack u t.floor (t.below.items ++ b ∷ []) (λ s. cond (calls s f) (Some f.made) (kept_at t.tops s)) (l ++ f ∷ []) floor below tops
+    (linked-push (Reaches t.floor) any_bound l t.below.items f b k.linked (λ s e. (tt, leads s (sym (pending-takes s f p) ∙ e))))
+    (λ s. by s (calls s f) refl)
   where
-    leads : LeadsTo (tops_after no_tops l) f b
+    leads : (s : ℕ) → calls s f ≡ true → Bounds (Reaches t.floor) s (below_of s f b) l
     leads s e =
-        let called = sym (pending-takes s f p) ∙ e in
-        ap (λ (c : Bool). cond c b.caller b.server) called ∙ caller ∙ and-at (λ n. kept_at t.tops n) f.caller s called ∙ k.tops_are s
+        subst (λ (o : Option ℕ). Bounds (Reaches t.floor) s o l)
+        (sym (ap (λ (c : Bool). cond c b.caller b.server) e ∙ caller ∙ and-at (λ n. kept_at t.tops n) f.caller s e)) (k.tops_are s)
 
-module _ (t u : Stacks) (l : List Frame) (i : ℕ) (f : Frame) (k : AreStacks t l) (within : i < length l) (is : get_or l i f ≡ f) where
-  pub removed : (b : Below) → ((s : ℕ) → takes_part s f ≡ true → kept_at t.tops s ≡ Some f.made)
-      → ((s : ℕ) → kept_at u.tops s ≡ cond (takes_part s f) (below_of s f b) (kept_at t.tops s)) → get_or t.below.items i b ≡ b
-      → u.below.items ≡ remove t.below.items i → AreStacks u (remove l i)
-  removed b was tops at below = record {
-    rising = rising-remove 0 l i within k.rising;
-    linked = subst (λ (bs : List Below). Linked no_tops (remove l i) bs) (sym below) (linked-remove no_tops l t.below.items i f k.linked within (λ s e. (here s (sym (ap (takes_part s) is) ∙ e)).1));
-    tops_are = λ s. tops s ∙ by s (takes_part s f) refl;
-  }
+    by : (s : ℕ) (c : Bool) → calls s f ≡ c → Bounds (Reaches t.floor) s (cond c (Some f.made) (kept_at t.tops s)) (l ++ f ∷ [])
+    by s true e = (bounds-last t.floor s 0 l f rises).1
+    by s false e = bounds-push (Reaches t.floor) s (kept_at t.tops s) l f (k.tops_are s) (λ h. let no = sym (sym (pending-takes s f p) ∙ h) ∙ e in absurd (cc no))
+
+is-place : (o : Option ℕ) (made : ℕ) → is_some_and o (λ m. m == made) ≡ true → o ≡ Some made
+is-place None made e = absurd (cc)
+is-place (Some m) made e = ap (λ (n : ℕ). Some n) (eqb-true m made e)
+
+module _ (t u : Stacks) (l : List Frame) (i : ℕ) (f : Frame) (k : AreStacks t l) (rising : IsRising 0 l) (within : i < length l) (is : get_or l i f ≡ f) (floor : u.floor ≡ t.floor) where
+  pub removed : (b : Below) → ((s : ℕ) → kept_at u.tops s ≡ cond (takes_part s f && is_some_and (kept_at t.tops s) (λ m. m == f.made)) (below_of s f b) (kept_at t.tops s))
+      → get_or t.below.items i b ≡ b → u.below.items ≡ remove t.below.items i → AreStacks u (remove l i)
+  removed b tops at below =
+      stack u t.floor (remove t.below.items i) _ (remove l i) floor below tops
+      (linked-remove (Reaches t.floor) any_bound l t.below.items i within k.linked)
+      (λ s. by s (takes_part s f) refl (is_some_and (kept_at t.tops s) (λ m. m == f.made)) refl)
     where
-      here : (s : ℕ) → takes_part s f ≡ true → (takes_part s (get_or l i f) ≡ true) × (list_any (takes_part s) (drop (suc i) l) ≡ false)
-      here s e = top-here 0 no_tops l i f s k.rising within (λ n e. absurd (cc)) (sym (k.tops_are s) ∙ was s e ∙ ap (λ (x : Frame). Some x.made) (sym is))
+      stays : (s : ℕ) → Bounds (Reaches t.floor) s (kept_at t.tops s) (remove l i)
+      stays s = bounds-remove (Reaches t.floor) s (kept_at t.tops s) l i within (k.tops_are s)
 
-      by : (s : ℕ) (c : Bool) → takes_part s f ≡ c → cond c (below_of s f b) (kept_at t.tops s) ≡ tops_of (remove l i) s
-      by s true e =
-          ap (λ (x : Frame). below_of s x b) (sym is) ∙ ap (λ (x : Below). below_of s (get_or l i f) x) (sym at)
-          ∙ link-at no_tops l t.below.items i f b s k.linked within (here s e).0 ∙ sym (tops-below no_tops l i s within (here s e).1)
-      by s false e = k.tops_are s ∙ sym (tops-others no_tops l i f s within (ap (takes_part s) is ∙ e))
+      goes : (s : ℕ) → takes_part s f ≡ true → kept_at t.tops s ≡ Some f.made → Bounds (Reaches t.floor) s (below_of s f b) (remove l i)
+      goes s e top =
+          let here = link-at (Reaches t.floor) any_bound l t.below.items i f b s k.linked within (ap (takes_part s) is ∙ e) in
+          bounds-popped t.floor (below_of s f b) s 0 l i f rising within
+          (subst (λ (o : Option ℕ). Bounds (Reaches t.floor) s o l) (top ∙ sym (ap (λ (x : Frame). Some x.made) is)) (k.tops_are s))
+          (subst (λ (c : Below). Bounds (Reaches t.floor) s (below_of s f c) (take i l)) at
+          (subst (λ (x : Frame). Bounds (Reaches t.floor) s (below_of s x (get_or t.below.items i b)) (take i l)) is here.1))
 
-  -- ---- a thread serves it
+      by : (s : ℕ) (p : Bool) → takes_part s f ≡ p → (q : Bool) → is_some_and (kept_at t.tops s) (λ m. m == f.made) ≡ q
+          → Bounds (Reaches t.floor) s (cond (p && q) (below_of s f b) (kept_at t.tops s)) (remove l i)
+      by s true e true g = goes s e (is-place (kept_at t.tops s) f.made g)
+      by s true e false g = stays s
+      by s false e q g = stays s
 
-  module _ (seat : ℕ) (p : is_pending f.server ≡ true) where
-    pub serves-own : calls seat f ≡ true → u.below.items ≡ t.below.items → ((s : ℕ) → kept_at u.tops s ≡ kept_at t.tops s)
-        → AreStacks u (changed (is_frame f.made) (serve seat) l)
-    serves-own own below tops =
-        let g = serve seat in
-        let alike = subst (λ (x : Frame). AreAlike l (changed (is_frame x.made) (serve seat) l)) is (own-alike 0 l i f seat k.rising within (ap (λ (x : Frame). is_pending x.server) is ∙ p) (ap (calls seat) is ∙ own)) in
-        record {
-          rising = rising-changed (is_frame f.made) g (λ x. refl) 0 l k.rising;
-          linked = subst (λ (bs : List Below). Linked no_tops (changed (is_frame f.made) g l) bs) (sym below) (linked-alike no_tops no_tops l _ t.below.items (λ s. refl) alike k.linked);
-          tops_are = λ s. tops s ∙ k.tops_are s ∙ tops-alike no_tops no_tops l _ s refl alike;
-        }
+-- where fewer take part
+pub fewer : (t u : Stacks) (l gs : List Frame) → AreStacks t l → AreFewer l gs → u.floor ≡ t.floor → u.below.items ≡ t.below.items → ((s : ℕ) → kept_at u.tops s ≡ kept_at t.tops s) → AreStacks u gs
+fewer t u l gs k a floor below tops =
+    stack u t.floor t.below.items (λ s. kept_at t.tops s) gs floor below tops
+    (linked-fewer (Reaches t.floor) any_bound any_bound l gs t.below.items (λ s o c. c) a k.linked)
+    (λ s. bounds-fewer (Reaches t.floor) s (kept_at t.tops s) l gs a (k.tops_are s))
 
-    pub serves-other : (b : Below) → ((m : ℕ) → kept_at t.tops seat ≡ Some m → m < f.made)
-        → ((s : ℕ) → kept_at u.tops s ≡ cond (seat == s) (Some f.made) (kept_at t.tops s))
-        → u.below.items ≡ set t.below.items i (record (get_or t.below.items i b) { server = kept_at t.tops seat })
-        → AreStacks u (changed (is_frame f.made) (serve seat) l)
-    serves-other b under tops below =
-        let g = serve seat in
-        let made : (get_or l i f).made ≡ f.made = ap (λ (x : Frame). x.made) is in
-        let pending = ap (λ (x : Frame). is_pending x.server) is ∙ p in
-        let none = none-from 0 no_tops l i f seat k.rising within (λ m e. subst (λ n. m < n) (sym made) (under m (k.tops_are seat ∙ e))) in
-        record {
-          rising = rising-changed (is_frame f.made) g (λ x. refl) 0 l k.rising;
-          linked = subst (λ (bs : List Below). Linked no_tops (changed (is_frame f.made) g l) bs)
-              (sym (below ∙ ap (λ (o : Option ℕ). set t.below.items i (record (get_or t.below.items i b) { server = o })) (k.tops_are seat)))
-              (subst (λ n. Linked no_tops (changed (is_frame n) g l) (set t.below.items i (record (get_or t.below.items i b) { server = tops_of l seat }))) made
-              (linked-serve 0 no_tops l t.below.items i f b seat k.rising k.linked within pending none));
-          tops_are = λ s.
-              tops s ∙ ap (λ (o : Option ℕ). cond (seat == s) (Some f.made) o) (k.tops_are s)
-              ∙ sym (subst (λ n. tops_after no_tops (changed (is_frame n) g l) s ≡ cond (seat == s) (Some n) (tops_of l s)) made (tops-serve 0 no_tops l i f seat s k.rising within pending none));
-        }
+pub loses : (t u : Stacks) (l : List Frame) (q : Frame → Bool) → AreStacks t l → u.floor ≡ t.floor → u.below.items ≡ t.below.items → ((s : ℕ) → kept_at u.tops s ≡ kept_at t.tops s)
+    → AreStacks u (changed q lost_frame l)
+loses t u l q k = fewer t u l (changed q lost_frame l) k (changed-fewer q lost_frame lost-fewer l)
 
-pub loses : (t u : Stacks) (l : List Frame) (q : Frame → Bool) → AreStacks t l → u.below ≡ t.below → u.tops ≡ t.tops → AreStacks u (changed q lost_frame l)
-loses t u l q k below tops = record {
-  rising = rising-changed q lost_frame (λ x. refl) 0 l k.rising;
-  linked = subst (λ (bs : List Below). Linked no_tops (changed q lost_frame l) bs) (sym (ap (λ v. v.items) below)) (linked-alike no_tops no_tops l _ t.below.items (λ s. refl) (lost-alike q l) k.linked);
-  tops_are = λ s. ap (λ m. kept_at m s) tops ∙ k.tops_are s ∙ tops-alike no_tops no_tops l _ s refl (lost-alike q l);
-}
-
-pub forgets : (t u : Stacks) (l : List Frame) (seat : ℕ) → AreStacks t l → u.below.items ≡ t.below.items
+pub forgets : (t u : Stacks) (l : List Frame) (seat : ℕ) → AreStacks t l → u.floor ≡ t.floor → u.below.items ≡ t.below.items
     → ((s : ℕ) → kept_at u.tops s ≡ cond (seat == s) None (kept_at t.tops s)) → AreStacks u (map (left_frame seat) l)
-forgets t u l seat k below tops = record {
-  rising = rising-map (left_frame seat) (λ x. refl) 0 l k.rising;
-  linked = subst (λ (bs : List Below). Linked no_tops (map (left_frame seat) l) bs) (sym below) (linked-left seat no_tops no_tops l t.below.items (λ s e. refl) k.linked);
-  tops_are = λ s. tops s ∙ by s (seat == s) refl;
-}
+forgets t u l seat k floor below tops =
+    let a = map-fewer (left_frame seat) (left-fewer seat) l in
+    stack u t.floor t.below.items _ (map (left_frame seat) l) floor below tops
+    (linked-fewer (Reaches t.floor) any_bound any_bound l (map (left_frame seat) l) t.below.items (λ s o c. c) a k.linked)
+    (λ s. by s (seat == s) refl)
   where
-    by : (s : ℕ) (c : Bool) → (seat == s) ≡ c → cond c None (kept_at t.tops s) ≡ tops_of (map (left_frame seat) l) s
-    by s true e = sym (tops-gone seat no_tops l) ∙ ap (λ n. tops_of (map (left_frame seat) l) n) (eqb-true seat s e)
-    by s false e = k.tops_are s ∙ tops-left seat no_tops no_tops l s e refl
+    none : (s : ℕ) → (seat == s) ≡ true → (fs : List Frame) → Bounds (Reaches t.floor) s None (map (left_frame seat) fs)
+    none s e [] = tt
+    none s e (f ∷ fs) =
+        (λ part. let no = sym part ∙ ap (λ n. takes_part n (left_frame seat f)) (sym (eqb-true seat s e)) ∙ left-gone seat f in absurd (cc no), none s e fs)
+
+    by : (s : ℕ) (c : Bool) → (seat == s) ≡ c → Bounds (Reaches t.floor) s (cond c None (kept_at t.tops s)) (map (left_frame seat) l)
+    by s true e = none s e l
+    by s false e = bounds-fewer (Reaches t.floor) s (kept_at t.tops s) l (map (left_frame seat) l) (map-fewer (left_frame seat) (left-fewer seat) l) (k.tops_are s)
+
+-- ---- a thread serves the frame of an index
+
+module _ (t u : Stacks) (l : List Frame) (i : ℕ) (f : Frame) (k : AreStacks t l) (rising : IsRising 0 l) (within : i < length l) (is : get_or l i f ≡ f) (seat : ℕ) where
+  same-made : (get_or l i f).made ≡ f.made
+  same-made = ap (λ (x : Frame). x.made) is
+
+  abbrev served : List Frame
+  served = changed (is_frame f.made) (serve seat) l
+
+  pub serves-own : calls seat f ≡ true → u.floor ≡ t.floor → u.below.items ≡ t.below.items → ((s : ℕ) → kept_at u.tops s ≡ kept_at t.tops s) → AreStacks u served
+  serves-own own =
+      fewer t u l served k
+      (subst (λ n. AreFewer l (changed (is_frame n) (serve seat) l)) same-made (own-served 0 l i f seat rising within (ap (calls seat) is ∙ own)))
+
+  -- on top of the thread's stack
+  pub serves-other : (b : Below) → is_reached t.floor (kept_at t.tops seat) f.made ≡ false → u.floor ≡ t.floor
+      → ((s : ℕ) → kept_at u.tops s ≡ cond (seat == s) (Some f.made) (kept_at t.tops s))
+      → u.below.items ≡ set t.below.items i (record (get_or t.below.items i b) { server = kept_at t.tops seat }) → AreStacks u served
+  serves-other b over floor tops below =
+      let top = kept_at t.tops seat in
+      let none = none-from t.floor top seat 0 l i f rising within (ap (is_reached t.floor top) same-made ∙ over) (k.tops_are seat) in
+      stack u t.floor _ _ served floor below tops
+      (subst (λ n. Linked (Reaches t.floor) any_bound (changed (is_frame n) (serve seat) l) (set t.below.items i (record (get_or t.below.items i b) { server = top }))) same-made
+      (linked-serve (Reaches t.floor) any_bound 0 l t.below.items i f b seat top rising k.linked within tt (k.tops_are seat) none))
+      (λ s. by s (seat == s) refl)
+    where
+      by : (s : ℕ) (c : Bool) → (seat == s) ≡ c → Bounds (Reaches t.floor) s (cond c (Some f.made) (kept_at t.tops s)) served
+      by s true e =
+          let same = eqb-true seat s e in
+          bounds-served (Reaches t.floor) (Reaches t.floor) f.made (serve seat) (λ x. refl) s (kept_at t.tops s) (Some f.made)
+          (λ n h. reach-top t.floor f.made n (reach-lower t.floor (kept_at t.tops seat) f.made n over (ap (λ m. is_reached t.floor (kept_at t.tops m) n) same ∙ h)))
+          (reach-top t.floor f.made f.made (omega arith)) l (k.tops_are s)
+      by s false e = bounds-changed (Reaches t.floor) s (kept_at t.tops s) (is_frame f.made) (serve seat) (λ x. refl) (λ x h. serve-takes seat s x e h) l (k.tops_are s)
+
+  -- elsewhere on it: all up to there are looked through
+  pub serves-below : u.floor ≡ raised t.floor f.made → u.below.items ≡ t.below.items → ((s : ℕ) → kept_at u.tops s ≡ kept_at t.tops s) → AreStacks u served
+  serves-below floor below tops =
+      let R = Reaches t.floor in
+      let S = Reaches (raised t.floor f.made) in
+      stack u (raised t.floor f.made) t.below.items (λ s. kept_at t.tops s) served floor below tops
+      (linked-raised R S f.made (serve seat) (λ x. refl) any_bound any_bound 0 (λ o n. raised-keeps t.floor o f.made n) (λ o n. raised-reaches t.floor o f.made n) (λ s o c. c) (λ h s o. tt)
+      l t.below.items rising k.linked)
+      (λ s. bounds-served R S f.made (serve seat) (λ x. refl) s (kept_at t.tops s) (kept_at t.tops s) (λ n. raised-keeps t.floor (kept_at t.tops s) f.made n)
+      (raised-reaches t.floor (kept_at t.tops s) f.made f.made (omega arith)) l (k.tops_are s))

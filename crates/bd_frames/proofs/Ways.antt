@@ -1,17 +1,13 @@
--- The way from a frame by parents: it goes on at the newest frame that fits, among those before it.
-use Rattle.std.proofs.Common.{◌≡◌, ℕ, zero, suc, ◌+◌, ◌<◌, ◌||◌, Bool, true, false, cond, List, [], ◌∷◌, ◌++◌, Option, Some, None, is_none, reverse, take, drop, length, get_or, refl, ap, sym, ◌∙◌, arith}
+-- From the newest frame on: the way by parents, and the first that passes.
+use Rattle.std.proofs.Common.{◌≡◌, ℕ, zero, suc, ◌+◌, ◌<◌, ◌||◌, Bool, true, false, cond, List, [], ◌∷◌, ◌++◌, Option, Some, None, find, reverse, take, drop, length, get_or, refl, ap, sym, ◌∙◌, arith}
 use Rattle.std.specs.List.{list_any}
 use Rattle.std.proofs.lemmas.List.{reverse-append, append-nil}
+use Rattle.std.proofs.lemmas.List.{get_or-take}
 use Rattle.std.proofs.lemmas.Grind.{reverse_onto}
 use Rattle.bd_space.specs.declared.space.Frame.{Frame}
 use Rattle.bd_space.specs.Frames.{ancestry, is_frame}
-use Rattle.bd_frames.specs.Places.{IsNewestAt}
-use Rattle.bd_ways.proofs.Ranges.{no-head}
-
-pub way-ended : (from : Option ℕ) (fs : List Frame) → is_none from ≡ true → ancestry from fs ≡ []
-way-ended (Some m) fs h = absurd (cc)
-way-ended None [] h = refl
-way-ended None (f ∷ fs) h = way-ended None fs refl
+use Rattle.bd_ways.proofs.Ranges.{no-head, find-none}
+use Rattle.bd_frames.proofs.Places.{next-drop, take-take}
 
 -- those that don't fit are passed over
 passed-over : (made : ℕ) (fs gs : List Frame) → list_any (is_frame made) fs ≡ false → ancestry (Some made) (fs ++ gs) ≡ ancestry (Some made) gs
@@ -39,33 +35,53 @@ after : (fs : List Frame) (f : Frame) (gs : List Frame) → (fs ++ f ∷ []) ++ 
 after [] f gs = refl
 after (g ∷ fs) f gs = ap (λ hs. g ∷ hs) (after fs f gs)
 
-way-none : (made : ℕ) (fs : List Frame) → IsNewestAt made None fs → ancestry (Some made) (reverse fs) ≡ []
+pub way-none : (made : ℕ) (fs : List Frame) → list_any (is_frame made) fs ≡ false → ancestry (Some made) (reverse fs) ≡ []
 way-none made fs h =
     ap (ancestry (Some made)) (sym (append-nil (reverse fs)))
     ∙ passed-over made (reverse fs) [] (none-reversed (is_frame made) fs h)
 
--- where a place is looked for, and none found
-pub way-ends : (from : Option ℕ) (made : ℕ) (fs : List Frame) → from ≡ Some made → IsNewestAt made None fs → ancestry from (reverse fs) ≡ []
-way-ends from made fs e h = ap (λ g. ancestry g (reverse fs)) e ∙ way-none made fs h
-
-way-found : (made : ℕ) (fs : List Frame) (i : ℕ) (d : Frame) → i < length fs → IsNewestAt made (Some i) fs
-    → ancestry (Some made) (reverse fs) ≡ get_or fs i d ∷ ancestry (get_or fs i d).parent (reverse (take i fs))
-way-found made fs i d lt h =
+newest-first : (fs : List Frame) (i : ℕ) (d : Frame) → i < length fs → reverse fs ≡ reverse (drop (suc i) fs) ++ get_or fs i d ∷ reverse (take i fs)
+newest-first fs i d lt =
     let f = get_or fs i d in
-    let newer = reverse (drop (suc i) fs) in
-    let older = reverse (take i fs) in
-    let next : suc i ≡ i + 1 = omega arith in
-    let parts : reverse fs ≡ newer ++ f ∷ older =
     ap reverse (split fs i d lt) ∙ reverse-append (take i fs) (f ∷ drop (suc i) fs)
-    ∙ ap (λ gs. gs ++ older) (reverse_onto (drop (suc i) fs) f []) ∙ after newer f older in
-    ap (ancestry (Some made)) parts
-    ∙ passed-over made newer (f ∷ older) (none-reversed (is_frame made) (drop (suc i) fs) (ap (λ n. list_any (is_frame made) (drop n fs)) next ∙ h.1))
-    ∙ ap (λ b. cond b (f ∷ ancestry f.parent older) (ancestry (Some made) older)) (h.0 d)
+    ∙ ap (λ gs. gs ++ reverse (take i fs)) (reverse_onto (drop (suc i) fs) f []) ∙ after (reverse (drop (suc i) fs)) f (reverse (take i fs))
 
--- where one is found
-pub way-goes-on : (from : Option ℕ) (made : ℕ) (fs : List Frame) (i : ℕ) (d : Frame) → from ≡ Some made → i < length fs → IsNewestAt made (Some i) fs
-    → ancestry from (reverse fs) ≡ get_or fs i d ∷ ancestry (get_or fs i d).parent (reverse (take i fs))
-way-goes-on from made fs i d e lt h = ap (λ g. ancestry g (reverse fs)) e ∙ way-found made fs i d lt h
+pub way-found : (made : ℕ) (fs : List Frame) (i : ℕ) (d : Frame) → i < length fs → is_frame made (get_or fs i d) ≡ true → list_any (is_frame made) (drop (suc i) fs) ≡ false
+    → ancestry (Some made) (reverse fs) ≡ get_or fs i d ∷ ancestry (get_or fs i d).parent (reverse (take i fs))
+way-found made fs i d lt here none =
+    let f = get_or fs i d in
+    let older = reverse (take i fs) in
+    ap (ancestry (Some made)) (newest-first fs i d lt)
+    ∙ passed-over made (reverse (drop (suc i) fs)) (f ∷ older) (none-reversed (is_frame made) (drop (suc i) fs) none)
+    ∙ ap (λ b. cond b (f ∷ ancestry f.parent older) (ancestry (Some made) older)) here
 
-pub shorter : (fs gs : List Frame) (f : Frame) → fs ≡ f ∷ gs → length gs < length fs
-shorter fs gs f e = let n = ap length e in omega (arith, n)
+pub way-ended : (fs : List Frame) → ancestry None fs ≡ []
+way-ended [] = refl
+way-ended (f ∷ fs) = way-ended fs
+
+-- of those up to n
+pub way-on : (q : Frame → Bool) (from : Option ℕ) (made n : ℕ) (xs : List Frame) (i : ℕ) (d : Frame) → from ≡ Some made → i < n → i < length (take n xs)
+    → is_frame made (get_or (take n xs) i d) ≡ true → list_any (is_frame made) (drop (i + 1) (take n xs)) ≡ false → get_or xs i d ≡ d
+    → find q (ancestry from (reverse (take n xs))) ≡ cond (q d) (Some d) (find q (ancestry d.parent (reverse (take i xs))))
+way-on q from made n xs i d e low lt here none is =
+    let fs = take n xs in
+    let f = get_or fs i d in
+    let same : f ≡ d = get_or-take n xs i d low ∙ is in
+    ap (λ (o : Option ℕ). find q (ancestry o (reverse fs))) e ∙ ap (find q) (way-found made fs i d lt here (ap (list_any (is_frame made)) (sym (next-drop i fs)) ∙ none))
+    ∙ ap (λ (x : Frame). cond (q x) (Some x) (find q (ancestry x.parent (reverse (take i fs))))) same
+    ∙ ap (λ (ys : List Frame). cond (q d) (Some d) (find q (ancestry d.parent (reverse ys)))) (take-take i n xs (omega (arith, low)))
+
+-- ---- the newest one that passes
+
+module _ (q : Frame → Bool) where
+  find-over : (xs ys : List Frame) → list_any q xs ≡ false → find q (xs ++ ys) ≡ find q ys
+  find-over [] ys e = refl
+  find-over (x ∷ xs) ys e = let g = no-head (q x) _ e in ap (λ b. cond b (Some x) (find q (xs ++ ys))) g.0 ∙ find-over xs ys g.1
+
+  pub newest-none : (fs : List Frame) → list_any q fs ≡ false → find q (reverse fs) ≡ None
+  newest-none fs e = find-none q (reverse fs) (none-reversed q fs e)
+
+  pub newest-some : (fs : List Frame) (i : ℕ) (d : Frame) → i < length fs → q (get_or fs i d) ≡ true → list_any q (drop (suc i) fs) ≡ false → find q (reverse fs) ≡ Some (get_or fs i d)
+  newest-some fs i d lt here none =
+      ap (find q) (newest-first fs i d lt) ∙ find-over (reverse (drop (suc i) fs)) _ (none-reversed q (drop (suc i) fs) none)
+      ∙ ap (λ b. cond b (Some (get_or fs i d)) (find q (reverse (take i fs)))) here

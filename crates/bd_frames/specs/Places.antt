@@ -1,8 +1,7 @@
--- Frames in the order of their places, and the newest of a place.
-use Rattle.std.specs.Prelude.{ℕ, suc, ◌+◌, ◌≡◌, ◌≤◌, Bool, true, false, List, [], ◌∷◌, Option, Some, None, drop, get_or}
+-- Frames in the order of their places, and where in the list those are that pass.
+use Rattle.std.specs.Prelude.{ℕ, suc, ◌+◌, ◌≡◌, ◌≤◌, nat_le, ◌||◌, Bool, true, false, List, [], ◌∷◌, Option, Some, None, drop, get_or}
 use Rattle.bd_ways.specs.Words.{list_any, Frame}
-use Rattle.std.specs.Coded.{×_prop, →_prop, Unit-prop, le_prop}
-use Rattle.bd_space.specs.Frames.{is_frame}
+use Rattle.bd_ways.specs.Ranges.{IsWithin}
 
 -- each was made after the one before, from one place on
 abbrev pub IsRising : ℕ → List Frame → Type 0
@@ -14,19 +13,20 @@ abbrev pub IsAfter : ℕ → List Frame → ℕ → Type 0
 IsAfter from [] made = from ≤ made
 IsAfter from (f ∷ fs) made = IsAfter (suc f.made) fs made
 
--- where a flag is up, they rise
-abbrev pub RiseIf : Bool → List Frame → Type 0
-RiseIf rising fs = rising ≡ true → IsRising 0 fs
+-- it was made up to a bound, if there is one
+abbrev pub is_up_to : ℕ → Option ℕ → Bool
+is_up_to made None = false
+is_up_to made (Some bound) = nat_le made bound
 
--- it can be so in one way only
-IsRising-prop : (from : ℕ) (fs : List Frame) → IsProp (IsRising from fs)
-IsRising-prop from [] = Unit-prop
-IsRising-prop from (f ∷ fs) = ×_prop le_prop (IsRising-prop (suc f.made) fs)
+abbrev pub is_reached : Option ℕ → Option ℕ → ℕ → Bool
+is_reached floor bound made = is_up_to made bound || is_up_to made floor
 
-pub RiseIf-prop : (rising : Bool) (fs : List Frame) → IsProp (RiseIf rising fs)
-RiseIf-prop rising fs = →_prop (IsRising-prop 0 fs)
+-- the one that passes stands at this index, or there is none
+abbrev pub IsOnlyAt : (Frame → Bool) → Option ℕ → List Frame → Type 0
+IsOnlyAt q None l = list_any q l ≡ false
+IsOnlyAt q (Some i) l = ((d : Frame) → q (get_or l i d) ≡ true) × IsWithin q i (i + 1) l
 
--- the newest one that was made there stands at this index, or there is none
-abbrev pub IsNewestAt : ℕ → Option ℕ → List Frame → Type 0
-IsNewestAt made None l = list_any (is_frame made) l ≡ false
-IsNewestAt made (Some i) l = ((d : Frame) → is_frame made (get_or l i d) ≡ true) × (list_any (is_frame made) (drop (i + 1) l) ≡ false)
+-- the newest one that passes stands at this index, or there is none
+abbrev pub IsNewestAt : (Frame → Bool) → Option ℕ → List Frame → Type 0
+IsNewestAt q None l = list_any q l ≡ false
+IsNewestAt q (Some i) l = ((d : Frame) → q (get_or l i d) ≡ true) × (list_any q (drop (i + 1) l) ≡ false)

@@ -16,10 +16,6 @@ is_place_among chosen made = list_any (λ m. m == made) chosen
 abbrev pub abandoned_in : List Frame → ℕ → Option Frame
 abandoned_in frames made = find (λ f. is_frame made f && is_abandoned frames f) frames
 
--- the oldest abandoned one of those that were made at one of these places
-abbrev pub oldest_in : List Frame → List ℕ → Option Frame
-oldest_in frames chosen = find (λ f. is_place_among chosen f.made && is_abandoned frames f) frames
-
 -- the call is unread
 abbrev pub is_pending : Server → Bool
 is_pending Pending = true

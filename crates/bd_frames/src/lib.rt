@@ -1,7 +1,6 @@
 //! The table of frames, open two-way calls: each found by its place.
 #![tactic(auto)]
 
-mod ancestry;
 mod change;
 mod children;
 mod frame;
@@ -12,7 +11,6 @@ mod table;
 mod tops;
 mod walk;
 
-pub use ancestry::Ancestry;
 pub use change::{frame_lost, frame_without};
 pub use server::serves;
 pub use table::FrameTable;

@@ -1,7 +1,7 @@
 //! Each thread's frames as a stack, linked by the places where they were made.
 #![tactic(auto, unfolding(crate::specs::Room::stack_room))]
 
-ghost use Rattle.std.specs.Prelude.{ℕ, true, false, List, Option, ◌≡◌, ◌==◌, ◌≤◌, ◌<◌, ◌+◌, ◌++◌, ◌∷◌, [], Some, None, length, slice_index_or, vec_len, vec_capacity, if◌then◌else◌, map, set, IfSome, OnOk, OnErr};
+ghost use Rattle.std.specs.Prelude.{ℕ, true, false, List, Option, ◌≡◌, ◌==◌, ◌&&◌, ◌≤◌, ◌<◌, ◌+◌, ◌++◌, ◌∷◌, [], Some, None, length, slice_index_or, vec_len, vec_capacity, if◌then◌else◌, map, set, OnOk, OnErr};
 ghost use Rattle.std.specs.{List.{remove as list_remove}, HashMap.{spare}};
 ghost use Rattle.bd_keys.specs.Tables.{Makes};
 ghost use Rattle.bd_space.specs.declared.space.Frame as declared;
@@ -9,9 +9,11 @@ ghost use Rattle.bd_space.specs.Frames as frame_spec;
 ghost use Rattle.bd_space.specs.ReadItems as reading;
 ghost use Rattle.bd_space.specs.Words.{changed, is_some_and};
 ghost use Rattle.bd_frames.specs.declared.stacks.Below as declared_below;
-ghost use Rattle.bd_frames.specs.{Places.{IsRising, IsNewestAt}, Children.{kept_at}, Linked.{below_of}};
+ghost use Rattle.bd_frames.specs.{Places.{IsRising, is_reached}, Children.{kept_at}, Linked.{below_of}};
+ghost use Rattle.bd_frames.specs.Linked as linked;
 ghost use Rattle.bd_frames.specs.Words.{is_pending, left_frame};
 
+use crate::place::is_reached;
 use crate::server::{is_pending, server_of};
 use crate::tops::{forget_top, has_room, pop_top, put_top_of, top_of, top_of_some};
 use bd_keys::insert_reserved;
@@ -19,7 +21,7 @@ use bd_space::{Frame, Server};
 use std::alloc::{AllocError, Global};
 use std::collections::HashMap;
 
-/// Where the next older frames were made of a frame's caller and of its server.
+/// Up to where the next older frames were made of a frame's caller and of its server.
 #[derive(Clone, Copy, Debug)]
 pub struct Below {
     pub caller: Option<u32>,
@@ -29,9 +31,9 @@ pub struct Below {
 /// The stacks of all threads.
 #[derive(Debug)]
 pub struct Stacks {
-    // Whether the rest is right: while frames come and go on top of their threads' stacks.
-    pub(crate) whole: bool,
-    // Where each thread's innermost frame was made.
+    // What was made up to here is looked for along all frames: nothing, while frames come on top of their threads' stacks.
+    pub(crate) floor: Option<u32>,
+    // Up to where each thread's innermost frame was made.
     pub(crate) tops: HashMap<u32, u32>,
     // What is below each frame, in the order of the frames.
     pub(crate) below: Vec<Below>,
@@ -42,7 +44,7 @@ pub struct Stacks {
 impl Drop for Stacks {
     fn drop(self) {
         let Stacks {
-            whole: _,
+            floor: _,
             tops: _,
             below: _,
             pending: _,
@@ -59,22 +61,13 @@ fn other_server(frame: Frame) -> Option<u32>
     server_of(frame.server).filter(|s| Some(*s) != frame.caller)
 }
 
-// Whether stacks are whole still with a frame that has this server.
-fn stays_whole(whole: bool, rising: bool, server: Server) -> bool
-    ensures was { result ≡ true → whole ≡ true }
-    ensures rising { result ≡ true → rising ≡ true }
-    ensures pending { result ≡ true → is_pending server ≡ true }
+// The later one of a floor and a place.
+fn raised(floor: Option<u32>, made: u32) -> Option<u32>
+    ensures { result ≡ linked.raised floor made }
 {
-    whole && rising && is_pending(server)
-}
-
-// What is on top was made before.
-fn is_under(top: Option<u32>, made: u32) -> bool
-    ensures { result ≡ true → (m : ℕ) → top ≡ Some m → m < made }
-{
-    match top {
-        Some(top) => top < made,
-        None => true,
+    match floor {
+        Some(floor) => Some(floor.max(made)),
+        None => Some(made),
     }
 }
 
@@ -91,13 +84,13 @@ fn set_server(below: &mut Vec<Below>, i: usize, made: Option<u32>)
 }
 
 impl Stacks {
-    ghost use Rattle.bd_frames.specs.{Linked.{AreStacks, StacksAre}, Room.{stack_room}};
+    ghost use Rattle.bd_frames.specs.{Linked.{AreStacks}, Room.{stack_room}};
 
     pub(crate) fn new(alloc: Global) -> Stacks
         ensures { AreStacks result [] }
     {
         Stacks {
-            whole: true,
+            floor: None,
             tops: HashMap::new(alloc),
             below: Vec::new(alloc),
             pending: 0,
@@ -106,7 +99,7 @@ impl Stacks {
 
     /// Makes room for so many more frames.
     pub(crate) fn reserve(&mut self, more: u32) -> Result<(), AllocError>
-        ensures stands { Makes (StacksAre self.old) (StacksAre self.new) (λ l. l) }
+        ensures stands { Makes (AreStacks self.old) (AreStacks self.new) (λ l. l) }
         ensures uses { stack_room self.old ≤ stack_room self.new }
         ensures room { OnOk result (more ≤ stack_room self.new) }
         ensures grown { OnErr result (stack_room self.old < more) }
@@ -118,14 +111,13 @@ impl Stacks {
         self.tops.reserve(self.pending as usize + 2 * more as usize)
     }
 
-    /// A frame comes in. Takes no memory.
-    pub(crate) fn push(&mut self, frame: Frame, rising: bool)
+    /// An unread call's frame comes in. Takes no memory.
+    pub(crate) fn push(&mut self, frame: Frame)
         requires { 1 ≤ stack_room self.old }
-        ensures stands { (l : List declared.Frame) → StacksAre self.old l
-            → (rising ≡ true → IsRising 0 (l ++ frame ∷ [])) → StacksAre self.new (l ++ frame ∷ []) }
+        ensures stands { (l : List declared.Frame) → AreStacks self.old l → is_pending frame.server ≡ true
+            → IsRising 0 (l ++ frame ∷ []) → AreStacks self.new (l ++ frame ∷ []) }
         ensures uses { stack_room self.old ≤ stack_room self.new + 1 }
     {
-        self.whole = stays_whole(self.whole, rising, frame.server);
         self.pending = self.pending.saturating_add(1);
         self.below.push_reserved(Below {
             caller: top_of_some(&self.tops, frame.caller),
@@ -135,53 +127,65 @@ impl Stacks {
     }
 
     /// The server of a call changes, or the call ends: it is unread no longer.
-    pub(crate) fn forget_unread(&mut self, server: Option<Server>)
-        ensures whole { self.new.whole ≡ self.old.whole }
+    pub(crate) fn forget_unread(&mut self, server: Server)
+        ensures floor { self.new.floor ≡ self.old.floor }
         ensures tops { self.new.tops ≡ self.old.tops }
         ensures below { self.new.below ≡ self.old.below }
         ensures uses { stack_room self.old ≤ stack_room self.new }
     {
-        if matches!(server, Some(Server::Pending)) {
+        if is_pending(server) {
             self.pending = self.pending.saturating_sub(1);
         }
     }
 
-    // The frame leaves its threads' stacks.
+    // The frame leaves its threads' stacks, where it is on top.
     fn pop(&mut self, frame: Frame, below: Below)
-        ensures whole { self.new.whole ≡ true → self.old.whole ≡ true }
-        ensures was { self.new.whole ≡ true → (s : ℕ) → frame_spec.takes_part s frame ≡ true
-            → kept_at self.old.tops s ≡ Some frame.made }
-        ensures tops { self.new.whole ≡ true → (s : ℕ) → kept_at self.new.tops s
-            ≡ (if frame_spec.takes_part s frame then below_of s frame below else kept_at self.old.tops s) }
+        ensures floor { self.new.floor ≡ self.old.floor }
+        ensures tops { (s : ℕ) → kept_at self.new.tops s
+            ≡ (if frame_spec.takes_part s frame && is_some_and (kept_at self.old.tops s) (λ m. m == frame.made)
+            then below_of s frame below else kept_at self.old.tops s) }
         ensures below { self.new.below ≡ self.old.below }
         ensures uses { stack_room self.old ≤ stack_room self.new }
     {
-        let called = pop_top(&mut self.tops, frame.caller, frame.made, below.caller);
-        let server = other_server(frame);
-        let served = pop_top(&mut self.tops, server, frame.made, below.server);
-        self.whole = self.whole && called && served;
+        pop_top(&mut self.tops, frame.caller, frame.made, below.caller);
+        pop_top(
+            &mut self.tops,
+            other_server(frame),
+            frame.made,
+            below.server,
+        );
     }
 
     /// The frame of this index closes.
     pub(crate) fn remove(&mut self, frame: Frame, i: usize)
-        ensures stands { (l : List declared.Frame) → StacksAre self.old l → i < length l
-            → slice_index_or l i frame ≡ frame → StacksAre self.new (list_remove l i) }
+        ensures stands { (l : List declared.Frame) → AreStacks self.old l → IsRising 0 l → i < length l
+            → slice_index_or l i frame ≡ frame → AreStacks self.new (list_remove l i) }
         ensures uses { stack_room self.old ≤ stack_room self.new }
     {
         if i < self.below.len() {
             let below = self.below.remove(i);
             self.pop(frame, below);
-            self.forget_unread(Some(frame.server));
-        } else {
-            self.whole = false;
+            self.forget_unread(frame.server);
         }
+    }
+
+    // Whether the frame comes on top of the thread's stack without memory.
+    fn is_on_top(&self, frame: Frame, seat: u32) -> bool
+        ensures above { result ≡ true → is_reached self.now.floor (kept_at self.now.tops seat) frame.made ≡ false }
+        ensures unread { result ≡ true → is_pending frame.server ≡ true }
+        ensures set_aside { result ≡ true → 0 < self.now.pending }
+        ensures room { result ≡ true → 0 < spare self.now.tops }
+    {
+        is_pending(frame.server)
+            && self.pending > 0
+            && has_room(&self.tops)
+            && !is_reached(self.floor, top_of(&self.tops, seat), frame.made)
     }
 
     // The frame of this index comes onto the stack of the thread that serves it.
     fn put_server(&mut self, frame: Frame, i: usize, seat: u32)
         requires { 0 < spare self.old.tops }
-        ensures whole { self.new.whole ≡ true → self.old.whole ≡ true }
-        ensures under { self.new.whole ≡ true → (m : ℕ) → kept_at self.old.tops seat ≡ Some m → m < frame.made }
+        ensures floor { self.new.floor ≡ self.old.floor }
         ensures tops { (s : ℕ) → kept_at self.new.tops s
             ≡ (if seat == s then Some frame.made else kept_at self.old.tops s) }
         ensures below { (b : declared_below.Below) → i < vec_len self.old.below → self.new.below.items
@@ -193,44 +197,32 @@ impl Stacks {
         ensures pending { self.new.pending ≡ self.old.pending }
     {
         let top = top_of(&self.tops, seat);
-        self.whole = self.whole && is_under(top, frame.made);
         set_server(&mut self.below, i, top);
         insert_reserved(&mut self.tops, seat, frame.made);
     }
 
-    // The thread has read the call of the frame of this index, and serves it.
-    fn hand_out_at(&mut self, frame: Frame, i: usize, seat: u32)
-        ensures stands { (l : List declared.Frame) → StacksAre self.old l → i < length l
+    /// The thread has read the call of the frame of this index, and serves it. Takes no memory.
+    pub(crate) fn hand_out(&mut self, frame: Frame, i: usize, seat: u32)
+        ensures stands { (l : List declared.Frame) → AreStacks self.old l → IsRising 0 l → i < length l
             → slice_index_or l i frame ≡ frame
-            → StacksAre self.new (changed (frame_spec.is_frame frame.made) (reading.serve seat) l) }
+            → AreStacks self.new (changed (frame_spec.is_frame frame.made) (reading.serve seat) l) }
         ensures uses { stack_room self.old ≤ stack_room self.new }
     {
-        if !is_pending(frame.server) || self.pending == 0 || !has_room(&self.tops) {
-            self.whole = false;
-            return;
-        }
-        self.pending -= 1;
-        // Who serves a call of its own is led on as its caller.
-        if frame.caller != Some(seat) {
+        if frame.caller == Some(seat) {
+            // Who serves a call of its own is led on as its caller.
+            self.forget_unread(frame.server);
+        } else if self.is_on_top(frame, seat) {
+            self.pending -= 1;
             self.put_server(frame, i, seat);
-        }
-    }
-
-    /// The thread serves the call made there, of the frame of this index if there is one. Takes no memory.
-    pub(crate) fn hand_out(&mut self, frames: &[Frame], at: Option<usize>, made: u32, seat: u32)
-        requires { IfSome at (λ i. i < length frames.now) }
-        ensures stands { StacksAre self.old frames.now → IsNewestAt made at frames.now
-            → StacksAre self.new (changed (frame_spec.is_frame made) (reading.serve seat) frames.now) }
-        ensures uses { stack_room self.old ≤ stack_room self.new }
-    {
-        if let Some(i) = at {
-            self.hand_out_at(frames[i], i, seat);
+        } else {
+            self.forget_unread(frame.server);
+            self.floor = raised(self.floor, frame.made);
         }
     }
 
     /// The thread is gone from all frames.
     pub(crate) fn forget(&mut self, seat: u32)
-        ensures stands { Makes (StacksAre self.old) (StacksAre self.new) (λ l. map (left_frame seat) l) }
+        ensures stands { Makes (AreStacks self.old) (AreStacks self.new) (λ l. map (left_frame seat) l) }
         ensures uses { stack_room self.old ≤ stack_room self.new }
     {
         forget_top(&mut self.tops, seat);

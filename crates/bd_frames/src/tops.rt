@@ -1,6 +1,6 @@
 //! Where each thread's innermost frame was made.
 
-ghost use Rattle.std.specs.Prelude.{ℕ, true, ◌≡◌, ◌==◌, ◌≤◌, ◌<◌, ◌+◌, Some, if◌then◌else◌};
+ghost use Rattle.std.specs.Prelude.{ℕ, true, ◌≡◌, ◌==◌, ◌&&◌, ◌≤◌, ◌<◌, ◌+◌, Some, if◌then◌else◌};
 ghost use Rattle.std.specs.{Option.{option_and_then}, HashMap.{spare}};
 ghost use Rattle.bd_space.specs.Words.{is_some_and};
 ghost use Rattle.bd_frames.specs.Children.{kept_at};
@@ -72,24 +72,21 @@ fn replace_top(tops: &mut HashMap<u32, u32>, seat: u32, below: Option<u32>)
     }
 }
 
-/// The frame made there goes, which is to be the thread's innermost one: whether it was.
+/// The frame made there goes: where it was the thread's innermost one, the one below it is.
 pub(crate) fn pop_top(
     tops: &mut HashMap<u32, u32>,
     seat: Option<u32>,
     made: u32,
     below: Option<u32>,
-) -> bool
-    ensures tops { result ≡ true → (s : ℕ) → kept_at tops.new s
-        ≡ (if is_some_and seat (λ t. t == s) then below else kept_at tops.old s) }
-    ensures was { result ≡ true → (s : ℕ) → is_some_and seat (λ t. t == s) ≡ true → kept_at tops.old s ≡ Some made }
+)
+    ensures tops { (s : ℕ) → kept_at tops.new s
+        ≡ (if is_some_and seat (λ t. t == s) && is_some_and (kept_at tops.old s) (λ m. m == made) then below
+        else kept_at tops.old s) }
     ensures spare { spare tops.old ≤ spare tops.new }
 {
-    let Some(seat) = seat else {
-        return true;
-    };
-    if top_of(tops, seat) != Some(made) {
-        return false;
+    if let Some(seat) = seat {
+        if top_of(tops, seat) == Some(made) {
+            replace_top(tops, seat, below);
+        }
     }
-    replace_top(tops, seat, below);
-    true
 }

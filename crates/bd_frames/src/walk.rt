@@ -5,17 +5,17 @@ ghost use Rattle.std.specs.{Option.{option_and_then}, List.{slice_get}};
 ghost use Rattle.bd_space.specs.Frames as spec;
 ghost use Rattle.bd_frames.specs.Places.{IsRising};
 ghost use Rattle.bd_frames.specs.Linked as linked;
-ghost use Rattle.bd_frames.specs.{Linked.{IsWay, IsStep, StacksAre}, Words.{left_frame}};
+ghost use Rattle.bd_frames.specs.{Linked.{AreStacks, IsWay, IsStep}, Words.{left_frame}};
 
-use crate::change::{frame_without, leave_all};
+use crate::change::frame_without;
 use crate::frame::{calls, push_if_served};
-use crate::place::newest_at;
+use crate::place::newest_part;
 use crate::stacks::{Below, Stacks};
 use crate::tops::top_of;
 use bd_space::Frame;
 use std::alloc::AllocError;
 
-/// How far one has come: the frames that are left end at this index, and the thread's next one was made there.
+/// How far one has come: the frames that are left end at this index, and the thread's next one was made up to there.
 #[derive(Clone, Copy)]
 pub struct Way {
     pub end: usize,
@@ -40,72 +40,54 @@ fn next_at(seat: u32, frame: &Frame, below: &[Below], i: usize) -> Option<u32>
 }
 
 // To the thread's next older frame.
-fn step(frames: &[Frame], below: &[Below], seat: u32, way: Way) -> Option<Way>
+fn step(frames: &[Frame], stacks: &Stacks, seat: u32, way: Way) -> Option<Way>
     requires { way.end ≤ length frames.now }
     ensures lower { IfSome result (λ w. w.end < way.end) }
-    ensures steps { IsWay seat frames.now below.now way → IsStep seat (take way.end frames.now) result }
+    ensures steps { IsWay stacks.now seat frames.now way → IsStep stacks.now seat (take way.end frames.now) result }
 {
     let left = &frames[..way.end];
-    let i = newest_at(left, true, way.next?)?;
+    let i = newest_part(left, seat, stacks.floor, way.next)?;
     Some(Way {
         end: i,
-        next: next_at(seat, &left[i], below, i),
+        next: next_at(seat, &left[i], &stacks.below, i),
     })
 }
 
-// The thread is gone from its frames, of which the innermost was made there.
-fn leave_down(frames: &mut Vec<Frame>, below: &[Below], seat: u32, next: Option<u32>)
-    ensures frames { IsWay seat frames.old.items below.now (record { end = vec_len frames.old; next = next })
+/// The thread is gone from its frames, whose stacks these are.
+pub(crate) fn leave_down(frames: &mut Vec<Frame>, stacks: &Stacks, seat: u32)
+    ensures frames { AreStacks stacks.now frames.old.items → IsRising 0 frames.old.items
         → frames.new.items ≡ map (left_frame seat) frames.old.items }
-    ensures rising { IsRising 0 frames.old.items → IsRising 0 frames.new.items }
     ensures len { vec_len frames.new ≡ vec_len frames.old }
     ensures capacity { vec_capacity frames.new ≡ vec_capacity frames.old }
 {
     let mut way = Way {
         end: frames.len(),
-        next,
+        next: top_of(&stacks.tops, seat),
     };
-    while let Some(older) = step(frames, below, seat, way) {
+    while let Some(older) = step(frames, stacks, seat, way) {
         let frame = frames[older.end];
         frames[older.end] = frame_without(seat, frame);
         way = older;
     }
 }
 
-/// The thread is gone from all of them, whose stacks these are.
-pub(crate) fn leave(frames: &mut Vec<Frame>, stacks: &Stacks, seat: u32)
-    ensures frames { StacksAre stacks.now frames.old.items
-        → frames.new.items ≡ map (left_frame seat) frames.old.items }
-    ensures rising { IsRising 0 frames.old.items → IsRising 0 frames.new.items }
-    ensures len { vec_len frames.new ≡ vec_len frames.old }
-    ensures capacity { vec_capacity frames.new ≡ vec_capacity frames.old }
-{
-    if stacks.whole {
-        let top = top_of(&stacks.tops, seat);
-        leave_down(frames, &stacks.below, seat, top);
-    } else {
-        leave_all(frames, seat);
-    }
-}
-
 /// Where those of the thread's frames were made that it serves, innermost first, put after what is there.
 pub(crate) fn push_served_down(
     frames: &[Frame],
-    below: &[Below],
+    stacks: &Stacks,
     seat: u32,
-    next: Option<u32>,
     served: &mut Vec<u32>,
 ) -> Result<(), AllocError>
-    ensures served { IsWay seat frames.now below.now (record { end = length frames.now; next = next })
+    ensures served { AreStacks stacks.now frames.now → IsRising 0 frames.now
         → OnOk result (served.new.items ≡ served.old.items
         ++ reverse (map spec.made_of (filter (λ f. spec.serves seat f.server) frames.now))) }
     ensures longer { vec_len served.old ≤ vec_len served.new }
 {
     let mut way = Way {
         end: frames.len(),
-        next,
+        next: top_of(&stacks.tops, seat),
     };
-    while let Some(older) = step(frames, below, seat, way) {
+    while let Some(older) = step(frames, stacks, seat, way) {
         let frame = frames[older.end];
         push_if_served(&frame, seat, served)?;
         way = older;

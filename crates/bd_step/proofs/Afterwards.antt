@@ -29,7 +29,7 @@ use Rattle.bd_step.specs.Deliveries.{SendsNew, CanCall}
 use Rattle.bd_step.specs.Freed.{ripen_next}
 use Rattle.bd_step.proofs.New.{sending-new}
 use Rattle.bd_step.proofs.Finding.{found-lives}
-use Rattle.bd_step.proofs.Stacked.{tidy-stacked}
+use Rattle.bd_step.proofs.Stacked.{tidy-takes}
 
 pub ripened-ordered : (target : Option ObjectId) (s : Space) → Pairs Earlier s.objects → Pairs Earlier (ripen_next target s).objects
 unfolding ripen_of
@@ -45,7 +45,7 @@ module _ (s : Space) (a : Actor) (d : TransactionData) (v : Delivery) (p : IsSen
       record {
         new = sending-new s a.process.made p.tidy d p.checked.0 v.sending t.sends;
         lives = found-lives s.processes t.owned.object.owner v.receiver t.owned.lives;
-        stacked = tidy-stacked s p.tidy;
+        takes = tidy-takes s p.tidy;
       }
 
   pub sent-ordered : Pairs Earlier (transacted s a d v).objects

@@ -1,10 +1,12 @@
 -- Between two steps a thread's innermost frame is its newest.
-use Rattle.std.proofs.Common.{◌≡◌, Bool, true, false, cond, List, [], ◌∷◌, ◌++◌, filter, find, reverse, Option, Some, None, refl, ap, sym, ◌∙◌}
+use Rattle.std.proofs.Common.{◌≡◌, ℕ, suc, ◌≤◌, ◌<◌, arith, inl, inr, Bool, true, false, cond, List, [], ◌∷◌, ◌++◌, filter, find, reverse, Option, Some, None, refl, ap, sym, ◌∙◌}
 use Rattle.std.proofs.lemmas.List.{reverse-append}
 use Rattle.bd_space.specs.declared.space.Frame.{Frame}
 use Rattle.bd_space.specs.Frames.{takes_part}
 use Rattle.bd_space.specs.Space.{Space}
-use Rattle.bd_calls.specs.Stacked.{IsStacked}
+use Rattle.bd_calls.specs.Stacked.{IsStacked, IsAfter, TakesCalls}
+use Rattle.bd_laws.specs.Lists.{In}
+use Rattle.bd_laws.specs.Frames.{IsFramed}
 use Rattle.bd_laws.specs.Stacks.{last_of}
 use Rattle.bd_laws.specs.Tidy.{IsTidy}
 use Rattle.bd_laws.proofs.Stacks.{innermost-last}
@@ -46,3 +48,12 @@ module _ (p : Frame → Bool) where
 
 pub tidy-stacked : (s : Space) → IsTidy s → IsStacked s
 tidy-stacked s tidy seat = innermost-last s tidy seat ∙ last-newest (takes_part seat) s.frames
+
+-- and all were made before the step
+pub tidy-takes : (s : Space) → IsTidy s → TakesCalls s
+unfolding IsFramed
+tidy-takes s tidy = record { stacked = tidy-stacked s tidy; before = all 0 s.frames (omega arith) tidy.framed.below }
+  where
+    all : (m : ℕ) (fs : List Frame) → m ≤ s.steps → ((f : Frame) → In f fs → f.made < s.steps) → IsAfter m fs s.steps
+    all m [] h below = h
+    all m (f ∷ fs) h below = all (suc f.made) fs (below f (inl refl)) (λ g i. below g (inr i))

@@ -28,7 +28,7 @@ use Rattle.bd_space.specs.Delivery.{Delivery, placed_for, delivered, known_by, o
 use Rattle.bd_space.specs.Outcomes.{accepted, stopped}
 use Rattle.bd_space.specs.Transactions.{is_one_way, handle_of, not_own, target_of, owner_of, callee_of, caller_cause, transaction_check, call_out, called, transacted, refusal, transaction_step, transaction_outcome}
 use Rattle.bd_space.specs.Replies.{caller_of, reply_check, replied, reply_refused, reply_outcome, reply_to, reply_step}
-use Rattle.bd_calls.specs.Stacked.{IsStacked}
+use Rattle.bd_calls.specs.Stacked.{TakesCalls}
 use Rattle.bd_step.specs.declared.tables.Tables.{Tables}
 use Rattle.bd_step.specs.Stands.{StandsAt, Within}
 use Rattle.bd_laws.proofs.Checks.{actor-acts}
@@ -109,9 +109,9 @@ transacted-full s a d v e =
     ap has_number_past_limit (called_names (owe z (OfThread a.thread.seat) (Complete (is_spam z a v))) a.thread.seat v.receiver.made v.one_way) ∙ e
 
 -- a delivery leaves the frames as they are
-pub sent-stacked : (s : Space) (a : Actor) (d : TransactionData) (v : Delivery) → IsStacked s → IsStacked (delivered s a d v)
+pub sent-takes : (s : Space) (a : Actor) (d : TransactionData) (v : Delivery) → TakesCalls s → TakesCalls (delivered s a d v)
 unfolding delivered own_notices add_buffer known_by assign_numbers refer make_objects
-sent-stacked s a d v k = k
+sent-takes s a d v k = record { stacked = k.stacked; before = k.before }
 
 -- nor does it change a process
 sent_processes : (s : Space) (a : Actor) (d : TransactionData) (v : Delivery) → (delivered s a d v).processes ≡ s.processes

@@ -9,7 +9,7 @@ use Rattle.bd_ways.specs.Tables as tables
 use Rattle.bd_nodes.specs.New.{AreNewIn}
 use Rattle.bd_objects.specs.Room as object_rooms
 use Rattle.bd_calls.specs.Room as call_rooms
-use Rattle.bd_calls.specs.Stacked.{IsStacked}
+use Rattle.bd_calls.specs.Stacked.{TakesCalls}
 use Rattle.bd_buffers.specs.WindowsStand.{CanAdd, buffer_room}
 use Rattle.bd_step.specs.declared.tables.Tables.{Tables}
 use Rattle.bd_step.specs.Stands.{Before, Within, HasRoom}
@@ -50,11 +50,11 @@ SendsNew v s = AreNewIn s.objects v.sending.made
 abbrev pub Delivers : Tables → Tables → Delivery → (Space → Space) → Type 0
 Delivers old new v f = tables.MakesWhere (Before old) (SendsNew v) (Within new) f
 
--- the space of a call: what it makes is new, its receiver lives there, and a thread's innermost frame is its newest
+-- the space of a call: what it makes is new, its receiver lives there, and it takes calls
 pub record CanCall (v : Delivery) (s : Space) : Type 0 where
   pub new : SendsNew v s
   pub lives : process_in s.processes v.receiver.made ≡ Some v.receiver
-  pub stacked : IsStacked s
+  pub takes : TakesCalls s
 
 -- the same of a call's delivery
 abbrev pub DeliversCall : Tables → Tables → Delivery → (Space → Space) → Type 0

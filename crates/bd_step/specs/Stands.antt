@@ -11,7 +11,7 @@ use Rattle.bd_objects.specs.Room as object_rooms
 use Rattle.bd_objects.specs.declared.room.Room.{Room}
 use Rattle.bd_calls.specs.Stands as calls
 use Rattle.bd_calls.specs.Room as call_rooms
-use Rattle.bd_calls.specs.Stacked.{IsStacked}
+use Rattle.bd_calls.specs.Stacked.{IsStacked, TakesCalls}
 use Rattle.bd_calls.specs.Told as told
 use Rattle.bd_buffers.specs.WindowsStand.{WindowsOf}
 use Rattle.bd_step.specs.declared.tables.Tables.{Tables}
@@ -63,9 +63,9 @@ TellsBeforeOfStacked t x f = tables.TellsWhere (Before t) IsStacked x f
 abbrev pub Makes : Tables → Tables → (Space → Space) → Type 0
 Makes old new f = (n : ℕ) → tables.Makes (StandsAt n old) (StandsAt n new) f
 
--- of each in which a thread's innermost frame is its newest
+-- of each in which a thread's innermost frame is its newest, and all were made before
 abbrev pub MakesOfStacked : Tables → Tables → (Space → Space) → Type 0
-MakesOfStacked old new f = (n : ℕ) → tables.MakesWhere (StandsAt n old) IsStacked (StandsAt n new) f
+MakesOfStacked old new f = (n : ℕ) → tables.MakesWhere (StandsAt n old) TakesCalls (StandsAt n new) f
 
 -- within a step
 abbrev pub MakesWithin : Tables → Tables → (Space → Space) → Type 0

@@ -1,34 +1,36 @@
-use Rattle.std.proofs.Common.{ap, refl, rules, sym, subst, ◌∙◌}
-use Rattle.bd_space.specs.Words.{changed}
+use Rattle.std.proofs.Common.{◌≡◌, ◌<◌, Some, None, length, get_or, set, refl, subst, ap, sym, ◌∙◌}
 use Rattle.bd_space.specs.Frames.{is_frame}
 use Rattle.bd_frames.specs.Words.{lost_frame}
-use Rattle.bd_ways.specs.Ranges.{IsWithin}
-use Rattle.bd_frames.specs.Places.{RiseIf, IsRising}
-use Rattle.bd_frames.proofs.Places.{rising-changed}
+use Rattle.bd_frames.specs.Children.{kept_at}
+use Rattle.bd_frames.proofs.Stacking.{loses}
+use Rattle.bd_ways.proofs.Ranges.{changed-none}
+use Rattle.bd_frames.specs.Stands.{FramesAre}
+use Rattle.bd_frames.specs.Places.{IsRising, IsOnlyAt}
+use Rattle.bd_frames.proofs.Places.{only-changed, rising-changed}
 use Rattle.bd_frames.proofs.InOrder.{older-changed}
 use Rattle.bd_frames.proofs.Counting.{children-changed}
-use Rattle.bd_frames.proofs.Stacking.{loses}
 use Rattle.bd_frames.proofs.table.FrameTable.lose.Goals as goal
 
-pub returns-clause-stands : goal.returns-clause-stands
-returns-clause-stands c = λ l h.
+pub returns-in-Some-clause-stands : goal.returns-in-Some-clause-stands
+returns-in-Some-clause-stands c = λ l h.
+    let is = c.deref.ensures.value ∙ h.items_are in
+    let i = c.in-Some.i in
     let q = is_frame c.args.made in
-    let f = lost_frame in
-    let at = c.range_of-range.result in
-    let rises = c.args.self.now.rises in
+    let g = lost_frame in
+    let d = c.index-frame.result.now in
+    let here = subst (λ xs. IsRising 0 xs → IsOnlyAt q (Some i) xs) is c.in-Some.ensures.only h.in_order.rising in
+    let within : i < length l = subst (λ xs. i < length xs) is c.in-Some.ensures.within in
+    let at : d ≡ get_or l i d = c.index-frame.ensures ∙ ap (λ xs. get_or xs i d) h.items_are in
+    let left = c.forget_unread.ensures in
     record {
-      items_are = c.change_in.ensures.items lost_frame (λ x y k. search rules) (subst (λ xs. RiseIf c.args.self.now.rising xs → IsWithin q at.start at.end xs) c.deref.ensures.value c.range_of-range.ensures.within rises)
-          ∙ ap (changed q f) h.items_are;
-      rises = λ e. rising-changed q f (λ x. refl) 0 l (h.rises e);
-      older = λ e. older-changed q f (λ x. (refl, refl)) l (h.older e);
-      children_are = children-changed c.args.self.now.children l h.children_are q f (λ x. refl);
-      stacks_are = λ w. loses c.args.self.now.stacks _ l q (h.stacks_are (sym c.forget_unread.ensures.whole ∙ w)) c.forget_unread.ensures.below c.forget_unread.ensures.tops;
+      items_are = ap (λ xs. set xs i c.frame_lost.result) h.items_are ∙ ap (set l i) (c.frame_lost.ensures ∙ ap g at) ∙ only-changed q l i within here g d;
+      in_order = record { rising = rising-changed q g (λ x. refl) 0 l h.in_order.rising; older = older-changed q g (λ x. (refl, refl)) l h.in_order.older };
+      children_are = children-changed c.args.self.now.children l h.children_are q g (λ x. refl);
+      stacks_are = loses c.args.self.now.stacks _ l q h.stacks_are left.floor (ap (λ v. v.items) left.below) (λ s. ap (λ m. kept_at m s) left.tops);
     }
 
-pub invariant_of-self : goal.invariant_of-self
-invariant_of-self c =
-    let t = c.args.self.now in
+pub returns-in_default-clause-stands : goal.returns-in_default-clause-stands
+returns-in_default-clause-stands c = λ l h.
+    let is = c.deref.ensures.value ∙ h.items_are in
     let q = is_frame c.args.made in
-    let at = c.range_of-range.result in
-    let is = c.change_in.ensures.items lost_frame (λ x y k. search rules) (subst (λ xs. RiseIf t.rising xs → IsWithin q at.start at.end xs) c.deref.ensures.value c.range_of-range.ensures.within t.rises) in
-    record { rises = λ e. subst (IsRising 0) (sym is) (rising-changed q lost_frame (λ x. refl) 0 t.frames.items (t.rises e)) }
+    subst (FramesAre c.args.self.now) (sym (changed-none q (lost_frame) l (subst (λ xs. IsRising 0 xs → IsOnlyAt q None xs) is c.in_default.ensures.only h.in_order.rising))) h

@@ -1,6 +1,5 @@
 use Rattle.std.proofs.Common.{◌≡◌, ◌<◌, length, get_or, subst, ap, sym, ◌∙◌, arith}
 use Rattle.std.specs.List.{remove}
-use Rattle.bd_frames.specs.Places.{IsRising}
 use Rattle.bd_frames.proofs.Places.{rising-remove}
 use Rattle.bd_frames.proofs.InOrder.{older-remove}
 use Rattle.bd_frames.proofs.table.FrameTable.remove_at.Goals as goal
@@ -13,13 +12,7 @@ returns-clause-stands c = λ l h.
     let within : i < length l = subst (λ zs. i < length zs) h.items_are (omega (arith, c.requires)) in
     record {
       items_are = c.remove-frame.ensures.items ∙ ap (λ zs. remove zs i) h.items_are;
-      rises = λ e. rising-remove 0 l i within (h.rises e);
-      older = λ e. older-remove l i within (h.older e);
+      in_order = record { rising = rising-remove 0 l i within h.in_order.rising; older = older-remove l i within h.in_order.older };
       children_are = c.remove_child.ensures.counts l i h.children_are within at;
-      stacks_are = c.remove.ensures.stands l h.stacks_are within at;
+      stacks_are = c.remove.ensures.stands l h.stacks_are h.in_order.rising within at;
     }
-
-pub invariant_of-self : goal.invariant_of-self
-invariant_of-self c =
-    let t = c.args.self.now in
-    record { rises = λ e. subst (IsRising 0) (sym c.remove-frame.ensures.items) (rising-remove 0 t.frames.items c.args.i (omega (arith, c.requires)) (t.rises e)) }

@@ -1,37 +1,35 @@
-use Rattle.std.proofs.Common.{ap, refl, rules, sym, subst, ◌∙◌}
+use Rattle.std.proofs.Common.{◌≡◌, ◌<◌, Some, None, length, get_or, set, refl, subst, ap, sym, ◌∙◌, eqb-true}
 use Rattle.bd_space.specs.Words.{changed}
 use Rattle.bd_space.specs.Frames.{is_frame}
 use Rattle.bd_space.specs.ReadItems.{serve}
-use Rattle.bd_ways.specs.Ranges.{IsWithin}
-use Rattle.bd_frames.specs.Places.{IsNewestAt, RiseIf, IsRising}
-use Rattle.bd_frames.specs.Linked.{StacksAre}
-use Rattle.bd_frames.proofs.Places.{rising-changed}
+use Rattle.bd_frames.specs.Linked.{AreStacks}
+use Rattle.bd_ways.proofs.Ranges.{changed-none}
+use Rattle.bd_frames.specs.Stands.{FramesAre}
+use Rattle.bd_frames.specs.Places.{IsRising, IsOnlyAt}
+use Rattle.bd_frames.proofs.Places.{only-changed, rising-changed}
 use Rattle.bd_frames.proofs.InOrder.{older-changed}
 use Rattle.bd_frames.proofs.Counting.{children-changed}
 use Rattle.bd_frames.proofs.table.FrameTable.serve.Goals as goal
 
-pub returns-clause-stands : goal.returns-clause-stands
-returns-clause-stands c = λ l h.
+pub returns-in-Some-clause-stands : goal.returns-in-Some-clause-stands
+returns-in-Some-clause-stands c = λ l h.
+    let is = c.deref.ensures.value ∙ h.items_are in
+    let i = c.in-Some.i in
     let q = is_frame c.args.made in
-    let f = serve c.args.seat in
-    let at = c.range_of-range.result in
-    let rises = c.args.self.now.rises in
+    let g = serve c.args.seat in
+    let d = c.index-frame.result.now in
+    let here = subst (λ xs. IsRising 0 xs → IsOnlyAt q (Some i) xs) is c.in-Some.ensures.only h.in_order.rising in
+    let within : i < length l = subst (λ xs. i < length xs) is c.in-Some.ensures.within in
+    let at : d ≡ get_or l i d = c.index-frame.ensures ∙ ap (λ xs. get_or xs i d) h.items_are in
     record {
-      items_are = c.change_in.ensures.items (serve c.args.seat) (λ x y k. search rules) (subst (λ xs. RiseIf c.args.self.now.rising xs → IsWithin q at.start at.end xs) c.deref-3.ensures.value c.range_of-range.ensures.within rises)
-          ∙ ap (changed q f) h.items_are;
-      rises = λ e. rising-changed q f (λ x. refl) 0 l (h.rises e);
-      older = λ e. older-changed q f (λ x. (refl, refl)) l (h.older e);
-      children_are = children-changed c.args.self.now.children l h.children_are q f (λ x. refl);
-      stacks_are = subst (λ xs. StacksAre c.hand_out.new.self (changed q f xs)) (c.deref-2.ensures.value ∙ h.items_are)
-          (c.hand_out.ensures.stands (subst (λ xs. StacksAre c.args.self.now.stacks xs) (sym (c.deref-2.ensures.value ∙ h.items_are)) h.stacks_are)
-          (subst (λ xs. IsNewestAt c.args.made c.newest_at-at.result xs) (c.deref.ensures.value ∙ sym c.deref-2.ensures.value)
-          (c.newest_at-at.ensures.newest (subst (λ xs. RiseIf c.args.self.now.rising xs) (sym c.deref.ensures.value) rises))));
+      items_are = ap (λ xs. set xs i c.frame_served.result) h.items_are ∙ ap (set l i) (c.frame_served.ensures ∙ ap g at) ∙ only-changed q l i within here g d;
+      in_order = record { rising = rising-changed q g (λ x. refl) 0 l h.in_order.rising; older = older-changed q g (λ x. (refl, refl)) l h.in_order.older };
+      children_are = children-changed c.args.self.now.children l h.children_are q g (λ x. refl);
+      stacks_are = subst (λ n. AreStacks c.hand_out.new.self (changed (is_frame n) g l)) (ap (λ x. x.made) at ∙ eqb-true _ c.args.made (here.0 d)) (c.hand_out.ensures.stands l h.stacks_are h.in_order.rising within (sym at));
     }
 
-pub invariant_of-self : goal.invariant_of-self
-invariant_of-self c =
-    let t = c.args.self.now in
+pub returns-in_default-clause-stands : goal.returns-in_default-clause-stands
+returns-in_default-clause-stands c = λ l h.
+    let is = c.deref.ensures.value ∙ h.items_are in
     let q = is_frame c.args.made in
-    let at = c.range_of-range.result in
-    let is = c.change_in.ensures.items (serve c.args.seat) (λ x y k. search rules) (subst (λ xs. RiseIf t.rising xs → IsWithin q at.start at.end xs) c.deref-3.ensures.value c.range_of-range.ensures.within t.rises) in
-    record { rises = λ e. subst (IsRising 0) (sym is) (rising-changed q (serve c.args.seat) (λ x. refl) 0 t.frames.items (t.rises e)) }
+    subst (FramesAre c.args.self.now) (sym (changed-none q (serve c.args.seat) l (subst (λ xs. IsRising 0 xs → IsOnlyAt q None xs) is c.in_default.ensures.only h.in_order.rising))) h

@@ -10,7 +10,7 @@ pub returns-then-not-one_way-clause-stands : goal.returns-then-not-one_way-claus
 unfolding owe
 returns-then-not-one_way-clause-stands c = λ n s h k.
     let z = owe s (OfThread c.args.seat) (Complete c.args.spam) in
-    subst (λ (b : Bool). StandsAt n c.call_out.new.self (called z c.args.seat c.args.receiver b)) (sym c.if-not-one_way.true) (c.call_out.ensures.stands n z (c.owe.ensures.stands n s h) k)
+    subst (λ (b : Bool). StandsAt n c.call_out.new.self (called z c.args.seat c.args.receiver b)) (sym c.if-not-one_way.true) (c.call_out.ensures.stands n z (c.owe.ensures.stands n s h) (record { stacked = k.stacked; before = k.before }))
 
 pub returns-else-not-one_way-clause-stands : goal.returns-else-not-one_way-clause-stands
 returns-else-not-one_way-clause-stands c = λ n s h k.

@@ -1,6 +1,6 @@
 use Rattle.std.proofs.Common.{◌+◌}
 use Rattle.bd_space.specs.Delivery.{delivered}
-use Rattle.bd_step.proofs.Stepping.{transacted-full, spam-told, transacted-stands, sent-stacked}
+use Rattle.bd_step.proofs.Stepping.{transacted-full, spam-told, transacted-stands, sent-takes}
 use Rattle.bd_step.proofs.tables.Tables.transacted.Goals as goal
 
 pub returns-in-Err-clause-full : goal.returns-in-Err-clause-full
@@ -12,4 +12,4 @@ returns-in-Ok-clause-ok c = λ s h k.
     let w = c.in-Ok.ensures.ok s h k.new in
     transacted-stands s c.args.a c.args.d.now c.args.v _ _ c.receiver-receiver.ensures c.is_one_way-one_way.ensures _ _
     (spam-told s c.args.a c.args.d.now c.args.v _ _ c.receiver-receiver.ensures c.is_one_way-one_way.ensures _ k.lives (λ q found. c.is_spam-spam.ensures z q w found))
-    (c.called.ensures.stands (z.steps + 1) z w (sent-stacked s c.args.a c.args.d.now c.args.v k.stacked))
+    (c.called.ensures.stands (z.steps + 1) z w (sent-takes s c.args.a c.args.d.now c.args.v k.takes))

@@ -4,7 +4,7 @@ use Rattle.bd_calls.specs.Stands.{StandsFor}
 use Rattle.bd_calls.specs.Room.{Uses, nothing, frame_count}
 use Rattle.bd_calls.specs.Told.{KeepsTold, ReachesFew}
 use Rattle.bd_calls.proofs.InOrder.{IsEachAt, each_up}
-use Rattle.bd_calls.proofs.table.CallTable.close_in_order.Given as goal
+use Rattle.bd_calls.proofs.table.CallTable.close_among.Given as goal
 
 abbrev pub invariant-loop-made : goal.invariant-loop-made
 invariant-loop-made l = record {
