@@ -14,7 +14,7 @@ use Rattle.bd_frames.specs.Children.{kept_at}
 use Rattle.bd_frames.specs.Places.{IsRising}
 use Rattle.bd_frames.specs.Linked.{below_of, Reaches, Bounds, Linked, any_bound, AreStacks, IsNext, IsStep, IsWay}
 use Rattle.bd_ways.proofs.Ranges.{no-head}
-use Rattle.bd_frames.proofs.Places.{take-take}
+use Rattle.bd_frames.proofs.Places.{take-take, rising-take}
 use Rattle.bd_frames.proofs.Linking.{Reach, Says, More, linked-long, link-at, got-there}
 
 -- what stands where a list has ended
@@ -23,12 +23,6 @@ no_frame = record { made = 0; caller = None; server = Pending; parent = None }
 
 no_below : Below
 no_below = record { caller = None; server = None }
-
-pub rising-take : (m n : ℕ) (fs : List Frame) → IsRising m fs → IsRising m (take n fs)
-rising-take m zero [] r = r
-rising-take m (suc n) [] r = r
-rising-take m zero (f ∷ fs) r = tt
-rising-take m (suc n) (f ∷ fs) r = (r.0, rising-take (suc f.made) n fs r.1)
 
 linked-take : (R : Reach) (C : Says) (n : ℕ) (fs : List Frame) (bs : List Below) → Linked R C fs bs → Linked R C (take n fs) (take n bs)
 linked-take R C zero [] [] k = k
@@ -186,10 +180,6 @@ served-next q xs ys f = at (q f)
 
 -- those that pass are among those of the thread
 module _ (q r : Frame → Bool) (h : (x : Frame) → q x ≡ false → r x ≡ false) where
-  none-kept : (fs : List Frame) → list_any q fs ≡ false → filter r fs ≡ []
-  none-kept [] e = refl
-  none-kept (f ∷ fs) e = let n = no-head (q f) _ e in ap (λ (b : Bool). cond b (f ∷ filter r fs) (filter r fs)) (h f n.0) ∙ none-kept fs n.1
-
   pub kept-left : (n : ℕ) (fs : List Frame) → list_any q (take n fs) ≡ false → filter r (drop n fs) ≡ filter r fs
   kept-left zero [] e = refl
   kept-left (suc n) [] e = refl

@@ -132,6 +132,12 @@ module _ (q : Frame → Bool) where
       let g = no-head (q x) _ b in
       ap (λ ys. x ∷ ys) (changed-at f xs i d (omega arith) e g.1 a) ∙ sym (ap (λ c. cond c (f x) x ∷ changed q f xs) g.0)
 
+pub rising-take : (m n : ℕ) (fs : List Frame) → IsRising m fs → IsRising m (take n fs)
+rising-take m zero [] r = r
+rising-take m (suc n) [] r = r
+rising-take m zero (f ∷ fs) r = tt
+rising-take m (suc n) (f ∷ fs) r = (r.0, rising-take (suc f.made) n fs r.1)
+
 pub take-take : {A : Type 0} (i n : ℕ) (xs : List A) → i ≤ n → take i (take n xs) ≡ take i xs
 take-take zero zero [] h = refl
 take-take zero (suc n) [] h = refl

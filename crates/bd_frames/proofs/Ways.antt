@@ -1,13 +1,14 @@
 -- From the newest frame on: the way by parents, and the first that passes.
-use Rattle.std.proofs.Common.{◌≡◌, ℕ, zero, suc, ◌+◌, ◌<◌, ◌||◌, Bool, true, false, cond, List, [], ◌∷◌, ◌++◌, Option, Some, None, find, reverse, take, drop, length, get_or, refl, ap, sym, ◌∙◌, arith}
+use Rattle.std.proofs.Common.{◌≡◌, ℕ, zero, suc, ◌<◌, ◌||◌, Bool, true, false, cond, List, [], ◌∷◌, ◌++◌, Option, Some, None, find, reverse, take, drop, length, get_or, refl, ap, sym, subst, ◌∙◌, arith}
 use Rattle.std.specs.List.{list_any}
 use Rattle.std.proofs.lemmas.List.{reverse-append, append-nil}
-use Rattle.std.proofs.lemmas.List.{get_or-take}
+use Rattle.std.proofs.lemmas.List.{get_or-take, length-take}
 use Rattle.std.proofs.lemmas.Grind.{reverse_onto}
 use Rattle.bd_space.specs.declared.space.Frame.{Frame}
 use Rattle.bd_space.specs.Frames.{ancestry, is_frame}
 use Rattle.bd_ways.proofs.Ranges.{no-head, find-none}
-use Rattle.bd_frames.proofs.Places.{next-drop, take-take}
+use Rattle.bd_frames.specs.Places.{IsRising, IsOnlyAt}
+use Rattle.bd_frames.proofs.Places.{next-drop, take-take, rising-take}
 
 -- those that don't fit are passed over
 passed-over : (made : ℕ) (fs gs : List Frame) → list_any (is_frame made) fs ≡ false → ancestry (Some made) (fs ++ gs) ≡ ancestry (Some made) gs
@@ -35,7 +36,7 @@ after : (fs : List Frame) (f : Frame) (gs : List Frame) → (fs ++ f ∷ []) ++ 
 after [] f gs = refl
 after (g ∷ fs) f gs = ap (λ hs. g ∷ hs) (after fs f gs)
 
-pub way-none : (made : ℕ) (fs : List Frame) → list_any (is_frame made) fs ≡ false → ancestry (Some made) (reverse fs) ≡ []
+way-none : (made : ℕ) (fs : List Frame) → list_any (is_frame made) fs ≡ false → ancestry (Some made) (reverse fs) ≡ []
 way-none made fs h =
     ap (ancestry (Some made)) (sym (append-nil (reverse fs)))
     ∙ passed-over made (reverse fs) [] (none-reversed (is_frame made) fs h)
@@ -46,7 +47,7 @@ newest-first fs i d lt =
     ap reverse (split fs i d lt) ∙ reverse-append (take i fs) (f ∷ drop (suc i) fs)
     ∙ ap (λ gs. gs ++ reverse (take i fs)) (reverse_onto (drop (suc i) fs) f []) ∙ after (reverse (drop (suc i) fs)) f (reverse (take i fs))
 
-pub way-found : (made : ℕ) (fs : List Frame) (i : ℕ) (d : Frame) → i < length fs → is_frame made (get_or fs i d) ≡ true → list_any (is_frame made) (drop (suc i) fs) ≡ false
+way-found : (made : ℕ) (fs : List Frame) (i : ℕ) (d : Frame) → i < length fs → is_frame made (get_or fs i d) ≡ true → list_any (is_frame made) (drop (suc i) fs) ≡ false
     → ancestry (Some made) (reverse fs) ≡ get_or fs i d ∷ ancestry (get_or fs i d).parent (reverse (take i fs))
 way-found made fs i d lt here none =
     let f = get_or fs i d in
@@ -60,16 +61,26 @@ way-ended [] = refl
 way-ended (f ∷ fs) = way-ended fs
 
 -- of those up to n
-pub way-on : (q : Frame → Bool) (from : Option ℕ) (made n : ℕ) (xs : List Frame) (i : ℕ) (d : Frame) → from ≡ Some made → i < n → i < length (take n xs)
-    → is_frame made (get_or (take n xs) i d) ≡ true → list_any (is_frame made) (drop (i + 1) (take n xs)) ≡ false → get_or xs i d ≡ d
+pub goes-on : (q : Frame → Bool) (from : Option ℕ) (made n : ℕ) (xs ys : List Frame) (i : ℕ) (d : Frame) → from ≡ Some made → IsRising 0 xs → ys ≡ xs → i < length (take n ys)
+    → (IsRising 0 (take n ys) → IsOnlyAt (is_frame made) (Some i) (take n ys)) → d ≡ get_or xs i d
     → find q (ancestry from (reverse (take n xs))) ≡ cond (q d) (Some d) (find q (ancestry d.parent (reverse (take i xs))))
-way-on q from made n xs i d e low lt here none is =
+goes-on q from made n xs ys i d e rising same lt only is =
     let fs = take n xs in
     let f = get_or fs i d in
-    let same : f ≡ d = get_or-take n xs i d low ∙ is in
-    ap (λ (o : Option ℕ). find q (ancestry o (reverse fs))) e ∙ ap (find q) (way-found made fs i d lt here (ap (list_any (is_frame made)) (sym (next-drop i fs)) ∙ none))
-    ∙ ap (λ (x : Frame). cond (q x) (Some x) (find q (ancestry x.parent (reverse (take i fs))))) same
-    ∙ ap (λ (ys : List Frame). cond (q d) (Some d) (find q (ancestry d.parent (reverse ys)))) (take-take i n xs (omega (arith, low)))
+    let h : i < length fs = subst (λ zs. i < length (take n zs)) same lt in
+    let low : i < n = omega (arith, h, length-take n xs) in
+    let here = subst (λ zs. IsRising 0 (take n zs) → IsOnlyAt (is_frame made) (Some i) (take n zs)) same only (rising-take 0 n xs rising) in
+    let one : f ≡ d = get_or-take n xs i d low ∙ sym is in
+    ap (λ (o : Option ℕ). find q (ancestry o (reverse fs))) e ∙ ap (find q) (way-found made fs i d h (here.0 d) (ap (list_any (is_frame made)) (sym (next-drop i fs)) ∙ here.1.after))
+    ∙ ap (λ (x : Frame). cond (q x) (Some x) (find q (ancestry x.parent (reverse (take i fs))))) one
+    ∙ ap (λ (zs : List Frame). cond (q d) (Some d) (find q (ancestry d.parent (reverse zs)))) (take-take i n xs (omega (arith, low)))
+
+-- no further
+pub goes-nowhere : (q : Frame → Bool) (from : Option ℕ) (made n : ℕ) (xs ys : List Frame) → from ≡ Some made → IsRising 0 xs → ys ≡ xs
+    → (IsRising 0 (take n ys) → IsOnlyAt (is_frame made) None (take n ys)) → find q (ancestry from (reverse (take n xs))) ≡ None
+goes-nowhere q from made n xs ys e rising same only =
+    let none = subst (λ zs. IsRising 0 (take n zs) → IsOnlyAt (is_frame made) None (take n zs)) same only (rising-take 0 n xs rising) in
+    ap (λ (o : Option ℕ). find q (ancestry o (reverse (take n xs)))) e ∙ ap (find q) (way-none made (take n xs) none)
 
 -- ---- the newest one that passes
 
