@@ -1,8 +1,5 @@
 -- Closing among chosen calls step by step: where one closes its parent is chosen too.
-use Rattle.std.proofs.Common.{◌≡◌, ℕ, zero, suc, ◌==◌, Bool, true, false, cond, not, ◌&&◌, ◌||◌, List, [], ◌∷◌, Option, Some, None, refl, ap, sym, subst, ◌∙◌, map, filter, find, arith}
-use Rattle.std.specs.List.{list_any}
-use Rattle.std.proofs.lemmas.Bool.{eqb-true}
-use Rattle.std.proofs.lemmas.Map.Views.{any-filter_same}
+use Rattle.std.proofs.Common.{◌≡◌, ℕ, zero, suc, ◌==◌, Bool, true, false, cond, not, ◌&&◌, ◌||◌, List, [], ◌∷◌, Option, Some, None, refl, ap, subst, filter, find}
 use Rattle.bd_uapi.specs.declared.command.Return.TheVariants.{DeadReply}
 use Rattle.bd_space.specs.declared.space.Frame.{Frame}
 use Rattle.bd_space.specs.declared.space.TodoList.TheVariants.{OfThread}
@@ -13,9 +10,6 @@ use Rattle.bd_space.specs.Frames.{is_frame, closed}
 use Rattle.bd_space.specs.Settle.{is_abandoned, settle_one}
 use Rattle.bd_space.specs.Todo.{owe}
 use Rattle.bd_ways.specs.Local.{close_among}
-use Rattle.bd_calls.specs.declared.table.CallTable.{CallTable}
-use Rattle.bd_calls.specs.Stands.{StandsFor}
-use Rattle.bd_calls.proofs.Settling.{one-steps}
 
 -- ---- what is chosen
 

@@ -1,12 +1,11 @@
 -- A call closes, and no step is counted.
-use Rattle.std.proofs.Common.{◌≡◌, ℕ, zero, suc, ◌+◌, ◌-◌, ◌≤◌, Option, Some, None, refl, ap, ◌∙◌, arith}
+use Rattle.std.proofs.Common.{◌≡◌, ℕ, Option, Some, None, refl}
 use Rattle.bd_space.specs.declared.space.Frame.{Frame}
 use Rattle.bd_space.specs.declared.space.WorkKind.{WorkKind}
 use Rattle.bd_space.specs.Space.{Space}
 use Rattle.bd_space.specs.Frames.{closed}
 use Rattle.bd_space.specs.Todo.{owe}
-use Rattle.bd_space.specs.Settle.{settle_one, settle_step, settle_times, is_abandoned}
-use Rattle.std.specs.List.{find}
+use Rattle.bd_space.specs.Settle.{settle_one}
 use Rattle.bd_uapi.specs.declared.command.Return.TheVariants.{DeadReply}
 use Rattle.bd_space.specs.declared.space.WorkKind.TheVariants.{Verdict}
 use Rattle.bd_space.specs.declared.space.TodoList.TheVariants.{OfThread}
