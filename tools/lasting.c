@@ -1,5 +1,5 @@
 /* SPDX-License-Identifier: Apache-2.0 OR MIT */
-/* Whether what has gone gives its room back, which no contract says: makes and ends each kind of thing 100,000 times in a live engine,
+/* Whether what has gone gives its memory back, which no contract says: makes and ends each kind of thing 100,000 times in a live engine,
    and complains where the engine ever has more memory than it had within the first thousand. Linked with malloc, realloc and free
    wrapped (cc -Wl,--wrap=malloc,--wrap=realloc,--wrap=free), by which it counts what is asked for. Last it plays rounds that leave
    something behind, which have to be seen. Prints nothing but its complaints. */

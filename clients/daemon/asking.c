@@ -154,7 +154,7 @@ static bool is_page(const struct state_page *page, const struct control_request 
     return page->count <= STATE_ROOM && (!page->next || is_behind);
 }
 
-/* More pages than any daemon tells of a device: what listens there may be none, and would be asked until there is no memory. */
+/* So many pages are asked for, 4,194,304 records: what listens there may be no daemon, and would be asked without end. */
 #define PAGES_MAX (1u << 18)
 
 /* Fetches page after page, up to the last. Why they can't be had, or NULL. */

@@ -24,7 +24,7 @@ const DEVICE_ROOM: usize = 64;
 const ANSWER_SIZE: usize = 16;
 /// So many seconds a daemon may take for a connection, and for each answer.
 const PATIENCE: i64 = 5;
-/// More pages than any daemon tells of a device: what listens there may be none, and would be asked for ever.
+/// So many pages are asked for, 4,194,304 records: what listens there may be no daemon, and would be asked for ever.
 const MOST_PAGES: u32 = 1 << 18;
 
 /// The number in the line `#define PROTOCOL_VERSION Nu`.
