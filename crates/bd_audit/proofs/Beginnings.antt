@@ -15,26 +15,26 @@ use Rattle.bd_laws.proofs.Tests.{both}
 use Rattle.std.proofs.lemmas.List.Folds.{list_all-append}
 use Rattle.std.proofs.lemmas.Option.{slice_get_within, get_or_from_slice_get}
 
-pub follows-front : (s : Space) (es fs : List Entry) → Follows s (es ++ fs) → Follows s es
-follows-front s [] fs h = tt
-follows-front s (e ∷ es) fs h = (h.0, follows-front (next s e) es fs h.1)
+pub follows_front : (s : Space) (es fs : List Entry) → Follows s (es ++ fs) → Follows s es
+follows_front s [] fs h = tt
+follows_front s (e ∷ es) fs h = (h.0, follows_front (next s e) es fs h.1)
 
-pub follows-rest : (s : Space) (es fs : List Entry) → Follows s (es ++ fs) → Follows (after s es) fs
-follows-rest s [] fs h = h
-follows-rest s (e ∷ es) fs h = follows-rest (next s e) es fs h.1
+pub follows_rest : (s : Space) (es fs : List Entry) → Follows s (es ++ fs) → Follows (after s es) fs
+follows_rest s [] fs h = h
+follows_rest s (e ∷ es) fs h = follows_rest (next s e) es fs h.1
 
-pub after-append : (s : Space) (es fs : List Entry) → after s (es ++ fs) ≡ after (after s es) fs
-after-append s [] fs = refl
-after-append s (e ∷ es) fs = after-append (next s e) es fs
+pub after_append : (s : Space) (es fs : List Entry) → after s (es ++ fs) ≡ after (after s es) fs
+after_append s [] fs = refl
+after_append s (e ∷ es) fs = after_append (next s e) es fs
 
-all-parts : {A : Type 0} (p : A → Bool) (xs ys : List A) → list_all p (xs ++ ys) ≡ true → (list_all p xs ≡ true) × (list_all p ys ≡ true)
-all-parts p xs ys h = both (list_all p xs) (list_all p ys) (sym (list_all-append p xs ys) ∙ h)
+all_parts : {A : Type 0} (p : A → Bool) (xs ys : List A) → list_all p (xs ++ ys) ≡ true → (list_all p xs ≡ true) × (list_all p ys ≡ true)
+all_parts p xs ys h = both (list_all p xs) (list_all p ys) (sym (list_all-append p xs ys) ∙ h)
 
-pub history-front : (n : ℕ) (es fs : List Entry) → IsHistory (record { seats = n; entries = es ++ fs }) → IsHistory (record { seats = n; entries = es })
-history-front n es fs h = record {
+pub history_front : (n : ℕ) (es fs : List Entry) → IsHistory (record { seats = n; entries = es ++ fs }) → IsHistory (record { seats = n; entries = es })
+history_front n es fs h = record {
   short = let l = length-append es fs in omega (arith, l, h.short);
-  seats = (all-parts (λ e. nat_lt e.seat n) es fs h.seats).0;
-  follows = follows-front opening es fs h.follows;
+  seats = (all_parts (λ e. nat_lt e.seat n) es fs h.seats).0;
+  follows = follows_front opening es fs h.follows;
 }
 
 -- what the last entry has to meet
@@ -43,40 +43,40 @@ pub record LastFollows (h : History) (e : Entry) : Type 0 where
   pub seat : nat_lt e.seat h.seats ≡ true
   pub follows : EntryFollows (after opening h.entries) e
 
-pub last-follows : (h : History) (e : Entry) → IsHistory (with_entry h e) → LastFollows h e
-last-follows h e k = record {
+pub last_follows : (h : History) (e : Entry) → IsHistory (with_entry h e) → LastFollows h e
+last_follows h e k = record {
   room = let l = length-append h.entries (e ∷ []) in omega (arith, l, k.short);
-  seat = (both (nat_lt e.seat h.seats) true (all-parts (λ (x : Entry). nat_lt x.seat h.seats) h.entries (e ∷ []) k.seats).1).0;
-  follows = (follows-rest opening h.entries (e ∷ []) k.follows).0;
+  seat = (both (nat_lt e.seat h.seats) true (all_parts (λ (x : Entry). nat_lt x.seat h.seats) h.entries (e ∷ []) k.seats).1).0;
+  follows = (follows_rest opening h.entries (e ∷ []) k.follows).0;
 }
 
 -- ---- an entry that doesn't follow
 
-pub wrong-answer : (h : History) (e : Entry) (a : StepAnswer) → a ≡ (step (space_after h) e.seat e.step).answer → (a ≡ e.answer → ⊥) → IsHistory (with_entry h e) → ⊥
+pub wrong_answer : (h : History) (e : Entry) (a : StepAnswer) → a ≡ (step (space_after h) e.seat e.step).answer → (a ≡ e.answer → ⊥) → IsHistory (with_entry h e) → ⊥
 unfolding space_after
-wrong-answer h e a is not k = not (is ∙ (last-follows h e k).follows.answer)
+wrong_answer h e a is not k = not (is ∙ (last_follows h e k).follows.answer)
 
-either-case : (a b : Bool) → (a || b) ≡ true → a ≡ false → b ≡ true
-either-case a b h k = search arith
+either_case : (a b : Bool) → (a || b) ≡ true → a ≡ false → b ≡ true
+either_case a b h k = search arith
 
-pub past-limit : (h : History) (e : Entry) → is_at_limit h e.seat (Some e.step) ≡ true → IsHistory (with_entry h e) → ⊥
+pub past_limit : (h : History) (e : Entry) → is_at_limit h e.seat (Some e.step) ≡ true → IsHistory (with_entry h e) → ⊥
 unfolding space_after is_at_limit
-past-limit h e limit k =
-    let l = last-follows h e k in
+past_limit h e limit k =
+    let l = last_follows h e k in
     let room : nat_le 4294967295 (length h.entries) ≡ false = lt-leb _ _ l.room in
-    let past = either-case _ _ limit room in
+    let past = either_case _ _ limit room in
     let fits = l.follows.numbers in
     absurd (cc)
 
 -- an engine refuses a step for want of memory, or it is past the limit
 pub refused : (h : History) (e : Entry) (at : ℕ) (w : Why) (x : Step) (f : AuditFault) → f ≡ fault_of w at → x ≡ e.step → FullOnly w (is_at_limit h e.seat (Some x) ≡ true)
     → IfUnlawful f (λ at. IsHistory (with_entry h e) → ⊥)
-refused h e at w x f is same_step full = search (arith, past-limit)
+refused h e at w x f is same_step full = search (arith, past_limit)
 
 -- the same, and where
-pub refused-here : (h : History) (e : Entry) (at : ℕ) (w : Why) (x : Step) (f : AuditFault) → f ≡ fault_of w at → x ≡ e.step → FullOnly w (is_at_limit h e.seat (Some x) ≡ true) → at ≡ length h.entries
+pub refused_here : (h : History) (e : Entry) (at : ℕ) (w : Why) (x : Step) (f : AuditFault) → f ≡ fault_of w at → x ≡ e.step → FullOnly w (is_at_limit h e.seat (Some x) ≡ true) → at ≡ length h.entries
     → IfUnlawful f (λ n. (n ≡ length h.entries) × (IsHistory (with_entry h e) → ⊥))
-refused-here h e at w x f is same_step full so_long = by f is (refused h e at w x f is same_step full)
+refused_here h e at w x f is same_step full so_long = by f is (refused h e at w x f is same_step full)
   where
     named : (n : ℕ) (w : Why) → Unlawful n ≡ fault_of w at → n ≡ at
     named n why.HistoryFull is = cc
@@ -88,42 +88,42 @@ refused-here h e at w x f is same_step full so_long = by f is (refused h e at w 
 
 -- ---- places
 
-pub take-history : (n : ℕ) (h : History) → IsHistory h → IsHistory (beginning n h)
-take-history n h k = history-front h.seats (take n h.entries) (drop n h.entries) (subst (λ es. IsHistory (record { seats = h.seats; entries = es })) (sym (take-append-drop n h.entries)) k)
+pub take_history : (n : ℕ) (h : History) → IsHistory h → IsHistory (beginning n h)
+take_history n h k = history_front h.seats (take n h.entries) (drop n h.entries) (subst (λ es. IsHistory (record { seats = h.seats; entries = es })) (sym (take-append-drop n h.entries)) k)
 
-pub front-begun : (n : ℕ) (h : History) (es : List Entry) → es ≡ h.entries → IsHistory (beginning n h) → IsHistory (record { seats = h.seats; entries = take n es })
-front-begun n h es same_es k = subst (λ xs. IsHistory (record { seats = h.seats; entries = take n xs })) (sym same_es) k
+pub front_begun : (n : ℕ) (h : History) (es : List Entry) → es ≡ h.entries → IsHistory (beginning n h) → IsHistory (record { seats = h.seats; entries = take n es })
+front_begun n h es same_es k = subst (λ xs. IsHistory (record { seats = h.seats; entries = take n xs })) (sym same_es) k
 
 -- the entry at this place, one more than those before it
 pub one_more : (h : History) (i : ℕ) (e : Entry) → i < length h.entries → e ≡ get_or h.entries i e → with_entry (beginning i h) e ≡ beginning (i + 1) h
 one_more h i e lt is = ap (λ es. let k : History = record { seats = h.seats; entries = es } in k) (ap (λ x. take i h.entries ++ x ∷ []) is ∙ sym (take_more h.entries i e lt))
 
 -- the same of the entry as a loop finds it
-pub one-next : (h g : History) (i : ℕ) (e : Entry) (es : List Entry) → g ≡ beginning i h → es ≡ h.entries → i < length es → e ≡ get_or es i e → with_entry g e ≡ beginning (i + 1) h
-one-next h g i e es at_i same_es below found = search (arith, one_more)
+pub one_next : (h g : History) (i : ℕ) (e : Entry) (es : List Entry) → g ≡ beginning i h → es ≡ h.entries → i < length es → e ≡ get_or es i e → with_entry g e ≡ beginning (i + 1) h
+one_next h g i e es at_i same_es below found = search (arith, one_more)
 
-pub next-lawful : (h g : History) (i : ℕ) (e : Entry) (es : List Entry) → IsHistory h → g ≡ beginning i h → es ≡ h.entries → i < length es → e ≡ get_or es i e → IsHistory (with_entry g e)
-next-lawful h g i e es lawful at_i same_es below found = subst IsHistory (sym (one-next h g i e es at_i same_es below found)) (take-history (i + 1) h lawful)
+pub next_lawful : (h g : History) (i : ℕ) (e : Entry) (es : List Entry) → IsHistory h → g ≡ beginning i h → es ≡ h.entries → i < length es → e ≡ get_or es i e → IsHistory (with_entry g e)
+next_lawful h g i e es lawful at_i same_es below found = subst IsHistory (sym (one_next h g i e es at_i same_es below found)) (take_history (i + 1) h lawful)
 
 -- with the entry at a place
-pub entry-lawful : (h g : History) (i : ℕ) (e : Entry) → IsHistory h → IsEntryAt h i g e → IsHistory (with_entry g e)
-entry-lawful h g i e lawful at = next-lawful h g i e h.entries lawful at.begins refl (slice_get_within h.entries i e at.stands) (sym (get_or_from_slice_get h.entries i e e at.stands))
+pub entry_lawful : (h g : History) (i : ℕ) (e : Entry) → IsHistory h → IsEntryAt h i g e → IsHistory (with_entry g e)
+entry_lawful h g i e lawful at = next_lawful h g i e h.entries lawful at.begins refl (slice_get_within h.entries i e at.stands) (sym (get_or_from_slice_get h.entries i e e at.stands))
 
 module _ (h : History) (i : ℕ) (e : Entry) (es : List Entry) (same_es : es ≡ h.entries) (below : i < length es) (found : e ≡ get_or es i e) where
-  next-is : with_entry (beginning i h) e ≡ beginning (i + 1) h
-  next-is = one-next h (beginning i h) i e es refl same_es below found
+  next_is : with_entry (beginning i h) e ≡ beginning (i + 1) h
+  next_is = one_next h (beginning i h) i e es refl same_es below found
 
-  pub judged-next : (j : Judge) → HasJudged j (with_entry (beginning i h) e) → HasJudged j (beginning (i + 1) h)
-  judged-next j seen = subst (HasJudged j) next-is seen
+  pub judged_next : (j : Judge) → HasJudged j (with_entry (beginning i h) e) → HasJudged j (beginning (i + 1) h)
+  judged_next j seen = subst (HasJudged j) next_is seen
 
-pub next-beginning : (h g k : History) (i : ℕ) (e : Entry) (es : List Entry) → g ≡ beginning i h → es ≡ h.entries → i < length es → e ≡ get_or es i e → k ≡ with_entry g e → k ≡ beginning (i + 1) h
-next-beginning h g k i e es at_i same_es below found is = is ∙ one-next h g i e es at_i same_es below found
+pub next_beginning : (h g k : History) (i : ℕ) (e : Entry) (es : List Entry) → g ≡ beginning i h → es ≡ h.entries → i < length es → e ≡ get_or es i e → k ≡ with_entry g e → k ≡ beginning (i + 1) h
+next_beginning h g k i e es at_i same_es below found is = is ∙ one_next h g i e es at_i same_es below found
 
 -- after the last entry
-pub all-played : (h g : History) (i : ℕ) (es : List Entry) → g ≡ beginning i h → es ≡ h.entries → length es ≤ i → g ≡ h
-all-played h g i es at_i same_es le =
+pub all_played : (h g : History) (i : ℕ) (es : List Entry) → g ≡ beginning i h → es ≡ h.entries → length es ≤ i → g ≡ h
+all_played h g i es at_i same_es le =
     let past : length h.entries ≤ i = subst (λ xs. length xs ≤ i) same_es le in
     at_i ∙ ap (λ xs. let k : History = record { seats = h.seats; entries = xs } in k) (take_all i h.entries past)
 
-pub judged-all : (h : History) (i : ℕ) (es : List Entry) (j : Judge) → es ≡ h.entries → length es ≤ i → HasJudged j (beginning i h) → HasJudged j h
-judged-all h i es j same_es le seen = subst (HasJudged j) (all-played h (beginning i h) i es refl same_es le) seen
+pub judged_all : (h : History) (i : ℕ) (es : List Entry) (j : Judge) → es ≡ h.entries → length es ≤ i → HasJudged j (beginning i h) → HasJudged j h
+judged_all h i es j same_es le seen = subst (HasJudged j) (all_played h (beginning i h) i es refl same_es le) seen

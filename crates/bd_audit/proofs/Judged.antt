@@ -9,7 +9,7 @@ use Rattle.bd_audit.specs.Replays.{IfUnlawful, with_entry, beginning, StopsAt}
 use Rattle.bd_audit.specs.declared.judging.AuditFault.{AuditFault}
 use Rattle.bd_audit.specs.declared.judging.AuditFault.TheVariants.{Unlawful}
 use Rattle.bd_audit.specs.Judging.{HasSeen, IsStop}
-use Rattle.bd_audit.proofs.Beginnings.{take-history}
+use Rattle.bd_audit.proofs.Beginnings.{take_history}
 
 -- an entry more changes nothing before it
 same_front : (h : History) (e : Entry) (n : ℕ) → n ≤ length h.entries → beginning n h ≡ beginning n (with_entry h e)
@@ -36,7 +36,7 @@ stops_here h e at here lawful fails = record {
 }
 
 is_stop : (h : History) (at : ℕ) → StopsAt h at → IsStop h (Some at)
-is_stop h at s = (λ lawful. s.stops (take-history (at + 1) h lawful), s)
+is_stop h at s = (λ lawful. s.stops (take_history (at + 1) h lawful), s)
 
 -- what a judge that goes on comes to where the engine refuses
 pub stops_now : (live : Live) (stop : Option ℕ) (h : History) (e : Entry) (f : AuditFault) (at : ℕ) → false ≡ is_some stop → f ≡ Unlawful at → HasSeen live stop h

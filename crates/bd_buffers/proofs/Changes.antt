@@ -6,19 +6,19 @@ use Rattle.bd_space.specs.Words.{changed}
 use Rattle.bd_keys.proofs.Rising.{pairs_head, pairs_tail}
 
 -- what each element keeps where those that pass are changed
-pub All-changed : {A : Type 0} (p : A → Bool) (f : A → A) (P : A → Type 0) → ((x : A) → P x → P (f x)) → (xs : List A) → All P xs → All P (changed p f xs)
-All-changed p f P k [] all = all
-All-changed p f P k (x ∷ xs) all =
+pub All_changed : {A : Type 0} (p : A → Bool) (f : A → A) (P : A → Type 0) → ((x : A) → P x → P (f x)) → (xs : List A) → All P xs → All P (changed p f xs)
+All_changed p f P k [] all = all
+All_changed p f P k (x ∷ xs) all =
     let head : P (cond (p x) (f x) x) = elim (p x) as (λ b. P (cond b (f x) x)) [ true ↦ k x (All-head P x xs all) | false ↦ All-head P x xs all ] in
-    All-cons P (cond (p x) (f x) x) (changed p f xs) head (All-changed p f P k xs (All-tail P x xs all))
+    All-cons P (cond (p x) (f x) x) (changed p f xs) head (All_changed p f P k xs (All-tail P x xs all))
 
 -- and what each has had
-pub All-unchanged : {A : Type 0} (p : A → Bool) (f : A → A) (P : A → Type 0) → ((x : A) → P (f x) → P x) → (xs : List A) → All P (changed p f xs) → All P xs
-All-unchanged p f P k [] all = all
-All-unchanged p f P k (x ∷ xs) all =
+pub All_unchanged : {A : Type 0} (p : A → Bool) (f : A → A) (P : A → Type 0) → ((x : A) → P (f x) → P x) → (xs : List A) → All P (changed p f xs) → All P xs
+All_unchanged p f P k [] all = all
+All_unchanged p f P k (x ∷ xs) all =
     let first = All-head P (cond (p x) (f x) x) (changed p f xs) all in
     let head : P x = before p f P k x (p x) first in
-    All-cons P x xs head (All-unchanged p f P k xs (All-tail P (cond (p x) (f x) x) (changed p f xs) all))
+    All-cons P x xs head (All_unchanged p f P k xs (All-tail P (cond (p x) (f x) x) (changed p f xs) all))
   where
     before : {A : Type 0} (p : A → Bool) (f : A → A) (P : A → Type 0) → ((x : A) → P (f x) → P x) → (x : A) (b : Bool) → P (cond b (f x) x) → P x
     before p f P k x true h = k x h
@@ -37,7 +37,7 @@ module _ {A : Type 0} (R : A → A → Type 0) where
   pairs_changed p f left right [] pairs = pairs
   pairs_changed p f left right (x ∷ xs) pairs =
       let rest = pairs_changed p f left right xs (pairs_tail R x xs pairs) in
-      let all = All-changed p f (R x) (right x) xs (pairs_head R x xs pairs) in
+      let all = All_changed p f (R x) (right x) xs (pairs_head R x xs pairs) in
       let front : All (R (cond (p x) (f x) x)) (changed p f xs) =
       elim (p x) as (λ b. All (R (cond b (f x) x)) (changed p f xs)) [ true ↦ (λ k d h. left x _ (all k d h)) | false ↦ all ]
       in

@@ -5,7 +5,7 @@ use Rattle.std.proofs.lemmas.Bool.{cases_lt}
 use Rattle.std.proofs.lemmas.List.{length_push, get_or_append_left, get_or_push}
 use Rattle.std.proofs.lemmas.List.Elements.{All-push}
 use Rattle.std.proofs.lemmas.List.Edits.{length-remove, get_or-remove_below, get_or-remove_above}
-use Rattle.bd_keys.proofs.Lists.{All-remove}
+use Rattle.bd_keys.proofs.Lists.{All_remove}
 use Rattle.bd_space.specs.declared.space.Buffer.{Buffer}
 use Rattle.bd_buffers.specs.declared.hole.Hole.{Hole}
 use Rattle.bd_buffers.specs.declared.ground.Ground.{Ground}
@@ -25,7 +25,7 @@ use Rattle.bd_space.specs.ReadItems.{hand_out}
 use Rattle.bd_buffers.specs.Bounds.{AreBounded}
 use Rattle.bd_buffers.specs.Sums.{AreNoted}
 use Rattle.bd_buffers.specs.Window.{IsWindow, Keeps, one_way_size}
-use Rattle.bd_buffers.proofs.Changes.{All-changed, All-unchanged}
+use Rattle.bd_buffers.proofs.Changes.{All_changed, All_unchanged}
 use Rattle.bd_buffers.proofs.Shares.{sums_handed, sums_without}
 use Rattle.bd_buffers.proofs.Kept.{window_handed, one_way_handed, window_removed, one_way_removed}
 use Rattle.bd_buffers.proofs.Fits.{filled, fit_begins}
@@ -134,7 +134,7 @@ holes_released size tail i bs holes b window is lt at =
     ])
     in
     let kept : All (λ h. IsEdge (remove bs i) h.end) holes = λ k d in'.
-    (let x = (get_or holes k d).end in All-remove (λ b. (x ≤ b.start) ⊎ (b.start + b.size ≤ x)) bs i lt (is.ends k d in')) in
+    (let x = (get_or holes k d).end in All_remove (λ b. (x ≤ b.start) ⊎ (b.start + b.size ≤ x)) bs i lt (is.ends k d in')) in
     record {
       spaced = spaced_released size tail s e 0 holes (omega arith) pos inside aligned (omega (arith, aligned, sized)) is.spaced none;
       within = let le = released_tail tail s e 0 holes pos is.spaced in let old = is.within in omega (arith, le, old);
@@ -156,10 +156,10 @@ holes_released size tail i bs holes b window is lt at =
 
 -- where one is handed out all lie where they did
 handed_free : (size q : ℕ) (p : Buffer → Bool) (bs : List Buffer) → IsFreeByte size bs q → IsFreeByte size (changed p hand_out bs) q
-handed_free size q p bs f = (f.0, All-changed p hand_out (λ b. (q < b.start) ⊎ (b.start + b.size ≤ q)) (λ b x. x) bs f.1)
+handed_free size q p bs f = (f.0, All_changed p hand_out (λ b. (q < b.start) ⊎ (b.start + b.size ≤ q)) (λ b x. x) bs f.1)
 
 free_handed : (size q : ℕ) (p : Buffer → Bool) (bs : List Buffer) → IsFreeByte size (changed p hand_out bs) q → IsFreeByte size bs q
-free_handed size q p bs f = (f.0, All-unchanged p hand_out (λ b. (q < b.start) ⊎ (b.start + b.size ≤ q)) (λ b x. x) bs f.1)
+free_handed size q p bs f = (f.0, All_unchanged p hand_out (λ b. (q < b.start) ⊎ (b.start + b.size ≤ q)) (λ b x. x) bs f.1)
 
 pub keeps_handed : (p : Buffer → Bool) (bs : List Buffer) (g : Ground) → Keeps bs g → Keeps (changed p hand_out bs) g
 keeps_handed p bs g is =
@@ -174,7 +174,7 @@ keeps_handed p bs g is =
         covered = λ q f. is.free.covered q (free_handed g.size q p bs f);
         ends = λ k d lt.
             let x = (get_or g.holes.items k d).end in
-            All-changed p hand_out (λ b. (x ≤ b.start) ⊎ (b.start + b.size ≤ x)) (λ b is. is) bs (is.free.ends k d lt);
+            All_changed p hand_out (λ b. (x ≤ b.start) ⊎ (b.start + b.size ≤ x)) (λ b is. is) bs (is.free.ends k d lt);
       };
       starts = spots_handed p bs g.spots is.starts;
       total = is.total ∙ sym (one_way_handed p bs);

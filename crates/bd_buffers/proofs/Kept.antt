@@ -5,7 +5,7 @@ use denote.Ref.{Bor}
 use Rattle.std.proofs.lemmas.List.Elements.{All-push}
 use Rattle.std.proofs.lemmas.List.Quantifiers.{all_pairs_push, all_pairs_remove}
 use Rattle.std.proofs.lemmas.List.Sums.{sum_by-cons}
-use Rattle.bd_keys.proofs.Lists.{All-remove}
+use Rattle.bd_keys.proofs.Lists.{All_remove}
 use Rattle.bd_space.specs.declared.space.Buffer.{Buffer}
 use Rattle.bd_space.specs.Words.{changed}
 use Rattle.bd_space.specs.Windows.{needed, start_for}
@@ -13,7 +13,7 @@ use Rattle.bd_space.specs.ReadItems.{hand_out}
 use Rattle.bd_keys.proofs.Found.{found_has}
 use Rattle.bd_buffers.specs.Buffer.{IsApart, IsPlaced, one_way_share}
 use Rattle.bd_buffers.specs.Window.{IsInBudget, IsWindow, one_way_size}
-use Rattle.bd_buffers.proofs.Changes.{All-changed, pairs_changed}
+use Rattle.bd_buffers.proofs.Changes.{All_changed, pairs_changed}
 use Rattle.bd_buffers.proofs.Places.{given_says}
 
 -- ---- the one-way sizes
@@ -110,7 +110,7 @@ window_removed size i bs d is lt =
       whole = is.whole;
       small = is.small;
       in_order = all_pairs_remove (λ x y. x.made < y.made) bs i lt is.in_order;
-      placed = All-remove (IsPlaced size) bs i lt is.placed;
+      placed = All_remove (IsPlaced size) bs i lt is.placed;
       apart = all_pairs_remove (λ x y. IsApart y.start y.size x) bs i lt is.apart;
       budget = omega (arith, less, old);
     }
@@ -126,7 +126,7 @@ window_handed size p bs is =
     record {
       whole = is.whole;
       small = is.small;
-      placed = All-changed p hand_out (IsPlaced size) (handed_placed size) bs is.placed;
+      placed = All_changed p hand_out (IsPlaced size) (handed_placed size) bs is.placed;
       in_order = pairs_changed (λ x y. x.made < y.made) p hand_out (λ x y lt. lt) (λ x y lt. lt) bs is.in_order;
       apart = pairs_changed (λ x y. IsApart y.start y.size x) p hand_out (λ x y apart. apart) (λ x y apart. apart) bs is.apart;
       budget = omega (arith, same, old);

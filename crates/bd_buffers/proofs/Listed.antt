@@ -11,7 +11,7 @@ use Rattle.bd_keys.specs.declared.key.WordKey.{WordKey}
 use Rattle.bd_keys.specs.declared.map.WordMap.{WordMap}
 use Rattle.bd_keys.specs.Keys.{same_word}
 use Rattle.bd_keys.specs.Look.{look}
-use Rattle.bd_keys.proofs.Keys.{word-eq, word-self}
+use Rattle.bd_keys.proofs.Keys.{word_eq, word_self}
 use Rattle.bd_keys.proofs.Rising.{Distinct, find_none, filter_at}
 use Rattle.bd_keys.proofs.Found.{none_found, find_gone, find_stays}
 use Rattle.bd_buffers.specs.Buffer.{IsApart, at_pointer}
@@ -26,10 +26,10 @@ spots_empty spots none = λ p. none (spot_key p)
 
 word_by : (p q : ℕ) (t b : Bool) → same_word (spot_key p) (spot_key q) ≡ t → (p == q) ≡ b → t ≡ b
 word_by p q true true e f = refl
-word_by p q true false e f = absurd (eqb-false p q f (ap (λ (k : WordKey). k.word) (word-eq (spot_key p) (spot_key q) e)))
+word_by p q true false e f = absurd (eqb-false p q f (ap (λ (k : WordKey). k.word) (word_eq (spot_key p) (spot_key q) e)))
 word_by p q false true e f =
     let same = eqb-true p q f in
-    absurd (false≢true (sym e ∙ ap (λ k. same_word (spot_key p) (spot_key k)) (sym same) ∙ word-self (spot_key p)))
+    absurd (false≢true (sym e ∙ ap (λ k. same_word (spot_key p) (spot_key k)) (sym same) ∙ word_self (spot_key p)))
 word_by p q false false e f = refl
 
 -- the keys of two pointers are the same where the pointers are

@@ -10,7 +10,7 @@ use Rattle.bd_space.specs.Seats.{lives_in}
 use Rattle.bd_space.specs.Spam.{detecting, with_spam_detection}
 use Rattle.bd_buffers.specs.declared.windows.Windows.{Windows}
 use Rattle.bd_buffers.specs.WindowsStand.{window_of, AreMade, WindowsOf, StandsFor, StandsIn}
-use Rattle.bd_buffers.proofs.Changes.{All-changed, pairs_changed}
+use Rattle.bd_buffers.proofs.Changes.{All_changed, pairs_changed}
 
 module _ (m : Process → Bool) (on : Bool) where
   windows_marked : (bs : List Buffer) (ps : List Process) → map (window_of bs) (changed m (detecting on) ps) ≡ map (window_of bs) ps
@@ -32,7 +32,7 @@ module _ (m : Process → Bool) (on : Bool) where
   made_marked : (bound : ℕ) (ps : List Process) (bs : List Buffer) → AreMade bound ps bs → AreMade bound (changed m (detecting on) ps) bs
   made_marked bound ps bs is = record {
     processes_in_order = pairs_changed (λ a b. a.made < b.made) m (detecting on) (λ x y lt. lt) (λ x y lt. lt) ps is.processes_in_order;
-    processes_before = All-changed m (detecting on) (λ q. q.made < bound) (λ x lt. lt) ps is.processes_before;
+    processes_before = All_changed m (detecting on) (λ q. q.made < bound) (λ x lt. lt) ps is.processes_before;
     buffers_in_order = is.buffers_in_order;
     buffers_before = is.buffers_before;
     received = All-weaker (λ (b : Buffer). lives_in ps b.receiver ≡ true) (λ b. lives_in (changed m (detecting on) ps) b.receiver ≡ true)

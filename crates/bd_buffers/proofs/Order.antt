@@ -13,7 +13,7 @@ use Rattle.bd_space.specs.Words.{changed}
 use Rattle.bd_space.specs.Seats.{lives_in}
 use Rattle.bd_space.specs.ReadItems.{hand_out}
 use Rattle.bd_buffers.specs.WindowsStand.{AreMade}
-use Rattle.bd_buffers.proofs.Changes.{All-changed, pairs_changed}
+use Rattle.bd_buffers.proofs.Changes.{All_changed, pairs_changed}
 
 -- ---- who lives
 
@@ -40,9 +40,9 @@ module _ {A : Type 0} (p : A → Bool) (P Q : A → Type 0) where
   first_filtered k x xs true e head rest = All-cons Q x (filter p xs) (k x e head) rest
   first_filtered k x xs false e head rest = rest
 
-  pub All-filtered : ((x : A) → p x ≡ true → P x → Q x) → (xs : List A) → All P xs → All Q (filter p xs)
-  All-filtered k [] all = λ i d h. absurd (omega arith)
-  All-filtered k (x ∷ xs) all = first_filtered k x xs (p x) refl (All-head P x xs all) (All-filtered k xs (All-tail P x xs all))
+  pub All_filtered : ((x : A) → p x ≡ true → P x → Q x) → (xs : List A) → All P xs → All Q (filter p xs)
+  All_filtered k [] all = λ i d h. absurd (omega arith)
+  All_filtered k (x ∷ xs) all = first_filtered k x xs (p x) refl (All-head P x xs all) (All_filtered k xs (All-tail P x xs all))
 
 -- ---- each change
 
@@ -94,8 +94,8 @@ made_handed bound ps p bs is = record {
   processes_in_order = is.processes_in_order;
   processes_before = is.processes_before;
   buffers_in_order = pairs_changed (λ (a : Buffer) (b : Buffer). a.made < b.made) p hand_out (λ a b h. h) (λ a b h. h) bs is.buffers_in_order;
-  buffers_before = All-changed p hand_out (λ b. b.made < bound) (λ b h. h) bs is.buffers_before;
-  received = All-changed p hand_out (λ b. lives_in ps b.receiver ≡ true) (λ b h. h) bs is.received;
+  buffers_before = All_changed p hand_out (λ b. b.made < bound) (λ b h. h) bs is.buffers_before;
+  received = All_changed p hand_out (λ b. lives_in ps b.receiver ≡ true) (λ b h. h) bs is.received;
 }
 
 pub process_gone : (bound p : ℕ) (ps : List Process) (bs : List Buffer) → AreMade bound ps bs
@@ -105,6 +105,6 @@ process_gone bound p ps bs is = record {
   processes_before = All-filter (λ q. not (q.made == p)) (λ q. q.made < bound) ps is.processes_before;
   buffers_in_order = AllPairs-filter (λ (a : Buffer) (b : Buffer). a.made < b.made) (λ b. not (b.receiver == p)) bs is.buffers_in_order;
   buffers_before = All-filter (λ b. not (b.receiver == p)) (λ b. b.made < bound) bs is.buffers_before;
-  received = All-filtered (λ b. not (b.receiver == p)) (λ b. lives_in ps b.receiver ≡ true) (λ b. lives_in (filter (λ q. not (q.made == p)) ps) b.receiver ≡ true)
+  received = All_filtered (λ b. not (b.receiver == p)) (λ b. lives_in ps b.receiver ≡ true) (λ b. lives_in (filter (λ q. not (q.made == p)) ps) b.receiver ≡ true)
       (λ b other lives. lives_after ps p b.receiver other lives) bs is.received;
 }

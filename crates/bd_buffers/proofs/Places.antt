@@ -22,20 +22,20 @@ abbrev step_to : (ℕ → Bool) → ℕ → ℕ → Bool → Option ℕ
 step_to p n k true = Some k
 step_to p n k false = least n (k + 1) p
 
-least-at : (p : ℕ → Bool) (n k : ℕ) (b : Bool) → p k ≡ b → least (suc n) k p ≡ step_to p n k b
-least-at p n k b e = ap (step_to p n k) e
+least_at : (p : ℕ → Bool) (n k : ℕ) (b : Bool) → p k ≡ b → least (suc n) k p ≡ step_to p n k b
+least_at p n k b e = ap (step_to p n k) e
 
-pub least-none : (p : ℕ → Bool) (n k : ℕ) → ((j : ℕ) → k ≤ j → j < k + n → p j ≡ false) → least n k p ≡ None
-least-none p zero k fails = refl
-least-none p (suc n) k fails =
-    least-at p n k false (fails k (omega arith) (omega arith)) ∙ least-none p n (k + 1) (λ j low high. fails j (omega arith) (omega arith))
+pub least_none : (p : ℕ → Bool) (n k : ℕ) → ((j : ℕ) → k ≤ j → j < k + n → p j ≡ false) → least n k p ≡ None
+least_none p zero k fails = refl
+least_none p (suc n) k fails =
+    least_at p n k false (fails k (omega arith) (omega arith)) ∙ least_none p n (k + 1) (λ j low high. fails j (omega arith) (omega arith))
 
-pub least-is : (p : ℕ → Bool) (n k m : ℕ) → k ≤ m → m < k + n → ((j : ℕ) → k ≤ j → j < m → p j ≡ false) → p m ≡ true → least n k p ≡ Some m
-least-is p zero k m low high fails passes = absurd (omega arith)
-least-is p (suc n) k m low high fails passes =
+pub least_is : (p : ℕ → Bool) (n k m : ℕ) → k ≤ m → m < k + n → ((j : ℕ) → k ≤ j → j < m → p j ≡ false) → p m ≡ true → least n k p ≡ Some m
+least_is p zero k m low high fails passes = absurd (omega arith)
+least_is p (suc n) k m low high fails passes =
     elim (cases_lt k m) [
-      | inl lt ↦ least-at p n k false (fails k (omega arith) lt) ∙ least-is p n (k + 1) m (omega arith) (omega arith) (λ j above below. fails j (omega arith) below) passes
-      | inr le ↦ (let same : m ≡ k = omega arith in least-at p n k true (ap p (sym same) ∙ passes) ∙ ap (λ i. Some i) (sym same))
+      | inl lt ↦ least_at p n k false (fails k (omega arith) lt) ∙ least_is p n (k + 1) m (omega arith) (omega arith) (λ j above below. fails j (omega arith) below) passes
+      | inr le ↦ (let same : m ≡ k = omega arith in least_at p n k true (ap p (sym same) ∙ passes) ∙ ap (λ i. Some i) (sym same))
     ]
 
 -- what the least number is
@@ -59,9 +59,9 @@ first_says p n k m false t rest f =
       below = λ j above under. elim (cases_lt k j) [ inl lt ↦ is.below j (omega arith) under | inr le ↦ (let same : j ≡ k = omega arith in ap p same ∙ t) ];
     }
 
-pub least-says : (p : ℕ → Bool) (n k m : ℕ) → least n k p ≡ Some m → IsLeast p n k m
-least-says p zero k m e = cc
-least-says p (suc n) k m e = first_says p n k m (p k) refl (least-says p n (k + 1) m) e
+pub least_says : (p : ℕ → Bool) (n k m : ℕ) → least n k p ≡ Some m → IsLeast p n k m
+least_says p zero k m e = cc
+least_says p (suc n) k m e = first_says p n k m (p k) refl (least_says p n (k + 1) m) e
 
 first_misses : (p : ℕ → Bool) (n k : ℕ) (b : Bool) → p k ≡ b → (least n (k + 1) p ≡ None → (j : ℕ) → k + 1 ≤ j → j < k + 1 + n → p j ≡ false)
     → step_to p n k b ≡ None → (j : ℕ) → k ≤ j → j < k + suc n → p j ≡ false
@@ -69,9 +69,9 @@ first_misses p n k true t rest f j low high = cc
 first_misses p n k false t rest f j low high =
     elim (cases_lt k j) [ inl lt ↦ rest f j (omega arith) (omega arith) | inr le ↦ (let same : j ≡ k = omega arith in ap p same ∙ t) ]
 
-pub least-misses : (p : ℕ → Bool) (n k : ℕ) → least n k p ≡ None → (j : ℕ) → k ≤ j → j < k + n → p j ≡ false
-least-misses p zero k e j low high = absurd (omega arith)
-least-misses p (suc n) k e j low high = first_misses p n k (p k) refl (least-misses p n (k + 1)) e j low high
+pub least_misses : (p : ℕ → Bool) (n k : ℕ) → least n k p ≡ None → (j : ℕ) → k ≤ j → j < k + n → p j ≡ false
+least_misses p zero k e j low high = absurd (omega arith)
+least_misses p (suc n) k e j low high = first_misses p n k (p k) refl (least_misses p n (k + 1)) e j low high
 
 -- ---- room
 
@@ -123,7 +123,7 @@ place_is size buffers n k filled is =
     let fits = λ (j : ℕ). fits_in size buffers n (8 * j) in
     let inside : 8 * k + n ≤ size = is.room.inside in
     let below : (j : ℕ) → 0 ≤ j → j < k → fits j ≡ false = λ j low high. no_lower size buffers n k j is high in
-    ap (option_map (λ j. 8 * j)) (least-is fits (size / 8) 0 k (omega arith) (omega arith) below (free_fits size buffers n (8 * k) is.room))
+    ap (option_map (λ j. 8 * j)) (least_is fits (size / 8) 0 k (omega arith) (omega arith) below (free_fits size buffers n (8 * k) is.room))
 
 -- where the least room is, there is the place
 pub start_at : (size : ℕ) (buffers : List Buffer) (n p : ℕ) → 8 ≤ n → IsLeastFree size buffers n p → start_in size buffers n ≡ Some p
@@ -137,7 +137,7 @@ pub no_start_at : (size : ℕ) (buffers : List Buffer) (n : ℕ) → ((p : ℕ) 
 unfolding start_in
 no_start_at size buffers n none =
     let fits = λ (j : ℕ). fits_in size buffers n (8 * j) in
-    ap (option_map (λ j. 8 * j)) (least-none fits (size / 8) 0 (λ j low high.
+    ap (option_map (λ j. 8 * j)) (least_none fits (size / 8) 0 (λ j low high.
     false_from_ne_true (fits j) (λ t. none (8 * j) (fits_free size buffers n (8 * j) (omega arith) t))))
 
 some_place : (size : ℕ) (buffers : List Buffer) (n p : ℕ) (o : Option ℕ) → least (size / 8) 0 (λ j. fits_in size buffers n (8 * j)) ≡ o
@@ -145,7 +145,7 @@ some_place : (size : ℕ) (buffers : List Buffer) (n p : ℕ) (o : Option ℕ) �
 some_place size buffers n p None e f = cc
 some_place size buffers n p (Some k) e f =
     let fits = λ (j : ℕ). fits_in size buffers n (8 * j) in
-    let is = least-says fits (size / 8) 0 k e in
+    let is = least_says fits (size / 8) 0 k e in
     let at : 8 * k ≡ p = cc in
     let P : ℕ → Type 0 = λ q. IsLeastFree size buffers n q in
     subst P at (record {
@@ -174,7 +174,7 @@ no_place size buffers n p None filled e f room =
     let inside : p + n ≤ size = room.inside in
     let whole = eight_times p room.aligned in
     let Q : ℕ → Type 0 = λ r. IsFree size buffers n r in
-    let missed : fits (p / 8) ≡ false = least-misses fits (size / 8) 0 e (p / 8) (omega arith) (omega arith) in
+    let missed : fits (p / 8) ≡ false = least_misses fits (size / 8) 0 e (p / 8) (omega arith) (omega arith) in
     let met : fits (p / 8) ≡ true = free_fits size buffers n (8 * (p / 8)) (subst Q whole room) in
     cc
 

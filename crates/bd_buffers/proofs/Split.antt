@@ -37,20 +37,20 @@ EndBefore p i holes = (k : ℕ) (d : Hole) → k < i → (get_or holes k d).end 
 pub before_of : (xs holes : List Hole) (p i : ℕ) → xs ≡ holes → ((k : ℕ) (d : Hole) → 0 ≤ k → k < i → (get_or xs k d).end < p) → EndBefore p i holes
 before_of xs holes p i e point = λ k d lt. rw e at (point k d (omega arith) lt)
 
-released-past : (s e tail : ℕ) (h : Hole) (hs : List Hole) → h.end < s → released s e tail (h ∷ hs) ≡ after h (released s e tail hs)
+released_past : (s e tail : ℕ) (h : Hole) (hs : List Hole) → h.end < s → released s e tail (h ∷ hs) ≡ after h (released s e tail hs)
 unfolding released
-released-past s e tail h hs past = rw (le-ltb s h.end (omega arith), ne_eqb h.end s (λ eq. absurd (omega (arith, eq)))) refl
+released_past s e tail h hs past = rw (le-ltb s h.end (omega arith), ne_eqb h.end s (λ eq. absurd (omega (arith, eq)))) refl
 
 pub released_behind : (s e tail i : ℕ) (holes : List Hole) → i ≤ length holes → EndBefore s i holes → released s e tail holes ≡ behind (take i holes) (released s e tail (drop i holes))
 released_behind s e tail zero holes le before = refl
 released_behind s e tail (suc i) [] le before = absurd (omega arith)
 released_behind s e tail (suc i) (h ∷ hs) le before =
-    released-past s e tail h hs (before zero h (omega arith))
+    released_past s e tail h hs (before zero h (omega arith))
     ∙ ap (after h) (released_behind s e tail i hs (omega arith) (λ k d lt. before (suc k) d (omega arith)))
 
-taken-past : (p n tail : ℕ) (h : Hole) (hs : List Hole) → h.start < p → taken p n tail (h ∷ hs) ≡ after h (taken p n tail hs)
+taken_past : (p n tail : ℕ) (h : Hole) (hs : List Hole) → h.start < p → taken p n tail (h ∷ hs) ≡ after h (taken p n tail hs)
 unfolding taken
-taken-past p n tail h hs past = rw (ne_eqb h.start p (λ eq. absurd (omega (arith, eq)))) refl
+taken_past p n tail h hs past = rw (ne_eqb h.start p (λ eq. absurd (omega (arith, eq)))) refl
 
 pub taken_behind : (p n tail low i : ℕ) (holes : List Hole) → i ≤ length holes → Spaced tail low holes → EndBefore p i holes
     → taken p n tail holes ≡ behind (take i holes) (taken p n tail (drop i holes))
@@ -58,7 +58,7 @@ taken_behind p n tail low zero holes le sp before = refl
 taken_behind p n tail low (suc i) [] le sp before = absurd (omega arith)
 taken_behind p n tail low (suc i) (h ∷ hs) le sp before =
     let ends = before zero h (omega arith) in
-    taken-past p n tail h hs (omega (arith, sp.1, ends))
+    taken_past p n tail h hs (omega (arith, sp.1, ends))
     ∙ ap (after h) (taken_behind p n tail (h.end + 1) i hs (omega arith) sp.4 (λ k d lt. before (suc k) d (omega arith)))
 
 -- ---- taking
@@ -90,9 +90,9 @@ hole_at p n tail i xs holes h e point sp begins lt at =
     let here = begins_at p n tail 0 i holes h lt sp begins before from in
     record { within = lt; before = before; at = at; start = ap (λ (x : Hole). x.start) at ∙ here.0 }
 
-taken-at : (p n tail : ℕ) (h : Hole) (hs : List Hole) → h.start ≡ p → taken p n tail (h ∷ hs) ≡ record { holes = shortened n h ∷ hs; tail = tail }
+taken_at : (p n tail : ℕ) (h : Hole) (hs : List Hole) → h.start ≡ p → taken p n tail (h ∷ hs) ≡ record { holes = shortened n h ∷ hs; tail = tail }
 unfolding taken
-taken-at p n tail h hs here = rw (eq-eqb h.start p here) refl
+taken_at p n tail h hs here = rw (eq-eqb h.start p here) refl
 
 split_at : (holes : List Hole) (i : ℕ) (h : Hole) → i < length holes → h ≡ get_or holes i h → drop i holes ≡ h ∷ drop (i + 1) holes
 split_at holes i h lt is = drop_more holes i h lt ∙ ap (λ (x : Hole). x ∷ drop (i + 1) holes) (sym is)
@@ -121,7 +121,7 @@ taken_hole p n tail low i holes h sp is =
     let new : Hole = record { start = p + n; end = h.end } in
     let same : shortened n h ≡ new = ap (λ (k : ℕ). shortened n (record h { start = k })) start in
     let one : taken p n tail (drop i holes) ≡ record { holes = new ∷ drop (i + 1) holes; tail = tail } =
-    ap (taken p n tail) (split_at holes i h lt is.at) ∙ taken-at p n tail h (drop (i + 1) holes) start
+    ap (taken p n tail) (split_at holes i h lt is.at) ∙ taken_at p n tail h (drop (i + 1) holes) start
     ∙ ap (λ (x : Hole). record { holes = x ∷ drop (i + 1) holes; tail = tail }) same in
     taken_behind p n tail low i holes (omega (arith, lt)) sp is.before ∙ ap (behind (take i holes)) one
     ∙ ap (λ xs. record { holes = xs; tail = tail }) (sym (set_split holes i new lt ∙ rw (← add-one) refl))
@@ -152,17 +152,17 @@ pub joined_apart : (s e tail i : ℕ) (holes : List Hole) (h : Hole) → i < len
     → joined s e tail (drop i holes) ≡ record { holes = record { start = s; end = e } ∷ drop i holes; tail = tail }
 joined_apart s e tail i holes h lt is apart = rw (split_at holes i h lt is) (rw (ne_eqb e h.start (λ eq. apart (sym eq))) refl)
 
-released-touch : (s e tail : ℕ) (h : Hole) (hs : List Hole) → h.end ≡ s → released s e tail (h ∷ hs) ≡ joined h.start e tail hs
+released_touching : (s e tail : ℕ) (h : Hole) (hs : List Hole) → h.end ≡ s → released s e tail (h ∷ hs) ≡ joined h.start e tail hs
 unfolding released
-released-touch s e tail h hs touch = rw (le-ltb s h.end (omega (arith, touch)), eq-eqb h.end s touch) refl
+released_touching s e tail h hs touch = rw (le-ltb s h.end (omega (arith, touch)), eq-eqb h.end s touch) refl
 
-released-before : (s e tail : ℕ) (h : Hole) (hs : List Hole) → s < h.end → released s e tail (h ∷ hs) ≡ joined s e tail (h ∷ hs)
+released_before : (s e tail : ℕ) (h : Hole) (hs : List Hole) → s < h.end → released s e tail (h ∷ hs) ≡ joined s e tail (h ∷ hs)
 unfolding released
-released-before s e tail h hs before = rw (lt-ltb s h.end before) refl
+released_before s e tail h hs before = rw (lt-ltb s h.end before) refl
 
-released-last : (s e tail i : ℕ) (holes : List Hole) → length holes ≤ i → released s e tail (drop i holes) ≡ joined s e tail (drop i holes)
+released_last : (s e tail i : ℕ) (holes : List Hole) → length holes ≤ i → released s e tail (drop i holes) ≡ joined s e tail (drop i holes)
 unfolding released
-released-last s e tail i holes le = rw (drop_all i holes le) refl
+released_last s e tail i holes le = rw (drop_all i holes le) refl
 
 pub no_hole : Hole
 no_hole = record { start = 0; end = 0 }
@@ -171,7 +171,7 @@ no_hole = record { start = 0; end = 0 }
 pub released_touch : (s e tail i : ℕ) (holes left : List Hole) (h : Hole) → i < length holes → EndBefore s i holes → h ≡ get_or holes i h → h.end ≡ s → left ≡ remove holes i
     → released s e tail holes ≡ behind (take i left) (joined h.start e tail (drop i left))
 released_touch s e tail i holes left h lt before is touch left-is =
-    let one : released s e tail (drop i holes) ≡ joined h.start e tail (drop (i + 1) holes) = ap (released s e tail) (split_at holes i h lt is) ∙ released-touch s e tail h (drop (i + 1) holes) touch in
+    let one : released s e tail (drop i holes) ≡ joined h.start e tail (drop (i + 1) holes) = ap (released s e tail) (split_at holes i h lt is) ∙ released_touching s e tail h (drop (i + 1) holes) touch in
     let len : length (take i holes) ≡ i = omega (arith, length-take i holes) in
     let front : take i left ≡ take i holes = ap (take i) left-is ∙ take_at (take i holes) (drop (suc i) holes) i len in
     let back : drop i left ≡ drop (i + 1) holes = ap (drop i) left-is ∙ drop_at (take i holes) (drop (suc i) holes) i len ∙ rw add-one refl in
@@ -183,11 +183,11 @@ pub released_else : (s e tail i : ℕ) (holes : List Hole) → i ≤ length hole
 released_else s e tail i holes le before later =
     released_behind s e tail i holes le before
     ∙ ap (behind (take i holes)) (elim (cases_lt i (length holes)) [
-      | inr ge ↦ released-last s e tail i holes ge
+      | inr ge ↦ released_last s e tail i holes ge
       | inl lt ↦
           let h = get_or holes i no_hole in
           let split : drop i holes ≡ h ∷ drop (i + 1) holes = drop_more holes i no_hole lt in
-          ap (released s e tail) split ∙ released-before s e tail h (drop (i + 1) holes) (later no_hole lt) ∙ ap (joined s e tail) (sym split)
+          ap (released s e tail) split ∙ released_before s e tail h (drop (i + 1) holes) (later no_hole lt) ∙ ap (joined s e tail) (sym split)
     ])
 
 -- as the parts are

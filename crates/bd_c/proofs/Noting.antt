@@ -6,17 +6,17 @@ use Rattle.bd_engine.specs.Readiness.{has_seat, flipped}
 use Rattle.bd_c.specs.declared.live.OwnedLive.{OwnedLive}
 use Rattle.bd_c.specs.LivePolls.{AreNoted}
 
-all-false : (m k : ℕ) → get_or (replicate m false) k false ≡ false
-all-false zero k = refl
-all-false (suc m) zero = refl
-all-false (suc m) (suc k) = all-false m k
+all_false : (m k : ℕ) → get_or (replicate m false) k false ≡ false
+all_false zero k = refl
+all_false (suc m) zero = refl
+all_false (suc m) (suc k) = all_false m k
 
 -- a list that is cut to n, or filled up with false, has what it had below n
-resized-same : (n m : ℕ) (bs : List Bool) (k : ℕ) → k < n → get_or (take n bs ++ replicate m false) k false ≡ get_or bs k false
-resized-same zero m bs k lt = absurd (omega (arith, lt))
-resized-same (suc n) m [] k lt = all-false m k
-resized-same (suc n) m (b ∷ bs) zero lt = refl
-resized-same (suc n) m (b ∷ bs) (suc k) lt = resized-same n m bs k (omega (arith, lt))
+resized_same : (n m : ℕ) (bs : List Bool) (k : ℕ) → k < n → get_or (take n bs ++ replicate m false) k false ≡ get_or bs k false
+resized_same zero m bs k lt = absurd (omega (arith, lt))
+resized_same (suc n) m [] k lt = all_false m k
+resized_same (suc n) m (b ∷ bs) zero lt = refl
+resized_same (suc n) m (b ∷ bs) (suc k) lt = resized_same n m bs k (omega (arith, lt))
 
 -- seats that were noted in such a list
 pub polled : (h : History) (x y : OwnedLive) (seats : List ℕ) (mid new : List Bool) (changed : List ℕ) (m : ℕ) → mid ≡ take x.live.seats x.noted.items ++ replicate m false → x.live.seats ≡ length mid
@@ -35,4 +35,4 @@ polled h x y seats mid new changed m is all new_is changed_is seen listed once i
 }
   where
     same : (seat : ℕ) → seat < x.live.seats → get_or mid seat false ≡ get_or x.noted.items seat false
-    same seat lt = ap (λ bs. get_or bs seat false) is ∙ resized-same x.live.seats m x.noted.items seat lt
+    same seat lt = ap (λ bs. get_or bs seat false) is ∙ resized_same x.live.seats m x.noted.items seat lt

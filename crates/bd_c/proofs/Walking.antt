@@ -11,7 +11,7 @@ use Rattle.bd_parcel.specs.declared.fault.WalkFault.{WalkFault}
 use Rattle.bd_parcel.specs.declared.fault.WalkFault.TheVariants.{Size, Bad, Unsupported}
 use Rattle.bd_parcel.specs.Parcels.{offsets_in, supported_types, unsupported_types, is_placed, type_at, fault_at, fault_in, first_of_two}
 use Rattle.bd_parcel.specs.Reading.{object_at, objects_at}
-use Rattle.bd_parcel.proofs.Offsets.{length-offsets_in, eight_front}
+use Rattle.bd_parcel.proofs.Offsets.{length_offsets_in, eight_front}
 use Rattle.bd_parcel.proofs.Walks.{start_at}
 use Rattle.bd_c.specs.declared.walks.WalkInC.{WalkInC}
 use Rattle.bd_c.specs.Walks.{judged, next_object, with_index}
@@ -39,7 +39,7 @@ nothing (o ∷ os) e = absurd (omega arith)
 
 pub one_offset : (xs : List ℕ) → length xs ≡ 8 → offsets_in xs ≡ long_at 0 xs ∷ []
 one_offset xs len =
-    eight_front xs (omega arith) ∙ ap (λ (os : List ℕ). long_at 0 xs ∷ os) (nothing (offsets_in (drop 8 xs)) (omega (arith, length-offsets_in (drop 8 xs), length-drop 8 xs)))
+    eight_front xs (omega arith) ∙ ap (λ (os : List ℕ). long_at 0 xs ∷ os) (nothing (offsets_in (drop 8 xs)) (omega (arith, length_offsets_in (drop 8 xs), length-drop 8 xs)))
 
 -- ---- its fault
 
@@ -96,10 +96,10 @@ pub sound : (bytes xs starts : List ℕ) (objects : List FlatObject) (end i : �
     → fault_in bytes (offsets_in xs) ≡ None → starts ≡ offsets_in xs → objects ≡ objects_at bytes (offsets_in xs)
     → slice_get objects 0 ≡ Some x → slice_get starts 0 ≡ Some start → Ok (Some (x, start)) ≡ judged bytes (fault_at bytes end i (long_at 0 xs)) (long_at 0 xs)
 unfolding again
-sound bytes xs starts objects end i x start len le none starts-are objects-are at-x at-start =
+sound bytes xs starts objects end i x start len le none starts-are objects-are at-x at_start =
     let is : fault_at bytes end i (long_at 0 xs) ≡ None = behind bytes end i (long_at 0 xs) le ∙ alone bytes xs i len ∙ ap (λ (y : Option WalkFault). again y i) none in
     let one = one_offset xs len in
-    let begins : Some start ≡ Some (long_at 0 xs) = sym at-start ∙ ap (λ (os : List ℕ). slice_get os 0) (starts-are ∙ one) in
+    let begins : Some start ≡ Some (long_at 0 xs) = sym at_start ∙ ap (λ (os : List ℕ). slice_get os 0) (starts-are ∙ one) in
     let stands : Some x ≡ Some (object_at (long_at 0 xs) bytes) = sym at-x ∙ ap (λ (ys : List FlatObject). slice_get ys 0) (objects-are ∙ ap (λ (os : List ℕ). objects_at bytes os) one) in
     let same-start : start ≡ long_at 0 xs = cc in
     let same-x : x ≡ object_at (long_at 0 xs) bytes = cc in
@@ -112,7 +112,7 @@ odd bytes offsets w ne = rw (ne_eqb (length offsets % 8) 0 ne) refl
 
 pub at_end : (bytes offsets : List ℕ) (w : WalkInC) → length offsets % 8 ≡ 0 → length offsets / 8 ≤ w.index → Ok None ≡ next_object bytes offsets w
 at_end bytes offsets w whole le =
-    rw (eq-eqb (length offsets % 8) 0 whole, slice_get_past (offsets_in offsets) w.index (omega (arith, length-offsets_in offsets))) refl
+    rw (eq-eqb (length offsets % 8) 0 whole, slice_get_past (offsets_in offsets) w.index (omega (arith, length_offsets_in offsets))) refl
 
 pub at_next : (bytes offsets : List ℕ) (w : WalkInC) (o : ℕ) → length offsets % 8 ≡ 0 → 8 * w.index + 8 ≤ length offsets → o ≡ long_at (8 * w.index) offsets
     → judged bytes (fault_at bytes w.end w.index o) o ≡ next_object bytes offsets w

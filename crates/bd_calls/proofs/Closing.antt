@@ -10,35 +10,35 @@ use Rattle.bd_ways.specs.Tables.{Tells, MakesAt}
 use Rattle.bd_frames.specs.Words.{abandoned_in}
 use Rattle.bd_calls.specs.declared.table.CallTable.{CallTable}
 use Rattle.bd_calls.specs.Stands.{StandsFor}
-use Rattle.bd_calls.proofs.Settling.{one-steps}
-use Rattle.bd_calls.proofs.Choosing.{next, next-frames}
-use Rattle.bd_calls.proofs.InList.{In, found-in, found-nowhere, length-in, one-less}
+use Rattle.bd_calls.proofs.Settling.{one_steps}
+use Rattle.bd_calls.proofs.Choosing.{next, next_frames}
+use Rattle.bd_calls.proofs.InList.{In, found_in, found_nowhere, length_in, one_less}
 
 -- ---- one call closes
 
-pub next-fewer : (s : Space) (f : Frame) → In f s.frames → length (next s f).frames < length s.frames
-next-fewer s f i =
-    let less = one-less (λ g. not (is_frame f.made g)) s.frames f i (ap not (eq-eqb f.made f.made refl)) in
-    let count : length (next s f).frames ≡ length (filter (λ g. not (is_frame f.made g)) s.frames) = ap (λ (fs : List Frame). length fs) (next-frames s f.made f.caller) in
+pub next_fewer : (s : Space) (f : Frame) → In f s.frames → length (next s f).frames < length s.frames
+next_fewer s f i =
+    let less = one_less (λ g. not (is_frame f.made g)) s.frames f i (ap not (eq-eqb f.made f.made refl)) in
+    let count : length (next s f).frames ≡ length (filter (λ g. not (is_frame f.made g)) s.frames) = ap (λ (fs : List Frame). length fs) (next_frames s f.made f.caller) in
     omega (arith, less, count)
 
 -- ---- upwards
 
-pub up-none : (n : ℕ) (s : Space) → close_up n None s ≡ s
-up-none zero s = refl
-up-none (suc n) s = refl
+pub up_none : (n : ℕ) (s : Space) → close_up n None s ≡ s
+up_none zero s = refl
+up_none (suc n) s = refl
 
-pub up-opens : (n m : ℕ) (s : Space) (f : Frame) → find (λ g. is_frame m g && is_abandoned s.frames g) s.frames ≡ Some f
+pub up_opens : (n m : ℕ) (s : Space) (f : Frame) → find (λ g. is_frame m g && is_abandoned s.frames g) s.frames ≡ Some f
     → close_up (suc n) (Some m) s ≡ close_up n f.parent (next s f)
-up-opens n m s f found = ap at found
+up_opens n m s f found = ap at found
   where
     at : Option Frame → Space
     at None = s
     at (Some f) = close_up n f.parent (next s f)
 
-pub up-stays : (n m : ℕ) (s : Space) → find (λ g. is_frame m g && is_abandoned s.frames g) s.frames ≡ None → close_up n (Some m) s ≡ s
-up-stays zero m s none = refl
-up-stays (suc n) m s none = ap at none
+pub up_stays : (n m : ℕ) (s : Space) → find (λ g. is_frame m g && is_abandoned s.frames g) s.frames ≡ None → close_up n (Some m) s ≡ s
+up_stays zero m s none = refl
+up_stays (suc n) m s none = ap at none
   where
     at : Option Frame → Space
     at None = s
@@ -53,23 +53,23 @@ pub record IsUpAt (t : CallTable) (place : ℕ) (next : Option ℕ) (left all be
   pub goes_on : close_up left next mid ≡ whole
   pub fewer : length mid.frames + all ≤ begun + left
 
-pub up-begins : (t : CallTable) (place : ℕ) (made : Option ℕ) (left : ℕ) (s : Space) → StandsFor t s → s.steps ≡ place
+pub up_begins : (t : CallTable) (place : ℕ) (made : Option ℕ) (left : ℕ) (s : Space) → StandsFor t s → s.steps ≡ place
     → IsUpAt t place made left left (length s.frames) (close_up left made s)
-up-begins t place made left s stands at = record { mid = s; stands = stands; at = at; goes_on = refl; fewer = omega arith }
+up_begins t place made left s stands at = record { mid = s; stands = stands; at = at; goes_on = refl; fewer = omega arith }
 
 -- the call made here has closed
-pub up-more : (t u : CallTable) (place made left k all begun : ℕ) (f : Frame) (whole : Space) → left ≡ suc k → IsUpAt t place (Some made) left all begun whole
+pub up_more : (t u : CallTable) (place made left k all begun : ℕ) (f : Frame) (whole : Space) → left ≡ suc k → IsUpAt t place (Some made) left all begun whole
     → MakesAt place (StandsFor t) (StandsFor u) (close_up 1 (Some made)) → Tells (StandsFor t) (Some f) (λ s. abandoned_in s.frames made)
     → IsUpAt u place f.parent k all begun whole
-up-more t u place made left k all begun f whole is h makes tells =
+up_more t u place made left k all begun f whole is h makes tells =
     let found = sym (tells h.mid h.stands) in
-    let gone = next-fewer h.mid f (found-in _ h.mid.frames f found) in
+    let gone = next_fewer h.mid f (found_in _ h.mid.frames f found) in
     let before = h.fewer in
     record {
       mid = next h.mid f;
-      stands = subst (StandsFor u) (up-opens 0 made h.mid f found) (makes h.mid h.stands h.at);
-      at = one-steps h.mid (Some f) ∙ h.at;
-      goes_on = sym (up-opens k made h.mid f found) ∙ sym (ap (λ n. close_up n (Some made) h.mid) is) ∙ h.goes_on;
+      stands = subst (StandsFor u) (up_opens 0 made h.mid f found) (makes h.mid h.stands h.at);
+      at = one_steps h.mid (Some f) ∙ h.at;
+      goes_on = sym (up_opens k made h.mid f found) ∙ sym (ap (λ n. close_up n (Some made) h.mid) is) ∙ h.goes_on;
       fewer = omega (arith, gone, before, is);
     }
 
@@ -78,46 +78,46 @@ pub record IsUp (t : CallTable) (left all begun : ℕ) (whole : Space) : Type 0 
   pub stands : StandsFor t whole
   pub fewer : length whole.frames + all ≤ begun + left
 
-up-ends : (t : CallTable) (place left all begun : ℕ) (next : Option ℕ) (whole : Space) → (h : IsUpAt t place next left all begun whole)
+up_ends : (t : CallTable) (place left all begun : ℕ) (next : Option ℕ) (whole : Space) → (h : IsUpAt t place next left all begun whole)
     → close_up left next h.mid ≡ h.mid → IsUp t left all begun whole
-up-ends t place left all begun next whole h over =
+up_ends t place left all begun next whole h over =
     let is : h.mid ≡ whole = sym over ∙ h.goes_on in
     record { stands = subst (StandsFor t) is h.stands; fewer = subst (λ (s : Space). length s.frames + all ≤ begun + left) is h.fewer }
 
-pub up-done : (t : CallTable) (place left all begun : ℕ) (next : Option ℕ) (whole : Space) → next ≡ None → IsUpAt t place next left all begun whole → IsUp t left all begun whole
-up-done t place left all begun next whole none h = up-ends t place left all begun next whole h (ap (λ o. close_up left o h.mid) none ∙ up-none left h.mid)
+pub up_done : (t : CallTable) (place left all begun : ℕ) (next : Option ℕ) (whole : Space) → next ≡ None → IsUpAt t place next left all begun whole → IsUp t left all begun whole
+up_done t place left all begun next whole none h = up_ends t place left all begun next whole h (ap (λ o. close_up left o h.mid) none ∙ up_none left h.mid)
 
-pub up-all : (t : CallTable) (place left all begun : ℕ) (next : Option ℕ) (whole : Space) → left ≡ 0 → IsUpAt t place next left all begun whole → IsUp t left all begun whole
-up-all t place left all begun next whole none h = up-ends t place left all begun next whole h (ap (λ n. close_up n next h.mid) none)
+pub up_all : (t : CallTable) (place left all begun : ℕ) (next : Option ℕ) (whole : Space) → left ≡ 0 → IsUpAt t place next left all begun whole → IsUp t left all begun whole
+up_all t place left all begun next whole none h = up_ends t place left all begun next whole h (ap (λ n. close_up n next h.mid) none)
 
-pub up-stopped : (t : CallTable) (place made left all begun : ℕ) (whole : Space) → IsUpAt t place (Some made) left all begun whole
+pub up_stopped : (t : CallTable) (place made left all begun : ℕ) (whole : Space) → IsUpAt t place (Some made) left all begun whole
     → Tells (StandsFor t) None (λ s. abandoned_in s.frames made) → IsUp t left all begun whole
-up-stopped t place made left all begun whole h tells = up-ends t place left all begun (Some made) whole h (up-stays left made h.mid (sym (tells h.mid h.stands)))
+up_stopped t place made left all begun whole h tells = up_ends t place left all begun (Some made) whole h (up_stays left made h.mid (sym (tells h.mid h.stands)))
 
 -- no step is counted
-pub up-steps : (n : ℕ) (m : Option ℕ) (s : Space) → (close_up n m s).steps ≡ s.steps
-up-steps zero m s = refl
-up-steps (suc n) None s = refl
-up-steps (suc n) (Some m) s = at (find (λ g. is_frame m g && is_abandoned s.frames g) s.frames) refl (λ f. up-steps n f.parent (next s f))
+pub up_steps : (n : ℕ) (m : Option ℕ) (s : Space) → (close_up n m s).steps ≡ s.steps
+up_steps zero m s = refl
+up_steps (suc n) None s = refl
+up_steps (suc n) (Some m) s = at (find (λ g. is_frame m g && is_abandoned s.frames g) s.frames) refl (λ f. up_steps n f.parent (next s f))
   where
     at : (o : Option Frame) → find (λ g. is_frame m g && is_abandoned s.frames g) s.frames ≡ o → ((f : Frame) → (close_up n f.parent (next s f)).steps ≡ (next s f).steps)
         → (close_up (suc n) (Some m) s).steps ≡ s.steps
-    at None none rest = ap (λ (z : Space). z.steps) (up-stays (suc n) m s none)
-    at (Some f) found rest = ap (λ (z : Space). z.steps) (up-opens n m s f found) ∙ rest f ∙ one-steps s (Some f)
+    at None none rest = ap (λ (z : Space). z.steps) (up_stays (suc n) m s none)
+    at (Some f) found rest = ap (λ (z : Space). z.steps) (up_opens n m s f found) ∙ rest f ∙ one_steps s (Some f)
 
 -- more turns than frames change nothing
-pub up-enough : (n k : ℕ) (m : Option ℕ) (s : Space) → length s.frames ≤ n → length s.frames ≤ k → close_up n m s ≡ close_up k m s
-up-enough n k None s enough fuel = up-none n s ∙ sym (up-none k s)
-up-enough zero k (Some m) s enough fuel =
-    sym (up-stays k m s (found-nowhere _ s.frames (λ g i. absurd (let there = length-in s.frames g i in omega (arith, there, enough)))))
-up-enough (suc n) k (Some m) s enough fuel = at (find (λ g. is_frame m g && is_abandoned s.frames g) s.frames) refl (λ f. up-enough n (k - 1) f.parent (next s f))
+pub up_enough : (n k : ℕ) (m : Option ℕ) (s : Space) → length s.frames ≤ n → length s.frames ≤ k → close_up n m s ≡ close_up k m s
+up_enough n k None s enough fuel = up_none n s ∙ sym (up_none k s)
+up_enough zero k (Some m) s enough fuel =
+    sym (up_stays k m s (found_nowhere _ s.frames (λ g i. absurd (let there = length_in s.frames g i in omega (arith, there, enough)))))
+up_enough (suc n) k (Some m) s enough fuel = at (find (λ g. is_frame m g && is_abandoned s.frames g) s.frames) refl (λ f. up_enough n (k - 1) f.parent (next s f))
   where
     at : (o : Option Frame) → find (λ g. is_frame m g && is_abandoned s.frames g) s.frames ≡ o
         → ((f : Frame) → length (next s f).frames ≤ n → length (next s f).frames ≤ k - 1 → close_up n f.parent (next s f) ≡ close_up (k - 1) f.parent (next s f))
         → close_up (suc n) (Some m) s ≡ close_up k (Some m) s
-    at None none rest = up-stays (suc n) m s none ∙ sym (up-stays k m s none)
+    at None none rest = up_stays (suc n) m s none ∙ sym (up_stays k m s none)
     at (Some f) found rest =
-        let inside = found-in _ s.frames f found in
-        let fewer = next-fewer s f inside in
+        let inside = found_in _ s.frames f found in
+        let fewer = next_fewer s f inside in
         let ups : k ≡ suc (k - 1) = omega (arith, fewer, fuel) in
-        up-opens n m s f found ∙ rest f (omega (arith, fewer, enough)) (omega (arith, fewer, fuel)) ∙ sym (up-opens (k - 1) m s f found) ∙ sym (ap (λ i. close_up i (Some m) s) ups)
+        up_opens n m s f found ∙ rest f (omega (arith, fewer, enough)) (omega (arith, fewer, fuel)) ∙ sym (up_opens (k - 1) m s f found) ∙ sym (ap (λ i. close_up i (Some m) s) ups)

@@ -27,15 +27,15 @@ module _ (d : Frame → ℕ) (p : Frame → Bool) where
   both true b h k = k
   both false b h k = absurd cc
 
-  none-deeper_more : (m n : ℕ) → m ≤ n → (xs : List Frame) → none_deeper m xs ≡ true → none_deeper n xs ≡ true
-  none-deeper_more m n le [] h = refl
-  none-deeper_more m n le (x ∷ xs) h =
+  none_deeper_more : (m n : ℕ) → m ≤ n → (xs : List Frame) → none_deeper m xs ≡ true → none_deeper n xs ≡ true
+  none_deeper_more m n le [] h = refl
+  none_deeper_more m n le (x ∷ xs) h =
       let k = each (not (p x) || nat_le (d x) m) (none_deeper m xs) h in
-      both (not (p x) || nat_le (d x) n) (none_deeper n xs) (relaxed (p x) (d x) m n le k.0) (none-deeper_more m n le xs k.1)
+      both (not (p x) || nat_le (d x) n) (none_deeper n xs) (relaxed (p x) (d x) m n le k.0) (none_deeper_more m n le xs k.1)
 
-  none-deeper_where_none : (n : ℕ) (xs : List Frame) → list_any p xs ≡ false → none_deeper n xs ≡ true
-  none-deeper_where_none n [] h = refl
-  none-deeper_where_none n (x ∷ xs) h = at (p x) h (none-deeper_where_none n xs)
+  none_deeper_where_none : (n : ℕ) (xs : List Frame) → list_any p xs ≡ false → none_deeper n xs ≡ true
+  none_deeper_where_none n [] h = refl
+  none_deeper_where_none n (x ∷ xs) h = at (p x) h (none_deeper_where_none n xs)
     where
       at : (b : Bool) → (b || list_any p xs) ≡ false → (list_any p xs ≡ false → none_deeper n xs ≡ true) → ((not b || nat_le (d x) n) && none_deeper n xs) ≡ true
       at true k rest = absurd cc
@@ -74,29 +74,29 @@ module _ (d : Frame → ℕ) (p : Frame → Bool) where
     found = λ q k. first (q x) x (find q xs) k;
   }
 
-  deepest-there : (xs : List Frame) → list_any p xs ≡ true → Deepest xs
-  deepest-there [] h = absurd cc
-  deepest-there (x ∷ xs) h = at (p x) refl (list_any p xs) refl h (deepest-there xs)
+  deepest_there : (xs : List Frame) → list_any p xs ≡ true → Deepest xs
+  deepest_there [] h = absurd cc
+  deepest_there (x ∷ xs) h = at (p x) refl (list_any p xs) refl h (deepest_there xs)
     where
       at : (a : Bool) → p x ≡ a → (b : Bool) → list_any p xs ≡ b → (a || b) ≡ true → (list_any p xs ≡ true → Deepest xs) → Deepest (x ∷ xs)
       at false e false k none rest = absurd cc
       at false e true k any rest = let r = rest k in keeps x xs r (ap (λ b. not b || nat_le (d x) (d r.frame)) e)
-      at true e false k any rest = takes x xs e (none-deeper_where_none (d x) xs k)
+      at true e false k any rest = takes x xs e (none_deeper_where_none (d x) xs k)
       at true e true k any rest = let r = rest k in elim (cases_lt (d x) (d r.frame)) [
         | inl lt ↦ keeps x xs r (bounded (p x) (d x) (d r.frame) (omega arith))
-        | inr ge ↦ takes x xs e (none-deeper_more (d r.frame) (d x) (omega arith) xs r.deepest)
+        | inr ge ↦ takes x xs e (none_deeper_more (d r.frame) (d x) (omega arith) xs r.deepest)
       ]
 
-  none-found : (r : Frame → Bool) (xs : List Frame) → list_any p xs ≡ false → find (λ f. p f && r f) xs ≡ None
-  none-found r [] h = refl
-  none-found r (x ∷ xs) h = at (p x) h (none-found r xs)
+  none_found : (r : Frame → Bool) (xs : List Frame) → list_any p xs ≡ false → find (λ f. p f && r f) xs ≡ None
+  none_found r [] h = refl
+  none_found r (x ∷ xs) h = at (p x) h (none_found r xs)
     where
       at : (b : Bool) → (b || list_any p xs) ≡ false → (list_any p xs ≡ false → find (λ f. p f && r f) xs ≡ None) → cond (b && r x) (Some x) (find (λ f. p f && r f) xs) ≡ None
       at true k rest = absurd cc
       at false k rest = rest k
 
-pub in-no-call : (fs : List Frame) (seat : ℕ) → is_none (innermost_in fs seat) ≡ not (list_any (takes_part seat) fs)
-in-no-call fs seat = at (list_any (takes_part seat) fs) refl
+pub in_no_call : (fs : List Frame) (seat : ℕ) → is_none (innermost_in fs seat) ≡ not (list_any (takes_part seat) fs)
+in_no_call fs seat = at (list_any (takes_part seat) fs) refl
   where
     other : (o : Option Frame) → is_some o ≡ true → is_none o ≡ false
     other (Some f) h = refl
@@ -104,6 +104,6 @@ in-no-call fs seat = at (list_any (takes_part seat) fs) refl
 
     at : (b : Bool) → list_any (takes_part seat) fs ≡ b → is_none (innermost_in fs seat) ≡ not b
     at true e =
-        let r = deepest-there (depth_in fs) (takes_part seat) fs e in
+        let r = deepest_there (depth_in fs) (takes_part seat) fs e in
         other (innermost_in fs seat) (r.found (is_deepest_in fs seat) (both (depth_in fs) (takes_part seat) (takes_part seat r.frame) _ r.passes r.deepest))
-    at false e = ap is_none (none-found (depth_in fs) (takes_part seat) (λ f. list_all (λ g. not (takes_part seat g) || nat_le (depth_in fs g) (depth_in fs f)) fs) fs e)
+    at false e = ap is_none (none_found (depth_in fs) (takes_part seat) (λ f. list_all (λ g. not (takes_part seat g) || nat_le (depth_in fs g) (depth_in fs f)) fs) fs e)

@@ -5,26 +5,26 @@ use Rattle.std.specs.Option.{option_map}
 use Rattle.bd_space.specs.declared.space.Frame.{Frame}
 use Rattle.bd_space.specs.Frames.{made_of}
 use Rattle.bd_frames.specs.Places.{IsRising, IsAfter}
-use Rattle.bd_frames.proofs.Places.{rising-from}
+use Rattle.bd_frames.proofs.Places.{rising_from}
 use Rattle.bd_frames.specs.InOrder.{IsBefore, ParentsOlder}
 
 -- ---- tests
 
-pub second-true : (a b : Bool) → (a && b) ≡ true → b ≡ true
-second-true true b h = h
-second-true false b h = absurd (cc)
+pub second_true : (a b : Bool) → (a && b) ≡ true → b ≡ true
+second_true true b h = h
+second_true false b h = absurd (cc)
 
-pub either-true : (a b : Bool) → b ≡ true → (a || b) ≡ true
-either-true true b h = refl
-either-true false b h = h
+pub either_true : (a b : Bool) → b ≡ true → (a || b) ≡ true
+either_true true b h = refl
+either_true false b h = h
 
-pub both-true : (a b : Bool) → a ≡ true → b ≡ true → (a && b) ≡ true
-both-true true b h k = k
-both-true false b h k = absurd (cc)
+pub both_true : (a b : Bool) → a ≡ true → b ≡ true → (a && b) ≡ true
+both_true true b h k = k
+both_true false b h k = absurd (cc)
 
-pub not-true : (b : Bool) → not b ≡ true → b ≡ false
-not-true true h = absurd (cc)
-not-true false h = refl
+pub not_true : (b : Bool) → not b ≡ true → b ≡ false
+not_true true h = absurd (cc)
+not_true false h = refl
 
 -- ---- the frames of a list
 
@@ -33,17 +33,17 @@ abbrev pub In : Frame → List Frame → Type 0
 In f [] = ⊥
 In f (g ∷ gs) = (f ≡ g) ⊎ In f gs
 
-pub found-in : (p : Frame → Bool) (fs : List Frame) (f : Frame) → find p fs ≡ Some f → In f fs
-found-in p [] f h = absurd (cc)
-found-in p (g ∷ fs) f h = at (p g) h (found-in p fs f)
+pub found_in : (p : Frame → Bool) (fs : List Frame) (f : Frame) → find p fs ≡ Some f → In f fs
+found_in p [] f h = absurd (cc)
+found_in p (g ∷ fs) f h = at (p g) h (found_in p fs f)
   where
     at : (b : Bool) → cond b (Some g) (find p fs) ≡ Some f → (find p fs ≡ Some f → In f fs) → In f (g ∷ fs)
     at true e rest = inl (cc)
     at false e rest = inr (rest e)
 
 -- where all were made before n, so was the one that is found
-pub found-before : (p : Frame → Bool) (n : ℕ) (fs : List Frame) → IsRising 0 fs → IsAfter 0 fs n → IsBefore (option_map made_of (find p fs)) n
-found-before p n fs r h = at (find p fs) refl
+pub found_before : (p : Frame → Bool) (n : ℕ) (fs : List Frame) → IsRising 0 fs → IsAfter 0 fs n → IsBefore (option_map made_of (find p fs)) n
+found_before p n fs r h = at (find p fs) refl
   where
     up : (m : ℕ) (gs : List Frame) → IsRising m gs → IsAfter m gs n → m ≤ n
     up m [] r h = h
@@ -56,68 +56,68 @@ found-before p n fs r h = at (find p fs) refl
 
     at : (o : Option Frame) → find p fs ≡ o → IsBefore (option_map made_of o) n
     at None e = tt
-    at (Some f) e = each 0 fs f r h (found-in p fs f e)
+    at (Some f) e = each 0 fs f r h (found_in p fs f e)
 
-pub none-found : (p : Frame → Bool) (fs : List Frame) (g : Frame) → find p fs ≡ None → In g fs → p g ≡ false
-none-found p [] g h i = absurd i
-none-found p (f ∷ fs) g h i = at (p f) refl h i (none-found p fs g)
+pub none_found : (p : Frame → Bool) (fs : List Frame) (g : Frame) → find p fs ≡ None → In g fs → p g ≡ false
+none_found p [] g h i = absurd i
+none_found p (f ∷ fs) g h i = at (p f) refl h i (none_found p fs g)
   where
     at : (b : Bool) → p f ≡ b → cond b (Some f) (find p fs) ≡ None → (g ≡ f) ⊎ In g fs → (find p fs ≡ None → In g fs → p g ≡ false) → p g ≡ false
     at true e h i rest = absurd (cc)
     at false e h (inl is) rest = ap p is ∙ e
     at false e h (inr j) rest = rest h j
 
-pub found-nowhere : (p : Frame → Bool) (fs : List Frame) → ((g : Frame) → In g fs → p g ≡ false) → find p fs ≡ None
-found-nowhere p [] h = refl
-found-nowhere p (f ∷ fs) h = ap (λ b. cond b (Some f) (find p fs)) (h f (inl refl)) ∙ found-nowhere p fs (λ g i. h g (inr i))
+pub found_nowhere : (p : Frame → Bool) (fs : List Frame) → ((g : Frame) → In g fs → p g ≡ false) → find p fs ≡ None
+found_nowhere p [] h = refl
+found_nowhere p (f ∷ fs) h = ap (λ b. cond b (Some f) (find p fs)) (h f (inl refl)) ∙ found_nowhere p fs (λ g i. h g (inr i))
 
-pub any-in : (p : Frame → Bool) (fs : List Frame) → list_any p fs ≡ true → (g : Frame) × In g fs × (p g ≡ true)
-any-in p [] h = absurd (cc)
-any-in p (f ∷ fs) h = at (p f) refl h (any-in p fs)
+pub any_in : (p : Frame → Bool) (fs : List Frame) → list_any p fs ≡ true → (g : Frame) × In g fs × (p g ≡ true)
+any_in p [] h = absurd (cc)
+any_in p (f ∷ fs) h = at (p f) refl h (any_in p fs)
   where
     at : (b : Bool) → p f ≡ b → (b || list_any p fs) ≡ true → (list_any p fs ≡ true → (g : Frame) × In g fs × (p g ≡ true)) → (g : Frame) × In g (f ∷ fs) × (p g ≡ true)
     at true e h rest = (f, inl refl, e)
     at false e h rest = let k = rest h in (k.0, inr k.1, k.2)
 
-pub in-any : (p : Frame → Bool) (fs : List Frame) (g : Frame) → In g fs → p g ≡ true → list_any p fs ≡ true
-in-any p [] g i e = absurd i
-in-any p (f ∷ fs) g (inl is) e = ap (λ b. b || list_any p fs) (ap p (sym is) ∙ e)
-in-any p (f ∷ fs) g (inr j) e = either-true (p f) (list_any p fs) (in-any p fs g j e)
+pub in_any : (p : Frame → Bool) (fs : List Frame) (g : Frame) → In g fs → p g ≡ true → list_any p fs ≡ true
+in_any p [] g i e = absurd i
+in_any p (f ∷ fs) g (inl is) e = ap (λ b. b || list_any p fs) (ap p (sym is) ∙ e)
+in_any p (f ∷ fs) g (inr j) e = either_true (p f) (list_any p fs) (in_any p fs g j e)
 
-pub length-in : (fs : List Frame) (g : Frame) → In g fs → 1 ≤ length fs
-length-in [] g i = absurd i
-length-in (f ∷ fs) g i = omega arith
+pub length_in : (fs : List Frame) (g : Frame) → In g fs → 1 ≤ length fs
+length_in [] g i = absurd i
+length_in (f ∷ fs) g i = omega arith
 
 module _ (q : Frame → Bool) where
-  pub in-filter : (fs : List Frame) (g : Frame) → In g (filter q fs) → In g fs × (q g ≡ true)
-  in-filter [] g i = absurd i
-  in-filter (f ∷ fs) g i = at (q f) refl i (in-filter fs g)
+  pub in_filter : (fs : List Frame) (g : Frame) → In g (filter q fs) → In g fs × (q g ≡ true)
+  in_filter [] g i = absurd i
+  in_filter (f ∷ fs) g i = at (q f) refl i (in_filter fs g)
     where
       at : (b : Bool) → q f ≡ b → In g (cond b (f ∷ filter q fs) (filter q fs)) → (In g (filter q fs) → In g fs × (q g ≡ true)) → In g (f ∷ fs) × (q g ≡ true)
       at true e (inl is) rest = (inl is, ap q is ∙ e)
       at true e (inr j) rest = let k = rest j in (inr k.0, k.1)
       at false e j rest = let k = rest j in (inr k.0, k.1)
 
-  pub filter-in : (fs : List Frame) (g : Frame) → In g fs → q g ≡ true → In g (filter q fs)
-  filter-in [] g i e = absurd i
-  filter-in (f ∷ fs) g (inl is) e = subst (λ b. In g (cond b (f ∷ filter q fs) (filter q fs))) (sym (ap q (sym is) ∙ e)) (inl is)
-  filter-in (f ∷ fs) g (inr j) e = at (q f) (filter-in fs g j e)
+  pub filter_in : (fs : List Frame) (g : Frame) → In g fs → q g ≡ true → In g (filter q fs)
+  filter_in [] g i e = absurd i
+  filter_in (f ∷ fs) g (inl is) e = subst (λ b. In g (cond b (f ∷ filter q fs) (filter q fs))) (sym (ap q (sym is) ∙ e)) (inl is)
+  filter_in (f ∷ fs) g (inr j) e = at (q f) (filter_in fs g j e)
     where
       at : (b : Bool) → In g (filter q fs) → In g (cond b (f ∷ filter q fs) (filter q fs))
       at true k = inr k
       at false k = k
 
-  pub rising-filter : (n : ℕ) (fs : List Frame) → IsRising n fs → IsRising n (filter q fs)
-  rising-filter n [] r = tt
-  rising-filter n (f ∷ fs) r = at (q f) (rising-filter (suc f.made) fs r.1)
+  pub rising_filter : (n : ℕ) (fs : List Frame) → IsRising n fs → IsRising n (filter q fs)
+  rising_filter n [] r = tt
+  rising_filter n (f ∷ fs) r = at (q f) (rising_filter (suc f.made) fs r.1)
     where
       at : (b : Bool) → IsRising (suc f.made) (filter q fs) → IsRising n (cond b (f ∷ filter q fs) (filter q fs))
       at true k = (r.0, k)
-      at false k = rising-from n (suc f.made) (filter q fs) (omega (arith, r.0)) k
+      at false k = rising_from n (suc f.made) (filter q fs) (omega (arith, r.0)) k
 
-  pub older-filter : (fs : List Frame) → ParentsOlder fs → ParentsOlder (filter q fs)
-  older-filter [] r = tt
-  older-filter (f ∷ fs) r = at (q f) (older-filter fs r.1)
+  pub older_filter : (fs : List Frame) → ParentsOlder fs → ParentsOlder (filter q fs)
+  older_filter [] r = tt
+  older_filter (f ∷ fs) r = at (q f) (older_filter fs r.1)
     where
       at : (b : Bool) → ParentsOlder (filter q fs) → ParentsOlder (cond b (f ∷ filter q fs) (filter q fs))
       at true k = (r.0, k)
@@ -131,10 +131,10 @@ module _ (q : Frame → Bool) where
       at true k = omega (arith, k)
       at false k = omega (arith, k)
 
-  pub one-less : (fs : List Frame) (g : Frame) → In g fs → q g ≡ false → length (filter q fs) < length fs
-  one-less [] g i e = absurd i
-  one-less (f ∷ fs) g (inl is) e = let k = shorter fs in let none : q f ≡ false = ap q (sym is) ∙ e in rw none (omega (arith, k))
-  one-less (f ∷ fs) g (inr j) e = at (q f) (one-less fs g j e)
+  pub one_less : (fs : List Frame) (g : Frame) → In g fs → q g ≡ false → length (filter q fs) < length fs
+  one_less [] g i e = absurd i
+  one_less (f ∷ fs) g (inl is) e = let k = shorter fs in let none : q f ≡ false = ap q (sym is) ∙ e in rw none (omega (arith, k))
+  one_less (f ∷ fs) g (inr j) e = at (q f) (one_less fs g j e)
     where
       at : (b : Bool) → length (filter q fs) < length fs → length (cond b (f ∷ filter q fs) (filter q fs)) < length (f ∷ fs)
       at true k = omega (arith, k)

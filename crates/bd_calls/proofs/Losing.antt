@@ -7,7 +7,7 @@ use Rattle.bd_space.specs.declared.space.Work.{Work}
 use Rattle.bd_space.specs.Words.{is_some_and}
 use Rattle.bd_space.specs.Todo.{hands_out, work_on, is_on}
 use Rattle.bd_space.specs.ThreadExits.{is_lost_with}
-use Rattle.bd_todo.proofs.OnList.{any-filter}
+use Rattle.bd_todo.proofs.OnList.{any_filter}
 use Rattle.bd_turns.specs.declared.table.TurnTable.{TurnTable}
 use Rattle.bd_turns.specs.Stands.{TurnsAre}
 use Rattle.bd_calls.specs.Turn.{is_other_than}
@@ -24,9 +24,9 @@ pub record Losing (t : TurnTable) (rest : List Work) (whole : List Turn) : Type 
 
 -- ---- lists
 
-pub keeps-all : (ts : List Turn) → filter (λ t. true) ts ≡ ts
-keeps-all [] = refl
-keeps-all (t ∷ ts) = ap (λ us. t ∷ us) (keeps-all ts)
+pub keeps_all : (ts : List Turn) → filter (λ t. true) ts ≡ ts
+keeps_all [] = refl
+keeps_all (t ∷ ts) = ap (λ us. t ∷ us) (keeps_all ts)
 
 module _ (p q r : Turn → Bool) (same : (t : Turn) → p t ≡ (q t && r t)) where
   twice : (ts : List Turn) → filter p ts ≡ filter r (filter q ts)
@@ -52,23 +52,23 @@ apart (Some m) n b = ap (λ c. not (c || b)) (swap m n) ∙ neither (n == m) b
 
 -- ---- one after the other
 
-pub losing-begins : (t : TurnTable) (ts : List Turn) (ws rest : List Work) → rest ≡ ws → TurnsAre t ts → Losing t rest (filter (stays ws) ts)
-losing-begins t ts ws rest e are = record { left = ts; stands = are; goes_on = ap (λ (us : List Work). filter (stays us) ts) e }
+pub losing_begins : (t : TurnTable) (ts : List Turn) (ws rest : List Work) → rest ≡ ws → TurnsAre t ts → Losing t rest (filter (stays ws) ts)
+losing_begins t ts ws rest e are = record { left = ts; stands = are; goes_on = ap (λ (us : List Work). filter (stays us) ts) e }
 
-pub losing-next : (old new : TurnTable) (w : Work) (before rest : List Work) (whole : List Turn) → before ≡ w ∷ rest
+pub losing_next : (old new : TurnTable) (w : Work) (before rest : List Work) (whole : List Turn) → before ≡ w ∷ rest
     → ((ts : List Turn) → TurnsAre old ts → TurnsAre new (filter (is_other_than w.kind) ts)) → Losing old before whole → Losing new rest whole
-losing-next old new w before rest whole e goes h = record {
+losing_next old new w before rest whole e goes h = record {
   left = filter (is_other_than w.kind) h.left;
   stands = goes h.left h.stands;
   goes_on = sym (twice (stays (w ∷ rest)) (is_other_than w.kind) (stays rest) (λ t. apart (hands_out w.kind) t.made _) h.left)
       ∙ ap (λ (us : List Work). filter (stays us) h.left) (sym e) ∙ h.goes_on;
 }
 
-pub losing-ends : (t : TurnTable) (rest : List Work) (whole : List Turn) → rest ≡ [] → Losing t rest whole → TurnsAre t whole
-losing-ends t rest whole e h = subst (TurnsAre t) (sym (keeps-all h.left) ∙ ap (λ (us : List Work). filter (stays us) h.left) (sym e) ∙ h.goes_on) h.stands
+pub losing_ends : (t : TurnTable) (rest : List Work) (whole : List Turn) → rest ≡ [] → Losing t rest whole → TurnsAre t whole
+losing_ends t rest whole e h = subst (TurnsAre t) (sym (keeps_all h.left) ∙ ap (λ (us : List Work). filter (stays us) h.left) (sym e) ∙ h.goes_on) h.stands
 
 -- along a list, those that are lost with it
-pub lost-on : (works : List Work) (list : TodoList) (ts : List Turn) → filter (stays (work_on works (Some list))) ts ≡ filter (λ (t : Turn). not (is_lost_with works list t.made)) ts
-lost-on works list [] = refl
-lost-on works list (t ∷ ts) =
-    rw (any-filter (is_on list) (λ w. is_some_and (hands_out w.kind) (λ m. m == t.made)) works) (ap (λ us. cond (not (is_lost_with works list t.made)) (t ∷ us) us) (lost-on works list ts))
+pub lost_on : (works : List Work) (list : TodoList) (ts : List Turn) → filter (stays (work_on works (Some list))) ts ≡ filter (λ (t : Turn). not (is_lost_with works list t.made)) ts
+lost_on works list [] = refl
+lost_on works list (t ∷ ts) =
+    rw (any_filter (is_on list) (λ w. is_some_and (hands_out w.kind) (λ m. m == t.made)) works) (ap (λ us. cond (not (is_lost_with works list t.made)) (t ∷ us) us) (lost_on works list ts))

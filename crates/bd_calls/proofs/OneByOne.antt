@@ -16,7 +16,7 @@ use Rattle.bd_space.specs.Frames.{is_frame}
 use Rattle.bd_space.specs.Todo.{is_on, is_call, work_on}
 use Rattle.bd_space.specs.ReadItems.{serve}
 use Rattle.bd_space.specs.ThreadExits.{is_unread_on, unread_server, unread_frame, frame_without}
-use Rattle.bd_todo.proofs.OnList.{any-filter}
+use Rattle.bd_todo.proofs.OnList.{any_filter}
 use Rattle.bd_frames.specs.declared.table.FrameTable.{FrameTable}
 use Rattle.bd_frames.specs.Stands.{FramesAre, Makes}
 use Rattle.bd_frames.specs.Words.{lost, lost_frame, left_frame}
@@ -24,16 +24,16 @@ use Rattle.bd_calls.specs.Losing.{lost_frames}
 
 -- ---- tests that say the same
 
-changed-same : (p q : Frame → Bool) (g : Frame → Frame) → ((f : Frame) → p f ≡ q f) → (fs : List Frame) → changed p g fs ≡ changed q g fs
-changed-same p q g h [] = refl
-changed-same p q g h (f ∷ fs) = ap (λ b. cond b (g f) f ∷ changed p g fs) (h f) ∙ ap (λ l. cond (q f) (g f) f ∷ l) (changed-same p q g h fs)
+changed_same : (p q : Frame → Bool) (g : Frame → Frame) → ((f : Frame) → p f ≡ q f) → (fs : List Frame) → changed p g fs ≡ changed q g fs
+changed_same p q g h [] = refl
+changed_same p q g h (f ∷ fs) = ap (λ b. cond b (g f) f ∷ changed p g fs) (h f) ∙ ap (λ l. cond (q f) (g f) f ∷ l) (changed_same p q g h fs)
 
-changed-none : (g : Frame → Frame) (fs : List Frame) → changed (λ f. false) g fs ≡ fs
-changed-none g [] = refl
-changed-none g (f ∷ fs) = ap (λ l. f ∷ l) (changed-none g fs)
+changed_none : (g : Frame → Frame) (fs : List Frame) → changed (λ f. false) g fs ≡ fs
+changed_none g [] = refl
+changed_none g (f ∷ fs) = ap (λ l. f ∷ l) (changed_none g fs)
 
-equal-back : (m n : ℕ) → (m == n) ≡ (n == m)
-equal-back m n = at (m == n) refl (n == m) refl
+equal_back : (m n : ℕ) → (m == n) ≡ (n == m)
+equal_back m n = at (m == n) refl (n == m) refl
   where
     at : (a : Bool) → (m == n) ≡ a → (b : Bool) → (n == m) ≡ b → a ≡ b
     at true e true k = refl
@@ -43,25 +43,25 @@ equal-back m n = at (m == n) refl (n == m) refl
 
 -- ---- a work item
 
-never-called : (kind : WorkKind) → ((made : ℕ) → kind ≡ Call made → ⊥) → (made : ℕ) → is_call made kind ≡ false
-never-called (Notice o) other made = refl
-never-called (Complete spam) other made = refl
-never-called (Refusal r) other made = refl
-never-called (Call b) other made = absurd (other b refl)
-never-called (Reply b) other made = refl
-never-called (Verdict r) other made = refl
-never-called (Death n) other made = refl
-never-called (Cleared k) other made = refl
+never_called : (kind : WorkKind) → ((made : ℕ) → kind ≡ Call made → ⊥) → (made : ℕ) → is_call made kind ≡ false
+never_called (Notice o) other made = refl
+never_called (Complete spam) other made = refl
+never_called (Refusal r) other made = refl
+never_called (Call b) other made = absurd (other b refl)
+never_called (Reply b) other made = refl
+never_called (Verdict r) other made = refl
+never_called (Death n) other made = refl
+never_called (Cleared k) other made = refl
 
 module _ (t u : FrameTable) (g : Frame → Frame) (kind : WorkKind) where
   -- the frame of its call changes, if it is one
-  pub call-changed : (made : ℕ) → kind ≡ Call made → Makes t u (changed (is_frame made) g) → Makes t u (changed (λ f. is_call f.made kind) g)
-  call-changed made is makes = λ fs are.
-      subst (FramesAre u) (changed-same (is_frame made) (λ f. is_call f.made kind) g (λ f. equal-back f.made made ∙ ap (is_call f.made) (sym is)) fs) (makes fs are)
+  pub call_changed : (made : ℕ) → kind ≡ Call made → Makes t u (changed (is_frame made) g) → Makes t u (changed (λ f. is_call f.made kind) g)
+  call_changed made is makes = λ fs are.
+      subst (FramesAre u) (changed_same (is_frame made) (λ f. is_call f.made kind) g (λ f. equal_back f.made made ∙ ap (is_call f.made) (sym is)) fs) (makes fs are)
 
-  pub no-call_changed : ((made : ℕ) → kind ≡ Call made → ⊥) → Makes t t (changed (λ f. is_call f.made kind) g)
-  no-call_changed other = λ fs are.
-      subst (FramesAre t) (sym (changed-same (λ f. is_call f.made kind) (λ f. false) g (λ f. never-called kind other f.made) fs ∙ changed-none g fs)) are
+  pub no_call_changed : ((made : ℕ) → kind ≡ Call made → ⊥) → Makes t t (changed (λ f. is_call f.made kind) g)
+  no_call_changed other = λ fs are.
+      subst (FramesAre t) (sym (changed_same (λ f. is_call f.made kind) (λ f. false) g (λ f. never_called kind other f.made) fs ∙ changed_none g fs)) are
 
 -- ---- one more call
 
@@ -74,9 +74,9 @@ module _ (g : Frame → Frame) (once : (f : Frame) → g (g f) ≡ g f) where
   again true f = once f
   again false f = refl
 
-  changed-twice : (p q : Frame → Bool) (fs : List Frame) → changed q g (changed p g fs) ≡ changed (λ f. p f || q f) g fs
-  changed-twice p q [] = refl
-  changed-twice p q (f ∷ fs) = at (p f) (changed-twice p q fs)
+  changed_twice : (p q : Frame → Bool) (fs : List Frame) → changed q g (changed p g fs) ≡ changed (λ f. p f || q f) g fs
+  changed_twice p q [] = refl
+  changed_twice p q (f ∷ fs) = at (p f) (changed_twice p q fs)
     where
       at : (b : Bool) → changed q g (changed p g fs) ≡ changed (λ f. p f || q f) g fs
           → cond (q (cond b (g f) f)) (g (cond b (g f) f)) (cond b (g f) f) ∷ changed q g (changed p g fs) ≡ cond (b || q f) (g f) f ∷ changed (λ f. p f || q f) g fs
@@ -84,24 +84,24 @@ module _ (g : Frame → Frame) (once : (f : Frame) → g (g f) ≡ g f) where
       at false e = ap (λ l. cond (q f) (g f) f ∷ l) e
 
   -- the first call's frame changes, and then those of the rest
-  pub along-next : (t u v : FrameTable) (w : Work) (ws : List Work) → Makes t u (λ fs. changed (λ f. is_call f.made w.kind) g fs)
+  pub along_next : (t u v : FrameTable) (w : Work) (ws : List Work) → Makes t u (λ fs. changed (λ f. is_call f.made w.kind) g fs)
       → Makes u v (along ws) → Makes t v (along (w ∷ ws))
-  along-next t u v w ws one rest = λ fs are.
-      subst (FramesAre v) (changed-twice (λ f. is_call f.made w.kind) (λ f. list_any (λ x. is_call f.made x.kind) ws) fs) (rest _ (one fs are))
+  along_next t u v w ws one rest = λ fs are.
+      subst (FramesAre v) (changed_twice (λ f. is_call f.made w.kind) (λ f. list_any (λ x. is_call f.made x.kind) ws) fs) (rest _ (one fs are))
 
-  pub along-drop : (t u v : FrameTable) (ws : List Work) (i : ℕ) (d : Work) → i < length ws
+  pub along_drop : (t u v : FrameTable) (ws : List Work) (i : ℕ) (d : Work) → i < length ws
       → Makes t u (λ fs. changed (λ f. is_call f.made (get_or ws i d).kind) g fs) → Makes u v (along (drop (i + 1) ws)) → Makes t v (along (drop i ws))
-  along-drop t u v ws i d more one rest = rw (drop_more ws i d more) (along-next t u v (get_or ws i d) (drop (i + 1) ws) one rest)
+  along_drop t u v ws i d more one rest = rw (drop_more ws i d more) (along_next t u v (get_or ws i d) (drop (i + 1) ws) one rest)
 
   -- where no call is left, nothing changes
-  pub along-none : (t : FrameTable) (ws : List Work) → ws ≡ [] → Makes t t (along ws)
-  along-none t ws none = λ fs are. subst (FramesAre t) (sym (ap (λ vs. along vs fs) none ∙ changed-none g fs)) are
+  pub along_none : (t : FrameTable) (ws : List Work) → ws ≡ [] → Makes t t (along ws)
+  along_none t ws none = λ fs are. subst (FramesAre t) (sym (ap (λ vs. along vs fs) none ∙ changed_none g fs)) are
 
-pub serve-once : (seat : ℕ) (f : Frame) → serve seat (serve seat f) ≡ serve seat f
-serve-once seat f = refl
+pub serve_once : (seat : ℕ) (f : Frame) → serve seat (serve seat f) ≡ serve seat f
+serve_once seat f = refl
 
-pub lost-once : (f : Frame) → lost_frame (lost_frame f) ≡ lost_frame f
-lost-once f = ap (λ v. record f { server = v }) (at f.server)
+pub lost_once : (f : Frame) → lost_frame (lost_frame f) ≡ lost_frame f
+lost_once f = ap (λ v. record f { server = v }) (at f.server)
   where
     at : (v : Server) → lost (lost v) ≡ lost v
     at Pending = refl
@@ -110,26 +110,26 @@ lost-once f = ap (λ v. record f { server = v }) (at f.server)
 
 -- ---- the calls of a list
 
-lost-server : (todo : List Work) (list : TodoList) (made : ℕ) (b : Bool) → is_unread_on todo list made ≡ b → (v : Server) → cond b (lost v) v ≡ unread_server todo list made v
-lost-server todo list made b e Pending = ap (λ c. cond c Gone Pending) (sym e)
-lost-server todo list made true e (Serving t) = refl
-lost-server todo list made false e (Serving t) = refl
-lost-server todo list made true e Gone = refl
-lost-server todo list made false e Gone = refl
+lost_server : (todo : List Work) (list : TodoList) (made : ℕ) (b : Bool) → is_unread_on todo list made ≡ b → (v : Server) → cond b (lost v) v ≡ unread_server todo list made v
+lost_server todo list made b e Pending = ap (λ c. cond c Gone Pending) (sym e)
+lost_server todo list made true e (Serving t) = refl
+lost_server todo list made false e (Serving t) = refl
+lost_server todo list made true e Gone = refl
+lost_server todo list made false e Gone = refl
 
-lost-if : (b : Bool) (f : Frame) → cond b (lost_frame f) f ≡ record f { server = cond b (lost f.server) f.server }
-lost-if true f = refl
-lost-if false f = refl
+lost_if : (b : Bool) (f : Frame) → cond b (lost_frame f) f ≡ record f { server = cond b (lost f.server) f.server }
+lost_if true f = refl
+lost_if false f = refl
 
-pub lost-unread : (todo : List Work) (list : TodoList) (fs : List Frame) → lost_frames (work_on todo (Some list)) fs ≡ map (unread_frame todo list) fs
-lost-unread todo list [] = refl
-lost-unread todo list (f ∷ fs) =
+pub lost_unread : (todo : List Work) (list : TodoList) (fs : List Frame) → lost_frames (work_on todo (Some list)) fs ≡ map (unread_frame todo list) fs
+lost_unread todo list [] = refl
+lost_unread todo list (f ∷ fs) =
     ap (λ x. x ∷ lost_frames (work_on todo (Some list)) fs)
-    (ap (λ b. cond b (lost_frame f) f) (any-filter (is_on list) (λ w. is_call f.made w.kind) todo)
-    ∙ lost-if (is_unread_on todo list f.made) f
-    ∙ ap (λ v. record f { server = v }) (lost-server todo list f.made (is_unread_on todo list f.made) refl f.server))
-    ∙ ap (λ l. unread_frame todo list f ∷ l) (lost-unread todo list fs)
+    (ap (λ b. cond b (lost_frame f) f) (any_filter (is_on list) (λ w. is_call f.made w.kind) todo)
+    ∙ lost_if (is_unread_on todo list f.made) f
+    ∙ ap (λ v. record f { server = v }) (lost_server todo list f.made (is_unread_on todo list f.made) refl f.server))
+    ∙ ap (λ l. unread_frame todo list f ∷ l) (lost_unread todo list fs)
 
-pub left-frames : (todo : List Work) (seat : ℕ) (fs : List Frame) → map (left_frame seat) (map (unread_frame todo (OfThread seat)) fs) ≡ map (frame_without todo seat) fs
-left-frames todo seat [] = refl
-left-frames todo seat (f ∷ fs) = ap (λ l. frame_without todo seat f ∷ l) (left-frames todo seat fs)
+pub frames_left : (todo : List Work) (seat : ℕ) (fs : List Frame) → map (left_frame seat) (map (unread_frame todo (OfThread seat)) fs) ≡ map (frame_without todo seat) fs
+frames_left todo seat [] = refl
+frames_left todo seat (f ∷ fs) = ap (λ l. frame_without todo seat f ∷ l) (frames_left todo seat fs)

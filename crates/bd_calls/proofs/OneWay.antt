@@ -16,17 +16,17 @@ use Rattle.bd_calls.specs.Turn.{handed_turns}
 
 -- ---- one more
 
-cons-append : (o : Option Turn) (ts us : List Turn) → cons_option o (ts ++ us) ≡ cons_option o ts ++ us
-cons-append None ts us = refl
-cons-append (Some t) ts us = refl
+cons_append : (o : Option Turn) (ts us : List Turn) → cons_option o (ts ++ us) ≡ cons_option o ts ++ us
+cons_append None ts us = refl
+cons_append (Some t) ts us = refl
 
-pub turns-add : (bs : List Buffer) (b : Buffer) → turns_of (bs ++ b ∷ []) ≡ turns_of bs ++ option_to_list (turn_of b)
-turns-add [] b = single (turn_of b)
+pub turns_add : (bs : List Buffer) (b : Buffer) → turns_of (bs ++ b ∷ []) ≡ turns_of bs ++ option_to_list (turn_of b)
+turns_add [] b = single (turn_of b)
   where
     single : (o : Option Turn) → cons_option o [] ≡ option_to_list o
     single None = refl
     single (Some t) = refl
-turns-add (x ∷ bs) b = ap (cons_option (turn_of x)) (turns-add bs b) ∙ cons-append (turn_of x) (turns_of bs) (option_to_list (turn_of b))
+turns_add (x ∷ bs) b = ap (cons_option (turn_of x)) (turns_add bs b) ∙ cons_append (turn_of x) (turns_of bs) (option_to_list (turn_of b))
 
 -- ---- some go
 
@@ -35,37 +35,37 @@ kept true b bs = refl
 kept false b bs = refl
 
 module _ (p : Buffer → Bool) (q : Turn → Bool) where
-  kept-turn : (o : Option Turn) (stays : Bool) (ts : List Turn) → ((t : Turn) → o ≡ Some t → q t ≡ stays)
+  kept_turn : (o : Option Turn) (stays : Bool) (ts : List Turn) → ((t : Turn) → o ≡ Some t → q t ≡ stays)
       → cond stays (cons_option o (filter q ts)) (filter q ts) ≡ filter q (cons_option o ts)
-  kept-turn None true ts h = refl
-  kept-turn None false ts h = refl
-  kept-turn (Some t) stays ts h = ap (λ b. cond b (t ∷ filter q ts) (filter q ts)) (sym (h t refl))
+  kept_turn None true ts h = refl
+  kept_turn None false ts h = refl
+  kept_turn (Some t) stays ts h = ap (λ b. cond b (t ∷ filter q ts) (filter q ts)) (sym (h t refl))
 
-  pub turns-filter : ((b : Buffer) (t : Turn) → turn_of b ≡ Some t → q t ≡ p b) → (bs : List Buffer) → turns_of (filter p bs) ≡ filter q (turns_of bs)
-  turns-filter h [] = refl
-  turns-filter h (b ∷ bs) =
-      kept (p b) b (filter p bs) ∙ ap (λ ts. cond (p b) (cons_option (turn_of b) ts) ts) (turns-filter h bs) ∙ kept-turn (turn_of b) (p b) (turns_of bs) (h b)
+  pub turns_filter : ((b : Buffer) (t : Turn) → turn_of b ≡ Some t → q t ≡ p b) → (bs : List Buffer) → turns_of (filter p bs) ≡ filter q (turns_of bs)
+  turns_filter h [] = refl
+  turns_filter h (b ∷ bs) =
+      kept (p b) b (filter p bs) ∙ ap (λ ts. cond (p b) (cons_option (turn_of b) ts) ts) (turns_filter h bs) ∙ kept_turn (turn_of b) (p b) (turns_of bs) (h b)
 
 -- ---- some change
 
-changed-cons : (p : Bool) (b c : Buffer) (bs : List Buffer) → turns_of (cond p b c ∷ bs) ≡ cons_option (cond p (turn_of b) (turn_of c)) (turns_of bs)
-changed-cons true b c bs = refl
-changed-cons false b c bs = refl
+changed_cons : (p : Bool) (b c : Buffer) (bs : List Buffer) → turns_of (cond p b c ∷ bs) ≡ cons_option (cond p (turn_of b) (turn_of c)) (turns_of bs)
+changed_cons true b c bs = refl
+changed_cons false b c bs = refl
 
 module _ (p : Buffer → Bool) (f : Buffer → Buffer) (q : Turn → Bool) (g : Turn → Turn) where
-  changed-turn : (o : Option Turn) (is : Bool) (ts : List Turn) → ((t : Turn) → o ≡ Some t → q t ≡ is)
+  changed_turn : (o : Option Turn) (is : Bool) (ts : List Turn) → ((t : Turn) → o ≡ Some t → q t ≡ is)
       → cons_option (cond is (option_map g o) o) (changed q g ts) ≡ changed q g (cons_option o ts)
-  changed-turn None true ts h = refl
-  changed-turn None false ts h = refl
-  changed-turn (Some t) true ts h = ap (λ b. cond b (g t) t ∷ changed q g ts) (sym (h t refl))
-  changed-turn (Some t) false ts h = ap (λ b. cond b (g t) t ∷ changed q g ts) (sym (h t refl))
+  changed_turn None true ts h = refl
+  changed_turn None false ts h = refl
+  changed_turn (Some t) true ts h = ap (λ b. cond b (g t) t ∷ changed q g ts) (sym (h t refl))
+  changed_turn (Some t) false ts h = ap (λ b. cond b (g t) t ∷ changed q g ts) (sym (h t refl))
 
-  pub turns-changed : ((b : Buffer) → turn_of (f b) ≡ option_map g (turn_of b)) → ((b : Buffer) (t : Turn) → turn_of b ≡ Some t → q t ≡ p b)
+  pub turns_changed : ((b : Buffer) → turn_of (f b) ≡ option_map g (turn_of b)) → ((b : Buffer) (t : Turn) → turn_of b ≡ Some t → q t ≡ p b)
       → (bs : List Buffer) → turns_of (changed p f bs) ≡ changed q g (turns_of bs)
-  turns-changed k h [] = refl
-  turns-changed k h (b ∷ bs) =
-      changed-cons (p b) (f b) b (changed p f bs) ∙ ap (λ o. cons_option (cond (p b) o (turn_of b)) (turns_of (changed p f bs))) (k b)
-      ∙ ap (cons_option (cond (p b) (option_map g (turn_of b)) (turn_of b))) (turns-changed k h bs) ∙ changed-turn (turn_of b) (p b) (turns_of bs) (h b)
+  turns_changed k h [] = refl
+  turns_changed k h (b ∷ bs) =
+      changed_cons (p b) (f b) b (changed p f bs) ∙ ap (λ o. cons_option (cond (p b) o (turn_of b)) (turns_of (changed p f bs))) (k b)
+      ∙ ap (cons_option (cond (p b) (option_map g (turn_of b)) (turn_of b))) (turns_changed k h bs) ∙ changed_turn (turn_of b) (p b) (turns_of bs) (h b)
 
 -- ---- what a one-way call has of its buffer
 
@@ -75,11 +75,11 @@ as_handed true (Some x) b = refl
 as_handed true None b = refl
 as_handed false o b = refl
 
-pub turn-handed : (b : Buffer) → turn_of (hand_out b) ≡ option_map hand_turn (turn_of b)
-turn-handed b = as_handed b.one_way b.target b
+pub turn_handed : (b : Buffer) → turn_of (hand_out b) ≡ option_map hand_turn (turn_of b)
+turn_handed b = as_handed b.one_way b.target b
 
-turn-of : (b : Buffer) (t : Turn) → turn_of b ≡ Some t → (t.made ≡ b.made) × (t.receiver ≡ b.receiver)
-turn-of b t h = of b.one_way b.target h
+turn_is_of : (b : Buffer) (t : Turn) → turn_of b ≡ Some t → (t.made ≡ b.made) × (t.receiver ≡ b.receiver)
+turn_is_of b t h = of b.one_way b.target h
   where
     of : (w : Bool) (o : Option ObjectId) → cond w (option_map (λ x. record { made = b.made; receiver = b.receiver; target = x; handed = b.handed }) o) None ≡ Some t
         → (t.made ≡ b.made) × (t.receiver ≡ b.receiver)
@@ -87,64 +87,64 @@ turn-of b t h = of b.one_way b.target h
     of true None e = (cc, cc)
     of false o e = (cc, cc)
 
-turn-made : (b : Buffer) (t : Turn) → turn_of b ≡ Some t → t.made ≡ b.made
-turn-made b t h = (turn-of b t h).0
+turn_made : (b : Buffer) (t : Turn) → turn_of b ≡ Some t → t.made ≡ b.made
+turn_made b t h = (turn_is_of b t h).0
 
 -- no one-way call was made where a later buffer is
-none-later : (made : ℕ) (bs : List Buffer) → All (λ b. b.made < made) bs → list_any (λ t. t.made == made) (turns_of bs) ≡ false
-none-later made [] before = refl
-none-later made (b ∷ bs) before = of (turn_of b) refl (none-later made bs (All-tail (λ (c : Buffer). c.made < made) b bs before))
+none_later : (made : ℕ) (bs : List Buffer) → All (λ b. b.made < made) bs → list_any (λ t. t.made == made) (turns_of bs) ≡ false
+none_later made [] before = refl
+none_later made (b ∷ bs) before = of (turn_of b) refl (none_later made bs (All-tail (λ (c : Buffer). c.made < made) b bs before))
   where
     of : (o : Option Turn) → turn_of b ≡ o → list_any (λ t. t.made == made) (turns_of bs) ≡ false → list_any (λ t. t.made == made) (cons_option o (turns_of bs)) ≡ false
     of None e h = h
     of (Some t) e h =
         let low = All-head (λ (c : Buffer). c.made < made) b bs before in
-        let same = turn-made b t e in
+        let same = turn_made b t e in
         rw (ne_eqb t.made made (λ k. absurd (omega (arith, low, same, k)))) h
 
-pub turn-new : (bs : List Buffer) (b : Buffer) → All (λ c. c.made < b.made) bs → is_some_and (turn_of b) (λ t. list_any (λ u. u.made == t.made) (turns_of bs)) ≡ false
-turn-new bs b before = of (turn_of b) refl
+pub turn_new : (bs : List Buffer) (b : Buffer) → All (λ c. c.made < b.made) bs → is_some_and (turn_of b) (λ t. list_any (λ u. u.made == t.made) (turns_of bs)) ≡ false
+turn_new bs b before = of (turn_of b) refl
   where
     of : (o : Option Turn) → turn_of b ≡ o → is_some_and o (λ t. list_any (λ u. u.made == t.made) (turns_of bs)) ≡ false
     of None e = refl
-    of (Some t) e = ap (λ m. list_any (λ (u : Turn). u.made == m) (turns_of bs)) (turn-made b t e) ∙ none-later b.made bs before
+    of (Some t) e = ap (λ m. list_any (λ (u : Turn). u.made == m) (turns_of bs)) (turn_made b t e) ∙ none_later b.made bs before
 
 -- the buffer made here goes
-pub turns-without : (made : ℕ) (bs : List Buffer) → turns_of (filter (λ b. not (is_made_at made b)) bs) ≡ filter (λ t. not (t.made == made)) (turns_of bs)
-turns-without made bs = turns-filter (λ b. not (is_made_at made b)) (λ t. not (t.made == made)) (λ b t h. ap (λ m. not (m == made)) (turn-made b t h)) bs
+pub turns_without : (made : ℕ) (bs : List Buffer) → turns_of (filter (λ b. not (is_made_at made b)) bs) ≡ filter (λ t. not (t.made == made)) (turns_of bs)
+turns_without made bs = turns_filter (λ b. not (is_made_at made b)) (λ t. not (t.made == made)) (λ b t h. ap (λ m. not (m == made)) (turn_made b t h)) bs
 
 -- the buffers in a process's window go
-pub turns-received : (p : ℕ) (bs : List Buffer) → turns_of (filter (λ b. not (b.receiver == p)) bs) ≡ filter (λ t. not (t.receiver == p)) (turns_of bs)
-turns-received p bs = turns-filter (λ b. not (b.receiver == p)) (λ t. not (t.receiver == p)) (λ b t h. ap (λ m. not (m == p)) (turn-of b t h).1) bs
+pub turns_received : (p : ℕ) (bs : List Buffer) → turns_of (filter (λ b. not (b.receiver == p)) bs) ≡ filter (λ t. not (t.receiver == p)) (turns_of bs)
+turns_received p bs = turns_filter (λ b. not (b.receiver == p)) (λ t. not (t.receiver == p)) (λ b t h. ap (λ m. not (m == p)) (turn_is_of b t h).1) bs
 
 -- the buffers that are lost go
-pub turns-lost : (lost : ℕ → Bool) (bs : List Buffer) → turns_of (filter (λ b. not (lost b.made)) bs) ≡ filter (λ t. not (lost t.made)) (turns_of bs)
-turns-lost lost bs = turns-filter (λ b. not (lost b.made)) (λ t. not (lost t.made)) (λ b t h. ap (λ m. not (lost m)) (turn-made b t h)) bs
+pub turns_lost : (lost : ℕ → Bool) (bs : List Buffer) → turns_of (filter (λ b. not (lost b.made)) bs) ≡ filter (λ t. not (lost t.made)) (turns_of bs)
+turns_lost lost bs = turns_filter (λ b. not (lost b.made)) (λ t. not (lost t.made)) (λ b t h. ap (λ m. not (lost m)) (turn_made b t h)) bs
 
 -- ---- the buffer that is handed out
 
-changed-none : (p : Buffer → Bool) (f : Buffer → Buffer) (bs : List Buffer) → find p bs ≡ None → bs ≡ changed p f bs
-changed-none p f [] h = refl
-changed-none p f (b ∷ bs) h = first (p b) (changed-none p f bs) h
+changed_none : (p : Buffer → Bool) (f : Buffer → Buffer) (bs : List Buffer) → find p bs ≡ None → bs ≡ changed p f bs
+changed_none p f [] h = refl
+changed_none p f (b ∷ bs) h = first (p b) (changed_none p f bs) h
   where
     first : (is : Bool) → (find p bs ≡ None → bs ≡ changed p f bs) → cond is (Some b) (find p bs) ≡ None → b ∷ bs ≡ cond is (f b) b ∷ changed p f bs
     first true k e = cc
     first false k e = ap (λ cs. b ∷ cs) (k e)
 
-found-made : (made : ℕ) (bs : List Buffer) (b : Buffer) → buffer_in bs made ≡ Some b → b.made ≡ made
-found-made made [] b h = cc
-found-made made (x ∷ bs) b h = first (x.made == made) refl (found-made made bs b) h
+found_made : (made : ℕ) (bs : List Buffer) (b : Buffer) → buffer_in bs made ≡ Some b → b.made ≡ made
+found_made made [] b h = cc
+found_made made (x ∷ bs) b h = first (x.made == made) refl (found_made made bs b) h
   where
     first : (is : Bool) → (x.made == made) ≡ is → (buffer_in bs made ≡ Some b → b.made ≡ made) → cond is (Some x) (buffer_in bs made) ≡ Some b → b.made ≡ made
     first true t k e = grind (arith, e, t)
     first false t k e = k e
 
-handed-in : (bs : List Buffer) (made : ℕ) (o : Option Buffer) → buffer_in bs made ≡ o → handed_buffers bs o ≡ changed (is_made_at made) hand_out bs
-handed-in bs made None h = changed-none (is_made_at made) hand_out bs h
-handed-in bs made (Some b) h = ap (λ m. changed (is_made_at m) hand_out bs) (found-made made bs b h)
+handed_in : (bs : List Buffer) (made : ℕ) (o : Option Buffer) → buffer_in bs made ≡ o → handed_buffers bs o ≡ changed (is_made_at made) hand_out bs
+handed_in bs made None h = changed_none (is_made_at made) hand_out bs h
+handed_in bs made (Some b) h = ap (λ m. changed (is_made_at m) hand_out bs) (found_made made bs b h)
 
-pub turns-handed : (bs : List Buffer) (made : Option ℕ) → turns_of (handed_buffers bs (option_and_then (buffer_in bs) made)) ≡ handed_turns made (turns_of bs)
-turns-handed bs None = refl
-turns-handed bs (Some made) =
-    ap turns_of (handed-in bs made (buffer_in bs made) refl)
-    ∙ turns-changed (is_made_at made) hand_out (λ t. t.made == made) hand_turn turn-handed (λ b t h. ap (λ m. m == made) (turn-made b t h)) bs
+pub turns_handed : (bs : List Buffer) (made : Option ℕ) → turns_of (handed_buffers bs (option_and_then (buffer_in bs) made)) ≡ handed_turns made (turns_of bs)
+turns_handed bs None = refl
+turns_handed bs (Some made) =
+    ap turns_of (handed_in bs made (buffer_in bs made) refl)
+    ∙ turns_changed (is_made_at made) hand_out (λ t. t.made == made) hand_turn turn_handed (λ b t h. ap (λ m. m == made) (turn_made b t h)) bs

@@ -7,9 +7,9 @@ use Rattle.bd_space.specs.ReadItems.{none_due}
 use Rattle.bd_todo.proofs.OnList.{any_left}
 
 -- whether there is anything to read is told by the lists alone where they are empty
-pub anything-to-read : (todo : List Work) (own shared : TodoList) (idle : Bool)
+pub anything_to_read : (todo : List Work) (own shared : TodoList) (idle : Bool)
     → (has_work_in todo own || (has_work_in todo shared && idle)) ≡ not (none_due (work_on todo (cond (has_work_in todo own) (Some own) (cond idle (Some shared) None))))
-anything-to-read todo own shared idle = at (has_work_in todo own) refl idle
+anything_to_read todo own shared idle = at (has_work_in todo own) refl idle
   where
     last : (b : Bool) → (b && true) ≡ b
     last true = refl

@@ -25,15 +25,15 @@ use Rattle.bd_space.specs.Notices.{has_notice_in}
 use Rattle.bd_calls.specs.declared.ready.Seen.{Seen}
 use Rattle.bd_calls.specs.declared.ready.ReadySeats.{ReadySeats}
 use Rattle.bd_calls.specs.Ready.{seen_at, is_of, with_own, with_shared, told_then, told_after, IsSeen, AreSeen}
-use Rattle.bd_todo.proofs.ListKeys.{same_list-eq}
-use Rattle.bd_calls.proofs.Plain.{anything-to-read}
+use Rattle.bd_todo.proofs.ListKeys.{same_list_eq}
+use Rattle.bd_calls.proofs.Plain.{anything_to_read}
 
 -- ---- a seat that was seen
 
 -- what was seen tells whether the thread has anything to read
-pub seen-ready : (fs : List Frame) (ts : List Thread) (ws : List Work) (seat : ℕ) (x : Seen) (t : Thread) → x.thread ≡ Some t → IsSeen ts (has_work_in ws) seat x
+pub seen_ready : (fs : List Frame) (ts : List Thread) (ws : List Work) (seat : ℕ) (x : Seen) (t : Thread) → x.thread ≡ Some t → IsSeen ts (has_work_in ws) seat x
     → (x.own || (x.shared && (t.looping && is_none (innermost_in fs t.seat)))) ≡ is_some_and (thread_in ts seat) (λ u. not (none_due (work_on ws (reads_in fs ws u))))
-seen-ready fs ts ws seat x t is seen =
+seen_ready fs ts ws seat x t is seen =
     let found : thread_in ts seat ≡ Some t = sym seen.thread ∙ is in
     let at : t.seat ≡ seat = eqb-true _ _ (found_passes (λ (u : Thread). u.seat == seat) ts t found) in
     let idle = t.looping && is_none (innermost_in fs t.seat) in
@@ -42,18 +42,18 @@ seen-ready fs ts ws seat x t is seen =
     subst (λ o. IfSome o (λ u. x.shared ≡ has_work_in ws (OfProcess u.process))) is seen.shared in
     ap (λ b. b || (x.shared && idle)) own
     ∙ ap (λ b. has_work_in ws (OfThread t.seat) || (b && idle)) shared
-    ∙ anything-to-read ws (OfThread t.seat) (OfProcess t.process) idle
+    ∙ anything_to_read ws (OfThread t.seat) (OfProcess t.process) idle
     ∙ ap (λ o. is_some_and o (λ u. not (none_due (work_on ws (reads_in fs ws u))))) (sym found)
 
 -- ---- what is kept
 
-pub none-seen : (r : ReadySeats) (ts : List Thread) (told : TodoList → Bool) → ((seat : ℕ) → seen_at r seat ≡ None) → AreSeen r ts told
-none-seen r ts told none = λ seat x is. let never : None ≡ Some x = sym (none seat) ∙ is in absurd (cc)
+pub none_seen : (r : ReadySeats) (ts : List Thread) (told : TodoList → Bool) → ((seat : ℕ) → seen_at r seat ≡ None) → AreSeen r ts told
+none_seen r ts told none = λ seat x is. let never : None ≡ Some x = sym (none seat) ∙ is in absurd (cc)
 
-pub look-seen : (xs : List (Option Seen)) (i : ℕ) (y : Seen) (ts : List Thread) (told : TodoList → Bool) → i < length xs → IsSeen ts told i y
+pub look_seen : (xs : List (Option Seen)) (i : ℕ) (y : Seen) (ts : List Thread) (told : TodoList → Bool) → i < length xs → IsSeen ts told i y
     → ((seat : ℕ) (x : Seen) → get_or xs seat None ≡ Some x → IsSeen ts told seat x)
     → (seat : ℕ) (x : Seen) → get_or (set xs i (Some y)) seat None ≡ Some x → IsSeen ts told seat x
-look-seen xs i y ts told lt is before seat x at = by (seat == i) refl
+look_seen xs i y ts told lt is before seat x at = by (seat == i) refl
   where
     by : (b : Bool) → (seat == i) ≡ b → IsSeen ts told seat x
     by true e =
@@ -65,24 +65,24 @@ look-seen xs i y ts told lt is before seat x at = by (seat == i) refl
         let apart : seat ≡ i → ⊥ = λ k. let never : false ≡ true = sym e ∙ eq-eqb seat i k in absurd (cc) in
         before seat x (sym (get_or-set_other xs i seat (Some y) None apart) ∙ at)
 
-some-is : {x y : Seen} → Some y ≡ Some x → y ≡ x
-some-is e = cc
+some_is : {x y : Seen} → Some y ≡ Some x → y ≡ x
+some_is e = cc
 
-or-true : (b : Bool) → (b || (true || false)) ≡ true
-or-true true = refl
-or-true false = refl
+or_true : (b : Bool) → (b || (true || false)) ≡ true
+or_true true = refl
+or_true false = refl
 
-or-false : (b : Bool) → (b || (false || false)) ≡ b
-or-false true = refl
-or-false false = refl
+or_false : (b : Bool) → (b || (false || false)) ≡ b
+or_false true = refl
+or_false false = refl
 
 -- ---- something is on a list from now on, or nothing is
 
 module _ (old new : ReadySeats) (ts : List Thread) (told : TodoList → Bool) (has : Bool) (before : AreSeen old ts told) where
   -- on a thread's
-  pub own-noted : (t : ℕ) → ((seat : ℕ) → seen_at new seat ≡ cond (t == seat) (option_map (with_own has) (seen_at old seat)) (seen_at old seat))
+  pub own_noted : (t : ℕ) → ((seat : ℕ) → seen_at new seat ≡ cond (t == seat) (option_map (with_own has) (seen_at old seat)) (seen_at old seat))
       → AreSeen new ts (told_then (OfThread t) has told)
-  own-noted t now = λ seat x is. by seat x (t == seat) refl (seen_at old seat) refl (sym (now seat) ∙ is)
+  own_noted t now = λ seat x is. by seat x (t == seat) refl (seen_at old seat) refl (sym (now seat) ∙ is)
     where
       by : (seat : ℕ) (x : Seen) (b : Bool) → (t == seat) ≡ b → (o : Option Seen) → seen_at old seat ≡ o → cond b (option_map (with_own has) o) o ≡ Some x
           → IsSeen ts (told_then (OfThread t) has told) seat x
@@ -93,15 +93,15 @@ module _ (old new : ReadySeats) (ts : List Thread) (told : TodoList → Bool) (h
           none false k = cc
       by seat x true e (Some y) was at =
           let seen = before seat y was in
-          subst (IsSeen ts (told_then (OfThread t) has told) seat) (some-is at)
+          subst (IsSeen ts (told_then (OfThread t) has told) seat) (some_is at)
           (record { thread = seen.thread; own = sym (ap (λ b. cond b has (told (OfThread seat))) e); shared = seen.shared })
       by seat x false e (Some y) was at =
           let seen = before seat x (was ∙ at) in
           record { thread = seen.thread; own = seen.own ∙ sym (ap (λ b. cond b has (told (OfThread seat))) e); shared = seen.shared }
 
   -- on a process's
-  pub shared-noted : (p : ℕ) → ((seat : ℕ) → seen_at new seat ≡ with_shared p has (seen_at old seat)) → AreSeen new ts (told_then (OfProcess p) has told)
-  shared-noted p now = λ seat x is. by seat x (seen_at old seat) refl (sym (now seat) ∙ is)
+  pub shared_noted : (p : ℕ) → ((seat : ℕ) → seen_at new seat ≡ with_shared p has (seen_at old seat)) → AreSeen new ts (told_then (OfProcess p) has told)
+  shared_noted p now = λ seat x is. by seat x (seen_at old seat) refl (sym (now seat) ∙ is)
     where
       shared : (o : Option Thread) (b now : Bool) → is_some_and o (λ t. t.process == p) ≡ b → IfSome o (λ t. now ≡ told (OfProcess t.process))
           → IfSome o (λ t. cond b has now ≡ told_then (OfProcess p) has told (OfProcess t.process))
@@ -124,21 +124,21 @@ module _ (old new : ReadySeats) (ts : List Thread) (told : TodoList → Bool) (h
 
           of : (b : Bool) → is_of p y ≡ b → cond b (Some (record y { shared = has })) (Some y) ≡ Some x → IsSeen ts (told_then (OfProcess p) has told) seat x
           of true e k =
-              subst (IsSeen ts (told_then (OfProcess p) has told) seat) (some-is k)
+              subst (IsSeen ts (told_then (OfProcess p) has told) seat) (some_is k)
               (record { thread = seen.thread; own = seen.own; shared = shared y.thread true y.shared e seen.shared })
           of false e k =
-              subst (IsSeen ts (told_then (OfProcess p) has told) seat) (some-is k)
+              subst (IsSeen ts (told_then (OfProcess p) has told) seat) (some_is k)
               (record { thread = seen.thread; own = seen.own; shared = shared y.thread false y.shared e seen.shared })
 
 -- what is told of each list may be said otherwise
-pub told-same : (r : ReadySeats) (ts : List Thread) (a b : TodoList → Bool) → ((list : TodoList) → a list ≡ b list) → AreSeen r ts a → AreSeen r ts b
-told-same r ts a b same = subst (AreSeen r ts) (λ i list. same list i)
+pub told_same : (r : ReadySeats) (ts : List Thread) (a b : TodoList → Bool) → ((list : TodoList) → a list ≡ b list) → AreSeen r ts a → AreSeen r ts b
+told_same r ts a b same = subst (AreSeen r ts) (λ i list. same list i)
 
 -- ---- a change of the work items
 
 -- a work item comes onto a list
-pub pushed-told : (place : ℕ) (ws : List Work) (to : TodoList) (kind : WorkKind) (list : TodoList) → told_then to true (has_work_in ws) list ≡ has_work_in (with_work place ws to kind) list
-pushed-told place ws to kind list =
+pub pushed_told : (place : ℕ) (ws : List Work) (to : TodoList) (kind : WorkKind) (list : TodoList) → told_then to true (has_work_in ws) list ≡ has_work_in (with_work place ws to kind) list
+pushed_told place ws to kind list =
     by (same_list to list) refl ∙ sym (list_any-append (is_on list) ws _ ∙ ap (λ b. has_work_in ws list || (b || false)) (turned list to))
   where
     turned : (a b : TodoList) → same_list a b ≡ same_list b a
@@ -148,41 +148,41 @@ pushed-told place ws to kind list =
     turned (OfProcess p) (OfProcess q) = grind arith
 
     by : (b : Bool) → same_list to list ≡ b → cond b true (has_work_in ws list) ≡ (has_work_in ws list || (same_list to list || false))
-    by true e = rw e (sym (or-true (has_work_in ws list)))
-    by false e = rw e (sym (or-false (has_work_in ws list)))
+    by true e = rw e (sym (or_true (has_work_in ws list)))
+    by false e = rw e (sym (or_false (has_work_in ws list)))
 
 -- work items of other lists go
-pub taken-told : (taken ws : List Work) (list : TodoList) → told_after (without_taken taken ws) taken (has_work_in ws) list ≡ has_work_in (without_taken taken ws) list
-taken-told taken ws list = by (list_any (λ d. same_list d.list list) taken) refl
+pub taken_told : (taken ws : List Work) (list : TodoList) → told_after (without_taken taken ws) taken (has_work_in ws) list ≡ has_work_in (without_taken taken ws) list
+taken_told taken ws list = by (list_any (λ d. same_list d.list list) taken) refl
   where
-    none-taken : (w : Work) (ds : List Work) → list_any (λ d. same_list d.list list) ds ≡ false → same_list list w.list ≡ true → list_any (λ d. is_item w d) ds ≡ false
-    none-taken w [] gone on = refl
-    none-taken w (d ∷ ds) gone on =
+    none_taken : (w : Work) (ds : List Work) → list_any (λ d. same_list d.list list) ds ≡ false → same_list list w.list ≡ true → list_any (λ d. is_item w d) ds ≡ false
+    none_taken w [] gone on = refl
+    none_taken w (d ∷ ds) gone on =
         let both = or_parts (same_list d.list list) _ gone in
-        let here : same_list d.list w.list ≡ false = ap (same_list d.list) (sym (same_list-eq list w.list on)) ∙ both.0 in
+        let here : same_list d.list w.list ≡ false = ap (same_list d.list) (sym (same_list_eq list w.list on)) ∙ both.0 in
         ap (λ b. (same_identity w.id d.id && b) || list_any (λ e. is_item w e) ds) here ∙ ap (λ b. b || list_any (λ e. is_item w e) ds) (and-false (same_identity w.id d.id))
-        ∙ none-taken w ds both.1 on
+        ∙ none_taken w ds both.1 on
 
     by : (b : Bool) → list_any (λ d. same_list d.list list) taken ≡ b → cond b (has_work_in (without_taken taken ws) list) (has_work_in ws list) ≡ has_work_in (without_taken taken ws) list
     by true e = refl
-    by false e = sym (any-filter_same (is_on list) (λ w. not (list_any (λ d. is_item w d) taken)) true (λ w on. ap not (none-taken w taken e on)) ws)
+    by false e = sym (any-filter_same (is_on list) (λ w. not (list_any (λ d. is_item w d) taken)) true (λ w on. ap not (none_taken w taken e on)) ws)
 
 -- one work item more was taken
-pub told-more : (todo taken : List Work) (i : ℕ) (d : Work) (told : TodoList → Bool) (list : TodoList) → i < length taken
+pub told_more : (todo taken : List Work) (i : ℕ) (d : Work) (told : TodoList → Bool) (list : TodoList) → i < length taken
     → told_then (get_or taken i d).list (has_work_in todo (get_or taken i d).list) (told_after todo (take i taken) told) list ≡ told_after todo (take (i + 1) taken) told list
-told-more todo taken i d told list lt = rw (take_more taken i d lt, list_any-append (λ e. same_list e.list list) (take i taken) (get_or taken i d ∷ []))
+told_more todo taken i d told list lt = rw (take_more taken i d lt, list_any-append (λ e. same_list e.list list) (take i taken) (get_or taken i d ∷ []))
     (by (same_list (get_or taken i d).list list) refl (list_any (λ e. same_list e.list list) (take i taken)))
   where
     by : (b : Bool) → same_list (get_or taken i d).list list ≡ b → (c : Bool) → cond b (has_work_in todo (get_or taken i d).list) (cond c (has_work_in todo list) (told list)) ≡ cond (c || (b || false)) (has_work_in todo list) (told list)
-    by true e true = ap (has_work_in todo) (same_list-eq (get_or taken i d).list list e)
-    by true e false = ap (has_work_in todo) (same_list-eq (get_or taken i d).list list e)
+    by true e true = ap (has_work_in todo) (same_list_eq (get_or taken i d).list list e)
+    by true e false = ap (has_work_in todo) (same_list_eq (get_or taken i d).list list e)
     by false e true = refl
     by false e false = refl
 
 -- nothing goes where there is no such notice
-pub no-notice : (o : ObjectId) (ws : List Work) → has_notice_in ws o ≡ false → filter (λ w. not (is_notice o w.kind)) ws ≡ ws
-no-notice o [] e = refl
-no-notice o (w ∷ ws) e = by (is_notice o w.kind) e (no-notice o ws)
+pub no_notice : (o : ObjectId) (ws : List Work) → has_notice_in ws o ≡ false → filter (λ w. not (is_notice o w.kind)) ws ≡ ws
+no_notice o [] e = refl
+no_notice o (w ∷ ws) e = by (is_notice o w.kind) e (no_notice o ws)
   where
     by : (b : Bool) → (b || has_notice_in ws o) ≡ false → (has_notice_in ws o ≡ false → filter (λ v. not (is_notice o v.kind)) ws ≡ ws)
         → cond (not b) (w ∷ filter (λ v. not (is_notice o v.kind)) ws) (filter (λ v. not (is_notice o v.kind)) ws) ≡ w ∷ ws

@@ -11,11 +11,11 @@ use Rattle.bd_space.specs.declared.space.WorkKind.TheVariants.{Verdict}
 use Rattle.bd_space.specs.declared.space.TodoList.TheVariants.{OfThread}
 
 -- no step is counted
-told-steps : (s : Space) (made : ℕ) (caller : Option ℕ) (kind : WorkKind) → (elim caller as (λ (o : Option ℕ). Space) [ None ↦ closed s made | Some t ↦ owe (closed s made) (OfThread t) kind ]).steps ≡ s.steps
+told_steps : (s : Space) (made : ℕ) (caller : Option ℕ) (kind : WorkKind) → (elim caller as (λ (o : Option ℕ). Space) [ None ↦ closed s made | Some t ↦ owe (closed s made) (OfThread t) kind ]).steps ≡ s.steps
 unfolding closed owe
-told-steps s made None kind = refl
-told-steps s made (Some t) kind = refl
+told_steps s made None kind = refl
+told_steps s made (Some t) kind = refl
 
-pub one-steps : (s : Space) (o : Option Frame) → (settle_one s o).steps ≡ s.steps
-one-steps s None = refl
-one-steps s (Some f) = told-steps s f.made f.caller (Verdict DeadReply)
+pub one_steps : (s : Space) (o : Option Frame) → (settle_one s o).steps ≡ s.steps
+one_steps s None = refl
+one_steps s (Some f) = told_steps s f.made f.caller (Verdict DeadReply)

@@ -13,23 +13,23 @@ use Rattle.bd_calls.specs.declared.ready.ReadySeats.{ReadySeats}
 use Rattle.bd_calls.specs.Ready.{KeepsBut, AreSeen}
 
 -- where the other seats have the threads that they had, what is kept of them is so still
-pub kept-beside : (old new : ReadySeats) (ts us : List Thread) (ws : List Work) (seat : ℕ) → AreSeen old ts (has_work_in ws) → KeepsBut seat old new
+pub kept_beside : (old new : ReadySeats) (ts us : List Thread) (ws : List Work) (seat : ℕ) → AreSeen old ts (has_work_in ws) → KeepsBut seat old new
     → ((at : ℕ) → (seat ≡ at → ⊥) → thread_in us at ≡ thread_in ts at) → AreSeen new us (has_work_in ws)
-kept-beside old new ts us ws seat before kept as_before = λ at x is.
+kept_beside old new ts us ws seat before kept as_before = λ at x is.
     let k = kept at x is in
     let seen = before at x k.0 in
     record { thread = seen.thread ∙ sym (as_before at (eqb-false seat at k.1)); own = seen.own; shared = seen.shared }
 
 -- a thread comes in
-pub pushed-beside : (ts : List Thread) (t : Thread) (at : ℕ) → (t.seat ≡ at → ⊥) → thread_in (ts ++ t ∷ []) at ≡ thread_in ts at
-pushed-beside ts t at other =
+pub pushed_beside : (ts : List Thread) (t : Thread) (at : ℕ) → (t.seat ≡ at → ⊥) → thread_in (ts ++ t ∷ []) at ≡ thread_in ts at
+pushed_beside ts t at other =
     find-append (λ u. u.seat == at) ts (t ∷ []) ∙ ap (λ b. option_or (thread_in ts at) (cond b (Some t) None)) (ne_eqb t.seat at other) ∙ or_none (thread_in ts at)
 
 -- one enters the loop, or leaves it
-pub turned-beside : (looping : Bool) (ts : List Thread) (seat at : ℕ) → (seat ≡ at → ⊥)
+pub turned_beside : (looping : Bool) (ts : List Thread) (seat at : ℕ) → (seat ≡ at → ⊥)
     → thread_in (changed (λ t. t.seat == seat) (λ t. record t { looping = looping }) ts) at ≡ thread_in ts at
-turned-beside looping [] seat at other = refl
-turned-beside looping (t ∷ ts) seat at other = by (t.seat == seat) refl (turned-beside looping ts seat at other)
+turned_beside looping [] seat at other = refl
+turned_beside looping (t ∷ ts) seat at other = by (t.seat == seat) refl (turned_beside looping ts seat at other)
   where
     f : Thread → Thread
     f u = record u { looping = looping }

@@ -11,12 +11,12 @@ use Rattle.bd_threads.specs.Listed.{listed}
 use Rattle.bd_calls.specs.Ready.{AreSeen, seen_at}
 use Rattle.bd_calls.specs.declared.table.CallTable.{CallTable}
 use Rattle.bd_calls.specs.Stands.{Stands, StandsFor}
-use Rattle.bd_calls.proofs.Seats.{none-seen}
+use Rattle.bd_calls.proofs.Seats.{none_seen}
 
 -- u has the threads, frames and one-way calls of t
-pub works-stand : (t u : CallTable) (s : Space) (todo : List Work) → StandsFor t s → u.threads ≡ t.threads → u.frames ≡ t.frames → u.turns ≡ t.turns
+pub works_stand : (t u : CallTable) (s : Space) (todo : List Work) → StandsFor t s → u.threads ≡ t.threads → u.frames ≡ t.frames → u.turns ≡ t.turns
     → WorksAre u.todo todo → AreSeen u.ready s.threads (has_work_in todo) → Stands u s.threads s.frames todo (turns_of s.buffers)
-works-stand t u s todo h threads frames turns are seen = record {
+works_stand t u s todo h threads frames turns are seen = record {
   threads_are = ap listed threads ∙ h.threads_are;
   frames_are = subst (λ f. FramesAre f s.frames) (sym frames) h.frames_are;
   todo_are = are;
@@ -25,6 +25,6 @@ works-stand t u s todo h threads frames turns are seen = record {
 }
 
 -- where nothing is kept
-pub works-stand-unseen : (t u : CallTable) (s : Space) (todo : List Work) → StandsFor t s → u.threads ≡ t.threads → u.frames ≡ t.frames → u.turns ≡ t.turns
+pub works_stand_unseen : (t u : CallTable) (s : Space) (todo : List Work) → StandsFor t s → u.threads ≡ t.threads → u.frames ≡ t.frames → u.turns ≡ t.turns
     → WorksAre u.todo todo → ((seat : ℕ) → seen_at u.ready seat ≡ None) → Stands u s.threads s.frames todo (turns_of s.buffers)
-works-stand-unseen t u s todo h threads frames turns are none = works-stand t u s todo h threads frames turns are (none-seen u.ready s.threads (has_work_in todo) none)
+works_stand_unseen t u s todo h threads frames turns are none = works_stand t u s todo h threads frames turns are (none_seen u.ready s.threads (has_work_in todo) none)

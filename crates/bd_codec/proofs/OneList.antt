@@ -18,14 +18,14 @@ module _ {A : Type 0} (f : A → List ℕ) (Fits : A → Type 0) (some : (a : A)
       let same = apart x y (concat (map f xs)) (concat (map f ys)) (All-head Fits x xs h) (All-head Fits y ys k) e in
       ap₂ (λ z zs. z ∷ zs) same.0 (one_list xs ys (All-tail Fits x xs h) (All-tail Fits y ys k) same.1)
 
-some-command : (c : Command) (x : List ℕ) → command_bytes c ++ x ≡ [] → ⊥
-some-command c x e = absurd (cc)
+some_command : (c : Command) (x : List ℕ) → command_bytes c ++ x ≡ [] → ⊥
+some_command c x e = absurd (cc)
 
-some-return : (r : Return) (x : List ℕ) → return_bytes r ++ x ≡ [] → ⊥
-some-return r x e = absurd (cc)
+some_return : (r : Return) (x : List ℕ) → return_bytes r ++ x ≡ [] → ⊥
+some_return r x e = absurd (cc)
 
 pub one_list_of_commands : (cs ds : List Command) → All IsCommand cs → All IsCommand ds → concat (map command_bytes cs) ≡ concat (map command_bytes ds) → cs ≡ ds
-one_list_of_commands = one_list command_bytes IsCommand some-command no_command_begins_another
+one_list_of_commands = one_list command_bytes IsCommand some_command no_command_begins_another
 
 pub one_list_of_returns : (rs ss : List Return) → All IsReturn rs → All IsReturn ss → concat (map return_bytes rs) ≡ concat (map return_bytes ss) → rs ≡ ss
-one_list_of_returns = one_list return_bytes IsReturn some-return no_return_begins_another
+one_list_of_returns = one_list return_bytes IsReturn some_return no_return_begins_another

@@ -13,23 +13,23 @@ module _ {A : Type 0} (f : A → A) where
   same_tests p q [] h = refl
   same_tests p q (x ∷ xs) h = rw (h x, same_tests p q xs h) refl
 
-  head-twice : (x : A) (p : A → Bool) (a : Bool) → p (f x) ≡ p x → f (f x) ≡ f x
+  head_twice : (x : A) (p : A → Bool) (a : Bool) → p (f x) ≡ p x → f (f x) ≡ f x
       → cond (p (cond a (f x) x)) (f (cond a (f x) x)) (cond a (f x) x) ≡ cond (a || p x) (f x) x
-  head-twice x p true e g = rw (e, g) (elim (p x) as (λ b. cond b (f x) (f x) ≡ f x) [ true ↦ refl | false ↦ refl ])
-  head-twice x p false e g = refl
+  head_twice x p true e g = rw (e, g) (elim (p x) as (λ b. cond b (f x) (f x) ≡ f x) [ true ↦ refl | false ↦ refl ])
+  head_twice x p false e g = refl
 
   pub twice : (p q : A → Bool) (xs : List A) → ((x : A) → p (f x) ≡ p x) → ((x : A) → f (f x) ≡ f x)
       → changed p f (changed q f xs) ≡ changed (λ x. q x || p x) f xs
   twice p q [] e g = refl
-  twice p q (x ∷ xs) e g = rw (head-twice x p (q x) (e x) (g x), twice p q xs e g) refl
+  twice p q (x ∷ xs) e g = rw (head_twice x p (q x) (e x) (g x), twice p q xs e g) refl
 
   pub guarded : (p : A → Bool) (xs : List A) (b : Bool) → cond b (changed p f xs) xs ≡ changed (λ x. b && p x) f xs
   guarded p xs true = refl
   guarded p xs false = sym (none (λ x. false) xs (λ x. refl))
 
-pub All-changed : {A : Type 0} (P : A → Type 0) (q : A → Bool) (f : A → A) → ((x : A) → P x → P (f x)) → (xs : List A) → All P xs → All P (changed q f xs)
-All-changed P q f h [] all = all
-All-changed {A} P q f h (x ∷ xs) all = All-cons P (cond (q x) (f x) x) (changed q f xs) (by (q x)) (All-changed P q f h xs (All-tail P x xs all))
+pub All_changed : {A : Type 0} (P : A → Type 0) (q : A → Bool) (f : A → A) → ((x : A) → P x → P (f x)) → (xs : List A) → All P xs → All P (changed q f xs)
+All_changed P q f h [] all = all
+All_changed {A} P q f h (x ∷ xs) all = All-cons P (cond (q x) (f x) x) (changed q f xs) (by (q x)) (All_changed P q f h xs (All-tail P x xs all))
   where
     here : P x
     here = All-head P x xs all

@@ -16,9 +16,9 @@ use Rattle.bd_deaths.specs.declared.slot.Slot.{Slot}
 use Rattle.bd_deaths.specs.Slots.{lives, on}
 use Rattle.bd_ways.specs.Ranges.{IsPartOf}
 use Rattle.bd_deaths.specs.Stands.{IsRising}
-use Rattle.bd_deaths.proofs.Lives.{any-lives}
-use Rattle.bd_ways.proofs.Ranges.{same-filter, filter-of}
-use Rattle.bd_keys.proofs.Lists.{eqb-turned}
+use Rattle.bd_deaths.proofs.Lives.{any_lives}
+use Rattle.bd_ways.proofs.Ranges.{same_filter, filter_of}
+use Rattle.bd_keys.proofs.Lists.{eqb_turned}
 
 -- ---- places sorted, each once
 
@@ -34,8 +34,8 @@ there [] n k h e = absurd (omega arith)
 there (m ∷ ns) n zero h e = or_left (m == n) (has_place ns n) (eq-eqb m n e)
 there (m ∷ ns) n (suc k) h e = or_right (m == n) (has_place ns n) (there ns n k (omega arith) e)
 
-pub still-there : (ns sorted once : List ℕ) → IsPermutation ns sorted → once ≡ dedup eqb sorted → (n : ℕ) → has_place ns n ≡ true → has_place once n ≡ true
-still-there ns sorted once moved is n h =
+pub still_there : (ns sorted once : List ℕ) → IsPermutation ns sorted → once ≡ dedup eqb sorted → (n : ℕ) → has_place ns n ≡ true → has_place once n ≡ true
+still_there ns sorted once moved is n h =
     let c = Contains-dedup_nat sorted n (found sorted n (sym (list_any-IsPermutation (λ k. k == n) ns sorted moved) ∙ h)) in
     subst (λ ms. has_place ms n ≡ true) (sym is) (there (dedup eqb sorted) n c.0 c.1 c.2)
 
@@ -52,9 +52,9 @@ below (m ∷ ms) (suc k) n d r h e = elim (or_cases (m == n) (has_place (take k 
 
 -- all that pass the one test lie before all that pass the other
 module _ (q r : DeathNotification → Bool) (before : (x y : DeathNotification) → x.made ≤ y.made → r x ≡ true → q y ≡ true → ⊥) where
-  none-later : (x : DeathNotification) (m end : ℕ) (xs : List DeathNotification) → r x ≡ true → x.made ≤ m → IsRising m end xs → filter q xs ≡ []
-  none-later x m end [] e h s = refl
-  none-later x m end (y ∷ ys) e h s = by (q y) refl (none-later x (suc y.made) end ys e (omega (arith, h, s.0)) s.1)
+  none_later : (x : DeathNotification) (m end : ℕ) (xs : List DeathNotification) → r x ≡ true → x.made ≤ m → IsRising m end xs → filter q xs ≡ []
+  none_later x m end [] e h s = refl
+  none_later x m end (y ∷ ys) e h s = by (q y) refl (none_later x (suc y.made) end ys e (omega (arith, h, s.0)) s.1)
     where
       by : (b : Bool) → q y ≡ b → filter q ys ≡ [] → cond b (y ∷ filter q ys) (filter q ys) ≡ []
       by true f rest = absurd (before x y (omega (arith, h, s.0)) e f)
@@ -69,7 +69,7 @@ module _ (q r : DeathNotification → Bool) (before : (x y : DeathNotification) 
       by true e true f rest = absurd (before x x (omega arith) f e)
       by true e false f rest = ap (λ ys. x ∷ ys) rest
       by false e true f rest =
-          let n = none-later x (suc x.made) end xs f (omega arith) s.1 in
+          let n = none_later x (suc x.made) end xs f (omega arith) s.1 in
           ap (λ ys. ys ++ x ∷ filter r xs) n ∙ ap (λ ys. x ∷ ys) (sym (ap (λ ys. ys ++ filter r xs) n) ∙ rest)
       by false e false f rest = rest
 
@@ -84,12 +84,12 @@ module _ (objects : List Object) (p : ℕ) where
   abbrev is_told : DeathNotification → Bool
   is_told x = not (x.process == p) && is_due objects p x
 
-  due-at : (m : ℕ) (x : DeathNotification) → (m == x.made) ≡ true → is_told x ≡ true → is_due_at objects p m x ≡ true
-  due-at m x at e = let due = (and_parts (not (x.process == p)) (is_due objects p x) e).1 in rw (due, at) refl
+  due_at : (m : ℕ) (x : DeathNotification) → (m == x.made) ≡ true → is_told x ≡ true → is_due_at objects p m x ≡ true
+  due_at m x at e = let due = (and_parts (not (x.process == p)) (is_due objects p x) e).1 in rw (due, at) refl
 
   -- what is told to another is due, and has not gone
-  told-is-due : (q : ℕ → Bool) (s : Slot) → on (λ x. q x.made && is_told x) s ≡ true → on (is_due_of q objects p) s ≡ true
-  told-is-due q s e = by s.live (q s.death.made) (not (s.death.process == p)) (is_due objects p s.death) e
+  told_is_due : (q : ℕ → Bool) (s : Slot) → on (λ x. q x.made && is_told x) s ≡ true → on (is_due_of q objects p) s ≡ true
+  told_is_due q s e = by s.live (q s.death.made) (not (s.death.process == p)) (is_due objects p s.death) e
     where
       by : (a n b d : Bool) → (a && (n && (b && d))) ≡ true → (a && (d && n)) ≡ true
       by true true true true h = refl
@@ -98,23 +98,23 @@ module _ (objects : List Object) (p : ℕ) where
       by true false b d h = absurd (cc)
       by false n b d h = h
 
-  pub any-told : (q : ℕ → Bool) (ss : List Slot) (k : ℕ) (d : Slot) → k < length ss → on (λ x. q x.made && is_told x) (get_or ss k d) ≡ true
+  pub any_told : (q : ℕ → Bool) (ss : List Slot) (k : ℕ) (d : Slot) → k < length ss → on (λ x. q x.made && is_told x) (get_or ss k d) ≡ true
       → list_any (is_due_of q objects p) (lives ss) ≡ true
-  any-told q ss k d h e = any-lives (is_due_of q objects p) ss ∙ list_any_at (on (is_due_of q objects p)) ss k d h (told-is-due q (get_or ss k d) e)
+  any_told q ss k d h e = any_lives (is_due_of q objects p) ss ∙ list_any_at (on (is_due_of q objects p)) ss k d h (told_is_due q (get_or ss k d) e)
 
-  pub place-part : (m : ℕ) (ys xs : List DeathNotification) → IsPartOf (is_notification m) ys xs → due_of (λ n. m == n) objects p ys ≡ due_of (λ n. m == n) objects p xs
-  place-part m ys xs part =
-      filter-of (λ x. (m == x.made) && is_told x) (is_notification m) ys xs
-      (λ x e. eqb-turned x.made m ∙ (and_parts (m == x.made) (is_told x) e).0) part
+  pub place_part : (m : ℕ) (ys xs : List DeathNotification) → IsPartOf (is_notification m) ys xs → due_of (λ n. m == n) objects p ys ≡ due_of (λ n. m == n) objects p xs
+  place_part m ys xs part =
+      filter_of (λ x. (m == x.made) && is_told x) (is_notification m) ys xs
+      (λ x e. eqb_turned x.made m ∙ (and_parts (m == x.made) (is_told x) e).0) part
 
-  pub no-place : (l : List DeathNotification) → [] ≡ due_of (has_place []) objects p l
-  no-place [] = refl
-  no-place (x ∷ xs) = no-place xs
+  pub no_place : (l : List DeathNotification) → [] ≡ due_of (has_place []) objects p l
+  no_place [] = refl
+  no_place (x ∷ xs) = no_place xs
 
   -- one place more, in the order of the places
-  pub place-next : (ms : List ℕ) (k d end : ℕ) (l : List DeathNotification) → IsRising 0 end l → IsStrictlyIncreasing ms → k < length ms
+  pub place_next : (ms : List ℕ) (k d end : ℕ) (l : List DeathNotification) → IsRising 0 end l → IsStrictlyIncreasing ms → k < length ms
       → due_of (has_place (take k ms)) objects p l ++ due_of (λ n. get_or ms k d == n) objects p l ≡ due_of (has_place (take (k + 1) ms)) objects p l
-  place-next ms k d end l s rising h =
+  place_next ms k d end l s rising h =
       let m = get_or ms k d in
       joined (λ x. has_place (take k ms) x.made && is_told x) (λ x. (m == x.made) && is_told x)
       (λ x y g e f.
@@ -122,19 +122,19 @@ module _ (objects : List Object) (p : ℕ) where
       let under = below ms k y.made d (AllPairs-from_increasing ms rising) h (and_parts (has_place (take k ms) y.made) (is_told y) f).0 in
       omega (arith, at, under, g))
       0 end l s
-      ∙ same-filter (λ x. (has_place (take k ms) x.made && is_told x) || ((m == x.made) && is_told x)) (λ x. has_place (take (k + 1) ms) x.made && is_told x)
+      ∙ same_filter (λ x. (has_place (take k ms) x.made && is_told x) || ((m == x.made) && is_told x)) (λ x. has_place (take (k + 1) ms) x.made && is_told x)
       (λ x. shared (has_place (take k ms) x.made) (m == x.made) (is_told x) ∙ ap (λ b. b && is_told x) (sym (list_any_more (λ n. n == x.made) ms k d h))) l
 
   -- where the places of all that are due are there
-  pub all-due : (has : ℕ → Bool) (l : List DeathNotification) → ((n : ℕ) → list_any (is_due_at objects p n) l ≡ true → has n ≡ true)
+  pub all_due : (has : ℕ → Bool) (l : List DeathNotification) → ((n : ℕ) → list_any (is_due_at objects p n) l ≡ true → has n ≡ true)
       → due_of has objects p l ≡ due_in objects p l
-  all-due has [] h = refl
-  all-due has (x ∷ xs) h = by (is_told x) refl (all-due has xs (λ n e. h n (or_right _ _ e)))
+  all_due has [] h = refl
+  all_due has (x ∷ xs) h = by (is_told x) refl (all_due has xs (λ n e. h n (or_right _ _ e)))
     where
       by : (b : Bool) → is_told x ≡ b → due_of has objects p xs ≡ due_in objects p xs
           → cond (has x.made && b) (x ∷ due_of has objects p xs) (due_of has objects p xs) ≡ cond b (x ∷ due_in objects p xs) (due_in objects p xs)
       by true e rest =
-          let at = due-at x.made x (eq-eqb x.made x.made refl) e in
+          let at = due_at x.made x (eq-eqb x.made x.made refl) e in
           let here = h x.made (or_left (is_due_at objects p x.made x) (list_any (is_due_at objects p x.made) xs) at) in
           rw here (ap (λ ys. x ∷ ys) rest)
       by false e rest = rw (and-false (has x.made)) rest

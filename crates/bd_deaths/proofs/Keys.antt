@@ -20,19 +20,19 @@ places ys = sum_by made_of ys
 abbrev kept_as : ℕ → ℕ → Option Sharers
 kept_as count sum = Some (record { count = count; sum = sum })
 
-same-kept : (m n s t : ℕ) → m ≡ n → s ≡ t → kept_as m s ≡ kept_as n t
-same-kept m n s t e f = ap (λ c. kept_as c s) e ∙ ap (λ z. kept_as n z) f
+same_kept : (m n s t : ℕ) → m ≡ n → s ≡ t → kept_as m s ≡ kept_as n t
+same_kept m n s t e f = ap (λ c. kept_as c s) e ∙ ap (λ z. kept_as n z) f
 
-pub same-group : (ys zs : List DeathNotification) → length ys ≡ length zs → places ys ≡ places zs → group ys ≡ group zs
-same-group [] [] e f = refl
-same-group [] (z ∷ zs) e f = absurd (omega (arith, e))
-same-group (y ∷ ys) [] e f = absurd (omega (arith, e))
-same-group (y ∷ ys) (z ∷ zs) e f = same-kept _ _ _ _ e (ap (λ n. n % 2 ^ 32) f)
+pub same_group : (ys zs : List DeathNotification) → length ys ≡ length zs → places ys ≡ places zs → group ys ≡ group zs
+same_group [] [] e f = refl
+same_group [] (z ∷ zs) e f = absurd (omega (arith, e))
+same_group (y ∷ ys) [] e f = absurd (omega (arith, e))
+same_group (y ∷ ys) (z ∷ zs) e f = same_kept _ _ _ _ e (ap (λ n. n % 2 ^ 32) f)
 
 -- something is kept where there are any
-pub any-kept : (q : DeathNotification → Bool) (xs : List DeathNotification) → is_some (group (filter q xs)) ≡ list_any q xs
-any-kept q [] = refl
-any-kept q (x ∷ xs) = at (q x) (any-kept q xs)
+pub any_kept : (q : DeathNotification → Bool) (xs : List DeathNotification) → is_some (group (filter q xs)) ≡ list_any q xs
+any_kept q [] = refl
+any_kept q (x ∷ xs) = at (q x) (any_kept q xs)
   where
     at : (b : Bool) → is_some (group (filter q xs)) ≡ list_any q xs → is_some (group (cond b (x ∷ filter q xs) (filter q xs))) ≡ (b || list_any q xs)
     at true rest = refl
@@ -40,32 +40,32 @@ any-kept q (x ∷ xs) = at (q x) (any-kept q xs)
 
 -- ---- one more, after the others
 
-length-push : (ys : List DeathNotification) (x : DeathNotification) → length (ys ++ x ∷ []) ≡ length ys + 1
-length-push [] x = refl
-length-push (y ∷ ys) x = let e = length-push ys x in omega (arith, e)
+length_push : (ys : List DeathNotification) (x : DeathNotification) → length (ys ++ x ∷ []) ≡ length ys + 1
+length_push [] x = refl
+length_push (y ∷ ys) x = let e = length_push ys x in omega (arith, e)
 
 -- the sum of one is its place
-pub sum-of-one : (made : ℕ) → made < 2 ^ 32 → (0 + made) % 2 ^ 32 ≡ made
-sum-of-one made fits = let e : 0 + made ≡ made = omega arith in ap (λ n. n % 2 ^ 32) e ∙ mod-eq_of_lt fits
+pub sum_of_one : (made : ℕ) → made < 2 ^ 32 → (0 + made) % 2 ^ 32 ≡ made
+sum_of_one made fits = let e : 0 + made ≡ made = omega arith in ap (λ n. n % 2 ^ 32) e ∙ mod-eq_of_lt fits
 
-group-more : (ys : List DeathNotification) (x : DeathNotification) → length ys + 1 < 2 ^ 64 → x.made < 2 ^ 32
+group_more : (ys : List DeathNotification) (x : DeathNotification) → length ys + 1 < 2 ^ 64 → x.made < 2 ^ 32
     → group (ys ++ x ∷ []) ≡ Some (with_one x.made (group ys))
-group-more [] x few fits = same-kept 1 1 ((0 + x.made) % 2 ^ 32) x.made refl (sum-of-one x.made fits)
-group-more (y ∷ ys) x few fits = same-kept _ _ _ _
-    (length-push (y ∷ ys) x ∙ sym (mod-eq_of_lt few))
+group_more [] x few fits = same_kept 1 1 ((0 + x.made) % 2 ^ 32) x.made refl (sum_of_one x.made fits)
+group_more (y ∷ ys) x few fits = same_kept _ _ _ _
+    (length_push (y ∷ ys) x ∙ sym (mod-eq_of_lt few))
     (ap (λ n. n % 2 ^ 32) (sum_by_push made_of (y ∷ ys) x)
     ∙ sym (mod-add-mod (places (y ∷ ys)) (2 ^ 32) x.made))
 
-pub few-pass : (q : DeathNotification → Bool) (xs : List DeathNotification) → length (filter q xs) ≤ length xs
-few-pass q xs = subst (λ n. n ≤ length xs) (sym (length-filter q xs)) (count_by-le-length q xs)
+pub few_pass : (q : DeathNotification → Bool) (xs : List DeathNotification) → length (filter q xs) ≤ length xs
+few_pass q xs = subst (λ n. n ≤ length xs) (sym (length-filter q xs)) (count_by-le-length q xs)
 
-pub group-push : (q : DeathNotification → Bool) (xs : List DeathNotification) (x : DeathNotification)
+pub group_push : (q : DeathNotification → Bool) (xs : List DeathNotification) (x : DeathNotification)
     → length xs + 1 < 2 ^ 64 → x.made < 2 ^ 32 → (b : Bool) → q x ≡ b
     → group (filter q (xs ++ x ∷ [])) ≡ cond b (Some (with_one x.made (group (filter q xs)))) (group (filter q xs))
-group-push q xs x few fits true h =
-    let fewer = few-pass q xs in
-    rw (filter-append q xs (x ∷ []), h) (group-more (filter q xs) x (omega (arith, few, fewer)) fits)
-group-push q xs x few fits false h = rw (filter-append q xs (x ∷ []), h) (ap group (nothing (filter q xs)))
+group_push q xs x few fits true h =
+    let fewer = few_pass q xs in
+    rw (filter-append q xs (x ∷ []), h) (group_more (filter q xs) x (omega (arith, few, fewer)) fits)
+group_push q xs x few fits false h = rw (filter-append q xs (x ∷ []), h) (ap group (nothing (filter q xs)))
   where
     nothing : (ys : List DeathNotification) → ys ++ [] ≡ ys
     nothing [] = refl
@@ -73,21 +73,21 @@ group-push q xs x few fits false h = rw (filter-append q xs (x ∷ []), h) (ap g
 
 -- ---- one less
 
-length-remove : {A : Type 0} (q : A → Bool) (xs : List A) (i : ℕ) (d : A) → i < length xs → q (get_or xs i d) ≡ true → length (filter q (remove xs i)) + 1 ≡ length (filter q xs)
-length-remove q [] i d h e = absurd (omega arith)
-length-remove q (x ∷ xs) zero d h e = rw e (omega arith)
-length-remove q (x ∷ xs) (suc i) d h e = by (q x) (length-remove q xs i d (omega arith) e)
+length_remove : {A : Type 0} (q : A → Bool) (xs : List A) (i : ℕ) (d : A) → i < length xs → q (get_or xs i d) ≡ true → length (filter q (remove xs i)) + 1 ≡ length (filter q xs)
+length_remove q [] i d h e = absurd (omega arith)
+length_remove q (x ∷ xs) zero d h e = rw e (omega arith)
+length_remove q (x ∷ xs) (suc i) d h e = by (q x) (length_remove q xs i d (omega arith) e)
   where
     by : (b : Bool) → length (filter q (remove xs i)) + 1 ≡ length (filter q xs)
         → length (cond b (x ∷ filter q (remove xs i)) (filter q (remove xs i))) + 1 ≡ length (cond b (x ∷ filter q xs) (filter q xs))
     by true g = omega (arith, g)
     by false g = g
 
-places-remove : (q : DeathNotification → Bool) (xs : List DeathNotification) (i : ℕ) (d : DeathNotification)
+places_remove : (q : DeathNotification → Bool) (xs : List DeathNotification) (i : ℕ) (d : DeathNotification)
     → i < length xs → q (get_or xs i d) ≡ true → places (filter q (remove xs i)) + (get_or xs i d).made ≡ places (filter q xs)
-places-remove q [] i d h e = absurd (omega arith)
-places-remove q (x ∷ xs) zero d h e = rw e (let s = sum_by-cons made_of x (filter q xs) in omega (arith, s))
-places-remove q (x ∷ xs) (suc i) d h e = by (q x) (places-remove q xs i d (omega arith) e)
+places_remove q [] i d h e = absurd (omega arith)
+places_remove q (x ∷ xs) zero d h e = rw e (let s = sum_by-cons made_of x (filter q xs) in omega (arith, s))
+places_remove q (x ∷ xs) (suc i) d h e = by (q x) (places_remove q xs i d (omega arith) e)
   where
     by : (b : Bool) → places (filter q (remove xs i)) + (get_or xs i d).made ≡ places (filter q xs)
         → places (cond b (x ∷ filter q (remove xs i)) (filter q (remove xs i))) + (get_or xs i d).made
@@ -99,8 +99,8 @@ places-remove q (x ∷ xs) (suc i) d h e = by (q x) (places-remove q xs i d (ome
     by false g = g
 
 -- what was added is taken off, whether or not the sum wrapped
-taken-off : (s t m : ℕ) → m < 2 ^ 32 → t + m ≡ s → (s % 2 ^ 32 + (2 ^ 32 - m)) % 2 ^ 32 ≡ t % 2 ^ 32
-taken-off s t m fits e =
+taken_off : (s t m : ℕ) → m < 2 ^ 32 → t + m ≡ s → (s % 2 ^ 32 + (2 ^ 32 - m)) % 2 ^ 32 ≡ t % 2 ^ 32
+taken_off s t m fits e =
     mod-add-mod s (2 ^ 32) (2 ^ 32 - m)
     ∙ ap (λ n. n % 2 ^ 32) (omega (arith, fits, e))
     ∙ add-mod_right t (2 ^ 32)
@@ -112,48 +112,48 @@ several n h = by (nat_le n 1) refl
     by true e = let few = leb-true n 1 e in absurd (omega (arith, few, h))
     by false e = refl
 
-group-less : (ys zs : List DeathNotification) (m : ℕ) → m < 2 ^ 32 → length zs + 1 ≡ length ys
+group_less : (ys zs : List DeathNotification) (m : ℕ) → m < 2 ^ 32 → length zs + 1 ≡ length ys
     → places zs + m ≡ places ys → without_one m (group ys) ≡ group zs
-group-less [] zs m fits h e = absurd (omega (arith, h))
-group-less (y ∷ []) [] m fits h e = refl
-group-less (y ∷ []) (z ∷ zs) m fits h e = absurd (omega (arith, h))
-group-less (y ∷ x ∷ ys) [] m fits h e = absurd (omega (arith, h))
-group-less (y ∷ x ∷ ys) (z ∷ zs) m fits h e =
+group_less [] zs m fits h e = absurd (omega (arith, h))
+group_less (y ∷ []) [] m fits h e = refl
+group_less (y ∷ []) (z ∷ zs) m fits h e = absurd (omega (arith, h))
+group_less (y ∷ x ∷ ys) [] m fits h e = absurd (omega (arith, h))
+group_less (y ∷ x ∷ ys) (z ∷ zs) m fits h e =
     rw (several (length (y ∷ x ∷ ys)) (omega arith))
-    (same-kept (length (y ∷ x ∷ ys) - 1) (length (z ∷ zs))
+    (same_kept (length (y ∷ x ∷ ys) - 1) (length (z ∷ zs))
     ((places (y ∷ x ∷ ys) % 2 ^ 32 + (2 ^ 32 - m)) % 2 ^ 32) (places (z ∷ zs) % 2 ^ 32)
-    (omega (arith, h)) (taken-off (places (y ∷ x ∷ ys)) (places (z ∷ zs)) m fits e))
+    (omega (arith, h)) (taken_off (places (y ∷ x ∷ ys)) (places (z ∷ zs)) m fits e))
 
-pub group-remove : (q : DeathNotification → Bool) (xs : List DeathNotification) (i : ℕ) (d : DeathNotification)
+pub group_remove : (q : DeathNotification → Bool) (xs : List DeathNotification) (i : ℕ) (d : DeathNotification)
     → i < length xs → (get_or xs i d).made < 2 ^ 32 → q (get_or xs i d) ≡ true
     → without_one (get_or xs i d).made (group (filter q xs)) ≡ group (filter q (remove xs i))
-group-remove q xs i d h fits e =
-    group-less (filter q xs) (filter q (remove xs i)) (get_or xs i d).made fits (length-remove q xs i d h e)
-    (places-remove q xs i d h e)
+group_remove q xs i d h fits e =
+    group_less (filter q xs) (filter q (remove xs i)) (get_or xs i d).made fits (length_remove q xs i d h e)
+    (places_remove q xs i d h e)
 
 -- ---- changed where it doesn't show
 
 module _ (p : DeathNotification → Bool) (f : DeathNotification → DeathNotification) (made : (x : DeathNotification) → (f x).made ≡ x.made) where
-  made-stays : (b : Bool) (x : DeathNotification) → (cond b (f x) x).made ≡ x.made
-  made-stays true x = made x
-  made-stays false x = refl
+  made_stays : (b : Bool) (x : DeathNotification) → (cond b (f x) x).made ≡ x.made
+  made_stays true x = made x
+  made_stays false x = refl
 
-  length-changed : (xs : List DeathNotification) → length (changed p f xs) ≡ length xs
-  length-changed [] = refl
-  length-changed (x ∷ xs) = ap (λ n. suc n) (length-changed xs)
+  length_changed : (xs : List DeathNotification) → length (changed p f xs) ≡ length xs
+  length_changed [] = refl
+  length_changed (x ∷ xs) = ap (λ n. suc n) (length_changed xs)
 
-  places-changed : (xs : List DeathNotification) → places (changed p f xs) ≡ places xs
-  places-changed [] = refl
-  places-changed (x ∷ xs) =
+  places_changed : (xs : List DeathNotification) → places (changed p f xs) ≡ places xs
+  places_changed [] = refl
+  places_changed (x ∷ xs) =
       let s = sum_by-cons made_of (cond (p x) (f x) x) (changed p f xs) in
       let t = sum_by-cons made_of x xs in
-      let e = made-stays (p x) x in
-      let g = places-changed xs in
+      let e = made_stays (p x) x in
+      let g = places_changed xs in
       omega (arith, s, t, e, g)
 
-  filter-changed : (q : DeathNotification → Bool) → ((x : DeathNotification) → q (f x) ≡ q x) → (xs : List DeathNotification) → filter q (changed p f xs) ≡ changed p f (filter q xs)
-  filter-changed q h [] = refl
-  filter-changed q h (x ∷ xs) = rw (same (p x), filter-changed q h xs) (by (q x))
+  filter_changed : (q : DeathNotification → Bool) → ((x : DeathNotification) → q (f x) ≡ q x) → (xs : List DeathNotification) → filter q (changed p f xs) ≡ changed p f (filter q xs)
+  filter_changed q h [] = refl
+  filter_changed q h (x ∷ xs) = rw (same (p x), filter_changed q h xs) (by (q x))
     where
       same : (b : Bool) → q (cond b (f x) x) ≡ q x
       same true = h x
@@ -163,9 +163,9 @@ module _ (p : DeathNotification → Bool) (f : DeathNotification → DeathNotifi
       by true = refl
       by false = refl
 
-  pub group-stays : (q : DeathNotification → Bool) → ((x : DeathNotification) → q (f x) ≡ q x)
+  pub group_stays : (q : DeathNotification → Bool) → ((x : DeathNotification) → q (f x) ≡ q x)
       → (xs : List DeathNotification) → group (filter q (changed p f xs)) ≡ group (filter q xs)
-  group-stays q h xs =
-      ap group (filter-changed q h xs)
-      ∙ same-group (changed p f (filter q xs)) (filter q xs) (length-changed (filter q xs))
-      (places-changed (filter q xs))
+  group_stays q h xs =
+      ap group (filter_changed q h xs)
+      ∙ same_group (changed p f (filter q xs)) (filter q xs) (length_changed (filter q xs))
+      (places_changed (filter q xs))

@@ -16,14 +16,14 @@ use Rattle.bd_space.specs.Words.{changed}
 use Rattle.bd_deaths.specs.Keys.{object_group}
 use Rattle.bd_deaths.specs.Listed.{IsListed}
 use Rattle.bd_deaths.specs.Due.{has_place, is_own_at}
-use Rattle.bd_deaths.proofs.Changes.{All-changed}
-use Rattle.bd_keys.proofs.Lists.{eqb-turned}
-use Rattle.bd_ways.proofs.Ranges.{all-stay, same-filter}
+use Rattle.bd_deaths.proofs.Changes.{All_changed}
+use Rattle.bd_keys.proofs.Lists.{eqb_turned}
+use Rattle.bd_ways.proofs.Ranges.{all_stay, same_filter}
 use Rattle.bd_deaths.proofs.Kept.{Alike}
 
-pub place-in : (m : ℕ) (ms : List ℕ) → IsIn m ms → has_place ms m ≡ true
-place-in m [] h = absurd h
-place-in m (n ∷ ms) h = elim h [ inl e ↦ rw (eq-eqb n m (sym e)) refl | inr k ↦ by (n == m) (place-in m ms k) ]
+pub place_in : (m : ℕ) (ms : List ℕ) → IsIn m ms → has_place ms m ≡ true
+place_in m [] h = absurd h
+place_in m (n ∷ ms) h = elim h [ inl e ↦ rw (eq-eqb n m (sym e)) refl | inr k ↦ by (n == m) (place_in m ms k) ]
   where
     by : (b : Bool) → has_place ms m ≡ true → (b || has_place ms m) ≡ true
     by true e = refl
@@ -31,9 +31,9 @@ place-in m (n ∷ ms) h = elim h [ inl e ↦ rw (eq-eqb n m (sym e)) refl | inr 
 
 -- ---- a process's are forgotten
 
-pub All-left : {A : Type 0} (P Q : A → Type 0) (q : A → Bool) → ((x : A) → q x ≡ true → P x → Q x) → (xs : List A) → All P xs → All Q (filter q xs)
-All-left P Q q h [] all = All-nil Q
-All-left P Q q h (x ∷ xs) all = by (q x) refl (All-left P Q q h xs (All-tail P x xs all))
+pub All_left : {A : Type 0} (P Q : A → Type 0) (q : A → Bool) → ((x : A) → q x ≡ true → P x → Q x) → (xs : List A) → All P xs → All Q (filter q xs)
+All_left P Q q h [] all = All-nil Q
+All_left P Q q h (x ∷ xs) all = by (q x) refl (All_left P Q q h xs (All-tail P x xs all))
   where
     by : (b : Bool) → q x ≡ b → All Q (filter q xs) → All Q (cond b (x ∷ filter q xs) (filter q xs))
     by true e rest = All-cons Q x (filter q xs) (h x e (All-head P x xs all)) rest
@@ -41,37 +41,37 @@ All-left P Q q h (x ∷ xs) all = by (q x) refl (All-left P Q q h xs (All-tail P
 
 module _ (p : ℕ) (t u : Groups ℕ)
     (gone : (h : Group) → members u h ≡ cond (same_group (Process p) h) [] (members t h)) where
-  of-other : (n : ℕ) → (n == p) ≡ false → same_group (Process p) (Process n) ≡ false
+  of_other : (n : ℕ) → (n == p) ≡ false → same_group (Process p) (Process n) ≡ false
   unfolding same_group
-  of-other n e = eqb-turned p n ∙ e
+  of_other n e = eqb_turned p n ∙ e
 
-  of-object : (h : ObjectId) → same_group (Process p) (object_group h) ≡ false
+  of_object : (h : ObjectId) → same_group (Process p) (object_group h) ≡ false
   unfolding same_group
-  of-object h = refl
+  of_object h = refl
 
-  others-listed : (x : DeathNotification) → not (x.process == p) ≡ true → IsListed t x → IsListed u x
-  others-listed x e k = record {
-    process = subst (IsIn x.made) (sym (gone (Process x.process) ∙ ap (λ b. cond b [] (members t (Process x.process))) (of-other x.process (not-true _ e)))) k.process;
-    object = subst (IsIn x.made) (sym (gone (object_group x.object) ∙ ap (λ b. cond b [] (members t (object_group x.object))) (of-object x.object))) k.object;
+  others_listed : (x : DeathNotification) → not (x.process == p) ≡ true → IsListed t x → IsListed u x
+  others_listed x e k = record {
+    process = subst (IsIn x.made) (sym (gone (Process x.process) ∙ ap (λ b. cond b [] (members t (Process x.process))) (of_other x.process (not-true _ e)))) k.process;
+    object = subst (IsIn x.made) (sym (gone (object_group x.object) ∙ ap (λ b. cond b [] (members t (object_group x.object))) (of_object x.object))) k.object;
   }
 
   pub forgotten : (l : List DeathNotification) → All (IsListed t) l → All (IsListed u) (filter (λ x. not (x.process == p)) l)
-  forgotten l all = All-left (IsListed t) (IsListed u) (λ x. not (x.process == p)) others-listed l all
+  forgotten l all = All_left (IsListed t) (IsListed u) (λ x. not (x.process == p)) others_listed l all
 
 -- ---- a change that shows in neither process, object nor place
 
-pub listed-changed : (g : Groups ℕ) (q : DeathNotification → Bool) (f : DeathNotification → DeathNotification) → ((x : DeathNotification) → Alike x (f x))
+pub listed_changed : (g : Groups ℕ) (q : DeathNotification → Bool) (f : DeathNotification → DeathNotification) → ((x : DeathNotification) → Alike x (f x))
     → (l : List DeathNotification) → All (IsListed g) l → All (IsListed g) (changed q f l)
-listed-changed g q f alike l all = All-changed (IsListed g) q f (λ x k. same-listed x (f x) (alike x) k) l all
+listed_changed g q f alike l all = All_changed (IsListed g) q f (λ x k. same_listed x (f x) (alike x) k) l all
   where
-    same-listed : (x y : DeathNotification) → Alike x y → IsListed g x → IsListed g y
-    same-listed x y a k = record { process = rw (a.made, a.process) k.process; object = rw (a.made, a.object) k.object }
+    same_listed : (x y : DeathNotification) → Alike x y → IsListed g x → IsListed g y
+    same_listed x y a k = record { process = rw (a.made, a.process) k.process; object = rw (a.made, a.object) k.object }
 
 -- ---- a process's notifications go, place by place
 
-filter-both : {A : Type 0} (q r : A → Bool) (xs : List A) → filter r (filter q xs) ≡ filter (λ x. q x && r x) xs
-filter-both q r [] = refl
-filter-both {A} q r (x ∷ xs) = by (q x) (filter-both q r xs)
+filter_both : {A : Type 0} (q r : A → Bool) (xs : List A) → filter r (filter q xs) ≡ filter (λ x. q x && r x) xs
+filter_both q r [] = refl
+filter_both {A} q r (x ∷ xs) = by (q x) (filter_both q r xs)
   where
     by : (b : Bool) → filter r (filter q xs) ≡ filter (λ y. q y && r y) xs
         → filter r (cond b (x ∷ filter q xs) (filter q xs)) ≡ cond (b && r x) (x ∷ filter (λ y. q y && r y) xs) (filter (λ y. q y && r y) xs)
@@ -93,23 +93,23 @@ module _ (p : ℕ) where
   abbrev pub is_left : List ℕ → DeathNotification → Bool
   is_left ms x = not (has_place ms x.made && (x.process == p))
 
-  pub none-left-out : (l : List DeathNotification) → l ≡ filter (is_left []) l
-  none-left-out l = sym (all-stay (is_left []) (λ x. refl) l)
+  pub none_left_out : (l : List DeathNotification) → l ≡ filter (is_left []) l
+  none_left_out l = sym (all_stay (is_left []) (λ x. refl) l)
 
-  pub one-more-out : (ms : List ℕ) (m : ℕ) (l : List DeathNotification) → filter (λ x. not (is_own_at p m x)) (filter (is_left ms) l) ≡ filter (is_left (ms ++ m ∷ [])) l
-  one-more-out ms m l =
-      filter-both (is_left ms) (λ x. not (is_own_at p m x)) l
-      ∙ same-filter (λ x. is_left ms x && not (is_own_at p m x)) (is_left (ms ++ m ∷ []))
-      (λ x. ap (λ b. is_left ms x && not (b && (x.process == p))) (eqb-turned x.made m)
+  pub one_more_out : (ms : List ℕ) (m : ℕ) (l : List DeathNotification) → filter (λ x. not (is_own_at p m x)) (filter (is_left ms) l) ≡ filter (is_left (ms ++ m ∷ [])) l
+  one_more_out ms m l =
+      filter_both (is_left ms) (λ x. not (is_own_at p m x)) l
+      ∙ same_filter (λ x. is_left ms x && not (is_own_at p m x)) (is_left (ms ++ m ∷ []))
+      (λ x. ap (λ b. is_left ms x && not (b && (x.process == p))) (eqb_turned x.made m)
       ∙ neither (has_place ms x.made) (m == x.made) (x.process == p)
       ∙ ap (λ b. not (b && (x.process == p))) (sym (list_any-append (λ n. n == x.made) ms (m ∷ [])))) l
 
-  pub all-out : (g : Groups ℕ) (l : List DeathNotification) → All (IsListed g) l → filter (is_left (members g (Process p))) l ≡ filter (λ x. not (x.process == p)) l
-  all-out g [] all = refl
-  all-out g (x ∷ xs) all = rw (by (x.process == p) refl, all-out g xs (All-tail (IsListed g) x xs all)) refl
+  pub all_out : (g : Groups ℕ) (l : List DeathNotification) → All (IsListed g) l → filter (is_left (members g (Process p))) l ≡ filter (λ x. not (x.process == p)) l
+  all_out g [] all = refl
+  all_out g (x ∷ xs) all = rw (by (x.process == p) refl, all_out g xs (All-tail (IsListed g) x xs all)) refl
     where
       by : (b : Bool) → (x.process == p) ≡ b → not (has_place (members g (Process p)) x.made && b) ≡ not b
       by true e =
           let there = subst (λ n. IsIn x.made (members g (Process n))) (eqb-true x.process p e) (All-head (IsListed g) x xs all).process in
-          rw (place-in x.made (members g (Process p)) there) refl
+          rw (place_in x.made (members g (Process p)) there) refl
       by false e = ap not (and-false (has_place (members g (Process p)) x.made))

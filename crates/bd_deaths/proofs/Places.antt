@@ -9,61 +9,61 @@ use Rattle.bd_space.specs.declared.space.DeathNotification.{DeathNotification}
 use Rattle.bd_space.specs.Words.{changed}
 use Rattle.bd_space.specs.Deaths.{is_notification}
 use Rattle.bd_ways.specs.Ranges.{IsWithin}
-use Rattle.bd_ways.proofs.Ranges.{none-before, none-after, Implies, no-head, within-fewer}
+use Rattle.bd_ways.proofs.Ranges.{none_before, none_after, Implies, no_head, within_fewer}
 use Rattle.bd_deaths.specs.declared.key.Sharers.{Sharers}
 use Rattle.bd_deaths.specs.Keys.{group}
 use Rattle.bd_deaths.specs.declared.slot.Slot.{Slot}
 use Rattle.bd_deaths.specs.Slots.{deaths_in, lives, of, with}
 use Rattle.bd_deaths.specs.Stands.{IsRising}
-use Rattle.bd_deaths.proofs.Keys.{sum-of-one}
+use Rattle.bd_deaths.proofs.Keys.{sum_of_one}
 
 -- ---- in the order of their places
 
-pub rising-from : (m n end : ℕ) (xs : List DeathNotification) → m ≤ n → IsRising n end xs → IsRising m end xs
-rising-from m n end [] h r = omega (arith, h, r)
-rising-from m n end (x ∷ xs) h r = (omega (arith, h, r.0), r.1)
+pub rising_from : (m n end : ℕ) (xs : List DeathNotification) → m ≤ n → IsRising n end xs → IsRising m end xs
+rising_from m n end [] h r = omega (arith, h, r)
+rising_from m n end (x ∷ xs) h r = (omega (arith, h, r.0), r.1)
 
-pub rising-push : (m end : ℕ) (ss : List Slot) (s : Slot) → IsRising m end (deaths_in ss) → end ≤ s.death.made → IsRising m (s.death.made + 1) (deaths_in (ss ++ s ∷ []))
-rising-push m end [] s r h = (omega (arith, h, r), omega arith)
-rising-push m end (t ∷ ts) s r h = (r.0, rising-push (suc t.death.made) end ts s r.1 h)
+pub rising_push : (m end : ℕ) (ss : List Slot) (s : Slot) → IsRising m end (deaths_in ss) → end ≤ s.death.made → IsRising m (s.death.made + 1) (deaths_in (ss ++ s ∷ []))
+rising_push m end [] s r h = (omega (arith, h, r), omega arith)
+rising_push m end (t ∷ ts) s r h = (r.0, rising_push (suc t.death.made) end ts s r.1 h)
 
 -- of those that haven't gone
-pub rising-lives : (m end : ℕ) (ss : List Slot) → IsRising m end (deaths_in ss) → IsRising m end (lives ss)
-rising-lives m end [] r = r
-rising-lives m end (s ∷ ss) r = by s.live (rising-lives (suc s.death.made) end ss r.1)
+pub rising_lives : (m end : ℕ) (ss : List Slot) → IsRising m end (deaths_in ss) → IsRising m end (lives ss)
+rising_lives m end [] r = r
+rising_lives m end (s ∷ ss) r = by s.live (rising_lives (suc s.death.made) end ss r.1)
   where
     by : (b : Bool) → IsRising (suc s.death.made) end (lives ss) → IsRising m end (cond b (s.death ∷ lives ss) (lives ss))
     by true h = (r.0, h)
-    by false h = let a = r.0 in rising-from m (suc s.death.made) end (lives ss) (omega (arith, a)) h
+    by false h = let a = r.0 in rising_from m (suc s.death.made) end (lives ss) (omega (arith, a)) h
 
-pub rising-changed : (p : Slot → Bool) (f : DeathNotification → DeathNotification) → ((x : DeathNotification) → (f x).made ≡ x.made)
+pub rising_changed : (p : Slot → Bool) (f : DeathNotification → DeathNotification) → ((x : DeathNotification) → (f x).made ≡ x.made)
     → (m end : ℕ) (ss : List Slot) → IsRising m end (deaths_in ss) → IsRising m end (deaths_in (changed p (with f) ss))
-rising-changed p f made m end [] r = r
-rising-changed p f made m end (s ∷ ss) r = by (p s) (rising-changed p f made (suc s.death.made) end ss r.1)
+rising_changed p f made m end [] r = r
+rising_changed p f made m end (s ∷ ss) r = by (p s) (rising_changed p f made (suc s.death.made) end ss r.1)
   where
     by : (b : Bool) → IsRising (suc s.death.made) end (deaths_in (changed p (with f) ss))
         → IsRising m end ((cond b (with f s) s).death ∷ deaths_in (changed p (with f) ss))
     by true h = subst (λ n. (m ≤ n) × IsRising (suc n) end (deaths_in (changed p (with f) ss))) (sym (made s.death)) (r.0, h)
     by false h = (r.0, h)
 
-pub rising-filter : (p : Slot → Bool) (m end : ℕ) (ss : List Slot) → IsRising m end (deaths_in ss) → IsRising m end (deaths_in (filter p ss))
-rising-filter p m end [] r = r
-rising-filter p m end (s ∷ ss) r = by (p s) (rising-filter p (suc s.death.made) end ss r.1)
+pub rising_filter : (p : Slot → Bool) (m end : ℕ) (ss : List Slot) → IsRising m end (deaths_in ss) → IsRising m end (deaths_in (filter p ss))
+rising_filter p m end [] r = r
+rising_filter p m end (s ∷ ss) r = by (p s) (rising_filter p (suc s.death.made) end ss r.1)
   where
     by : (b : Bool) → IsRising (suc s.death.made) end (deaths_in (filter p ss)) → IsRising m end (deaths_in (cond b (s ∷ filter p ss) (filter p ss)))
     by true h = (r.0, h)
-    by false h = let a = r.0 in rising-from m (suc s.death.made) end (deaths_in (filter p ss)) (omega (arith, a)) h
+    by false h = let a = r.0 in rising_from m (suc s.death.made) end (deaths_in (filter p ss)) (omega (arith, a)) h
 
-rising-above : (m end : ℕ) (ss : List Slot) (i : ℕ) (d : Slot) → IsRising m end (deaths_in ss) → i < length ss → m ≤ (get_or ss i d).death.made
-rising-above m end [] i d r h = absurd (omega arith)
-rising-above m end (s ∷ ss) zero d r h = r.0
-rising-above m end (s ∷ ss) (suc i) d r h = let a = rising-above (suc s.death.made) end ss i d r.1 (omega arith) in let b = r.0 in omega (arith, a, b)
+rising_above : (m end : ℕ) (ss : List Slot) (i : ℕ) (d : Slot) → IsRising m end (deaths_in ss) → i < length ss → m ≤ (get_or ss i d).death.made
+rising_above m end [] i d r h = absurd (omega arith)
+rising_above m end (s ∷ ss) zero d r h = r.0
+rising_above m end (s ∷ ss) (suc i) d r h = let a = rising_above (suc s.death.made) end ss i d r.1 (omega arith) in let b = r.0 in omega (arith, a, b)
 
-rising-at : (m end : ℕ) (ss : List Slot) (i j : ℕ) (d : Slot) → IsRising m end (deaths_in ss) → i < j → j < length ss → (get_or ss i d).death.made < (get_or ss j d).death.made
-rising-at m end [] i j d r h k = absurd (omega arith)
-rising-at m end (s ∷ ss) i zero d r h k = absurd (omega arith)
-rising-at m end (s ∷ ss) zero (suc j) d r h k = let a = rising-above (suc s.death.made) end ss j d r.1 (omega arith) in omega (arith, a)
-rising-at m end (s ∷ ss) (suc i) (suc j) d r h k = rising-at (suc s.death.made) end ss i j d r.1 (omega arith) (omega arith)
+rising_at : (m end : ℕ) (ss : List Slot) (i j : ℕ) (d : Slot) → IsRising m end (deaths_in ss) → i < j → j < length ss → (get_or ss i d).death.made < (get_or ss j d).death.made
+rising_at m end [] i j d r h k = absurd (omega arith)
+rising_at m end (s ∷ ss) i zero d r h k = absurd (omega arith)
+rising_at m end (s ∷ ss) zero (suc j) d r h k = let a = rising_above (suc s.death.made) end ss j d r.1 (omega arith) in omega (arith, a)
+rising_at m end (s ∷ ss) (suc i) (suc j) d r h k = rising_at (suc s.death.made) end ss i j d r.1 (omega arith) (omega arith)
 
 -- ---- of those with a key
 
@@ -74,31 +74,31 @@ empty (y ∷ ys) h = absurd (cc)
 single : (x : DeathNotification) (ys : List DeathNotification) (g : Sharers) → x.made < 2 ^ 32 → group (x ∷ ys) ≡ Some g
     → g.count ≡ 1 → (x.made ≡ g.sum) × (ys ≡ [])
 single x [] g fits h one =
-    let is : (0 + x.made) % 2 ^ 32 ≡ g.sum = cc in (sym (sum-of-one x.made fits) ∙ is, refl)
+    let is : (0 + x.made) % 2 ^ 32 ≡ g.sum = cc in (sym (sum_of_one x.made fits) ∙ is, refl)
 single x (y ∷ ys) g fits h one =
     let is : length (x ∷ y ∷ ys) ≡ g.count = cc in absurd (omega (arith, is, one))
 
-none-pass : (q : DeathNotification → Bool) (xs : List DeathNotification) → filter q xs ≡ [] → list_any q xs ≡ false
-none-pass q [] h = refl
-none-pass q (x ∷ xs) h = by (q x) h (none-pass q xs)
+none_pass : (q : DeathNotification → Bool) (xs : List DeathNotification) → filter q xs ≡ [] → list_any q xs ≡ false
+none_pass q [] h = refl
+none_pass q (x ∷ xs) h = by (q x) h (none_pass q xs)
   where
     by : (b : Bool) → cond b (x ∷ filter q xs) (filter q xs) ≡ [] → (filter q xs ≡ [] → list_any q xs ≡ false) → (b || list_any q xs) ≡ false
     by true g further = absurd (cc)
     by false g further = further g
 
-pub within-none : (q : DeathNotification → Bool) (xs : List DeathNotification) → group (filter q xs) ≡ None
+pub within_none : (q : DeathNotification → Bool) (xs : List DeathNotification) → group (filter q xs) ≡ None
     → IsWithin q 0 0 xs
-within-none q xs h = record { before = refl; after = none-pass q xs (empty (filter q xs) h) }
+within_none q xs h = record { before = refl; after = none_pass q xs (empty (filter q xs) h) }
 
-pub nothing-implies : {A : Type 0} (q r : A → Bool) (xs : List A) → list_any q xs ≡ false → Implies q r xs
-nothing-implies q r [] h = tt
-nothing-implies q r (x ∷ xs) h = let g = no-head (q x) _ h in (λ e. absurd (cc), nothing-implies q r xs g.1)
+pub nothing_implies : {A : Type 0} (q r : A → Bool) (xs : List A) → list_any q xs ≡ false → Implies q r xs
+nothing_implies q r [] h = tt
+nothing_implies q r (x ∷ xs) h = let g = no_head (q x) _ h in (λ e. absurd (cc), nothing_implies q r xs g.1)
 
 -- one passes, of the place that its group says
-one-implies : (q : DeathNotification → Bool) (g : Sharers) → g.count ≡ 1 → (xs : List DeathNotification)
+one_implies : (q : DeathNotification → Bool) (g : Sharers) → g.count ≡ 1 → (xs : List DeathNotification)
     → All (λ x. x.made < 2 ^ 32) xs → group (filter q xs) ≡ Some g → Implies q (is_notification g.sum) xs
-one-implies q g one [] fit h = tt
-one-implies q g one (x ∷ xs) fit h = by (q x) refl h (one-implies q g one xs (All-tail fits x xs fit))
+one_implies q g one [] fit h = tt
+one_implies q g one (x ∷ xs) fit h = by (q x) refl h (one_implies q g one xs (All-tail fits x xs fit))
   where
     fits : DeathNotification → Type 0
     fits y = y.made < 2 ^ 32
@@ -108,13 +108,13 @@ one-implies q g one (x ∷ xs) fit h = by (q x) refl h (one-implies q g one xs (
         → (q x ≡ true → (x.made == g.sum) ≡ true) × Implies q (is_notification g.sum) xs
     by true e h further =
         let s = single x (filter q xs) g (All-head fits x xs fit) h one in
-        (λ _. eq-eqb x.made g.sum s.0, nothing-implies q (is_notification g.sum) xs (none-pass q xs s.1))
+        (λ _. eq-eqb x.made g.sum s.0, nothing_implies q (is_notification g.sum) xs (none_pass q xs s.1))
     by false e h further = (λ t. absurd (cc), further h)
 
-pub within-one : (q : DeathNotification → Bool) (g : Sharers) → g.count ≡ 1 → (i j : ℕ) (xs : List DeathNotification)
+pub within_one : (q : DeathNotification → Bool) (g : Sharers) → g.count ≡ 1 → (i j : ℕ) (xs : List DeathNotification)
     → All (λ x. x.made < 2 ^ 32) xs → group (filter q xs) ≡ Some g
     → IsWithin (is_notification g.sum) i j xs → IsWithin q i j xs
-within-one q g one i j xs fit h w = within-fewer q (is_notification g.sum) xs i j (one-implies q g one xs fit h) w
+within_one q g one i j xs fit h w = within_fewer q (is_notification g.sum) xs i j (one_implies q g one xs fit h) w
 
 -- ---- by halves
 
@@ -123,7 +123,7 @@ partitioned m end ss made r = λ i j d h k e. by i j d h k e (ltb i j) refl
   where
     by : (i j : ℕ) (d : Slot) → i ≤ j → j < length ss → ltb (get_or ss j d).death.made made ≡ true → (b : Bool) → ltb i j ≡ b → ltb (get_or ss i d).death.made made ≡ true
     by i j d h k e true g =
-        let a = rising-at m end ss i j d r (ltb-true i j g) k in
+        let a = rising_at m end ss i j d r (ltb-true i j g) k in
         let b = ltb-true (get_or ss j d).death.made made e in
         lt-ltb (get_or ss i d).death.made made (omega (arith, a, b))
     by i j d h k e false g =
@@ -133,20 +133,20 @@ partitioned m end ss made r = λ i j d h k e. by i j d h k e (ltb i j) refl
 
 module _ (end : ℕ) (ss : List Slot) (made i : ℕ) (r : IsRising 0 end (deaths_in ss))
     (p : IsPartitionPoint (λ s. ltb s.death.made made ≡ true) (λ s. ltb s.death.made made ≡ false) ss i) where
-  before-point : list_any (of (is_notification made)) (take i ss) ≡ false
-  before-point = none-before (of (is_notification made)) ss i (λ k d a b. let e = ltb-true (get_or ss k d).death.made made (p.0 k d (omega arith) a) in ne_eqb (get_or ss k d).death.made made (λ same. omega (arith, e, same)))
+  before_point : list_any (of (is_notification made)) (take i ss) ≡ false
+  before_point = none_before (of (is_notification made)) ss i (λ k d a b. let e = ltb-true (get_or ss k d).death.made made (p.0 k d (omega arith) a) in ne_eqb (get_or ss k d).death.made made (λ same. omega (arith, e, same)))
 
-  pub within-point : i < length ss → IsWithin (of (is_notification made)) i (i + 1) ss
-  within-point h = record {
-    before = before-point;
-    after = none-after (of (is_notification made)) ss (i + 1) (λ k d a b.
+  pub within_point : i < length ss → IsWithin (of (is_notification made)) i (i + 1) ss
+  within_point h = record {
+    before = before_point;
+    after = none_after (of (is_notification made)) ss (i + 1) (λ k d a b.
         let here = ltb-false (get_or ss i d).death.made made (p.1 i d (omega arith) h) in
-        let there = rising-at 0 end ss i k d r (omega (arith, a)) b in
+        let there = rising_at 0 end ss i k d r (omega (arith, a)) b in
         ne_eqb (get_or ss k d).death.made made (λ same. omega (arith, here, there, same)));
   }
 
-  pub within-end : length ss ≤ i → IsWithin (of (is_notification made)) i i ss
-  within-end h = record {
-    before = before-point;
-    after = none-after (of (is_notification made)) ss i (λ k d a b. absurd (omega (arith, h, a, b)));
+  pub within_end : length ss ≤ i → IsWithin (of (is_notification made)) i i ss
+  within_end h = record {
+    before = before_point;
+    after = none_after (of (is_notification made)) ss i (λ k d a b. absurd (omega (arith, h, a, b)));
   }

@@ -4,7 +4,7 @@ use Rattle.std.specs.Prelude.{All}
 use Rattle.std.specs.List.{remove}
 use Rattle.std.specs.HashMap.{get}
 use Rattle.std.proofs.lemmas.Bool.{eqb-true, and_parts}
-use Rattle.bd_keys.proofs.Lists.{filter-remove}
+use Rattle.bd_keys.proofs.Lists.{filter_remove}
 use Rattle.bd_keys.specs.declared.key.WordKey.{WordKey}
 use Rattle.bd_keys.specs.Look.{look}
 use Rattle.bd_space.specs.declared.space.DeathNotification.{DeathNotification}
@@ -15,10 +15,10 @@ use Rattle.bd_deaths.specs.declared.key.Sharers.{Sharers}
 use Rattle.bd_deaths.specs.declared.sharing.Sharing.{Sharing}
 use Rattle.bd_deaths.specs.Keys.{same_name, has, group, with_one, without_one}
 use Rattle.bd_deaths.specs.SharedAt.{AreShared, group_at}
-use Rattle.bd_deaths.proofs.Keys.{group-push, group-remove}
+use Rattle.bd_deaths.proofs.Keys.{group_push, group_remove}
 
-pub name-eq : (a b : NameKey) → same_name a b ≡ true → a ≡ b
-name-eq a b h =
+pub name_eq : (a b : NameKey) → same_name a b ≡ true → a ≡ b
+name_eq a b h =
     let k = and_parts _ _ h in
     let m = and_parts _ _ k.1 in
     let p = eqb-true a.process b.process k.0 in
@@ -34,46 +34,46 @@ module _ {K : Type 0} (eq : K → K → Bool) (alike : (a b : K) → eq a b ≡ 
 
   module _ (g h : K → Option Sharers) (xs : List DeathNotification)
       (stood : (k : K) → g k ≡ group (filter (on k) xs)) where
-    pub one-more : (x : DeathNotification) → length xs + 1 < 2 ^ 64 → x.made < 2 ^ 32
+    pub one_more : (x : DeathNotification) → length xs + 1 < 2 ^ 64 → x.made < 2 ^ 32
         → ((k : K) → h k ≡ cond (eq (of x) k) (Some (with_one x.made (g (of x)))) (g k))
         → (k : K) → h k ≡ group (filter (on k) (xs ++ x ∷ []))
-    one-more x few fits puts k = puts k ∙ at (eq (of x) k) refl
+    one_more x few fits puts k = puts k ∙ at (eq (of x) k) refl
       where
         at : (b : Bool) → eq (of x) k ≡ b
             → cond b (Some (with_one x.made (g (of x)))) (g k) ≡ group (filter (on k) (xs ++ x ∷ []))
         at true e =
             ap (λ s. Some (with_one x.made s)) (ap g (alike (of x) k e) ∙ stood k)
-            ∙ sym (group-push (on k) xs x few fits true e)
-        at false e = stood k ∙ sym (group-push (on k) xs x few fits false e)
+            ∙ sym (group_push (on k) xs x few fits true e)
+        at false e = stood k ∙ sym (group_push (on k) xs x few fits false e)
 
-    pub one-less : (x : DeathNotification) (i : ℕ) → i < length xs → get_or xs i x ≡ x → x.made < 2 ^ 32
+    pub one_less : (x : DeathNotification) (i : ℕ) → i < length xs → get_or xs i x ≡ x → x.made < 2 ^ 32
         → ((k : K) → h k ≡ cond (eq (of x) k) (without_one x.made (g (of x))) (g k))
         → (k : K) → h k ≡ group (filter (on k) (remove xs i))
-    one-less x i within there fits takes k = takes k ∙ at (eq (of x) k) refl
+    one_less x i within there fits takes k = takes k ∙ at (eq (of x) k) refl
       where
         at : (b : Bool) → eq (of x) k ≡ b
             → cond b (without_one x.made (g (of x))) (g k) ≡ group (filter (on k) (remove xs i))
         at true e =
             ap (λ s. without_one x.made s) (ap g (alike (of x) k e) ∙ stood k)
             ∙ ap (λ y. without_one y.made (group (filter (on k) xs))) (sym there)
-            ∙ group-remove (on k) xs i x within (subst (λ y. y.made < 2 ^ 32) (sym there) fits) (ap (on k) there ∙ e)
-        at false e = stood k ∙ ap group (sym (filter-remove (on k) xs i x within (ap (on k) there ∙ e)))
+            ∙ group_remove (on k) xs i x within (subst (λ y. y.made < 2 ^ 32) (sym there) fits) (ap (on k) there ∙ e)
+        at false e = stood k ∙ ap group (sym (filter_remove (on k) xs i x within (ap (on k) there ∙ e)))
 
 -- ---- what is left of a key
 
 -- what is changed at a key is what is left there
-pub set-left : (made : ℕ) (o : Option Sharers) (now : Sharers) → without_one made o ≡ Some now
+pub set_left : (made : ℕ) (o : Option Sharers) (now : Sharers) → without_one made o ≡ Some now
     → option_map (λ _. now) o ≡ without_one made o
-set-left made None now h = absurd (cc)
-set-left made (Some g) now h = sym h
+set_left made None now h = absurd (cc)
+set_left made (Some g) now h = sym h
 
 -- ---- both kinds
 
-pub by-kind : (s : Sharing) (xs : List DeathNotification)
+pub by_kind : (s : Sharing) (xs : List DeathNotification)
     → ((k : NameKey) → get same_name s.names k ≡ group (filter (has (Name k)) xs))
     → ((k : WordKey) → look s.cookies k ≡ group (filter (has (Cookie k)) xs))
     → All (λ x. x.made < 2 ^ 32) xs → AreShared s xs
-by-kind s xs names cookies fit = record { groups = at; places = fit }
+by_kind s xs names cookies fit = record { groups = at; places = fit }
   where
     at : (k : Key) → group_at s k ≡ group (filter (has k) xs)
     at (Name k) = names k

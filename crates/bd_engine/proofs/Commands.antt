@@ -29,30 +29,30 @@ use Rattle.bd_engine.specs.Writing.{IsProgress, IsNext, IsUnrefused, IsTurnedAwa
 
 -- ---- one entry more
 
-after-push : (s : Space) (es : List Entry) (e : Entry) → after s (es ++ e ∷ []) ≡ next (after s es) e
-after-push s [] e = refl
-after-push s (x ∷ es) e = after-push (next s x) es e
+after_push : (s : Space) (es : List Entry) (e : Entry) → after s (es ++ e ∷ []) ≡ next (after s es) e
+after_push s [] e = refl
+after_push s (x ∷ es) e = after_push (next s x) es e
 
-space-extended : (h : History) (seat : ℕ) (x : Step) (a : StepAnswer) → space_after (extended h seat x a) ≡ (step (space_after h) seat x).space
+space_extended : (h : History) (seat : ℕ) (x : Step) (a : StepAnswer) → space_after (extended h seat x a) ≡ (step (space_after h) seat x).space
 unfolding space_after
-space-extended h seat x a = after-push opening h.entries (record { seat = seat; step = x; answer = a })
+space_extended h seat x a = after_push opening h.entries (record { seat = seat; step = x; answer = a })
 
-AllBy-push : (seat : ℕ) (es : List Entry) (e : Entry) → AllBy seat es → e.seat ≡ seat → AllBy seat (es ++ e ∷ [])
-AllBy-push seat [] e h is = (is, tt)
-AllBy-push seat (x ∷ es) e h is = (h.0, AllBy-push seat es e h.1 is)
+AllBy_push : (seat : ℕ) (es : List Entry) (e : Entry) → AllBy seat es → e.seat ≡ seat → AllBy seat (es ++ e ∷ [])
+AllBy_push seat [] e h is = (is, tt)
+AllBy_push seat (x ∷ es) e h is = (h.0, AllBy_push seat es e h.1 is)
 
-IsUnrefused-push : (es : List Entry) (e : Entry) → IsUnrefused es → IsUnrefused (e ∷ []) → IsUnrefused (es ++ e ∷ [])
-IsUnrefused-push [] e h k = k
-IsUnrefused-push (x ∷ es) e h k = h
+IsUnrefused_push : (es : List Entry) (e : Entry) → IsUnrefused es → IsUnrefused (e ∷ []) → IsUnrefused (es ++ e ∷ [])
+IsUnrefused_push [] e h k = k
+IsUnrefused_push (x ∷ es) e h k = h
 
 -- an answer that begins with one that wasn't refused
-wrote-unrefused : (es : List Entry) (w : Written) → IsUnrefused es → wrote w es ≡ Wrote w.consumed w.notes w.stop
-wrote-unrefused [] w h = refl
-wrote-unrefused (e ∷ es) w h = h w
+wrote_unrefused : (es : List Entry) (w : Written) → IsUnrefused es → wrote w es ≡ Wrote w.consumed w.notes w.stop
+wrote_unrefused [] w h = refl
+wrote_unrefused (e ∷ es) w h = h w
 
-wrote-push : (es : List Entry) (e : Entry) (w : Written) → IsUnrefused es → 0 < length es → wrote w (es ++ e ∷ []) ≡ Wrote w.consumed w.notes w.stop
-wrote-push [] e w h k = absurd (omega arith)
-wrote-push (x ∷ es) e w h k = h w
+wrote_push : (es : List Entry) (e : Entry) (w : Written) → IsUnrefused es → 0 < length es → wrote w (es ++ e ∷ []) ≡ Wrote w.consumed w.notes w.stop
+wrote_push [] e w h k = absurd (omega arith)
+wrote_push (x ∷ es) e w h k = h w
 
 -- ---- the next command
 
@@ -70,59 +70,59 @@ turned a e size i rest =
       | _ ↦ goes_on e size [] rest
     ]
 
-written-cons : (s : Space) (seat : ℕ) (area : List ℕ) (i : ℕ) (c : Command × ℕ) (cs : List (Command × ℕ)) (fault : Option Fault) (a : StepAnswer)
+written_cons : (s : Space) (seat : ℕ) (area : List ℕ) (i : ℕ) (c : Command × ℕ) (cs : List (Command × ℕ)) (fault : Option Fault) (a : StepAnswer)
     → a ≡ (step s seat (step_of_command area c.0)).answer
     → written s seat area i (c ∷ cs) fault
     ≡ turned a (record { seat = seat; step = step_of_command area c.0; answer = a }) c.1 i (written (step s seat (step_of_command area c.0)).space seat area (suc i) cs fault)
-written-cons s seat area i c cs fault a is =
+written_cons s seat area i c cs fault a is =
     ap (λ b. turned b (record { seat = seat; step = step_of_command area c.0; answer = b }) c.1 i (written (step s seat (step_of_command area c.0)).space seat area (suc i) cs fault)) (sym is)
 
-turned-some : (a : StepAnswer) (e : Entry) (size i : ℕ) (rest : Written) → 0 < length (turned a e size i rest).entries
-turned-some gave.Opened e size i rest = omega arith
-turned-some gave.Set e size i rest = omega arith
-turned-some gave.Exited e size i rest = omega arith
-turned-some gave.Accepted e size i rest = omega arith
-turned-some (gave.Noted n) e size i rest = omega arith
-turned-some (gave.Stopped x) e size i rest = omega arith
-turned-some (gave.Got x y z) e size i rest = omega arith
-turned-some (gave.Refused x) e size i rest = omega arith
+turned_some : (a : StepAnswer) (e : Entry) (size i : ℕ) (rest : Written) → 0 < length (turned a e size i rest).entries
+turned_some gave.Opened e size i rest = omega arith
+turned_some gave.Set e size i rest = omega arith
+turned_some gave.Exited e size i rest = omega arith
+turned_some gave.Accepted e size i rest = omega arith
+turned_some (gave.Noted n) e size i rest = omega arith
+turned_some (gave.Stopped x) e size i rest = omega arith
+turned_some (gave.Got x y z) e size i rest = omega arith
+turned_some (gave.Refused x) e size i rest = omega arith
 
-joined-goes_on : (run : List Entry) (consumed : ℕ) (notes : List (ℕ × Note)) (e : Entry) (size : ℕ) (ns : List (ℕ × Note)) (w : Written)
+joined_goes_on : (run : List Entry) (consumed : ℕ) (notes : List (ℕ × Note)) (e : Entry) (size : ℕ) (ns : List (ℕ × Note)) (w : Written)
     → joined run consumed notes (goes_on e size ns w) ≡ joined (run ++ e ∷ []) (consumed + size) (notes ++ ns) w
-joined-goes_on run consumed notes e size ns w = simp (append_assoc, add_assoc)
+joined_goes_on run consumed notes e size ns w = simp (append_assoc, add_assoc)
 
 -- a stream that isn't at its end, by what its next command is
-abbrev readable-from : ℕ → List ℕ → Result (Command × ℕ) Fault → Readable
-readable-from n bytes (Ok c) = let rest = readable n (drop c.1 bytes) in record { commands = c ∷ rest.commands; fault = rest.fault }
-readable-from n bytes (Err x) = record { commands = []; fault = Some x }
+abbrev readable_from : ℕ → List ℕ → Result (Command × ℕ) Fault → Readable
+readable_from n bytes (Ok c) = let rest = readable n (drop c.1 bytes) in record { commands = c ∷ rest.commands; fault = rest.fault }
+readable_from n bytes (Err x) = record { commands = []; fault = Some x }
 
-readable-next : (n : ℕ) (bytes : List ℕ) (r : Result (Command × ℕ) Fault) → 0 < length bytes → command_at bytes ≡ r
-    → readable (suc n) bytes ≡ readable-from n bytes r
-readable-next n [] r h e = absurd (omega arith)
-readable-next n (b ∷ bs) r h e = ap (readable-from n (b ∷ bs)) e
+readable_next : (n : ℕ) (bytes : List ℕ) (r : Result (Command × ℕ) Fault) → 0 < length bytes → command_at bytes ≡ r
+    → readable (suc n) bytes ≡ readable_from n bytes r
+readable_next n [] r h e = absurd (omega arith)
+readable_next n (b ∷ bs) r h e = ap (readable_from n (b ∷ bs)) e
 
-readable-end : (n : ℕ) → readable n [] ≡ record { commands = []; fault = None }
-readable-end zero = refl
-readable-end (suc n) = refl
+readable_end : (n : ℕ) → readable n [] ≡ record { commands = []; fault = None }
+readable_end zero = refl
+readable_end (suc n) = refl
 
 -- ---- counted commands
 
-take-done : (done rest : List (Command × ℕ)) (n : ℕ) → length done ≡ n → take n (done ++ rest) ≡ done
-take-done done rest n e = ap (λ k. take k (done ++ rest)) (sym e) ∙ take-append_seam done rest
+take_done : (done rest : List (Command × ℕ)) (n : ℕ) → length done ≡ n → take n (done ++ rest) ≡ done
+take_done done rest n e = ap (λ k. take k (done ++ rest)) (sym e) ∙ take-append_seam done rest
 
-step_after-done : (area : List ℕ) (done : List (Command × ℕ)) (c : Command × ℕ) (rest : List (Command × ℕ)) (n : ℕ) → length done ≡ n
+step_after_done : (area : List ℕ) (done : List (Command × ℕ)) (c : Command × ℕ) (rest : List (Command × ℕ)) (n : ℕ) → length done ≡ n
     → step_after area n (done ++ c ∷ rest) ≡ Some (step_of_command area c.0)
-step_after-done area [] c rest zero e = refl
-step_after-done area [] c rest (suc n) e = absurd (omega arith)
-step_after-done area (d ∷ done) c rest zero e = absurd (omega arith)
-step_after-done area (d ∷ done) c rest (suc n) e = step_after-done area done c rest n (omega arith)
+step_after_done area [] c rest zero e = refl
+step_after_done area [] c rest (suc n) e = absurd (omega arith)
+step_after_done area (d ∷ done) c rest zero e = absurd (omega arith)
+step_after_done area (d ∷ done) c rest (suc n) e = step_after_done area done c rest n (omega arith)
 
-no-entries : (es : List Entry) → length es ≡ 0 → es ≡ []
-no-entries [] e = refl
-no-entries (x ∷ es) e = absurd (omega arith)
+no_entries : (es : List Entry) → length es ≡ 0 → es ≡ []
+no_entries [] e = refl
+no_entries (x ∷ es) e = absurd (omega arith)
 
-same-history : (h k : History) → h.seats ≡ k.seats → h.entries ≡ k.entries → h ≡ k
-same-history h k seats entries =
+same_history : (h k : History) → h.seats ≡ k.seats → h.entries ≡ k.entries → h ≡ k
+same_history h k seats entries =
     let f : ℕ → List Entry → History = λ n es. record { seats = n; entries = es } in
     ap (λ n. f n h.entries) seats ∙ ap (f k.seats) entries
 
@@ -160,10 +160,10 @@ module _ (old now : History) (seat : ℕ) (stream area : List ℕ) (consumed cou
   left = readable h.fuel (drop consumed stream)
 
   -- the whole write goes on from here
-  all-written : (cs : List (Command × ℕ)) (fault : Option Fault) → left ≡ record { commands = cs; fault = fault }
+  all_written : (cs : List (Command × ℕ)) (fault : Option Fault) → left ≡ record { commands = cs; fault = fault }
       → written (space_after old) seat area 0 (commands_of stream).commands (commands_of stream).fault
       ≡ joined h.run consumed notes (written (space_after now) seat area count cs fault)
-  all-written cs fault e =
+  all_written cs fault e =
       let cs_are : (commands_of stream).commands ≡ h.done ++ cs = h.commands ∙ ap (λ (r : Readable). h.done ++ r.commands) e in
       let fault_is : (commands_of stream).fault ≡ fault = h.fault ∙ ap (λ (r : Readable). r.fault) e in
       rw (cs_are, fault_is) (h.goes_on cs fault)
@@ -195,44 +195,44 @@ module _ (old now : History) (seat : ℕ) (stream area : List ℕ) (consumed cou
   finished fault e =
       let w : Written = record { entries = h.run; consumed = consumed; notes = notes; stop = option_map stop.Fault fault } in
       let same : joined h.run consumed notes (written (space_after now) seat area count [] fault) ≡ w = simp (append-nil, add-zero) in
-      whole now h.run _ w (all-written [] fault e ∙ same) h.seats h.grown h.by_seat refl (sym (wrote-unrefused h.run w h.unrefused))
+      whole now h.run _ w (all_written [] fault e ∙ same) h.seats h.grown h.by_seat refl (sym (wrote_unrefused h.run w h.unrefused))
 
-  pub finished-end : length stream ≤ consumed → HasRun old now seat (Write stream area) (Wrote consumed notes None) (length old.entries) (length now.entries)
-  finished-end k = finished None (ap (readable h.fuel) (drop_all consumed stream k) ∙ readable-end h.fuel)
+  pub finished_end : length stream ≤ consumed → HasRun old now seat (Write stream area) (Wrote consumed notes None) (length old.entries) (length now.entries)
+  finished_end k = finished None (ap (readable h.fuel) (drop_all consumed stream k) ∙ readable_end h.fuel)
 
-  fuel-suc : consumed < length stream → h.fuel ≡ suc (h.fuel - 1)
-  fuel-suc k = omega (arith, h.enough)
+  fuel_suc : consumed < length stream → h.fuel ≡ suc (h.fuel - 1)
+  fuel_suc k = omega (arith, h.enough)
 
-  pub finished-fault : (x : Fault) → consumed < length stream → command_at (drop consumed stream) ≡ Err x
+  pub finished_fault : (x : Fault) → consumed < length stream → command_at (drop consumed stream) ≡ Err x
       → HasRun old now seat (Write stream area) (Wrote consumed notes (Some (stop.Fault x))) (length old.entries) (length now.entries)
-  finished-fault x k e = finished (Some x) (ap (λ n. readable n (drop consumed stream)) (fuel-suc k) ∙ readable-next (h.fuel - 1) (drop consumed stream) (Err x) (omega (arith, length-drop consumed stream)) e)
+  finished_fault x k e = finished (Some x) (ap (λ n. readable n (drop consumed stream)) (fuel_suc k) ∙ readable_next (h.fuel - 1) (drop consumed stream) (Err x) (omega (arith, length-drop consumed stream)) e)
 
   -- a command follows
   module _ (c : Command) (size : ℕ) (is_next : IsNext stream consumed c size) where
     abbrev others : Readable
     others = readable (h.fuel - 1) (drop (consumed + size) stream)
 
-    left-command : left ≡ record { commands = (c, size) ∷ others.commands; fault = others.fault }
-    left-command =
-        ap (λ n. readable n (drop consumed stream)) (fuel-suc (omega (arith, is_next.some, is_next.fits)))
-        ∙ readable-next (h.fuel - 1) (drop consumed stream) (Ok (c, size)) (omega (arith, length-drop consumed stream, is_next.some, is_next.fits)) is_next.read
+    left_command : left ≡ record { commands = (c, size) ∷ others.commands; fault = others.fault }
+    left_command =
+        ap (λ n. readable n (drop consumed stream)) (fuel_suc (omega (arith, is_next.some, is_next.fits)))
+        ∙ readable_next (h.fuel - 1) (drop consumed stream) (Ok (c, size)) (omega (arith, length-drop consumed stream, is_next.some, is_next.fits)) is_next.read
         ∙ ap (λ bytes. let r = readable (h.fuel - 1) bytes in let x : Readable = record { commands = (c, size) ∷ r.commands; fault = r.fault } in x) (drop-drop size consumed stream)
 
     cs_are : (commands_of stream).commands ≡ h.done ++ (c, size) ∷ others.commands
-    cs_are = h.commands ∙ ap (λ (r : Readable). h.done ++ r.commands) left-command
+    cs_are = h.commands ∙ ap (λ (r : Readable). h.done ++ r.commands) left_command
 
-    next-step : step_after area count (commands_of stream).commands ≡ Some (step_of_command area c)
-    next-step = ap (step_after area count) cs_are ∙ step_after-done area h.done (c, size) others.commands count h.commands_counted
+    next_step : step_after area count (commands_of stream).commands ≡ Some (step_of_command area c)
+    next_step = ap (step_after area count) cs_are ∙ step_after_done area h.done (c, size) others.commands count h.commands_counted
 
     -- those so far, with this fault as the stop
     cut_here : Fault → Written
     cut_here x = record { entries = h.run; consumed = consumed; notes = notes; stop = Some (stop.Fault x) }
 
-    first-are : (x : Fault) → write_first (space_after old) seat stream area count x ≡ run_of_written (cut_here x)
+    first_are : (x : Fault) → write_first (space_after old) seat stream area count x ≡ run_of_written (cut_here x)
     unfolding write_first cut_here
-    first-are x =
+    first_are x =
         let taken : take count (commands_of stream).commands ≡ h.done ++ [] =
-        ap (take count) cs_are ∙ take-done h.done _ count h.commands_counted ∙ sym (append-nil h.done) in
+        ap (take count) cs_are ∙ take_done h.done _ count h.commands_counted ∙ sym (append-nil h.done) in
         let here : joined h.run consumed notes (written (space_after now) seat area count [] (Some x)) ≡ cut_here x = simp (append-nil, add-zero) in
         ap run_of_written (ap (λ cs. written (space_after old) seat area 0 cs (Some x)) taken ∙ h.goes_on [] (Some x) ∙ here)
 
@@ -242,9 +242,9 @@ module _ (old now : History) (seat : ℕ) (stream area : List ℕ) (consumed cou
     more =
         let a = (step (space_after now) seat (step_of_command area c)).answer in
         let rest : Written = written (space_after now) seat area count ((c, size) ∷ others.commands) others.fault in
-        let some : 0 < length rest.entries = turned-some a _ size count _ in
+        let some : 0 < length rest.entries = turned_some a _ size count _ in
         let all : write (space_after old) seat stream area ≡ run_of_written (joined h.run consumed notes rest) =
-        rw is_short (ap run_of_written (all-written ((c, size) ∷ others.commands) others.fault left-command)) in
+        rw is_short (ap run_of_written (all_written ((c, size) ∷ others.commands) others.fault left_command)) in
         let n : length (write (space_after old) seat stream area).entries ≡ length h.run + length rest.entries =
         ap (λ (r : Run). length r.entries) all ∙ length-append h.run rest.entries in
         omega (arith, n, some, h.entries_counted)
@@ -254,9 +254,9 @@ module _ (old now : History) (seat : ℕ) (stream area : List ℕ) (consumed cou
         → (now ≡ old) × IsTurnedAway old seat (Write stream area) why
     unfolding run
     turned_away none why full place =
-        let grown : now.entries ≡ old.entries = h.grown ∙ ap (λ es. old.entries ++ es) (no-entries h.run (h.entries_counted ∙ none)) ∙ append-nil old.entries in
-        let same : now ≡ old = same-history now old h.seats grown in
-        let is_next_step : step_after area 0 (commands_of stream).commands ≡ Some (step_of_command area c) = ap (λ n. step_after area n (commands_of stream).commands) (sym none) ∙ next-step in
+        let grown : now.entries ≡ old.entries = h.grown ∙ ap (λ es. old.entries ++ es) (no_entries h.run (h.entries_counted ∙ none)) ∙ append-nil old.entries in
+        let same : now ≡ old = same_history now old h.seats grown in
+        let is_next_step : step_after area 0 (commands_of stream).commands ≡ Some (step_of_command area c) = ap (λ n. step_after area n (commands_of stream).commands) (sym none) ∙ next_step in
         let P : History → Option Step → Type 0 = λ k x. FullOnly why (is_at_limit k seat x ≡ true) in (
           same,
           record {
@@ -272,10 +272,10 @@ module _ (old now : History) (seat : ℕ) (stream area : List ℕ) (consumed cou
     unfolding IsRun cut_here
     cut_short some why full place =
         let so_far : History = record { seats = old.seats; entries = old.entries ++ h.run } in
-        let same : now ≡ so_far = same-history now so_far h.seats h.grown in
+        let same : now ≡ so_far = same_history now so_far h.seats h.grown in
         let P : History → Option Step → Type 0 = λ k x. FullOnly why (is_at_limit k seat x ≡ true) in
-        let limit = subst (P so_far) (sym next-step) (subst (λ k. P k (Some (step_of_command area c))) same full) in
-        let is = first-are (fault_of why) in
+        let limit = subst (P so_far) (sym next_step) (subst (λ k. P k (Some (step_of_command area c))) same full) in
+        let is = first_are (fault_of why) in
         record {
           seats = h.seats;
           run = h.run;
@@ -287,7 +287,7 @@ module _ (old now : History) (seat : ℕ) (stream area : List ℕ) (consumed cou
             some = some;
             fewer = more;
             entries = sym (ap (λ (r : Run). r.entries) is);
-            answered = sym (ap (λ (r : Run). r.answer) is ∙ wrote-unrefused h.run (cut_here (fault_of why)) h.unrefused);
+            answered = sym (ap (λ (r : Run). r.answer) is ∙ wrote_unrefused h.run (cut_here (fault_of why)) h.unrefused);
             why = may_stop why so_far seat _ limit (subst (λ k. MemoryOnly why (HasPlace k)) same place);
           });
           starts = refl;
@@ -307,10 +307,10 @@ module _ (old now : History) (seat : ℕ) (stream area : List ℕ) (consumed cou
       new_entries : new.entries ≡ old.entries ++ (h.run ++ entry ∷ [])
       new_entries = ap (λ (k : History). k.entries) grown ∙ ap (λ es. es ++ entry ∷ []) h.grown ∙ append_assoc old.entries h.run (entry ∷ [])
 
-      said-last : (run : List Entry) (y : Stop) (answer : Answer) → IsUnrefused run → (length run ≡ 0 → answer ≡ wrote (last y) (entry ∷ []))
+      said_last : (run : List Entry) (y : Stop) (answer : Answer) → IsUnrefused run → (length run ≡ 0 → answer ≡ wrote (last y) (entry ∷ []))
           → (0 < length run → answer ≡ Wrote (consumed + size) notes (Some y)) → answer ≡ wrote (last y) (run ++ entry ∷ [])
-      said-last [] y answer fine first later = first refl
-      said-last (x ∷ run) y answer fine first later = later (omega arith) ∙ sym (fine (last y))
+      said_last [] y answer fine first later = first refl
+      said_last (x ∷ run) y answer fine first later = later (omega arith) ∙ sym (fine (last y))
 
       -- it was the last
       pub ended : (y : Stop) → ((w : Written) → turned a entry size count w ≡ ends_here entry size y) → (answer : Answer)
@@ -319,9 +319,9 @@ module _ (old now : History) (seat : ℕ) (stream area : List ℕ) (consumed cou
       ended y turns answer first later =
           let w : Written = record { entries = h.run ++ entry ∷ []; consumed = consumed + size; notes = notes; stop = Some y } in
           let here : joined h.run consumed notes (ends_here entry size y) ≡ w = simp append-nil in
-          let all = all-written ((c, size) ∷ others.commands) others.fault left-command
-          ∙ ap (joined h.run consumed notes) (written-cons (space_after now) seat area count (c, size) others.commands others.fault a is ∙ turns _) ∙ here in
-          whole new (h.run ++ entry ∷ []) answer w all new_seats new_entries (AllBy-push seat h.run entry h.by_seat refl) refl (said-last h.run y answer h.unrefused first later)
+          let all = all_written ((c, size) ∷ others.commands) others.fault left_command
+          ∙ ap (joined h.run consumed notes) (written_cons (space_after now) seat area count (c, size) others.commands others.fault a is ∙ turns _) ∙ here in
+          whole new (h.run ++ entry ∷ []) answer w all new_seats new_entries (AllBy_push seat h.run entry h.by_seat refl) refl (said_last h.run y answer h.unrefused first later)
 
       -- it wasn't
       pub went_on : (ns : List (ℕ × Note)) → ((w : Written) → turned a entry size count w ≡ goes_on entry size ns w) → IsUnrefused (entry ∷ [])
@@ -332,18 +332,18 @@ module _ (old now : History) (seat : ℕ) (stream area : List ℕ) (consumed cou
         fuel = h.fuel - 1;
         seats = new_seats;
         grown = new_entries;
-        by_seat = AllBy-push seat h.run entry h.by_seat refl;
-        unrefused = IsUnrefused-push h.run entry h.unrefused fine;
+        by_seat = AllBy_push seat h.run entry h.by_seat refl;
+        unrefused = IsUnrefused_push h.run entry h.unrefused fine;
         entries_counted = length-append h.run (entry ∷ []) ∙ ap (λ n. n + 1) h.entries_counted;
         commands_counted = length-append h.done ((c, size) ∷ []) ∙ ap (λ n. n + 1) h.commands_counted;
         goes_on = λ cs fault.
             ap (λ ds. written (space_after old) seat area 0 ds fault) (append_assoc h.done ((c, size) ∷ []) cs)
             ∙ h.goes_on ((c, size) ∷ cs) fault
-            ∙ ap (joined h.run consumed notes) (written-cons (space_after now) seat area count (c, size) cs fault a is ∙ turns _)
-            ∙ joined-goes_on h.run consumed notes entry size ns _
+            ∙ ap (joined h.run consumed notes) (written_cons (space_after now) seat area count (c, size) cs fault a is ∙ turns _)
+            ∙ joined_goes_on h.run consumed notes entry size ns _
             ∙ ap (joined (h.run ++ entry ∷ []) (consumed + size) (notes ++ ns)) (on cs fault);
         commands = cs_are ∙ sym (append_assoc h.done ((c, size) ∷ []) others.commands);
-        fault = h.fault ∙ ap (λ (r : Readable). r.fault) left-command;
+        fault = h.fault ∙ ap (λ (r : Readable). r.fault) left_command;
         enough = omega (arith, h.enough, is_next.some, is_next.fits);
         within = is_next.fits;
         few = omega (arith, h.few, is_next.some);
@@ -353,5 +353,5 @@ module _ (old now : History) (seat : ℕ) (stream area : List ℕ) (consumed cou
           on : (cs : List (Command × ℕ)) (fault : Option Fault)
               → written (step (space_after now) seat (step_of_command area c)).space seat area (suc count) cs fault ≡ written (space_after new) seat area (count + 1) cs fault
           on cs fault =
-              let space_is : (step (space_after now) seat (step_of_command area c)).space ≡ space_after new = sym (space-extended now seat (step_of_command area c) a) ∙ ap space_after (sym grown) in
+              let space_is : (step (space_after now) seat (step_of_command area c)).space ≡ space_after new = sym (space_extended now seat (step_of_command area c) a) ∙ ap space_after (sym grown) in
               ap (λ s. written s seat area (suc count) cs fault) space_is ∙ ap (λ n. written (space_after new) seat area n cs fault) (sym (add-one count))

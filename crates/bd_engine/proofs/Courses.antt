@@ -29,8 +29,8 @@ pub by_count : {A : Type 0} (P : A → Type 0) (n : ℕ) (a b : A) → (n ≡ 0 
 by_count P zero a b first later = first refl
 by_count P (suc n) a b first later = rw eqb-suc-zero (later (omega arith))
 
-HasCome-same : (old now : History) (seat : ℕ) (stream area : List ℕ) (p q : Progress) → IsSame p q → HasCome old now seat stream area p → HasCome old now seat stream area q
-HasCome-same old now seat stream area p q is h = rw (is.consumed, is.count, is.notes) h
+HasCome_same : (old now : History) (seat : ℕ) (stream area : List ℕ) (p q : Progress) → IsSame p q → HasCome old now seat stream area p → HasCome old now seat stream area q
+HasCome_same old now seat stream area p q is h = rw (is.consumed, is.count, is.notes) h
 
 goes : (old new : History) (seat : ℕ) (stream area : List ℕ) (r : Course) (consumed count : ℕ) (notes : List (ℕ × Note)) → GoesTo r consumed count notes
     → IsProgress old new seat stream area consumed count notes → IsCourse old new seat stream area consumed r
@@ -67,28 +67,28 @@ module _ (old now : History) (seat : ℕ) (stream area : List ℕ) (p : Progress
 
 -- ---- the command that was read
 
-no-command : (bytes : List ℕ) (c : Command) (n : ℕ) → take n bytes ≡ command_bytes c → 0 < n
-no-command bytes c zero e = absurd (cc)
-no-command bytes c (suc n) e = omega arith
+no_command : (bytes : List ℕ) (c : Command) (n : ℕ) → take n bytes ≡ command_bytes c → 0 < n
+no_command bytes c zero e = absurd (cc)
+no_command bytes c (suc n) e = omega arith
 
 -- the rest of the stream, as it is sliced
 rest_is : (stream : List ℕ) (at : ℕ) → take (length stream - at) (drop at stream) ≡ drop at stream
 rest_is stream at = ap (λ n. take n (drop at stream)) (sym (length-drop at stream)) ∙ take-length (drop at stream)
 
-pub next-read : (stream : List ℕ) (at : ℕ) (c : Command) (size : ℕ) → at < length stream
+pub next_read : (stream : List ℕ) (at : ℕ) (c : Command) (size : ℕ) → at < length stream
     → Found command_bytes IsCommand (take (length stream - at) (drop at stream)) c size
     → command_at (take (length stream - at) (drop at stream)) ≡ Ok (c, size) → IsNext stream at c size
-next-read stream at c size within found read =
+next_read stream at c size within found read =
     let rest = rest_is stream at in
     let enough : size ≤ length (drop at stream) = rw (← rest) found.within in
     record {
       read = ap command_at (sym rest) ∙ read;
-      some = no-command (take (length stream - at) (drop at stream)) c size found.spelled;
+      some = no_command (take (length stream - at) (drop at stream)) c size found.spelled;
       fits = omega (arith, enough, length-drop at stream);
     }
 
-pub next-fault : (stream : List ℕ) (at : ℕ) (x : Fault) → command_at (take (length stream - at) (drop at stream)) ≡ Err x → command_at (drop at stream) ≡ Err x
-next-fault stream at x e = ap command_at (sym (rest_is stream at)) ∙ e
+pub next_fault : (stream : List ℕ) (at : ℕ) (x : Fault) → command_at (take (length stream - at) (drop at stream)) ≡ Err x → command_at (drop at stream) ≡ Err x
+next_fault stream at x e = ap command_at (sym (rest_is stream at)) ∙ e
 
 -- ---- the same, with room made for a note
 
@@ -97,22 +97,22 @@ cut_in_brief : (p : Progress) (F : Course → Type 0) (G : Why → Type 0) (r : 
 cut_in_brief p F G (Ok g) m = m
 cut_in_brief p F G (Err why) m = m
 
-pub course-cut : (old now new : History) (seat : ℕ) (stream area : List ℕ) (p q : Progress) (c : Command) (size : ℕ) (why : Why) (r : Result Going Why)
+pub course_cut : (old now new : History) (seat : ℕ) (stream area : List ℕ) (p q : Progress) (c : Command) (size : ℕ) (why : Why) (r : Result Going Why)
     → HasCome old now seat stream area p → IsNext stream p.consumed c size → IsSame p q → new ≡ now → IsCutAt q why (course_or q r)
     → FullOnly why (is_at_limit now seat (Some (step_of_command area c)) ≡ true) → MemoryOnly why (HasPlace now)
     → MatchResult r (λ g. IsCourse old new seat stream area (p.consumed + size) (course_of q g)) (λ w. (new ≡ old) × IsTurnedAway old seat (Write stream area) w)
-course-cut old now new seat stream area p q c size why r come is_next same kept is full place =
+course_cut old now new seat stream area p q c size why r come is_next same kept is full place =
     let next : IsNext stream q.consumed c size = rw same.consumed is_next in
     let F : Course → Type 0 = λ course. IsCourse old new seat stream area (p.consumed + size) course in
     let G : Why → Type 0 = λ w. (new ≡ old) × IsTurnedAway old seat (Write stream area) w in
     let whole : MatchResult (course_or q r) F G =
-    rw (kept, ← same.consumed) (cut old now seat stream area q (HasCome-same old now seat stream area p q same come) c size next why (course_or q r) is full place) in
+    rw (kept, ← same.consumed) (cut old now seat stream area q (HasCome_same old now seat stream area p q same come) c size next why (course_or q r) is full place) in
     cut_in_brief q F G r whole
 
-pub course-on : (old now new : History) (seat : ℕ) (stream area : List ℕ) (p q : Progress) (c : Command) (size : ℕ) (a : StepAnswer) (r : Course)
+pub course_on : (old now new : History) (seat : ℕ) (stream area : List ℕ) (p q : Progress) (c : Command) (size : ℕ) (a : StepAnswer) (r : Course)
     → HasCome old now seat stream area p → IsNext stream p.consumed c size → IsSame p q → IsAfter q a size r
     → a ≡ (step (space_after now) seat (step_of_command area c)).answer → new ≡ extended now seat (step_of_command area c) a
     → IsCourse old new seat stream area (p.consumed + size) r
-course-on old now new seat stream area p q c size a r come is_next same after is grown =
+course_on old now new seat stream area p q c size a r come is_next same after is grown =
     let next : IsNext stream q.consumed c size = rw same.consumed is_next in
-    rw (← same.consumed) (on old now seat stream area q (HasCome-same old now seat stream area p q same come) c size next new a r after is grown)
+    rw (← same.consumed) (on old now seat stream area q (HasCome_same old now seat stream area p q same come) c size next new a r after is grown)

@@ -9,19 +9,19 @@ use Rattle.bd_space.specs.Histories.{History, space_after, extended}
 use Rattle.bd_space.specs.Steps.{change, counted}
 use Rattle.bd_buffers.specs.WindowsStand.{made_of_buffer}
 use Rattle.bd_step.specs.Ending.{is_gone, ended_between, HasEndings}
-use Rattle.bd_engine.proofs.Keeping.{after-more}
+use Rattle.bd_engine.proofs.Keeping.{after_more}
 
-after-buffers : (z : Space) → (counted z).buffers ≡ z.buffers
+after_buffers : (z : Space) → (counted z).buffers ≡ z.buffers
 unfolding counted
-after-buffers z = refl
+after_buffers z = refl
 
 -- the same of the space after the history with the step more
-pub then-ended : (h : History) (seat : ℕ) (x : Step) (answer : StepAnswer) (places kept : List ℕ) → HasEndings places (space_after h) (change (space_after h) seat x).space
+pub then_ended : (h : History) (seat : ℕ) (x : Step) (answer : StepAnswer) (places kept : List ℕ) → HasEndings places (space_after h) (change (space_after h) seat x).space
     → kept ≡ filter (is_gone (space_after (extended h seat x answer)).buffers) places → kept ≡ ended_between (space_after h) (space_after (extended h seat x answer))
 unfolding space_after
-then-ended h seat x answer places kept endings is =
+then_ended h seat x answer places kept endings is =
     let s = space_after h in
     let z = (change s seat x).space in
     let e : Entry = record { seat = seat; step = x; answer = answer } in
-    let same : (space_after (extended h seat x answer)).buffers ≡ z.buffers = ap (λ (y : Space). y.buffers) (after-more opening h.entries e) ∙ after-buffers z in
+    let same : (space_after (extended h seat x answer)).buffers ≡ z.buffers = ap (λ (y : Space). y.buffers) (after_more opening h.entries e) ∙ after_buffers z in
     is ∙ subst (λ (bs : List Buffer). filter (is_gone bs) places ≡ filter (is_gone bs) (map made_of_buffer s.buffers)) (sym same) endings

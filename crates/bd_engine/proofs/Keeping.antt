@@ -18,12 +18,12 @@ use Rattle.bd_step.specs.declared.tables.Tables.{Tables}
 use Rattle.bd_step.specs.Stands.{Before, Within}
 use Rattle.bd_engine.specs.declared.live.Live.{Live}
 use Rattle.bd_engine.specs.Follows.{Follows}
-use Rattle.bd_objects.proofs.Fitting.{numbers-fit}
-use Rattle.bd_laws.proofs.Machine.Steps.{always-steps}
+use Rattle.bd_objects.proofs.Fitting.{numbers_fit}
+use Rattle.bd_laws.proofs.Machine.Steps.{always_steps}
 
-pub follows-new : (l : Live) (seats : ℕ) → l.seats ≡ seats → 1 ≤ seats → seats ≤ 65536 → Before l.tables.value opening → Follows l (history_of seats [])
+pub follows_new : (l : Live) (seats : ℕ) → l.seats ≡ seats → 1 ≤ seats → seats ≤ 65536 → Before l.tables.value opening → Follows l (history_of seats [])
 unfolding space_after
-follows-new l seats same some few stands = record {
+follows_new l seats same some few stands = record {
   seats_are = same;
   some = some;
   few = few;
@@ -33,25 +33,25 @@ follows-new l seats same some few stands = record {
 
 -- ---- one entry more
 
-pub after-more : (s : Space) (es : List Entry) (e : Entry) → after s (es ++ e ∷ []) ≡ next (after s es) e
-after-more s [] e = refl
-after-more s (x ∷ xs) e = after-more (next s x) xs e
+pub after_more : (s : Space) (es : List Entry) (e : Entry) → after s (es ++ e ∷ []) ≡ next (after s es) e
+after_more s [] e = refl
+after_more s (x ∷ xs) e = after_more (next s x) xs e
 
-follows-more : (s : Space) (es : List Entry) (e : Entry) → EntriesFollow s es → EntryFollows (after s es) e → EntriesFollow s (es ++ e ∷ [])
-follows-more s [] e f k = (k, tt)
-follows-more s (x ∷ xs) e f k = (f.0, follows-more (next s x) xs e f.1 k)
+follows_more : (s : Space) (es : List Entry) (e : Entry) → EntriesFollow s es → EntryFollows (after s es) e → EntriesFollow s (es ++ e ∷ [])
+follows_more s [] e f k = (k, tt)
+follows_more s (x ∷ xs) e f k = (f.0, follows_more (next s x) xs e f.1 k)
 
 -- ---- the place of the next step
 
 pub place : (h : History) → (space_after h).steps ≡ length h.entries
 unfolding space_after
-place h = always-steps h.entries
+place h = always_steps h.entries
 
 -- ---- after a step
 
-counted-stands : (t : Tables) (z : Space) → Within t z → Before (record t { steps = t.steps + 1 }) (counted z)
+counted_stands : (t : Tables) (z : Space) → Within t z → Before (record t { steps = t.steps + 1 }) (counted z)
 unfolding counted
-counted-stands t z h =
+counted_stands t z h =
     let more : z.steps + 1 ≡ suc z.steps = omega arith in
     record {
       own = record {
@@ -65,11 +65,11 @@ counted-stands t z h =
     }
 
 -- a live engine whose tables made the step, and count it
-pub follows-step : (h : History) (old new : Live) (t : Tables) (seat : ℕ) (x : Step) (answer : StepAnswer) → Follows old h → seat < h.seats → length h.entries < 4294967295
+pub follows_step : (h : History) (old new : Live) (t : Tables) (seat : ℕ) (x : Step) (answer : StepAnswer) → Follows old h → seat < h.seats → length h.entries < 4294967295
     → answer ≡ (change (space_after h) seat x).answer → Within t (change (space_after h) seat x).space
     → new.seats ≡ old.seats → new.tables.value ≡ record t { steps = t.steps + 1 } → Follows new (extended h seat x answer)
 unfolding space_after counted change
-follows-step h old new t seat x answer k seated short answered stands same is =
+follows_step h old new t seat x answer k seated short answered stands same is =
     let s = space_after h in
     let z = (change s seat x).space in
     let e : Entry = record { seat = seat; step = x; answer = answer } in
@@ -81,51 +81,51 @@ follows-step h old new t seat x answer k seated short answered stands same is =
       lawful = record {
         short = omega (arith, length-append h.entries (e ∷ []));
         seats = list_all-append (λ (y : Entry). nat_lt y.seat h.seats) h.entries (e ∷ []) ∙ ap (λ b. b && (nat_lt seat h.seats && true)) k.lawful.seats ∙ ap (λ b. b && true) lt;
-        follows = follows-more opening h.entries e k.lawful.follows (record { answer = sym answered; numbers = numbers-fit _ _ _ _ _ stands.objects_stand });
+        follows = follows_more opening h.entries e k.lawful.follows (record { answer = sym answered; numbers = numbers_fit _ _ _ _ _ stands.objects_stand });
       };
       stands = subst (λ (u : Tables). Before u (after opening (h.entries ++ e ∷ []))) (sym is)
-          (subst (Before (record t { steps = t.steps + 1 })) (sym (after-more opening h.entries e)) (counted-stands t z stands));
+          (subst (Before (record t { steps = t.steps + 1 })) (sym (after_more opening h.entries e)) (counted_stands t z stands));
     }
 
 -- ---- a step that is refused
 
-pub follows-kept : (h : History) (old new : Live) → Follows old h → new.seats ≡ old.seats → Before new.tables.value (space_after h) → Follows new h
-follows-kept h old new k same stands = record { seats_are = same ∙ k.seats_are; some = k.some; few = k.few; lawful = k.lawful; stands = stands }
+pub follows_kept : (h : History) (old new : Live) → Follows old h → new.seats ≡ old.seats → Before new.tables.value (space_after h) → Follows new h
+follows_kept h old new k same stands = record { seats_are = same ∙ k.seats_are; some = k.some; few = k.few; lawful = k.lawful; stands = stands }
 
 -- ---- why a step is refused
 
-pub full-at-length : (h : History) (seat : ℕ) (x : Step) → nat_le 4294967295 (length h.entries) ≡ true → is_at_limit h seat (Some x) ≡ true
+pub full_at_length : (h : History) (seat : ℕ) (x : Step) → nat_le 4294967295 (length h.entries) ≡ true → is_at_limit h seat (Some x) ≡ true
 unfolding is_at_limit
-full-at-length h seat x e = ap (λ b. b || has_number_past_limit (step (space_after h) seat x).space.names) e
+full_at_length h seat x e = ap (λ b. b || has_number_past_limit (step (space_after h) seat x).space.names) e
 
-pub short-of-full : (h k : History) (b : Bool) → b ≡ nat_le 4294967295 (length k.entries) → b ≡ false → h ≡ k → length h.entries < 4294967295
-short-of-full h k b is fewer same = leb-false _ _ (ap (λ (z : History). nat_le 4294967295 (length z.entries)) same ∙ sym is ∙ fewer)
+pub short_of_full : (h k : History) (b : Bool) → b ≡ nat_le 4294967295 (length k.entries) → b ≡ false → h ≡ k → length h.entries < 4294967295
+short_of_full h k b is fewer same = leb-false _ _ (ap (λ (z : History). nat_le 4294967295 (length z.entries)) same ∙ sym is ∙ fewer)
 
-pub full-by-number : (h : History) (seat : ℕ) (x : Step) → has_number_past_limit (change (space_after h) seat x).space.names ≡ true → is_at_limit h seat (Some x) ≡ true
+pub full_by_number : (h : History) (seat : ℕ) (x : Step) → has_number_past_limit (change (space_after h) seat x).space.names ≡ true → is_at_limit h seat (Some x) ≡ true
 unfolding is_at_limit counted
-full-by-number h seat x e = ap (λ b. nat_le 4294967295 (length h.entries) || b) e ∙ or-true (nat_le 4294967295 (length h.entries))
+full_by_number h seat x e = ap (λ b. nat_le 4294967295 (length h.entries) || b) e ∙ or-true (nat_le 4294967295 (length h.entries))
 
 -- ---- an engine, which holds the entries
 
-pub more-is : (h : History) (seat : ℕ) (x : Step) (e : Entry) (n : ℕ) (es : List Entry) → e.seat ≡ seat → e.step ≡ x → n ≡ h.seats → es ≡ h.entries ++ e ∷ []
+pub more_is : (h : History) (seat : ℕ) (x : Step) (e : Entry) (n : ℕ) (es : List Entry) → e.seat ≡ seat → e.step ≡ x → n ≡ h.seats → es ≡ h.entries ++ e ∷ []
     → history_of n es ≡ extended h seat x e.answer
-more-is h seat x e n es seat_is step_is seats grown =
+more_is h seat x e n es seat_is step_is seats grown =
     let entry : e ≡ record { seat = seat; step = x; answer = e.answer } =
     ap (λ (m : ℕ). let r : Entry = record { seat = m; step = e.step; answer = e.answer } in r) seat_is
     ∙ ap (λ (y : Step). let r : Entry = record { seat = seat; step = y; answer = e.answer } in r) step_is in
     ap (history_of n) (grown ∙ ap (λ (y : Entry). h.entries ++ y ∷ []) entry) ∙ ap (λ m. history_of m (extended h seat x e.answer).entries) seats
 
-pub follows-entered : (h : History) (new : Live) (seat : ℕ) (x : Step) (e : Entry) (n : ℕ) (es : List Entry) → e.seat ≡ seat → e.step ≡ x
+pub follows_entered : (h : History) (new : Live) (seat : ℕ) (x : Step) (e : Entry) (n : ℕ) (es : List Entry) → e.seat ≡ seat → e.step ≡ x
     → Follows new (extended h seat x e.answer) → n ≡ h.seats → es ≡ h.entries ++ e ∷ [] → Follows new (history_of n es)
-follows-entered h new seat x e n es seat_is step_is follows seats grown = subst (Follows new) (sym (more-is h seat x e n es seat_is step_is seats grown)) follows
+follows_entered h new seat x e n es seat_is step_is follows seats grown = subst (Follows new) (sym (more_is h seat x e n es seat_is step_is seats grown)) follows
 
 -- an entry that was put last, before its step is made
 module _ (es pushed : List Entry) (blank : Entry) (at : ℕ) (grown : pushed ≡ es ++ blank ∷ []) (last : at ≡ length es) where
-  pub entry-there : (d : Entry) → get_or pushed at d ≡ blank
-  entry-there d = ap (λ l. get_or l at d) grown ∙ get_or_push es blank d at (sym last)
+  pub entry_there : (d : Entry) → get_or pushed at d ≡ blank
+  entry_there d = ap (λ l. get_or l at d) grown ∙ get_or_push es blank d at (sym last)
 
-  pub entry-filled : (e : Entry) → set pushed at e ≡ es ++ e ∷ []
-  entry-filled e = ap (λ l. set l at e) grown ∙ ap (λ n. set (es ++ blank ∷ []) n e) last ∙ set-append_seam es blank [] e
+  pub entry_filled : (e : Entry) → set pushed at e ≡ es ++ e ∷ []
+  entry_filled e = ap (λ l. set l at e) grown ∙ ap (λ n. set (es ++ blank ∷ []) n e) last ∙ set-append_seam es blank [] e
 
-  pub entry-taken_off : (e : Entry) → take at (set pushed at e) ≡ es
-  entry-taken_off e = ap (take at) (entry-filled e) ∙ ap (λ n. take n (es ++ e ∷ [])) last ∙ take-append_seam es (e ∷ [])
+  pub entry_taken_off : (e : Entry) → take at (set pushed at e) ≡ es
+  entry_taken_off e = ap (take at) (entry_filled e) ∙ ap (λ n. take n (es ++ e ∷ [])) last ∙ take-append_seam es (e ∷ [])

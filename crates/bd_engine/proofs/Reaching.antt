@@ -10,33 +10,33 @@ use Rattle.bd_space.specs.Steps.{step}
 use Rattle.bd_laws.specs.Reached.{IsReached, is_filled_or_emptied}
 use Rattle.bd_laws.proofs.WhomAStepReaches.Reached.{whom_reached}
 use Rattle.bd_engine.specs.Reached.{AreReached, IsNamed, TheseNameAll, has_work, differs, is_among}
-use Rattle.bd_engine.proofs.Keeping.{after-more}
+use Rattle.bd_engine.proofs.Keeping.{after_more}
 
-differs-unless : (a b : Bool) → differs a b ≡ not (beq a b)
-differs-unless true true = refl
-differs-unless true false = refl
-differs-unless false true = refl
-differs-unless false false = refl
+differs_unless : (a b : Bool) → differs a b ≡ not (beq a b)
+differs_unless true true = refl
+differs_unless true false = refl
+differs_unless false true = refl
+differs_unless false false = refl
 
 module _ (reached : List TodoList) (s z : Space) (seat : ℕ) (are : AreReached reached (has_work s) z) where
   listed : (list : TodoList) → is_filled_or_emptied s z list ≡ true → is_among reached list ≡ true
-  listed list e = are list ∙ differs-unless (has_work s list) (has_work z list) ∙ e
+  listed list e = are list ∙ differs_unless (has_work s list) (has_work z list) ∙ e
 
   named : IsReached s z seat → IsNamed reached s z seat
   named (inl own) = inl (listed (OfThread seat) own)
   named (inr (inl (a, found, of_process))) = inr (inl (a, found, listed (OfProcess a.process) of_process))
   named (inr (inr ended)) = inr (inr ended)
 
-  as-named : (is_ready z seat ≡ is_ready s seat) ⊎ IsReached s z seat → (is_ready z seat ≡ is_ready s seat) ⊎ IsNamed reached s z seat
-  as-named (inl same) = inl same
-  as-named (inr r) = inr (named r)
+  as_named : (is_ready z seat ≡ is_ready s seat) ⊎ IsReached s z seat → (is_ready z seat ≡ is_ready s seat) ⊎ IsNamed reached s z seat
+  as_named (inl same) = inl same
+  as_named (inr r) = inr (named r)
 
-pub these-name-all : TheseNameAll
+pub these_name_all : TheseNameAll
 unfolding space_after
-these-name-all h seat x answer reached other apart are =
+these_name_all h seat x answer reached other apart are =
     let s = space_after h in
     let e : Entry = record { seat = seat; step = x; answer = answer } in
-    let more = after-more opening h.entries e in
+    let more = after_more opening h.entries e in
     let at = subst (AreReached reached (has_work s)) more are in
     subst (λ (z : Space). (is_ready z other ≡ is_ready s other) ⊎ IsNamed reached s z other) (sym more)
-    (as-named reached s (step s seat x).space other at (whom_reached h seat x other apart))
+    (as_named reached s (step s seat x).space other at (whom_reached h seat x other apart))

@@ -20,11 +20,11 @@ use Rattle.bd_engine.specs.declared.run.Ran.{Ran}
 use Rattle.bd_engine.specs.Refusals.{FullOnly}
 use Rattle.bd_engine.specs.Writing.{IsOneStep}
 
-pub single-has_run : (old new : History) (seat : ℕ) (x : Step) (a : StepAnswer) (said : Answer) (from to : ℕ) (request : Request)
+pub single_has_run : (old new : History) (seat : ℕ) (x : Step) (a : StepAnswer) (said : Answer) (from to : ℕ) (request : Request)
     → new ≡ extended old seat x a → a ≡ (step (space_after old) seat x).answer → said ≡ answered a → from ≡ length old.entries → to ≡ length new.entries
     → ((s : Space) → run s seat request ≡ single s seat x) → HasRun old new seat request said from to
 unfolding IsRun
-single-has_run old new seat x a said from to request grown is said_is starts ends one =
+single_has_run old new seat x a said from to request grown is said_is starts ends one =
     let e : Entry = record { seat = seat; step = x; answer = a } in
     let same : run (space_after old) seat request ≡ record { entries = e ∷ []; answer = answered a } =
     one (space_after old) ∙ ap (λ b. let r : Run = record { entries = record { seat = seat; step = x; answer = b } ∷ []; answer = answered b } in r) (sym is) in
@@ -38,10 +38,10 @@ single-has_run old new seat x a said from to request grown is said_is starts end
       ends = ends;
     }
 
-pub too_long-has_run : (h : History) (seat : ℕ) (stream area : List ℕ) (at : ℕ) → 4096 < length stream → at ≡ length h.entries
+pub too_long_has_run : (h : History) (seat : ℕ) (stream area : List ℕ) (at : ℕ) → 4096 < length stream → at ≡ length h.entries
     → HasRun h h seat (Write stream area) (Refused StreamTooLong) at at
 unfolding IsRun run write
-too_long-has_run h seat stream area at long here =
+too_long_has_run h seat stream area at long here =
     let is_long : ltb 4096 (length stream) ≡ true = lt-ltb _ _ long in
     let none : Run = record { entries = []; answer = Refused StreamTooLong } in
     let same : write (space_after h) seat stream area ≡ none = rw is_long refl in
@@ -56,20 +56,20 @@ too_long-has_run h seat stream area at long here =
     }
 
 -- no run changes how many seats there are
-pub run-seats : (old new : History) (seat : ℕ) (request : Request) (r : Result Ran Why) → IfOk r (λ x. HasRun old new seat request x.answer x.from x.to) → OnErr r (new ≡ old)
+pub run_seats : (old new : History) (seat : ℕ) (request : Request) (r : Result Ran Why) → IfOk r (λ x. HasRun old new seat request x.answer x.from x.to) → OnErr r (new ≡ old)
     → new.seats ≡ old.seats
-run-seats old new seat request (Ok x) ran kept = ran.seats
-run-seats old new seat request (Err why) ran kept = ap (λ (h : History). h.seats) kept
+run_seats old new seat request (Ok x) ran kept = ran.seats
+run_seats old new seat request (Err why) ran kept = ap (λ (h : History). h.seats) kept
 
 -- ---- a request that is one step
 
 module _ (h : History) (seat : ℕ) (request : Request) (x : Step) (is : IsOneStep request x) where
-  one-entry : HasEntry h seat request
-  one-entry e = absurd (omega (arith, ap length (sym (ap (λ (r : Run). r.entries) (is.runs (space_after h) seat)) ∙ e)))
+  one_entry : HasEntry h seat request
+  one_entry e = absurd (omega (arith, ap length (sym (ap (λ (r : Run). r.entries) (is.runs (space_after h) seat)) ∙ e)))
 
-  pub one-some : {A : Type 0} (r : Result A Why) → IfErr r (λ w. HasEntry h seat request)
-  one-some (Ok y) = tt
-  one-some (Err why) = one-entry
+  pub one_some : {A : Type 0} (r : Result A Why) → IfErr r (λ w. HasEntry h seat request)
+  one_some (Ok y) = tt
+  one_some (Err why) = one_entry
 
-  pub one-full : {A : Type 0} (r : Result A Why) → IfErr r (λ why. FullOnly why (is_at_limit h seat (Some x) ≡ true)) → IfErr r (λ why. FullOnly why (IsAtLimit h seat request))
-  one-full r full = subst (λ o. IfErr r (λ why. FullOnly why (is_at_limit h seat o ≡ true))) (sym is.first) full
+  pub one_full : {A : Type 0} (r : Result A Why) → IfErr r (λ why. FullOnly why (is_at_limit h seat (Some x) ≡ true)) → IfErr r (λ why. FullOnly why (IsAtLimit h seat request))
+  one_full r full = subst (λ o. IfErr r (λ why. FullOnly why (is_at_limit h seat o ≡ true))) (sym is.first) full

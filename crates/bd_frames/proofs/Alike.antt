@@ -11,86 +11,86 @@ use Rattle.bd_space.specs.ThreadExits.{gone_caller, gone_server}
 use Rattle.bd_space.specs.ReadItems.{serve}
 use Rattle.bd_frames.specs.Words.{lost, lost_frame, left_frame, is_pending}
 
-pub or-left : (a b : Bool) → a ≡ true → (a || b) ≡ true
-or-left a b e = ap (λ x. x || b) e
+pub or_left : (a b : Bool) → a ≡ true → (a || b) ≡ true
+or_left a b e = ap (λ x. x || b) e
 
 -- ---- who would have served it has gone
 
-lost-serves : (s : ℕ) (v : Server) → serves s (lost v) ≡ serves s v
-lost-serves s Pending = refl
-lost-serves s (Serving t) = refl
-lost-serves s Gone = refl
+lost_serves : (s : ℕ) (v : Server) → serves s (lost v) ≡ serves s v
+lost_serves s Pending = refl
+lost_serves s (Serving t) = refl
+lost_serves s Gone = refl
 
-lost-takes : (s : ℕ) (f : Frame) → takes_part s (lost_frame f) ≡ takes_part s f
-lost-takes s f = ap (λ b. calls s f || b) (lost-serves s f.server)
+lost_takes : (s : ℕ) (f : Frame) → takes_part s (lost_frame f) ≡ takes_part s f
+lost_takes s f = ap (λ b. calls s f || b) (lost_serves s f.server)
 
 -- ---- a thread has gone
 
-caller-kept : (seat s : ℕ) (o : Option ℕ) → (seat == s) ≡ false → is_some_and (gone_caller seat o) (λ t. t == s) ≡ is_some_and o (λ t. t == s)
-caller-kept seat s None e = refl
-caller-kept seat s (Some c) e = at (c == seat) refl
+caller_kept : (seat s : ℕ) (o : Option ℕ) → (seat == s) ≡ false → is_some_and (gone_caller seat o) (λ t. t == s) ≡ is_some_and o (λ t. t == s)
+caller_kept seat s None e = refl
+caller_kept seat s (Some c) e = at (c == seat) refl
   where
     at : (b : Bool) → (c == seat) ≡ b → is_some_and (cond b None (Some c)) (λ t. t == s) ≡ (c == s)
     at true g = sym (ap (λ n. n == s) (eqb-true c seat g) ∙ e)
     at false g = refl
 
-caller-gone : (seat : ℕ) (o : Option ℕ) → is_some_and (gone_caller seat o) (λ t. t == seat) ≡ false
-caller-gone seat None = refl
-caller-gone seat (Some c) = at (c == seat) refl
+caller_gone : (seat : ℕ) (o : Option ℕ) → is_some_and (gone_caller seat o) (λ t. t == seat) ≡ false
+caller_gone seat None = refl
+caller_gone seat (Some c) = at (c == seat) refl
   where
     at : (b : Bool) → (c == seat) ≡ b → is_some_and (cond b None (Some c)) (λ t. t == seat) ≡ false
     at true g = refl
     at false g = g
 
-server-kept : (seat s : ℕ) (v : Server) → (seat == s) ≡ false → serves s (gone_server seat v) ≡ serves s v
-server-kept seat s Pending e = refl
-server-kept seat s Gone e = refl
-server-kept seat s (Serving t) e = at (t == seat) refl
+server_kept : (seat s : ℕ) (v : Server) → (seat == s) ≡ false → serves s (gone_server seat v) ≡ serves s v
+server_kept seat s Pending e = refl
+server_kept seat s Gone e = refl
+server_kept seat s (Serving t) e = at (t == seat) refl
   where
     at : (b : Bool) → (t == seat) ≡ b → serves s (cond b Gone (Serving t)) ≡ (t == s)
     at true g = sym (ap (λ n. n == s) (eqb-true t seat g) ∙ e)
     at false g = refl
 
-server-gone : (seat : ℕ) (v : Server) → serves seat (gone_server seat v) ≡ false
-server-gone seat Pending = refl
-server-gone seat Gone = refl
-server-gone seat (Serving t) = at (t == seat) refl
+server_gone : (seat : ℕ) (v : Server) → serves seat (gone_server seat v) ≡ false
+server_gone seat Pending = refl
+server_gone seat Gone = refl
+server_gone seat (Serving t) = at (t == seat) refl
   where
     at : (b : Bool) → (t == seat) ≡ b → serves seat (cond b Gone (Serving t)) ≡ false
     at true g = refl
     at false g = g
 
-left-calls : (seat s : ℕ) (f : Frame) → (seat == s) ≡ false → calls s (left_frame seat f) ≡ calls s f
-left-calls seat s f e = caller-kept seat s f.caller e
+left_calls : (seat s : ℕ) (f : Frame) → (seat == s) ≡ false → calls s (left_frame seat f) ≡ calls s f
+left_calls seat s f e = caller_kept seat s f.caller e
 
-left-takes : (seat s : ℕ) (f : Frame) → (seat == s) ≡ false → takes_part s (left_frame seat f) ≡ takes_part s f
-left-takes seat s f e =
-    ap (λ b. b || serves s (gone_server seat f.server)) (caller-kept seat s f.caller e) ∙ ap (λ b. calls s f || b) (server-kept seat s f.server e)
+left_takes : (seat s : ℕ) (f : Frame) → (seat == s) ≡ false → takes_part s (left_frame seat f) ≡ takes_part s f
+left_takes seat s f e =
+    ap (λ b. b || serves s (gone_server seat f.server)) (caller_kept seat s f.caller e) ∙ ap (λ b. calls s f || b) (server_kept seat s f.server e)
 
-pub left-gone : (seat : ℕ) (f : Frame) → takes_part seat (left_frame seat f) ≡ false
-left-gone seat f =
-    ap (λ b. b || serves seat (gone_server seat f.server)) (caller-gone seat f.caller) ∙ server-gone seat f.server
+pub left_gone : (seat : ℕ) (f : Frame) → takes_part seat (left_frame seat f) ≡ false
+left_gone seat f =
+    ap (λ b. b || serves seat (gone_server seat f.server)) (caller_gone seat f.caller) ∙ server_gone seat f.server
 
-no-caller : (seat : ℕ) (o : Option ℕ) → is_some_and o (λ t. t == seat) ≡ false → gone_caller seat o ≡ o
-no-caller seat None e = refl
-no-caller seat (Some c) e = ap (λ b. cond b None (Some c)) e
+no_caller : (seat : ℕ) (o : Option ℕ) → is_some_and o (λ t. t == seat) ≡ false → gone_caller seat o ≡ o
+no_caller seat None e = refl
+no_caller seat (Some c) e = ap (λ b. cond b None (Some c)) e
 
-no-server : (seat : ℕ) (v : Server) → serves seat v ≡ false → gone_server seat v ≡ v
-no-server seat Pending e = refl
-no-server seat Gone e = refl
-no-server seat (Serving t) e = ap (λ b. cond b Gone (Serving t)) e
+no_server : (seat : ℕ) (v : Server) → serves seat v ≡ false → gone_server seat v ≡ v
+no_server seat Pending e = refl
+no_server seat Gone e = refl
+no_server seat (Serving t) e = ap (λ b. cond b Gone (Serving t)) e
 
 -- who takes no part in a frame is not gone from it
-pub left-other : (seat : ℕ) (f : Frame) → takes_part seat f ≡ false → left_frame seat f ≡ f
-left-other seat f e =
+pub left_other : (seat : ℕ) (f : Frame) → takes_part seat f ≡ false → left_frame seat f ≡ f
+left_other seat f e =
     let g = or_parts (calls seat f) _ e in
-    ap (λ (o : Option ℕ). record f { caller = o; server = gone_server seat f.server }) (no-caller seat f.caller g.0)
-    ∙ ap (λ (v : Server). record f { server = v }) (no-server seat f.server g.1)
+    ap (λ (o : Option ℕ). record f { caller = o; server = gone_server seat f.server }) (no_caller seat f.caller g.0)
+    ∙ ap (λ (v : Server). record f { server = v }) (no_server seat f.server g.1)
 
 -- ---- nobody has read its call
 
-pub pending-takes : (s : ℕ) (f : Frame) → is_pending f.server ≡ true → takes_part s f ≡ calls s f
-pending-takes s f e = ap (λ b. calls s f || b) (by f.server e) ∙ or-false (calls s f)
+pub pending_takes : (s : ℕ) (f : Frame) → is_pending f.server ≡ true → takes_part s f ≡ calls s f
+pending_takes s f e = ap (λ b. calls s f || b) (by f.server e) ∙ or-false (calls s f)
   where
     by : (v : Server) → is_pending v ≡ true → serves s v ≡ false
     by Pending e = refl
@@ -104,33 +104,33 @@ pub record IsFewer (f g : Frame) : Type 0 where
   pub parts : (s : ℕ) → takes_part s g ≡ true → takes_part s f ≡ true
   pub callers : (s : ℕ) → takes_part s g ≡ true → calls s g ≡ calls s f
 
-pub same-fewer : (f : Frame) → IsFewer f f
-same-fewer f = record { made = refl; parts = λ s e. e; callers = λ s e. refl }
+pub same_fewer : (f : Frame) → IsFewer f f
+same_fewer f = record { made = refl; parts = λ s e. e; callers = λ s e. refl }
 
-pub lost-fewer : (f : Frame) → IsFewer f (lost_frame f)
-lost-fewer f = record { made = refl; parts = λ s e. sym (lost-takes s f) ∙ e; callers = λ s e. refl }
+pub lost_fewer : (f : Frame) → IsFewer f (lost_frame f)
+lost_fewer f = record { made = refl; parts = λ s e. sym (lost_takes s f) ∙ e; callers = λ s e. refl }
 
-pub left-fewer : (seat : ℕ) (f : Frame) → IsFewer f (left_frame seat f)
-left-fewer seat f = record { made = refl; parts = λ s e. (by s e (seat == s) refl).0; callers = λ s e. (by s e (seat == s) refl).1 }
+pub left_fewer : (seat : ℕ) (f : Frame) → IsFewer f (left_frame seat f)
+left_fewer seat f = record { made = refl; parts = λ s e. (by s e (seat == s) refl).0; callers = λ s e. (by s e (seat == s) refl).1 }
   where
     by : (s : ℕ) → takes_part s (left_frame seat f) ≡ true → (b : Bool) → (seat == s) ≡ b → (takes_part s f ≡ true) × (calls s (left_frame seat f) ≡ calls s f)
-    by s e true g = let no = sym e ∙ ap (λ n. takes_part n (left_frame seat f)) (sym (eqb-true seat s g)) ∙ left-gone seat f in absurd (cc no)
-    by s e false g = (sym (left-takes seat s f g) ∙ e, left-calls seat s f g)
+    by s e true g = let no = sym e ∙ ap (λ n. takes_part n (left_frame seat f)) (sym (eqb-true seat s g)) ∙ left_gone seat f in absurd (cc no)
+    by s e false g = (sym (left_takes seat s f g) ∙ e, left_calls seat s f g)
 
 -- who serves it called it
-pub own-fewer : (seat : ℕ) (f : Frame) → calls seat f ≡ true → IsFewer f (serve seat f)
-own-fewer seat f own = record { made = refl; parts = λ s e. by s (calls s f) refl e; callers = λ s e. refl }
+pub own_fewer : (seat : ℕ) (f : Frame) → calls seat f ≡ true → IsFewer f (serve seat f)
+own_fewer seat f own = record { made = refl; parts = λ s e. by s (calls s f) refl e; callers = λ s e. refl }
   where
     by : (s : ℕ) (b : Bool) → calls s f ≡ b → (b || (seat == s)) ≡ true → takes_part s f ≡ true
-    by s true g e = or-left (calls s f) _ g
-    by s false g e = or-left (calls s f) _ (ap (λ n. calls n f) (sym (eqb-true seat s e)) ∙ own)
+    by s true g e = or_left (calls s f) _ g
+    by s false g e = or_left (calls s f) _ (ap (λ n. calls n f) (sym (eqb-true seat s e)) ∙ own)
 
 -- but who serves it from now on
-pub serve-takes : (seat s : ℕ) (f : Frame) → (seat == s) ≡ false → takes_part s (serve seat f) ≡ true → takes_part s f ≡ true
-serve-takes seat s f n e = by (calls s f) refl e
+pub serve_takes : (seat s : ℕ) (f : Frame) → (seat == s) ≡ false → takes_part s (serve seat f) ≡ true → takes_part s f ≡ true
+serve_takes seat s f n e = by (calls s f) refl e
   where
     by : (b : Bool) → calls s f ≡ b → (b || (seat == s)) ≡ true → takes_part s f ≡ true
-    by true g e = or-left (calls s f) _ g
+    by true g e = or_left (calls s f) _ g
     by false g e = absurd (cc)
 
 abbrev pub AreFewer : List Frame → List Frame → Type 0
@@ -139,18 +139,18 @@ AreFewer [] (g ∷ gs) = ⊥
 AreFewer (f ∷ fs) [] = ⊥
 AreFewer (f ∷ fs) (g ∷ gs) = IsFewer f g × AreFewer fs gs
 
-pub all-same : (fs : List Frame) → AreFewer fs fs
-all-same [] = tt
-all-same (f ∷ fs) = (same-fewer f, all-same fs)
+pub all_same : (fs : List Frame) → AreFewer fs fs
+all_same [] = tt
+all_same (f ∷ fs) = (same_fewer f, all_same fs)
 
-pub map-fewer : (g : Frame → Frame) → ((f : Frame) → IsFewer f (g f)) → (fs : List Frame) → AreFewer fs (map g fs)
-map-fewer g h [] = tt
-map-fewer g h (f ∷ fs) = (h f, map-fewer g h fs)
+pub map_fewer : (g : Frame → Frame) → ((f : Frame) → IsFewer f (g f)) → (fs : List Frame) → AreFewer fs (map g fs)
+map_fewer g h [] = tt
+map_fewer g h (f ∷ fs) = (h f, map_fewer g h fs)
 
-pub changed-fewer : (q : Frame → Bool) (g : Frame → Frame) → ((f : Frame) → IsFewer f (g f)) → (fs : List Frame) → AreFewer fs (changed q g fs)
-changed-fewer q g h [] = tt
-changed-fewer q g h (f ∷ fs) = (at (q f), changed-fewer q g h fs)
+pub changed_fewer : (q : Frame → Bool) (g : Frame → Frame) → ((f : Frame) → IsFewer f (g f)) → (fs : List Frame) → AreFewer fs (changed q g fs)
+changed_fewer q g h [] = tt
+changed_fewer q g h (f ∷ fs) = (at (q f), changed_fewer q g h fs)
   where
     at : (b : Bool) → IsFewer f (cond b (g f) f)
     at true = h f
-    at false = same-fewer f
+    at false = same_fewer f

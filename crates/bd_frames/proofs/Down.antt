@@ -13,9 +13,9 @@ use Rattle.bd_frames.specs.declared.walk.Way.{Way}
 use Rattle.bd_frames.specs.Children.{kept_at}
 use Rattle.bd_frames.specs.Places.{IsRising}
 use Rattle.bd_frames.specs.Linked.{below_of, Reaches, Bounds, Linked, any_bound, AreStacks, IsNext, IsStep, IsWay}
-use Rattle.bd_ways.proofs.Ranges.{no-head}
-use Rattle.bd_frames.proofs.Places.{take-take, rising-take}
-use Rattle.bd_frames.proofs.Linking.{Reach, Says, More, linked-long, link-at, got-there}
+use Rattle.bd_ways.proofs.Ranges.{no_head}
+use Rattle.bd_frames.proofs.Places.{take_take, rising_take}
+use Rattle.bd_frames.proofs.Linking.{Reach, Says, More, linked_long, link_at, got_there}
 
 -- what stands where a list has ended
 abbrev pub no_frame : Frame
@@ -24,129 +24,129 @@ no_frame = record { made = 0; caller = None; server = Pending; parent = None }
 no_below : Below
 no_below = record { caller = None; server = None }
 
-linked-take : (R : Reach) (C : Says) (n : ℕ) (fs : List Frame) (bs : List Below) → Linked R C fs bs → Linked R C (take n fs) (take n bs)
-linked-take R C zero [] [] k = k
-linked-take R C (suc n) [] [] k = k
-linked-take R C n [] (b ∷ bs) k = absurd k
-linked-take R C n (f ∷ fs) [] k = absurd k
-linked-take R C zero (f ∷ fs) (b ∷ bs) k = tt
-linked-take R C (suc n) (f ∷ fs) (b ∷ bs) k = (k.0, linked-take R (More R C f) n fs bs k.1)
+linked_take : (R : Reach) (C : Says) (n : ℕ) (fs : List Frame) (bs : List Below) → Linked R C fs bs → Linked R C (take n fs) (take n bs)
+linked_take R C zero [] [] k = k
+linked_take R C (suc n) [] [] k = k
+linked_take R C n [] (b ∷ bs) k = absurd k
+linked_take R C n (f ∷ fs) [] k = absurd k
+linked_take R C zero (f ∷ fs) (b ∷ bs) k = tt
+linked_take R C (suc n) (f ∷ fs) (b ∷ bs) k = (k.0, linked_take R (More R C f) n fs bs k.1)
 
-got-take : {A : Type 0} (i n : ℕ) (xs : List A) → i < n → slice_get (take n xs) i ≡ slice_get xs i
-got-take i zero xs h = absurd (omega arith)
-got-take zero (suc n) [] h = refl
-got-take (suc i) (suc n) [] h = refl
-got-take zero (suc n) (x ∷ xs) h = refl
-got-take (suc i) (suc n) (x ∷ xs) h = got-take i n xs (omega arith)
+got_take : {A : Type 0} (i n : ℕ) (xs : List A) → i < n → slice_get (take n xs) i ≡ slice_get xs i
+got_take i zero xs h = absurd (omega arith)
+got_take zero (suc n) [] h = refl
+got_take (suc i) (suc n) [] h = refl
+got_take zero (suc n) (x ∷ xs) h = refl
+got_take (suc i) (suc n) (x ∷ xs) h = got_take i n xs (omega arith)
 
 -- ---- from one frame to the next older one
 
-bounds-take : (R : Reach) (s : ℕ) (o : Option ℕ) (n : ℕ) (fs : List Frame) → Bounds R s o fs → Bounds R s o (take n fs)
-bounds-take R s o zero [] b = tt
-bounds-take R s o (suc n) [] b = tt
-bounds-take R s o zero (f ∷ fs) b = tt
-bounds-take R s o (suc n) (f ∷ fs) b = (b.0, bounds-take R s o n fs b.1)
+bounds_take : (R : Reach) (s : ℕ) (o : Option ℕ) (n : ℕ) (fs : List Frame) → Bounds R s o fs → Bounds R s o (take n fs)
+bounds_take R s o zero [] b = tt
+bounds_take R s o (suc n) [] b = tt
+bounds_take R s o zero (f ∷ fs) b = tt
+bounds_take R s o (suc n) (f ∷ fs) b = (b.0, bounds_take R s o n fs b.1)
 
 module _ (st : Stacks) (seat : ℕ) (fs : List Frame) (w : Way) (k : IsWay st seat fs w) where
-  pub steps-to : (i : ℕ) (d : Frame) (next : Option ℕ) → i < length (take w.end fs) → i < w.end → takes_part seat (get_or (take w.end fs) i d) ≡ true
+  pub steps_to : (i : ℕ) (d : Frame) (next : Option ℕ) → i < length (take w.end fs) → i < w.end → takes_part seat (get_or (take w.end fs) i d) ≡ true
       → list_any (takes_part seat) (drop (i + 1) (take w.end fs)) ≡ false
       → next ≡ option_and_then (below_of seat (get_or (take w.end fs) i d)) (slice_get st.below.items i)
       → IsNext st seat (take w.end fs) (record { end = i; next = next })
-  steps-to i d next lt low is none lead =
+  steps_to i d next lt low is none lead =
       let xs = take w.end fs in
       let ys = take w.end st.below.items in
-      let long = linked-long (Reaches st.floor) any_bound xs ys k.linked in
+      let long = linked_long (Reaches st.floor) any_bound xs ys k.linked in
       let one : i + 1 ≡ suc i = omega arith in
       let f = get_or xs i d in
       let b = no_below in
-      let at = link-at (Reaches st.floor) any_bound xs ys i d b seat k.linked lt is in
+      let at = link_at (Reaches st.floor) any_bound xs ys i d b seat k.linked lt is in
       let same : next ≡ below_of seat f (get_or ys i b) =
-      lead ∙ ap (option_and_then (below_of seat f)) (sym (got-take i w.end st.below.items low))
-      ∙ ap (option_and_then (below_of seat f)) (got-there ys i b (omega (arith, lt, long))) in
+      lead ∙ ap (option_and_then (below_of seat f)) (sym (got_take i w.end st.below.items low))
+      ∙ ap (option_and_then (below_of seat f)) (got_there ys i b (omega (arith, lt, long))) in
       record {
         within = lt;
         newest = ap (λ n. list_any (takes_part seat) (drop n xs)) (sym one) ∙ none;
         next = subst (λ (o : Option ℕ). Bounds (Reaches st.floor) seat o (take i xs)) (sym same) at.1;
       }
 
-pub way-on : (st : Stacks) (seat : ℕ) (fs : List Frame) (w v : Way) → IsWay st seat fs w → v.end < w.end → IsNext st seat (take w.end fs) v → IsWay st seat fs v
-way-on st seat fs w v k low n =
-    let shorter : take v.end (take w.end fs) ≡ take v.end fs = take-take v.end w.end fs (omega arith) in
+pub way_on : (st : Stacks) (seat : ℕ) (fs : List Frame) (w v : Way) → IsWay st seat fs w → v.end < w.end → IsNext st seat (take w.end fs) v → IsWay st seat fs v
+way_on st seat fs w v k low n =
+    let shorter : take v.end (take w.end fs) ≡ take v.end fs = take_take v.end w.end fs (omega arith) in
     record {
-      rising = subst (λ (xs : List Frame). IsRising 0 xs) shorter (rising-take 0 v.end (take w.end fs) k.rising);
-      linked = subst (λ (ys : List Below). Linked (Reaches st.floor) any_bound (take v.end fs) ys) (take-take v.end w.end st.below.items (omega arith))
+      rising = subst (λ (xs : List Frame). IsRising 0 xs) shorter (rising_take 0 v.end (take w.end fs) k.rising);
+      linked = subst (λ (ys : List Below). Linked (Reaches st.floor) any_bound (take v.end fs) ys) (take_take v.end w.end st.below.items (omega arith))
           (subst (λ (xs : List Frame). Linked (Reaches st.floor) any_bound xs (take v.end (take w.end st.below.items))) shorter
-          (linked-take (Reaches st.floor) any_bound v.end (take w.end fs) (take w.end st.below.items) k.linked));
+          (linked_take (Reaches st.floor) any_bound v.end (take w.end fs) (take w.end st.below.items) k.linked));
       next = subst (λ (xs : List Frame). Bounds (Reaches st.floor) seat v.next xs) shorter n.next;
     }
 
 -- the same of frames that begin in the same way
-way-same : (st : Stacks) (seat : ℕ) (fs gs : List Frame) (w : Way) → take w.end fs ≡ take w.end gs → IsWay st seat fs w → IsWay st seat gs w
-way-same st seat fs gs w e k = record {
+way_same : (st : Stacks) (seat : ℕ) (fs gs : List Frame) (w : Way) → take w.end fs ≡ take w.end gs → IsWay st seat fs w → IsWay st seat gs w
+way_same st seat fs gs w e k = record {
   rising = subst (λ (xs : List Frame). IsRising 0 xs) e k.rising;
   linked = subst (λ (xs : List Frame). Linked (Reaches st.floor) any_bound xs (take w.end st.below.items)) e k.linked;
   next = subst (λ (xs : List Frame). Bounds (Reaches st.floor) seat w.next xs) e k.next;
 }
 
-pub step-same : (st : Stacks) (seat : ℕ) (fs gs : List Frame) (w : Way) (o : Option Way) → take w.end fs ≡ take w.end gs
+pub step_same : (st : Stacks) (seat : ℕ) (fs gs : List Frame) (w : Way) (o : Option Way) → take w.end fs ≡ take w.end gs
     → (IsWay st seat gs w → IsStep st seat (take w.end gs) o) → IsWay st seat fs w → IsStep st seat (take w.end fs) o
-step-same st seat fs gs w o e f k = subst (λ (xs : List Frame). IsStep st seat xs o) (sym e) (f (way-same st seat fs gs w e k))
+step_same st seat fs gs w o e f k = subst (λ (xs : List Frame). IsStep st seat xs o) (sym e) (f (way_same st seat fs gs w e k))
 
 -- ---- what is done on the way
 
-pub map-left : (q : Frame → Bool) (g : Frame → Frame) → ((x : Frame) → q x ≡ false → g x ≡ x) → (n : ℕ) (fs : List Frame) → list_any q (take n fs) ≡ false
+pub map_left : (q : Frame → Bool) (g : Frame → Frame) → ((x : Frame) → q x ≡ false → g x ≡ x) → (n : ℕ) (fs : List Frame) → list_any q (take n fs) ≡ false
     → take n fs ++ map g (drop n fs) ≡ map g fs
-map-left q g h zero [] e = refl
-map-left q g h (suc n) [] e = refl
-map-left q g h zero (f ∷ fs) e = refl
-map-left q g h (suc n) (f ∷ fs) e =
-    let k = no-head (q f) _ e in
-    ap (λ (xs : List Frame). f ∷ xs) (map-left q g h n fs k.1) ∙ ap (λ (x : Frame). x ∷ map g fs) (sym (h f k.0))
+map_left q g h zero [] e = refl
+map_left q g h (suc n) [] e = refl
+map_left q g h zero (f ∷ fs) e = refl
+map_left q g h (suc n) (f ∷ fs) e =
+    let k = no_head (q f) _ e in
+    ap (λ (xs : List Frame). f ∷ xs) (map_left q g h n fs k.1) ∙ ap (λ (x : Frame). x ∷ map g fs) (sym (h f k.0))
 
-pub map-next : (q : Frame → Bool) (g : Frame → Frame) → ((x : Frame) → q x ≡ false → g x ≡ x) → (n i : ℕ) (fs : List Frame) (d : Frame) → i < n → i < length fs
+pub map_next : (q : Frame → Bool) (g : Frame → Frame) → ((x : Frame) → q x ≡ false → g x ≡ x) → (n i : ℕ) (fs : List Frame) (d : Frame) → i < n → i < length fs
     → list_any q (drop (suc i) (take n fs)) ≡ false → set (take n fs ++ map g (drop n fs)) i (g (get_or fs i d)) ≡ take i fs ++ map g (drop i fs)
-map-next q g h zero i fs d lt k e = absurd (omega arith)
-map-next q g h (suc n) i [] d lt k e = absurd (omega arith)
-map-next q g h (suc n) zero (f ∷ fs) d lt k e = ap (λ (xs : List Frame). g f ∷ xs) (map-left q g h n fs e)
-map-next q g h (suc n) (suc i) (f ∷ fs) d lt k e = ap (λ (xs : List Frame). f ∷ xs) (map-next q g h n i fs d (omega arith) (omega arith) e)
+map_next q g h zero i fs d lt k e = absurd (omega arith)
+map_next q g h (suc n) i [] d lt k e = absurd (omega arith)
+map_next q g h (suc n) zero (f ∷ fs) d lt k e = ap (λ (xs : List Frame). g f ∷ xs) (map_left q g h n fs e)
+map_next q g h (suc n) (suc i) (f ∷ fs) d lt k e = ap (λ (xs : List Frame). f ∷ xs) (map_next q g h n i fs d (omega arith) (omega arith) e)
 
-pub begun-same : {A : Type 0} (n : ℕ) (xs ys : List A) → n ≤ length xs → take n (take n xs ++ ys) ≡ take n xs
-begun-same zero [] ys h = refl
-begun-same zero (x ∷ xs) ys h = refl
-begun-same (suc n) [] ys h = absurd (omega arith)
-begun-same (suc n) (x ∷ xs) ys h = ap (λ zs. x ∷ zs) (begun-same n xs ys (omega arith))
+pub begun_same : {A : Type 0} (n : ℕ) (xs ys : List A) → n ≤ length xs → take n (take n xs ++ ys) ≡ take n xs
+begun_same zero [] ys h = refl
+begun_same zero (x ∷ xs) ys h = refl
+begun_same (suc n) [] ys h = absurd (omega arith)
+begun_same (suc n) (x ∷ xs) ys h = ap (λ zs. x ∷ zs) (begun_same n xs ys (omega arith))
 
-pub got-begun : {A : Type 0} (n i : ℕ) (xs ys : List A) (d : A) → i < n → n ≤ length xs → get_or (take n xs ++ ys) i d ≡ get_or xs i d
-got-begun zero i xs ys d h k = absurd (omega arith)
-got-begun (suc n) i [] ys d h k = absurd (omega arith)
-got-begun (suc n) zero (x ∷ xs) ys d h k = refl
-got-begun (suc n) (suc i) (x ∷ xs) ys d h k = got-begun n i xs ys d (omega arith) (omega arith)
+pub got_begun : {A : Type 0} (n i : ℕ) (xs ys : List A) (d : A) → i < n → n ≤ length xs → get_or (take n xs ++ ys) i d ≡ get_or xs i d
+got_begun zero i xs ys d h k = absurd (omega arith)
+got_begun (suc n) i [] ys d h k = absurd (omega arith)
+got_begun (suc n) zero (x ∷ xs) ys d h k = refl
+got_begun (suc n) (suc i) (x ∷ xs) ys d h k = got_begun n i xs ys d (omega arith) (omega arith)
 
-pub none-yet : (g : Frame → Frame) (n : ℕ) (fs : List Frame) → n ≡ length fs → fs ≡ take n fs ++ map g (drop n fs)
-none-yet g zero [] h = refl
-none-yet g (suc n) [] h = absurd (omega (arith, h))
-none-yet g zero (f ∷ fs) h = absurd (omega (arith, h))
-none-yet g (suc n) (f ∷ fs) h = ap (λ (xs : List Frame). f ∷ xs) (none-yet g n fs (omega (arith, h)))
+pub none_yet : (g : Frame → Frame) (n : ℕ) (fs : List Frame) → n ≡ length fs → fs ≡ take n fs ++ map g (drop n fs)
+none_yet g zero [] h = refl
+none_yet g (suc n) [] h = absurd (omega (arith, h))
+none_yet g zero (f ∷ fs) h = absurd (omega (arith, h))
+none_yet g (suc n) (f ∷ fs) h = ap (λ (xs : List Frame). f ∷ xs) (none_yet g n fs (omega (arith, h)))
 
-pub take-whole : {A : Type 0} (n : ℕ) (xs : List A) → n ≡ length xs → take n xs ≡ xs
-take-whole zero [] h = refl
-take-whole (suc n) [] h = refl
-take-whole zero (x ∷ xs) h = absurd (omega (arith, h))
-take-whole (suc n) (x ∷ xs) h = ap (λ ys. x ∷ ys) (take-whole n xs (omega (arith, h)))
+pub take_whole : {A : Type 0} (n : ℕ) (xs : List A) → n ≡ length xs → take n xs ≡ xs
+take_whole zero [] h = refl
+take_whole (suc n) [] h = refl
+take_whole zero (x ∷ xs) h = absurd (omega (arith, h))
+take_whole (suc n) (x ∷ xs) h = ap (λ ys. x ∷ ys) (take_whole n xs (omega (arith, h)))
 
-pub drop-whole : {A : Type 0} (n : ℕ) (xs : List A) → n ≡ length xs → drop n xs ≡ []
-drop-whole zero [] h = refl
-drop-whole (suc n) [] h = refl
-drop-whole zero (x ∷ xs) h = absurd (omega (arith, h))
-drop-whole (suc n) (x ∷ xs) h = drop-whole n xs (omega (arith, h))
+pub drop_whole : {A : Type 0} (n : ℕ) (xs : List A) → n ≡ length xs → drop n xs ≡ []
+drop_whole zero [] h = refl
+drop_whole (suc n) [] h = refl
+drop_whole zero (x ∷ xs) h = absurd (omega (arith, h))
+drop_whole (suc n) (x ∷ xs) h = drop_whole n xs (omega (arith, h))
 
 -- from the top of a stack
-pub way-begins : (st : Stacks) (fs : List Frame) (seat n : ℕ) (top : Option ℕ) → AreStacks st fs → IsRising 0 fs → n ≡ length fs → top ≡ kept_at st.tops seat
+pub way_begins : (st : Stacks) (fs : List Frame) (seat n : ℕ) (top : Option ℕ) → AreStacks st fs → IsRising 0 fs → n ≡ length fs → top ≡ kept_at st.tops seat
     → IsWay st seat fs (record { end = n; next = top })
-way-begins st fs seat n top k rising long is = record {
-  rising = rising-take 0 n fs rising;
-  linked = linked-take (Reaches st.floor) any_bound n fs st.below.items k.linked;
-  next = bounds-take (Reaches st.floor) seat top n fs (subst (λ (o : Option ℕ). Bounds (Reaches st.floor) seat o fs) (sym is) (k.tops_are seat));
+way_begins st fs seat n top k rising long is = record {
+  rising = rising_take 0 n fs rising;
+  linked = linked_take (Reaches st.floor) any_bound n fs st.below.items k.linked;
+  next = bounds_take (Reaches st.floor) seat top n fs (subst (λ (o : Option ℕ). Bounds (Reaches st.floor) seat o fs) (sym is) (k.tops_are seat));
 }
 
 -- what came last comes first
@@ -170,9 +170,9 @@ turned n xs ys zs h e =
     back (suc n) (x ∷ xs) ys h = back n xs ys (omega (arith, h))
 
 -- one more is served, or none
-pub served-next : (q : Frame → Bool) (xs : List ℕ) (ys : List Frame) (f : Frame)
+pub served_next : (q : Frame → Bool) (xs : List ℕ) (ys : List Frame) (f : Frame)
     → (xs ++ reverse (map made_of ys)) ++ map made_of (filter q (f ∷ [])) ≡ xs ++ reverse (map made_of (cond (q f) (f ∷ ys) ys))
-served-next q xs ys f = at (q f)
+served_next q xs ys f = at (q f)
   where
     at : (b : Bool) → (xs ++ reverse (map made_of ys)) ++ map made_of (cond b (f ∷ []) []) ≡ xs ++ reverse (map made_of (cond b (f ∷ ys) ys))
     at true = append_assoc xs (reverse (map made_of ys)) (f.made ∷ []) ∙ ap (λ (zs : List ℕ). xs ++ zs) (sym (reverse_onto (map made_of ys) f.made []))
@@ -180,20 +180,20 @@ served-next q xs ys f = at (q f)
 
 -- those that pass are among those of the thread
 module _ (q r : Frame → Bool) (h : (x : Frame) → q x ≡ false → r x ≡ false) where
-  pub kept-left : (n : ℕ) (fs : List Frame) → list_any q (take n fs) ≡ false → filter r (drop n fs) ≡ filter r fs
-  kept-left zero [] e = refl
-  kept-left (suc n) [] e = refl
-  kept-left zero (f ∷ fs) e = refl
-  kept-left (suc n) (f ∷ fs) e =
-      let k = no-head (q f) _ e in
-      kept-left n fs k.1 ∙ sym (ap (λ (b : Bool). cond b (f ∷ filter r fs) (filter r fs)) (h f k.0))
+  pub kept_left : (n : ℕ) (fs : List Frame) → list_any q (take n fs) ≡ false → filter r (drop n fs) ≡ filter r fs
+  kept_left zero [] e = refl
+  kept_left (suc n) [] e = refl
+  kept_left zero (f ∷ fs) e = refl
+  kept_left (suc n) (f ∷ fs) e =
+      let k = no_head (q f) _ e in
+      kept_left n fs k.1 ∙ sym (ap (λ (b : Bool). cond b (f ∷ filter r fs) (filter r fs)) (h f k.0))
 
-  pub kept-next : (n i : ℕ) (fs : List Frame) (d : Frame) → i < n → i < length fs → list_any q (drop (suc i) (take n fs)) ≡ false
+  pub kept_next : (n i : ℕ) (fs : List Frame) (d : Frame) → i < n → i < length fs → list_any q (drop (suc i) (take n fs)) ≡ false
       → filter r (drop i fs) ≡ cond (r (get_or fs i d)) (get_or fs i d ∷ filter r (drop n fs)) (filter r (drop n fs))
-  kept-next zero i fs d lt k e = absurd (omega arith)
-  kept-next (suc n) i [] d lt k e = absurd (omega arith)
-  kept-next (suc n) zero (f ∷ fs) d lt k e = ap (λ (xs : List Frame). cond (r f) (f ∷ xs) xs) (sym (kept-left n fs e))
-  kept-next (suc n) (suc i) (f ∷ fs) d lt k e = kept-next n i fs d (omega arith) (omega arith) e
+  kept_next zero i fs d lt k e = absurd (omega arith)
+  kept_next (suc n) i [] d lt k e = absurd (omega arith)
+  kept_next (suc n) zero (f ∷ fs) d lt k e = ap (λ (xs : List Frame). cond (r f) (f ∷ xs) xs) (sym (kept_left n fs e))
+  kept_next (suc n) (suc i) (f ∷ fs) d lt k e = kept_next n i fs d (omega arith) (omega arith) e
 
-pub takes-serves : (seat : ℕ) (f : Frame) → takes_part seat f ≡ false → serves seat f.server ≡ false
-takes-serves seat f e = (no-head (calls seat f) _ e).1
+pub takes_serves : (seat : ℕ) (f : Frame) → takes_part seat f ≡ false → serves seat f.server ≡ false
+takes_serves seat f e = (no_head (calls seat f) _ e).1

@@ -8,7 +8,7 @@ use Rattle.bd_groups.specs.declared.group.Group.{Group}
 use Rattle.bd_groups.specs.Group.{same_group}
 use Rattle.bd_groups.specs.Trail.{trail}
 use Rattle.bd_groups.specs.Members.{IsIn}
-use Rattle.bd_groups.proofs.Same.{group-eq}
+use Rattle.bd_groups.proofs.Same.{group_eq}
 
 other : (i n : ℕ) → i < n → (n == i) ≡ false
 other i n lt = ne_eqb n i (λ same. omega (arith, lt, same))
@@ -22,52 +22,52 @@ split [] i x h = absurd (cc)
 split (y ∷ ys) zero x h = let e : y ≡ x = cc in ap (λ z. z ∷ ys) (sym e)
 split (y ∷ ys) (suc i) x h = ap (λ zs. y ∷ zs) (split ys i x h)
 
-past-end : {A : Type 0} (xs : List A) (i : ℕ) → slice_get xs i ≡ None → length xs ≤ i
-past-end [] i none = omega arith
-past-end (x ∷ xs) zero none = absurd (cc)
-past-end (x ∷ xs) (suc i) none = let past = past-end xs i none in omega (arith, past)
+past_end : {A : Type 0} (xs : List A) (i : ℕ) → slice_get xs i ≡ None → length xs ≤ i
+past_end [] i none = omega arith
+past_end (x ∷ xs) zero none = absurd (cc)
+past_end (x ∷ xs) (suc i) none = let past = past_end xs i none in omega (arith, past)
 
 module _ {T : Type 0} where
-  pub to-none : (ls : List (Link T)) → trail ls None ≡ []
+  pub to_none : (ls : List (Link T)) → trail ls None ≡ []
   unfolding trail
-  to-none [] = refl
-  to-none (l ∷ ls) = refl
+  to_none [] = refl
+  to_none (l ∷ ls) = refl
 
-  pub to-past : (ls : List (Link T)) (i : ℕ) → length ls ≤ i → trail ls (Some i) ≡ []
+  pub to_past : (ls : List (Link T)) (i : ℕ) → length ls ≤ i → trail ls (Some i) ≡ []
   unfolding trail
-  to-past [] i le = refl
-  to-past (l ∷ ls) i le =
+  to_past [] i le = refl
+  to_past (l ∷ ls) i le =
       let lt : length ls < i = omega (arith, le) in
-      rw (other (length ls) i lt) (to-past ls i (omega (arith, le)))
+      rw (other (length ls) i lt) (to_past ls i (omega (arith, le)))
 
-  pub to-absent : (ns : List (Link T)) (i : ℕ) → slice_get ns i ≡ None → trail (reverse ns) (Some i) ≡ []
-  to-absent ns i none =
-      let past = past-end ns i none in
+  pub to_absent : (ns : List (Link T)) (i : ℕ) → slice_get ns i ≡ None → trail (reverse ns) (Some i) ≡ []
+  to_absent ns i none =
+      let past = past_end ns i none in
       let many = length-reverse ns in
-      to-past (reverse ns) i (omega (arith, past, many))
+      to_past (reverse ns) i (omega (arith, past, many))
 
   -- the newest link is told of only by its own number
-  pub to-older : (l : Link T) (ls : List (Link T)) (at : Option ℕ) → IfSome at (λ i. i < length ls) → trail (l ∷ ls) at ≡ trail ls at
+  pub to_older : (l : Link T) (ls : List (Link T)) (at : Option ℕ) → IfSome at (λ i. i < length ls) → trail (l ∷ ls) at ≡ trail ls at
   unfolding trail
-  to-older l ls None lt = sym (to-none ls)
-  to-older l ls (Some i) lt = rw (unlike i (length ls) lt) refl
+  to_older l ls None lt = sym (to_none ls)
+  to_older l ls (Some i) lt = rw (unlike i (length ls) lt) refl
 
-  pub to-newest : (l : Link T) (ls : List (Link T)) → trail (l ∷ ls) (Some (length ls)) ≡ l.member ∷ trail ls l.before
+  pub to_newest : (l : Link T) (ls : List (Link T)) → trail (l ∷ ls) (Some (length ls)) ≡ l.member ∷ trail ls l.before
   unfolding trail
-  to-newest l ls = rw (eq-eqb (length ls) (length ls) refl) refl
+  to_newest l ls = rw (eq-eqb (length ls) (length ls) refl) refl
 
   within : (xs : List (Link T)) (l : Link T) (ls : List (Link T)) → length ls < length (xs ++ l ∷ ls)
   within [] l ls = omega arith
   within (x ∷ xs) l ls = let less = within xs l ls in omega (arith, less)
 
-  pub to-link : (xs : List (Link T)) (l : Link T) (ls : List (Link T)) → trail (xs ++ l ∷ ls) (Some (length ls)) ≡ l.member ∷ trail ls l.before
-  to-link [] l ls = to-newest l ls
-  to-link (x ∷ xs) l ls = to-older x (xs ++ l ∷ ls) (Some (length ls)) (within xs l ls) ∙ to-link xs l ls
+  pub to_link : (xs : List (Link T)) (l : Link T) (ls : List (Link T)) → trail (xs ++ l ∷ ls) (Some (length ls)) ≡ l.member ∷ trail ls l.before
+  to_link [] l ls = to_newest l ls
+  to_link (x ∷ xs) l ls = to_older x (xs ++ l ∷ ls) (Some (length ls)) (within xs l ls) ∙ to_link xs l ls
 
   -- from a link on, only those before it count
-  pub from-link : (ns : List (Link T)) (i : ℕ) (l : Link T) → slice_get ns i ≡ Some l
+  pub from_link : (ns : List (Link T)) (i : ℕ) (l : Link T) → slice_get ns i ≡ Some l
       → trail (reverse ns) (Some i) ≡ l.member ∷ trail (reverse (take i ns)) l.before
-  from-link ns i l has =
+  from_link ns i l has =
       let lt : i < length ns = slice_get_within ns i l has in
       let older = reverse (take i ns) in
       let many : length older ≡ i = length-reverse (take i ns) ∙ length-take-le i ns (omega (arith, lt)) in
@@ -76,7 +76,7 @@ module _ {T : Type 0} where
       ∙ turned (drop (suc i) ns) l older in
       ap (λ xs. trail xs (Some i)) parts
       ∙ ap (λ n. trail (reverse (drop (suc i) ns) ++ l ∷ older) (Some n)) (sym many)
-      ∙ to-link (reverse (drop (suc i) ns)) l older
+      ∙ to_link (reverse (drop (suc i) ns)) l older
     where
       turned : (xs : List (Link T)) (l : Link T) (ys : List (Link T)) → reverse (l ∷ xs) ++ ys ≡ reverse xs ++ l ∷ ys
       turned xs l ys = ap (λ zs. zs ++ ys) (reverse-append (l ∷ []) xs) ∙ after (reverse xs) l ys
@@ -86,12 +86,12 @@ module _ {T : Type 0} where
           after (z ∷ zs) l ys = ap (λ ws. z ∷ ws) (after zs l ys)
 
   -- with one link more, at the end
-  pub with-link : (ns : List (Link T)) (l : Link T) → reverse (ns ++ l ∷ []) ≡ l ∷ reverse ns
-  with-link ns l = reverse-append ns (l ∷ [])
+  pub with_link : (ns : List (Link T)) (l : Link T) → reverse (ns ++ l ∷ []) ≡ l ∷ reverse ns
+  with_link ns l = reverse-append ns (l ∷ [])
 
   -- nothing is told of a group that is forgotten
   pub forgotten : (ls : List (Link T)) (b : Bool) (at : Option ℕ) → trail ls (cond b None at) ≡ cond b [] (trail ls at)
-  forgotten ls true at = to-none ls
+  forgotten ls true at = to_none ls
   forgotten ls false at = refl
 
   -- a member more comes first in its group, and in no other
@@ -101,7 +101,7 @@ module _ {T : Type 0} where
       → trail (reverse (ns ++ record { member = x; before = b } ∷ [])) (cond (same_group g h) (Some n) (latest h))
       ≡ cond (same_group g h) (x ∷ trail (reverse ns) (latest h)) (trail (reverse ns) (latest h))
   pushed ns latest within g h x n b len is =
-      ap (λ ls. trail ls (cond (same_group g h) (Some n) (latest h))) (with-link ns l) ∙ at (same_group g h) refl
+      ap (λ ls. trail ls (cond (same_group g h) (Some n) (latest h))) (with_link ns l) ∙ at (same_group g h) refl
     where
       l : Link T
       l = record { member = x; before = b }
@@ -113,11 +113,11 @@ module _ {T : Type 0} where
       at : (c : Bool) → same_group g h ≡ c
           → trail (l ∷ reverse ns) (cond c (Some n) (latest h)) ≡ cond c (x ∷ trail (reverse ns) (latest h)) (trail (reverse ns) (latest h))
       at true e =
-          ap (λ m. trail (l ∷ reverse ns) (Some m)) (len ∙ sym (length-reverse ns)) ∙ to-newest l (reverse ns)
-          ∙ ap (λ o. x ∷ trail (reverse ns) o) (is ∙ ap latest (group-eq g h e))
-      at false e = to-older l (reverse ns) (latest h) (below (latest h) refl)
+          ap (λ m. trail (l ∷ reverse ns) (Some m)) (len ∙ sym (length-reverse ns)) ∙ to_newest l (reverse ns)
+          ∙ ap (λ o. x ∷ trail (reverse ns) o) (is ∙ ap latest (group_eq g h e))
+      at false e = to_older l (reverse ns) (latest h) (below (latest h) refl)
 
 -- a list with one more perhaps has what it had
-pub still-in : {T : Type 0} (b : Bool) (x y : T) (ls : List T) → IsIn x ls → IsIn x (cond b (y ∷ ls) ls)
-still-in true x y ls is = inr is
-still-in false x y ls is = is
+pub still_in : {T : Type 0} (b : Bool) (x y : T) (ls : List T) → IsIn x ls → IsIn x (cond b (y ∷ ls) ls)
+still_in true x y ls is = inr is
+still_in false x y ls is = is

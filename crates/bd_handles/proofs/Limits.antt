@@ -9,26 +9,26 @@ use Rattle.bd_space.specs.Names.{has_number_past_limit}
 use Rattle.bd_handles.specs.declared.table.NameTable.{NameTable}
 use Rattle.bd_handles.specs.Stands.{NamesSince}
 
-none-filter : {A : Type 0} (p q : A → Bool) (xs : List A) → list_any p xs ≡ false → list_any p (filter q xs) ≡ false
-none-filter p q [] h = refl
-none-filter p q (x ∷ xs) h =
+none_filter : {A : Type 0} (p q : A → Bool) (xs : List A) → list_any p xs ≡ false → list_any p (filter q xs) ≡ false
+none_filter p q [] h = refl
+none_filter p q (x ∷ xs) h =
     let n = or_parts (p x) (list_any p xs) h in
-    let rest = none-filter p q xs n.1 in
+    let rest = none_filter p q xs n.1 in
     elim (q x) as (λ b. list_any p (cond b (x ∷ filter q xs) (filter q xs)) ≡ false) [ true ↦ or_from _ _ n.0 rest | false ↦ rest ]
 
-pub fits-filter : (q : Name → Bool) (names : List Name) → has_number_past_limit names ≡ false → has_number_past_limit (filter q names) ≡ false
-fits-filter q names h = none-filter (λ (m : Name). nat_lt 4294967294 m.number) q names h
+pub fits_filter : (q : Name → Bool) (names : List Name) → has_number_past_limit names ≡ false → has_number_past_limit (filter q names) ≡ false
+fits_filter q names h = none_filter (λ (m : Name). nat_lt 4294967294 m.number) q names h
 
 -- those that stood there before
-pub fits-before : (names added : List Name) → has_number_past_limit (names ++ added) ≡ false → has_number_past_limit names ≡ false
-fits-before names added h = (or_parts (has_number_past_limit names) (has_number_past_limit added) (sym (list_any-append (λ (m : Name). nat_lt 4294967294 m.number) names added) ∙ h)).0
+pub fits_before : (names added : List Name) → has_number_past_limit (names ++ added) ≡ false → has_number_past_limit names ≡ false
+fits_before names added h = (or_parts (has_number_past_limit names) (has_number_past_limit added) (sym (list_any-append (λ (m : Name). nat_lt 4294967294 m.number) names added) ∙ h)).0
 
 -- and one more within it
-pub fits-push : (names : List Name) (m : Name) → has_number_past_limit names ≡ false → nat_lt 4294967294 m.number ≡ false → has_number_past_limit (names ++ m ∷ []) ≡ false
-fits-push names m h e = list_any-append (λ (m : Name). nat_lt 4294967294 m.number) names (m ∷ []) ∙ or_from _ _ h (rw e refl)
+pub fits_push : (names : List Name) (m : Name) → has_number_past_limit names ≡ false → nat_lt 4294967294 m.number ≡ false → has_number_past_limit (names ++ m ∷ []) ≡ false
+fits_push names m h e = list_any-append (λ (m : Name). nat_lt 4294967294 m.number) names (m ∷ []) ∙ or_from _ _ h (rw e refl)
 
-pub numbers-fit : (t : NameTable) (base l : List Name) → NamesSince t base l → has_number_past_limit l ≡ false
-numbers-fit t base l h = h.stands.fits
+pub numbers_fit : (t : NameTable) (base l : List Name) → NamesSince t base l → has_number_past_limit l ≡ false
+numbers_fit t base l h = h.stands.fits
 
-pub numbers-fitted : (t : NameTable) (base l : List Name) → NamesSince t base l → has_number_past_limit base ≡ false
-numbers-fitted t base l h = fits-before base t.given.items (subst (λ names. has_number_past_limit names ≡ false) h.grows h.stands.fits)
+pub numbers_fitted : (t : NameTable) (base l : List Name) → NamesSince t base l → has_number_past_limit base ≡ false
+numbers_fitted t base l h = fits_before base t.given.items (subst (λ names. has_number_past_limit names ≡ false) h.grows h.stands.fits)

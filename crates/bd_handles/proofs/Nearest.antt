@@ -35,13 +35,13 @@ among l p m numbers has some = by (find (has_number p m) l) refl some
         let parts = and_parts _ _ both.1 in
         subst (λ k. IsIn k numbers) (eqb-true x.number m parts.1) (both.0 (eqb-true x.process p parts.0))
 
-pub nearest-first : (l : List Name) (p from : ℕ) (numbers : List ℕ) → HasNumbers numbers p l → Nearest l p from None numbers
-nearest-first l p from numbers has = record { is = tt; least = λ m le some. inl (among l p m numbers has some) }
+pub nearest_first : (l : List Name) (p from : ℕ) (numbers : List ℕ) → HasNumbers numbers p l → Nearest l p from None numbers
+nearest_first l p from numbers has = record { is = tt; least = λ m le some. inl (among l p m numbers has some) }
 
 -- one that doesn't count is passed
-pub nearest-past : (l : List Name) (p from n : ℕ) (next : Option ℕ) (todo left : List ℕ) → todo ≡ n ∷ left → (nat_le from n && is_some (named_in l p n)) ≡ false
+pub nearest_past : (l : List Name) (p from n : ℕ) (next : Option ℕ) (todo left : List ℕ) → todo ≡ n ∷ left → (nat_le from n && is_some (named_in l p n)) ≡ false
     → Nearest l p from next todo → Nearest l p from next left
-nearest-past l p from n next todo left is other h = record { is = h.is; least = λ m le some. by m le some (subst (λ ns. IsIn m ns ⊎ Reaches next m) is (h.least m le some)) }
+nearest_past l p from n next todo left is other h = record { is = h.is; least = λ m le some. by m le some (subst (λ ns. IsIn m ns ⊎ Reaches next m) is (h.least m le some)) }
   where
     counts : (m : ℕ) → from ≤ m → is_some (named_in l p m) ≡ true → m ≡ n → ⊥
     counts m le some e =
@@ -54,9 +54,9 @@ nearest-past l p from n next todo left is other h = record { is = h.is; least = 
     by m le some (inr r) = inr r
 
 -- one that counts is taken where it is less
-pub nearest-taken : (l : List Name) (p from n : ℕ) (next : Option ℕ) (todo left : List ℕ) → todo ≡ n ∷ left → (nat_le from n && is_some (named_in l p n)) ≡ true
+pub nearest_taken : (l : List Name) (p from n : ℕ) (next : Option ℕ) (todo left : List ℕ) → todo ≡ n ∷ left → (nat_le from n && is_some (named_in l p n)) ≡ true
     → Nearest l p from next todo → Nearest l p from (Some (min (unwrap_or next n) n)) left
-nearest-taken l p from n next todo left is counts h =
+nearest_taken l p from n next todo left is counts h =
     let both = and_parts (nat_le from n) (is_some (named_in l p n)) counts in
     record {
       is = better next h.is (leb-true from n both.0, both.1);
@@ -76,18 +76,18 @@ nearest-taken l p from n next todo left is counts h =
     by None m (inr r) = elim r [ ]
     by (Some k) m (inr r) = inr (omega (arith, r))
 
-none-is : {A : Type 0} (o : Option A) → (is_some o ≡ true → ⊥) → o ≡ None
-none-is None never = refl
-none-is (Some x) never = absurd (never refl)
+none_is : {A : Type 0} (o : Option A) → (is_some o ≡ true → ⊥) → o ≡ None
+none_is None never = refl
+none_is (Some x) never = absurd (never refl)
 
 -- none is still to come
-pub nearest-last : (l : List Name) (p from : ℕ) (next : Option ℕ) (todo : List ℕ) → todo ≡ [] → Nearest l p from next todo → IsNextNumber l p from next
-nearest-last l p from None todo none h = λ n le. none-is (named_in l p n) (λ some. gone n (subst (λ ns. IsIn n ns ⊎ Reaches None n) none (h.least n le some)))
+pub nearest_last : (l : List Name) (p from : ℕ) (next : Option ℕ) (todo : List ℕ) → todo ≡ [] → Nearest l p from next todo → IsNextNumber l p from next
+nearest_last l p from None todo none h = λ n le. none_is (named_in l p n) (λ some. gone n (subst (λ ns. IsIn n ns ⊎ Reaches None n) none (h.least n le some)))
   where
     gone : (n : ℕ) → IsIn n [] ⊎ Reaches None n → ⊥
     gone n (inl h) = h
     gone n (inr h) = h
-nearest-last l p from (Some k) todo none h = (h.is.0, h.is.1, λ m le lt. none-is (named_in l p m) (λ some. before m lt (subst (λ ns. IsIn m ns ⊎ Reaches (Some k) m) none (h.least m le some))))
+nearest_last l p from (Some k) todo none h = (h.is.0, h.is.1, λ m le lt. none_is (named_in l p m) (λ some. before m lt (subst (λ ns. IsIn m ns ⊎ Reaches (Some k) m) none (h.least m le some))))
   where
     before : (m : ℕ) → m < k → IsIn m [] ⊎ Reaches (Some k) m → ⊥
     before m lt (inl h) = h

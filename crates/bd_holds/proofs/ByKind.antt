@@ -15,28 +15,28 @@ use Rattle.bd_holds.specs.declared.keys.Kind.TheVariants.{Asked, Carried, Handsh
 use Rattle.bd_holds.specs.declared.keys.UseKey.{UseKey}
 use Rattle.bd_holds.specs.declared.keys.CountKey.{CountKey}
 use Rattle.bd_holds.specs.Keys.{same_use, same_key, use_of, of_use, to_use, use_key, total_key, count_key, kind_of, names, names_with, is_of_use}
-use Rattle.bd_holds.proofs.Tests.{same_kind, use-sym}
+use Rattle.bd_holds.proofs.Tests.{same_kind, use_sym}
 
-asked-kind : (p : ℕ) (h : Holder) → is_asked_by p h ≡ same_kind (kind_of h) (Asked p)
-asked-kind p (holders.Asked q) = refl
-asked-kind p (holders.Carried b q) = refl
-asked-kind p (holders.Target b q) = refl
-asked-kind p holders.Handshake = refl
-asked-kind p holders.Manager = refl
+asked_kind : (p : ℕ) (h : Holder) → is_asked_by p h ≡ same_kind (kind_of h) (Asked p)
+asked_kind p (holders.Asked q) = refl
+asked_kind p (holders.Carried b q) = refl
+asked_kind p (holders.Target b q) = refl
+asked_kind p holders.Handshake = refl
+asked_kind p holders.Manager = refl
 
-shaken-kind : (h : Holder) → is_handshake h ≡ same_kind (kind_of h) Handshake
-shaken-kind (holders.Asked q) = refl
-shaken-kind (holders.Carried b q) = refl
-shaken-kind (holders.Target b q) = refl
-shaken-kind holders.Handshake = refl
-shaken-kind holders.Manager = refl
+shaken_kind : (h : Holder) → is_handshake h ≡ same_kind (kind_of h) Handshake
+shaken_kind (holders.Asked q) = refl
+shaken_kind (holders.Carried b q) = refl
+shaken_kind (holders.Target b q) = refl
+shaken_kind holders.Handshake = refl
+shaken_kind holders.Manager = refl
 
-named-kind : (p : ℕ) (h : Holder) → gives_name_to p h ≡ (same_kind (kind_of h) (Asked p) || same_kind (kind_of h) (Carried p))
-named-kind p (holders.Asked q) = sym (or-false (q == p))
-named-kind p (holders.Carried b q) = refl
-named-kind p (holders.Target b q) = refl
-named-kind p holders.Handshake = refl
-named-kind p holders.Manager = refl
+named_kind : (p : ℕ) (h : Holder) → gives_name_to p h ≡ (same_kind (kind_of h) (Asked p) || same_kind (kind_of h) (Carried p))
+named_kind p (holders.Asked q) = sym (or-false (q == p))
+named_kind p (holders.Carried b q) = refl
+named_kind p (holders.Target b q) = refl
+named_kind p holders.Handshake = refl
+named_kind p holders.Manager = refl
 
 -- of the strength that is asked for
 abbrev of_strength : Bool → Reference → Bool
@@ -61,29 +61,29 @@ ordered false true true = refl
 ordered false true false = refl
 ordered false false k = refl
 
-and-or : (a b c : Bool) → (a && (b || c)) ≡ ((a && b) || (a && c))
-and-or true b c = refl
-and-or false b c = refl
+and_or : (a b c : Bool) → (a && (b || c)) ≡ ((a && b) || (a && c))
+and_or true b c = refl
+and_or false b c = refl
 
 -- of one use, and of one strength
-of-use : (o : ObjectId) (kind : Kind) (r : Reference) (held : Kind)
+of_one_use : (o : ObjectId) (kind : Kind) (r : Reference) (held : Kind)
     → same_use (to_use o kind) (to_use r.object held) ≡ (same r.object o && same_kind held kind)
 unfolding same_use
-of-use o kind r held = use-sym (to_use o kind) (to_use r.object held)
+of_one_use o kind r held = use_sym (to_use o kind) (to_use r.object held)
 
-of-key : (o : ObjectId) (kind : Kind) (r : Reference) (held : Kind) (h : Bool) → h ≡ same_kind held kind → (strong : Bool)
+of_key : (o : ObjectId) (kind : Kind) (r : Reference) (held : Kind) (h : Bool) → h ≡ same_kind held kind → (strong : Bool)
     → ((of_strength strong r && same r.object o) && h) ≡ same_key (count_key r.object held r.strong) (count_key o kind strong)
 unfolding same_use same_key
-of-key o kind r held h is strong =
+of_key o kind r held h is strong =
     ordered (of_strength strong r) (same r.object o) h
     ∙ ap (λ k. (same r.object o && k) && of_strength strong r) is
     ∙ ap (λ s. (same r.object o && same_kind held kind) && s) (strength strong r)
 
 -- of either strength
-pub either-strength : (k : CountKey) (u : UseKey)
+pub either_strength : (k : CountKey) (u : UseKey)
     → (same_key k (of_use u true) || same_key k (of_use u false)) ≡ same_use u (use_of k)
 unfolding same_key
-either-strength k u = by (same_use (use_of k) u) k.strong ∙ use-sym (use_of k) u
+either_strength k u = by (same_use (use_of k) u) k.strong ∙ use_sym (use_of k) u
   where
     by : (a s : Bool) → ((a && beq s true) || (a && beq s false)) ≡ a
     by true true = refl
@@ -91,50 +91,50 @@ either-strength k u = by (same_use (use_of k) u) k.strong ∙ use-sym (use_of k)
     by false s = refl
 
 -- what a process asked for, and what the owner is to acknowledge
-pub asking-key : (p : ℕ) (o : ObjectId) (strong : Bool) (r : Reference)
+pub asking_key : (p : ℕ) (o : ObjectId) (strong : Bool) (r : Reference)
     → is_asking p o strong r ≡ same_key (use_key r) (count_key o (Asked p) strong)
-asking-key p o strong r =
+asking_key p o strong r =
     ap (λ s. (s && same r.object o) && is_asked_by p r.holder) (sym (strength strong r))
-    ∙ of-key o (Asked p) r (kind_of r.holder) (is_asked_by p r.holder) (asked-kind p r.holder) strong
+    ∙ of_key o (Asked p) r (kind_of r.holder) (is_asked_by p r.holder) (asked_kind p r.holder) strong
 
-pub shaking-key : (o : ObjectId) (strong : Bool) (r : Reference)
+pub shaking_key : (o : ObjectId) (strong : Bool) (r : Reference)
     → is_shaking o strong r ≡ same_key (use_key r) (count_key o Handshake strong)
-shaking-key o strong r =
+shaking_key o strong r =
     ap (λ s. (s && same r.object o) && is_handshake r.holder) (sym (strength strong r))
-    ∙ of-key o Handshake r (kind_of r.holder) (is_handshake r.holder) (shaken-kind r.holder) strong
+    ∙ of_key o Handshake r (kind_of r.holder) (is_handshake r.holder) (shaken_kind r.holder) strong
 
 -- all that refer to the object, and strongly
-pub total-key : (o : ObjectId) (r : Reference) → same r.object o ≡ same_use (to_use o Any) (use_of (total_key r))
-total-key o r = sym (and-true (same r.object o)) ∙ sym (of-use o Any r Any)
+pub key_of_total : (o : ObjectId) (r : Reference) → same r.object o ≡ same_use (to_use o Any) (use_of (total_key r))
+key_of_total o r = sym (and-true (same r.object o)) ∙ sym (of_one_use o Any r Any)
 
-pub strong-key : (o : ObjectId) (r : Reference) → (r.strong && same r.object o) ≡ same_key (total_key r) (count_key o Any true)
-strong-key o r = sym (and-true (r.strong && same r.object o)) ∙ of-key o Any r Any true refl true
+pub strong_key : (o : ObjectId) (r : Reference) → (r.strong && same r.object o) ≡ same_key (total_key r) (count_key o Any true)
+strong_key o r = sym (and-true (r.strong && same r.object o)) ∙ of_key o Any r Any true refl true
 
 -- those that give the process a name
-naming-key : (p : ℕ) (o : ObjectId) (r : Reference) (strong : Bool)
+naming_key : (p : ℕ) (o : ObjectId) (r : Reference) (strong : Bool)
     → (of_strength strong r && same r.object o && gives_name_to p r.holder) ≡ names_with p o strong r
-naming-key p o r strong =
+naming_key p o r strong =
     let to = of_strength strong r && same r.object o in
     let kind = kind_of r.holder in
-    ap (λ n. to && n) (named-kind p r.holder) ∙ and-or to (same_kind kind (Asked p)) (same_kind kind (Carried p))
-    ∙ ap (λ b. b || (to && same_kind kind (Carried p))) (of-key o (Asked p) r kind (same_kind kind (Asked p)) refl strong)
-    ∙ ap (λ b. same_key (use_key r) (count_key o (Asked p) strong) || b) (of-key o (Carried p) r kind (same_kind kind (Carried p)) refl strong)
+    ap (λ n. to && n) (named_kind p r.holder) ∙ and_or to (same_kind kind (Asked p)) (same_kind kind (Carried p))
+    ∙ ap (λ b. b || (to && same_kind kind (Carried p))) (of_key o (Asked p) r kind (same_kind kind (Asked p)) refl strong)
+    ∙ ap (λ b. same_key (use_key r) (count_key o (Asked p) strong) || b) (of_key o (Carried p) r kind (same_kind kind (Carried p)) refl strong)
 
-pub naming-strongly : (p : ℕ) (o : ObjectId) (r : Reference)
+pub naming_strongly : (p : ℕ) (o : ObjectId) (r : Reference)
     → (r.strong && same r.object o && gives_name_to p r.holder) ≡ names_with p o true r
-naming-strongly p o r = naming-key p o r true
+naming_strongly p o r = naming_key p o r true
 
 pub naming : (p : ℕ) (o : ObjectId) (r : Reference) → (same r.object o && gives_name_to p r.holder) ≡ names p o r
 naming p o r =
     let kind = kind_of r.holder in
-    ap (λ n. same r.object o && n) (named-kind p r.holder) ∙ and-or (same r.object o) (same_kind kind (Asked p)) (same_kind kind (Carried p))
-    ∙ ap (λ b. b || (same r.object o && same_kind kind (Carried p))) (sym (of-use o (Asked p) r kind))
-    ∙ ap (λ b. is_of_use (to_use o (Asked p)) r || b) (sym (of-use o (Carried p) r kind))
+    ap (λ n. same r.object o && n) (named_kind p r.holder) ∙ and_or (same r.object o) (same_kind kind (Asked p)) (same_kind kind (Carried p))
+    ∙ ap (λ b. b || (same r.object o && same_kind kind (Carried p))) (sym (of_one_use o (Asked p) r kind))
+    ∙ ap (λ b. is_of_use (to_use o (Asked p)) r || b) (sym (of_one_use o (Carried p) r kind))
 
 -- one of two kinds
-pub any-either : {A : Type 0} (p q : A → Bool) (xs : List A) → list_any (λ x. p x || q x) xs ≡ (list_any p xs || list_any q xs)
-any-either p q [] = refl
-any-either p q (x ∷ xs) = ap (λ b. (p x || q x) || b) (any-either p q xs) ∙ by (p x) (q x) (list_any p xs) (list_any q xs)
+pub any_either : {A : Type 0} (p q : A → Bool) (xs : List A) → list_any (λ x. p x || q x) xs ≡ (list_any p xs || list_any q xs)
+any_either p q [] = refl
+any_either p q (x ∷ xs) = ap (λ b. (p x || q x) || b) (any_either p q xs) ∙ by (p x) (q x) (list_any p xs) (list_any q xs)
   where
     by : (a b c d : Bool) → ((a || b) || (c || d)) ≡ ((a || c) || (b || d))
     by true b c d = refl
@@ -143,66 +143,66 @@ any-either p q (x ∷ xs) = ap (λ b. (p x || q x) || b) (any-either p q xs) ∙
     by false false c d = refl
 
 -- the first holds, or else the second is the answer
-pub or-then : (a b c : Bool) → a ≡ true → a ≡ b → a ≡ (b || c)
-or-then a true c h e = e
-or-then a false c h e = absurd (cc)
+pub or_then : (a b c : Bool) → a ≡ true → a ≡ b → a ≡ (b || c)
+or_then a true c h e = e
+or_then a false c h e = absurd (cc)
 
-pub or-else : (a b c d : Bool) → a ≡ false → a ≡ b → d ≡ c → d ≡ (b || c)
-or-else a true c d h e k = absurd (cc)
-or-else a false c d h e k = k
+pub or_else : (a b c d : Bool) → a ≡ false → a ≡ b → d ≡ c → d ≡ (b || c)
+or_else a true c d h e k = absurd (cc)
+or_else a false c d h e k = k
 
 -- what a process asked for, and what is to be acknowledged, no buffer holds
-asked-free : (p b : ℕ) (h : Holder) → is_asked_by p h ≡ true → is_of_buffer b h ≡ false
-asked-free p b (holders.Asked q) h = refl
-asked-free p b holders.Handshake h = refl
-asked-free p b holders.Manager h = refl
-asked-free p b (holders.Carried c q) h = absurd (cc)
-asked-free p b (holders.Target c q) h = absurd (cc)
+asked_free : (p b : ℕ) (h : Holder) → is_asked_by p h ≡ true → is_of_buffer b h ≡ false
+asked_free p b (holders.Asked q) h = refl
+asked_free p b holders.Handshake h = refl
+asked_free p b holders.Manager h = refl
+asked_free p b (holders.Carried c q) h = absurd (cc)
+asked_free p b (holders.Target c q) h = absurd (cc)
 
-shaken-free : (b : ℕ) (h : Holder) → is_handshake h ≡ true → is_of_buffer b h ≡ false
-shaken-free b (holders.Asked q) h = refl
-shaken-free b holders.Handshake h = refl
-shaken-free b holders.Manager h = refl
-shaken-free b (holders.Carried c q) h = absurd (cc)
-shaken-free b (holders.Target c q) h = absurd (cc)
+shaken_free : (b : ℕ) (h : Holder) → is_handshake h ≡ true → is_of_buffer b h ≡ false
+shaken_free b (holders.Asked q) h = refl
+shaken_free b holders.Handshake h = refl
+shaken_free b holders.Manager h = refl
+shaken_free b (holders.Carried c q) h = absurd (cc)
+shaken_free b (holders.Target c q) h = absurd (cc)
 
-pub asked-apart : (p : ℕ) (o : ObjectId) (strong : Bool) (b : ℕ) (r : Reference)
+pub asked_apart : (p : ℕ) (o : ObjectId) (strong : Bool) (b : ℕ) (r : Reference)
     → is_asking p o strong r ≡ true → is_of_buffer b r.holder ≡ false
-asked-apart p o strong b r h = asked-free p b r.holder (and_parts (beq r.strong strong && same r.object o) (is_asked_by p r.holder) h).1
+asked_apart p o strong b r h = asked_free p b r.holder (and_parts (beq r.strong strong && same r.object o) (is_asked_by p r.holder) h).1
 
-pub shaken-apart : (o : ObjectId) (strong : Bool) (b : ℕ) (r : Reference)
+pub shaken_apart : (o : ObjectId) (strong : Bool) (b : ℕ) (r : Reference)
     → is_shaking o strong r ≡ true → is_of_buffer b r.holder ≡ false
-shaken-apart o strong b r h = shaken-free b r.holder (and_parts (beq r.strong strong && same r.object o) (is_handshake r.holder) h).1
+shaken_apart o strong b r h = shaken_free b r.holder (and_parts (beq r.strong strong && same r.object o) (is_handshake r.holder) h).1
 
 -- what the owner has to its own object
-owner-kinds : (w : Bool) (h : Holder)
+owner_kinds : (w : Bool) (h : Holder)
     → (not (w && same_kind (kind_of h) Handshake) && not (w && same_kind (kind_of h) Manager)) ≡ not (w && is_of_owner h)
-owner-kinds false h = refl
-owner-kinds true (holders.Asked q) = refl
-owner-kinds true (holders.Carried b q) = refl
-owner-kinds true (holders.Target b q) = refl
-owner-kinds true holders.Handshake = refl
-owner-kinds true holders.Manager = refl
+owner_kinds false h = refl
+owner_kinds true (holders.Asked q) = refl
+owner_kinds true (holders.Carried b q) = refl
+owner_kinds true (holders.Target b q) = refl
+owner_kinds true holders.Handshake = refl
+owner_kinds true holders.Manager = refl
 
-pub owner-uses : (o : ObjectId) (r : Reference)
+pub owner_uses : (o : ObjectId) (r : Reference)
     → (not (is_of_use (to_use o Handshake) r) && not (is_of_use (to_use o Manager) r)) ≡ not (same r.object o && is_of_owner r.holder)
-owner-uses o r =
-    ap (λ b. not b && not (is_of_use (to_use o Manager) r)) (of-use o Handshake r (kind_of r.holder))
-    ∙ ap (λ b. not (same r.object o && same_kind (kind_of r.holder) Handshake) && not b) (of-use o Manager r (kind_of r.holder))
-    ∙ owner-kinds (same r.object o) r.holder
+owner_uses o r =
+    ap (λ b. not b && not (is_of_use (to_use o Manager) r)) (of_one_use o Handshake r (kind_of r.holder))
+    ∙ ap (λ b. not (same r.object o && same_kind (kind_of r.holder) Handshake) && not b) (of_one_use o Manager r (kind_of r.holder))
+    ∙ owner_kinds (same r.object o) r.holder
 
-pub owner-free : (w : Bool) (b : ℕ) (h : Holder) → (not (w && is_of_owner h) && is_of_buffer b h) ≡ is_of_buffer b h
-owner-free w b (holders.Asked q) = and-false (not (w && false))
-owner-free w b (holders.Carried c q) = ap (λ x. not x && (c == b)) (and-false w)
-owner-free w b (holders.Target c q) = ap (λ x. not x && (c == b)) (and-false w)
-owner-free w b holders.Handshake = and-false (not (w && true))
-owner-free w b holders.Manager = and-false (not (w && true))
+pub owner_free : (w : Bool) (b : ℕ) (h : Holder) → (not (w && is_of_owner h) && is_of_buffer b h) ≡ is_of_buffer b h
+owner_free w b (holders.Asked q) = and-false (not (w && false))
+owner_free w b (holders.Carried c q) = ap (λ x. not x && (c == b)) (and-false w)
+owner_free w b (holders.Target c q) = ap (λ x. not x && (c == b)) (and-false w)
+owner_free w b holders.Handshake = and-false (not (w && true))
+owner_free w b holders.Manager = and-false (not (w && true))
 
 -- of what a buffer holds, just what lies in the window
-pub window-alike : (p d : ℕ) (h : Holder)
+pub window_alike : (p d : ℕ) (h : Holder)
     → (is_of_buffer d h && not (is_in_window p h)) ≡ (not (is_asked_by p h || is_in_window p h) && is_of_buffer d h)
-window-alike p d (holders.Carried b q) = and_comm (b == d) (not (q == p))
-window-alike p d (holders.Target b q) = and_comm (b == d) (not (q == p))
-window-alike p d (holders.Asked q) = sym (and-false (not ((q == p) || false)))
-window-alike p d holders.Handshake = refl
-window-alike p d holders.Manager = refl
+window_alike p d (holders.Carried b q) = and_comm (b == d) (not (q == p))
+window_alike p d (holders.Target b q) = and_comm (b == d) (not (q == p))
+window_alike p d (holders.Asked q) = sym (and-false (not ((q == p) || false)))
+window_alike p d holders.Handshake = refl
+window_alike p d holders.Manager = refl

@@ -29,9 +29,9 @@ module _ {A : Type 0} where
       ap (λ o. put_before o (gathered f (i + 1) n)) (h i here)
       ∙ ap (put_before (g i)) (agrees f g (i + 1) n (λ j lt. h j (omega arith)))
 
-  before-more : (o : Option A) (xs ys : List A) → put_before o (xs ++ ys) ≡ put_before o xs ++ ys
-  before-more None xs ys = refl
-  before-more (Some x) xs ys = refl
+  before_more : (o : Option A) (xs ys : List A) → put_before o (xs ++ ys) ≡ put_before o xs ++ ys
+  before_more None xs ys = refl
+  before_more (Some x) xs ys = refl
 
   -- one index more
   more : (f : ℕ → Option A) (i n : ℕ) → gathered f i (n + 1) ≡ gathered f i n ++ put_before (f (i + n)) []
@@ -40,7 +40,7 @@ module _ {A : Type 0} where
       let e : suc n + 1 ≡ suc (n + 1) = omega arith in
       let k : (i + 1) + n ≡ i + suc n = omega arith in
       ap (gathered f i) e ∙ ap (put_before (f i)) (more f (i + 1) n)
-      ∙ before-more (f i) (gathered f (i + 1) n) (put_before (f ((i + 1) + n)) [])
+      ∙ before_more (f i) (gathered f (i + 1) n) (put_before (f ((i + 1) + n)) [])
       ∙ ap (λ j. put_before (f i) (gathered f (i + 1) n) ++ put_before (f j) []) k
 
   pub pushed : (f g : ℕ → Option A) (n : ℕ) (x : A) → ((j : ℕ) → g j ≡ cond (n == j) (Some x) (f j))
@@ -59,17 +59,17 @@ module _ {A : Type 0} where
           by false e = refl
 
   -- one more comes in, or nothing does
-  pub pushed-if : (f g : ℕ → Option A) (b : Bool) (n m k : ℕ) (x : A)
+  pub pushed_if : (f g : ℕ → Option A) (b : Bool) (n m k : ℕ) (x : A)
       → ((j : ℕ) → g j ≡ cond (b && (k == j)) (Some x) (f j)) → m ≡ cond b (k + 1) n → (b ≡ true → k ≡ n)
       → gathered g 0 m ≡ cond b (gathered f 0 n ++ x ∷ []) (gathered f 0 n)
-  pushed-if f g true n m k x h is same =
+  pushed_if f g true n m k x h is same =
       ap (gathered g 0) (is ∙ ap (λ i. i + 1) (same refl))
       ∙ pushed f g n x (λ j. h j ∙ ap (λ i. cond (i == j) (Some x) (f j)) (same refl))
-  pushed-if f g false n m k x h is same = ap (gathered g 0) is ∙ agrees g f 0 n (λ j lt. h j)
+  pushed_if f g false n m k x h is same = ap (gathered g 0) is ∙ agrees g f 0 n (λ j lt. h j)
 
-  kept-step : (keep : A → Bool) (o : Option A) (xs : List A) → put_before (kept_option keep o) (filter keep xs) ≡ filter keep (put_before o xs)
-  kept-step keep None xs = refl
-  kept-step keep (Some x) xs = by (keep x)
+  kept_step : (keep : A → Bool) (o : Option A) (xs : List A) → put_before (kept_option keep o) (filter keep xs) ≡ filter keep (put_before o xs)
+  kept_step keep None xs = refl
+  kept_step keep (Some x) xs = by (keep x)
     where
       by : (b : Bool) → put_before (cond b (Some x) None) (filter keep xs) ≡ cond b (x ∷ filter keep xs) (filter keep xs)
       by true = refl
@@ -83,14 +83,14 @@ module _ {A : Type 0} where
       let here : i < i + suc n = omega arith in
       ap (λ o. put_before o (gathered g (i + 1) n)) (h i here)
       ∙ ap (put_before (kept_option keep (f i))) (kept keep f g (i + 1) n (λ j lt. h j (omega arith)))
-      ∙ kept-step keep (f i) (gathered f (i + 1) n)
+      ∙ kept_step keep (f i) (gathered f (i + 1) n)
 
   -- one that passes
-  pub gathered-any : (q : A → Bool) (f : ℕ → Option A) (i n j : ℕ) (x : A) → i ≤ j → j < i + n → f j ≡ Some x → q x ≡ true
+  pub gathered_any : (q : A → Bool) (f : ℕ → Option A) (i n j : ℕ) (x : A) → i ≤ j → j < i + n → f j ≡ Some x → q x ≡ true
       → list_any q (gathered f i n) ≡ true
-  gathered-any q f i zero j x from below is h = absurd (omega (arith, from, below))
-  gathered-any q f i (suc n) j x from below is h =
-      by (ltb i j) refl (λ lt. gathered-any q f (i + 1) n j x (omega (arith, lt)) (omega (arith, below)) is h)
+  gathered_any q f i zero j x from below is h = absurd (omega (arith, from, below))
+  gathered_any q f i (suc n) j x from below is h =
+      by (ltb i j) refl (λ lt. gathered_any q f (i + 1) n j x (omega (arith, lt)) (omega (arith, below)) is h)
     where
       after : (o : Option A) → list_any q (gathered f (i + 1) n) ≡ true → list_any q (put_before o (gathered f (i + 1) n)) ≡ true
       after None e = e
@@ -103,11 +103,11 @@ module _ {A : Type 0} where
           let same : i ≡ j = omega (arith, le, from) in
           ap (λ o. list_any q (put_before o (gathered f (i + 1) n))) (ap f same ∙ is) ∙ ap (λ b. b || list_any q (gathered f (i + 1) n)) h
 
-  pub any-gathered : (q : A → Bool) (f : ℕ → Option A) (C : Type 0) (i n : ℕ)
+  pub any_gathered : (q : A → Bool) (f : ℕ → Option A) (C : Type 0) (i n : ℕ)
       → ((j : ℕ) (x : A) → j < i + n → f j ≡ Some x → q x ≡ true → C) → list_any q (gathered f i n) ≡ true → C
-  any-gathered q f C i zero h e = absurd (cc)
-  any-gathered q f C i (suc n) h e =
-      by (f i) refl (any-gathered q f C (i + 1) n (λ j x lt. h j x (omega (arith, lt)))) e
+  any_gathered q f C i zero h e = absurd (cc)
+  any_gathered q f C i (suc n) h e =
+      by (f i) refl (any_gathered q f C (i + 1) n (λ j x lt. h j x (omega (arith, lt)))) e
     where
       by : (o : Option A) → f i ≡ o → (list_any q (gathered f (i + 1) n) ≡ true → C)
           → list_any q (put_before o (gathered f (i + 1) n)) ≡ true → C

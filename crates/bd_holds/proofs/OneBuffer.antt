@@ -8,29 +8,29 @@ use Rattle.bd_space.specs.declared.space.Holder.TheVariants as holders
 use Rattle.bd_space.specs.Words.{is_some_and}
 use Rattle.bd_space.specs.References.{is_of_buffer, buffer_of_holder}
 use Rattle.bd_holds.specs.Carried.{is_carried_by, carried_in}
-use Rattle.bd_holds.proofs.Loads.{filter-twice}
+use Rattle.bd_holds.proofs.Loads.{filter_twice}
 
-none-pass : {A : Type 0} (xs : List A) → filter (λ x. false) xs ≡ []
-none-pass [] = refl
-none-pass (x ∷ xs) = none-pass xs
+none_pass : {A : Type 0} (xs : List A) → filter (λ x. false) xs ≡ []
+none_pass [] = refl
+none_pass (x ∷ xs) = none_pass xs
 
 abbrev of_one : ℕ → Reference → Bool
 of_one b r = is_of_buffer b r.holder
 
 -- one buffer's go
 module _ (b d : ℕ) where
-  same-gone : (b == d) ≡ true → (o : Option ℕ) → (not (is_some_and o (λ c. c == b)) && is_some_and o (λ c. c == d)) ≡ false
-  same-gone e None = refl
-  same-gone e (Some c) = ap (λ n. not (c == b) && (c == n)) (sym (eqb-true b d e)) ∙ by (c == b)
+  same_gone : (b == d) ≡ true → (o : Option ℕ) → (not (is_some_and o (λ c. c == b)) && is_some_and o (λ c. c == d)) ≡ false
+  same_gone e None = refl
+  same_gone e (Some c) = ap (λ n. not (c == b) && (c == n)) (sym (eqb-true b d e)) ∙ by (c == b)
     where
       by : (x : Bool) → (not x && x) ≡ false
       by true = refl
       by false = refl
 
-  other-stays : (b == d) ≡ false → (o : Option ℕ)
+  other_stays : (b == d) ≡ false → (o : Option ℕ)
       → (not (is_some_and o (λ c. c == b)) && is_some_and o (λ c. c == d)) ≡ is_some_and o (λ c. c == d)
-  other-stays e None = refl
-  other-stays e (Some c) = by (c == d) refl (c == b) refl
+  other_stays e None = refl
+  other_stays e (Some c) = by (c == d) refl (c == b) refl
     where
       by : (x : Bool) → (c == d) ≡ x → (y : Bool) → (c == b) ≡ y → (not y && x) ≡ x
       by false f true g = refl
@@ -40,20 +40,20 @@ module _ (b d : ℕ) where
           let yes : (b == d) ≡ true = eq-eqb b d (sym (eqb-true c b g) ∙ eqb-true c d f) in absurd (cc)
 
   pub cleared : (l : List Reference) → cond (b == d) [] (filter (of_one d) l) ≡ filter (of_one d) (filter (λ r. not (of_one b r)) l)
-  cleared l = by (b == d) refl ∙ sym (filter-twice (of_one d) (λ r. not (of_one b r)) l)
+  cleared l = by (b == d) refl ∙ sym (filter_twice (of_one d) (λ r. not (of_one b r)) l)
     where
       by : (x : Bool) → (b == d) ≡ x → cond x [] (filter (of_one d) l) ≡ filter (λ r. not (of_one b r) && of_one d r) l
-      by true e = sym (ap (λ t. filter t l) (λ i r. same-gone e (buffer_of_holder r.holder) i) ∙ none-pass l)
-      by false e = sym (ap (λ t. filter t l) (λ i r. other-stays e (buffer_of_holder r.holder) i))
+      by true e = sym (ap (λ t. filter t l) (λ i r. same_gone e (buffer_of_holder r.holder) i) ∙ none_pass l)
+      by false e = sym (ap (λ t. filter t l) (λ i r. other_stays e (buffer_of_holder r.holder) i))
 
 -- what a buffer carries, it holds
-carried-alike : (b : ℕ) (h : Holder) → (is_of_buffer b h && is_carried_by b h) ≡ is_carried_by b h
-carried-alike b (holders.Carried c q) = and_self (c == b)
-carried-alike b (holders.Target c q) = and-false (c == b)
-carried-alike b (holders.Asked q) = refl
-carried-alike b holders.Handshake = refl
-carried-alike b holders.Manager = refl
+carried_alike : (b : ℕ) (h : Holder) → (is_of_buffer b h && is_carried_by b h) ≡ is_carried_by b h
+carried_alike b (holders.Carried c q) = and_self (c == b)
+carried_alike b (holders.Target c q) = and-false (c == b)
+carried_alike b (holders.Asked q) = refl
+carried_alike b holders.Handshake = refl
+carried_alike b holders.Manager = refl
 
-pub carried-of : (b : ℕ) (l : List Reference) → carried_in (filter (of_one b) l) b ≡ carried_in l b
-carried-of b l = ap (map (λ (r : Reference). r.object))
-    (filter-twice (λ (r : Reference). is_carried_by b r.holder) (of_one b) l ∙ ap (λ t. filter t l) (λ i r. carried-alike b r.holder i))
+pub carried_of : (b : ℕ) (l : List Reference) → carried_in (filter (of_one b) l) b ≡ carried_in l b
+carried_of b l = ap (map (λ (r : Reference). r.object))
+    (filter_twice (λ (r : Reference). is_carried_by b r.holder) (of_one b) l ∙ ap (λ t. filter t l) (λ i r. carried_alike b r.holder i))

@@ -13,7 +13,7 @@ use Rattle.bd_journal.specs.Spelling.{block, step_bytes, answer_bytes, entry_byt
 use Rattle.bd_journal.specs.Reading.{◌>>=◌, Gives, Heading, word_from, entry_from, heading_from}
 use Rattle.bd_journal.specs.Steps.{IsFirstWhole}
 use Rattle.bd_journal.specs.Cut.{behind, whole_behind, whole_with, whole_from, cut_in, IsCutIn, IsCut, Continues}
-use Rattle.bd_journal.proofs.FieldLaws.{bind_some, some_is, Takes, Takes-then}
+use Rattle.bd_journal.proofs.FieldLaws.{bind_some, some_is, Takes, Takes_then}
 use Rattle.bd_journal.proofs.SeatsTold.{seats_in}
 use Rattle.bd_journal.proofs.Laws.{entry_takes, entry_again, heading_takes, heading_again, seats_small}
 
@@ -47,7 +47,7 @@ whole_takes v seats (suc n) bytes fits = at (whole_takes v seats n) (entry_from 
         let first = entry_takes v seats bytes x fits e in
         let others = go x.1 first.0.rest_fits in
         let read = whole_from v seats n x.1 in
-        (Takes-then bytes (entry_bytes x.0) x.1 (flat_map entry_bytes read.0) read.1 first.0 others.0, (first.1, others.1))
+        (Takes_then bytes (entry_bytes x.0) x.1 (flat_map entry_bytes read.0) read.1 first.0 others.0, (first.1, others.1))
 
 -- where it stops, no entry begins
 stops : (v : Version) (seats n : ℕ) (bytes : List ℕ) → IsBytes bytes → length bytes ≤ n → entry_from v seats (whole_from v seats n bytes).1 ≡ None
@@ -191,7 +191,7 @@ whole_found bytes h fits e =
     let t = heading_takes bytes h fits e in
     let read = whole_takes h.0 h.1 (length h.3) h.3 t.0.rest_fits in
     let whole = whole_from h.0 h.1 (length h.3) h.3 in
-    let all = Takes-then bytes (heading_in h.0 h.1 h.2) h.3 (flat_map entry_bytes whole.0) whole.1 t.0 read.0 in (
+    let all = Takes_then bytes (heading_in h.0 h.1 h.2) h.3 (flat_map entry_bytes whole.0) whole.1 t.0 read.0 in (
       h.0,
       h.2,
       record {

@@ -8,7 +8,7 @@ use Rattle.std.proofs.lemmas.Bool.{eqb-true, ltb-true, leb-true, lt-ltb, le-leb}
 use Rattle.std.proofs.lemmas.List.{append-nil, nil_from_length, take_all, take-append-drop, length-append}
 use Rattle.std.proofs.lemmas.List.Concat.{flat_map-cons}
 use Rattle.bd_uapi.specs.Bytes.{IsBytes, word}
-use Rattle.bd_uapi.proofs.Pieces.{IsBytes-drop}
+use Rattle.bd_uapi.proofs.Pieces.{IsBytes_drop}
 use Rattle.bd_uapi.specs.declared.fault.Fault.{Fault}
 use Rattle.bd_uapi.specs.declared.command.Command.{Command}
 use Rattle.bd_codec.specs.Spelling.{command_bytes, IsCommand}
@@ -30,7 +30,7 @@ use Rattle.bd_journal.specs.declared.codes.TheConstants.{NOTES, CAUSES, FAULTS}
 use Rattle.bd_journal.specs.Codes.{numbered, bit, bits, note_number, cause_number, fault_number}
 use Rattle.bd_journal.specs.Spelling.{block, magic, least_seats_in, most_seats_in, count_bytes, count_limit, has_spam, carries, parcel_bytes, step_bytes, answer_bytes, entry_bytes, heading_in, spelling_in, IsBlock, IsParcel, IsStepIn, IsAnswer, IsSeatsIn, IsEntryIn, IsJournalIn, Tells}
 use Rattle.bd_journal.specs.Reading.{◌>>=◌, Gives, byte_from, word_from, block_from, whole, whole_block_from, spelled_by, command_in, blocks_from, parcel_by, parcel_from, command_step_from, open_from, number_step_from, numbered_from, tagged, later_step_rows, step_rows, step_from, got_from, answer_rows, answer_from, entry_from, entries_from, version_from, seats_from, count_from, Heading, heading_from, record_from, journal_in}
-use Rattle.bd_journal.proofs.FieldLaws.{bind_some, demand_some, some_is, Takes, Takes-then, Takes-behind, IsBytes-rest, byte_takes, words, counts, blocks, block_bytes}
+use Rattle.bd_journal.proofs.FieldLaws.{bind_some, demand_some, some_is, Takes, Takes_then, Takes_behind, IsBytes_rest, byte_takes, words, counts, blocks, block_bytes}
 use Rattle.bd_journal.proofs.Tags.{Row, RowOf, bare_row, once_row, thrice_row, thrice_again, numbered_row, rows_take}
 
 none_is_not_some : {A : Type 0} (x : A) → None ≡ Some x → ⊥
@@ -67,7 +67,7 @@ two_blocks c bytes x carrying fits e =
     let t0 = blocks.takes bytes p.0 fits p.1 in
     let t1 = blocks.takes p.0.1 q.0 t0.0.rest_fits q.1 in
     let v : Option Parcel = Some (record { bytes = p.0.0; offsets = q.0.0 }) in
-    let both = Takes-behind 1 bytes (block p.0.0 ++ block q.0.0) q.0.1 (Takes-then bytes (block p.0.0) p.0.1 (block q.0.0) q.0.1 t0.0 t1.0) in
+    let both = Takes_behind 1 bytes (block p.0.0 ++ block q.0.0) q.0.1 (Takes_then bytes (block p.0.0) p.0.1 (block q.0.0) q.0.1 t0.0 t1.0) in
     let made : Takes (1 ∷ bytes) (parcel_bytes v) q.0.1 × IsParcel c v = (both, (carrying, t0.1, t1.1)) in
     subst (λ (y : Option Parcel × List ℕ). Takes (1 ∷ bytes) (parcel_bytes y.0) y.1 × IsParcel c y.0) (some_is (v, q.0.1) x q.2) made
 
@@ -89,7 +89,7 @@ unfolding parcel_from
 parcel_takes c bytes x fits e =
     let p = bind_some (byte_from bytes) (λ flag. parcel_by (carries c) flag.0 flag.1) x e in
     let is : bytes ≡ p.0.0 ∷ p.0.1 = byte_takes bytes p.0 p.1 in
-    let rest_fits : IsBytes p.0.1 = IsBytes-rest p.0.0 p.0.1 (subst IsBytes is fits) in
+    let rest_fits : IsBytes p.0.1 = IsBytes_rest p.0.0 p.0.1 (subst IsBytes is fits) in
     subst (λ (b : List ℕ). Takes b (parcel_bytes x.0) x.1 × IsParcel c x.0) (sym is) (flag_takes c p.0.0 p.0.1 x rest_fits p.2)
 
 parcel_again : (c : Command) (p : Option Parcel) (rest : List ℕ) → IsParcel c p → parcel_from c (parcel_bytes p ++ rest) ≡ Some (p, rest)
@@ -114,7 +114,7 @@ command_row v = record {
       let spelled = command_spelled p.0.0 q.0 (block_bytes bytes p.0 fits p.1) q.1 in
       let t1 : Takes bytes (block (command_bytes q.0)) p.0.1 = subst (λ (b : List ℕ). Takes bytes (block b) p.0.1) spelled.0 t0.0 in
       let t2 = parcel_takes q.0 p.0.1 u.0 t0.0.rest_fits u.1 in
-      let all = Takes-behind 3 bytes (block (command_bytes q.0) ++ parcel_bytes u.0.0) u.0.1 (Takes-then bytes (block (command_bytes q.0)) p.0.1 (parcel_bytes u.0.0) u.0.1 t1 t2.0) in
+      let all = Takes_behind 3 bytes (block (command_bytes q.0) ++ parcel_bytes u.0.0) u.0.1 (Takes_then bytes (block (command_bytes q.0)) p.0.1 (parcel_bytes u.0.0) u.0.1 t1 t2.0) in
       let s = step.Command q.0 u.0.0 in
       let made : Takes (3 ∷ bytes) (step_bytes s) u.0.1 × IsStepIn v s = (all, (spelled.1, t2.1)) in
       subst (λ (y : Step × List ℕ). Takes (3 ∷ bytes) (step_bytes y.0) y.1 × IsStepIn v y.0) (some_is (s, u.0.1) x u.2) made;
@@ -291,8 +291,8 @@ entry_takes v seats bytes x fits e =
     let t0 = words.takes bytes p.0 fits p.1 in
     let t1 = whole_takes (step_from v) step_bytes (IsStepIn v) (step_takes v) p.0.1 q.0 t0.0.rest_fits q.1 in
     let t2 = whole_takes answer_from answer_bytes IsAnswer answer_takes q.0.1 u.0 t1.0.rest_fits u.1 in
-    let two = Takes-then bytes (word p.0.0) p.0.1 (block (step_bytes q.0.0)) q.0.1 t0.0 t1.0 in
-    let all = Takes-then bytes (word p.0.0 ++ block (step_bytes q.0.0)) q.0.1 (block (answer_bytes u.0.0)) u.0.1 two t2.0 in
+    let two = Takes_then bytes (word p.0.0) p.0.1 (block (step_bytes q.0.0)) q.0.1 t0.0 t1.0 in
+    let all = Takes_then bytes (word p.0.0 ++ block (step_bytes q.0.0)) q.0.1 (block (answer_bytes u.0.0)) u.0.1 two t2.0 in
     let made : Takes bytes (entry_bytes one) u.0.1 × IsEntryIn v seats one = (all, record { seat = ltb-true _ _ d.0; step = t1.1; step_block = t1.2; answer = t2.1; answer_block = t2.2 }) in
     subst (λ (y : Entry × List ℕ). Takes bytes (entry_bytes y.0) y.1 × IsEntryIn v seats y.0) (some_is (one, u.0.1) x d.1) made
 
@@ -322,7 +322,7 @@ entries_take v seats (suc n) bytes x fits e =
     let b = bind_some (entries_from v seats n a.0.1) (λ others. Some (a.0.0 ∷ others.0, others.1)) x a.2 in
     let first = entry_takes v seats bytes a.0 fits a.1 in
     let second = entries_take v seats n a.0.1 b.0 first.0.rest_fits b.1 in
-    let both = Takes-then bytes (entry_bytes a.0.0) a.0.1 (flat_map entry_bytes b.0.0) b.0.1 first.0 second.0 in
+    let both = Takes_then bytes (entry_bytes a.0.0) a.0.1 (flat_map entry_bytes b.0.0) b.0.1 first.0 second.0 in
     let all : List Entry × List ℕ = (a.0.0 ∷ b.0.0, b.0.1) in
     let made : Takes bytes (flat_map entry_bytes all.0) all.1 × (length all.0 ≡ suc n) × AllByRecursion (IsEntryIn v seats) all.0 = (both, ap suc second.1, (first.1, second.2)) in
     subst (λ (y : List Entry × List ℕ). Takes bytes (flat_map entry_bytes y.0) y.1 × (length y.0 ≡ suc n) × AllByRecursion (IsEntryIn v seats) y.0) (some_is all x b.2) made
@@ -348,7 +348,7 @@ magic_takes bytes x fits e = by (bytes_eq (take 8 bytes) (magic Three)) (bytes_e
     begins : (v : Version) → bytes_eq (take 8 bytes) (magic v) ≡ true → Takes bytes (magic v) (drop 8 bytes)
     begins v is = record {
       parts = sym (take-append-drop 8 bytes) ∙ ap (λ (t : List ℕ). t ++ drop 8 bytes) (same_text (take 8 bytes) (magic v) (sym is));
-      rest_fits = IsBytes-drop 8 bytes fits;
+      rest_fits = IsBytes_drop 8 bytes fits;
     }
 
     is_begun : (v : Version) → bytes_eq (take 8 bytes) (magic v) ≡ true → Some (v, drop 8 bytes) ≡ Some x → Takes bytes (magic x.0) x.1
@@ -403,9 +403,9 @@ heading_takes bytes h fits e =
     let u = bind_some (count_from v q.0.1) (λ c. Some (v, q.0.0, c.0, c.1)) h q.2 in
     let begun = magic_takes bytes p.0 fits p.1 in
     let s = seats_take v p.0.1 q.0 begun.rest_fits q.1 in
-    let t0 : Takes bytes (magic v ++ word q.0.0) q.0.1 = Takes-then bytes (magic v) p.0.1 (word q.0.0) q.0.1 begun s.0 in
+    let t0 : Takes bytes (magic v ++ word q.0.0) q.0.1 = Takes_then bytes (magic v) p.0.1 (word q.0.0) q.0.1 begun s.0 in
     let t1 = (counts v).takes q.0.1 u.0 t0.rest_fits u.1 in
-    let all = Takes-then bytes (magic v ++ word q.0.0) q.0.1 (count_bytes v u.0.0) u.0.1 t0 t1.0 in
+    let all = Takes_then bytes (magic v ++ word q.0.0) q.0.1 (count_bytes v u.0.0) u.0.1 t0 t1.0 in
     let made : Takes bytes (heading_in v q.0.0 u.0.0) u.0.1 × IsHeadingIn (v, q.0.0, u.0.0, u.0.1) = (all, (s.1, t1.1)) in
     subst (λ (y : Heading). Takes bytes (heading_in y.0 y.1 y.2) y.3 × IsHeadingIn y) (some_is (v, q.0.0, u.0.0, u.0.1) h u.2) made
 
@@ -430,7 +430,7 @@ record_takes bytes h r begun fits e =
     let t = entries_take v seats h.2 h.3 u.0 begun.rest_fits u.1 in
     let nothing : u.0.1 ≡ [] = nil_from_length u.0.1 (eqb-true _ _ d.0) in
     let heading : Takes bytes (heading_in v seats (length u.0.0)) h.3 = subst (λ (n : ℕ). Takes bytes (heading_in v seats n) h.3) (sym t.1) begun in
-    let parts = (Takes-then bytes (heading_in v seats (length u.0.0)) h.3 (flat_map entry_bytes u.0.0) u.0.1 heading t.0).parts in
+    let parts = (Takes_then bytes (heading_in v seats (length u.0.0)) h.3 (flat_map entry_bytes u.0.0) u.0.1 heading t.0).parts in
     let all : bytes ≡ spelling_in v found = parts ∙ ap (λ (t : List ℕ). spelling_in v found ++ t) nothing ∙ append-nil (spelling_in v found) in
     let made : IsJournalIn v found × (bytes ≡ spelling_in v found) = (record { seats = fits.0; count = omega (arith, fits.1, t.1); entries = t.2 }, all) in
     subst (λ (y : Record). IsJournalIn v y × (bytes ≡ spelling_in v y)) (some_is found r d.1) made

@@ -3,15 +3,15 @@ use Rattle.std.proofs.Common.{◌≡◌, ℕ, zero, suc, ◌<◌, Bool, true, fa
 use Rattle.bd_keys.specs.declared.key.WordKey.{WordKey}
 use Rattle.bd_keys.specs.Keys.{same_word, place_in}
 use Rattle.bd_keys.specs.Walk.{blank}
-use Rattle.bd_keys.proofs.Keys.{word-eq, word-self}
+use Rattle.bd_keys.proofs.Keys.{word_eq, word_self}
 
 -- the place has the key
-pub place-some : (ks : List WordKey) (l : WordKey) (i : ℕ) → place_in ks l ≡ Some i
+pub place_some : (ks : List WordKey) (l : WordKey) (i : ℕ) → place_in ks l ≡ Some i
     → (i < length ks) × (get_or ks i blank ≡ l)
 unfolding place_in
-place-some [] l i h = absurd (cc)
-place-some (k ∷ ks) l i h =
-    at (λ j e. place-some ks l j e) (same_word k l) refl (place_in ks l) refl h
+place_some [] l i h = absurd (cc)
+place_some (k ∷ ks) l i h =
+    at (λ j e. place_some ks l j e) (same_word k l) refl (place_in ks l) refl h
   where
     at : ((j : ℕ) → place_in ks l ≡ Some j → (j < length ks) × (get_or ks j blank ≡ l))
         → (b : Bool) → same_word k l ≡ b → (o : Option ℕ) → place_in ks l ≡ o
@@ -19,7 +19,7 @@ place-some (k ∷ ks) l i h =
         → (i < length (k ∷ ks)) × (get_or (k ∷ ks) i blank ≡ l)
     at again true e o f g =
         let z : 0 ≡ i = cc in
-        subst (λ j. (j < length (k ∷ ks)) × (get_or (k ∷ ks) j blank ≡ l)) z (omega arith, word-eq k l e)
+        subst (λ j. (j < length (k ∷ ks)) × (get_or (k ∷ ks) j blank ≡ l)) z (omega arith, word_eq k l e)
     at again false e None f g = absurd (cc)
     at again false e (Some j) f g =
         let s : suc j ≡ i = cc in
@@ -28,12 +28,12 @@ place-some (k ∷ ks) l i h =
         subst (λ n. (n < length (k ∷ ks)) × (get_or (k ∷ ks) n blank ≡ l)) s (less, r.1)
 
 -- where there is none, no place has it
-pub place-none : (ks : List WordKey) (l : WordKey) (i : ℕ) → place_in ks l ≡ None → i < length ks
+pub place_none : (ks : List WordKey) (l : WordKey) (i : ℕ) → place_in ks l ≡ None → i < length ks
     → get_or ks i blank ≡ l → ⊥
 unfolding place_in
-place-none [] l i h g e = omega (arith, g)
-place-none (k ∷ ks) l i h g e =
-    at (λ j f less q. place-none ks l j f less q) (same_word k l) refl (place_in ks l) refl h i g e
+place_none [] l i h g e = omega (arith, g)
+place_none (k ∷ ks) l i h g e =
+    at (λ j f less q. place_none ks l j f less q) (same_word k l) refl (place_in ks l) refl h i g e
   where
     at : ((j : ℕ) → place_in ks l ≡ None → j < length ks → get_or ks j blank ≡ l → ⊥)
         → (b : Bool) → same_word k l ≡ b → (o : Option ℕ) → place_in ks l ≡ o
@@ -42,17 +42,17 @@ place-none (k ∷ ks) l i h g e =
     at again true e o f g j less q = absurd (cc)
     at again false e (Some n) f g j less q = absurd (cc)
     at again false e None f g zero less q =
-        let yes : same_word k l ≡ true = subst (λ z. same_word k z ≡ true) q (word-self k) in
+        let yes : same_word k l ≡ true = subst (λ z. same_word k z ≡ true) q (word_self k) in
         absurd (cc)
     at again false e None f g (suc j) less q = again j f (omega (arith, less)) q
 
 -- a new key comes after the others
-pub place-push : (ks : List WordKey) (k l : WordKey) → place_in ks k ≡ None
+pub place_push : (ks : List WordKey) (k l : WordKey) → place_in ks k ≡ None
     → place_in (ks ++ k ∷ []) l ≡ cond (same_word k l) (Some (length ks)) (place_in ks l)
 unfolding place_in
-place-push [] k l h = refl
-place-push (j ∷ ks) k l h =
-    at (λ e. place-push ks k l e) (same_word j k) refl (place_in ks k) refl h (same_word j l) refl (same_word k l) refl
+place_push [] k l h = refl
+place_push (j ∷ ks) k l h =
+    at (λ e. place_push ks k l e) (same_word j k) refl (place_in ks k) refl h (same_word j l) refl (same_word k l) refl
   where
     at : (place_in ks k ≡ None
         → place_in (ks ++ k ∷ []) l ≡ cond (same_word k l) (Some (length ks)) (place_in ks l))
@@ -64,7 +64,7 @@ place-push (j ∷ ks) k l h =
     at again true e o f g b p d q = absurd (cc)
     at again false e (Some n) f g b p d q = absurd (cc)
     at again false e None f g true p true q =
-        let is : l ≡ k = sym (word-eq k l q) in
+        let is : l ≡ k = sym (word_eq k l q) in
         let same : same_word j k ≡ true = subst (λ z. same_word j z ≡ true) is p in
         absurd (cc)
     at again false e None f g true p false q = refl

@@ -7,15 +7,15 @@ use Rattle.bd_keys.specs.declared.node.Node.{Node}
 use Rattle.bd_keys.specs.Keys.{same_word, spread, place_in}
 use Rattle.bd_keys.specs.Walk.{blank, no_node, node_at, keys, toward, next, onward, end_from, end_of}
 use Rattle.bd_keys.specs.Tree.{Agree, IsTree}
-use Rattle.bd_keys.proofs.Keys.{word-eq, word-self}
-use Rattle.bd_keys.proofs.Places.{place-some, place-none}
+use Rattle.bd_keys.proofs.Keys.{word_eq, word_self}
+use Rattle.bd_keys.proofs.Places.{place_some, place_none}
 
 -- a step goes to the child, from a node of another key
-pub next-some : (ns : List Node) (i : ℕ) (k : WordKey) (j : ℕ) → next ns i k ≡ Some j
+pub next_some : (ns : List Node) (i : ℕ) (k : WordKey) (j : ℕ) → next ns i k ≡ Some j
     → (same_word (node_at ns i).key k ≡ false) × (toward (node_at ns i) (spread k) ≡ j)
     × (toward (node_at ns i) (spread k) ≢ 0)
 unfolding next
-next-some ns i k j h = at (same_word (node_at ns i).key k) refl (toward (node_at ns i) (spread k) == 0) refl h
+next_some ns i k j h = at (same_word (node_at ns i).key k) refl (toward (node_at ns i) (spread k) == 0) refl h
   where
     at : (b : Bool) → same_word (node_at ns i).key k ≡ b → (z : Bool)
         → (toward (node_at ns i) (spread k) == 0) ≡ z
@@ -32,101 +32,101 @@ next-some ns i k j h = at (same_word (node_at ns i).key k) refl (toward (node_at
 abbrev step : Bool → ℕ → Option ℕ
 step b c = cond b None (cond (c == 0) None (Some c))
 
-pub next-at : (ns : List Node) (i : ℕ) (k : WordKey) (j : ℕ) → same_word (node_at ns i).key k ≡ false
+pub next_at : (ns : List Node) (i : ℕ) (k : WordKey) (j : ℕ) → same_word (node_at ns i).key k ≡ false
     → toward (node_at ns i) (spread k) ≡ j → j ≢ 0 → next ns i k ≡ Some j
 unfolding next
-next-at ns i k j e t n =
+next_at ns i k j e t n =
     ap (λ b. step b (toward (node_at ns i) (spread k))) e
     ∙ ap (step false) t ∙ ap (λ b. cond b None (Some j)) (ne_eqb j 0 n)
 
-pub next-own : (ns : List Node) (i : ℕ) (k : WordKey) → same_word (node_at ns i).key k ≡ true → next ns i k ≡ None
+pub next_own : (ns : List Node) (i : ℕ) (k : WordKey) → same_word (node_at ns i).key k ≡ true → next ns i k ≡ None
 unfolding next
-next-own ns i k e =
+next_own ns i k e =
     ap (λ b. step b (toward (node_at ns i) (spread k))) e
 
-pub next-stuck : (ns : List Node) (i : ℕ) (k : WordKey) → same_word (node_at ns i).key k ≡ false
+pub next_stuck : (ns : List Node) (i : ℕ) (k : WordKey) → same_word (node_at ns i).key k ≡ false
     → toward (node_at ns i) (spread k) ≡ 0 → next ns i k ≡ None
 unfolding next
-next-stuck ns i k e t =
+next_stuck ns i k e t =
     ap (λ b. step b (toward (node_at ns i) (spread k))) e
     ∙ ap (step false) t
 
 -- where it doesn't go on from a node of another key, no more go that way
-pub next-none : (ns : List Node) (i : ℕ) (k : WordKey) → next ns i k ≡ None
+pub next_none : (ns : List Node) (i : ℕ) (k : WordKey) → next ns i k ≡ None
     → same_word (node_at ns i).key k ≡ false → toward (node_at ns i) (spread k) ≡ 0
-next-none ns i k h e = at (toward (node_at ns i) (spread k) == 0) refl
+next_none ns i k h e = at (toward (node_at ns i) (spread k) == 0) refl
   where
     at : (z : Bool) → (toward (node_at ns i) (spread k) == 0) ≡ z → toward (node_at ns i) (spread k) ≡ 0
     at true f = eqb-true (toward (node_at ns i) (spread k)) 0 f
     at false f =
-        let on = next-at ns i k (toward (node_at ns i) (spread k)) e refl
+        let on = next_at ns i k (toward (node_at ns i) (spread k)) e refl
         (eqb-false (toward (node_at ns i) (spread k)) 0 f) in
         absurd (cc)
 
-pub end-none : (ns : List Node) (f i : ℕ) (k : WordKey) → next ns i k ≡ None → end_from ns (suc f) i k ≡ i
+pub end_none : (ns : List Node) (f i : ℕ) (k : WordKey) → next ns i k ≡ None → end_from ns (suc f) i k ≡ i
 unfolding end_from
-end-none ns f i k e = ap (onward i (λ j. end_from ns f j k)) e
+end_none ns f i k e = ap (onward i (λ j. end_from ns f j k)) e
 
-pub end-some : (ns : List Node) (f i : ℕ) (k : WordKey) (j : ℕ) → next ns i k ≡ Some j
+pub end_some : (ns : List Node) (f i : ℕ) (k : WordKey) (j : ℕ) → next ns i k ≡ Some j
     → end_from ns (suc f) i k ≡ end_from ns f j k
 unfolding end_from
-end-some ns f i k j e = ap (onward i (λ n. end_from ns f n k)) e
+end_some ns f i k j e = ap (onward i (λ n. end_from ns f n k)) e
 
-pub key-at : (ns : List Node) (i : ℕ) → i < length ns → get_or (keys ns) i blank ≡ (node_at ns i).key
-key-at ns i h = get_or-map (λ (n : Node). n.key) ns i no_node blank h
+pub key_at : (ns : List Node) (i : ℕ) → i < length ns → get_or (keys ns) i blank ≡ (node_at ns i).key
+key_at ns i h = get_or-map (λ (n : Node). n.key) ns i no_node blank h
 
-pub keys-length : (ns : List Node) → length (keys ns) ≡ length ns
-keys-length ns = length-map ns (λ (n : Node). n.key)
+pub keys_length : (ns : List Node) → length (keys ns) ≡ length ns
+keys_length ns = length-map ns (λ (n : Node). n.key)
 
 module _ (ns : List Node) (t : IsTree ns) where
-  pub step-inside : (i : ℕ) (k : WordKey) (j : ℕ) → i < length ns → next ns i k ≡ Some j → j < length ns
-  step-inside i k j h e =
-      let s = next-some ns i k j e in
+  pub step_inside : (i : ℕ) (k : WordKey) (j : ℕ) → i < length ns → next ns i k ≡ Some j → j < length ns
+  step_inside i k j h e =
+      let s = next_some ns i k j e in
       subst (λ c. c < length ns) s.1 ((t.nodes i h).within (spread k) s.2)
 
-  pub step-deeper : (i : ℕ) (k : WordKey) (j : ℕ) → i < length ns → next ns i k ≡ Some j
+  pub step_deeper : (i : ℕ) (k : WordKey) (j : ℕ) → i < length ns → next ns i k ≡ Some j
       → (node_at ns j).bit ≡ (node_at ns i).bit + 3
-  step-deeper i k j h e =
-      let s = next-some ns i k j e in
+  step_deeper i k j h e =
+      let s = next_some ns i k j e in
       subst (λ c. (node_at ns c).bit ≡ (node_at ns i).bit + 3) s.1 ((t.nodes i h).deeper (spread k) s.2)
 
-  pub step-agrees : (i : ℕ) (k : WordKey) (j : ℕ) → i < length ns → next ns i k ≡ Some j
+  pub step_agrees : (i : ℕ) (k : WordKey) (j : ℕ) → i < length ns → next ns i k ≡ Some j
       → Agree (node_at ns i).bit (spread (node_at ns i).key) (spread k)
       → Agree (node_at ns j).bit (spread (node_at ns j).key) (spread k)
-  step-agrees i k j h e a =
-      let s = next-some ns i k j e in
+  step_agrees i k j h e a =
+      let s = next_some ns i k j e in
       let more = (t.nodes i h).agrees (spread k) s.2 a in
-      subst (λ n. Agree n (spread (node_at ns j).key) (spread k)) (sym (step-deeper i k j h e))
+      subst (λ n. Agree n (spread (node_at ns j).key) (spread k)) (sym (step_deeper i k j h e))
       (subst (λ c. Agree ((node_at ns i).bit + 3) (spread (node_at ns c).key) (spread k)) s.1 more)
 
-  end-inside : (f i : ℕ) (k : WordKey) → i < length ns → end_from ns f i k < length ns
+  end_inside : (f i : ℕ) (k : WordKey) → i < length ns → end_from ns f i k < length ns
   unfolding end_from
-  end-inside zero i k h = h
-  end-inside (suc f) i k h = at (λ j l. end-inside f j k l) (next ns i k) refl
+  end_inside zero i k h = h
+  end_inside (suc f) i k h = at (λ j l. end_inside f j k l) (next ns i k) refl
     where
       at : ((j : ℕ) → j < length ns → end_from ns f j k < length ns)
           → (o : Option ℕ) → next ns i k ≡ o → onward i (λ j. end_from ns f j k) o < length ns
       at again None e = h
-      at again (Some j) e = again j (step-inside i k j h e)
+      at again (Some j) e = again j (step_inside i k j h e)
 
   -- a node further at each step, the walk ends before its steps are used up
-  end-last : (f i : ℕ) (k : WordKey) → i < length ns → f + (node_at ns i).bit / 3 ≡ 34
+  end_last : (f i : ℕ) (k : WordKey) → i < length ns → f + (node_at ns i).bit / 3 ≡ 34
       → next ns (end_from ns f i k) k ≡ None
   unfolding end_from
-  end-last zero i k h b = absurd (omega (arith, b, (t.nodes i h).bit))
-  end-last (suc f) i k h b = at (λ j l d. end-last f j k l d) (next ns i k) refl
+  end_last zero i k h b = absurd (omega (arith, b, (t.nodes i h).bit))
+  end_last (suc f) i k h b = at (λ j l d. end_last f j k l d) (next ns i k) refl
     where
       at : ((j : ℕ) → j < length ns → f + (node_at ns j).bit / 3 ≡ 34 → next ns (end_from ns f j k) k ≡ None)
           → (o : Option ℕ) → next ns i k ≡ o → next ns (onward i (λ j. end_from ns f j k) o) k ≡ None
       at again None e = e
-      at again (Some j) e = again j (step-inside i k j h e) (omega (arith, b, step-deeper i k j h e))
+      at again (Some j) e = again j (step_inside i k j h e) (omega (arith, b, step_deeper i k j h e))
 
-  end-agrees : (f i : ℕ) (k : WordKey) → i < length ns
+  end_agrees : (f i : ℕ) (k : WordKey) → i < length ns
       → Agree (node_at ns i).bit (spread (node_at ns i).key) (spread k)
       → Agree (node_at ns (end_from ns f i k)).bit (spread (node_at ns (end_from ns f i k)).key) (spread k)
   unfolding end_from
-  end-agrees zero i k h a = a
-  end-agrees (suc f) i k h a = at (λ j l d. end-agrees f j k l d) (next ns i k) refl
+  end_agrees zero i k h a = a
+  end_agrees (suc f) i k h a = at (λ j l d. end_agrees f j k l d) (next ns i k) refl
     where
       at : ((j : ℕ) → j < length ns → Agree (node_at ns j).bit (spread (node_at ns j).key) (spread k)
           → Agree (node_at ns (end_from ns f j k)).bit (spread (node_at ns (end_from ns f j k)).key) (spread k))
@@ -134,94 +134,94 @@ module _ (ns : List Node) (t : IsTree ns) where
           → Agree (node_at ns (onward i (λ j. end_from ns f j k) o)).bit
           (spread (node_at ns (onward i (λ j. end_from ns f j k) o)).key) (spread k)
       at again None e = a
-      at again (Some j) e = again j (step-inside i k j h e) (step-agrees i k j h e a)
+      at again (Some j) e = again j (step_inside i k j h e) (step_agrees i k j h e a)
 
-  pub end_of-inside : 0 < length ns → (k : WordKey) → end_of ns k < length ns
+  pub end_of_inside : 0 < length ns → (k : WordKey) → end_of ns k < length ns
   unfolding end_of
-  end_of-inside h k = end-inside 34 0 k h
+  end_of_inside h k = end_inside 34 0 k h
 
-  pub end_of-last : 0 < length ns → (k : WordKey) → next ns (end_of ns k) k ≡ None
+  pub end_of_last : 0 < length ns → (k : WordKey) → next ns (end_of ns k) k ≡ None
   unfolding end_of
-  end_of-last h k = end-last 34 0 k h (omega (arith, t.root))
+  end_of_last h k = end_last 34 0 k h (omega (arith, t.root))
 
-  pub end_of-agrees : 0 < length ns → (k : WordKey)
+  pub end_of_agrees : 0 < length ns → (k : WordKey)
       → Agree (node_at ns (end_of ns k)).bit (spread (node_at ns (end_of ns k)).key) (spread k)
   unfolding end_of
-  end_of-agrees h k =
+  end_of_agrees h k =
       let none : Agree 0 (spread (node_at ns 0).key) (spread k) = omega arith in
-      end-agrees 34 0 k h (subst (λ n. Agree n (spread (node_at ns 0).key) (spread k)) (sym t.root) none)
+      end_agrees 34 0 k h (subst (λ n. Agree n (spread (node_at ns 0).key) (spread k)) (sym t.root) none)
 
   -- a key's walk ends at its place
-  pub end-own : (k : WordKey) (j : ℕ) → place_in (keys ns) k ≡ Some j → (j < length ns) × (end_of ns k ≡ j)
+  pub end_own : (k : WordKey) (j : ℕ) → place_in (keys ns) k ≡ Some j → (j < length ns) × (end_of ns k ≡ j)
       × ((node_at ns j).key ≡ k)
-  end-own k j e =
-      let p = place-some (keys ns) k j e in
-      let less : j < length ns = omega (arith, p.0, keys-length ns) in
-      let is : (node_at ns j).key ≡ k = sym (key-at ns j less) ∙ p.1 in
+  end_own k j e =
+      let p = place_some (keys ns) k j e in
+      let less : j < length ns = omega (arith, p.0, keys_length ns) in
+      let is : (node_at ns j).key ≡ k = sym (key_at ns j less) ∙ p.1 in
       (less, subst (λ z. end_of ns z ≡ j) is (t.own j less), is)
 
-  pub find-here : 0 < length ns → (k : WordKey) → same_word (node_at ns (end_of ns k)).key k ≡ true
+  pub find_here : 0 < length ns → (k : WordKey) → same_word (node_at ns (end_of ns k)).key k ≡ true
       → place_in (keys ns) k ≡ Some (end_of ns k)
-  find-here h k eq = at (place_in (keys ns) k) refl
+  find_here h k eq = at (place_in (keys ns) k) refl
     where
       at : (o : Option ℕ) → place_in (keys ns) k ≡ o → o ≡ Some (end_of ns k)
       at None e =
-          let inside = end_of-inside h k in
-          absurd (place-none (keys ns) k (end_of ns k) e (omega (arith, inside, keys-length ns))
-          (key-at ns (end_of ns k) inside ∙ word-eq (node_at ns (end_of ns k)).key k eq))
-      at (Some j) e = ap Some (sym (end-own k j e).1)
+          let inside = end_of_inside h k in
+          absurd (place_none (keys ns) k (end_of ns k) e (omega (arith, inside, keys_length ns))
+          (key_at ns (end_of ns k) inside ∙ word_eq (node_at ns (end_of ns k)).key k eq))
+      at (Some j) e = ap Some (sym (end_own k j e).1)
 
-  pub find-none : (k : WordKey) → same_word (node_at ns (end_of ns k)).key k ≡ false → place_in (keys ns) k ≡ None
-  find-none k ne = at (place_in (keys ns) k) refl
+  pub find_none : (k : WordKey) → same_word (node_at ns (end_of ns k)).key k ≡ false → place_in (keys ns) k ≡ None
+  find_none k ne = at (place_in (keys ns) k) refl
     where
       at : (o : Option ℕ) → place_in (keys ns) k ≡ o → o ≡ None
       at None e = refl
       at (Some j) e =
-          let o = end-own k j e in
+          let o = end_own k j e in
           let is : (node_at ns (end_of ns k)).key ≡ k = subst (λ i. (node_at ns i).key ≡ k) (sym o.1) o.2 in
           let same : same_word (node_at ns (end_of ns k)).key k ≡ true =
-          subst (λ z. same_word z k ≡ true) (sym is) (word-self k) in
+          subst (λ z. same_word z k ≡ true) (sym is) (word_self k) in
           absurd (cc)
 
-  pub none-apart : (k : WordKey) → place_in (keys ns) k ≡ None → (i : ℕ) → i < length ns → (node_at ns i).key ≡ k → ⊥
-  none-apart k e i h q = place-none (keys ns) k i e (omega (arith, h, keys-length ns)) (key-at ns i h ∙ q)
+  pub none_apart : (k : WordKey) → place_in (keys ns) k ≡ None → (i : ℕ) → i < length ns → (node_at ns i).key ≡ k → ⊥
+  none_apart k e i h q = place_none (keys ns) k i e (omega (arith, h, keys_length ns)) (key_at ns i h ∙ q)
 
   -- each key is at its place
-  pub find-own : (i : ℕ) → i < length ns → place_in (keys ns) (get_or (keys ns) i blank) ≡ Some i
-  find-own i h = at (place_in (keys ns) (get_or (keys ns) i blank)) refl
+  pub find_own : (i : ℕ) → i < length ns → place_in (keys ns) (get_or (keys ns) i blank) ≡ Some i
+  find_own i h = at (place_in (keys ns) (get_or (keys ns) i blank)) refl
     where
       at : (o : Option ℕ) → place_in (keys ns) (get_or (keys ns) i blank) ≡ o → o ≡ Some i
-      at None e = absurd (none-apart (get_or (keys ns) i blank) e i h (sym (key-at ns i h)))
+      at None e = absurd (none_apart (get_or (keys ns) i blank) e i h (sym (key_at ns i h)))
       at (Some j) e =
-          let o = end-own (get_or (keys ns) i blank) j e in
-          ap Some (sym o.1 ∙ ap (end_of ns) (key-at ns i h) ∙ t.own i h)
+          let o = end_own (get_or (keys ns) i blank) j e in
+          ap Some (sym o.1 ∙ ap (end_of ns) (key_at ns i h) ∙ t.own i h)
 
   -- a walk, step by step: so many steps are left at a node that the walk ends where it is to end
   abbrev pub OnTheWay : WordKey → ℕ → Type 0
   OnTheWay k i = (f : ℕ) → f + (node_at ns i).bit / 3 ≡ 34 → end_from ns f i k ≡ end_of ns k
 
-  pub walk-begins : (k : WordKey) → OnTheWay k 0
+  pub walk_begins : (k : WordKey) → OnTheWay k 0
   unfolding end_of
-  walk-begins k f b =
+  walk_begins k f b =
       let all : f ≡ 34 = omega (arith, b, t.root) in
       ap (λ n. end_from ns n 0 k) all
 
-  pub walk-goes : (k : WordKey) (i j : ℕ) → i < length ns → next ns i k ≡ Some j → OnTheWay k i → OnTheWay k j
-  walk-goes k i j h e w f b =
-      sym (end-some ns f i k j e) ∙ w (suc f) (omega (arith, b, step-deeper i k j h e))
+  pub walk_goes : (k : WordKey) (i j : ℕ) → i < length ns → next ns i k ≡ Some j → OnTheWay k i → OnTheWay k j
+  walk_goes k i j h e w f b =
+      sym (end_some ns f i k j e) ∙ w (suc f) (omega (arith, b, step_deeper i k j h e))
 
-  pub walk-ends : (k : WordKey) (i : ℕ) → i < length ns → next ns i k ≡ None → OnTheWay k i → i ≡ end_of ns k
-  walk-ends k i h e w =
+  pub walk_ends : (k : WordKey) (i : ℕ) → i < length ns → next ns i k ≡ None → OnTheWay k i → i ≡ end_of ns k
+  walk_ends k i h e w =
       let o = t.nodes i h in
-      sym (end-none ns (33 - (node_at ns i).bit / 3) i k e)
+      sym (end_none ns (33 - (node_at ns i).bit / 3) i k e)
       ∙ w (suc (33 - (node_at ns i).bit / 3)) (omega (arith, o.bit))
 
-  pub walk-falls : (k : WordKey) (i j : ℕ) → i < length ns → next ns i k ≡ Some j
+  pub walk_falls : (k : WordKey) (i j : ℕ) → i < length ns → next ns i k ≡ Some j
       → 34 - (node_at ns j).bit / 3 < 34 - (node_at ns i).bit / 3
-  walk-falls k i j h e = let o = t.nodes i h in omega (arith, o.bit, step-deeper i k j h e)
+  walk_falls k i j h e = let o = t.nodes i h in omega (arith, o.bit, step_deeper i k j h e)
 
 -- in an empty tree there is none
-pub find-empty : (ns : List Node) (k : WordKey) → length ns ≡ 0 → place_in (keys ns) k ≡ None
+pub find_empty : (ns : List Node) (k : WordKey) → length ns ≡ 0 → place_in (keys ns) k ≡ None
 unfolding place_in
-find-empty [] k h = refl
-find-empty (n ∷ ns) k h = absurd (omega (arith, h))
+find_empty [] k h = refl
+find_empty (n ∷ ns) k h = absurd (omega (arith, h))

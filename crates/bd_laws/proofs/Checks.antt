@@ -3,9 +3,9 @@ use Rattle.bd_laws.proofs.words.Logic.{arith, ◌≡◌, ◌==◌, ℕ, Bool, fa
 use Rattle.bd_laws.proofs.words.Types.{TransactionData, DeadOwner, ObjectId, Parcel, Process, Thread, Actor, Callee, Frame, Object}
 use Rattle.bd_laws.proofs.words.Space.{same, ok_or, Space, actor, process_in, thread_in, object_in, Delivery, sending_of, transaction_check, callee_of, target_of, owner_of, handle_of, is_one_way, caller_cause, reply_check, caller_of, ask_check}
 use Rattle.bd_laws.specs.Lists.{In}
-use Rattle.bd_laws.proofs.Lists.{find-in}
-use Rattle.bd_laws.proofs.Tests.{same-eq, and_then-ok, found-ok}
-use Rattle.bd_laws.proofs.Sendings.{HasName, named-has}
+use Rattle.bd_laws.proofs.Lists.{find_in}
+use Rattle.bd_laws.proofs.Tests.{same_eq, and_then_ok, found_ok}
+use Rattle.bd_laws.proofs.Sendings.{HasName, named_has}
 
 -- the object is found in the space, with its live owner
 pub record Owned (s : Space) (o : ObjectId) (q : Process) : Type 0 where
@@ -18,7 +18,7 @@ owned : (s : Space) (o : ObjectId) (q : Process) → owner_of s o ≡ Some q →
 unfolding owner_of
 owned s o q h =
     option_and_then_some (λ (x : Object). process_in s.processes x.owner) (object_in s.objects o) q h
-    (λ x e f. let l = find-in (λ (y : Object). same y.id o) x s.objects e in record { object = x; here = l.0; id = same-eq x.id o l.1; lives = f })
+    (λ x e f. let l = find_in (λ (y : Object). same y.id o) x s.objects e in record { object = x; here = l.0; id = same_eq x.id o l.1; lives = f })
 
 pub record Transacts (s : Space) (a : Actor) (d : TransactionData) (parcel : Option Parcel) (v : Delivery) : Type 0 where
   pub object : ObjectId
@@ -28,26 +28,26 @@ pub record Transacts (s : Space) (a : Actor) (d : TransactionData) (parcel : Opt
   pub sends : sending_of s a.process.made d parcel ≡ Ok v.sending
   pub one_way : v.one_way ≡ is_one_way d
 
-found-callee : (s : Space) (o : ObjectId) (q : Option Process) (c : Callee) → owner_of s o ≡ q
+found_callee : (s : Space) (o : ObjectId) (q : Option Process) (c : Callee) → owner_of s o ≡ q
     → ok_or (option_map (λ (p : Process). let x : Callee = record { object = o; process = p } in x) q) DeadOwner ≡ Ok c → Owned s c.object c.process
-found-callee s o None c e h = absurd (cc)
-found-callee s o (Some q) c e h = search (arith, owned)
+found_callee s o None c e h = absurd (cc)
+found_callee s o (Some q) c e h = search (arith, owned)
 
-callee-owned : (s : Space) (p handle : ℕ) (c : Callee) → callee_of s p handle ≡ Ok c → Owned s c.object c.process
+callee_owned : (s : Space) (p handle : ℕ) (c : Callee) → callee_of s p handle ≡ Ok c → Owned s c.object c.process
 unfolding callee_of
-callee-owned s p handle c h =
-    let t = and_then-ok (target_of s p handle) _ c h in
-    found-callee s t.0 (owner_of s t.0) c refl t.2
+callee_owned s p handle c h =
+    let t = and_then_ok (target_of s p handle) _ c h in
+    found_callee s t.0 (owner_of s t.0) c refl t.2
 
-pub transaction-checked : (s : Space) (a : Actor) (d : TransactionData) (parcel : Option Parcel) (v : Delivery) → transaction_check s a d parcel ≡ Ok v → Transacts s a d parcel v
+pub transaction_checked : (s : Space) (a : Actor) (d : TransactionData) (parcel : Option Parcel) (v : Delivery) → transaction_check s a d parcel ≡ Ok v → Transacts s a d parcel v
 unfolding transaction_check callee_of
-transaction-checked s a d parcel v h = search (arith, and_then-ok, callee-owned)
+transaction_checked s a d parcel v h = search (arith, and_then_ok, callee_owned)
 
 -- a two-way call has no cause against its caller
-pub transaction-may_call : (s : Space) (a : Actor) (d : TransactionData) (parcel : Option Parcel) (v : Delivery) → transaction_check s a d parcel ≡ Ok v → is_one_way d ≡ false
+pub transaction_may_call : (s : Space) (a : Actor) (d : TransactionData) (parcel : Option Parcel) (v : Delivery) → transaction_check s a d parcel ≡ Ok v → is_one_way d ≡ false
     → caller_cause s a.thread.seat ≡ None
 unfolding transaction_check
-transaction-may_call s a d parcel v h two_way = search arith
+transaction_may_call s a d parcel v h two_way = search arith
 
 pub record RepliesTo (s : Space) (a : Actor) (d : TransactionData) (parcel : Option Parcel) (f : Frame) (v : Delivery) : Type 0 where
   pub caller : Actor
@@ -57,22 +57,22 @@ pub record RepliesTo (s : Space) (a : Actor) (d : TransactionData) (parcel : Opt
   pub sends : sending_of s a.process.made d parcel ≡ Ok v.sending
   pub one_way : v.one_way ≡ false
 
-pub reply-checked : (s : Space) (a : Actor) (d : TransactionData) (parcel : Option Parcel) (f : Frame) (v : Delivery) → reply_check s a d parcel f ≡ Ok v → RepliesTo s a d parcel f v
+pub reply_checked : (s : Space) (a : Actor) (d : TransactionData) (parcel : Option Parcel) (f : Frame) (v : Delivery) → reply_check s a d parcel f ≡ Ok v → RepliesTo s a d parcel f v
 unfolding reply_check
-reply-checked s a d parcel f v h = search arith
+reply_checked s a d parcel f v h = search arith
 
 -- ---- asking
 
 -- what is asked for is the manager's object, by 0, or what the process has a name for
-pub asked-checked : (s : Space) (p n : ℕ) (strong : Bool) (o : ObjectId) → ask_check s p n strong ≡ Ok o → ((n ≡ 0) × (s.manager ≡ Some o)) ⊎ HasName s.names p o
+pub asked_checked : (s : Space) (p n : ℕ) (strong : Bool) (o : ObjectId) → ask_check s p n strong ≡ Ok o → ((n ≡ 0) × (s.manager ≡ Some o)) ⊎ HasName s.names p o
 unfolding ask_check
-asked-checked s p n strong o h = search (arith, found-ok, eqb-true, named-has)
+asked_checked s p n strong o h = search (arith, found_ok, eqb-true, named_has)
 
 -- ---- actors
 
-pub actor-lives : (s : Space) (seat : ℕ) (a : Actor) → actor s seat ≡ Some a → (thread_in s.threads seat ≡ Some a.thread) × (process_in s.processes a.thread.process ≡ Some a.process)
+pub actor_lives : (s : Space) (seat : ℕ) (a : Actor) → actor s seat ≡ Some a → (thread_in s.threads seat ≡ Some a.thread) × (process_in s.processes a.thread.process ≡ Some a.process)
 unfolding actor
-actor-lives s seat a h = search arith
+actor_lives s seat a h = search arith
 
 -- so it is on its seat and in its process
 pub record Acts (s : Space) (n : ℕ) (a : Actor) : Type 0 where
@@ -82,10 +82,10 @@ pub record Acts (s : Space) (n : ℕ) (a : Actor) : Type 0 where
   pub own : a.process.made ≡ a.thread.process
   pub found : process_in s.processes a.process.made ≡ Some a.process
 
-pub actor-acts : (s : Space) (seat : ℕ) (a : Actor) → actor s seat ≡ Some a → Acts s seat a
-actor-acts s seat a h =
-    let k = actor-lives s seat a h in
-    let t = find-in (λ (x : Thread). x.seat == seat) a.thread s.threads k.0 in
-    let p = find-in (λ (x : Process). x.made == a.thread.process) a.process s.processes k.1 in
+pub actor_acts : (s : Space) (seat : ℕ) (a : Actor) → actor s seat ≡ Some a → Acts s seat a
+actor_acts s seat a h =
+    let k = actor_lives s seat a h in
+    let t = find_in (λ (x : Thread). x.seat == seat) a.thread s.threads k.0 in
+    let p = find_in (λ (x : Process). x.made == a.thread.process) a.process s.processes k.1 in
     let own = eqb-true a.process.made a.thread.process p.1 in
     record { thread = t.0; seat = eqb-true a.thread.seat seat t.1; process = p.0; own = own; found = subst (λ n. process_in s.processes n ≡ Some a.process) (sym own) k.1 }

@@ -2,38 +2,38 @@
 use Rattle.bd_laws.proofs.words.Logic.{◌≡◌, ◌<◌, ◌≤◌, true, false, List, ◌⊎◌, refl, arith, IsStrictWeakOrder, nat_cmp, is_lt, ordering_then, IsSortedBy, sorted_far, lt-ltb, le-ltb}
 use Rattle.bd_laws.proofs.words.Types.{ObjectId, Object}
 use Rattle.bd_laws.proofs.words.Laws.{Pairs, is_earlier, Earlier, NotLater, Differ}
-use Rattle.bd_laws.proofs.Lists.{pairs-map, at-pairs}
+use Rattle.bd_laws.proofs.Lists.{pairs_map, at_pairs}
 
-pub place-earlier : (o i : ObjectId) → o.place < i.place → is_earlier o i ≡ true
-place-earlier o i lt = rw (lt-ltb o.place i.place lt) refl
+pub place_earlier : (o i : ObjectId) → o.place < i.place → is_earlier o i ≡ true
+place_earlier o i lt = rw (lt-ltb o.place i.place lt) refl
 
-pub index-earlier : (o i : ObjectId) → o.place ≡ i.place → o.index < i.index → is_earlier o i ≡ true
-index-earlier o i e lt = search arith
+pub index_earlier : (o i : ObjectId) → o.place ≡ i.place → o.index < i.index → is_earlier o i ≡ true
+index_earlier o i e lt = search arith
 
 -- none is earlier than itself
-pub never-earlier : (o : ObjectId) → is_earlier o o ≡ false
-never-earlier o = search (arith, le-ltb)
+pub never_earlier : (o : ObjectId) → is_earlier o o ≡ false
+never_earlier o = search (arith, le-ltb)
 
 -- ---- an order
 
-earlier-means : (o i : ObjectId) → is_earlier o i ≡ true → (o.place < i.place) ⊎ ((o.place ≡ i.place) × (o.index < i.index))
-earlier-means o i h = search arith
+earlier_means : (o i : ObjectId) → is_earlier o i ≡ true → (o.place < i.place) ⊎ ((o.place ≡ i.place) × (o.index < i.index))
+earlier_means o i h = search arith
 
-not-earlier : (o i : ObjectId) → is_earlier o i ≡ false → (i.place ≤ o.place) × (o.place ≡ i.place → i.index ≤ o.index)
-not-earlier o i h = search arith
+not_earlier : (o i : ObjectId) → is_earlier o i ≡ false → (i.place ≤ o.place) × (o.place ≡ i.place → i.index ≤ o.index)
+not_earlier o i h = search arith
 
-is-none-earlier : (o i : ObjectId) → i.place ≤ o.place → (o.place ≡ i.place → i.index ≤ o.index) → is_earlier o i ≡ false
-is-none-earlier o i le then_index = search (arith, earlier-means)
+is_none_earlier : (o i : ObjectId) → i.place ≤ o.place → (o.place ≡ i.place → i.index ≤ o.index) → is_earlier o i ≡ false
+is_none_earlier o i le then_index = search (arith, earlier_means)
 
-pub earlier-order : IsStrictWeakOrder is_earlier
-earlier-order = search arith
+pub earlier_order : IsStrictWeakOrder is_earlier
+earlier_order = search arith
 
 -- as pairs of numbers compare
-pub earlier-cmp : (o i : ObjectId) → is_lt (ordering_then (nat_cmp o.place i.place) (nat_cmp o.index i.index)) ≡ is_earlier o i
-earlier-cmp o i = search arith
+pub earlier_cmp : (o i : ObjectId) → is_lt (ordering_then (nat_cmp o.place i.place) (nat_cmp o.index i.index)) ≡ is_earlier o i
+earlier_cmp o i = search arith
 
-pub sorted-in_order : (os : List ObjectId) → IsSortedBy is_earlier os → Pairs NotLater os
-sorted-in_order os h = at-pairs NotLater os (λ i j d lt within. sorted_far is_earlier earlier-order os h i j d (omega arith) within)
+pub sorted_in_order : (os : List ObjectId) → IsSortedBy is_earlier os → Pairs NotLater os
+sorted_in_order os h = at_pairs NotLater os (λ i j d lt within. sorted_far is_earlier earlier_order os h i j d (omega arith) within)
 
-pub in_order-differ : (xs : List Object) → Pairs Earlier xs → Pairs Differ xs
-in_order-differ xs h = search (arith, pairs-map)
+pub in_order_differ : (xs : List Object) → Pairs Earlier xs → Pairs Differ xs
+in_order_differ xs h = search (arith, pairs_map)

@@ -4,22 +4,22 @@ use Rattle.bd_laws.proofs.words.Types.{ObjectId, Object, DeathNotification, Work
 use Rattle.bd_laws.proofs.words.Space.{is_some_and, Space, object_in, objects_go, names_go, wants_notice, has_notice_in, with_notice, still_due, deaths_go, work_goes, notify, follow, NameTest, ObjectTest, names_go_of, objects_go_of, deaths_go_of, is_touched, work_goes_of, notify_of, follow_of}
 use Rattle.bd_space.specs.declared.space.WorkKind.TheVariants as work
 use Rattle.bd_laws.proofs.words.Laws.{In, Elsewhere}
-use Rattle.bd_laws.proofs.Lists.{in-left, in-filter, filter-in, any-found, any-in}
-use Rattle.bd_laws.proofs.Tests.{same-eq}
+use Rattle.bd_laws.proofs.Lists.{in_left, in_filter, filter_in, any_found, any_in}
+use Rattle.bd_laws.proofs.Tests.{same_eq}
 
 -- ---- lists
 
 module _ {A : Type 0} where
-  pub filter-same : (p q : A → Bool) (xs : List A) → ((x : A) → In x xs → p x ≡ q x) → filter p xs ≡ filter q xs
-  filter-same p q [] h = refl
-  filter-same p q (x ∷ xs) h = search (arith, filter-same p q xs (λ y l. h y (inr l)))
+  pub filter_same : (p q : A → Bool) (xs : List A) → ((x : A) → In x xs → p x ≡ q x) → filter p xs ≡ filter q xs
+  filter_same p q [] h = refl
+  filter_same p q (x ∷ xs) h = search (arith, filter_same p q xs (λ y l. h y (inr l)))
 
-  pub find-kept : (p q : A → Bool) (xs : List A) → ((x : A) → In x xs → p x ≡ true → q x ≡ true) → find p (filter q xs) ≡ find p xs
-  find-kept p q [] h = refl
-  find-kept p q (x ∷ xs) h = search (arith, find-kept p q xs (λ y l. h y (inr l)))
+  pub find_kept : (p q : A → Bool) (xs : List A) → ((x : A) → In x xs → p x ≡ true → q x ≡ true) → find p (filter q xs) ≡ find p xs
+  find_kept p q [] h = refl
+  find_kept p q (x ∷ xs) h = search (arith, find_kept p q xs (λ y l. h y (inr l)))
 
-pub or-not : (t c : Bool) → (t ≡ false → c ≡ true) → c ≡ (not t || c)
-or-not t c h = search arith
+pub or_not : (t c : Bool) → (t ≡ false → c ≡ true) → c ≡ (not t || c)
+or_not t c h = search arith
 
 -- ---- what isn't pending
 
@@ -29,32 +29,32 @@ module _ (a : NameTest) (b : ObjectTest) (z : Space) (h : Elsewhere a b z) where
   here : Space
   here = deaths_go_of a (objects_go_of b (names_go_of a z))
 
-  due-notice : (o : ObjectId) → b o ≡ false → is_some_and (object_in z.objects o) (wants_notice z.processes z.references) ≡ true
+  due_notice : (o : ObjectId) → b o ≡ false → is_some_and (object_in z.objects o) (wants_notice z.processes z.references) ≡ true
       → is_some_and (object_in here.objects o) (wants_notice here.processes here.references) ≡ true
   unfolding here deaths_go_of objects_go_of names_go_of
-  due-notice o none k = search (arith, find-kept)
+  due_notice o none k = search (arith, find_kept)
 
-  due-death : (n : ℕ) → list_any (λ (x : DeathNotification). (x.made == n) && a x.process x.object) z.deaths ≡ false → list_any (λ (x : DeathNotification). x.made == n) z.deaths ≡ true
+  due_death : (n : ℕ) → list_any (λ (x : DeathNotification). (x.made == n) && a x.process x.object) z.deaths ≡ false → list_any (λ (x : DeathNotification). x.made == n) z.deaths ≡ true
       → list_any (λ (x : DeathNotification). x.made == n) here.deaths ≡ true
   unfolding here deaths_go_of objects_go_of names_go_of
-  due-death n none some = search (arith, any-found, any-in, filter-in)
+  due_death n none some = search (arith, any_found, any_in, filter_in)
 
   due : (w : Work) (kind : WorkKind) → In w z.todo → w.kind ≡ kind → is_touched a b z.deaths kind ≡ false
       → still_due here.processes here.objects here.references here.deaths kind ≡ true
-  due w (work.Notice o) l e none = due-notice o none (h.notices w o l e none)
-  due w (work.Death n) l e none = due-death n none (h.tellings w n l e)
+  due w (work.Notice o) l e none = due_notice o none (h.notices w o l e none)
+  due w (work.Death n) l e none = due_death n none (h.tellings w n l e)
   due w _ l e none = refl
 
-  here-todo : here.todo ≡ z.todo
+  here_todo : here.todo ≡ z.todo
   unfolding here deaths_go_of objects_go_of names_go_of
-  here-todo = search arith
+  here_todo = search arith
 
-  work-local : work_goes here ≡ work_goes_of a b z.deaths here
+  work_local : work_goes here ≡ work_goes_of a b z.deaths here
   unfolding work_goes work_goes_of
-  work-local =
+  work_local =
       ap (λ (ws : List Work). let x : Space = record here { todo = ws } in x)
-      (filter-same _ _ here.todo
-      (λ w l. or-not (is_touched a b z.deaths w.kind) (still_due here.processes here.objects here.references here.deaths w.kind) (λ none. due w w.kind (subst (In w) here-todo l) refl none)))
+      (filter_same _ _ here.todo
+      (λ w l. or_not (is_touched a b z.deaths w.kind) (still_due here.processes here.objects here.references here.deaths w.kind) (λ none. due w w.kind (subst (In w) here_todo l) refl none)))
 
   -- ---- Notices
 
@@ -63,7 +63,7 @@ module _ (a : NameTest) (b : ObjectTest) (z : Space) (h : Elsewhere a b z) where
 
   standing : (o : ObjectId) → b o ≡ false → has_notice_in z.todo o ≡ true → has_notice_in there.todo o ≡ true
   unfolding there work_goes_of here deaths_go_of objects_go_of names_go_of
-  standing o none has = search (arith, any-found, any-in, filter-in)
+  standing o none has = search (arith, any_found, any_in, filter_in)
 
   tell : List Work → Object → List Work
   tell todo x = with_notice z.steps z.processes z.references (OfProcess x.owner) todo x
@@ -72,31 +72,31 @@ module _ (a : NameTest) (b : ObjectTest) (z : Space) (h : Elsewhere a b z) where
   abbrev AllMade : List Work → Type 0
   AllMade todo = (x : Object) → In x z.objects → b x.id ≡ false → wants_notice z.processes z.references x ≡ true → has_notice_in todo x.id ≡ true
 
-  told-at : (x : Object) (xs : List Object) (todo : List Work) (c : Bool) → b x.id ≡ c → In x z.objects → AllMade todo
+  told_at : (x : Object) (xs : List Object) (todo : List Work) (c : Bool) → b x.id ≡ c → In x z.objects → AllMade todo
       → ((ws : List Work) → AllMade ws → fold tell ws xs ≡ fold tell ws (filter (λ y. b y.id) xs))
       → fold tell (tell todo x) xs ≡ fold tell todo (cond c (x ∷ filter (λ y. b y.id) xs) (filter (λ y. b y.id) xs))
   unfolding tell
-  told-at x xs todo c e l k rest = search (arith, any-found, any-in, in-left)
+  told_at x xs todo c e l k rest = search (arith, any_found, any_in, in_left)
 
   told : (xs : List Object) (todo : List Work) → ((x : Object) → In x xs → In x z.objects) → AllMade todo → fold tell todo xs ≡ fold tell todo (filter (λ x. b x.id) xs)
   told [] todo i k = refl
-  told (x ∷ xs) todo i k = told-at x xs todo (b x.id) refl (i x (inl refl)) k (λ ws m. told xs ws (λ y l. i y (inr l)) m)
+  told (x ∷ xs) todo i k = told_at x xs todo (b x.id) refl (i x (inl refl)) k (λ ws m. told xs ws (λ y l. i y (inr l)) m)
 
-  there-objects : (x : Object) → In x there.objects → In x z.objects
+  there_objects : (x : Object) → In x there.objects → In x z.objects
   unfolding there work_goes_of here deaths_go_of objects_go_of names_go_of
-  there-objects x l = search (arith, in-filter)
+  there_objects x l = search (arith, in_filter)
 
   all_made : AllMade there.todo
   all_made x l none wants = search (arith, standing)
 
-  notify-local : notify there ≡ notify_of b there
+  notify_local : notify there ≡ notify_of b there
   unfolding deaths_go_of here names_go_of notify objects_go_of tell there work_goes_of notify_of
-  notify-local =
+  notify_local =
       search (arith, tell)
-      ∙ ap (λ (ws : List Work). let x : Space = record there { todo = ws } in x) (told there.objects there.todo there-objects all_made)
+      ∙ ap (λ (ws : List Work). let x : Space = record there { todo = ws } in x) (told there.objects there.todo there_objects all_made)
       ∙ sym (search (arith, tell))
 
   -- what follows, follows where something was touched
-  pub follow-local : follow z ≡ follow_of a b z
+  pub follow_local : follow z ≡ follow_of a b z
   unfolding follow follow_of there here objects_go_of names_go_of names_go objects_go deaths_go deaths_go_of
-  follow-local = search (arith, filter-same, any-found, eqb-true, same-eq, any-in, filter-in, work-local, notify-local)
+  follow_local = search (arith, filter_same, any_found, eqb-true, same_eq, any_in, filter_in, work_local, notify_local)

@@ -43,5 +43,5 @@ changes s seat (Read limit) = by s (actor s seat) _ (λ a. search arith)
 changes s seat ExitThread = by s (actor s seat) _ (λ a. search arith)
 changes s seat ExitProcess = by s (actor s seat) _ (λ a. search arith)
 
-pub no-step-needed : NoStepIsNeeded
-no-step-needed s seat x e = ap counted (changes s seat x e)
+pub no_step_needed : NoStepIsNeeded
+no_step_needed s seat x e = ap counted (changes s seat x e)

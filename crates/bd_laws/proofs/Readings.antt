@@ -4,13 +4,13 @@ use Rattle.bd_laws.proofs.words.Space.{Space, list_to_read, follow, read_by, tak
 use Rattle.std.proofs.Common.{◌≡◌, ℕ}
 use Rattle.bd_space.specs.declared.space.Thread.{Thread}
 use Rattle.bd_laws.proofs.words.Laws.{Distinct, IsTidy}
-use Rattle.bd_laws.proofs.FollowingIsLocal.Taking.{read-local}
-use Rattle.bd_laws.proofs.Always.{always-tidy}
+use Rattle.bd_laws.proofs.FollowingIsLocal.Taking.{read_local}
+use Rattle.bd_laws.proofs.Always.{always_tidy}
 
 -- no two work items of one list have one identity
-pub always-distinct : (h : History) → Distinct (space_after h).todo
-always-distinct h = (always-tidy h).told.distinct
+pub always_distinct : (h : History) → Distinct (space_after h).todo
+always_distinct h = (always_tidy h).told.distinct
 
-pub tidy-read-local : (s : Space) (t : Thread) (seat left : ℕ) → IsTidy s
+pub tidy_read_local : (s : Space) (t : Thread) (seat left : ℕ) → IsTidy s
     → follow (read_by s seat (taken s left (list_to_read s t))) ≡ follow_of no_name (is_told_by (taken s left (list_to_read s t))) (read_by s seat (taken s left (list_to_read s t)))
-tidy-read-local s t seat left h = read-local s t seat left h.quiet h.told.distinct
+tidy_read_local s t seat left h = read_local s t seat left h.quiet h.told.distinct

@@ -7,18 +7,18 @@ use Rattle.bd_space.specs.References.{object_in}
 use Rattle.bd_nodes.specs.declared.table.NodeTable.{NodeTable}
 use Rattle.bd_nodes.specs.Stands.{NodesAre}
 use Rattle.bd_nodes.specs.Keys.{id_key}
-use Rattle.bd_space.proofs.Identities.{same-eq, same-self}
-use Rattle.bd_nodes.proofs.Distinct.{some-stays, none-stays}
+use Rattle.bd_space.proofs.Identities.{same_eq, same_self}
+use Rattle.bd_nodes.proofs.Distinct.{some_stays, none_stays}
 
 -- the only object with the identity stays, or it goes
-pub apart-some : (t : NodeTable) (objects : List Object) (o : ObjectId) (x : Object) (stays : Object → Bool)
+pub apart_some : (t : NodeTable) (objects : List Object) (o : ObjectId) (x : Object) (stays : Object → Bool)
     → NodesAre t objects → object_in objects o ≡ Some x
     → filter (λ y. not (same y.id o) || stays y) objects ≡
     (if stays x then objects else filter (λ y. not (same y.id o)) objects)
-apart-some t objects o x stays n e =
-    some-stays id_key same same-eq same-self stays o x objects n.ids e
+apart_some t objects o x stays n e =
+    some_stays id_key same same_eq same_self stays o x objects n.ids e
 
 -- there is none
-pub apart-none : (objects : List Object) (o : ObjectId) (stays : Object → Bool) → object_in objects o ≡ None
+pub apart_none : (objects : List Object) (o : ObjectId) (stays : Object → Bool) → object_in objects o ≡ None
     → filter (λ y. not (same y.id o) || stays y) objects ≡ objects
-apart-none objects o stays e = none-stays id_key same stays o objects e
+apart_none objects o stays e = none_stays id_key same stays o objects e

@@ -3,67 +3,67 @@ use Rattle.std.proofs.Common.{◌≡◌, Bool, true, false, not, ◌||◌, cond,
 use Rattle.bd_space.specs.Words.{changed}
 use Rattle.bd_nodes.specs.Stands.{AreDistinct}
 
-pub cons-none : {A : Type 0} (b : Bool) (x : A) (o : Option A) → cond b (Some x) o ≡ None → (b ≡ false) × (o ≡ None)
-cons-none true x o h = absurd (cc)
-cons-none false x o h = (refl, h)
+pub cons_none : {A : Type 0} (b : Bool) (x : A) (o : Option A) → cond b (Some x) o ≡ None → (b ≡ false) × (o ≡ None)
+cons_none true x o h = absurd (cc)
+cons_none false x o h = (refl, h)
 
-pub none-cons : {A : Type 0} (b : Bool) (x : A) (o : Option A) → b ≡ false → o ≡ None → cond b (Some x) o ≡ None
-none-cons b x o e h = rw (e, h) refl
+pub none_cons : {A : Type 0} (b : Bool) (x : A) (o : Option A) → b ≡ false → o ≡ None → cond b (Some x) o ≡ None
+none_cons b x o e h = rw (e, h) refl
 
 module _ {A K : Type 0} (key : A → K) (eq : K → K → Bool) where
   abbrev pub at : K → A → Bool
   at k x = eq (key x) k
 
-  pub filter-none : (p : A → Bool) (k : K) (xs : List A) → find (at k) xs ≡ None → find (at k) (filter p xs) ≡ None
-  filter-none p k [] h = refl
-  filter-none p k (x ∷ xs) h =
-      let c = cons-none (at k x) x (find (at k) xs) h in
-      let rest = filter-none p k xs c.1 in
+  pub filter_none : (p : A → Bool) (k : K) (xs : List A) → find (at k) xs ≡ None → find (at k) (filter p xs) ≡ None
+  filter_none p k [] h = refl
+  filter_none p k (x ∷ xs) h =
+      let c = cons_none (at k x) x (find (at k) xs) h in
+      let rest = filter_none p k xs c.1 in
       elim (p x) as (λ b. find (at k) (cond b (x ∷ filter p xs) (filter p xs)) ≡ None)
-      [ true ↦ none-cons _ x _ c.0 rest | false ↦ rest ]
+      [ true ↦ none_cons _ x _ c.0 rest | false ↦ rest ]
 
-  pub filter-distinct : (p : A → Bool) (xs : List A) → AreDistinct key eq xs → AreDistinct key eq (filter p xs)
-  filter-distinct p [] d = d
-  filter-distinct p (x ∷ xs) d =
-      let rest = filter-distinct p xs d.1 in
+  pub filter_distinct : (p : A → Bool) (xs : List A) → AreDistinct key eq xs → AreDistinct key eq (filter p xs)
+  filter_distinct p [] d = d
+  filter_distinct p (x ∷ xs) d =
+      let rest = filter_distinct p xs d.1 in
       elim (p x) as (λ b. AreDistinct key eq (cond b (x ∷ filter p xs) (filter p xs)))
-      [ true ↦ (filter-none p (key x) xs d.0, rest) | false ↦ rest ]
+      [ true ↦ (filter_none p (key x) xs d.0, rest) | false ↦ rest ]
 
   -- a change that leaves the keys
   module _ (p : A → Bool) (f : A → A) (stays : (x : A) → key (f x) ≡ key x) where
-    by-key : (b : Bool) (x : A) → key (if b then f x else x) ≡ key x
-    by-key true x = stays x
-    by-key false x = refl
+    by_key : (b : Bool) (x : A) → key (if b then f x else x) ≡ key x
+    by_key true x = stays x
+    by_key false x = refl
 
-    pub changed-none : (k : K) (xs : List A) → find (at k) xs ≡ None → find (at k) (changed p f xs) ≡ None
-    changed-none k [] h = refl
-    changed-none k (x ∷ xs) h =
-        let c = cons-none (at k x) x (find (at k) xs) h in
-        none-cons _ _ _ (ap (λ l. eq l k) (by-key (p x) x) ∙ c.0) (changed-none k xs c.1)
+    pub changed_none : (k : K) (xs : List A) → find (at k) xs ≡ None → find (at k) (changed p f xs) ≡ None
+    changed_none k [] h = refl
+    changed_none k (x ∷ xs) h =
+        let c = cons_none (at k x) x (find (at k) xs) h in
+        none_cons _ _ _ (ap (λ l. eq l k) (by_key (p x) x) ∙ c.0) (changed_none k xs c.1)
 
-    pub changed-distinct : (xs : List A) → AreDistinct key eq xs → AreDistinct key eq (changed p f xs)
-    changed-distinct [] d = d
-    changed-distinct (x ∷ xs) d = (
-      subst (λ k. find (at k) (changed p f xs) ≡ None) (sym (by-key (p x) x)) (changed-none (key x) xs d.0),
-      changed-distinct xs d.1,
+    pub changed_distinct : (xs : List A) → AreDistinct key eq xs → AreDistinct key eq (changed p f xs)
+    changed_distinct [] d = d
+    changed_distinct (x ∷ xs) d = (
+      subst (λ k. find (at k) (changed p f xs) ≡ None) (sym (by_key (p x) x)) (changed_none (key x) xs d.0),
+      changed_distinct xs d.1,
     )
 
   -- where nothing has the key, a change there changes nothing
-  pub none-stays : (stays : A → Bool) (k : K) (xs : List A) → find (at k) xs ≡ None
+  pub none_stays : (stays : A → Bool) (k : K) (xs : List A) → find (at k) xs ≡ None
       → filter (λ x. not (at k x) || stays x) xs ≡ xs
-  none-stays stays k [] h = refl
-  none-stays stays k (x ∷ xs) h =
-      let c = cons-none (at k x) x (find (at k) xs) h in
+  none_stays stays k [] h = refl
+  none_stays stays k (x ∷ xs) h =
+      let c = cons_none (at k x) x (find (at k) xs) h in
       let t : (not (at k x) || stays x) ≡ true = rw (c.0) refl in
       ap (λ b. cond b (x ∷ filter (λ y. not (at k y) || stays y) xs) (filter (λ y. not (at k y) || stays y) xs)) t
-      ∙ ap (λ ys. x ∷ ys) (none-stays stays k xs c.1)
+      ∙ ap (λ ys. x ∷ ys) (none_stays stays k xs c.1)
 
-  pub away-none : (k : K) (xs : List A) → find (at k) xs ≡ None → filter (λ x. not (at k x)) xs ≡ xs
-  away-none k [] h = refl
-  away-none k (x ∷ xs) h =
-      let c = cons-none (at k x) x (find (at k) xs) h in
+  pub away_none : (k : K) (xs : List A) → find (at k) xs ≡ None → filter (λ x. not (at k x)) xs ≡ xs
+  away_none k [] h = refl
+  away_none k (x ∷ xs) h =
+      let c = cons_none (at k x) x (find (at k) xs) h in
       ap (λ b. cond (not b) (x ∷ filter (λ y. not (at k y)) xs) (filter (λ y. not (at k y)) xs)) c.0
-      ∙ ap (λ ys. x ∷ ys) (away-none k xs c.1)
+      ∙ ap (λ ys. x ∷ ys) (away_none k xs c.1)
 
 module _ {A K : Type 0} (key : A → K) (eq : K → K → Bool) (alike : (a b : K) → eq a b ≡ true → a ≡ b)
     (itself : (a : K) → eq a a ≡ true) where
@@ -75,25 +75,25 @@ module _ {A K : Type 0} (key : A → K) (eq : K → K → Bool) (alike : (a b : 
   turned a b true e h = let same : eq a b ≡ true =
       subst (λ c. eq a c ≡ true) (sym (alike b a e)) (itself a) in absurd (cc)
 
-  pub push-none : (k : K) (x : A) (xs : List A) → find (on k) xs ≡ None → eq k (key x) ≡ false
+  pub push_none : (k : K) (x : A) (xs : List A) → find (on k) xs ≡ None → eq k (key x) ≡ false
       → find (on k) (xs ++ x ∷ []) ≡ None
-  push-none k x [] h e = none-cons _ x _ (turned k (key x) _ refl e) refl
-  push-none k x (y ∷ ys) h e = let c =
-      cons-none (on k y) y (find (on k) ys) h in none-cons _ y _ c.0 (push-none k x ys c.1 e)
+  push_none k x [] h e = none_cons _ x _ (turned k (key x) _ refl e) refl
+  push_none k x (y ∷ ys) h e = let c =
+      cons_none (on k y) y (find (on k) ys) h in none_cons _ y _ c.0 (push_none k x ys c.1 e)
 
   -- a new one comes in
-  pub push-distinct : (x : A) (xs : List A) → AreDistinct key eq xs → find (on (key x)) xs ≡ None
+  pub push_distinct : (x : A) (xs : List A) → AreDistinct key eq xs → find (on (key x)) xs ≡ None
       → AreDistinct key eq (xs ++ x ∷ [])
-  push-distinct x [] d h = (refl, tt)
-  push-distinct x (y ∷ ys) d h =
-      let c = cons-none (on (key x) y) y (find (on (key x)) ys) h in
-      (push-none (key y) x ys d.0 c.0, push-distinct x ys d.1 c.1)
+  push_distinct x [] d h = (refl, tt)
+  push_distinct x (y ∷ ys) d h =
+      let c = cons_none (on (key x) y) y (find (on (key x)) ys) h in
+      (push_none (key y) x ys d.0 c.0, push_distinct x ys d.1 c.1)
 
   -- what the first one with the key is, is said of the only one
-  pub some-stays : (stays : A → Bool) (k : K) (x : A) (xs : List A) → AreDistinct key eq xs → find (on k) xs ≡ Some x
+  pub some_stays : (stays : A → Bool) (k : K) (x : A) (xs : List A) → AreDistinct key eq xs → find (on k) xs ≡ Some x
       → filter (λ y. not (on k y) || stays y) xs ≡ (if stays x then xs else filter (λ y. not (on k y)) xs)
-  some-stays stays k x [] d h = absurd (cc)
-  some-stays stays k x (y ∷ ys) d h = by (on k y) refl h (λ e. some-stays stays k x ys d.1 e)
+  some_stays stays k x [] d h = absurd (cc)
+  some_stays stays k x (y ∷ ys) d h = by (on k y) refl h (λ e. some_stays stays k x ys d.1 e)
     where
       rest : List A
       rest = filter (λ z. not (on k z) || stays z) ys
@@ -115,7 +115,7 @@ module _ {A K : Type 0} (key : A → K) (eq : K → K → Bool) (alike : (a b : 
       by true e h further =
           let none : find (on k) ys ≡ None = subst (λ l. find (on l) ys ≡ None) (alike (key y) k e) d.0 in
           let is : y ≡ x = cc in
-          let away-all : away ≡ ys = away-none key eq k ys none in
+          let away-all : away ≡ ys = away_none key eq k ys none in
           subst (λ z. cond (stays y) (y ∷ rest) rest ≡ (if stays z then y ∷ ys else away)) is
-          (alone (stays y) (none-stays key eq stays k ys none) away-all)
+          (alone (stays y) (none_stays key eq stays k ys none) away-all)
       by false e h further = join (stays x) (further h)

@@ -3,13 +3,13 @@ use Rattle.std.proofs.Common.{◌≡◌, suc, ◌+◌, Bool, true, false, not, �
 use Rattle.bd_space.specs.Words.{changed}
 use Rattle.bd_nodes.specs.Keys.{kept}
 use Rattle.bd_nodes.specs.Stands.{AreDistinct}
-use Rattle.bd_nodes.proofs.Distinct.{cons-none, none-cons, filter-none, away-none}
+use Rattle.bd_nodes.proofs.Distinct.{cons_none, none_cons, filter_none, away_none}
 
 -- what is found passes
 
-pub option-same : {A : Type 0} (o : Option A) → option_map (λ x. x) o ≡ o
-option-same None = refl
-option-same (Some x) = refl
+pub option_same : {A : Type 0} (o : Option A) → option_map (λ x. x) o ≡ o
+option_same None = refl
+option_same (Some x) = refl
 
 module _ {A K : Type 0} (key : A → K) (eq : K → K → Bool) (alike : (a b : K) → eq a b ≡ true → a ≡ b)
     (itself : (a : K) → eq a a ≡ true) where
@@ -31,10 +31,10 @@ module _ {A K : Type 0} (key : A → K) (eq : K → K → Bool) (alike : (a b : 
       by false h = sym (turned a b h)
 
   -- an element is found by its own key
-  pub found-own : (p : A → Bool) (xs : List A) (x : A) → AreDistinct key eq xs → find p xs ≡ Some x
+  pub found_own : (p : A → Bool) (xs : List A) (x : A) → AreDistinct key eq xs → find p xs ≡ Some x
       → find (on (key x)) xs ≡ Some x
-  found-own p [] x d h = absurd (cc)
-  found-own p (y ∷ ys) x d h = by (p y) refl h (found-own p ys x d.1)
+  found_own p [] x d h = absurd (cc)
+  found_own p (y ∷ ys) x d h = by (p y) refl h (found_own p ys x d.1)
     where
       other : find (on (key x)) ys ≡ Some x → (b : Bool) → on (key x) y ≡ b
           → cond b (Some y) (find (on (key x)) ys) ≡ Some x
@@ -55,10 +55,10 @@ module _ {A K : Type 0} (key : A → K) (eq : K → K → Bool) (alike : (a b : 
   past y ys k h e = subst (λ l. find (on l) ys ≡ None) (alike (key y) k e) h
 
   -- of a filtered list
-  pub found-filter : (q : A → Bool) (k : K) (xs : List A) → AreDistinct key eq xs
+  pub found_filter : (q : A → Bool) (k : K) (xs : List A) → AreDistinct key eq xs
       → find (on k) (filter q xs) ≡ kept q (find (on k) xs)
-  found-filter q k [] d = refl
-  found-filter q k (y ∷ ys) d = by (on k y) refl (found-filter q k ys d.1)
+  found_filter q k [] d = refl
+  found_filter q k (y ∷ ys) d = by (on k y) refl (found_filter q k ys d.1)
     where
       rest : List A
       rest = filter q ys
@@ -74,34 +74,34 @@ module _ {A K : Type 0} (key : A → K) (eq : K → K → Bool) (alike : (a b : 
 
       by : (b : Bool) → on k y ≡ b → find (on k) rest ≡ kept q (find (on k) ys)
           → find (on k) (cond (q y) (y ∷ rest) rest) ≡ kept q (cond b (Some y) (find (on k) ys))
-      by true e h = hit (q y) (filter-none key eq q k ys (past y ys k d.0 e)) e
+      by true e h = hit (q y) (filter_none key eq q k ys (past y ys k d.0 e)) e
       by false e h = miss (q y) e ∙ h
 
-  and-none : (q : A → Bool) (k : K) (xs : List A) → find (on k) xs ≡ None → find (λ x. on k x && q x) xs ≡ None
-  and-none q k [] h = refl
-  and-none q k (x ∷ xs) h =
-      let c = cons-none (on k x) x (find (on k) xs) h in none-cons (on k x && q x) x _ (ap (λ b. b && q x) c.0)
-      (and-none q k xs c.1)
+  and_none : (q : A → Bool) (k : K) (xs : List A) → find (on k) xs ≡ None → find (λ x. on k x && q x) xs ≡ None
+  and_none q k [] h = refl
+  and_none q k (x ∷ xs) h =
+      let c = cons_none (on k x) x (find (on k) xs) h in none_cons (on k x && q x) x _ (ap (λ b. b && q x) c.0)
+      (and_none q k xs c.1)
 
   -- with one more test
-  pub found-and : (q : A → Bool) (k : K) (xs : List A) → AreDistinct key eq xs
+  pub found_and : (q : A → Bool) (k : K) (xs : List A) → AreDistinct key eq xs
       → find (λ x. on k x && q x) xs ≡ kept q (find (on k) xs)
-  found-and q k [] d = refl
-  found-and q k (y ∷ ys) d = by (on k y) refl (found-and q k ys d.1)
+  found_and q k [] d = refl
+  found_and q k (y ∷ ys) d = by (on k y) refl (found_and q k ys d.1)
     where
       both : Option A
       both = find (λ x. on k x && q x) ys
 
       by : (b : Bool) → on k y ≡ b → both ≡ kept q (find (on k) ys)
           → cond (b && q y) (Some y) both ≡ kept q (cond b (Some y) (find (on k) ys))
-      by true e h = ap (λ o. cond (q y) (Some y) o) (and-none q k ys (past y ys k d.0 e))
+      by true e h = ap (λ o. cond (q y) (Some y) o) (and_none q k ys (past y ys k d.0 e))
       by false e h = h
 
   -- without the one that has the key
-  pub length-without : (k : K) (x : A) (xs : List A) → AreDistinct key eq xs → find (on k) xs ≡ Some x
+  pub length_without : (k : K) (x : A) (xs : List A) → AreDistinct key eq xs → find (on k) xs ≡ Some x
       → length (filter (λ y. not (on k y)) xs) + 1 ≡ length xs
-  length-without k x [] d h = absurd (cc)
-  length-without k x (y ∷ ys) d h = by (on k y) refl h (length-without k x ys d.1)
+  length_without k x [] d h = absurd (cc)
+  length_without k x (y ∷ ys) d h = by (on k y) refl h (length_without k x ys d.1)
     where
       away : List A
       away = filter (λ z. not (on k z)) ys
@@ -109,30 +109,30 @@ module _ {A K : Type 0} (key : A → K) (eq : K → K → Bool) (alike : (a b : 
       by : (b : Bool) → on k y ≡ b → cond b (Some y) (find (on k) ys) ≡ Some x
           → (find (on k) ys ≡ Some x → length away + 1 ≡ length ys)
           → length (cond (not b) (y ∷ away) away) + 1 ≡ suc (length ys)
-      by true e h further = let all = ap length (away-none key eq k ys (past y ys k d.0 e)) in omega (arith, all)
+      by true e h further = let all = ap length (away_none key eq k ys (past y ys k d.0 e)) in omega (arith, all)
       by false e h further = let rest = further h in omega (arith, rest)
 
   -- a change where nothing has the key
-  pub changed-nothing : (k : K) (f : A → A) (xs : List A) → find (on k) xs ≡ None → changed (on k) f xs ≡ xs
-  changed-nothing k f [] h = refl
-  changed-nothing k f (x ∷ xs) h =
-      let c = cons-none (on k x) x (find (on k) xs) h in
-      ap (λ b. cond b (f x) x ∷ changed (on k) f xs) c.0 ∙ ap (λ ys. x ∷ ys) (changed-nothing k f xs c.1)
+  pub changed_nothing : (k : K) (f : A → A) (xs : List A) → find (on k) xs ≡ None → changed (on k) f xs ≡ xs
+  changed_nothing k f [] h = refl
+  changed_nothing k f (x ∷ xs) h =
+      let c = cons_none (on k x) x (find (on k) xs) h in
+      ap (λ b. cond b (f x) x ∷ changed (on k) f xs) c.0 ∙ ap (λ ys. x ∷ ys) (changed_nothing k f xs c.1)
 
   -- of a changed list, where the keys stay
   module _ (p : A → Bool) (f : A → A) (stays : (x : A) → key (f x) ≡ key x) where
     abbrev by_test : A → A
     by_test x = cond (p x) (f x) x
 
-    key-stays : (b : Bool) (x : A) → key (cond b (f x) x) ≡ key x
-    key-stays true x = stays x
-    key-stays false x = refl
+    key_stays : (b : Bool) (x : A) → key (cond b (f x) x) ≡ key x
+    key_stays true x = stays x
+    key_stays false x = refl
 
-    pub found-changed : (k : K) (xs : List A) → find (on k) (changed p f xs) ≡ option_map by_test (find (on k) xs)
-    found-changed k [] = refl
-    found-changed k (y ∷ ys) =
-        ap (λ l. cond (eq l k) (Some (by_test y)) (find (on k) (changed p f ys))) (key-stays (p y) y)
-        ∙ by (on k y) (found-changed k ys)
+    pub found_changed : (k : K) (xs : List A) → find (on k) (changed p f xs) ≡ option_map by_test (find (on k) xs)
+    found_changed k [] = refl
+    found_changed k (y ∷ ys) =
+        ap (λ l. cond (eq l k) (Some (by_test y)) (find (on k) (changed p f ys))) (key_stays (p y) y)
+        ∙ by (on k y) (found_changed k ys)
       where
         by : (b : Bool) → find (on k) (changed p f ys) ≡ option_map by_test (find (on k) ys)
             → cond b (Some (by_test y)) (find (on k) (changed p f ys)) ≡ option_map by_test

@@ -7,7 +7,7 @@ use Rattle.bd_keys.proofs.Options.{or_none}
 use Rattle.bd_space.specs.Words.{changed}
 use Rattle.bd_nodes.specs.Keys.{kept}
 use Rattle.bd_nodes.specs.Stands.{AreDistinct, Finds}
-use Rattle.bd_nodes.proofs.Found.{found-filter, found-changed, turned, turn}
+use Rattle.bd_nodes.proofs.Found.{found_filter, found_changed, turned, turn}
 
 neither : {A : Type 0} (b : Bool) (o : Option A) → o ≡ None → cond b None o ≡ None
 neither true o h = refl
@@ -20,10 +20,10 @@ Puts {K = K} eq m n k v = (l : K) → n l ≡ cond (eq k l) v (m l)
 module _ {A K V : Type 0} (key : A → K) (eq : K → K → Bool) (alike : (a b : K) → eq a b ≡ true → a ≡ b)
     (itself : (a : K) → eq a a ≡ true) (shown : A → V) where
   -- a new one comes in
-  pub finds-push : (m n : K → Option V) (xs : List A) (x : A) → Finds eq key shown m xs
+  pub finds_push : (m n : K → Option V) (xs : List A) (x : A) → Finds eq key shown m xs
       → find (λ y. eq (key y) (key x)) xs ≡ None → Puts eq m n (key x) (Some (shown x))
       → Finds eq key shown n (xs ++ x ∷ [])
-  finds-push m n xs x f new puts = λ k. puts k ∙ at k (eq (key x) k) refl
+  finds_push m n xs x f new puts = λ k. puts k ∙ at k (eq (key x) k) refl
       ∙ ap (option_map shown) (sym (find-append (λ y. eq (key y) k) xs (x ∷ [])))
     where
       at : (k : K) (b : Bool) → eq (key x) k ≡ b
@@ -36,12 +36,12 @@ module _ {A K V : Type 0} (key : A → K) (eq : K → K → Bool) (alike : (a b 
       at k false e = f k ∙ ap (option_map shown) (sym (or_none (find (λ y. eq (key y) k) xs)))
 
   -- those go that don't pass, of which there is one, at the key k
-  pub finds-remove : (m n : K → Option V) (xs : List A) (q : A → Bool) (k : K) → Finds eq key shown m xs
+  pub finds_remove : (m n : K → Option V) (xs : List A) (q : A → Bool) (k : K) → Finds eq key shown m xs
       → AreDistinct key eq xs → Puts eq m n k None
       → ((l : K) (y : A) → find (λ y. eq (key y) l) xs ≡ Some y → q y ≡ not (eq k l))
       → Finds eq key shown n (filter q xs)
-  finds-remove m n xs q k f d puts only = λ l. puts l ∙ at l (find (λ y. eq (key y) l) xs) refl
-      ∙ ap (option_map shown) (sym (found-filter key eq alike itself q l xs d))
+  finds_remove m n xs q k f d puts only = λ l. puts l ∙ at l (find (λ y. eq (key y) l) xs) refl
+      ∙ ap (option_map shown) (sym (found_filter key eq alike itself q l xs d))
     where
       stays : (b : Bool) (y : A) → cond b None (Some (shown y)) ≡ option_map shown (cond (not b) (Some y) None)
       stays true y = refl
@@ -55,11 +55,11 @@ module _ {A K V : Type 0} (key : A → K) (eq : K → K → Bool) (alike : (a b 
           ∙ ap (λ b. option_map shown (cond b (Some y) None)) (sym (only l y e))
 
   -- a change that doesn't show
-  pub finds-hidden : (m : K → Option V) (xs : List A) (p : A → Bool) (g : A → A) → ((x : A) → key (g x) ≡ key x)
+  pub finds_hidden : (m : K → Option V) (xs : List A) (p : A → Bool) (g : A → A) → ((x : A) → key (g x) ≡ key x)
       → ((x : A) → shown (g x) ≡ shown x)
       → Finds eq key shown m xs → Finds eq key shown m (changed p g xs)
-  finds-hidden m xs p g stays same f = λ k. f k ∙ at (find (λ y. eq (key y) k) xs)
-      ∙ ap (option_map shown) (sym (found-changed key eq alike itself p g stays k xs))
+  finds_hidden m xs p g stays same f = λ k. f k ∙ at (find (λ y. eq (key y) k) xs)
+      ∙ ap (option_map shown) (sym (found_changed key eq alike itself p g stays k xs))
     where
       hidden : (b : Bool) (x : A) → shown x ≡ shown (cond b (g x) x)
       hidden true x = sym (same x)
@@ -72,12 +72,12 @@ module _ {A K V : Type 0} (key : A → K) (eq : K → K → Bool) (alike : (a b 
 module _ {A K : Type 0} (key : A → K) (eq : K → K → Bool) (alike : (a b : K) → eq a b ≡ true → a ≡ b)
     (itself : (a : K) → eq a a ≡ true) where
   -- the one at the key k is changed
-  pub finds-changed : (m n : K → Option A) (xs : List A) (k : K) (x : A) (g : A → A) → ((x : A) → key (g x) ≡ key x)
+  pub finds_changed : (m n : K → Option A) (xs : List A) (k : K) (x : A) (g : A → A) → ((x : A) → key (g x) ≡ key x)
       → Finds eq key (λ x. x) m xs → find (λ y. eq (key y) k) xs ≡ Some x → Puts eq m n k (Some (g x))
       → Finds eq key (λ x. x) n (changed (λ y. eq (key y) k) g xs)
-  finds-changed m n xs k x g stays f has puts =
+  finds_changed m n xs k x g stays f has puts =
       λ l. puts l ∙ at l (eq k l) refl
-      ∙ ap (option_map (λ y. y)) (sym (found-changed key eq alike itself (λ y. eq (key y) k) g stays l xs))
+      ∙ ap (option_map (λ y. y)) (sym (found_changed key eq alike itself (λ y. eq (key y) k) g stays l xs))
     where
       by_test : A → A
       by_test y = cond (eq (key y) k) (g y) y
@@ -100,9 +100,9 @@ module _ {A K : Type 0} (key : A → K) (eq : K → K → Bool) (alike : (a b : 
       at l false e = f l ∙ other l e (find (λ y. eq (key y) l) xs) refl
 
 -- of one key there is one
-pub only-key : {A K : Type 0} (key : A → K) (eq : K → K → Bool) (alike : (a b : K) → eq a b ≡ true → a ≡ b)
+pub only_key : {A K : Type 0} (key : A → K) (eq : K → K → Bool) (alike : (a b : K) → eq a b ≡ true → a ≡ b)
     (itself : (a : K) → eq a a ≡ true) (xs : List A) (k l : K) (y : A)
     → find (λ x. eq (key x) l) xs ≡ Some y → not (eq (key y) k) ≡ not (eq k l)
-only-key key eq alike itself xs k l y e =
+only_key key eq alike itself xs k l y e =
     let is : key y ≡ l = alike (key y) l (found_passes (λ x. eq (key x) l) xs y e) in
     ap (λ j. not (eq j k)) is ∙ ap not (turn key eq alike itself l k)

@@ -10,7 +10,7 @@ use Rattle.bd_space.specs.declared.space.DeathNotification.{DeathNotification}
 use Rattle.bd_space.specs.Names.{is_named_in}
 use Rattle.bd_space.specs.Notices.{is_name_of}
 use Rattle.bd_ways.specs.Local.{at_name}
-use Rattle.bd_space.proofs.Identities.{same-eq}
+use Rattle.bd_space.proofs.Identities.{same_eq}
 use Rattle.bd_objects.specs.Deaths.{is_lost}
 
 module _ {A : Type 0} (chosen stays : A → Bool) where
@@ -35,17 +35,17 @@ module _ {A : Type 0} (chosen stays : A → Bool) where
       by true e = h x e
       by false e = refl
 
-  pub all-stay : (b : Bool) (xs : List A) → b ≡ true → ((x : A) → chosen x ≡ true → stays x ≡ b) → xs ≡ filter (λ x. not (chosen x) || stays x) xs
-  all-stay b xs e h = sym (stay xs (λ x k. h x k ∙ e))
+  pub all_stay : (b : Bool) (xs : List A) → b ≡ true → ((x : A) → chosen x ≡ true → stays x ≡ b) → xs ≡ filter (λ x. not (chosen x) || stays x) xs
+  all_stay b xs e h = sym (stay xs (λ x k. h x k ∙ e))
 
-  pub all-go : (b : Bool) (xs : List A) → b ≡ false → ((x : A) → chosen x ≡ true → stays x ≡ b) → filter (λ x. not (chosen x)) xs ≡ filter (λ x. not (chosen x) || stays x) xs
-  all-go b xs e h = sym (go xs (λ x k. h x k ∙ e))
+  pub all_go : (b : Bool) (xs : List A) → b ≡ false → ((x : A) → chosen x ≡ true → stays x ≡ b) → filter (λ x. not (chosen x)) xs ≡ filter (λ x. not (chosen x) || stays x) xs
+  all_go b xs e h = sym (go xs (λ x k. h x k ∙ e))
 
 -- ---- names
 
-pub named-at : (objects : List Object) (refs : List Reference) (p : ℕ) (o : ObjectId) (b : Bool) → b ≡ is_named_in objects refs p o
+pub named_at : (objects : List Object) (refs : List Reference) (p : ℕ) (o : ObjectId) (b : Bool) → b ≡ is_named_in objects refs p o
     → (m : Name) → at_name p o m.process m.object ≡ true → is_named_in objects refs m.process m.object ≡ b
-named-at objects refs p o b e m h = let k = and_parts _ _ h in rw (eqb-true m.process p k.0, same-eq m.object o k.1) (sym e)
+named_at objects refs p o b e m h = let k = and_parts _ _ h in rw (eqb-true m.process p k.0, same_eq m.object o k.1) (sym e)
 
 -- ---- death notifications
 
@@ -54,31 +54,31 @@ module _ (names : List Name) (p : ℕ) (o : ObjectId) where
   at x = at_name p o x.process x.object
 
   there : (x : DeathNotification) → at x ≡ true → is_name_of names x.process x.object ≡ is_name_of names p o
-  there x h = let k = and_parts _ _ h in rw (eqb-true x.process p k.0, same-eq x.object o k.1) refl
+  there x h = let k = and_parts _ _ h in rw (eqb-true x.process p k.0, same_eq x.object o k.1) refl
 
   abbrev stays : DeathNotification → Bool
   stays x = not (at x) || (x.cleared || is_name_of names x.process x.object)
 
-  stays-at : (b : Bool) → b ≡ is_name_of names p o → (x : DeathNotification) → stays x ≡ (not (at x) || (x.cleared || b))
-  stays-at b e x = by (at x) refl
+  stays_at : (b : Bool) → b ≡ is_name_of names p o → (x : DeathNotification) → stays x ≡ (not (at x) || (x.cleared || b))
+  stays_at b e x = by (at x) refl
     where
       by : (a : Bool) → at x ≡ a → (not a || (x.cleared || is_name_of names x.process x.object)) ≡ (not a || (x.cleared || b))
       by true h = rw (there x h, ← e) refl
       by false h = refl
 
-  pub filtered-at : (b : Bool) → b ≡ is_name_of names p o → (xs : List DeathNotification) → filter stays xs ≡ filter (λ x. not (at x) || (x.cleared || b)) xs
-  filtered-at b e [] = refl
-  filtered-at b e (x ∷ xs) =
-      ap (λ t. cond t (x ∷ filter stays xs) (filter stays xs)) (stays-at b e x)
-      ∙ ap (λ ys. cond (not (at x) || (x.cleared || b)) (x ∷ ys) ys) (filtered-at b e xs)
+  pub filtered_at : (b : Bool) → b ≡ is_name_of names p o → (xs : List DeathNotification) → filter stays xs ≡ filter (λ x. not (at x) || (x.cleared || b)) xs
+  filtered_at b e [] = refl
+  filtered_at b e (x ∷ xs) =
+      ap (λ t. cond t (x ∷ filter stays xs) (filter stays xs)) (stays_at b e x)
+      ∙ ap (λ ys. cond (not (at x) || (x.cleared || b)) (x ∷ ys) ys) (filtered_at b e xs)
 
-  lost-at : (x : DeathNotification) (a : Bool) → at x ≡ a → (a && not x.cleared && not (is_name_of names x.process x.object)) ≡ ((a && not x.cleared) && not (is_name_of names p o))
-  lost-at x true h = rw (there x h) refl
-  lost-at x false h = refl
+  lost_at : (x : DeathNotification) (a : Bool) → at x ≡ a → (a && not x.cleared && not (is_name_of names x.process x.object)) ≡ ((a && not x.cleared) && not (is_name_of names p o))
+  lost_at x true h = rw (there x h) refl
+  lost_at x false h = refl
 
-  pub none-lost : (xs : List DeathNotification) → list_any at xs ≡ false → false ≡ list_any (is_lost names p o) xs
-  none-lost [] h = refl
-  none-lost (x ∷ xs) h = by (at x) refl h (none-lost xs)
+  pub none_lost : (xs : List DeathNotification) → list_any at xs ≡ false → false ≡ list_any (is_lost names p o) xs
+  none_lost [] h = refl
+  none_lost (x ∷ xs) h = by (at x) refl h (none_lost xs)
     where
       by : (a : Bool) → at x ≡ a → (a || list_any at xs) ≡ false → (list_any at xs ≡ false → false ≡ list_any (is_lost names p o) xs)
           → false ≡ (is_lost names p o x || list_any (is_lost names p o) xs)
@@ -87,22 +87,22 @@ module _ (names : List Name) (p : ℕ) (o : ObjectId) where
           let t : is_lost names p o x ≡ false = ap (λ a. a && not x.cleared && not (is_name_of names x.process x.object)) e in
           rest f ∙ ap (λ c. c || list_any (is_lost names p o) xs) (sym t)
 
-  pub lost-gone : (b : Bool) → b ≡ is_name_of names p o → b ≡ false → (xs : List DeathNotification) → list_any (λ x. at x && not x.cleared) xs ≡ list_any (is_lost names p o) xs
-  lost-gone b e h [] = refl
-  lost-gone b e h (x ∷ xs) =
-      let t : is_lost names p o x ≡ (at x && not x.cleared) = lost-at x (at x) refl ∙ rw (← e, h) (and-true (at x && not x.cleared)) in
-      ap (λ c. c || list_any (λ y. at y && not y.cleared) xs) (sym t) ∙ ap (λ c. is_lost names p o x || c) (lost-gone b e h xs)
+  pub lost_gone : (b : Bool) → b ≡ is_name_of names p o → b ≡ false → (xs : List DeathNotification) → list_any (λ x. at x && not x.cleared) xs ≡ list_any (is_lost names p o) xs
+  lost_gone b e h [] = refl
+  lost_gone b e h (x ∷ xs) =
+      let t : is_lost names p o x ≡ (at x && not x.cleared) = lost_at x (at x) refl ∙ rw (← e, h) (and_true (at x && not x.cleared)) in
+      ap (λ c. c || list_any (λ y. at y && not y.cleared) xs) (sym t) ∙ ap (λ c. is_lost names p o x || c) (lost_gone b e h xs)
     where
-      and-true : (a : Bool) → (a && true) ≡ a
-      and-true true = refl
-      and-true false = refl
+      and_true : (a : Bool) → (a && true) ≡ a
+      and_true true = refl
+      and_true false = refl
 
-  pub lost-none : (b : Bool) → b ≡ is_name_of names p o → b ≡ true → (xs : List DeathNotification) → false ≡ list_any (is_lost names p o) xs
-  lost-none b e h [] = refl
-  lost-none b e h (x ∷ xs) =
-      let t : is_lost names p o x ≡ false = lost-at x (at x) refl ∙ rw (← e, h) (and-false (at x && not x.cleared)) in
-      lost-none b e h xs ∙ ap (λ c. c || list_any (is_lost names p o) xs) (sym t)
+  pub lost_none : (b : Bool) → b ≡ is_name_of names p o → b ≡ true → (xs : List DeathNotification) → false ≡ list_any (is_lost names p o) xs
+  lost_none b e h [] = refl
+  lost_none b e h (x ∷ xs) =
+      let t : is_lost names p o x ≡ false = lost_at x (at x) refl ∙ rw (← e, h) (and_false (at x && not x.cleared)) in
+      lost_none b e h xs ∙ ap (λ c. c || list_any (is_lost names p o) xs) (sym t)
     where
-      and-false : (a : Bool) → (a && false) ≡ false
-      and-false true = refl
-      and-false false = refl
+      and_false : (a : Bool) → (a && false) ≡ false
+      and_false true = refl
+      and_false false = refl

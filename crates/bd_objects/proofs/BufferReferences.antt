@@ -23,21 +23,21 @@ module _ (place q : ℕ) where
   same k = omega arith
 
   -- the target's comes last
-  pub with-target : (items : List Item) (k : ℕ) (target : Option ObjectId) → held k items target ≡ held k items None ++ held (k + length items) [] target
-  with-target [] k None = refl
-  with-target [] k (Some o) = ap (λ n. held n [] (Some o)) (same k)
-  with-target (x ∷ xs) k target =
-      ap (λ rs. carried k x ∷ rs) (with-target xs (k + 1) target ∙ ap (λ n. held (k + 1) xs None ++ held n [] target) (next k (length xs)))
+  pub with_target : (items : List Item) (k : ℕ) (target : Option ObjectId) → held k items target ≡ held k items None ++ held (k + length items) [] target
+  with_target [] k None = refl
+  with_target [] k (Some o) = ap (λ n. held n [] (Some o)) (same k)
+  with_target (x ∷ xs) k target =
+      ap (λ rs. carried k x ∷ rs) (with_target xs (k + 1) target ∙ ap (λ n. held (k + 1) xs None ++ held n [] target) (next k (length xs)))
 
-  one-more : (items : List Item) (x : Item) (k : ℕ) → held k (items ++ x ∷ []) None ≡ held k items None ++ held (k + length items) (x ∷ []) None
-  one-more [] x k = ap (λ n. held n (x ∷ []) None) (same k)
-  one-more (y ∷ ys) x k =
-      ap (λ rs. carried k y ∷ rs) (one-more ys x (k + 1) ∙ ap (λ n. held (k + 1) ys None ++ held n (x ∷ []) None) (next k (length ys)))
+  one_more : (items : List Item) (x : Item) (k : ℕ) → held k (items ++ x ∷ []) None ≡ held k items None ++ held (k + length items) (x ∷ []) None
+  one_more [] x k = ap (λ n. held n (x ∷ []) None) (same k)
+  one_more (y ∷ ys) x k =
+      ap (λ rs. carried k y ∷ rs) (one_more ys x (k + 1) ∙ ap (λ n. held (k + 1) ys None ++ held n (x ∷ []) None) (next k (length ys)))
 
-  pub carried-more : (refs : List Reference) (items : List Item) (i : ℕ) (d : Item) → i < length items
+  pub carried_more : (refs : List Reference) (items : List Item) (i : ℕ) (d : Item) → i < length items
       → (refs ++ held 0 (take i items) None) ++ held i (get_or items i d ∷ []) None ≡ refs ++ held 0 (take (i + 1) items) None
-  carried-more refs items i d h =
+  carried_more refs items i d h =
       let long : 0 + length (take i items) ≡ i = omega (arith, length-take-le i items) in
       append_assoc refs (held 0 (take i items) None) _
       ∙ ap (λ rs. refs ++ rs) (ap (λ n. held 0 (take i items) None ++ held n (get_or items i d ∷ []) None) (sym long)
-      ∙ sym (one-more (take i items) (get_or items i d) 0) ∙ ap (λ xs. held 0 xs None) (sym (take_more items i d h)))
+      ∙ sym (one_more (take i items) (get_or items i d) 0) ∙ ap (λ xs. held 0 xs None) (sym (take_more items i d h)))

@@ -11,10 +11,10 @@ use Rattle.bd_ways.specs.Local.{is_among}
 use Rattle.bd_space.specs.References.{owned_in, is_asked_by, is_in_window, is_of_owner}
 use Rattle.bd_space.specs.ProcessExits.{is_dropped_with}
 use Rattle.bd_nodes.specs.New.{HasAll}
-use Rattle.bd_space.proofs.Identities.{same-eq, same-self}
+use Rattle.bd_space.proofs.Identities.{same_eq, same_self}
 
-among-append : (xs ys : List ObjectId) (o : ObjectId) → is_among (xs ++ ys) o ≡ (is_among xs o || is_among ys o)
-among-append xs ys o = list_any-append (λ i. same o i) xs ys
+among_append : (xs ys : List ObjectId) (o : ObjectId) → is_among (xs ++ ys) o ≡ (is_among xs o || is_among ys o)
+among_append xs ys o = list_any-append (λ i. same o i) xs ys
 
 -- in a list of those that pass
 module _ {A : Type 0} (p : A → Bool) (key : A → ObjectId) (o : ObjectId) where
@@ -38,12 +38,12 @@ module _ (p : ℕ) (objects : List Object) where
   abbrev goes_anyway : Reference → Bool
   goes_anyway r = is_asked_by p r.holder || is_in_window p r.holder
 
-  pub among-owned : (xs : List Object) (o : ObjectId) → owned_in xs p o ≡ true → is_among (map (λ x. x.id) (filter (λ x. x.owner == p) xs)) o ≡ true
-  among-owned [] o h = absurd (cc)
-  among-owned (x ∷ xs) o h = elim (or_cases (same x.id o && (x.owner == p)) (owned_in xs p o) h) [
+  pub among_owned : (xs : List Object) (o : ObjectId) → owned_in xs p o ≡ true → is_among (map (λ x. x.id) (filter (λ x. x.owner == p) xs)) o ≡ true
+  among_owned [] o h = absurd (cc)
+  among_owned (x ∷ xs) o h = elim (or_cases (same x.id o && (x.owner == p)) (owned_in xs p o) h) [
     | inl e ↦ (let k = and_parts (same x.id o) (x.owner == p) e in
-        put (λ (y : Object). y.owner == p) (λ y. y.id) o x xs k.1 (subst (λ i. same o i ≡ true) (sym (same-eq x.id o k.0)) (same-self o)))
-    | inr e ↦ further (λ (y : Object). y.owner == p) (λ y. y.id) o x xs (among-owned xs o e)
+        put (λ (y : Object). y.owner == p) (λ y. y.id) o x xs k.1 (subst (λ i. same o i ≡ true) (sym (same_eq x.id o k.0)) (same_self o)))
+    | inr e ↦ further (λ (y : Object). y.owner == p) (λ y. y.id) o x xs (among_owned xs o e)
   ]
 
   why : (r : Reference) → is_dropped_with objects p r ≡ true → (goes_anyway r ≡ true) ⊎ (owned_in objects p r.object ≡ true)
@@ -52,53 +52,53 @@ module _ (p : ℕ) (objects : List Object) where
     | inr k ↦ inr (and_parts _ _ k).0
   ]
 
-  among-dropped : (rs : List Reference) (o : ObjectId) → is_among (map (λ r. r.object) (filter (is_dropped_with objects p) rs)) o ≡ true
+  among_dropped : (rs : List Reference) (o : ObjectId) → is_among (map (λ r. r.object) (filter (is_dropped_with objects p) rs)) o ≡ true
       → (is_among (map (λ r. r.object) (filter goes_anyway rs)) o ≡ true) ⊎ (is_among owned o ≡ true)
-  among-dropped [] o h = absurd (cc)
-  among-dropped (r ∷ rs) o h = elim (taken (is_dropped_with objects p) (λ r. r.object) o r rs h) [
+  among_dropped [] o h = absurd (cc)
+  among_dropped (r ∷ rs) o h = elim (taken (is_dropped_with objects p) (λ r. r.object) o r rs h) [
     | inl e ↦ (elim (why r e.0) [
       | inl a ↦ inl (put goes_anyway (λ r. r.object) o r rs a e.1)
-      | inr w ↦ inr (among-owned objects o (subst (λ i. owned_in objects p i ≡ true) (sym (same-eq o r.object e.1)) w))
+      | inr w ↦ inr (among_owned objects o (subst (λ i. owned_in objects p i ≡ true) (sym (same_eq o r.object e.1)) w))
     ])
-    | inr k ↦ (elim (among-dropped rs o k) [
+    | inr k ↦ (elim (among_dropped rs o k) [
       | inl a ↦ inl (further goes_anyway (λ r. r.object) o r rs a)
       | inr w ↦ inr w
     ])
   ]
 
-  pub has-dropped : (refs : List Reference) (old mid new : List ObjectId) → HasAll mid (old ++ owned) → HasAll new (mid ++ map (λ r. r.object) (filter goes_anyway refs))
+  pub has_dropped : (refs : List Reference) (old mid new : List ObjectId) → HasAll mid (old ++ owned) → HasAll new (mid ++ map (λ r. r.object) (filter goes_anyway refs))
       → HasAll new ((old ++ owned) ++ map (λ r. r.object) (filter (is_dropped_with objects p) refs))
-  has-dropped refs old mid new h g = λ o e.
-      let first = λ (k : is_among (old ++ owned) o ≡ true). g o (among-append mid _ o ∙ or_left _ _ (h o k)) in
-      elim (or_cases (is_among (old ++ owned) o) _ (sym (among-append (old ++ owned) _ o) ∙ e)) [
+  has_dropped refs old mid new h g = λ o e.
+      let first = λ (k : is_among (old ++ owned) o ≡ true). g o (among_append mid _ o ∙ or_left _ _ (h o k)) in
+      elim (or_cases (is_among (old ++ owned) o) _ (sym (among_append (old ++ owned) _ o) ∙ e)) [
         | inl k ↦ first k
-        | inr k ↦ (elim (among-dropped refs o k) [
-          | inl a ↦ g o (among-append mid _ o ∙ or_right _ _ a)
-          | inr w ↦ first (among-append old owned o ∙ or_right _ _ w)
+        | inr k ↦ (elim (among_dropped refs o k) [
+          | inl a ↦ g o (among_append mid _ o ∙ or_right _ _ a)
+          | inr w ↦ first (among_append old owned o ∙ or_right _ _ w)
         ])
       ]
 
   -- nothing else is dropped
-  dropped-anyway : (rs : List Reference) (o : ObjectId) → is_among (map (λ r. r.object) (filter goes_anyway rs)) o ≡ true
+  dropped_anyway : (rs : List Reference) (o : ObjectId) → is_among (map (λ r. r.object) (filter goes_anyway rs)) o ≡ true
       → is_among (map (λ r. r.object) (filter (is_dropped_with objects p) rs)) o ≡ true
-  dropped-anyway [] o h = absurd (cc)
-  dropped-anyway (r ∷ rs) o h = elim (taken goes_anyway (λ r. r.object) o r rs h) [
+  dropped_anyway [] o h = absurd (cc)
+  dropped_anyway (r ∷ rs) o h = elim (taken goes_anyway (λ r. r.object) o r rs h) [
     | inl e ↦ put (is_dropped_with objects p) (λ r. r.object) o r rs (or_left (goes_anyway r) _ e.0) e.1
-    | inr k ↦ further (is_dropped_with objects p) (λ r. r.object) o r rs (dropped-anyway rs o k)
+    | inr k ↦ further (is_dropped_with objects p) (λ r. r.object) o r rs (dropped_anyway rs o k)
   ]
 
-  pub only-dropped : (refs : List Reference) (old mid new : List ObjectId) → HasAll (old ++ owned) mid → HasAll (mid ++ map (λ r. r.object) (filter goes_anyway refs)) new
+  pub only_dropped : (refs : List Reference) (old mid new : List ObjectId) → HasAll (old ++ owned) mid → HasAll (mid ++ map (λ r. r.object) (filter goes_anyway refs)) new
       → HasAll ((old ++ owned) ++ map (λ r. r.object) (filter (is_dropped_with objects p) refs)) new
-  only-dropped refs old mid new h g = λ o e.
-      among-append (old ++ owned) _ o
-      ∙ elim (or_cases (is_among mid o) _ (sym (among-append mid _ o) ∙ g o e)) [
+  only_dropped refs old mid new h g = λ o e.
+      among_append (old ++ owned) _ o
+      ∙ elim (or_cases (is_among mid o) _ (sym (among_append mid _ o) ∙ g o e)) [
         | inl k ↦ or_left _ _ (h o k)
-        | inr k ↦ or_right _ _ (dropped-anyway refs o k)
+        | inr k ↦ or_right _ _ (dropped_anyway refs o k)
       ]
 
-  pub any-dropped : (refs : List Reference) → list_any goes_anyway refs ≡ true → list_any (is_dropped_with objects p) refs ≡ true
-  any-dropped [] h = absurd (cc)
-  any-dropped (r ∷ rs) h = elim (or_cases (goes_anyway r) (list_any goes_anyway rs) h) [
+  pub any_dropped : (refs : List Reference) → list_any goes_anyway refs ≡ true → list_any (is_dropped_with objects p) refs ≡ true
+  any_dropped [] h = absurd (cc)
+  any_dropped (r ∷ rs) h = elim (or_cases (goes_anyway r) (list_any goes_anyway rs) h) [
     | inl e ↦ or_left _ _ (or_left (goes_anyway r) _ e)
-    | inr k ↦ or_right _ _ (any-dropped rs k)
+    | inr k ↦ or_right _ _ (any_dropped rs k)
   ]

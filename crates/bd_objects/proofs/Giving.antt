@@ -16,38 +16,38 @@ use Rattle.bd_space.specs.Words.{same}
 use Rattle.bd_space.specs.References.{owned_in}
 use Rattle.bd_space.specs.Parcels.{object_of_item}
 use Rattle.bd_space.specs.Names.{is_named_in, is_managers, named_in, number_in, with_name, has_number_past_limit}
-use Rattle.bd_space.proofs.Identities.{same-eq, same-self}
+use Rattle.bd_space.proofs.Identities.{same_eq, same_self}
 use Rattle.bd_handles.specs.Numbers.{IsFull, new_number}
 use Rattle.bd_objects.specs.Naming.{with_name_unless, with_other_name, is_referred, AreReferred}
 use Rattle.bd_objects.specs.Numbers.{IsPastLimit}
 
-by-cases : {A : Type 0} (own some : Bool) (xs ys : A) → (if own then xs else (if some then xs else ys)) ≡ (if (not own && true) && not some then ys else xs)
-by-cases true some xs ys = refl
-by-cases false true xs ys = refl
-by-cases false false xs ys = refl
+by_cases : {A : Type 0} (own some : Bool) (xs ys : A) → (if own then xs else (if some then xs else ys)) ≡ (if (not own && true) && not some then ys else xs)
+by_cases true some xs ys = refl
+by_cases false true xs ys = refl
+by_cases false false xs ys = refl
 
 -- what a number names has a number
-named-has : (p n : ℕ) (o : ObjectId) (ns : List Name) → named_in ns p n ≡ Some o → is_some (number_in ns p o) ≡ true
-named-has p n o [] h = absurd (cc)
-named-has p n o (m ∷ ns) h = at (m.process == p) (m.number == n) (same m.object o) refl h (named-has p n o ns)
+named_has : (p n : ℕ) (o : ObjectId) (ns : List Name) → named_in ns p n ≡ Some o → is_some (number_in ns p o) ≡ true
+named_has p n o [] h = absurd (cc)
+named_has p n o (m ∷ ns) h = at (m.process == p) (m.number == n) (same m.object o) refl h (named_has p n o ns)
   where
     at : (a b c : Bool) → same m.object o ≡ c → option_map (λ (x : Name). x.object) (cond (a && b) (Some m) (find (λ (x : Name). (x.process == p) && (x.number == n)) ns)) ≡ Some o
         → (named_in ns p n ≡ Some o → is_some (number_in ns p o) ≡ true)
         → is_some (option_map (λ (x : Name). x.number) (cond (a && c) (Some m) (find (λ (x : Name). (x.process == p) && same x.object o) ns))) ≡ true
     at true true true f h rest = refl
-    at true true false f h rest = let is : m.object ≡ o = cc in let known = subst (λ x. same x o ≡ true) (sym is) (same-self o) in absurd (cc)
+    at true true false f h rest = let is : m.object ≡ o = cc in let known = subst (λ x. same x o ≡ true) (sym is) (same_self o) in absurd (cc)
     at true false true f h rest = refl
     at true false false f h rest = rest h
     at false b c f h rest = rest h
 
-pub is-named : (x : Option ObjectId) (o : ObjectId) → option_eq same x (Some o) ≡ true → x ≡ Some o
-is-named None o h = absurd (cc)
-is-named (Some y) o h = ap (λ z. Some z) (same-eq y o h)
+pub is_named : (x : Option ObjectId) (o : ObjectId) → option_eq same x (Some o) ≡ true → x ≡ Some o
+is_named None o h = absurd (cc)
+is_named (Some y) o h = ap (λ z. Some z) (same_eq y o h)
 
 -- so none is given
-pub known-stays : (own : Bool) (manager : Option ObjectId) (p n : ℕ) (ns : List Name) (o : ObjectId) → named_in ns p n ≡ Some o → with_name_unless own manager p ns o ≡ ns
-known-stays true manager p n ns o h = refl
-known-stays false manager p n ns o h = ap (λ b. cond b ns (ns ++ record { process = p; number = new_number (is_managers manager o) p ns; object = o } ∷ [])) (named-has p n o ns h)
+pub known_stays : (own : Bool) (manager : Option ObjectId) (p n : ℕ) (ns : List Name) (o : ObjectId) → named_in ns p n ≡ Some o → with_name_unless own manager p ns o ≡ ns
+known_stays true manager p n ns o h = refl
+known_stays false manager p n ns o h = ap (λ b. cond b ns (ns ++ record { process = p; number = new_number (is_managers manager o) p ns; object = o } ∷ [])) (named_has p n o ns h)
 
 module _ (manager : Option ObjectId) (objects : List Object) (p : ℕ) where
   abbrev other : List Name → ObjectId → List Name
@@ -56,58 +56,58 @@ module _ (manager : Option ObjectId) (objects : List Object) (p : ℕ) where
   abbrev pub give : List Name → Item → List Name
   give ns x = other ns x.object
 
-  pub same-name : (refs : List Reference) (ns : List Name) (o : ObjectId) → is_referred refs p o ≡ true → other ns o ≡ with_name manager objects refs p ns o
-  same-name refs ns o h = rw h (by-cases (owned_in objects p o) (is_some (number_in ns p o)) _ _)
+  pub same_name : (refs : List Reference) (ns : List Name) (o : ObjectId) → is_referred refs p o ≡ true → other ns o ≡ with_name manager objects refs p ns o
+  same_name refs ns o h = rw h (by_cases (owned_in objects p o) (is_some (number_in ns p o)) _ _)
 
-  pub same-names : (refs : List Reference) (os : List ObjectId) (ns : List Name) → AreReferred refs p os → fold (with_other_name manager objects p) ns os ≡ fold (with_name manager objects refs p) ns os
-  same-names refs [] ns h = refl
-  same-names refs (o ∷ os) ns h = ap (λ ms. fold (with_other_name manager objects p) ms os) (same-name refs ns o h.0) ∙ same-names refs os (with_name manager objects refs p ns o) h.1
+  pub same_names : (refs : List Reference) (os : List ObjectId) (ns : List Name) → AreReferred refs p os → fold (with_other_name manager objects p) ns os ≡ fold (with_name manager objects refs p) ns os
+  same_names refs [] ns h = refl
+  same_names refs (o ∷ os) ns h = ap (λ ms. fold (with_other_name manager objects p) ms os) (same_name refs ns o h.0) ∙ same_names refs os (with_name manager objects refs p ns o) h.1
 
   -- ---- in a loop over items
 
   -- one name more
-  pub give-next : (xs : List Item) (ns : List Name) (i : ℕ) (d : Item) (own : Bool) → i < length xs → own ≡ owned_in objects p (get_or xs i d).object
+  pub give_next : (xs : List Item) (ns : List Name) (i : ℕ) (d : Item) (own : Bool) → i < length xs → own ≡ owned_in objects p (get_or xs i d).object
       → with_name_unless own manager p (fold give ns (take i xs)) (get_or xs i d).object ≡ fold give ns (take (i + 1) xs)
-  give-next xs ns i d own h e = ap (λ b. with_name_unless b manager p (fold give ns (take i xs)) (get_or xs i d).object) e ∙ sym (fold_more give ns xs i d h)
+  give_next xs ns i d own h e = ap (λ b. with_name_unless b manager p (fold give ns (take i xs)) (get_or xs i d).object) e ∙ sym (fold_more give ns xs i d h)
 
-  pub give-all : (xs : List Item) (ns : List Name) → fold give ns xs ≡ fold (with_other_name manager objects p) ns (map object_of_item xs)
-  give-all xs ns = sym (fold-map (with_other_name manager objects p) object_of_item ns xs)
+  pub give_all : (xs : List Item) (ns : List Name) → fold give ns xs ≡ fold (with_other_name manager objects p) ns (map object_of_item xs)
+  give_all xs ns = sym (fold-map (with_other_name manager objects p) object_of_item ns xs)
 
   -- ---- a number past the limit
 
   module _ (q : Name → Bool) where
-    grown-twice-case : (ns : List Name) (n : Name) (a b : Bool) → (added : List Name) × ((if a then ns else (if b then ns else ns ++ n ∷ [])) ≡ ns ++ added)
-    grown-twice-case ns n true b = ([], sym (append-nil ns))
-    grown-twice-case ns n false true = ([], sym (append-nil ns))
-    grown-twice-case ns n false false = (n ∷ [], refl)
+    grown_twice_case : (ns : List Name) (n : Name) (a b : Bool) → (added : List Name) × ((if a then ns else (if b then ns else ns ++ n ∷ [])) ≡ ns ++ added)
+    grown_twice_case ns n true b = ([], sym (append-nil ns))
+    grown_twice_case ns n false true = ([], sym (append-nil ns))
+    grown_twice_case ns n false false = (n ∷ [], refl)
 
     grown : (ns : List Name) (x : Item) → (added : List Name) × (give ns x ≡ ns ++ added)
-    grown ns x = grown-twice-case ns _ _ _
+    grown ns x = grown_twice_case ns _ _ _
 
-    past-append : (ns added : List Name) → has_number_past_limit (filter q ns) ≡ true → has_number_past_limit (filter q (ns ++ added)) ≡ true
-    past-append ns added h = rw (filter-append q ns added, list_any-append (λ m. nat_lt 4294967294 m.number) (filter q ns) (filter q added), h) refl
+    past_append : (ns added : List Name) → has_number_past_limit (filter q ns) ≡ true → has_number_past_limit (filter q (ns ++ added)) ≡ true
+    past_append ns added h = rw (filter-append q ns added, list_any-append (λ m. nat_lt 4294967294 m.number) (filter q ns) (filter q added), h) refl
 
-    past-give : (ns : List Name) (x : Item) → has_number_past_limit (filter q ns) ≡ true → has_number_past_limit (filter q (give ns x)) ≡ true
-    past-give ns x h = let g = grown ns x in subst (λ ms. has_number_past_limit (filter q ms) ≡ true) (sym g.1) (past-append ns g.0 h)
+    past_give : (ns : List Name) (x : Item) → has_number_past_limit (filter q ns) ≡ true → has_number_past_limit (filter q (give ns x)) ≡ true
+    past_give ns x h = let g = grown ns x in subst (λ ms. has_number_past_limit (filter q ms) ≡ true) (sym g.1) (past_append ns g.0 h)
 
-    past-fold : (xs : List Item) (ns : List Name) → has_number_past_limit (filter q ns) ≡ true → has_number_past_limit (filter q (fold give ns xs)) ≡ true
-    past-fold [] ns h = h
-    past-fold (x ∷ xs) ns h = past-fold xs (give ns x) (past-give ns x h)
+    past_fold : (xs : List Item) (ns : List Name) → has_number_past_limit (filter q ns) ≡ true → has_number_past_limit (filter q (fold give ns xs)) ≡ true
+    past_fold [] ns h = h
+    past_fold (x ∷ xs) ns h = past_fold xs (give ns x) (past_give ns x h)
 
-    fold-at : (xs : List Item) (ns : List Name) (i : ℕ) (d : Item) → i < length xs
+    fold_at : (xs : List Item) (ns : List Name) (i : ℕ) (d : Item) → i < length xs
         → fold give ns xs ≡ fold give (give (fold give ns (take i xs)) (get_or xs i d)) (drop (suc i) xs)
-    fold-at [] ns i d h = absurd (omega arith)
-    fold-at (x ∷ xs) ns zero d h = refl
-    fold-at (x ∷ xs) ns (suc i) d h = fold-at xs (give ns x) i d (omega arith)
+    fold_at [] ns i d h = absurd (omega arith)
+    fold_at (x ∷ xs) ns zero d h = refl
+    fold_at (x ∷ xs) ns (suc i) d h = fold_at xs (give ns x) i d (omega arith)
 
     -- one number past the limit on the way, and one at the end
-    past-at : (xs : List Item) (ns : List Name) (i : ℕ) (d : Item) → i < length xs
+    past_at : (xs : List Item) (ns : List Name) (i : ℕ) (d : Item) → i < length xs
         → has_number_past_limit (filter q (give (fold give ns (take i xs)) (get_or xs i d))) ≡ true
         → has_number_past_limit (filter q (fold give ns xs)) ≡ true
-    past-at xs ns i d h past = rw (fold-at xs ns i d h) (past-fold (drop (suc i) xs) _ past)
+    past_at xs ns i d h past = rw (fold_at xs ns i d h) (past_fold (drop (suc i) xs) _ past)
 
-    past-push : (ms : List Name) (n : Name) → q n ≡ true → 4294967294 < n.number → has_number_past_limit (filter q (ms ++ n ∷ [])) ≡ true
-    past-push ms n e h =
+    past_push : (ms : List Name) (n : Name) → q n ≡ true → 4294967294 < n.number → has_number_past_limit (filter q (ms ++ n ∷ [])) ≡ true
+    past_push ms n e h =
         let one : has_number_past_limit (filter q (n ∷ [])) ≡ true = rw (e, lt-ltb 4294967294 n.number h) refl in
         rw (filter-append q ms (n ∷ []), list_any-append (λ m. nat_lt 4294967294 m.number) (filter q ms) (filter q (n ∷ []))) (or_right _ _ one)
 
@@ -115,29 +115,29 @@ module _ (manager : Option ObjectId) (objects : List Object) (p : ℕ) where
   named refs o e h = rw (e, h) refl
 
   -- the name that would be needed stays, since a reference carries it
-  pub past-one : (refs : List Reference) (ms : List Name) (o : ObjectId) → owned_in objects p o ≡ false → is_referred refs p o ≡ true → IsFull (is_managers manager o) p ms o
+  pub past_one : (refs : List Reference) (ms : List Name) (o : ObjectId) → owned_in objects p o ≡ false → is_referred refs p o ≡ true → IsFull (is_managers manager o) p ms o
       → IsPastLimit objects refs (other ms o)
-  past-one refs ms o e h f =
+  past_one refs ms o e h f =
       let q = λ (m : Name). is_named_in objects refs m.process m.object in
       let n : Name = record { process = p; number = new_number (is_managers manager o) p ms; object = o } in
       let given : other ms o ≡ ms ++ n ∷ [] = rw (e, f.lacks) refl in
-      subst (λ ns. has_number_past_limit (filter q ns) ≡ true) (sym given) (past-push q ms n (named refs o e h) f.past)
+      subst (λ ns. has_number_past_limit (filter q ns) ≡ true) (sym given) (past_push q ms n (named refs o e h) f.past)
 
-  referred-at : (refs : List Reference) (xs : List Item) (i : ℕ) (d : Item) → i < length xs → AreReferred refs p (map object_of_item xs) → is_referred refs p (get_or xs i d).object ≡ true
-  referred-at refs [] i d h r = absurd (omega arith)
-  referred-at refs (x ∷ xs) zero d h r = r.0
-  referred-at refs (x ∷ xs) (suc i) d h r = referred-at refs xs i d (omega arith) r.1
+  referred_at : (refs : List Reference) (xs : List Item) (i : ℕ) (d : Item) → i < length xs → AreReferred refs p (map object_of_item xs) → is_referred refs p (get_or xs i d).object ≡ true
+  referred_at refs [] i d h r = absurd (omega arith)
+  referred_at refs (x ∷ xs) zero d h r = r.0
+  referred_at refs (x ∷ xs) (suc i) d h r = referred_at refs xs i d (omega arith) r.1
 
-  pub past-all : (refs : List Reference) (xs : List Item) (ns : List Name) (i : ℕ) (d : Item) → i < length xs → owned_in objects p (get_or xs i d).object ≡ false
+  pub past_all : (refs : List Reference) (xs : List Item) (ns : List Name) (i : ℕ) (d : Item) → i < length xs → owned_in objects p (get_or xs i d).object ≡ false
       → AreReferred refs p (map object_of_item xs) → IsFull (is_managers manager (get_or xs i d).object) p (fold give ns (take i xs)) (get_or xs i d).object
       → IsPastLimit objects refs (fold (with_other_name manager objects p) ns (map object_of_item xs))
-  past-all refs xs ns i d h e r f =
+  past_all refs xs ns i d h e r f =
       let q = λ (m : Name). is_named_in objects refs m.process m.object in
-      subst (λ ms. has_number_past_limit (filter q ms) ≡ true) (give-all xs ns)
-      (past-at q xs ns i d h (past-one refs _ _ e (referred-at refs xs i d h r) f))
+      subst (λ ms. has_number_past_limit (filter q ms) ≡ true) (give_all xs ns)
+      (past_at q xs ns i d h (past_one refs _ _ e (referred_at refs xs i d h r) f))
 
 -- those that are made count alike
-pub owned-alike : (objects made kept : List Object) (p : ℕ) (o : ObjectId) → owned_in kept p o ≡ owned_in made p o → owned_in (objects ++ kept) p o ≡ owned_in (objects ++ made) p o
-owned-alike objects made kept p o e =
+pub owned_alike : (objects made kept : List Object) (p : ℕ) (o : ObjectId) → owned_in kept p o ≡ owned_in made p o → owned_in (objects ++ kept) p o ≡ owned_in (objects ++ made) p o
+owned_alike objects made kept p o e =
     let owns = λ (x : Object). same x.id o && (x.owner == p) in
     list_any-append owns objects kept ∙ ap (λ b. owned_in objects p o || b) e ∙ sym (list_any-append owns objects made)

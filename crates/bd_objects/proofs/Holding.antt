@@ -15,33 +15,33 @@ use Rattle.bd_space.specs.Space.{Space}
 use Rattle.bd_space.specs.References.{held_in, strong_in, object_in}
 use Rattle.bd_space.specs.Returns.{returns_of, returns_of_object}
 use Rattle.bd_space.specs.ReadItems.{shakes, handshakes_for, handshakes_of, handshakes}
-use Rattle.bd_space.proofs.Identities.{same-eq}
+use Rattle.bd_space.proofs.Identities.{same_eq}
 use Rattle.bd_objects.specs.Reading.{owed, HoldsAlike}
 
 -- ---- what is owed
 
-rest-none : (c d : Bool) (ptr cookie : ℕ) → flat_map shakes ((if c then (br.Release ptr cookie ∷ []) else []) ++ (if d then (br.Decrefs ptr cookie ∷ []) else [])) ≡ []
-rest-none true true ptr cookie = refl
-rest-none true false ptr cookie = refl
-rest-none false true ptr cookie = refl
-rest-none false false ptr cookie = refl
+rest_none : (c d : Bool) (ptr cookie : ℕ) → flat_map shakes ((if c then (br.Release ptr cookie ∷ []) else []) ++ (if d then (br.Decrefs ptr cookie ∷ []) else [])) ≡ []
+rest_none true true ptr cookie = refl
+rest_none true false ptr cookie = refl
+rest_none false true ptr cookie = refl
+rest_none false false ptr cookie = refl
 
-owed-is : (a b c d : Bool) (ptr cookie : ℕ)
+owed_is : (a b c d : Bool) (ptr cookie : ℕ)
     → flat_map shakes ((if a then (br.Increfs ptr cookie ∷ []) else []) ++ (if b then (br.Acquire ptr cookie ∷ []) else [])
     ++ (if c then (br.Release ptr cookie ∷ []) else []) ++ (if d then (br.Decrefs ptr cookie ∷ []) else [])) ≡ owed a b
-owed-is true true c d ptr cookie = ap (λ xs. false ∷ true ∷ xs) (rest-none c d ptr cookie)
-owed-is true false c d ptr cookie = ap (λ xs. false ∷ xs) (rest-none c d ptr cookie)
-owed-is false true c d ptr cookie = ap (λ xs. true ∷ xs) (rest-none c d ptr cookie)
-owed-is false false c d ptr cookie = rest-none c d ptr cookie
+owed_is true true c d ptr cookie = ap (λ xs. false ∷ true ∷ xs) (rest_none c d ptr cookie)
+owed_is true false c d ptr cookie = ap (λ xs. false ∷ xs) (rest_none c d ptr cookie)
+owed_is false true c d ptr cookie = ap (λ xs. true ∷ xs) (rest_none c d ptr cookie)
+owed_is false false c d ptr cookie = rest_none c d ptr cookie
 
 -- ---- references whose objects these references hold
 
 module _ (refs : List Reference) where
-  strong-held : (rs : List Reference) (o : ObjectId) → strong_in rs o ≡ true → held_in rs o ≡ true
-  strong-held [] o h = absurd (cc)
-  strong-held (r ∷ rs) o h = elim (or_cases (r.strong && same r.object o) (strong_in rs o) h) [
+  strong_held : (rs : List Reference) (o : ObjectId) → strong_in rs o ≡ true → held_in rs o ≡ true
+  strong_held [] o h = absurd (cc)
+  strong_held (r ∷ rs) o h = elim (or_cases (r.strong && same r.object o) (strong_in rs o) h) [
     | inl e ↦ or_left _ _ (and_parts r.strong (same r.object o) e).1
-    | inr e ↦ or_right _ _ (strong-held rs o e)
+    | inr e ↦ or_right _ _ (strong_held rs o e)
   ]
 
   pub record IsBacked (r : Reference) : Type 0 where
@@ -52,22 +52,22 @@ module _ (refs : List Reference) where
   AreBacked [] = Unit {0}
   AreBacked (r ∷ rs) = IsBacked r × AreBacked rs
 
-  backed-append : (rs more : List Reference) → AreBacked rs → AreBacked more → AreBacked (rs ++ more)
-  backed-append [] more h k = k
-  backed-append (r ∷ rs) more h k = (h.0, backed-append rs more h.1 k)
+  backed_append : (rs more : List Reference) → AreBacked rs → AreBacked more → AreBacked (rs ++ more)
+  backed_append [] more h k = k
+  backed_append (r ∷ rs) more h k = (h.0, backed_append rs more h.1 k)
 
-  backed-held : (rs : List Reference) (o : ObjectId) → AreBacked rs → held_in rs o ≡ true → held_in refs o ≡ true
-  backed-held [] o b h = absurd (cc)
-  backed-held (r ∷ rs) o b h = elim (or_cases (same r.object o) (held_in rs o) h) [
-    | inl e ↦ subst (λ i. held_in refs i ≡ true) (same-eq r.object o e) b.0.held
-    | inr e ↦ backed-held rs o b.1 e
+  backed_held : (rs : List Reference) (o : ObjectId) → AreBacked rs → held_in rs o ≡ true → held_in refs o ≡ true
+  backed_held [] o b h = absurd (cc)
+  backed_held (r ∷ rs) o b h = elim (or_cases (same r.object o) (held_in rs o) h) [
+    | inl e ↦ subst (λ i. held_in refs i ≡ true) (same_eq r.object o e) b.0.held
+    | inr e ↦ backed_held rs o b.1 e
   ]
 
-  backed-strong : (rs : List Reference) (o : ObjectId) → AreBacked rs → strong_in rs o ≡ true → strong_in refs o ≡ true
-  backed-strong [] o b h = absurd (cc)
-  backed-strong (r ∷ rs) o b h = elim (or_cases (r.strong && same r.object o) (strong_in rs o) h) [
-    | inl e ↦ (let k = and_parts r.strong (same r.object o) e in subst (λ i. strong_in refs i ≡ true) (same-eq r.object o k.1) (b.0.strong k.0))
-    | inr e ↦ backed-strong rs o b.1 e
+  backed_strong : (rs : List Reference) (o : ObjectId) → AreBacked rs → strong_in rs o ≡ true → strong_in refs o ≡ true
+  backed_strong [] o b h = absurd (cc)
+  backed_strong (r ∷ rs) o b h = elim (or_cases (r.strong && same r.object o) (strong_in rs o) h) [
+    | inl e ↦ (let k = and_parts r.strong (same r.object o) e in subst (λ i. strong_in refs i ≡ true) (same_eq r.object o k.1) (b.0.strong k.0))
+    | inr e ↦ backed_strong rs o b.1 e
   ]
 
   absorbed : (a b : Bool) → (b ≡ true → a ≡ true) → (a || b) ≡ a
@@ -75,71 +75,71 @@ module _ (refs : List Reference) where
   absorbed false true h = sym (h refl)
   absorbed false false h = refl
 
-  backed-alike : (rs : List Reference) → AreBacked rs → HoldsAlike refs (refs ++ rs)
-  backed-alike rs b = λ o. (
-    list_any-append (λ r. same r.object o) refs rs ∙ absorbed _ _ (backed-held rs o b),
-    list_any-append (λ r. r.strong && same r.object o) refs rs ∙ absorbed _ _ (backed-strong rs o b),
+  backed_alike : (rs : List Reference) → AreBacked rs → HoldsAlike refs (refs ++ rs)
+  backed_alike rs b = λ o. (
+    list_any-append (λ r. same r.object o) refs rs ∙ absorbed _ _ (backed_held rs o b),
+    list_any-append (λ r. r.strong && same r.object o) refs rs ∙ absorbed _ _ (backed_strong rs o b),
   )
 
-  backed-owed : (place k : ℕ) (o : ObjectId) (weak strong : Bool) → (weak ≡ true → held_in refs o ≡ true) → (strong ≡ true → strong_in refs o ≡ true)
+  backed_owed : (place k : ℕ) (o : ObjectId) (weak strong : Bool) → (weak ≡ true → held_in refs o ≡ true) → (strong ≡ true → strong_in refs o ≡ true)
       → AreBacked (handshakes_for place k o (owed weak strong))
-  backed-owed place k o true true h g = (record { held = h refl; strong = λ e. absurd (cc) }, (record { held = h refl; strong = g }, tt))
-  backed-owed place k o true false h g = (record { held = h refl; strong = λ e. absurd (cc) }, tt)
-  backed-owed place k o false true h g = (record { held = strong-held refs o (g refl); strong = g }, tt)
-  backed-owed place k o false false h g = tt
+  backed_owed place k o true true h g = (record { held = h refl; strong = λ e. absurd (cc) }, (record { held = h refl; strong = g }, tt))
+  backed_owed place k o true false h g = (record { held = h refl; strong = λ e. absurd (cc) }, tt)
+  backed_owed place k o false true h g = (record { held = strong_held refs o (g refl); strong = g }, tt)
+  backed_owed place k o false false h g = tt
 
-  found-same : (objects : List Object) (o : ObjectId) (x : Object) → object_in objects o ≡ Some x → same x.id o ≡ true
-  found-same [] o x h = absurd (cc)
-  found-same (y ∷ ys) o x h = by (same y.id o) refl h (λ k. found-same ys o x k)
+  found_same : (objects : List Object) (o : ObjectId) (x : Object) → object_in objects o ≡ Some x → same x.id o ≡ true
+  found_same [] o x h = absurd (cc)
+  found_same (y ∷ ys) o x h = by (same y.id o) refl h (λ k. found_same ys o x k)
     where
       by : (b : Bool) → same y.id o ≡ b → (if b then Some y else object_in ys o) ≡ Some x → (object_in ys o ≡ Some x → same x.id o ≡ true) → same x.id o ≡ true
       by true e h rest = let is : y ≡ x = cc in subst (λ z. same z.id o ≡ true) is e
       by false e h rest = rest h
 
-  backed-object : (place k : ℕ) (objects : List Object) (o : ObjectId) (ox : Option Object) → object_in objects o ≡ ox
+  backed_object : (place k : ℕ) (objects : List Object) (o : ObjectId) (ox : Option Object) → object_in objects o ≡ ox
       → AreBacked (handshakes_for place k o (flat_map shakes (returns_of_object refs ox)))
-  backed-object place k objects o None e = tt
-  backed-object place k objects o (Some x) e =
-      let is = same-eq x.id o (found-same objects o x e) in
+  backed_object place k objects o None e = tt
+  backed_object place k objects o (Some x) e =
+      let is = same_eq x.id o (found_same objects o x e) in
       let a = held_in refs x.id && not x.told_weak in
       let b = strong_in refs x.id && not x.told_strong in
-      subst (λ bs. AreBacked (handshakes_for place k o bs)) (sym (owed-is a b _ _ x.ptr x.cookie))
-      (backed-owed place k o a b (λ h. subst (λ i. held_in refs i ≡ true) is (and_parts _ _ h).0) (λ h. subst (λ i. strong_in refs i ≡ true) is (and_parts _ _ h).0))
+      subst (λ bs. AreBacked (handshakes_for place k o bs)) (sym (owed_is a b _ _ x.ptr x.cookie))
+      (backed_owed place k o a b (λ h. subst (λ i. held_in refs i ≡ true) is (and_parts _ _ h).0) (λ h. subst (λ i. strong_in refs i ≡ true) is (and_parts _ _ h).0))
 
 module _ (s : Space) where
-  backed-kind : (k : ℕ) (kind : WorkKind) → AreBacked s.references (handshakes_of s k kind)
+  backed_kind : (k : ℕ) (kind : WorkKind) → AreBacked s.references (handshakes_of s k kind)
   unfolding returns_of
-  backed-kind k (work.Notice o) = backed-object s.references s.steps k s.objects o (object_in s.objects o) refl
-  backed-kind k (work.Complete spam) = tt
-  backed-kind k (work.Refusal r) = tt
-  backed-kind k (work.Call b) = tt
-  backed-kind k (work.Reply b) = tt
-  backed-kind k (work.Verdict r) = tt
-  backed-kind k (work.Death n) = tt
-  backed-kind k (work.Cleared cookie) = tt
+  backed_kind k (work.Notice o) = backed_object s.references s.steps k s.objects o (object_in s.objects o) refl
+  backed_kind k (work.Complete spam) = tt
+  backed_kind k (work.Refusal r) = tt
+  backed_kind k (work.Call b) = tt
+  backed_kind k (work.Reply b) = tt
+  backed_kind k (work.Verdict r) = tt
+  backed_kind k (work.Death n) = tt
+  backed_kind k (work.Cleared cookie) = tt
 
-  backed-all : (ws : List Work) (k : ℕ) → AreBacked s.references (handshakes s k ws)
-  backed-all [] k = tt
-  backed-all (w ∷ ws) k = backed-append s.references (handshakes_of s k w.kind) _ (backed-kind k w.kind) (backed-all ws (k + length (handshakes_of s k w.kind)))
+  backed_all : (ws : List Work) (k : ℕ) → AreBacked s.references (handshakes s k ws)
+  backed_all [] k = tt
+  backed_all (w ∷ ws) k = backed_append s.references (handshakes_of s k w.kind) _ (backed_kind k w.kind) (backed_all ws (k + length (handshakes_of s k w.kind)))
 
-  pub holds-alike : (ws : List Work) → HoldsAlike s.references (s.references ++ handshakes s 0 ws)
-  holds-alike ws = backed-alike s.references (handshakes s 0 ws) (backed-all ws 0)
+  pub holds_alike : (ws : List Work) → HoldsAlike s.references (s.references ++ handshakes s 0 ws)
+  holds_alike ws = backed_alike s.references (handshakes s 0 ws) (backed_all ws 0)
 
 -- what an owner is told follows from what is held
-pub alike-returns : (these others : List Reference) → HoldsAlike these others → (ox : Option Object) → returns_of_object others ox ≡ returns_of_object these ox
-alike-returns these others h None = refl
-alike-returns these others h (Some x) = rw ((h x.id).0, (h x.id).1) refl
+pub alike_returns : (these others : List Reference) → HoldsAlike these others → (ox : Option Object) → returns_of_object others ox ≡ returns_of_object these ox
+alike_returns these others h None = refl
+alike_returns these others h (Some x) = rw ((h x.id).0, (h x.id).1) refl
 
 -- those of a notice's object
-length-for : (place k : ℕ) (o : ObjectId) (bs : List Bool) → length (handshakes_for place k o bs) ≡ length bs
-length-for place k o [] = refl
-length-for place k o (b ∷ bs) = ap suc (length-for place (k + 1) o bs)
+length_for : (place k : ℕ) (o : ObjectId) (bs : List Bool) → length (handshakes_for place k o bs) ≡ length bs
+length_for place k o [] = refl
+length_for place k o (b ∷ bs) = ap suc (length_for place (k + 1) o bs)
 
-pub handshakes-notice : (s : Space) (l : List Reference) (place k : ℕ) (o : ObjectId) (kind : WorkKind) (bs : List Bool) → kind ≡ work.Notice o → s.steps ≡ place → HoldsAlike s.references l
+pub handshakes_notice : (s : Space) (l : List Reference) (place k : ℕ) (o : ObjectId) (kind : WorkKind) (bs : List Bool) → kind ≡ work.Notice o → s.steps ≡ place → HoldsAlike s.references l
     → flat_map shakes (returns_of_object l (object_in s.objects o)) ≡ bs → (handshakes_for place k o bs ≡ handshakes_of s k kind) × (length bs ≡ length (handshakes_of s k kind))
 unfolding returns_of
-handshakes-notice s l place k o kind bs e at h owes =
-    let these : flat_map shakes (returns_of_object s.references (object_in s.objects o)) ≡ bs = ap (flat_map shakes) (sym (alike-returns s.references l h (object_in s.objects o))) ∙ owes in
+handshakes_notice s l place k o kind bs e at h owes =
+    let these : flat_map shakes (returns_of_object s.references (object_in s.objects o)) ≡ bs = ap (flat_map shakes) (sym (alike_returns s.references l h (object_in s.objects o))) ∙ owes in
     let all : handshakes_for place k o bs ≡ handshakes_of s k kind =
     sym (ap (handshakes_of s k) e ∙ ap (λ n. handshakes_for n k o (flat_map shakes (returns_of_object s.references (object_in s.objects o)))) at ∙ ap (handshakes_for place k o) these) in
-    (all, sym (length-for place k o bs) ∙ ap length all)
+    (all, sym (length_for place k o bs) ∙ ap length all)

@@ -11,26 +11,26 @@ use Rattle.bd_keys.specs.Look.{look}
 use Rattle.bd_objects.specs.Later.{few, own_at, Finds}
 
 -- one is found among the first few or after them
-pub found-split : (n : ℕ) (objects : List Object) (p ptr : ℕ) (found : Option Object)
+pub found_split : (n : ℕ) (objects : List Object) (p ptr : ℕ) (found : Option Object)
     → found ≡ own_in (take n objects) p ptr → option_or found (own_in (drop n objects) p ptr) ≡ own_in objects p ptr
-found-split n objects p ptr found e =
+found_split n objects p ptr found e =
     let is_own = λ (x : Object). (x.owner == p) && (x.ptr == ptr) in
     ap (λ o. option_or o (own_in (drop n objects) p ptr)) e
     ∙ sym (find-append is_own (take n objects) (drop n objects)) ∙ ap (find is_own) (take-append-drop n objects)
 
 -- while there are but few, none comes after them
-pub finds-few : (objects : List Object) (x : Object) (later : WordMap Object) → Finds objects later
+pub finds_few : (objects : List Object) (x : Object) (later : WordMap Object) → Finds objects later
     → length objects < few → Finds (objects ++ x ∷ []) later
-finds-few objects x later h le k =
+finds_few objects x later h le k =
     let none = drop_all few objects (omega arith) in
     let still = drop_all few (objects ++ x ∷ []) (omega (arith, length-append objects (x ∷ []))) in
     h k ∙ ap (λ xs. own_at xs k) (none ∙ sym still)
 
 -- one more comes after them
-pub finds-more : (objects : List Object) (x : Object) (old new : WordMap Object) → Finds objects old
+pub finds_more : (objects : List Object) (x : Object) (old new : WordMap Object) → Finds objects old
     → few ≤ length objects → ((k : WordKey) → look new k ≡ option_or (look old k) (own_at (x ∷ []) k))
     → Finds (objects ++ x ∷ []) new
-finds-more objects x old new h le e k =
+finds_more objects x old new h le e k =
     let is_own = λ (y : Object). (y.owner == k.process) && (y.ptr == k.word) in
     let later = drop-append-le few objects (x ∷ []) le in
     e k ∙ ap (λ o. option_or o (own_at (x ∷ []) k)) (h k)

@@ -8,30 +8,30 @@ use Rattle.bd_space.specs.Words.{same}
 use Rattle.bd_ways.specs.Local.{is_among}
 use Rattle.bd_space.specs.References.{owned_in, is_asked_by, is_in_window, is_of_owner}
 use Rattle.bd_space.specs.ProcessExits.{is_dropped_with}
-use Rattle.bd_space.proofs.Identities.{same-eq}
+use Rattle.bd_space.proofs.Identities.{same_eq}
 
 -- ---- filters
 
 module _ {A : Type 0} where
-  one-filter : (f : A → Bool) (x : A) (xs ys : List A) → xs ≡ ys → (b : Bool) → f x ≡ b → cond (f x) (x ∷ xs) xs ≡ cond b (x ∷ ys) ys
-  one-filter f x xs ys is b e = ap (λ c. cond c (x ∷ xs) xs) e ∙ ap (λ zs. cond b (x ∷ zs) zs) is
+  one_filter : (f : A → Bool) (x : A) (xs ys : List A) → xs ≡ ys → (b : Bool) → f x ≡ b → cond (f x) (x ∷ xs) xs ≡ cond b (x ∷ ys) ys
+  one_filter f x xs ys is b e = ap (λ c. cond c (x ∷ xs) xs) e ∙ ap (λ zs. cond b (x ∷ zs) zs) is
 
   pub alike : (f g : A → Bool) → ((x : A) → f x ≡ g x) → (xs : List A) → filter f xs ≡ filter g xs
   alike f g h [] = refl
-  alike f g h (x ∷ xs) = one-filter f x (filter f xs) (filter g xs) (alike f g h xs) (g x) (h x)
+  alike f g h (x ∷ xs) = one_filter f x (filter f xs) (filter g xs) (alike f g h xs) (g x) (h x)
 
-  pub all-stay : (f : A → Bool) → ((x : A) → f x ≡ true) → (xs : List A) → filter f xs ≡ xs
-  all-stay f h [] = refl
-  all-stay f h (x ∷ xs) = one-filter f x (filter f xs) xs (all-stay f h xs) true (h x)
+  pub all_stay : (f : A → Bool) → ((x : A) → f x ≡ true) → (xs : List A) → filter f xs ≡ xs
+  all_stay f h [] = refl
+  all_stay f h (x ∷ xs) = one_filter f x (filter f xs) xs (all_stay f h xs) true (h x)
 
-  one-more : (f g h : A → Bool) (x : A) (fs hs : List A) → (f x && g x) ≡ h x → filter g fs ≡ hs → (b : Bool) → f x ≡ b
+  one_more : (f g h : A → Bool) (x : A) (fs hs : List A) → (f x && g x) ≡ h x → filter g fs ≡ hs → (b : Bool) → f x ≡ b
       → filter g (cond b (x ∷ fs) fs) ≡ cond (h x) (x ∷ hs) hs
-  one-more f g h x fs hs is rest true e = one-filter g x _ _ rest (h x) (ap (λ c. c && g x) (sym e) ∙ is)
-  one-more f g h x fs hs is rest false e = rest ∙ ap (λ c. cond c (x ∷ hs) hs) (ap (λ c. c && g x) (sym e) ∙ is)
+  one_more f g h x fs hs is rest true e = one_filter g x _ _ rest (h x) (ap (λ c. c && g x) (sym e) ∙ is)
+  one_more f g h x fs hs is rest false e = rest ∙ ap (λ c. cond c (x ∷ hs) hs) (ap (λ c. c && g x) (sym e) ∙ is)
 
-  pub both-filters : (f g h : A → Bool) → ((x : A) → (f x && g x) ≡ h x) → (xs : List A) → filter g (filter f xs) ≡ filter h xs
-  both-filters f g h is [] = refl
-  both-filters f g h is (x ∷ xs) = one-more f g h x (filter f xs) (filter h xs) (is x) (both-filters f g h is xs) (f x) refl
+  pub both_filters : (f g h : A → Bool) → ((x : A) → (f x && g x) ≡ h x) → (xs : List A) → filter g (filter f xs) ≡ filter h xs
+  both_filters f g h is [] = refl
+  both_filters f g h is (x ∷ xs) = one_more f g h x (filter f xs) (filter h xs) (is x) (both_filters f g h is xs) (f x) refl
 
 module _ (p : ℕ) (objects : List Object) where
   -- the process has it as owner
@@ -46,19 +46,19 @@ module _ (p : ℕ) (objects : List Object) where
 
   -- ---- one object
 
-  pub at-owned : (o : ObjectId) → owned_in objects p o ≡ true → (l : List Reference)
+  pub at_owned : (o : ObjectId) → owned_in objects p o ≡ true → (l : List Reference)
       → filter (λ r. not (same r.object o && is_of_owner r.holder)) l ≡ filter (λ r. not (goes_at o r)) l
-  at-owned o own = alike _ _ (λ r. ap not (by r (same r.object o) refl))
+  at_owned o own = alike _ _ (λ r. ap not (by r (same r.object o) refl))
     where
       by : (r : Reference) (b : Bool) → same r.object o ≡ b → (b && is_of_owner r.holder) ≡ (is_own r && b)
-      by r true e = ap (λ w. w && is_of_owner r.holder) (sym (ap (owned_in objects p) (same-eq r.object o e) ∙ own)) ∙ sym (and-true (is_own r))
+      by r true e = ap (λ w. w && is_of_owner r.holder) (sym (ap (owned_in objects p) (same_eq r.object o e) ∙ own)) ∙ sym (and-true (is_own r))
       by r false e = sym (and-false (is_own r))
 
-  pub at-another-s : (o : ObjectId) → owned_in objects p o ≡ false → (l : List Reference) → filter (λ r. not (goes_at o r)) l ≡ l
-  at-another-s o other = all-stay _ (λ r. ap not (by r (same r.object o) refl))
+  pub at_another_s : (o : ObjectId) → owned_in objects p o ≡ false → (l : List Reference) → filter (λ r. not (goes_at o r)) l ≡ l
+  at_another_s o other = all_stay _ (λ r. ap not (by r (same r.object o) refl))
     where
       by : (r : Reference) (b : Bool) → same r.object o ≡ b → (is_own r && b) ≡ false
-      by r true e = ap (λ w. (w && is_of_owner r.holder) && true) (ap (owned_in objects p) (same-eq r.object o e) ∙ other)
+      by r true e = ap (λ w. (w && is_of_owner r.holder) && true) (ap (owned_in objects p) (same_eq r.object o e) ∙ other)
       by r false e = and-false (is_own r)
 
   -- ---- one object after the other
@@ -68,16 +68,16 @@ module _ (p : ℕ) (objects : List Object) where
   parts true false a = refl
   parts false s a = refl
 
-  pub next-goes : (o : ObjectId) (os : List ObjectId) (l : List Reference)
+  pub next_goes : (o : ObjectId) (os : List ObjectId) (l : List Reference)
       → filter (λ r. not (goes_among os r)) (filter (λ r. not (goes_at o r)) l) ≡ filter (λ r. not (goes_among (o ∷ os) r)) l
-  next-goes o os = both-filters _ _ _ (λ r. parts (is_own r) (same r.object o) (is_among os r.object))
+  next_goes o os = both_filters _ _ _ (λ r. parts (is_own r) (same r.object o) (is_among os r.object))
 
-  pub none-left : (l : List Reference) → filter (λ r. not (goes_among [] r)) l ≡ l
-  none-left = all-stay _ (λ r. ap not (and-false (is_own r)))
+  pub none_left : (l : List Reference) → filter (λ r. not (goes_among [] r)) l ≡ l
+  none_left = all_stay _ (λ r. ap not (and-false (is_own r)))
 
-  pub all-owned : (os : List ObjectId) → ((o : ObjectId) → owned_in objects p o ≡ true → is_among os o ≡ true) → (l : List Reference)
+  pub all_owned : (os : List ObjectId) → ((o : ObjectId) → owned_in objects p o ≡ true → is_among os o ≡ true) → (l : List Reference)
       → filter (λ r. not (goes_among os r)) l ≡ filter (λ r. not (is_own r)) l
-  all-owned os has = alike _ _ (λ r. ap not (by r (owned_in objects p r.object) refl))
+  all_owned os has = alike _ _ (λ r. ap not (by r (owned_in objects p r.object) refl))
     where
       by : (r : Reference) (b : Bool) → owned_in objects p r.object ≡ b → ((b && is_of_owner r.holder) && is_among os r.object) ≡ (b && is_of_owner r.holder)
       by r true e = ap (λ a. is_of_owner r.holder && a) (has r.object e) ∙ and-true (is_of_owner r.holder)
@@ -90,7 +90,7 @@ module _ (p : ℕ) (objects : List Object) where
   either false true k = refl
   either false false k = refl
 
-  pub goes-with : (l : List Reference)
+  pub goes_with : (l : List Reference)
       → filter (λ r. not (is_own r)) (filter (λ r. not (is_asked_by p r.holder || is_in_window p r.holder)) l)
       ≡ filter (λ r. not (is_dropped_with objects p r)) l
-  goes-with = both-filters _ _ _ (λ r. either (is_asked_by p r.holder) (is_in_window p r.holder) (is_own r))
+  goes_with = both_filters _ _ _ (λ r. either (is_asked_by p r.holder) (is_in_window p r.holder) (is_own r))

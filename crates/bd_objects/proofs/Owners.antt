@@ -9,28 +9,28 @@ use Rattle.bd_space.specs.Words.{changed, is_some_and, same}
 use Rattle.bd_space.specs.Todo.{notice_of}
 use Rattle.bd_space.specs.References.{held_in, strong_in}
 use Rattle.bd_space.specs.ReadItems.{is_told_by, told_of}
-use Rattle.bd_space.proofs.Identities.{same-eq}
+use Rattle.bd_space.proofs.Identities.{same_eq}
 use Rattle.bd_objects.specs.Reading.{HoldsAlike}
 use Rattle.bd_deaths.proofs.Changes.{none, same_tests, twice}
 use Rattle.bd_objects.proofs.Changes.{same_changes}
 
-pub told-one : (refs : List Reference) (o : ObjectId) (weak strong : Bool) (objects : List Object) → weak ≡ held_in refs o → strong ≡ strong_in refs o
+pub told_one : (refs : List Reference) (o : ObjectId) (weak strong : Bool) (objects : List Object) → weak ≡ held_in refs o → strong ≡ strong_in refs o
     → changed (λ x. same x.id o) (λ x. record x { told_weak = weak; told_strong = strong }) objects ≡ changed (λ x. same x.id o) (told_of refs) objects
-told-one refs o weak strong objects e g =
+told_one refs o weak strong objects e g =
     same_changes (λ (x : Object). same x.id o) (λ (x : Object). record x { told_weak = weak; told_strong = strong }) (told_of refs)
-    (λ x h. rw (e, g) (ap (λ i. record x { told_weak = held_in refs i; told_strong = strong_in refs i }) (sym (same-eq x.id o h)))) objects
+    (λ x h. rw (e, g) (ap (λ i. record x { told_weak = held_in refs i; told_strong = strong_in refs i }) (sym (same_eq x.id o h)))) objects
 
-pub told-none : (refs : List Reference) (objects : List Object) → objects ≡ changed (λ x. is_told_by [] x.id) (told_of refs) objects
-told-none refs objects = sym (none (told_of refs) (λ (x : Object). is_told_by [] x.id) objects (λ x. refl))
+pub told_none : (refs : List Reference) (objects : List Object) → objects ≡ changed (λ x. is_told_by [] x.id) (told_of refs) objects
+told_none refs objects = sym (none (told_of refs) (λ (x : Object). is_told_by [] x.id) objects (λ x. refl))
 
 -- no object is that of an item which is no notice
-pub told-nobody : (refs : List Reference) (objects : List Object) → objects ≡ changed (λ (x : Object). is_some_and {A = ObjectId} None (same x.id)) (told_of refs) objects
-told-nobody refs objects = sym (none (told_of refs) (λ (x : Object). is_some_and {A = ObjectId} None (same x.id)) objects (λ x. refl))
+pub told_nobody : (refs : List Reference) (objects : List Object) → objects ≡ changed (λ (x : Object). is_some_and {A = ObjectId} None (same x.id)) (told_of refs) objects
+told_nobody refs objects = sym (none (told_of refs) (λ (x : Object). is_some_and {A = ObjectId} None (same x.id)) objects (λ x. refl))
 
-pub told-more : (refs : List Reference) (objects : List Object) (ws : List Work) (i : ℕ) (d : Work) → i < length ws
+pub told_more : (refs : List Reference) (objects : List Object) (ws : List Work) (i : ℕ) (d : Work) → i < length ws
     → changed (λ x. is_some_and (notice_of (get_or ws i d).kind) (same x.id)) (told_of refs) (changed (λ x. is_told_by (take i ws) x.id) (told_of refs) objects)
     ≡ changed (λ x. is_told_by (take (i + 1) ws) x.id) (told_of refs) objects
-told-more refs objects ws i d h =
+told_more refs objects ws i d h =
     let p = λ (x : Object). is_some_and (notice_of (get_or ws i d).kind) (same x.id) in
     let q = λ (x : Object). is_told_by (take i ws) x.id in
     twice (told_of refs) p q objects (λ x. refl) (λ x. refl)
@@ -38,7 +38,7 @@ told-more refs objects ws i d h =
     (λ x. sym (list_any_more (λ (w : Work). is_some_and (notice_of w.kind) (same x.id)) ws i d h))
 
 -- by references that hold the same
-pub told-alike : (these others : List Reference) (ws : List Work) (objects : List Object) → HoldsAlike these others
+pub told_alike : (these others : List Reference) (ws : List Work) (objects : List Object) → HoldsAlike these others
     → changed (λ x. is_told_by ws x.id) (told_of others) objects ≡ changed (λ x. is_told_by ws x.id) (told_of these) objects
-told-alike these others ws objects h =
+told_alike these others ws objects h =
     same_changes (λ (x : Object). is_told_by ws x.id) (told_of others) (told_of these) (λ x e. rw ((h x.id).0, (h x.id).1) refl) objects

@@ -27,7 +27,7 @@ With no words at all a script is played from standard input.
 
 A script has one line a request: the first says how many seats there are, each other line names a seat and what it
 does. A seat opens a process (pid 100, euid 1000, a window of 4096 bytes), becomes the context manager and enters the
-loop; another makes a one-way call with code 7 and the bytes 6869 to handle 0, and both read:
+loop; another makes a one_way call with code 7 and the bytes 6869 to handle 0, and both read:
 
     seats 2
     0 open 100 1000 4096

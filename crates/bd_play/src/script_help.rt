@@ -12,7 +12,7 @@ Requests:
     0 open 100 1000 4096        opens a process: pid, euid, size of the window
     1 attach 100                a further thread of the process with this pid
     0 manager                   the seat's process becomes the context manager
-    1 spam 1                    the seat's process is told of its own one-way flooding from now on; 0: no longer
+    1 spam 1                    the seat's process is told of its own one_way flooding from now on; 0: no longer
     0 read 256                  reads returns, at most so many bytes of them
     1 exitthread                the seat's thread ends
     0 exitprocess               the seat's process ends, with all its threads
@@ -20,7 +20,7 @@ Requests:
 
 Writes of one command:
 
-    1 tx 0 7 0 6869 -           BC_TRANSACTION: handle, code, flags (1 is one-way), data, offsets (- or 0,24,..)
+    1 tx 0 7 0 6869 -           BC_TRANSACTION: handle, code, flags (1 is one_way), data, offsets (- or 0,24,..)
     0 reply 7 0 6869 -          BC_REPLY: code, flags, data, offsets
     0 enter                     BC_ENTER_LOOPER
     0 exitloop                  BC_EXIT_LOOPER

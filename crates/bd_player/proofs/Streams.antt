@@ -3,7 +3,7 @@ use Rattle.std.proofs.Common.{◌≡◌, ◌≤◌, ◌-◌, ℕ, zero, suc, Lis
 use Rattle.std.proofs.lemmas.List.{take_rest}
 use Rattle.bd_uapi.specs.declared.command.Return.{Return}
 use Rattle.bd_uapi.specs.declared.fault.Fault.{Fault}
-use Rattle.bd_uapi.proofs.Pieces.{IsBytes, IsBytes-drop}
+use Rattle.bd_uapi.proofs.Pieces.{IsBytes, IsBytes_drop}
 use Rattle.bd_codec.specs.Spelling.{return_bytes}
 use Rattle.bd_codec.specs.Reading.{return_at}
 use Rattle.bd_codec.proofs.ReturnRows.{return_found}
@@ -30,7 +30,7 @@ enough (suc n) zero [] h a b = refl
 enough (suc n) zero (x ∷ xs) h a b = absurd (omega (arith, b))
 enough (suc n) (suc m) bytes h a b =
     same_behind n m bytes (return_at bytes) h refl
-    (λ len some. let l = length-drop len bytes in enough n m (drop len bytes) (IsBytes-drop len bytes h) (omega (arith, l, a, some)) (omega (arith, l, b, some)))
+    (λ len some. let l = length-drop len bytes in enough n m (drop len bytes) (IsBytes_drop len bytes h) (omega (arith, l, a, some)) (omega (arith, l, b, some)))
 
 -- one is read, and those behind it are left
 pub one_read : (bytes : List ℕ) (r : Return) (len : ℕ) → IsBytes bytes → return_at bytes ≡ Ok (r, len)
@@ -41,7 +41,7 @@ one_read (x ∷ xs) r len h e =
     let l = length-drop len bytes in
     let some = has_a_byte r bytes len (return_found bytes (Ok (r, len)) h (sym e)).spelled in
     ap (next_of (λ k. returns_to (length xs) (drop k bytes))) e
-    ∙ (ap (λ (rs : List Return). r ∷ rs) (enough (length xs) (length (drop len bytes)) (drop len bytes) (IsBytes-drop len bytes h) (omega (arith, l, some)) (omega arith))
+    ∙ (ap (λ (rs : List Return). r ∷ rs) (enough (length xs) (length (drop len bytes)) (drop len bytes) (IsBytes_drop len bytes h) (omega (arith, l, some)) (omega arith))
     ∙ ap (λ (bs : List ℕ). r ∷ returns_in bs) (sym (take_rest bytes len)))
 
 -- none is

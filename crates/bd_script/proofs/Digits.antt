@@ -31,9 +31,9 @@ ends word i n b total lt here step so_far =
 
 -- ---- what the digits say
 
-decimal-grows : (bs : List ℕ) (n : ℕ) → n ≤ decimal n bs
-decimal-grows [] n = omega arith
-decimal-grows (b ∷ bs) n = let h = decimal-grows bs (10 * n + (b - 48)) in omega arith
+decimal_grows : (bs : List ℕ) (n : ℕ) → n ≤ decimal n bs
+decimal_grows [] n = omega arith
+decimal_grows (b ∷ bs) n = let h = decimal_grows bs (10 * n + (b - 48)) in omega arith
 
 abbrev pub below64 : ℕ → Bool
 below64 n = nat_lt n 18446744073709551616
@@ -51,7 +51,7 @@ longer bs m others true = by_size (below64 m) refl
     by_size : (t : Bool) → below64 m ≡ t → then_digits (cond t (Some m) None) (λ k. digits_from k bs) ≡ cond (list_all is_digit bs && below64 (decimal m bs)) (Some (decimal m bs)) None
     by_size true h = others (ltb-true _ _ h)
     by_size false h =
-        let grown = decimal-grows bs m in
+        let grown = decimal_grows bs m in
         let large : below64 (decimal m bs) ≡ false = le-ltb _ _ (omega (arith, ltb-false _ _ h)) in
         rw large (none_of (list_all is_digit bs) (decimal m bs))
 

@@ -64,9 +64,9 @@ pairs_read (b ∷ bs) are =
     let back : b / 16 * 16 + b % 16 ≡ b = omega arith in
     rw (high, low, more) (ap (λ n. Some (n ∷ bs)) back)
 
-length-pairs : (bytes : List ℕ) → length (flat_map hex_pair bytes) ≡ 2 * length bytes
-length-pairs [] = refl
-length-pairs (b ∷ bs) = let h = length-pairs bs in omega arith
+length_pairs : (bytes : List ℕ) → length (flat_map hex_pair bytes) ≡ 2 * length bytes
+length_pairs [] = refl
+length_pairs (b ∷ bs) = let h = length_pairs bs in omega arith
 
 and_false : (a : Bool) → (a && false) ≡ false
 and_false true = refl
@@ -79,7 +79,7 @@ pub hex_read : (bytes : List ℕ) → IsBytes bytes → length bytes ≤ 4194304
 hex_read [] are few = refl
 hex_read (b ∷ bs) are few =
     let word = flat_map hex_pair (b ∷ bs) in
-    let many : length word ≡ 2 * length (b ∷ bs) = length-pairs (b ∷ bs) in
+    let many : length word ≡ 2 * length (b ∷ bs) = length_pairs (b ∷ bs) in
     let some : bytes_eq word (45 ∷ []) ≡ false = and_false (eqb (hex_digit (b / 16)) 45) in
     within word some (omega (arith, many)) (omega (arith, many)) ∙ pairs_read (b ∷ bs) are
 

@@ -72,7 +72,9 @@ add_notice s seat todo x =
 unfoldable pub own_notices : Space → ℕ → List Item → Space
 own_notices s seat items = record s { todo = fold (add_notice s seat) (fold (withdraw_notice s.objects) s.todo items) items }
 
--- the whole delivery: the objects, the references and the names
+-- ---- the whole delivery
+
+-- the objects, the references and the names come first
 unfoldable pub known_by : Space → Delivery → Space
 known_by s v =
     assign_numbers (refer (make_objects s v.sending.made) v.receiver.made v.sending.items v.target) v.receiver.made (map object_of_item v.sending.items)

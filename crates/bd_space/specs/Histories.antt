@@ -65,6 +65,8 @@ ready_below s (suc n) = ready_below s n + (if is_ready s n then 2 ^ n else 0)
 unfoldable pub ready_bits : History → ℕ
 ready_bits h = ready_below (space_after h) h.seats
 
+-- ---- when it is full
+
 -- one step more has a place
 abbrev pub HasPlace : History → Type 0
 HasPlace h = length h.entries < most_steps

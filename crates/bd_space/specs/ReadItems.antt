@@ -73,6 +73,8 @@ read_by s seat ws = record s {
   todo = without_taken ws s.todo;
 }
 
+-- ---- the step
+
 abbrev pub got : List ℕ → Option Buffer → StepAnswer
 got stream None = StepAnswer.Got stream [] []
 got stream (Some b) = StepAnswer.Got stream b.bytes b.offsets

@@ -29,6 +29,8 @@ pub record IsCutShort (h : History) (seat : ℕ) (stream area : List ℕ) (es : 
   pub answered : answer ≡ (write_first (space_after h) seat stream area count fault).answer
   pub why : MayStop fault (history_of h.seats (h.entries ++ es)) seat (step_after area count (commands_of stream).commands)
 
+-- ---- the run of any request
+
 -- the answer of a request that isn't a write
 abbrev pub answered : StepAnswer → Answer
 answered StepAnswer.Opened = Answer.Opened

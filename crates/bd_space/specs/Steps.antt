@@ -4,7 +4,7 @@ use Rattle.bd_space.specs.Words.{Note, Fault, ObjectId, Step, StepAnswer, Proces
 use Rattle.bd_space.specs.{Seats.{actor, thread_in, process_with_pid}, References.{reference_of, own_in}, Outcomes.{Outcome, refused, accepted, by_check}, Spam.spam_step, Transactions.transaction_step, Replies.reply_step}
 use Rattle.bd_space.specs.{Freeing.free_step, Asking.{ask_check, ask, drop_check, drop_asked, done_check, acknowledge}, Deaths.{request_check, requested, clear_check, cleared, told_death, death_done}, ReadItems.read_step, ThreadExits.exit_thread_step, ProcessExits.exit_process_step}
 
--- ---- commands
+-- ---- the step of a command
 
 -- the thread has entered the loop, or left it
 unfoldable pub with_looping : Space → ℕ → Bool → Space
@@ -30,6 +30,8 @@ command_step s a (Command.ClearDeathNotification n cookie) parcel =
     by_check s (cleared s a.thread.seat) (clear_check s a.process.made n cookie)
 command_step s a (Command.DeadBinderDone cookie) parcel =
     by_check s (death_done s a.thread.seat) (ok_or (told_death s a.process.made cookie) Note.NoneTold)
+
+-- ---- opening, attaching, and becoming the manager
 
 abbrev pub is_pid : ℕ → Bool
 is_pid pid = nat_le 1 pid && nat_le pid 2147483647

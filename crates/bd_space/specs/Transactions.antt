@@ -27,6 +27,8 @@ unfoldable pub callee_of : Space → ℕ → ℕ → Result Callee Cause
 callee_of s p handle =
     and_then (target_of s p handle) (λ o. ok_or (option_map (λ q. record { object = o; process = q }) (owner_of s o)) Cause.DeadOwner)
 
+-- ---- what is tested
+
 -- what keeps the caller from calling and waiting
 unfoldable pub caller_cause : Space → ℕ → Option Cause
 caller_cause s seat =
@@ -60,6 +62,8 @@ unfoldable pub transacted : Space → Actor → TransactionData → Delivery →
 transacted s a d v =
     let z = delivered s a d v in
     called (owe z (OfThread a.thread.seat) (WorkKind.Complete (is_spam z a v))) a.thread.seat v.receiver.made v.one_way
+
+-- ---- what it answers
 
 -- what is left for the writer of a refused transaction
 abbrev pub refusal : Cause → Return

@@ -88,7 +88,7 @@ impl Notes {
         Notes { items }
     }
 
-    /// The notes as a slice.
+    /// Each with the number of its command in the stream, in their order.
     pub fn as_slice(&self) -> &[(u32, Note)]
         ensures { result.now ≡ self.now }
     {

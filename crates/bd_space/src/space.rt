@@ -24,9 +24,9 @@ pub struct Process {
 pub struct Thread {
     /// The place of its Open or Attach.
     pub made: u32,
-    /// Its seat.
+    /// Whose thread it is, a number below that of the driver's seats.
     pub seat: u32,
-    /// Its process.
+    /// The place of its process's Open.
     pub process: u32,
     /// Whether it has entered the loop.
     pub looping: bool,
@@ -78,7 +78,7 @@ pub enum Holder {
 pub struct Reference {
     /// Its identity.
     pub id: Identity,
-    /// The object.
+    /// What it keeps.
     pub object: ObjectId,
     /// Whether it is a strong one.
     pub strong: bool,
@@ -89,11 +89,11 @@ pub struct Reference {
 /// The number (handle) by which a process that isn't the owner knows an object.
 #[derive(Clone, Copy, Debug, PartialEq, Eq)]
 pub struct Name {
-    /// The process.
+    /// Who knows the object by it: the place of that process's Open.
     pub process: u32,
-    /// The number.
+    /// The handle, as commands and parcels of this process have it.
     pub number: u32,
-    /// The object.
+    /// What is known by it.
     pub object: ObjectId,
 }
 
@@ -229,7 +229,7 @@ pub struct DeathNotification {
     pub made: u32,
     /// The process that asked for it.
     pub process: u32,
-    /// The object.
+    /// Whose owner's death is to be told.
     pub object: ObjectId,
     /// What the process gave with it.
     pub cookie: u64,
@@ -242,16 +242,16 @@ pub struct DeathNotification {
 /// Who makes a step: a live thread and its process.
 #[derive(Clone, Copy, Debug, PartialEq, Eq)]
 pub struct Actor {
-    /// The thread.
+    /// The live thread of the seat that makes the step.
     pub thread: Thread,
-    /// Its process.
+    /// The one that it is a thread of.
     pub process: Process,
 }
 
 /// Whom a transaction goes to: an object and the live process that owns it.
 #[derive(Clone, Copy, Debug, PartialEq, Eq)]
 pub struct Callee {
-    /// The object.
+    /// What the target names: for handle 0 the context manager's object.
     pub object: ObjectId,
     /// Its owner.
     pub process: Process,
@@ -264,14 +264,14 @@ pub struct Item {
     pub at: u64,
     /// What stands there.
     pub flat: FlatObject,
-    /// Which object it is.
+    /// Which of the space's objects this names, as its sender knows it.
     pub object: ObjectId,
 }
 
 /// Which object is sent, and that object itself where the sending makes it.
 #[derive(Clone, Copy, Debug, PartialEq, Eq)]
 pub struct Resolved {
-    /// The object.
+    /// What the receiver will know, whether it was there before or is made.
     pub object: ObjectId,
     /// The object that is to be made, if it is.
     pub new: Option<Object>,

@@ -128,7 +128,7 @@ pub enum Answer {
         stream: Bytes,
         /// The data of the transaction or reply among them, if any.
         bytes: Bytes,
-        /// Its offsets.
+        /// Where its objects begin in the data, eight bytes each.
         offsets: Bytes,
     },
     /// The request was refused.
@@ -156,7 +156,7 @@ pub enum Step {
     },
     /// One command of a write.
     Command {
-        /// The command.
+        /// What stands there in the stream.
         command: Command,
         /// The parcel of a transaction or reply, if its area has it.
         parcel: Option<Parcel>,
@@ -205,7 +205,7 @@ fn parcel_copied(parcel: &Option<Parcel>) -> Result<Option<Parcel>, AllocError>
     }
 }
 
-/// The answer to a step.
+/// What comes of a step, from which the answer to its request is made.
 #[derive(Drop, Debug)]
 pub enum StepAnswer {
     /// The process is open, or the thread attached.
@@ -226,7 +226,7 @@ pub enum StepAnswer {
         stream: Bytes,
         /// The data of the transaction or reply among them, if any.
         bytes: Bytes,
-        /// Its offsets.
+        /// Where its objects begin in the data, eight bytes each.
         offsets: Bytes,
     },
     /// The step was refused, and changed nothing.
@@ -262,7 +262,7 @@ impl StepAnswer {
 /// One step of a history, by a seat, with its answer.
 #[derive(Drop, Debug)]
 pub struct Entry {
-    /// The seat.
+    /// Who made the step.
     pub seat: u32,
     /// What it did.
     pub step: Step,

@@ -19,10 +19,10 @@ accepts old mid new P f g kept changed is = record {
 }
 
 -- the same, where nothing follows from the change, which may rest on what is so of the space
-pub accepts-alone : (old mid new : Tables) (P : Space → Type 0) (f : Space → Outcome) (g : Space → Space)
+pub accepts_alone : (old mid new : Tables) (P : Space → Type 0) (f : Space → Outcome) (g : Space → Space)
     → IsKept old mid → ((s : Space) → Before old s → P s → Within mid s → Within new (g s)) → ((s : Space) → Before old s → P s → completed (g s) ≡ g s) → ((s : Space) → Before old s → P s → f s ≡ accepted (g s))
     → Meets old new P f Accepted
-accepts-alone old mid new P f g kept changed still is = record {
+accepts_alone old mid new P f g kept changed still is = record {
   answered = λ s h p. sym (ap (λ (o : Outcome). o.answer) (is s h p));
   stands = λ s h p. subst (Within new) (sym (ap (λ (o : Outcome). o.space) (is s h p) ∙ still s h p)) (changed s h p (within mid s (kept s h)));
 }
@@ -41,13 +41,13 @@ module _ {A : Type 0} (old : Tables) (P : Space → Type 0) (g : Space → A →
   abbrev checked : Space → Outcome
   checked s = by_check s (g s) (check s)
 
-  pub checked-notes : (n : Note) → ((s : Space) → Before old s → Err n ≡ check s) → Meets old old P checked (Noted n)
-  checked-notes n is = notes old P checked n (λ s h p. sym (ap (by_check s (g s)) (is s h)))
+  pub checked_notes : (n : Note) → ((s : Space) → Before old s → Err n ≡ check s) → Meets old old P checked (Noted n)
+  checked_notes n is = notes old P checked n (λ s h p. sym (ap (by_check s (g s)) (is s h)))
 
   module _ (x : A) (is : (s : Space) → Before old s → Ok x ≡ check s) (mid new : Tables) (kept : IsKept old mid) where
-    pub checked-accepts : ((s : Space) → Within mid s → P s → Within new (completed (g s x))) → Meets old new P checked Accepted
-    checked-accepts changed = accepts old mid new P checked (λ s. g s x) kept changed (λ s h p. sym (ap (by_check s (g s)) (is s h)))
+    pub checked_accepts : ((s : Space) → Within mid s → P s → Within new (completed (g s x))) → Meets old new P checked Accepted
+    checked_accepts changed = accepts old mid new P checked (λ s. g s x) kept changed (λ s h p. sym (ap (by_check s (g s)) (is s h)))
 
-    pub checked-accepts-alone : ((s : Space) → Before old s → P s → Within mid s → Within new (g s x)) → ((s : Space) → Before old s → P s → completed (g s x) ≡ g s x)
+    pub checked_accepts_alone : ((s : Space) → Before old s → P s → Within mid s → Within new (g s x)) → ((s : Space) → Before old s → P s → completed (g s x) ≡ g s x)
         → Meets old new P checked Accepted
-    checked-accepts-alone changed still = accepts-alone old mid new P checked (λ s. g s x) kept changed still (λ s h p. sym (ap (by_check s (g s)) (is s h)))
+    checked_accepts_alone changed still = accepts_alone old mid new P checked (λ s. g s x) kept changed still (λ s h p. sym (ap (by_check s (g s)) (is s h)))

@@ -6,7 +6,7 @@ use Rattle.bd_space.specs.declared.space.Actor.{Actor}
 use Rattle.bd_space.specs.Space.{Space}
 use Rattle.std.specs.Prelude.{option_and_then, option_map}
 use Rattle.bd_space.specs.Seats.{process_in, thread_in, actor_of, actor}
-use Rattle.bd_step.proofs.Finding.{found-lives}
+use Rattle.bd_step.proofs.Finding.{found_lives}
 
 -- the actor of a thread has the process that is found
 abbrev actor_with : Thread → Option Process → Option Actor
@@ -36,7 +36,7 @@ with_found t (Some q) a e = cc
 of_thread_found : (ps : List Process) (t : Option Thread) (a : Actor) → actor_of_thread ps t ≡ Some a → process_in ps a.process.made ≡ Some a.process
 of_thread_found ps None a e = cc
 of_thread_found ps (Some t) a e =
-    found-lives ps t.process a.process (with_found t (process_in ps t.process) a e)
+    found_lives ps t.process a.process (with_found t (process_in ps t.process) a e)
 
-pub process-of : (s : Space) (seat : ℕ) (a : Actor) → actor s seat ≡ Some a → process_in s.processes a.process.made ≡ Some a.process
-process-of s seat a e = of_thread_found s.processes (thread_in s.threads seat) a (sym (as_found s seat) ∙ e)
+pub process_of : (s : Space) (seat : ℕ) (a : Actor) → actor s seat ≡ Some a → process_in s.processes a.process.made ≡ Some a.process
+process_of s seat a e = of_thread_found s.processes (thread_in s.threads seat) a (sym (as_found s seat) ∙ e)

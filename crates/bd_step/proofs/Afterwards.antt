@@ -15,68 +15,68 @@ use Rattle.bd_ways.specs.Local.{follow_of, ripen_of, close_up, no_name, objects_
 use Rattle.bd_laws.specs.Lists.{In, Pairs}
 use Rattle.bd_laws.specs.Objects.{Earlier}
 use Rattle.bd_laws.specs.Tidy.{IsTidy}
-use Rattle.bd_laws.proofs.Objects.{transacted-kept, replied-kept}
-use Rattle.bd_laws.proofs.Checks.{transaction-checked, reply-checked}
+use Rattle.bd_laws.proofs.Objects.{transacted_kept, replied_kept}
+use Rattle.bd_laws.proofs.Checks.{transaction_checked, reply_checked}
 use Rattle.bd_laws.proofs.Next.{calm}
-use Rattle.bd_laws.proofs.Framing.{one-each}
+use Rattle.bd_laws.proofs.Framing.{one_each}
 use Rattle.bd_laws.proofs.Abandoned.{OneEach}
-use Rattle.bd_laws.proofs.Stacks.{replied-childless}
-use Rattle.bd_laws.proofs.Pings.{transaction-delivers}
-use Rattle.bd_laws.proofs.Sending.{one_way-local, two_way-local}
-use Rattle.bd_laws.proofs.Replying.{reply-local}
+use Rattle.bd_laws.proofs.Stacks.{replied_childless}
+use Rattle.bd_laws.proofs.Pings.{transaction_delivers}
+use Rattle.bd_laws.proofs.Sending.{one_way_local, two_way_local}
+use Rattle.bd_laws.proofs.Replying.{reply_local}
 use Rattle.bd_step.specs.Meets.{IsSending, IsServing, IsReplying}
 use Rattle.bd_step.specs.Deliveries.{SendsNew, CanCall}
 use Rattle.bd_step.specs.Freed.{ripen_next}
-use Rattle.bd_step.proofs.New.{sending-new}
-use Rattle.bd_step.proofs.Finding.{found-lives}
-use Rattle.bd_step.proofs.Stacked.{tidy-takes}
+use Rattle.bd_step.proofs.New.{sending_new}
+use Rattle.bd_step.proofs.Finding.{found_lives}
+use Rattle.bd_step.proofs.Stacked.{tidy_takes}
 
-pub ripened-ordered : (target : Option ObjectId) (s : Space) → Pairs Earlier s.objects → Pairs Earlier (ripen_next target s).objects
+pub ripened_ordered : (target : Option ObjectId) (s : Space) → Pairs Earlier s.objects → Pairs Earlier (ripen_next target s).objects
 unfolding ripen_of
-ripened-ordered None s h = h
-ripened-ordered (Some o) s h = h
+ripened_ordered None s h = h
+ripened_ordered (Some o) s h = h
 
 -- ---- a transaction
 
 module _ (s : Space) (a : Actor) (d : TransactionData) (v : Delivery) (p : IsSending a d v s) where
-  pub sent-call : CanCall v s
-  sent-call =
-      let t = transaction-checked s a d p.checked.0 v p.checked.1 in
+  pub sent_call : CanCall v s
+  sent_call =
+      let t = transaction_checked s a d p.checked.0 v p.checked.1 in
       record {
-        new = sending-new s a.process.made p.tidy d p.checked.0 v.sending t.sends;
-        lives = found-lives s.processes t.owned.object.owner v.receiver t.owned.lives;
-        takes = tidy-takes s p.tidy;
+        new = sending_new s a.process.made p.tidy d p.checked.0 v.sending t.sends;
+        lives = found_lives s.processes t.owned.object.owner v.receiver t.owned.lives;
+        takes = tidy_takes s p.tidy;
       }
 
-  pub sent-ordered : Pairs Earlier (transacted s a d v).objects
-  sent-ordered = (transacted-kept s a d p.checked.0 v p.tidy.before.objects p.checked.1).in_order
+  pub sent_ordered : Pairs Earlier (transacted s a d v).objects
+  sent_ordered = (transacted_kept s a d p.checked.0 v p.tidy.before.objects p.checked.1).in_order
 
-  pub sent-followed : completed (transacted s a d v) ≡ follow_of no_name (objects_of_items v.sending.items) (ripen_next (if v.one_way then v.target else None) (transacted s a d v))
-  sent-followed = at v.one_way refl
+  pub sent_followed : completed (transacted s a d v) ≡ follow_of no_name (objects_of_items v.sending.items) (ripen_next (if v.one_way then v.target else None) (transacted s a d v))
+  sent_followed = at v.one_way refl
     where
       at : (b : Bool) → v.one_way ≡ b
           → completed (transacted s a d v) ≡ follow_of no_name (objects_of_items v.sending.items) (ripen_next (if b then v.target else None) (transacted s a d v))
       at true one =
-          let t = transaction-checked s a d p.checked.0 v p.checked.1 in
-          one_way-local s a d v (calm s p.tidy.quiet) p.tidy.before.objects (transaction-delivers s a d p.checked.0 v p.tidy.before.objects p.checked.1) p.tidy.quiet.settled t.object one t.target
+          let t = transaction_checked s a d p.checked.0 v p.checked.1 in
+          one_way_local s a d v (calm s p.tidy.quiet) p.tidy.before.objects (transaction_delivers s a d p.checked.0 v p.tidy.before.objects p.checked.1) p.tidy.quiet.settled t.object one t.target
           ∙ ap (λ (o : Option ObjectId). follow_of no_name (objects_of_items v.sending.items) (ripen_next o (transacted s a d v))) (sym t.target)
-      at false two = two_way-local s a d v (calm s p.tidy.quiet) p.tidy.before.objects (transaction-delivers s a d p.checked.0 v p.tidy.before.objects p.checked.1) p.tidy.quiet.settled two
+      at false two = two_way_local s a d v (calm s p.tidy.quiet) p.tidy.before.objects (transaction_delivers s a d p.checked.0 v p.tidy.before.objects p.checked.1) p.tidy.quiet.settled two
 
 -- ---- a reply
 
-pub one-frame-each : (s : Space) → IsTidy s → OneEach s.frames
-one-frame-each s tidy = one-each s tidy.framed
+pub one_frame_each : (s : Space) → IsTidy s → OneEach s.frames
+one_frame_each s tidy = one_each s tidy.framed
 
-pub served-there : (s : Space) (seat : ℕ) (f : Frame) → IsServing seat f s → In f s.frames
-served-there s seat f p = (replied-childless s seat f p.tidy p.serves).0
+pub served_there : (s : Space) (seat : ℕ) (f : Frame) → IsServing seat f s → In f s.frames
+served_there s seat f p = (replied_childless s seat f p.tidy p.serves).0
 
 module _ (s : Space) (a : Actor) (d : TransactionData) (f : Frame) (v : Delivery) (p : IsReplying a d f v s) where
-  pub replied-new : SendsNew v s
-  replied-new = sending-new s a.process.made p.serving.tidy d p.checked.0 v.sending (reply-checked s a d p.checked.0 f v p.checked.1).sends
+  pub replied_new : SendsNew v s
+  replied_new = sending_new s a.process.made p.serving.tidy d p.checked.0 v.sending (reply_checked s a d p.checked.0 f v p.checked.1).sends
 
-  pub replied-ordered : Pairs Earlier (replied s a d f v).objects
-  replied-ordered = (replied-kept s a d p.checked.0 f v p.serving.tidy.before.objects p.checked.1).in_order
+  pub replied_ordered : Pairs Earlier (replied s a d f v).objects
+  replied_ordered = (replied_kept s a d p.checked.0 f v p.serving.tidy.before.objects p.checked.1).in_order
 
   -- frames close from the parent of the one that ends
-  pub replied-followed : (let z = follow_of no_name (objects_of_items v.sending.items) (replied s a d f v) in completed (replied s a d f v) ≡ close_up (length z.frames) f.parent z)
-  replied-followed = reply-local s a d p.checked.0 f v p.serving.tidy p.checked.1 (one-frame-each s p.serving.tidy) (served-there s a.thread.seat f p.serving)
+  pub replied_followed : (let z = follow_of no_name (objects_of_items v.sending.items) (replied s a d f v) in completed (replied s a d f v) ≡ close_up (length z.frames) f.parent z)
+  replied_followed = reply_local s a d p.checked.0 f v p.serving.tidy p.checked.1 (one_frame_each s p.serving.tidy) (served_there s a.thread.seat f p.serving)

@@ -26,7 +26,7 @@ use Rattle.bd_objects.specs.declared.table.ObjectTable.{ObjectTable}
 use Rattle.bd_objects.specs.Stands as objects
 use Rattle.bd_step.specs.declared.tables.Tables.{Tables}
 use Rattle.bd_step.specs.Stands.{StandsAt, Before}
-use Rattle.bd_step.proofs.Changing.{with-objects}
+use Rattle.bd_step.proofs.Changing.{with_objects}
 
 -- ---- notices
 
@@ -38,21 +38,21 @@ pub withdrawn : (objects : List Object) (todo : List Work) (x : Item) (b : Bool)
 withdrawn objects todo x b e = ap (λ (v : Bool). cond v (filter (λ w. not (is_notice x.object w.kind)) todo) todo) e
 
 -- one item more
-pub todo-more : (n : ℕ) (t : Tables) (s : Space) (f : List Work → Item → List Work) (items : List Item) (k : ℕ) (d : Item) → k < length items
+pub todo_more : (n : ℕ) (t : Tables) (s : Space) (f : List Work → Item → List Work) (items : List Item) (k : ℕ) (d : Item) → k < length items
     → StandsAt n t (record s { todo = f (fold f s.todo (take k items)) (get_or items k d) }) → StandsAt n t (record s { todo = fold f s.todo (take (k + 1) items) })
-todo-more n t s f items k d lt h = subst (λ (todo : List Work). StandsAt n t (record s { todo = todo })) (sym (fold_more f s.todo items k d lt)) h
+todo_more n t s f items k d lt h = subst (λ (todo : List Work). StandsAt n t (record s { todo = todo })) (sym (fold_more f s.todo items k d lt)) h
 
 -- ---- the translation
 
 abbrev written : Space → ℕ → List ℕ → Item → List ℕ
 written s q bytes x = overwritten bytes x.at (object_bytes (translated s.objects s.names q x))
 
-pub translated-more : (s : Space) (q : ℕ) (base bytes new : List ℕ) (items : List Item) (k : ℕ) (d : Item) (flat : FlatObject) → k < length items
+pub translated_more : (s : Space) (q : ℕ) (base bytes new : List ℕ) (items : List Item) (k : ℕ) (d : Item) (flat : FlatObject) → k < length items
     → new ≡ take (get_or items k d).at bytes ++ object_bytes flat ++ drop ((get_or items k d).at + 24) bytes
     → flat ≡ translated s.objects s.names q (get_or items k d)
     → bytes ≡ fold (written s q) base (take k items)
     → new ≡ fold (written s q) base (take (k + 1) items)
-translated-more s q base bytes new items k d flat lt e is so_far =
+translated_more s q base bytes new items k d flat lt e is so_far =
     let x = get_or items k d in
     e ∙ ap (λ (y : FlatObject). take x.at bytes ++ object_bytes y ++ drop (x.at + 24) bytes) is
     ∙ ap (λ (bs : List ℕ). written s q bs x) so_far
@@ -63,50 +63,50 @@ translated-more s q base bytes new items k d flat lt e is so_far =
 abbrev delivered : Space → ℕ → List Object → List Item → Option ObjectId → Space
 delivered s q made items target = assign_numbers (refer (make_objects s made) q items target) q (map object_of_item items)
 
-known-is : (s : Space) (v : Delivery) (q : ℕ) (made : List Object) (items : List Item) (target : Option ObjectId)
+known_is : (s : Space) (v : Delivery) (q : ℕ) (made : List Object) (items : List Item) (target : Option ObjectId)
     → q ≡ v.receiver.made → made ≡ v.sending.made → items ≡ v.sending.items → target ≡ v.target → delivered s q made items target ≡ known_by s v
 unfolding known_by
-known-is s v q made items target a b c e =
+known_is s v q made items target a b c e =
     ap (λ (x : ℕ). delivered s x made items target) a ∙ ap (λ (x : List Object). delivered s v.receiver.made x items target) b
     ∙ ap (λ (x : List Item). delivered s v.receiver.made v.sending.made x target) c ∙ ap (delivered s v.receiver.made v.sending.made v.sending.items) e
 
-pub known-stands : (t : Tables) (os : ObjectTable) (s : Space) (v : Delivery) (q : ℕ) (made : List Object) (items : List Item) (target : Option ObjectId)
+pub known_stands : (t : Tables) (os : ObjectTable) (s : Space) (v : Delivery) (q : ℕ) (made : List Object) (items : List Item) (target : Option ObjectId)
     → q ≡ v.receiver.made → made ≡ v.sending.made → items ≡ v.sending.items → target ≡ v.target
     → Before t s → objects.StandsFor os (delivered s q made items target) → Before (record t { objects = os }) (known_by s v)
 unfolding assign_numbers refer make_objects
-known-stands t os s v q made items target a b c e h k =
+known_stands t os s v q made items target a b c e h k =
     let P : Space → Type 0 = λ z. Before (record t { objects = os }) z in
-    subst P (known-is s v q made items target a b c e) (with-objects s.steps t s os _ _ _ s.deaths h k)
+    subst P (known_is s v q made items target a b c e) (with_objects s.steps t s os _ _ _ s.deaths h k)
 
-pub known-full : (s : Space) (v : Delivery) (q : ℕ) (made : List Object) (items : List Item) (target : Option ObjectId)
+pub known_full : (s : Space) (v : Delivery) (q : ℕ) (made : List Object) (items : List Item) (target : Option ObjectId)
     → q ≡ v.receiver.made → made ≡ v.sending.made → items ≡ v.sending.items → target ≡ v.target
     → has_number_past_limit (names_go (delivered s q made items target)).names ≡ true → has_number_past_limit (names_go (known_by s v)).names ≡ true
-known-full s v q made items target a b c e full =
-    ap (λ (z : Space). has_number_past_limit (names_go z).names) (sym (known-is s v q made items target a b c e)) ∙ full
+known_full s v q made items target a b c e full =
+    ap (λ (z : Space). has_number_past_limit (names_go z).names) (sym (known_is s v q made items target a b c e)) ∙ full
 
 -- ---- ends of loops over items
 
-pub fold-all : {A : Type 0} (f : A → Item → A) (a : A) (items : List Item) (k : ℕ) → length items ≤ k → fold f a (take k items) ≡ fold f a items
-fold-all f a items k le = ap (fold f a) (take_all k items le)
+pub fold_all : {A : Type 0} (f : A → Item → A) (a : A) (items : List Item) (k : ℕ) → length items ≤ k → fold f a (take k items) ≡ fold f a items
+fold_all f a items k le = ap (fold f a) (take_all k items le)
 
-pub todo-all : (n : ℕ) (t : Tables) (s : Space) (f : List Work → Item → List Work) (items : List Item) (k : ℕ) → length items ≤ k
+pub todo_all : (n : ℕ) (t : Tables) (s : Space) (f : List Work → Item → List Work) (items : List Item) (k : ℕ) → length items ≤ k
     → StandsAt n t (record s { todo = fold f s.todo (take k items) }) → StandsAt n t (record s { todo = fold f s.todo items })
-todo-all n t s f items k le h = subst (λ (todo : List Work). StandsAt n t (record s { todo = todo })) (fold-all f s.todo items k le) h
+todo_all n t s f items k le h = subst (λ (todo : List Work). StandsAt n t (record s { todo = todo })) (fold_all f s.todo items k le) h
 
-pub only-works : (a b c : Tables) (m n k : ℕ) → OnlyWorks a b m → OnlyWorks b c n → m + n ≡ k → OnlyWorks a c k
-only-works a b c m n k h i e = search arith
+pub only_works : (a b c : Tables) (m n k : ℕ) → OnlyWorks a b m → OnlyWorks b c n → m + n ≡ k → OnlyWorks a c k
+only_works a b c m n k h i e = search arith
 
 -- ---- the buffer
 
-pub buffer-is : (s : Space) (a : Actor) (d : TransactionData) (v w : Delivery) (made size : ℕ) (bytes offsets : List ℕ) → w ≡ v
+pub buffer_is : (s : Space) (a : Actor) (d : TransactionData) (v w : Delivery) (made size : ℕ) (bytes offsets : List ℕ) → w ≡ v
     → s.steps ≡ made → size ≡ needed d.data_size d.offsets_size → bytes ≡ translation s w.receiver.made w.sending.bytes w.sending.items → offsets ≡ w.sending.offsets
     → (let b : Buffer = record (buffer_of s a d w) { made = made; size = size; bytes = bytes; offsets = offsets } in b) ≡ buffer_of s a d v
-buffer-is s a d v w made size bytes offsets is m z b o =
+buffer_is s a d v w made size bytes offsets is m z b o =
     (λ i. record (buffer_of s a d w) { made = sym m i; size = z i; bytes = b i; offsets = o i }) ∙ ap (buffer_of s a d) is
 
 -- the notices and the buffer in either order
-pub filled-is : (s : Space) (a : Actor) (d : TransactionData) (v : Delivery) (seat : ℕ) (items : List Item) (b : Buffer) → items ≡ v.sending.items → b ≡ buffer_of (own_notices s seat items) a d v
+pub filled_is : (s : Space) (a : Actor) (d : TransactionData) (v : Delivery) (seat : ℕ) (items : List Item) (b : Buffer) → items ≡ v.sending.items → b ≡ buffer_of (own_notices s seat items) a d v
     → add_buffer (own_notices s seat items) b ≡ own_notices (add_buffer s (buffer_of s a d v)) seat v.sending.items
 unfolding own_notices add_buffer translation
-filled-is s a d v seat items b i e =
+filled_is s a d v seat items b i e =
     ap (add_buffer (own_notices s seat items)) e ∙ ap (λ (xs : List Item). add_buffer (own_notices s seat xs) (buffer_of (own_notices s seat xs) a d v)) i

@@ -29,24 +29,24 @@ use Rattle.bd_space.specs.Steps.{command_step, change, by_actor}
 use Rattle.bd_buffers.specs.WindowsStand.{made_of_buffer}
 use Rattle.bd_laws.specs.Lists.{In, Pairs}
 use Rattle.bd_laws.specs.Items.{AtHome}
-use Rattle.bd_laws.proofs.Lists.{in-filter, filter-in, in-map, any-found, find-in, find-some, fold-keeps}
-use Rattle.bd_laws.proofs.Tests.{both, not-false, some-eq, to-false}
-use Rattle.bd_laws.proofs.Checks.{actor-acts}
-use Rattle.bd_laws.proofs.AtHome.HomesSent.{one-thread}
-use Rattle.bd_laws.proofs.FollowingIsLocal.Left.{on-thread}
-use Rattle.bd_laws.proofs.Machine.Untouched.{tell_deaths-untouched}
+use Rattle.bd_laws.proofs.Lists.{in_filter, filter_in, in_map, any_found, find_in, find_some, fold_keeps}
+use Rattle.bd_laws.proofs.Tests.{both, not_false, some_eq, to_false}
+use Rattle.bd_laws.proofs.Checks.{actor_acts}
+use Rattle.bd_laws.proofs.AtHome.HomesSent.{one_thread}
+use Rattle.bd_laws.proofs.FollowingIsLocal.Left.{on_thread}
+use Rattle.bd_laws.proofs.Machine.Untouched.{tell_deaths_untouched}
 use Rattle.bd_step.specs.Ending.{is_gone, HasEndings}
-use Rattle.bd_step.proofs.Living.{AllLive, can_end, same-live, change-leaves-all, settled-buffers, followed-buffers, completed-buffers}
+use Rattle.bd_step.proofs.Living.{AllLive, can_end, same_live, change_leaves_all, settled_buffers, followed_buffers, completed_buffers}
 
 -- ---- what is gone
 
-not-none : {A : Type 0} (o : Option A) → is_some o ≡ true → is_none o ≡ false
-not-none None e = absurd (cc)
-not-none (Some x) e = refl
+not_none : {A : Type 0} (o : Option A) → is_some o ≡ true → is_none o ≡ false
+not_none None e = absurd (cc)
+not_none (Some x) e = refl
 
 -- a buffer that is among them isn't gone
-still-there : (cs : List Buffer) (made : ℕ) (d : Buffer) → In d cs → d.made ≡ made → is_gone cs made ≡ false
-still-there cs made d l e = not-none (buffer_in cs made) (find-some (is_made_at made) d cs l (eq-eqb d.made made e))
+still_there : (cs : List Buffer) (made : ℕ) (d : Buffer) → In d cs → d.made ≡ made → is_gone cs made ≡ false
+still_there cs made d l e = not_none (buffer_in cs made) (find_some (is_made_at made) d cs l (eq-eqb d.made made e))
 
 module _ (gone : ℕ → Bool) (may : Buffer → Bool) where
   -- what is gone of those that may be is gone of all
@@ -63,10 +63,10 @@ module _ (gone : ℕ → Bool) (may : Buffer → Bool) where
 abbrev pub Earlier : Buffer → Buffer → Type 0
 Earlier b c = b.made < c.made
 
-none-made : (m : ℕ) (bs : List Buffer) → ((c : Buffer) → In c bs → (c.made == m) ≡ false) → filter (is_made_at m) bs ≡ []
-none-made m [] other = refl
-none-made m (b ∷ bs) other =
-    ap (λ (t : Bool). cond t (b ∷ filter (is_made_at m) bs) (filter (is_made_at m) bs)) (other b (inl refl)) ∙ none-made m bs (λ c l. other c (inr l))
+none_made : (m : ℕ) (bs : List Buffer) → ((c : Buffer) → In c bs → (c.made == m) ≡ false) → filter (is_made_at m) bs ≡ []
+none_made m [] other = refl
+none_made m (b ∷ bs) other =
+    ap (λ (t : Bool). cond t (b ∷ filter (is_made_at m) bs) (filter (is_made_at m) bs)) (other b (inl refl)) ∙ none_made m bs (λ c l. other c (inr l))
 
 apart : (a b : ℕ) → (a ≡ b → ⊥) → (a == b) ≡ false
 apart a b k = at (a == b) refl
@@ -76,64 +76,64 @@ apart a b k = at (a == b) refl
     at false e = refl
 
 -- just one was made there
-one-made : (b : Buffer) (bs : List Buffer) → Pairs Earlier bs → In b bs → map made_of_buffer (filter (is_made_at b.made) bs) ≡ b.made ∷ []
-one-made b [] order l = absurd l
-one-made b (c ∷ cs) order (inl is) =
+one_made : (b : Buffer) (bs : List Buffer) → Pairs Earlier bs → In b bs → map made_of_buffer (filter (is_made_at b.made) bs) ≡ b.made ∷ []
+one_made b [] order l = absurd l
+one_made b (c ∷ cs) order (inl is) =
     let here : (c.made == b.made) ≡ true = eq-eqb c.made b.made (ap made_of_buffer is) in
     ap (λ (t : Bool). map made_of_buffer (cond t (c ∷ filter (is_made_at b.made) cs) (filter (is_made_at b.made) cs))) here
     ∙ ap (λ (xs : List Buffer). c.made ∷ map made_of_buffer xs)
-    (none-made b.made cs (λ d m. apart d.made b.made (λ e. (let lt = order.0 d m in let same = ap made_of_buffer is in absurd (omega arith)))))
+    (none_made b.made cs (λ d m. apart d.made b.made (λ e. (let lt = order.0 d m in let same = ap made_of_buffer is in absurd (omega arith)))))
     ∙ ap (λ (n : ℕ). n ∷ []) (ap made_of_buffer is)
-one-made b (c ∷ cs) order (inr l) =
+one_made b (c ∷ cs) order (inr l) =
     let lt = order.0 b l in
     let other : (c.made == b.made) ≡ false = apart c.made b.made (λ e. absurd (omega arith)) in
-    ap (λ (t : Bool). map made_of_buffer (cond t (c ∷ filter (is_made_at b.made) cs) (filter (is_made_at b.made) cs))) other ∙ one-made b cs order.1 l
+    ap (λ (t : Bool). map made_of_buffer (cond t (c ∷ filter (is_made_at b.made) cs) (filter (is_made_at b.made) cs))) other ∙ one_made b cs order.1 l
 
-by-test : (may : Buffer → Bool) (s z : Space) → ((c : Buffer) → In c s.buffers → may c ≡ false → (d : Buffer) × In d z.buffers × (d.made ≡ c.made))
+by_test : (may : Buffer → Bool) (s z : Space) → ((c : Buffer) → In c s.buffers → may c ≡ false → (d : Buffer) × In d z.buffers × (d.made ≡ c.made))
     → HasEndings (map made_of_buffer (filter may s.buffers)) s z
-by-test may s z stay = picked (is_gone z.buffers) may s.buffers (λ c l e. let d = stay c l e in still-there z.buffers c.made d.0 d.1 d.2)
+by_test may s z stay = picked (is_gone z.buffers) may s.buffers (λ c l e. let d = stay c l e in still_there z.buffers c.made d.0 d.1 d.2)
 
-none-may : (bs : List Buffer) → filter (λ (b : Buffer). false) bs ≡ []
-none-may [] = refl
-none-may (b ∷ bs) = none-may bs
+none_may : (bs : List Buffer) → filter (λ (b : Buffer). false) bs ≡ []
+none_may [] = refl
+none_may (b ∷ bs) = none_may bs
 
-pub none-ended : (s z : Space) → AllLive s.buffers z.buffers → HasEndings [] s z
-none-ended s z all =
-    ap (λ (bs : List Buffer). filter (is_gone z.buffers) (map made_of_buffer bs)) (sym (none-may s.buffers)) ∙ by-test (λ b. false) s z (λ c l e. all c l)
+pub none_ended : (s z : Space) → AllLive s.buffers z.buffers → HasEndings [] s z
+none_ended s z all =
+    ap (λ (bs : List Buffer). filter (is_gone z.buffers) (map made_of_buffer bs)) (sym (none_may s.buffers)) ∙ by_test (λ b. false) s z (λ c l e. all c l)
 
 -- ---- freeing
 
-freed-buffers : (s : Space) (b : Buffer) → (accepted (without_buffer s b.made)).space.buffers ≡ filter (λ x. not (is_made_at b.made x)) s.buffers
+freed_buffers : (s : Space) (b : Buffer) → (accepted (without_buffer s b.made)).space.buffers ≡ filter (λ x. not (is_made_at b.made x)) s.buffers
 unfolding without_buffer
-freed-buffers s b = completed-buffers (without_buffer s b.made)
+freed_buffers s b = completed_buffers (without_buffer s b.made)
 
-freed-stay : (s : Space) (b c : Buffer) → In c s.buffers → is_made_at b.made c ≡ false → (h : Bool)
+freed_stay : (s : Space) (b c : Buffer) → In c s.buffers → is_made_at b.made c ≡ false → (h : Bool)
     → (d : Buffer) × In d (cond h (accepted (without_buffer s b.made)) (noted s NotHandedOut)).space.buffers × (d.made ≡ c.made)
-freed-stay s b c l e true =
-    (c, subst (In c) (sym (freed-buffers s b)) (filter-in (λ x. not (is_made_at b.made x)) c s.buffers l (not-false _ e)), refl)
-freed-stay s b c l e false = (c, l, refl)
+freed_stay s b c l e true =
+    (c, subst (In c) (sym (freed_buffers s b)) (filter_in (λ x. not (is_made_at b.made x)) c s.buffers l (not_false _ e)), refl)
+freed_stay s b c l e false = (c, l, refl)
 
-pub free-ended : (s : Space) (p ptr : ℕ) (b : Buffer) → Pairs Earlier s.buffers → buffer_at_pointer s p ptr ≡ Some b → HasEndings (b.made ∷ []) s (free_step s p ptr).space
+pub free_ended : (s : Space) (p ptr : ℕ) (b : Buffer) → Pairs Earlier s.buffers → buffer_at_pointer s p ptr ≡ Some b → HasEndings (b.made ∷ []) s (free_step s p ptr).space
 unfolding free_step buffer_at_pointer
-free-ended s p ptr b order found =
-    let here = (find-in (λ (x : Buffer). (x.receiver == p) && (pointer x == ptr)) b s.buffers found).0 in
+free_ended s p ptr b order found =
+    let here = (find_in (λ (x : Buffer). (x.receiver == p) && (pointer x == ptr)) b s.buffers found).0 in
     let z = free_outcome s (Some b) in
     subst (λ (o : Option Buffer). HasEndings (b.made ∷ []) s (free_outcome s o).space) (sym found)
-    (ap (filter (is_gone z.space.buffers)) (sym (one-made b s.buffers order here)) ∙ by-test (is_made_at b.made) s z.space (λ c l e. freed-stay s b c l e b.handed))
+    (ap (filter (is_gone z.space.buffers)) (sym (one_made b s.buffers order here)) ∙ by_test (is_made_at b.made) s z.space (λ c l e. freed_stay s b c l e b.handed))
 
-pub unfound-ended : (s : Space) (p ptr : ℕ) → buffer_at_pointer s p ptr ≡ None → HasEndings [] s (free_step s p ptr).space
+pub unfound_ended : (s : Space) (p ptr : ℕ) → buffer_at_pointer s p ptr ≡ None → HasEndings [] s (free_step s p ptr).space
 unfolding free_step
-unfound-ended s p ptr found = none-ended s (free_outcome s (buffer_at_pointer s p ptr)).space (same-live s.buffers _ (ap (λ (o : Option Buffer). (free_outcome s o).space.buffers) found))
+unfound_ended s p ptr found = none_ended s (free_outcome s (buffer_at_pointer s p ptr)).space (same_live s.buffers _ (ap (λ (o : Option Buffer). (free_outcome s o).space.buffers) found))
 
 -- ---- exits
 
 -- what goes with the list of a thread of p is p's
-lost-own : (s : Space) (seat p : ℕ) (td : List Work) → AtHome s → ((w : Work) → In w td → In w s.todo) → ((u : Thread) → In u s.threads → u.seat ≡ seat → u.process ≡ p)
+lost_own : (s : Space) (seat p : ℕ) (td : List Work) → AtHome s → ((w : Work) → In w td → In w s.todo) → ((u : Thread) → In u s.threads → u.seat ≡ seat → u.process ≡ p)
     → (c : Buffer) → In c s.buffers → is_lost_with td (OfThread seat) c.made ≡ true → c.receiver ≡ p
-lost-own s seat p td home due threads c l e =
-    let w = any-found (λ (w : Work). is_on (OfThread seat) w && is_some_and (hands_out w.kind) (λ m. m == c.made)) td e in
+lost_own s seat p td home due threads c l e =
+    let w = any_found (λ (w : Work). is_on (OfThread seat) w && is_some_and (hands_out w.kind) (λ m. m == c.made)) td e in
     let t = both (is_on (OfThread seat) w.0) (is_some_and (hands_out w.0.kind) (λ m. m == c.made)) w.2 in
-    let u = home.home w.0 seat c.made (due w.0 w.1) (on-thread seat w.0.list t.0) (some-eq c.made (hands_out w.0.kind) t.1) in
+    let u = home.home w.0 seat c.made (due w.0 w.1) (on_thread seat w.0.list t.0) (some_eq c.made (hands_out w.0.kind) t.1) in
     sym (u.4 c l refl) ∙ threads u.0 u.1 u.2
 
 -- others' buffers stay, and no work item comes
@@ -141,108 +141,108 @@ record Left (s : Space) (p : ℕ) (z : Space) : Type 0 where
   due : (w : Work) → In w z.todo → In w s.todo
   stay : (c : Buffer) → In c s.buffers → (c.receiver ≡ p → ⊥) → In c z.buffers
 
-left-more : (s : Space) (seat p : ℕ) (z : Space) → AtHome s → ((u : Thread) → In u s.threads → u.seat ≡ seat → u.process ≡ p) → Left s p z → Left s p (thread_goes z seat)
+left_more : (s : Space) (seat p : ℕ) (z : Space) → AtHome s → ((u : Thread) → In u s.threads → u.seat ≡ seat → u.process ≡ p) → Left s p z → Left s p (thread_goes z seat)
 unfolding thread_goes
-left-more s seat p z home threads h = record {
-  due = λ w l. h.due w (in-filter (λ (w : Work). not (is_on (OfThread seat) w)) w z.todo l).0;
+left_more s seat p z home threads h = record {
+  due = λ w l. h.due w (in_filter (λ (w : Work). not (is_on (OfThread seat) w)) w z.todo l).0;
   stay = λ c l other.
-      filter-in (λ (b : Buffer). not (is_lost_with z.todo (OfThread seat) b.made)) c z.buffers (h.stay c l other)
-      (not-false _ (to-false _ (λ e. other (lost-own s seat p z.todo home h.due threads c l e))));
+      filter_in (λ (b : Buffer). not (is_lost_with z.todo (OfThread seat) b.made)) c z.buffers (h.stay c l other)
+      (not_false _ (to_false _ (λ e. other (lost_own s seat p z.todo home h.due threads c l e))));
 }
 
 -- a seat has one thread
-of-one : (s : Space) → AtHome s → (t : Thread) → In t s.threads → (u : Thread) → In u s.threads → u.seat ≡ t.seat → u.process ≡ t.process
-of-one s home t l u m e = ap (λ (v : Thread). v.process) (one-thread s home u t m l e)
+of_one : (s : Space) → AtHome s → (t : Thread) → In t s.threads → (u : Thread) → In u s.threads → u.seat ≡ t.seat → u.process ≡ t.process
+of_one s home t l u m e = ap (λ (v : Thread). v.process) (one_thread s home u t m l e)
 
-none-left : (s : Space) (p : ℕ) → Left s p s
-none-left s p = record { due = λ w l. l; stay = λ c l other. l }
+none_left : (s : Space) (p : ℕ) → Left s p s
+none_left s p = record { due = λ w l. l; stay = λ c l other. l }
 
-thread-left : (s : Space) (a : Actor) (seat : ℕ) → AtHome s → actor s seat ≡ Some a → Left s a.thread.process (thread_goes s a.thread.seat)
-thread-left s a seat home acts =
-    left-more s a.thread.seat a.thread.process s home (of-one s home a.thread (actor-acts s seat a acts).thread) (none-left s a.thread.process)
+thread_left : (s : Space) (a : Actor) (seat : ℕ) → AtHome s → actor s seat ≡ Some a → Left s a.thread.process (thread_goes s a.thread.seat)
+thread_left s a seat home acts =
+    left_more s a.thread.seat a.thread.process s home (of_one s home a.thread (actor_acts s seat a acts).thread) (none_left s a.thread.process)
 
-threads-left : (s : Space) (p : ℕ) → AtHome s → Left s p (threads_go s p)
+threads_left : (s : Space) (p : ℕ) → AtHome s → Left s p (threads_go s p)
 unfolding threads_go
-threads-left s p home =
-    fold-keeps (Left s p) thread_goes (map seat_of (filter (λ t. t.process == p) s.threads)) (λ z seat i h.
-    (let t = in-map seat_of seat (filter (λ t. t.process == p) s.threads) i in
-    let at = in-filter (λ (t : Thread). t.process == p) t.0 s.threads t.1 in
-    left-more s seat p z home (λ u m e. of-one s home t.0 at.0 u m (e ∙ sym t.2) ∙ eqb-true t.0.process p at.1) h)) s (none-left s p)
+threads_left s p home =
+    fold_keeps (Left s p) thread_goes (map seat_of (filter (λ t. t.process == p) s.threads)) (λ z seat i h.
+    (let t = in_map seat_of seat (filter (λ t. t.process == p) s.threads) i in
+    let at = in_filter (λ (t : Thread). t.process == p) t.0 s.threads t.1 in
+    left_more s seat p z home (λ u m e. of_one s home t.0 at.0 u m (e ∙ sym t.2) ∙ eqb-true t.0.process p at.1) h)) s (none_left s p)
 
-process-left : (s : Space) (p : ℕ) (c : Buffer) → AtHome s → In c s.buffers → (c.receiver == p) ≡ false → In c (without_process (threads_go s p) p).buffers
+process_left : (s : Space) (p : ℕ) (c : Buffer) → AtHome s → In c s.buffers → (c.receiver == p) ≡ false → In c (without_process (threads_go s p) p).buffers
 unfolding without_process
-process-left s p c home l other =
-    filter-in (λ (b : Buffer). not (b.receiver == p)) c (threads_go s p).buffers
-    ((threads-left s p home).stay c l (λ e. (let here = eq-eqb c.receiver p e in absurd (cc)))) (not-false _ other)
+process_left s p c home l other =
+    filter_in (λ (b : Buffer). not (b.receiver == p)) c (threads_go s p).buffers
+    ((threads_left s p home).stay c l (λ e. (let here = eq-eqb c.receiver p e in absurd (cc)))) (not_false _ other)
 
-exit-thread-ended : (s : Space) (a : Actor) (seat : ℕ) → AtHome s → actor s seat ≡ Some a → HasEndings (map made_of_buffer (buffers_of s.buffers a.thread.process)) s (exit_thread_step s a).space
+exit_thread_ended : (s : Space) (a : Actor) (seat : ℕ) → AtHome s → actor s seat ≡ Some a → HasEndings (map made_of_buffer (buffers_of s.buffers a.thread.process)) s (exit_thread_step s a).space
 unfolding exit_thread_step
-exit-thread-ended s a seat home acts =
+exit_thread_ended s a seat home acts =
     let y = thread_goes s a.thread.seat in
-    let same = settled-buffers (follow y) ∙ followed-buffers y in
-    by-test (λ b. b.receiver == a.thread.process) s (settle (follow y))
-    (λ c l e. (c, subst (In c) (sym same) ((thread-left s a seat home acts).stay c l (λ f. (let here = eq-eqb c.receiver a.thread.process f in absurd (cc)))), refl))
+    let same = settled_buffers (follow y) ∙ followed_buffers y in
+    by_test (λ b. b.receiver == a.thread.process) s (settle (follow y))
+    (λ c l e. (c, subst (In c) (sym same) ((thread_left s a seat home acts).stay c l (λ f. (let here = eq-eqb c.receiver a.thread.process f in absurd (cc)))), refl))
 
-exit-process-ended : (s : Space) (a : Actor) → AtHome s → HasEndings (map made_of_buffer (buffers_of s.buffers a.process.made)) s (exit_process_step s a).space
+exit_process_ended : (s : Space) (a : Actor) → AtHome s → HasEndings (map made_of_buffer (buffers_of s.buffers a.process.made)) s (exit_process_step s a).space
 unfolding exit_process_step
-exit-process-ended s a home =
+exit_process_ended s a home =
     let p = a.process.made in
     let x = without_process (threads_go s p) p in
     let y = tell_deaths x p in
-    let same = settled-buffers (follow y) ∙ followed-buffers y ∙ (tell_deaths-untouched x p).buffers in
-    by-test (λ b. b.receiver == p) s (settle (follow y)) (λ c l e. (c, subst (In c) (sym same) (process-left s p c home l e), refl))
+    let same = settled_buffers (follow y) ∙ followed_buffers y ∙ (tell_deaths_untouched x p).buffers in
+    by_test (λ b. b.receiver == p) s (settle (follow y)) (λ c l e. (c, subst (In c) (sym same) (process_left s p c home l e), refl))
 
 -- ---- the steps of a seat
 
 -- a seat without a thread changes nothing
-nobody-does : (s : Space) (seat : ℕ) (f : Actor → Outcome) → actor s seat ≡ None → HasEndings [] s (by_actor s (actor s seat) f).space
-nobody-does s seat f none = none-ended s (by_actor s (actor s seat) f).space (same-live s.buffers _ (ap (λ (o : Option Actor). (by_actor s o f).space.buffers) none))
+nobody_does : (s : Space) (seat : ℕ) (f : Actor → Outcome) → actor s seat ≡ None → HasEndings [] s (by_actor s (actor s seat) f).space
+nobody_does s seat f none = none_ended s (by_actor s (actor s seat) f).space (same_live s.buffers _ (ap (λ (o : Option Actor). (by_actor s o f).space.buffers) none))
 
-somebody-does : (s : Space) (seat : ℕ) (f : Actor → Outcome) (a : Actor) (places : List ℕ) → actor s seat ≡ Some a → HasEndings places s (f a).space
+somebody_does : (s : Space) (seat : ℕ) (f : Actor → Outcome) (a : Actor) (places : List ℕ) → actor s seat ≡ Some a → HasEndings places s (f a).space
     → HasEndings places s (by_actor s (actor s seat) f).space
-somebody-does s seat f a places acts h = subst (λ (o : Option Actor). HasEndings places s (by_actor s o f).space) (sym acts) h
+somebody_does s seat f a places acts h = subst (λ (o : Option Actor). HasEndings places s (by_actor s o f).space) (sym acts) h
 
-pub nobody-frees : (s : Space) (seat ptr : ℕ) (parcel : Option Parcel) → actor s seat ≡ None → HasEndings [] s (change s seat (step_of.Command (bc.FreeBuffer ptr) parcel)).space
+pub nobody_frees : (s : Space) (seat ptr : ℕ) (parcel : Option Parcel) → actor s seat ≡ None → HasEndings [] s (change s seat (step_of.Command (bc.FreeBuffer ptr) parcel)).space
 unfolding change
-nobody-frees s seat ptr parcel none = nobody-does s seat (λ a. command_step s a (bc.FreeBuffer ptr) parcel) none
+nobody_frees s seat ptr parcel none = nobody_does s seat (λ a. command_step s a (bc.FreeBuffer ptr) parcel) none
 
-pub nobody-exits-thread : (s : Space) (seat : ℕ) → actor s seat ≡ None → HasEndings [] s (change s seat step_of.ExitThread).space
+pub nobody_exits_thread : (s : Space) (seat : ℕ) → actor s seat ≡ None → HasEndings [] s (change s seat step_of.ExitThread).space
 unfolding change
-nobody-exits-thread s seat none = nobody-does s seat (exit_thread_step s) none
+nobody_exits_thread s seat none = nobody_does s seat (exit_thread_step s) none
 
-pub nobody-exits-process : (s : Space) (seat : ℕ) → actor s seat ≡ None → HasEndings [] s (change s seat step_of.ExitProcess).space
+pub nobody_exits_process : (s : Space) (seat : ℕ) → actor s seat ≡ None → HasEndings [] s (change s seat step_of.ExitProcess).space
 unfolding change
-nobody-exits-process s seat none = nobody-does s seat (exit_process_step s) none
+nobody_exits_process s seat none = nobody_does s seat (exit_process_step s) none
 
-pub somebody-frees : (s : Space) (seat ptr : ℕ) (parcel : Option Parcel) (a : Actor) (places : List ℕ) → actor s seat ≡ Some a → HasEndings places s (free_step s a.process.made ptr).space
+pub somebody_frees : (s : Space) (seat ptr : ℕ) (parcel : Option Parcel) (a : Actor) (places : List ℕ) → actor s seat ≡ Some a → HasEndings places s (free_step s a.process.made ptr).space
     → HasEndings places s (change s seat (step_of.Command (bc.FreeBuffer ptr) parcel)).space
 unfolding change command_step
-somebody-frees s seat ptr parcel a places acts h = somebody-does s seat (λ a. command_step s a (bc.FreeBuffer ptr) parcel) a places acts h
+somebody_frees s seat ptr parcel a places acts h = somebody_does s seat (λ a. command_step s a (bc.FreeBuffer ptr) parcel) a places acts h
 
-pub somebody-exits-thread : (s : Space) (seat : ℕ) (a : Actor) → AtHome s → actor s seat ≡ Some a
+pub somebody_exits_thread : (s : Space) (seat : ℕ) (a : Actor) → AtHome s → actor s seat ≡ Some a
     → HasEndings (map made_of_buffer (buffers_of s.buffers a.process.made)) s (change s seat step_of.ExitThread).space
 unfolding change
-somebody-exits-thread s seat a home acts =
-    somebody-does s seat (exit_thread_step s) a _ acts
-    (subst (λ (p : ℕ). HasEndings (map made_of_buffer (buffers_of s.buffers p)) s (exit_thread_step s a).space) (sym (actor-acts s seat a acts).own) (exit-thread-ended s a seat home acts))
+somebody_exits_thread s seat a home acts =
+    somebody_does s seat (exit_thread_step s) a _ acts
+    (subst (λ (p : ℕ). HasEndings (map made_of_buffer (buffers_of s.buffers p)) s (exit_thread_step s a).space) (sym (actor_acts s seat a acts).own) (exit_thread_ended s a seat home acts))
 
-pub somebody-exits-process : (s : Space) (seat : ℕ) (a : Actor) → AtHome s → actor s seat ≡ Some a
+pub somebody_exits_process : (s : Space) (seat : ℕ) (a : Actor) → AtHome s → actor s seat ≡ Some a
     → HasEndings (map made_of_buffer (buffers_of s.buffers a.process.made)) s (change s seat step_of.ExitProcess).space
 unfolding change
-somebody-exits-process s seat a home acts = somebody-does s seat (exit_process_step s) a _ acts (exit-process-ended s a home)
+somebody_exits_process s seat a home acts = somebody_does s seat (exit_process_step s) a _ acts (exit_process_ended s a home)
 
 -- any other command
-pub others-free-none : (s : Space) (seat : ℕ) (c : Command) (parcel : Option Parcel) → ((ptr : ℕ) → c ≡ bc.FreeBuffer ptr → ⊥) → HasEndings [] s (change s seat (step_of.Command c parcel)).space
-others-free-none s seat c parcel other = none-ended s (change s seat (step_of.Command c parcel)).space (change-leaves-all s seat (step_of.Command c parcel) (at c other))
+pub others_free_none : (s : Space) (seat : ℕ) (c : Command) (parcel : Option Parcel) → ((ptr : ℕ) → c ≡ bc.FreeBuffer ptr → ⊥) → HasEndings [] s (change s seat (step_of.Command c parcel)).space
+others_free_none s seat c parcel other = none_ended s (change s seat (step_of.Command c parcel)).space (change_leaves_all s seat (step_of.Command c parcel) (at c other))
   where
     at : (c : Command) → ((ptr : ℕ) → c ≡ bc.FreeBuffer ptr → ⊥) → can_end (step_of.Command c parcel) ≡ false
     at (bc.FreeBuffer ptr) k = absurd (k ptr refl)
     at _ k = refl
 
 -- any other step
-pub others-end-none : (s : Space) (seat : ℕ) (x : Step) → ((c : Command) (parcel : Option Parcel) → x ≡ step_of.Command c parcel → ⊥) → (x ≡ step_of.ExitThread → ⊥) → (x ≡ step_of.ExitProcess → ⊥)
+pub others_end_none : (s : Space) (seat : ℕ) (x : Step) → ((c : Command) (parcel : Option Parcel) → x ≡ step_of.Command c parcel → ⊥) → (x ≡ step_of.ExitThread → ⊥) → (x ≡ step_of.ExitProcess → ⊥)
     → HasEndings [] s (change s seat x).space
-others-end-none s seat x no_command no_thread no_process = none-ended s (change s seat x).space (change-leaves-all s seat x (at x no_command no_thread no_process))
+others_end_none s seat x no_command no_thread no_process = none_ended s (change s seat x).space (change_leaves_all s seat x (at x no_command no_thread no_process))
   where
     at : (x : Step) → ((c : Command) (parcel : Option Parcel) → x ≡ step_of.Command c parcel → ⊥) → (x ≡ step_of.ExitThread → ⊥) → (x ≡ step_of.ExitProcess → ⊥) → can_end x ≡ false
     at (step_of.Command c parcel) k l m = absurd (k c parcel refl)
@@ -250,6 +250,6 @@ others-end-none s seat x no_command no_thread no_process = none-ended s (change 
     at step_of.ExitProcess k l m = absurd (m refl)
     at _ k l m = refl
 
-pub if-ok : {A E : Type 0} (r : Result A E) (P Q : Type 0) → (P → Q) → OnOk r P → OnOk r Q
-if-ok (Ok x) P Q f h = f h
-if-ok (Err e) P Q f h = tt
+pub if_ok : {A E : Type 0} (r : Result A E) (P Q : Type 0) → (P → Q) → OnOk r P → OnOk r Q
+if_ok (Ok x) P Q f h = f h
+if_ok (Err e) P Q f h = tt

@@ -15,11 +15,11 @@ use Rattle.bd_ways.specs.LocalExits.{seats_in}
 use Rattle.bd_laws.specs.Lists.{Pairs}
 use Rattle.bd_laws.specs.Objects.{Earlier}
 use Rattle.bd_laws.specs.Tidy.{IsTidy}
-use Rattle.bd_laws.proofs.Lists.{any-found, any-in}
-use Rattle.bd_laws.proofs.Tests.{and-both}
-use Rattle.bd_laws.proofs.Checks.{actor-acts}
-use Rattle.bd_laws.proofs.Leaving.{leaving-local, left-names, left-parts, follow-frames}
-use Rattle.bd_laws.proofs.Ending.{ending-local, ended-parts}
+use Rattle.bd_laws.proofs.Lists.{any_found, any_in}
+use Rattle.bd_laws.proofs.Tests.{and_both}
+use Rattle.bd_laws.proofs.Checks.{actor_acts}
+use Rattle.bd_laws.proofs.Leaving.{leaving_local, left_names, left_parts, follow_frames}
+use Rattle.bd_laws.proofs.Ending.{ending_local, ended_parts}
 use Rattle.bd_calls.specs.Closing.{is_place_among}
 use Rattle.bd_step.specs.declared.exit.Exit.{Exit}
 use Rattle.bd_step.specs.declared.tables.Tables.{Tables}
@@ -27,61 +27,61 @@ use Rattle.bd_step.specs.Stands.{Within, MakesWithin}
 use Rattle.bd_step.specs.Following.{MakesOfOrdered}
 use Rattle.bd_step.specs.Meets.{IsBy}
 use Rattle.bd_step.specs.Exits.{HasThread, HasProcess}
-use Rattle.bd_step.proofs.Gathering.{thread-objects, thread-frames, process-objects, process-frames}
+use Rattle.bd_step.proofs.Gathering.{thread_objects, thread_frames, process_objects, process_frames}
 
 -- what the tables make after the exit
 abbrev pub looked_at : NameTest → Exit → Space → Space
 looked_at a x z = (let y = follow_of a (is_among x.objects.items) z in close_among (length y.frames) (is_place_among x.frames.items) y)
 
-same-count : (a : NameTest) (x : Exit) (z : Space) → close_among (length z.frames) (is_place_among x.frames.items) (follow_of a (is_among x.objects.items) z) ≡ looked_at a x z
-same-count a x z = ap (λ (fs : List Frame). close_among (length fs) (is_place_among x.frames.items) (follow_of a (is_among x.objects.items) z)) (sym (follow-frames a (is_among x.objects.items) z))
+same_count : (a : NameTest) (x : Exit) (z : Space) → close_among (length z.frames) (is_place_among x.frames.items) (follow_of a (is_among x.objects.items) z) ≡ looked_at a x z
+same_count a x z = ap (λ (fs : List Frame). close_among (length fs) (is_place_among x.frames.items) (follow_of a (is_among x.objects.items) z)) (sym (follow_frames a (is_among x.objects.items) z))
 
-names-among : (p q : ℕ) (os : List ObjectId) (o : ObjectId) → p ≡ q → is_among os o ≡ true → names_among p os q o ≡ true
-names-among p q os o is e =
-    let i = any-found (λ (i : ObjectId). same o i) os e in
-    any-in (λ (i : ObjectId). at_name p i q o) i.0 os i.1 (and-both (q == p) (same o i.0) (eq-eqb q p (sym is)) i.2)
+named_among : (p q : ℕ) (os : List ObjectId) (o : ObjectId) → p ≡ q → is_among os o ≡ true → names_among p os q o ≡ true
+named_among p q os o is e =
+    let i = any_found (λ (i : ObjectId). same o i) os e in
+    any_in (λ (i : ObjectId). at_name p i q o) i.0 os i.1 (and_both (q == p) (same o i.0) (eq-eqb q p (sym is)) i.2)
 
-pub thread-exits : (s : Space) (a : Actor) (x : Exit) → IsBy a s → HasThread x s a.thread.seat
+pub thread_exits : (s : Space) (a : Actor) (x : Exit) → IsBy a s → HasThread x s a.thread.seat
     → settle (follow (thread_goes s a.thread.seat)) ≡ looked_at (names_among a.thread.process x.objects.items) x (thread_goes s a.thread.seat)
-thread-exits s a x by has =
+thread_exits s a x by has =
     let seat = a.thread.seat in
-    let here = actor-acts s seat a by.acts in
-    leaving-local s seat by.tidy (names_among a.thread.process x.objects.items) (is_among x.objects.items) (is_place_among x.frames.items)
-    (λ p o e. let n = left-names s seat by.tidy a.thread here.thread here.seat p o e in names-among a.thread.process p x.objects.items o n.0 (thread-objects x s seat has o n.1))
-    (thread-objects x s seat has) (thread-frames x s seat has)
-    ∙ same-count (names_among a.thread.process x.objects.items) x (thread_goes s seat)
+    let here = actor_acts s seat a by.acts in
+    leaving_local s seat by.tidy (names_among a.thread.process x.objects.items) (is_among x.objects.items) (is_place_among x.frames.items)
+    (λ p o e. let n = left_names s seat by.tidy a.thread here.thread here.seat p o e in named_among a.thread.process p x.objects.items o n.0 (thread_objects x s seat has o n.1))
+    (thread_objects x s seat has) (thread_frames x s seat has)
+    ∙ same_count (names_among a.thread.process x.objects.items) x (thread_goes s seat)
 
-pub process-exits : (s : Space) (p : ℕ) (x : Exit) → IsTidy s → HasProcess x s (seats_in s p) p
+pub process_exits : (s : Space) (p : ℕ) (x : Exit) → IsTidy s → HasProcess x s (seats_in s p) p
     → settle (follow (tell_deaths (without_process (threads_go s p) p) p)) ≡ looked_at no_name x (tell_deaths (without_process (threads_go s p) p) p)
-process-exits s p x tidy has =
-    ending-local s p tidy (is_among x.objects.items) (is_place_among x.frames.items) (process-objects x s p has) (process-frames x s p has)
-    ∙ same-count no_name x (tell_deaths (without_process (threads_go s p) p) p)
+process_exits s p x tidy has =
+    ending_local s p tidy (is_among x.objects.items) (is_place_among x.frames.items) (process_objects x s p has) (process_frames x s p has)
+    ∙ same_count no_name x (tell_deaths (without_process (threads_go s p) p) p)
 
 -- ---- the tables
 
-ordered-thread : (s : Space) (seat : ℕ) → IsTidy s → Pairs Earlier (thread_goes s seat).objects
-ordered-thread s seat tidy = subst (Pairs Earlier) (sym (left-parts s seat tidy).objects) tidy.before.objects.kept.in_order
+ordered_thread : (s : Space) (seat : ℕ) → IsTidy s → Pairs Earlier (thread_goes s seat).objects
+ordered_thread s seat tidy = subst (Pairs Earlier) (sym (left_parts s seat tidy).objects) tidy.before.objects.kept.in_order
 
-ordered-process : (s : Space) (p : ℕ) → IsTidy s → Pairs Earlier (tell_deaths (without_process (threads_go s p) p) p).objects
-ordered-process s p tidy = subst (Pairs Earlier) (sym (ended-parts s p tidy).objects) tidy.before.objects.kept.in_order
+ordered_process : (s : Space) (p : ℕ) → IsTidy s → Pairs Earlier (tell_deaths (without_process (threads_go s p) p) p).objects
+ordered_process s p tidy = subst (Pairs Earlier) (sym (ended_parts s p tidy).objects) tidy.before.objects.kept.in_order
 
 -- from the exit to what follows from it
-pub thread-ends : (t u v : Tables) (s : Space) (a : Actor) (x : Exit) (os : List ObjectId) (ms : List ℕ) → os ≡ x.objects.items → ms ≡ x.frames.items → IsBy a s → HasThread x s a.thread.seat
+pub thread_ends : (t u v : Tables) (s : Space) (a : Actor) (x : Exit) (os : List ObjectId) (ms : List ℕ) → os ≡ x.objects.items → ms ≡ x.frames.items → IsBy a s → HasThread x s a.thread.seat
     → Within t (thread_goes s a.thread.seat) → MakesOfOrdered t u (follow_of (names_among a.thread.process os) (is_among os))
     → MakesWithin u v (λ z. close_among (length z.frames) (is_place_among ms) z) → Within v (settle (follow (thread_goes s a.thread.seat)))
-thread-ends t u v s a x os ms e f by has h follows closes =
+thread_ends t u v s a x os ms e f by has h follows closes =
     let z = thread_goes s a.thread.seat in
-    subst (Within v) (sym (thread-exits s a x by has))
+    subst (Within v) (sym (thread_exits s a x by has))
     (subst (λ (ns : List ℕ). Within v (let y = follow_of (names_among a.thread.process x.objects.items) (is_among x.objects.items) z in close_among (length y.frames) (is_place_among ns) y)) f
     (subst (λ (is : List ObjectId). Within v (let y = follow_of (names_among a.thread.process is) (is_among is) z in close_among (length y.frames) (is_place_among ms) y)) e
-    (closes _ (follows z h (ordered-thread s a.thread.seat by.tidy)))))
+    (closes _ (follows z h (ordered_thread s a.thread.seat by.tidy)))))
 
-pub process-ends : (t u v : Tables) (s : Space) (p : ℕ) (x : Exit) (os : List ObjectId) (ms : List ℕ) → os ≡ x.objects.items → ms ≡ x.frames.items → IsTidy s → HasProcess x s (seats_in s p) p
+pub process_ends : (t u v : Tables) (s : Space) (p : ℕ) (x : Exit) (os : List ObjectId) (ms : List ℕ) → os ≡ x.objects.items → ms ≡ x.frames.items → IsTidy s → HasProcess x s (seats_in s p) p
     → Within t (tell_deaths (without_process (threads_go s p) p) p) → MakesOfOrdered t u (follow_of no_name (is_among os))
     → MakesWithin u v (λ z. close_among (length z.frames) (is_place_among ms) z) → Within v (settle (follow (tell_deaths (without_process (threads_go s p) p) p)))
-process-ends t u v s p x os ms e f tidy has h follows closes =
+process_ends t u v s p x os ms e f tidy has h follows closes =
     let z = tell_deaths (without_process (threads_go s p) p) p in
-    subst (Within v) (sym (process-exits s p x tidy has))
+    subst (Within v) (sym (process_exits s p x tidy has))
     (subst (λ (ns : List ℕ). Within v (let y = follow_of no_name (is_among x.objects.items) z in close_among (length y.frames) (is_place_among ns) y)) f
     (subst (λ (is : List ObjectId). Within v (let y = follow_of no_name (is_among is) z in close_among (length y.frames) (is_place_among ms) y)) e
-    (closes _ (follows z h (ordered-process s p tidy)))))
+    (closes _ (follows z h (ordered_process s p tidy)))))

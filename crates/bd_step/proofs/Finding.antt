@@ -16,5 +16,5 @@ module _ {X : Type 0} (p : X → Bool) where
   found_passes (y ∷ ys) x e = first_passes y x (p y) (find p ys) refl (found_passes ys x) e
 
 -- a process that is found is found by its own identity
-pub found-lives : (ps : List Process) (made : ℕ) (q : Process) → process_in ps made ≡ Some q → process_in ps q.made ≡ Some q
-found-lives ps made q e = ap (process_in ps) (eqb-true q.made made (found_passes (λ (x : Process). x.made == made) ps q e)) ∙ e
+pub found_lives : (ps : List Process) (made : ℕ) (q : Process) → process_in ps made ≡ Some q → process_in ps q.made ≡ Some q
+found_lives ps made q e = ap (process_in ps) (eqb-true q.made made (found_passes (λ (x : Process). x.made == made) ps q e)) ∙ e

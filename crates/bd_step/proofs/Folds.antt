@@ -13,11 +13,11 @@ past {A} xs k e = go (slice_get_cases xs k).1
     go (inr (le, is)) = le
 
 module _ {A B : Type 0} (f : B → A → B) (b : B) (xs : List A) (k : ℕ) where
-  pub fold-next : (x : A) → slice_get xs k ≡ Some x → fold f b (take (k + 1) xs) ≡ f (fold f b (take k xs)) x
-  fold-next x e = fold_more f b xs k x (slice_get_within xs k x e) ∙ ap (f (fold f b (take k xs))) (get_or_from_slice_get xs k x x e)
+  pub fold_next : (x : A) → slice_get xs k ≡ Some x → fold f b (take (k + 1) xs) ≡ f (fold f b (take k xs)) x
+  fold_next x e = fold_more f b xs k x (slice_get_within xs k x e) ∙ ap (f (fold f b (take k xs))) (get_or_from_slice_get xs k x x e)
 
-  pub fold-past : slice_get xs k ≡ None → fold f b (take (k + 1) xs) ≡ fold f b (take k xs)
-  fold-past e = let le = past xs k e in ap (fold f b) (take_all (k + 1) xs (omega arith) ∙ sym (take_all k xs le))
+  pub fold_past : slice_get xs k ≡ None → fold f b (take (k + 1) xs) ≡ fold f b (take k xs)
+  fold_past e = let le = past xs k e in ap (fold f b) (take_all (k + 1) xs (omega arith) ∙ sym (take_all k xs le))
 
-  pub fold-all : length xs ≤ k → fold f b (take k xs) ≡ fold f b xs
-  fold-all le = ap (fold f b) (take_all k xs le)
+  pub fold_all : length xs ≤ k → fold f b (take k xs) ≡ fold f b xs
+  fold_all le = ap (fold f b) (take_all k xs le)

@@ -21,21 +21,21 @@ use Rattle.bd_space.specs.Notices.{with_notice, is_name_of, still_due}
 use Rattle.bd_ways.specs.Local.{NameTest, ObjectTest, names_go_of, objects_go_of, deaths_go_of, is_touched, work_goes_of, notify_of, follow_of, at_name, no_name, names_among}
 use Rattle.bd_objects.specs.Deaths.{is_lost}
 use Rattle.bd_laws.specs.Lists.{In}
-use Rattle.bd_laws.proofs.Lists.{in-filter, filter-in, any-found, any-in}
-use Rattle.bd_laws.proofs.Tests.{both, and-both, neither, or-left, or-right, same-eq}
-use Rattle.bd_laws.proofs.Freeing.{any-append}
+use Rattle.bd_laws.proofs.Lists.{in_filter, filter_in, any_found, any_in}
+use Rattle.bd_laws.proofs.Tests.{both, and_both, neither, or_left, or_right, same_eq}
+use Rattle.bd_laws.proofs.Freeing.{any_append}
 use Rattle.bd_step.specs.Following.{deaths_followed, names_followed, notice_stays}
 
 -- ---- lists
 
 module _ {A : Type 0} where
-  pub keeps-all : (p : A → Bool) (xs : List A) → ((x : A) → p x ≡ true) → filter p xs ≡ xs
-  keeps-all p [] h = refl
-  keeps-all p (x ∷ xs) h = rw (h x) (ap (λ ys. x ∷ ys) (keeps-all p xs h))
+  pub keeps_all : (p : A → Bool) (xs : List A) → ((x : A) → p x ≡ true) → filter p xs ≡ xs
+  keeps_all p [] h = refl
+  keeps_all p (x ∷ xs) h = rw (h x) (ap (λ ys. x ∷ ys) (keeps_all p xs h))
 
-  pub keeps-none : (p : A → Bool) (xs : List A) → ((x : A) → In x xs → p x ≡ false) → filter p xs ≡ []
-  keeps-none p [] h = refl
-  keeps-none p (x ∷ xs) h = rw (h x (inl refl)) (keeps-none p xs (λ y l. h y (inr l)))
+  pub keeps_none : (p : A → Bool) (xs : List A) → ((x : A) → In x xs → p x ≡ false) → filter p xs ≡ []
+  keeps_none p [] h = refl
+  keeps_none p (x ∷ xs) h = rw (h x (inl refl)) (keeps_none p xs (λ y l. h y (inr l)))
 
   -- one test after the other
   pub twice : (p q r : A → Bool) (xs : List A) → ((x : A) → p x ≡ (q x && r x)) → filter p xs ≡ filter r (filter q xs)
@@ -46,9 +46,9 @@ module _ {A : Type 0} where
       at true e k = rw (h x, e) (ap (λ ys. cond (r x) (x ∷ ys) ys) k)
       at false e k = rw (h x, e) k
 
-pub no-deaths : (n : ℕ) (ds : List DeathNotification) → list_any (λ (x : DeathNotification). (x.made == n) && false) ds ≡ false
-no-deaths n [] = refl
-no-deaths n (d ∷ ds) = at (d.made == n) (no-deaths n ds)
+pub no_deaths : (n : ℕ) (ds : List DeathNotification) → list_any (λ (x : DeathNotification). (x.made == n) && false) ds ≡ false
+no_deaths n [] = refl
+no_deaths n (d ∷ ds) = at (d.made == n) (no_deaths n ds)
   where
     at : (b : Bool) → list_any (λ (x : DeathNotification). (x.made == n) && false) ds ≡ false → ((b && false) || list_any (λ (x : DeathNotification). (x.made == n) && false) ds) ≡ false
     at true k = k
@@ -57,25 +57,25 @@ no-deaths n (d ∷ ds) = at (d.made == n) (no-deaths n ds)
 -- ---- items of which no name is looked at
 
 -- only a Notice has to be due still
-pub due-as-notice : (b : ObjectTest) (deaths : List DeathNotification) (s : Space) (k : WorkKind)
+pub due_as_notice : (b : ObjectTest) (deaths : List DeathNotification) (s : Space) (k : WorkKind)
     → (not (is_touched no_name b deaths k) || still_due s.processes s.objects s.references deaths k) ≡ notice_stays b s k
-due-as-notice b deaths s (work.Death n) = rw (no-deaths n deaths) refl
-due-as-notice b deaths s _ = refl
+due_as_notice b deaths s (work.Death n) = rw (no_deaths n deaths) refl
+due_as_notice b deaths s _ = refl
 
 -- and where no object is looked at either, all stay
-pub unlooked-stays : (s : Space) (k : WorkKind) → notice_stays (λ i. false) s k ≡ true
-unlooked-stays s (work.Notice i) = refl
-unlooked-stays s _ = refl
+pub unlooked_stays : (s : Space) (k : WorkKind) → notice_stays (λ i. false) s k ≡ true
+unlooked_stays s (work.Notice i) = refl
+unlooked_stays s _ = refl
 
 -- ---- two tests
 
 -- what stays for either stays for both
-pub either-or : (p q n : Bool) → (not (p || q) || n) ≡ ((not p || n) && (not q || n))
-either-or true true true = refl
-either-or true true false = refl
-either-or true false true = refl
-either-or true false false = refl
-either-or false q n = refl
+pub either_or : (p q n : Bool) → (not (p || q) || n) ≡ ((not p || n) && (not q || n))
+either_or true true true = refl
+either_or true true false = refl
+either_or true false true = refl
+either_or true false false = refl
+either_or false q n = refl
 
 -- ---- first at the names
 
@@ -102,32 +102,32 @@ module _ (a : NameTest) (b : ObjectTest) (s : Space) where
       → (not (is_touched a b s.deaths k) || still_due s.processes objects_left s.references deaths_left k)
       ≡ ((not (is_touched a (λ i. false) s.deaths k) || still_due s.processes s.objects s.references deaths_left k)
       && (not (is_touched no_name b deaths_left k) || still_due s.processes objects_left s.references (filter (λ x. true) deaths_left) k))
-  kinds (work.Death n) = rw (no-deaths n deaths_left) (sym (and-true _))
+  kinds (work.Death n) = rw (no_deaths n deaths_left) (sym (and-true _))
   kinds _ = refl
 
-  pub names-first : follow_of a b s ≡ follow_of no_name b (names_followed a s)
+  pub names_first : follow_of a b s ≡ follow_of no_name b (names_followed a s)
   unfolding follow_of notify_of work_goes_of deaths_go_of objects_go_of names_go_of deaths_followed names_followed
-  names-first =
-      ap (λ ns. left ns deaths_left works_left) (sym (keeps-all (λ (m : Name). true) names_left (λ m. refl)))
-      ∙ ap (λ ds. left (filter (λ (m : Name). true) names_left) ds works_left) (sym (keeps-all (λ (d : DeathNotification). true) deaths_left (λ d. refl)))
+  names_first =
+      ap (λ ns. left ns deaths_left works_left) (sym (keeps_all (λ (m : Name). true) names_left (λ m. refl)))
+      ∙ ap (λ ds. left (filter (λ (m : Name). true) names_left) ds works_left) (sym (keeps_all (λ (d : DeathNotification). true) deaths_left (λ d. refl)))
       ∙ ap (left (filter (λ (m : Name). true) names_left) (filter (λ (d : DeathNotification). true) deaths_left)) (twice _ _ _ s.todo (λ w. kinds w.kind))
 
 -- ---- where no notification is lost with the name, none goes
 
-stays-or-lost : (a c n : Bool) → (a && not c && not n) ≡ false → (not a || (c || n)) ≡ true
-stays-or-lost false c n h = refl
-stays-or-lost true true n h = refl
-stays-or-lost true false true h = refl
-stays-or-lost true false false h = absurd (cc)
+stays_or_lost : (a c n : Bool) → (a && not c && not n) ≡ false → (not a || (c || n)) ≡ true
+stays_or_lost false c n h = refl
+stays_or_lost true true n h = refl
+stays_or_lost true false true h = refl
+stays_or_lost true false false h = absurd (cc)
 
 module _ {A : Type 0} (p q : A → Bool) where
-  keeps-others : ((x : A) → q x ≡ false → p x ≡ true) → (xs : List A) → list_any q xs ≡ false → filter p xs ≡ xs
-  keeps-others k [] h = refl
-  keeps-others k (x ∷ xs) h = let e = neither (q x) (list_any q xs) h in rw (k x e.0) (ap (λ ys. x ∷ ys) (keeps-others k xs e.1))
+  keeps_others : ((x : A) → q x ≡ false → p x ≡ true) → (xs : List A) → list_any q xs ≡ false → filter p xs ≡ xs
+  keeps_others k [] h = refl
+  keeps_others k (x ∷ xs) h = let e = neither (q x) (list_any q xs) h in rw (k x e.0) (ap (λ ys. x ∷ ys) (keeps_others k xs e.1))
 
-  fewer-found : (xs : List A) → (not (list_any (λ x. p x && q x) xs) || list_any p xs) ≡ true
-  fewer-found [] = refl
-  fewer-found (x ∷ xs) = at (p x) (fewer-found xs)
+  fewer_found : (xs : List A) → (not (list_any (λ x. p x && q x) xs) || list_any p xs) ≡ true
+  fewer_found [] = refl
+  fewer_found (x ∷ xs) = at (p x) (fewer_found xs)
     where
       at : (b : Bool) → (not (list_any (λ y. p y && q y) xs) || list_any p xs) ≡ true → (not ((b && q x) || list_any (λ y. p y && q y) xs) || (b || list_any p xs)) ≡ true
       at true k = or-true _
@@ -137,29 +137,29 @@ module _ (p : ℕ) (o : ObjectId) (s : Space) where
   abbrev stays : List DeathNotification → WorkKind → Bool
   stays deaths k = not (is_touched (at_name p o) (λ i. false) s.deaths k) || still_due s.processes s.objects s.references deaths k
 
-  all-stay : (k : WorkKind) → stays s.deaths k ≡ true
-  all-stay (work.Death n) = fewer-found (λ (x : DeathNotification). x.made == n) (λ x. at_name p o x.process x.object) s.deaths
-  all-stay _ = refl
+  all_stay : (k : WorkKind) → stays s.deaths k ≡ true
+  all_stay (work.Death n) = fewer_found (λ (x : DeathNotification). x.made == n) (λ x. at_name p o x.process x.object) s.deaths
+  all_stay _ = refl
 
-  pub none-lost : list_any (is_lost s.names p o) s.deaths ≡ false → deaths_followed (at_name p o) s ≡ s
+  pub none_lost : list_any (is_lost s.names p o) s.deaths ≡ false → deaths_followed (at_name p o) s ≡ s
   unfolding deaths_followed work_goes_of deaths_go_of
-  none-lost h =
-      let kept = keeps-others (λ (x : DeathNotification). not (at_name p o x.process x.object) || (x.cleared || is_name_of s.names x.process x.object)) (is_lost s.names p o)
-      (λ x e. stays-or-lost (at_name p o x.process x.object) x.cleared (is_name_of s.names x.process x.object) e) s.deaths h in
+  none_lost h =
+      let kept = keeps_others (λ (x : DeathNotification). not (at_name p o x.process x.object) || (x.cleared || is_name_of s.names x.process x.object)) (is_lost s.names p o)
+      (λ x e. stays_or_lost (at_name p o x.process x.object) x.cleared (is_name_of s.names x.process x.object) e) s.deaths h in
       ap (λ ds. let y : Space = record s { deaths = ds; todo = filter (λ w. stays ds w.kind) s.todo } in y) kept
-      ∙ ap (λ ws. let y : Space = record s { todo = ws } in y) (keeps-all (λ (w : Work). stays s.deaths w.kind) s.todo (λ w. all-stay w.kind))
+      ∙ ap (λ ws. let y : Space = record s { todo = ws } in y) (keeps_all (λ (w : Work). stays s.deaths w.kind) s.todo (λ w. all_stay w.kind))
 
 -- ---- one name more
 
-named-next : (p : ℕ) (os : List ObjectId) (k : ℕ) (d : ObjectId) → k < length os
+named_next : (p : ℕ) (os : List ObjectId) (k : ℕ) (d : ObjectId) → k < length os
     → names_among p (take (k + 1) os) ≡ (λ q i. names_among p (take k os) q i || at_name p (get_or os k d) q i)
-named-next p os k d lt = fun_ext (λ q. fun_ext (λ i.
+named_next p os k d lt = fun_ext (λ q. fun_ext (λ i.
     ap (λ (xs : List ObjectId). names_among p xs q i) (take_more os k d lt)
-    ∙ any-append (λ x. at_name p x q i) (take k os) (get_or os k d ∷ [])
+    ∙ any_append (λ x. at_name p x q i) (take k os) (get_or os k d ∷ [])
     ∙ ap (λ b. names_among p (take k os) q i || b) (or-false (at_name p (get_or os k d) q i))))
 
-pub named-one : (p : ℕ) (o : ObjectId) → names_among p (o ∷ []) ≡ at_name p o
-named-one p o = fun_ext (λ q. fun_ext (λ i. or-false (at_name p o q i)))
+pub named_one : (p : ℕ) (o : ObjectId) → names_among p (o ∷ []) ≡ at_name p o
+named_one p o = fun_ext (λ q. fun_ext (λ i. or-false (at_name p o q i)))
 
 module _ (a b : NameTest) (s : Space) where
   abbrev either : NameTest
@@ -178,32 +178,32 @@ module _ (a b : NameTest) (s : Space) where
   deaths_gone = filter (λ x. not (b x.process x.object) || (x.cleared || is_name_of both_gone x.process x.object)) first_deaths
 
   -- a name that goes at the second look, and was there after the first
-  named-still : (p : ℕ) (o : ObjectId) → b p o ≡ false → is_name_of first p o ≡ true → is_name_of both_gone p o ≡ true
-  named-still p o none has =
-      let m = any-found (λ (m : Name). (m.process == p) && same m.object o) first has in
+  named_still : (p : ℕ) (o : ObjectId) → b p o ≡ false → is_name_of first p o ≡ true → is_name_of both_gone p o ≡ true
+  named_still p o none has =
+      let m = any_found (λ (m : Name). (m.process == p) && same m.object o) first has in
       let t = both (m.0.process == p) (same m.0.object o) m.2 in
-      let at : b m.0.process m.0.object ≡ false = rw (eqb-true m.0.process p t.0, same-eq m.0.object o t.1) none in
-      any-in (λ (m : Name). (m.process == p) && same m.object o) m.0 _
-      (filter-in (λ (m : Name). not (b m.process m.object) || is_named_in s.objects s.references m.process m.object) m.0 first m.1 (rw at refl)) m.2
+      let at : b m.0.process m.0.object ≡ false = rw (eqb-true m.0.process p t.0, same_eq m.0.object o t.1) none in
+      any_in (λ (m : Name). (m.process == p) && same m.object o) m.0 _
+      (filter_in (λ (m : Name). not (b m.process m.object) || is_named_in s.objects s.references m.process m.object) m.0 first m.1 (rw at refl)) m.2
 
-  named-before : (p : ℕ) (o : ObjectId) → is_name_of both_gone p o ≡ true → is_name_of first p o ≡ true
-  named-before p o has =
-      let m = any-found (λ (m : Name). (m.process == p) && same m.object o) both_gone has in
-      any-in (λ (m : Name). (m.process == p) && same m.object o) m.0 first
-      (in-filter (λ (m : Name). not (b m.process m.object) || is_named_in s.objects s.references m.process m.object) m.0 first m.1).0 m.2
+  named_before : (p : ℕ) (o : ObjectId) → is_name_of both_gone p o ≡ true → is_name_of first p o ≡ true
+  named_before p o has =
+      let m = any_found (λ (m : Name). (m.process == p) && same m.object o) both_gone has in
+      any_in (λ (m : Name). (m.process == p) && same m.object o) m.0 first
+      (in_filter (λ (m : Name). not (b m.process m.object) || is_named_in s.objects s.references m.process m.object) m.0 first m.1).0 m.2
 
-  death-stays : (p q c n m : Bool) → (m ≡ true → n ≡ true) → (q ≡ false → n ≡ true → m ≡ true) → (not (p || q) || (c || m)) ≡ ((not p || (c || n)) && (not q || (c || m)))
-  death-stays false q c n m h k = refl
-  death-stays true true true n m h k = refl
-  death-stays true true false true true h k = refl
-  death-stays true true false true false h k = refl
-  death-stays true true false false false h k = refl
-  death-stays true true false false true h k = absurd (let no = h refl in cc)
-  death-stays true false true n m h k = refl
-  death-stays true false false true true h k = refl
-  death-stays true false false true false h k = absurd (let no = k refl refl in cc)
-  death-stays true false false false true h k = absurd (let no = h refl in cc)
-  death-stays true false false false false h k = refl
+  death_stays : (p q c n m : Bool) → (m ≡ true → n ≡ true) → (q ≡ false → n ≡ true → m ≡ true) → (not (p || q) || (c || m)) ≡ ((not p || (c || n)) && (not q || (c || m)))
+  death_stays false q c n m h k = refl
+  death_stays true true true n m h k = refl
+  death_stays true true false true true h k = refl
+  death_stays true true false true false h k = refl
+  death_stays true true false false false h k = refl
+  death_stays true true false false true h k = absurd (let no = h refl in cc)
+  death_stays true false true n m h k = refl
+  death_stays true false false true true h k = refl
+  death_stays true false false true false h k = absurd (let no = k refl refl in cc)
+  death_stays true false false false true h k = absurd (let no = h refl in cc)
+  death_stays true false false false false h k = refl
 
   abbrev made_at : ℕ → DeathNotification → Bool
   made_at n x = x.made == n
@@ -212,82 +212,82 @@ module _ (a b : NameTest) (s : Space) where
   abbrev looked : NameTest → List DeathNotification → ℕ → Bool
   looked c ds n = list_any (λ x. (x.made == n) && c x.process x.object) ds
 
-  item-stays : (ab a1 b1 d1 d2 : Bool) → (d2 ≡ true → d1 ≡ true) → (a1 ≡ true → ab ≡ true) → (b1 ≡ true → ab ≡ true) → (b1 ≡ false → d1 ≡ true → d2 ≡ true) → (ab ≡ true → a1 ≡ false → b1 ≡ true)
+  item_stays : (ab a1 b1 d1 d2 : Bool) → (d2 ≡ true → d1 ≡ true) → (a1 ≡ true → ab ≡ true) → (b1 ≡ true → ab ≡ true) → (b1 ≡ false → d1 ≡ true → d2 ≡ true) → (ab ≡ true → a1 ≡ false → b1 ≡ true)
       → (not ab || d2) ≡ ((not a1 || d1) && (not b1 || d2))
-  item-stays false true b1 d1 d2 f1 f2 f3 f4 f5 = absurd (let no = f2 refl in cc)
-  item-stays false false true d1 d2 f1 f2 f3 f4 f5 = absurd (let no = f3 refl in cc)
-  item-stays false false false d1 d2 f1 f2 f3 f4 f5 = refl
-  item-stays true true b1 false true f1 f2 f3 f4 f5 = absurd (let no = f1 refl in cc)
-  item-stays true true b1 false false f1 f2 f3 f4 f5 = refl
-  item-stays true true true true d2 f1 f2 f3 f4 f5 = refl
-  item-stays true true false true true f1 f2 f3 f4 f5 = refl
-  item-stays true true false true false f1 f2 f3 f4 f5 = absurd (let no = f4 refl refl in cc)
-  item-stays true false true d1 d2 f1 f2 f3 f4 f5 = refl
-  item-stays true false false d1 d2 f1 f2 f3 f4 f5 = absurd (let no = f5 refl refl in cc)
+  item_stays false true b1 d1 d2 f1 f2 f3 f4 f5 = absurd (let no = f2 refl in cc)
+  item_stays false false true d1 d2 f1 f2 f3 f4 f5 = absurd (let no = f3 refl in cc)
+  item_stays false false false d1 d2 f1 f2 f3 f4 f5 = refl
+  item_stays true true b1 false true f1 f2 f3 f4 f5 = absurd (let no = f1 refl in cc)
+  item_stays true true b1 false false f1 f2 f3 f4 f5 = refl
+  item_stays true true true true d2 f1 f2 f3 f4 f5 = refl
+  item_stays true true false true true f1 f2 f3 f4 f5 = refl
+  item_stays true true false true false f1 f2 f3 f4 f5 = absurd (let no = f4 refl refl in cc)
+  item_stays true false true d1 d2 f1 f2 f3 f4 f5 = refl
+  item_stays true false false d1 d2 f1 f2 f3 f4 f5 = absurd (let no = f5 refl refl in cc)
 
-  abbrev a-stays : DeathNotification → Bool
-  a-stays x = not (a x.process x.object) || (x.cleared || is_name_of first x.process x.object)
+  abbrev a_stays : DeathNotification → Bool
+  a_stays x = not (a x.process x.object) || (x.cleared || is_name_of first x.process x.object)
 
-  abbrev b-stays : DeathNotification → Bool
-  b-stays x = not (b x.process x.object) || (x.cleared || is_name_of both_gone x.process x.object)
+  abbrev b_stays : DeathNotification → Bool
+  b_stays x = not (b x.process x.object) || (x.cleared || is_name_of both_gone x.process x.object)
 
-  split-or : (p q : Bool) → (p || q) ≡ true → p ≡ false → q ≡ true
-  split-or true q h e = absurd (cc)
-  split-or false q h e = h
+  split_or : (p q : Bool) → (p || q) ≡ true → p ≡ false → q ≡ true
+  split_or true q h e = absurd (cc)
+  split_or false q h e = h
 
-  kinds-then : (k : WorkKind) → (not (is_touched either (λ i. false) s.deaths k) || still_due s.processes s.objects s.references deaths_gone k)
+  kinds_then : (k : WorkKind) → (not (is_touched either (λ i. false) s.deaths k) || still_due s.processes s.objects s.references deaths_gone k)
       ≡ ((not (is_touched a (λ i. false) s.deaths k) || still_due s.processes s.objects s.references first_deaths k)
       && (not (is_touched b (λ i. false) first_deaths k) || still_due s.processes s.objects s.references deaths_gone k))
-  kinds-then (work.Death n) = item-stays (looked either s.deaths n) (looked a s.deaths n) (looked b first_deaths n) (list_any (made_at n) first_deaths) (list_any (made_at n) deaths_gone)
-      (λ e. let x = any-found (made_at n) deaths_gone e in any-in (made_at n) x.0 first_deaths (in-filter b-stays x.0 first_deaths x.1).0 x.2)
-      (λ e. let x = any-found (λ (x : DeathNotification). (x.made == n) && a x.process x.object) s.deaths e in
+  kinds_then (work.Death n) = item_stays (looked either s.deaths n) (looked a s.deaths n) (looked b first_deaths n) (list_any (made_at n) first_deaths) (list_any (made_at n) deaths_gone)
+      (λ e. let x = any_found (made_at n) deaths_gone e in any_in (made_at n) x.0 first_deaths (in_filter b_stays x.0 first_deaths x.1).0 x.2)
+      (λ e. let x = any_found (λ (x : DeathNotification). (x.made == n) && a x.process x.object) s.deaths e in
       let t = both (x.0.made == n) (a x.0.process x.0.object) x.2 in
-      any-in (λ (x : DeathNotification). (x.made == n) && (a x.process x.object || b x.process x.object)) x.0 s.deaths x.1 (and-both _ _ t.0 (or-left _ _ t.1)))
-      (λ e. let x = any-found (λ (x : DeathNotification). (x.made == n) && b x.process x.object) first_deaths e in
+      any_in (λ (x : DeathNotification). (x.made == n) && (a x.process x.object || b x.process x.object)) x.0 s.deaths x.1 (and_both _ _ t.0 (or_left _ _ t.1)))
+      (λ e. let x = any_found (λ (x : DeathNotification). (x.made == n) && b x.process x.object) first_deaths e in
       let t = both (x.0.made == n) (b x.0.process x.0.object) x.2 in
-      any-in (λ (x : DeathNotification). (x.made == n) && (a x.process x.object || b x.process x.object)) x.0 s.deaths (in-filter a-stays x.0 s.deaths x.1).0 (and-both _ _ t.0 (or-right _ _ t.1)))
-      (λ none e. let x = any-found (made_at n) first_deaths e in
-      any-in (made_at n) x.0 deaths_gone (filter-in b-stays x.0 first_deaths x.1 (untouched x.0 n x.1 x.2 none (b x.0.process x.0.object) refl)) x.2)
-      (λ e none. let x = any-found (λ (x : DeathNotification). (x.made == n) && (a x.process x.object || b x.process x.object)) s.deaths e in
+      any_in (λ (x : DeathNotification). (x.made == n) && (a x.process x.object || b x.process x.object)) x.0 s.deaths (in_filter a_stays x.0 s.deaths x.1).0 (and_both _ _ t.0 (or_right _ _ t.1)))
+      (λ none e. let x = any_found (made_at n) first_deaths e in
+      any_in (made_at n) x.0 deaths_gone (filter_in b_stays x.0 first_deaths x.1 (untouched x.0 n x.1 x.2 none (b x.0.process x.0.object) refl)) x.2)
+      (λ e none. let x = any_found (λ (x : DeathNotification). (x.made == n) && (a x.process x.object || b x.process x.object)) s.deaths e in
       let t = both (x.0.made == n) (a x.0.process x.0.object || b x.0.process x.0.object) x.2 in
       missed x.0 n x.1 t.0 t.1 none (a x.0.process x.0.object) refl)
     where
-      untouched : (x : DeathNotification) (n : ℕ) → In x first_deaths → (x.made == n) ≡ true → looked b first_deaths n ≡ false → (c : Bool) → b x.process x.object ≡ c → b-stays x ≡ true
-      untouched x n l m none true e = let some = any-in (λ (x : DeathNotification). (x.made == n) && b x.process x.object) x first_deaths l (and-both _ _ m e) in absurd (cc)
+      untouched : (x : DeathNotification) (n : ℕ) → In x first_deaths → (x.made == n) ≡ true → looked b first_deaths n ≡ false → (c : Bool) → b x.process x.object ≡ c → b_stays x ≡ true
+      untouched x n l m none true e = let some = any_in (λ (x : DeathNotification). (x.made == n) && b x.process x.object) x first_deaths l (and_both _ _ m e) in absurd (cc)
       untouched x n l m none false e = rw e refl
 
       missed : (x : DeathNotification) (n : ℕ) → In x s.deaths → (x.made == n) ≡ true → (a x.process x.object || b x.process x.object) ≡ true → looked a s.deaths n ≡ false
           → (c : Bool) → a x.process x.object ≡ c → looked b first_deaths n ≡ true
-      missed x n l m h none true e = let some = any-in (λ (x : DeathNotification). (x.made == n) && a x.process x.object) x s.deaths l (and-both _ _ m e) in absurd (cc)
+      missed x n l m h none true e = let some = any_in (λ (x : DeathNotification). (x.made == n) && a x.process x.object) x s.deaths l (and_both _ _ m e) in absurd (cc)
       missed x n l m h none false e =
-          any-in (λ (x : DeathNotification). (x.made == n) && b x.process x.object) x first_deaths (filter-in a-stays x s.deaths l (rw e refl)) (and-both _ _ m (split-or _ _ h e))
-  kinds-then _ = refl
+          any_in (λ (x : DeathNotification). (x.made == n) && b x.process x.object) x first_deaths (filter_in a_stays x s.deaths l (rw e refl)) (and_both _ _ m (split_or _ _ h e))
+  kinds_then _ = refl
 
   abbrev out : List Name → List DeathNotification → List Work → Space
   out names deaths todo = record s { names = names; deaths = deaths; todo = todo }
 
-  pub names-then : names_followed b (names_followed a s) ≡ names_followed (λ q i. a q i || b q i) s
+  pub names_then : names_followed b (names_followed a s) ≡ names_followed (λ q i. a q i || b q i) s
   unfolding names_followed deaths_followed work_goes_of deaths_go_of names_go_of
-  names-then =
+  names_then =
       let deaths_if = λ (ns : List Name). filter (λ (x : DeathNotification). not (either x.process x.object) || (x.cleared || is_name_of ns x.process x.object)) s.deaths in
       let todo_if = λ (ds : List DeathNotification). filter (λ (w : Work). not (is_touched either (λ i. false) s.deaths w.kind) || still_due s.processes s.objects s.references ds w.kind) s.todo in
-      sym (ap (λ ns. out ns (deaths_if ns) (todo_if (deaths_if ns))) (twice _ _ _ s.names (λ m. either-or (a m.process m.object) (b m.process m.object) (is_named_in s.objects s.references m.process m.object)))
-      ∙ ap (λ ds. out both_gone ds (todo_if ds)) (twice _ _ _ s.deaths (λ x. death-stays (a x.process x.object) (b x.process x.object) x.cleared _ _ (named-before x.process x.object) (named-still x.process x.object)))
-      ∙ ap (out both_gone deaths_gone) (twice _ _ _ s.todo (λ w. kinds-then w.kind)))
+      sym (ap (λ ns. out ns (deaths_if ns) (todo_if (deaths_if ns))) (twice _ _ _ s.names (λ m. either_or (a m.process m.object) (b m.process m.object) (is_named_in s.objects s.references m.process m.object)))
+      ∙ ap (λ ds. out both_gone ds (todo_if ds)) (twice _ _ _ s.deaths (λ x. death_stays (a x.process x.object) (b x.process x.object) x.cleared _ _ (named_before x.process x.object) (named_still x.process x.object)))
+      ∙ ap (out both_gone deaths_gone) (twice _ _ _ s.todo (λ w. kinds_then w.kind)))
 
-pub names-next : (p : ℕ) (os : List ObjectId) (k : ℕ) (d : ObjectId) (s : Space) → k < length os
+pub names_next : (p : ℕ) (os : List ObjectId) (k : ℕ) (d : ObjectId) (s : Space) → k < length os
     → names_followed (at_name p (get_or os k d)) (names_followed (names_among p (take k os)) s) ≡ names_followed (names_among p (take (k + 1) os)) s
-names-next p os k d s lt = names-then (names_among p (take k os)) (at_name p (get_or os k d)) s ∙ ap (λ a. names_followed a s) (sym (named-next p os k d lt))
+names_next p os k d s lt = names_then (names_among p (take k os)) (at_name p (get_or os k d)) s ∙ ap (λ a. names_followed a s) (sym (named_next p os k d lt))
 
-pub names-none : (p : ℕ) (s : Space) → names_followed (names_among p []) s ≡ s
+pub names_none : (p : ℕ) (s : Space) → names_followed (names_among p []) s ≡ s
 unfolding names_followed deaths_followed work_goes_of deaths_go_of names_go_of
-names-none p s =
+names_none p s =
     let still = λ (ds : List DeathNotification). filter (λ (w : Work). not (is_touched (names_among p []) (λ i. false) s.deaths w.kind) || still_due s.processes s.objects s.references ds w.kind) s.todo in
     ap (λ (ns : List Name). let z : Space = record s { names = ns; deaths = filter (λ (d : DeathNotification). true) s.deaths; todo = still (filter (λ (d : DeathNotification). true) s.deaths) } in z)
-    (keeps-all (λ (m : Name). true) s.names (λ m. refl))
-    ∙ ap (λ (ds : List DeathNotification). let z : Space = record s { deaths = ds; todo = still ds } in z) (keeps-all (λ (d : DeathNotification). true) s.deaths (λ d. refl))
-    ∙ ap (λ (ws : List Work). let z : Space = record s { todo = ws } in z) (keeps-all _ s.todo (λ w. due-as-notice (λ i. false) s.deaths s w.kind ∙ unlooked-stays s w.kind))
+    (keeps_all (λ (m : Name). true) s.names (λ m. refl))
+    ∙ ap (λ (ds : List DeathNotification). let z : Space = record s { deaths = ds; todo = still ds } in z) (keeps_all (λ (d : DeathNotification). true) s.deaths (λ d. refl))
+    ∙ ap (λ (ws : List Work). let z : Space = record s { todo = ws } in z) (keeps_all _ s.todo (λ w. due_as_notice (λ i. false) s.deaths s w.kind ∙ unlooked_stays s w.kind))
 
-pub followed-objects : (a : NameTest) (s : Space) → (names_followed a s).objects ≡ s.objects
+pub followed_objects : (a : NameTest) (s : Space) → (names_followed a s).objects ≡ s.objects
 unfolding names_followed deaths_followed work_goes_of deaths_go_of names_go_of
-followed-objects a s = refl
+followed_objects a s = refl

@@ -26,45 +26,45 @@ use Rattle.bd_space.specs.Notices.{wants_notice, has_notice_in, with_notice, sti
 use Rattle.bd_ways.specs.Local.{ObjectTest, names_go_of, objects_go_of, deaths_go_of, is_touched, work_goes_of, notify_of, follow_of, no_name, at_object, is_among, objects_of_items}
 use Rattle.bd_laws.specs.Lists.{In, Pairs}
 use Rattle.bd_laws.specs.Objects.{is_earlier, Earlier, NotLater}
-use Rattle.bd_laws.proofs.Lists.{in-last, in-filter, any-found, any-in, pairs-filter}
-use Rattle.bd_laws.proofs.Tests.{same-eq, eq-same}
-use Rattle.bd_laws.proofs.Earlier.{never-earlier}
-use Rattle.bd_laws.proofs.Follow.{filter-same, find-kept}
-use Rattle.bd_laws.proofs.Freeing.{any-append}
+use Rattle.bd_laws.proofs.Lists.{in_last, in_filter, any_found, any_in, pairs_filter}
+use Rattle.bd_laws.proofs.Tests.{same_eq, eq_same}
+use Rattle.bd_laws.proofs.Earlier.{never_earlier}
+use Rattle.bd_laws.proofs.Follow.{filter_same, find_kept}
+use Rattle.bd_laws.proofs.Freeing.{any_append}
 use Rattle.bd_step.specs.Following.{notice_stays, shed_of, told_at, told_of, followed_at}
-use Rattle.bd_step.proofs.Following.{keeps-all, keeps-none, twice, either-or, due-as-notice, unlooked-stays}
+use Rattle.bd_step.proofs.Following.{keeps_all, keeps_none, twice, either_or, due_as_notice, unlooked_stays}
 
 -- ---- one object more
 
-among-next : (os : List ObjectId) (k : ℕ) (d : ObjectId) → k < length os
+among_next : (os : List ObjectId) (k : ℕ) (d : ObjectId) → k < length os
     → is_among (take (k + 1) os) ≡ (λ i. is_among (take k os) i || at_object (get_or os k d) i)
-among-next os k d lt = fun_ext (λ i.
+among_next os k d lt = fun_ext (λ i.
     ap (λ (xs : List ObjectId). is_among xs i) (take_more os k d lt)
-    ∙ any-append (λ x. at_object x i) (take k os) (get_or os k d ∷ [])
+    ∙ any_append (λ x. at_object x i) (take k os) (get_or os k d ∷ [])
     ∙ ap (λ b. is_among (take k os) i || b) (or-false (at_object (get_or os k d) i)))
 
-pub among-one : (o : ObjectId) → is_among (o ∷ []) ≡ at_object o
-among-one o = fun_ext (λ i. or-false (at_object o i))
+pub among_one : (o : ObjectId) → is_among (o ∷ []) ≡ at_object o
+among_one o = fun_ext (λ i. or-false (at_object o i))
 
 -- the objects of a parcel, and those of whose Notices these are
-pub among-items : (items : List Item) → is_among (map object_of_item items) ≡ objects_of_items items
-among-items items = fun_ext (λ o. each o items)
+pub among_items : (items : List Item) → is_among (map object_of_item items) ≡ objects_of_items items
+among_items items = fun_ext (λ o. each o items)
   where
     sides : (a b : ObjectId) → same a b ≡ same b a
     sides a b = at (same a b) refl (same b a) refl
       where
         at : (c : Bool) → same a b ≡ c → (d : Bool) → same b a ≡ d → c ≡ d
         at true e true f = refl
-        at true e false f = let yes_it = eq-same b a (sym (same-eq a b e)) in absurd (cc)
-        at false e true f = let yes_it = eq-same a b (sym (same-eq b a f)) in absurd (cc)
+        at true e false f = let yes_it = eq_same b a (sym (same_eq a b e)) in absurd (cc)
+        at false e true f = let yes_it = eq_same a b (sym (same_eq b a f)) in absurd (cc)
         at false e false f = refl
 
     each : (o : ObjectId) (items : List Item) → is_among (map object_of_item items) o ≡ objects_of_items items o
     each o [] = refl
     each o (x ∷ xs) = ap (λ b. b || is_among (map object_of_item xs) o) (sides o x.object) ∙ ap (λ b. same x.object o || b) (each o xs)
 
-pub among-noticed : (ws : List Work) → is_among (filter_map (λ w. notice_of w.kind) ws) ≡ is_told_by ws
-among-noticed ws = fun_ext (λ o. each o ws)
+pub among_noticed : (ws : List Work) → is_among (filter_map (λ w. notice_of w.kind) ws) ≡ is_told_by ws
+among_noticed ws = fun_ext (λ o. each o ws)
   where
     each : (o : ObjectId) (ws : List Work) → is_among (filter_map (λ w. notice_of w.kind) ws) o ≡ is_told_by ws o
     each o [] = refl
@@ -88,74 +88,74 @@ module _ (b c : ObjectTest) (s : Space) where
   either o = b o || c o
 
   -- where the later test leaves what the earlier one found
-  either-found : (p q n m : Bool) → (p ≡ true → m ≡ n) → (not (p || q) || m) ≡ ((not p || n) && (not q || m))
-  either-found true true true m e = e refl ∙ sym (e refl)
-  either-found true true false m e = e refl
-  either-found true false true m e = e refl
-  either-found true false false m e = e refl
-  either-found false q n m e = refl
+  either_found : (p q n m : Bool) → (p ≡ true → m ≡ n) → (not (p || q) || m) ≡ ((not p || n) && (not q || m))
+  either_found true true true m e = e refl ∙ sym (e refl)
+  either_found true true false m e = e refl
+  either_found true false true m e = e refl
+  either_found true false false m e = e refl
+  either_found false q n m e = refl
 
   wants : Object → Bool
   wants x = wants_notice s.processes s.references x
 
-  stays-if : (p n : Bool) → (not p || n) ≡ true → p ≡ true → n ≡ true
-  stays-if true n h e = h
-  stays-if false n h e = absurd (cc)
+  stays_if : (p n : Bool) → (not p || n) ≡ true → p ≡ true → n ≡ true
+  stays_if true n h e = h
+  stays_if false n h e = absurd (cc)
 
   -- those that stay for the first test aren't lost by the second
-  found-still : (o : ObjectId) → b o ≡ true → object_in both_gone o ≡ object_in first o
-  found-still o e = find-kept (λ (x : Object). same x.id o) (λ (x : Object). not (c x.id) || stays_in s.processes s.references x) first
+  found_still : (o : ObjectId) → b o ≡ true → object_in both_gone o ≡ object_in first o
+  found_still o e = find_kept (λ (x : Object). same x.id o) (λ (x : Object). not (c x.id) || stays_in s.processes s.references x) first
       (λ x l is.
-      let stays = stays-if (b x.id) _ (in-filter (λ (x : Object). not (b x.id) || stays_in s.processes s.references x) x s.objects l).1 (ap b (same-eq x.id o is) ∙ e) in
+      let stays = stays_if (b x.id) _ (in_filter (λ (x : Object). not (b x.id) || stays_in s.processes s.references x) x s.objects l).1 (ap b (same_eq x.id o is) ∙ e) in
       rw stays (or-true (not (c x.id))))
 
   abbrev left : List Object → List Work → Space
   left objects todo = record s { objects = objects; todo = todo }
 
   kinds : (k : WorkKind) → notice_stays either (left both_gone s.todo) k ≡ (notice_stays b (left first s.todo) k && notice_stays c (left both_gone s.todo) k)
-  kinds (work.Notice o) = either-found (b o) (c o) _ _ (λ e. ap (λ (f : Option Object). is_some_and f (wants_notice s.processes s.references)) (found-still o e))
+  kinds (work.Notice o) = either_found (b o) (c o) _ _ (λ e. ap (λ (f : Option Object). is_some_and f (wants_notice s.processes s.references)) (found_still o e))
   kinds _ = refl
 
-  pub shed-then : shed_of c (shed_of b s) ≡ shed_of (λ o. b o || c o) s
+  pub shed_then : shed_of c (shed_of b s) ≡ shed_of (λ o. b o || c o) s
   unfolding shed_of objects_go_of
-  shed-then =
-      sym (ap (λ os. left os (filter (λ (w : Work). notice_stays either (left os s.todo) w.kind) s.todo)) (twice _ _ _ s.objects (λ x. either-or (b x.id) (c x.id) (stays_in s.processes s.references x)))
+  shed_then =
+      sym (ap (λ os. left os (filter (λ (w : Work). notice_stays either (left os s.todo) w.kind) s.todo)) (twice _ _ _ s.objects (λ x. either_or (b x.id) (c x.id) (stays_in s.processes s.references x)))
       ∙ ap (left both_gone) (twice _ _ _ s.todo (λ w. kinds w.kind)))
 
-pub shed-next : (os : List ObjectId) (k : ℕ) (d : ObjectId) (s : Space) → k < length os
+pub shed_next : (os : List ObjectId) (k : ℕ) (d : ObjectId) (s : Space) → k < length os
     → shed_of (at_object (get_or os k d)) (shed_of (is_among (take k os)) s) ≡ shed_of (is_among (take (k + 1) os)) s
-shed-next os k d s lt = shed-then (is_among (take k os)) (at_object (get_or os k d)) s ∙ ap (λ b. shed_of b s) (sym (among-next os k d lt))
+shed_next os k d s lt = shed_then (is_among (take k os)) (at_object (get_or os k d)) s ∙ ap (λ b. shed_of b s) (sym (among_next os k d lt))
 
-pub shed-none : (s : Space) → shed_of (is_among []) s ≡ s
+pub shed_none : (s : Space) → shed_of (is_among []) s ≡ s
 unfolding shed_of objects_go_of
-shed-none s =
+shed_none s =
     ap (λ (os : List Object). let z : Space = record s { objects = os; todo = filter (λ (w : Work). notice_stays (is_among []) (record s { objects = os }) w.kind) s.todo } in z)
-    (keeps-all (λ (x : Object). true) s.objects (λ x. refl))
-    ∙ ap (λ (ws : List Work). let z : Space = record s { todo = ws } in z) (keeps-all (λ (w : Work). notice_stays (is_among []) s w.kind) s.todo (λ w. unlooked-stays s w.kind))
+    (keeps_all (λ (x : Object). true) s.objects (λ x. refl))
+    ∙ ap (λ (ws : List Work). let z : Space = record s { todo = ws } in z) (keeps_all (λ (w : Work). notice_stays (is_among []) s w.kind) s.todo (λ w. unlooked_stays s w.kind))
 
 module _ (o : ObjectId) (s : Space) where
   abbrev here : Space
   here = objects_go_of (at_object o) s
 
   -- its Notice stays exactly while its owner is to be told, and the others stay
-  kinds-stay : (b : Bool) → is_some_and (object_in here.objects o) (wants_notice s.processes s.references) ≡ b → (k : WorkKind) → notice_stays (at_object o) here k ≡ (b || not (is_notice o k))
+  kinds_stay : (b : Bool) → is_some_and (object_in here.objects o) (wants_notice s.processes s.references) ≡ b → (k : WorkKind) → notice_stays (at_object o) here k ≡ (b || not (is_notice o k))
   unfolding objects_go_of
-  kinds-stay b e (work.Notice i) = at (same i o) refl
+  kinds_stay b e (work.Notice i) = at (same i o) refl
     where
       at : (c : Bool) → same i o ≡ c → (not c || is_some_and (object_in here.objects i) (wants_notice s.processes s.references)) ≡ (b || not c)
-      at true j = ap (λ (q : ObjectId). is_some_and (object_in here.objects q) (wants_notice s.processes s.references)) (same-eq i o j) ∙ e ∙ sym (or-false b)
+      at true j = ap (λ (q : ObjectId). is_some_and (object_in here.objects q) (wants_notice s.processes s.references)) (same_eq i o j) ∙ e ∙ sym (or-false b)
       at false j = sym (or-true b)
-  kinds-stay b e _ = sym (or-true b)
+  kinds_stay b e _ = sym (or-true b)
 
-  pub shed-wanted : is_some_and (object_in here.objects o) (wants_notice s.processes s.references) ≡ true → shed_of (at_object o) s ≡ here
+  pub shed_wanted : is_some_and (object_in here.objects o) (wants_notice s.processes s.references) ≡ true → shed_of (at_object o) s ≡ here
   unfolding shed_of objects_go_of
-  shed-wanted e = ap (λ (ws : List Work). let z : Space = record here { todo = ws } in z) (keeps-all (λ (w : Work). notice_stays (at_object o) here w.kind) s.todo (λ w. kinds-stay true e w.kind))
+  shed_wanted e = ap (λ (ws : List Work). let z : Space = record here { todo = ws } in z) (keeps_all (λ (w : Work). notice_stays (at_object o) here w.kind) s.todo (λ w. kinds_stay true e w.kind))
 
-  pub shed-unwanted : is_some_and (object_in here.objects o) (wants_notice s.processes s.references) ≡ false
+  pub shed_unwanted : is_some_and (object_in here.objects o) (wants_notice s.processes s.references) ≡ false
       → shed_of (at_object o) s ≡ record here { todo = filter (λ w. not (is_notice o w.kind)) here.todo }
   unfolding shed_of objects_go_of
-  shed-unwanted e = ap (λ (ws : List Work). let z : Space = record here { todo = ws } in z)
-      (filter_agree (λ (w : Work). notice_stays (at_object o) here w.kind) (λ w. not (is_notice o w.kind)) (λ w. kinds-stay false e w.kind) s.todo)
+  shed_unwanted e = ap (λ (ws : List Work). let z : Space = record here { todo = ws } in z)
+      (filter_agree (λ (w : Work). notice_stays (at_object o) here w.kind) (λ w. not (is_notice o w.kind)) (λ w. kinds_stay false e w.kind) s.todo)
 
 -- ---- the Notices that are missing
 
@@ -164,11 +164,11 @@ module _ (s : Space) where
   tell todo x = with_notice s.steps s.processes s.references (OfProcess x.owner) todo x
 
   -- a Notice that stands isn't made again
-  told-twice : (todo : List Work) (x : Object) → tell (tell todo x) x ≡ tell todo x
-  told-twice todo x = at (wants_notice s.processes s.references x) (has_notice_in todo x.id) refl
+  told_twice : (todo : List Work) (x : Object) → tell (tell todo x) x ≡ tell todo x
+  told_twice todo x = at (wants_notice s.processes s.references x) (has_notice_in todo x.id) refl
     where
       made : has_notice_in (with_work s.steps todo (OfProcess x.owner) (work.Notice x.id)) x.id ≡ true
-      made = any-in (λ (w : Work). is_notice x.id w.kind) _ (with_work s.steps todo (OfProcess x.owner) (work.Notice x.id)) (in-last _ todo) (eq-same x.id x.id refl)
+      made = any_in (λ (w : Work). is_notice x.id w.kind) _ (with_work s.steps todo (OfProcess x.owner) (work.Notice x.id)) (in_last _ todo) (eq_same x.id x.id refl)
 
       at : (c d : Bool) → has_notice_in todo x.id ≡ d
           → (let once : List Work = cond (c && not d) (with_work s.steps todo (OfProcess x.owner) (work.Notice x.id)) todo in
@@ -179,85 +179,85 @@ module _ (s : Space) where
 
   module _ (o : ObjectId) (q : ObjectTest) (after : (i : ObjectId) → q i ≡ true → is_earlier i o ≡ false) where
     -- none of these is o, so that only the others' test counts
-    none-at : (xs : List Object) → ((x : Object) → In x xs → same x.id o ≡ false) → (todo : List Work)
+    none_at : (xs : List Object) → ((x : Object) → In x xs → same x.id o ≡ false) → (todo : List Work)
         → fold tell todo (filter (λ x. same x.id o || q x.id) xs) ≡ fold tell (fold tell todo (filter (λ x. same x.id o) xs)) (filter (λ x. q x.id) xs)
-    none-at xs none todo =
-        ap (fold tell todo) (filter-same _ _ xs (λ x l. rw (none x l) refl))
-        ∙ ap (λ ys. fold tell (fold tell todo ys) (filter (λ (x : Object). q x.id) xs)) (sym (keeps-none (λ (x : Object). same x.id o) xs none))
+    none_at xs none todo =
+        ap (fold tell todo) (filter_same _ _ xs (λ x l. rw (none x l) refl))
+        ∙ ap (λ ys. fold tell (fold tell todo ys) (filter (λ (x : Object). q x.id) xs)) (sym (keeps_none (λ (x : Object). same x.id o) xs none))
 
-    later-others : (x : Object) (xs : List Object) → ((y : Object) → In y xs → Earlier x y) → is_earlier x.id o ≡ false → (y : Object) → In y xs → same y.id o ≡ false
-    later-others x xs later none y l = at (same y.id o) refl
+    later_others : (x : Object) (xs : List Object) → ((y : Object) → In y xs → Earlier x y) → is_earlier x.id o ≡ false → (y : Object) → In y xs → same y.id o ≡ false
+    later_others x xs later none y l = at (same y.id o) refl
       where
         at : (b : Bool) → same y.id o ≡ b → b ≡ false
-        at true e = let lt = subst (λ i. is_earlier x.id i ≡ true) (same-eq y.id o e) (later y l) in absurd (cc)
+        at true e = let lt = subst (λ i. is_earlier x.id i ≡ true) (same_eq y.id o e) (later y l) in absurd (cc)
         at false e = refl
 
     -- o's object stands before those of later ones
-    told-split : (xs : List Object) → Pairs Earlier xs → (todo : List Work)
+    told_split : (xs : List Object) → Pairs Earlier xs → (todo : List Work)
         → fold tell todo (filter (λ x. same x.id o || q x.id) xs) ≡ fold tell (fold tell todo (filter (λ x. same x.id o) xs)) (filter (λ x. q x.id) xs)
-    told-split [] h todo = refl
-    told-split (x ∷ xs) h todo = at (same x.id o) refl (q x.id) refl (told-split xs h.1 todo)
+    told_split [] h todo = refl
+    told_split (x ∷ xs) h todo = at (same x.id o) refl (q x.id) refl (told_split xs h.1 todo)
       where
         at : (b : Bool) → same x.id o ≡ b → (c : Bool) → q x.id ≡ c
             → fold tell todo (filter (λ x. same x.id o || q x.id) xs) ≡ fold tell (fold tell todo (filter (λ x. same x.id o) xs)) (filter (λ x. q x.id) xs)
             → fold tell todo (cond (b || c) (x ∷ filter (λ x. same x.id o || q x.id) xs) (filter (λ x. same x.id o || q x.id) xs))
             ≡ fold tell (fold tell todo (cond b (x ∷ filter (λ x. same x.id o) xs) (filter (λ x. same x.id o) xs))) (cond c (x ∷ filter (λ x. q x.id) xs) (filter (λ x. q x.id) xs))
         at true e true f more =
-            let none = later-others x xs h.0 (ap (is_earlier x.id) (sym (same-eq x.id o e)) ∙ never-earlier x.id) in
-            none-at xs none (tell todo x)
-            ∙ ap (λ ys. fold tell (fold tell (tell todo x) ys) (filter (λ (x : Object). q x.id) xs)) (keeps-none (λ (x : Object). same x.id o) xs none)
-            ∙ ap (λ ws. fold tell ws (filter (λ (x : Object). q x.id) xs)) (sym (told-twice todo x))
-            ∙ ap (λ ys. fold tell (tell (fold tell (tell todo x) ys) x) (filter (λ (x : Object). q x.id) xs)) (sym (keeps-none (λ (x : Object). same x.id o) xs none))
+            let none = later_others x xs h.0 (ap (is_earlier x.id) (sym (same_eq x.id o e)) ∙ never_earlier x.id) in
+            none_at xs none (tell todo x)
+            ∙ ap (λ ys. fold tell (fold tell (tell todo x) ys) (filter (λ (x : Object). q x.id) xs)) (keeps_none (λ (x : Object). same x.id o) xs none)
+            ∙ ap (λ ws. fold tell ws (filter (λ (x : Object). q x.id) xs)) (sym (told_twice todo x))
+            ∙ ap (λ ys. fold tell (tell (fold tell (tell todo x) ys) x) (filter (λ (x : Object). q x.id) xs)) (sym (keeps_none (λ (x : Object). same x.id o) xs none))
         at true e false f more =
-            let none = later-others x xs h.0 (ap (is_earlier x.id) (sym (same-eq x.id o e)) ∙ never-earlier x.id) in
-            none-at xs none (tell todo x)
+            let none = later_others x xs h.0 (ap (is_earlier x.id) (sym (same_eq x.id o e)) ∙ never_earlier x.id) in
+            none_at xs none (tell todo x)
         at false e true f more =
-            let none = later-others x xs h.0 (after x.id f) in
-            none-at xs none (tell todo x)
-            ∙ ap (λ ys. fold tell (fold tell (tell todo x) ys) (filter (λ (x : Object). q x.id) xs)) (keeps-none (λ (x : Object). same x.id o) xs none)
-            ∙ ap (λ ys. fold tell (tell (fold tell todo ys) x) (filter (λ (x : Object). q x.id) xs)) (sym (keeps-none (λ (x : Object). same x.id o) xs none))
+            let none = later_others x xs h.0 (after x.id f) in
+            none_at xs none (tell todo x)
+            ∙ ap (λ ys. fold tell (fold tell (tell todo x) ys) (filter (λ (x : Object). q x.id) xs)) (keeps_none (λ (x : Object). same x.id o) xs none)
+            ∙ ap (λ ys. fold tell (tell (fold tell todo ys) x) (filter (λ (x : Object). q x.id) xs)) (sym (keeps_none (λ (x : Object). same x.id o) xs none))
         at false e false f more = more
 
   -- o's object is the only one of its identity
-  told-found : (xs : List Object) (o : ObjectId) → Pairs Earlier xs → (todo : List Work)
+  told_found : (xs : List Object) (o : ObjectId) → Pairs Earlier xs → (todo : List Work)
       → fold tell todo (filter (λ x. same x.id o) xs) ≡ elim (object_in xs o) as (λ (f : Option Object). List Work) [ None ↦ todo | Some x ↦ tell todo x ]
-  told-found [] o h todo = refl
-  told-found (x ∷ xs) o h todo = at (same x.id o) refl (told-found xs o h.1 todo)
+  told_found [] o h todo = refl
+  told_found (x ∷ xs) o h todo = at (same x.id o) refl (told_found xs o h.1 todo)
     where
       at : (b : Bool) → same x.id o ≡ b
           → fold tell todo (filter (λ x. same x.id o) xs) ≡ elim (object_in xs o) as (λ (f : Option Object). List Work) [ None ↦ todo | Some x ↦ tell todo x ]
           → fold tell todo (cond b (x ∷ filter (λ x. same x.id o) xs) (filter (λ x. same x.id o) xs))
           ≡ elim (cond b (Some x) (object_in xs o)) as (λ (f : Option Object). List Work) [ None ↦ todo | Some x ↦ tell todo x ]
-      at true e more = ap (fold tell (tell todo x)) (keeps-none (λ (x : Object). same x.id o) xs
-          (later-others o (λ i. false) (λ i k. absurd (cc)) x xs h.0 (ap (is_earlier x.id) (sym (same-eq x.id o e)) ∙ never-earlier x.id)))
+      at true e more = ap (fold tell (tell todo x)) (keeps_none (λ (x : Object). same x.id o) xs
+          (later_others o (λ i. false) (λ i k. absurd (cc)) x xs h.0 (ap (is_earlier x.id) (sym (same_eq x.id o e)) ∙ never_earlier x.id)))
       at false e more = more
 
-  after-all : (o : ObjectId) (os : List ObjectId) → ((i : ObjectId) → In i os → NotLater o i) → (i : ObjectId) → is_among os i ≡ true → is_earlier i o ≡ false
-  after-all o os h i e = let x = any-found (λ x. at_object x i) os e in ap (λ k. is_earlier k o) (same-eq i x.0 x.2) ∙ h x.0 x.1
+  after_all : (o : ObjectId) (os : List ObjectId) → ((i : ObjectId) → In i os → NotLater o i) → (i : ObjectId) → is_among os i ≡ true → is_earlier i o ≡ false
+  after_all o os h i e = let x = any_found (λ x. at_object x i) os e in ap (λ k. is_earlier k o) (same_eq i x.0 x.2) ∙ h x.0 x.1
 
-  pub told-in_order : (os : List ObjectId) (todo : List Work) → Pairs NotLater os → Pairs Earlier s.objects
+  pub told_in_order : (os : List ObjectId) (todo : List Work) → Pairs NotLater os → Pairs Earlier s.objects
       → fold (told_at s) todo os ≡ fold tell todo (filter (λ x. is_among os x.id) s.objects)
-  told-in_order [] todo h k = ap (fold tell todo) (sym (keeps-none (λ (x : Object). false) s.objects (λ x l. refl)))
-  told-in_order (o ∷ os) todo h k =
-      told-in_order os (told_at s todo o) h.1 k
-      ∙ ap (λ ws. fold tell ws (filter (λ (x : Object). is_among os x.id) s.objects)) (sym (told-found s.objects o k todo))
-      ∙ sym (told-split o (is_among os) (after-all o os h.0) s.objects k todo)
+  told_in_order [] todo h k = ap (fold tell todo) (sym (keeps_none (λ (x : Object). false) s.objects (λ x l. refl)))
+  told_in_order (o ∷ os) todo h k =
+      told_in_order os (told_at s todo o) h.1 k
+      ∙ ap (λ ws. fold tell ws (filter (λ (x : Object). is_among os x.id) s.objects)) (sym (told_found s.objects o k todo))
+      ∙ sym (told_split o (is_among os) (after_all o os h.0) s.objects k todo)
 
 -- ---- one more object's Notice
 
-pub told-next : (os : List ObjectId) (k : ℕ) (d : ObjectId) (s : Space) → k < length os
+pub told_next : (os : List ObjectId) (k : ℕ) (d : ObjectId) (s : Space) → k < length os
     → record s { todo = told_at s (told_of (take k os) s).todo (get_or os k d) } ≡ told_of (take (k + 1) os) s
 unfolding told_of
-told-next os k d s lt = ap (λ (ws : List Work). let z : Space = record s { todo = ws } in z) (sym (fold_more (told_at s) s.todo os k d lt))
+told_next os k d s lt = ap (λ (ws : List Work). let z : Space = record s { todo = ws } in z) (sym (fold_more (told_at s) s.todo os k d lt))
 
 -- ---- both
 
-pub follow-shed : (b : ObjectTest) (s : Space) → follow_of no_name b s ≡ notify_of b (shed_of b s)
+pub follow_shed : (b : ObjectTest) (s : Space) → follow_of no_name b s ≡ notify_of b (shed_of b s)
 unfolding follow_of notify_of work_goes_of deaths_go_of objects_go_of names_go_of shed_of
-follow-shed b s =
-    ap (λ ns. followed ns (filter (λ (d : DeathNotification). true) s.deaths) (still (filter (λ (d : DeathNotification). true) s.deaths))) (keeps-all (λ (m : Name). true) s.names (λ m. refl))
-    ∙ ap (λ ds. followed s.names ds (still ds)) (keeps-all (λ (d : DeathNotification). true) s.deaths (λ d. refl))
-    ∙ ap (followed s.names s.deaths) (filter_agree _ _ (λ w. due-as-notice b s.deaths (record s { objects = objects }) w.kind) s.todo)
+follow_shed b s =
+    ap (λ ns. followed ns (filter (λ (d : DeathNotification). true) s.deaths) (still (filter (λ (d : DeathNotification). true) s.deaths))) (keeps_all (λ (m : Name). true) s.names (λ m. refl))
+    ∙ ap (λ ds. followed s.names ds (still ds)) (keeps_all (λ (d : DeathNotification). true) s.deaths (λ d. refl))
+    ∙ ap (followed s.names s.deaths) (filter_agree _ _ (λ w. due_as_notice b s.deaths (record s { objects = objects }) w.kind) s.todo)
   where
     objects : List Object
     objects = filter (λ x. not (b x.id) || stays_in s.processes s.references x) s.objects
@@ -268,48 +268,48 @@ follow-shed b s =
     followed : List Name → List DeathNotification → List Work → Space
     followed ns ds ws = record s { names = ns; objects = objects; deaths = ds; todo = fold (tell s) ws (filter (λ x. b x.id) objects) }
 
-pub objects-followed : (os : List ObjectId) (s : Space) → Pairs NotLater os → Pairs Earlier s.objects → told_of os (shed_of (is_among os) s) ≡ follow_of no_name (is_among os) s
+pub objects_followed : (os : List ObjectId) (s : Space) → Pairs NotLater os → Pairs Earlier s.objects → told_of os (shed_of (is_among os) s) ≡ follow_of no_name (is_among os) s
 unfolding told_of shed_of objects_go_of notify_of
-objects-followed os s h k =
+objects_followed os s h k =
     ap (λ (ws : List Work). let z : Space = record (shed_of (is_among os) s) { todo = ws } in z)
-    (told-in_order (shed_of (is_among os) s) os (shed_of (is_among os) s).todo h (pairs-filter Earlier (λ (x : Object). not (is_among os x.id) || stays_in s.processes s.references x) s.objects k))
-    ∙ sym (follow-shed (is_among os) s)
+    (told_in_order (shed_of (is_among os) s) os (shed_of (is_among os) s).todo h (pairs_filter Earlier (λ (x : Object). not (is_among os x.id) || stays_in s.processes s.references x) s.objects k))
+    ∙ sym (follow_shed (is_among os) s)
 
 -- where they are one
-pub one-followed : (os : List ObjectId) (d : ObjectId) (s : Space) → length os ≡ 1 → followed_at (get_or os 0 d) s ≡ told_of os (shed_of (is_among os) s)
-one-followed [] d s e = absurd (omega (arith, e))
-one-followed (o ∷ []) d s e = ap (λ b. told_of (o ∷ []) (shed_of b s)) (sym (among-one o))
-one-followed (o ∷ p ∷ os) d s e = absurd (omega (arith, e))
+pub one_followed : (os : List ObjectId) (d : ObjectId) (s : Space) → length os ≡ 1 → followed_at (get_or os 0 d) s ≡ told_of os (shed_of (is_among os) s)
+one_followed [] d s e = absurd (omega (arith, e))
+one_followed (o ∷ []) d s e = ap (λ b. told_of (o ∷ []) (shed_of b s)) (sym (among_one o))
+one_followed (o ∷ p ∷ os) d s e = absurd (omega (arith, e))
 
 -- ---- the owner that is to be told
 
-pub owner-told : (f : Option Object) (w : Object → Bool) (p : ℕ) → option_and_then (λ x. when (w x) x.owner) f ≡ Some p
+pub owner_told : (f : Option Object) (w : Object → Bool) (p : ℕ) → option_and_then (λ x. when (w x) x.owner) f ≡ Some p
     → (x : Object) × (f ≡ Some x) × (w x ≡ true) × (x.owner ≡ p)
-owner-told None w p e = absurd (cc)
-owner-told (Some x) w p e = at (w x) refl e
+owner_told None w p e = absurd (cc)
+owner_told (Some x) w p e = at (w x) refl e
   where
     at : (b : Bool) → w x ≡ b → when b x.owner ≡ Some p → (y : Object) × (Some x ≡ Some y) × (w y ≡ true) × (y.owner ≡ p)
     at true i k = (x, refl, i, cc)
     at false i k = absurd (cc)
 
-pub owner-wanted : (f : Option Object) (w : Object → Bool) (b : Bool) → is_some (option_and_then (λ x. when (w x) x.owner) f) ≡ b → is_some_and f w ≡ b
-owner-wanted None w b e = e
-owner-wanted (Some x) w b e = at (w x) e
+pub owner_wanted : (f : Option Object) (w : Object → Bool) (b : Bool) → is_some (option_and_then (λ x. when (w x) x.owner) f) ≡ b → is_some_and f w ≡ b
+owner_wanted None w b e = e
+owner_wanted (Some x) w b e = at (w x) e
   where
     at : (c : Bool) → is_some (when c x.owner) ≡ b → c ≡ b
     at true k = k
     at false k = k
 
 -- so its Notice is made if it is missing, or there is none to make
-pub told-owner : (s : Space) (todo : List Work) (o : ObjectId) (x : Object) (p : ℕ) → object_in s.objects o ≡ Some x → x.owner ≡ p
+pub told_owner : (s : Space) (todo : List Work) (o : ObjectId) (x : Object) (p : ℕ) → object_in s.objects o ≡ Some x → x.owner ≡ p
     → with_notice s.steps s.processes s.references (OfProcess p) todo x ≡ told_at s todo o
-told-owner s todo o x p e owns =
+told_owner s todo o x p e owns =
     ap (λ q. with_notice s.steps s.processes s.references (OfProcess q) todo x) (sym owns)
     ∙ ap (λ (f : Option Object). elim f as (λ (f : Option Object). List Work) [ None ↦ todo | Some x ↦ with_notice s.steps s.processes s.references (OfProcess x.owner) todo x ]) (sym e)
 
-pub told-nobody : (s : Space) (todo : List Work) (o : ObjectId) → option_and_then (λ x. when (wants_notice s.processes s.references x) x.owner) (object_in s.objects o) ≡ None
+pub told_nobody : (s : Space) (todo : List Work) (o : ObjectId) → option_and_then (λ x. when (wants_notice s.processes s.references x) x.owner) (object_in s.objects o) ≡ None
     → todo ≡ told_at s todo o
-told-nobody s todo o e = at (object_in s.objects o) (owner-wanted (object_in s.objects o) (wants_notice s.processes s.references) false (ap is_some e))
+told_nobody s todo o e = at (object_in s.objects o) (owner_wanted (object_in s.objects o) (wants_notice s.processes s.references) false (ap is_some e))
   where
     at : (f : Option Object) → is_some_and f (wants_notice s.processes s.references) ≡ false
         → todo ≡ elim f as (λ (f : Option Object). List Work) [ None ↦ todo | Some x ↦ with_notice s.steps s.processes s.references (OfProcess x.owner) todo x ]

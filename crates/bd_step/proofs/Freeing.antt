@@ -26,19 +26,19 @@ use Rattle.bd_laws.specs.Objects.{Earlier}
 use Rattle.bd_laws.specs.OneWayCalls.{Waits}
 use Rattle.bd_laws.specs.Quiet.{Elsewhere}
 use Rattle.bd_laws.specs.Tidy.{IsTidy}
-use Rattle.bd_laws.proofs.Lists.{in-filter, map-in, any-found, any-in, find-in, find-some, pairs-either}
-use Rattle.bd_laws.proofs.Tests.{both, and-both, same-eq, eq-same}
-use Rattle.bd_laws.proofs.Follow.{follow-local}
-use Rattle.bd_laws.proofs.Fewer.{elsewhere-said, filtered-said, to-false}
-use Rattle.bd_laws.proofs.Freeing.{references_of_buffer, ripen_of-elsewhere, freed-local}
-use Rattle.bd_laws.proofs.Others.{freed-two_way}
+use Rattle.bd_laws.proofs.Lists.{in_filter, map_in, any_found, any_in, find_in, find_some, pairs_either}
+use Rattle.bd_laws.proofs.Tests.{both, and_both, same_eq, eq_same}
+use Rattle.bd_laws.proofs.Follow.{follow_local}
+use Rattle.bd_laws.proofs.Fewer.{elsewhere_said, filtered_said, to_false}
+use Rattle.bd_laws.proofs.Freeing.{references_of_buffer, ripen_of_elsewhere, freed_local}
+use Rattle.bd_laws.proofs.Others.{freed_two_way}
 use Rattle.bd_step.specs.Freed.{turn_target, turn_target_at, ripen_next, referred, IsFreeing}
-use Rattle.bd_step.proofs.Afterwards.{ripened-ordered}
+use Rattle.bd_step.proofs.Afterwards.{ripened_ordered}
 
 module _ (s : Space) (made : ℕ) (tidy : IsTidy s) where
   -- one buffer at most was made there
-  one-made : (b c : Buffer) → In b s.buffers → In c s.buffers → is_made_at made b ≡ true → is_made_at made c ≡ true → b ≡ c
-  one-made b c i j e f = elim (pairs-either (Waits s.todo) s.buffers tidy.before.turns.waits b c i j) [
+  one_made : (b c : Buffer) → In b s.buffers → In c s.buffers → is_made_at made b ≡ true → is_made_at made c ≡ true → b ≡ c
+  one_made b c i j e f = elim (pairs_either (Waits s.todo) s.buffers tidy.before.turns.waits b c i j) [
     | inl is ↦ is
     | inr (inl w) ↦ absurd (omega (arith, w.earlier, eqb-true b.made made e, eqb-true c.made made f))
     | inr (inr w) ↦ absurd (omega (arith, w.earlier, eqb-true b.made made e, eqb-true c.made made f))
@@ -48,28 +48,28 @@ module _ (s : Space) (made : ℕ) (tidy : IsTidy s) where
   found c l e = at (buffer_in s.buffers made) refl
     where
       at : (o : Option Buffer) → buffer_in s.buffers made ≡ o → o ≡ Some c
-      at None f = let some = find-some (is_made_at made) c s.buffers l e in absurd (cc)
-      at (Some b) f = let k = find-in (is_made_at made) b s.buffers f in ap (λ x. Some x) (one-made b c k.0 l k.1 e)
+      at None f = let some = find_some (is_made_at made) c s.buffers l e in absurd (cc)
+      at (Some b) f = let k = find_in (is_made_at made) b s.buffers f in ap (λ x. Some x) (one_made b c k.0 l k.1 e)
 
   target : (o : Option ObjectId) → turn_target_at s made ≡ o → (c : Buffer) → In c s.buffers → is_made_at made c ≡ true → turn_target (Some c) ≡ o
   target o is c l e = ap turn_target (sym (found c l e)) ∙ is
 
-  gone-elsewhere : Elsewhere (names_of_references (references_of_buffer s made)) (objects_of_references (references_of_buffer s made)) (without_buffer s made)
+  gone_elsewhere : Elsewhere (names_of_references (references_of_buffer s made)) (objects_of_references (references_of_buffer s made)) (without_buffer s made)
   unfolding without_buffer
-  gone-elsewhere =
-      let e = elsewhere-said _ _ s _ tidy.quiet.followed (filtered-said (λ (r : Reference). is_of_buffer made r.holder) s.references) in
+  gone_elsewhere =
+      let e = elsewhere_said _ _ s _ tidy.quiet.followed (filtered_said (λ (r : Reference). is_of_buffer made r.holder) s.references) in
       record { names = e.names; objects = e.objects; deaths = e.deaths; notices = e.notices; tellings = e.tellings; made = e.made }
 
-  freed-follows : (o : Option ObjectId) → turn_target_at s made ≡ o → completed (without_buffer s made) ≡ follow (ripen_next o (without_buffer s made))
-  freed-follows None is =
-      freed-two_way s made tidy.quiet (λ c l e. none (turn_of c) (target None is c l e)) ∙ sym (follow-local _ _ (without_buffer s made) gone-elsewhere)
+  freed_follows : (o : Option ObjectId) → turn_target_at s made ≡ o → completed (without_buffer s made) ≡ follow (ripen_next o (without_buffer s made))
+  freed_follows None is =
+      freed_two_way s made tidy.quiet (λ c l e. none (turn_of c) (target None is c l e)) ∙ sym (follow_local _ _ (without_buffer s made) gone_elsewhere)
     where
       none : (t : Option Turn) → option_map (λ t. t.target) t ≡ None → t ≡ None
       none None h = refl
       none (Some t) h = absurd (cc)
-  freed-follows (Some o) is =
-      freed-local s made o tidy.quiet (λ c l e t turn. eq-same t.target o (some (ap (option_map (λ t. t.target)) (sym turn) ∙ target (Some o) is c l e)))
-      ∙ sym (follow-local _ _ (ripen_of o (without_buffer s made)) (ripen_of-elsewhere _ _ o (without_buffer s made) gone-elsewhere))
+  freed_follows (Some o) is =
+      freed_local s made o tidy.quiet (λ c l e t turn. eq_same t.target o (some (ap (option_map (λ t. t.target)) (sym turn) ∙ target (Some o) is c l e)))
+      ∙ sym (follow_local _ _ (ripen_of o (without_buffer s made)) (ripen_of_elsewhere _ _ o (without_buffer s made) gone_elsewhere))
     where
       some : {a b : ObjectId} → Some a ≡ Some b → a ≡ b
       some h = cc
@@ -77,9 +77,9 @@ module _ (s : Space) (made : ℕ) (tidy : IsTidy s) where
 -- ---- the buffer's references are of these objects, and in its receiver's window
 
 -- where more is looked at, nothing is pending elsewhere either
-more-elsewhere : (a c : NameTest) (b e : ObjectTest) (z : Space) → ((p : ℕ) (o : ObjectId) → c p o ≡ false → a p o ≡ false) → ((o : ObjectId) → e o ≡ false → b o ≡ false)
+more_elsewhere : (a c : NameTest) (b e : ObjectTest) (z : Space) → ((p : ℕ) (o : ObjectId) → c p o ≡ false → a p o ≡ false) → ((o : ObjectId) → e o ≡ false → b o ≡ false)
     → Elsewhere a b z → Elsewhere c e z
-more-elsewhere a c b e z names objects h = record {
+more_elsewhere a c b e z names objects h = record {
   names = λ m l none. h.names m l (names m.process m.object none);
   objects = λ x l none. h.objects x l (objects x.id none);
   deaths = λ d l none. h.deaths d l (names d.process d.object none);
@@ -89,57 +89,57 @@ more-elsewhere a c b e z names objects h = record {
 }
 
 -- who has a name by the reference of a buffer receives it
-window-name : (q made : ℕ) (h : Holder) → is_of_buffer made h ≡ true → gives_name_to q h ≡ true → h ≡ Carried made q
-window-name q made (Carried b p) e f = ap (λ n. Carried n p) (eqb-true b made e) ∙ ap (Carried made) (eqb-true p q f)
-window-name q made (Target b p) e f = absurd (cc)
-window-name q made (Asked p) e f = absurd (cc)
-window-name q made Handshake e f = absurd (cc)
-window-name q made Manager e f = absurd (cc)
+window_name : (q made : ℕ) (h : Holder) → is_of_buffer made h ≡ true → gives_name_to q h ≡ true → h ≡ Carried made q
+window_name q made (Carried b p) e f = ap (λ n. Carried n p) (eqb-true b made e) ∙ ap (Carried made) (eqb-true p q f)
+window_name q made (Target b p) e f = absurd (cc)
+window_name q made (Asked p) e f = absurd (cc)
+window_name q made Handshake e f = absurd (cc)
+window_name q made Manager e f = absurd (cc)
 
 module _ (s : Space) (p made : ℕ) (os : List ObjectId) (k : IsFreeing p made os s) where
-  referred-object : (o : ObjectId) → objects_of_references (references_of_buffer s made) o ≡ true → is_among os o ≡ true
-  referred-object o e =
-      let r = any-found (λ (r : Reference). same r.object o) (references_of_buffer s made) e in
+  referred_object : (o : ObjectId) → objects_of_references (references_of_buffer s made) o ≡ true → is_among os o ≡ true
+  referred_object o e =
+      let r = any_found (λ (r : Reference). same r.object o) (references_of_buffer s made) e in
       ap (λ (b : ObjectTest). b o) k.touches.among
-      ∙ any-in (λ i. at_object i o) r.0.object (referred s made) (map-in (λ (r : Reference). r.object) r.0 (references_of_buffer s made) r.1) (eq-same o r.0.object (sym (same-eq r.0.object o r.2)))
+      ∙ any_in (λ i. at_object i o) r.0.object (referred s made) (map_in (λ (r : Reference). r.object) r.0 (references_of_buffer s made) r.1) (eq_same o r.0.object (sym (same_eq r.0.object o r.2)))
 
-  referred-name : (q : ℕ) (o : ObjectId) → names_of_references (references_of_buffer s made) q o ≡ true → names_among p os q o ≡ true
-  referred-name q o e =
-      let r = any-found (λ (r : Reference). same r.object o && gives_name_to q r.holder) (references_of_buffer s made) e in
+  referred_name : (q : ℕ) (o : ObjectId) → names_of_references (references_of_buffer s made) q o ≡ true → names_among p os q o ≡ true
+  referred_name q o e =
+      let r = any_found (λ (r : Reference). same r.object o && gives_name_to q r.holder) (references_of_buffer s made) e in
       let t = both (same r.0.object o) (gives_name_to q r.0.holder) r.2 in
-      let i = in-filter (λ (r : Reference). is_of_buffer made r.holder) r.0 s.references r.1 in
-      let carried = window-name q made r.0.holder i.1 t.1 in
+      let i = in_filter (λ (r : Reference). is_of_buffer made r.holder) r.0 s.references r.1 in
+      let carried = window_name q made r.0.holder i.1 t.1 in
       let its = k.tidy.in_windows r.0 k.buffer q i.0 k.here (carried ∙ ap (λ n. Carried n q) (sym k.made_there)) in
-      let x = any-found (λ i. at_object i o) os (referred-object o (any-in (λ (r : Reference). same r.object o) r.0 (references_of_buffer s made) r.1 t.0)) in
-      any-in (λ i. at_name p i q o) x.0 os x.1 (and-both (q == p) (same o x.0) (eq-eqb q p (sym its ∙ k.is_its)) x.2)
+      let x = any_found (λ i. at_object i o) os (referred_object o (any_in (λ (r : Reference). same r.object o) r.0 (references_of_buffer s made) r.1 t.0)) in
+      any_in (λ i. at_name p i q o) x.0 os x.1 (and_both (q == p) (same o x.0) (eq-eqb q p (sym its ∙ k.is_its)) x.2)
 
-  freed-elsewhere : (turn : Option ObjectId) → Elsewhere (names_among p os) (is_among os) (ripen_next turn (without_buffer s made))
-  freed-elsewhere turn =
-      at turn (more-elsewhere _ (names_among p os) _ (is_among os) (without_buffer s made)
-      (λ q o none. to-false _ (λ e. let yes = referred-name q o e in cc)) (λ o none. to-false _ (λ e. let yes = referred-object o e in cc)) (gone-elsewhere s made k.tidy))
+  freed_elsewhere : (turn : Option ObjectId) → Elsewhere (names_among p os) (is_among os) (ripen_next turn (without_buffer s made))
+  freed_elsewhere turn =
+      at turn (more_elsewhere _ (names_among p os) _ (is_among os) (without_buffer s made)
+      (λ q o none. to_false _ (λ e. let yes = referred_name q o e in cc)) (λ o none. to_false _ (λ e. let yes = referred_object o e in cc)) (gone_elsewhere s made k.tidy))
     where
       at : (turn : Option ObjectId) → Elsewhere (names_among p os) (is_among os) (without_buffer s made) → Elsewhere (names_among p os) (is_among os) (ripen_next turn (without_buffer s made))
       at None h = h
-      at (Some o) h = ripen_of-elsewhere (names_among p os) (is_among os) o (without_buffer s made) h
+      at (Some o) h = ripen_of_elsewhere (names_among p os) (is_among os) o (without_buffer s made) h
 
-  pub freed-followed : (turn : Option ObjectId) → turn_target_at s made ≡ turn
+  pub freed_followed : (turn : Option ObjectId) → turn_target_at s made ≡ turn
       → completed (without_buffer s made) ≡ follow_of (names_among p os) (is_among os) (ripen_next turn (without_buffer s made))
-  freed-followed turn e =
-      freed-follows s made k.tidy turn e ∙ follow-local (names_among p os) (is_among os) (ripen_next turn (without_buffer s made)) (freed-elsewhere turn)
+  freed_followed turn e =
+      freed_follows s made k.tidy turn e ∙ follow_local (names_among p os) (is_among os) (ripen_next turn (without_buffer s made)) (freed_elsewhere turn)
 
 -- freeing leaves the objects
-pub freed-ordered : (s : Space) (made : ℕ) (turn : Option ObjectId) → Pairs Earlier s.objects → Pairs Earlier (ripen_next turn (without_buffer s made)).objects
+pub freed_ordered : (s : Space) (made : ℕ) (turn : Option ObjectId) → Pairs Earlier s.objects → Pairs Earlier (ripen_next turn (without_buffer s made)).objects
 unfolding without_buffer
-freed-ordered s made turn h = ripened-ordered turn (without_buffer s made) h
+freed_ordered s made turn h = ripened_ordered turn (without_buffer s made) h
 
 -- ---- the buffer that may be freed is the process's
 
 abbrev at_buffer : ℕ → ℕ → Buffer → Bool
 at_buffer p at b = (b.receiver == p) && (pointer b == at)
 
-pub freed-buffer : (s : Space) (p pointer made : ℕ) → Ok made ≡ freed_buffer (buffer_at_pointer s p pointer) → (b : Buffer) × In b s.buffers × (b.made ≡ made) × (b.receiver ≡ p)
+pub buffer_freed : (s : Space) (p pointer made : ℕ) → Ok made ≡ freed_buffer (buffer_at_pointer s p pointer) → (b : Buffer) × In b s.buffers × (b.made ≡ made) × (b.receiver ≡ p)
 unfolding buffer_at_pointer
-freed-buffer s p pointer made e = at (find (at_buffer p pointer) s.buffers) refl e
+buffer_freed s p pointer made e = at (find (at_buffer p pointer) s.buffers) refl e
   where
     handed : (b : Buffer) → In b s.buffers → b.receiver ≡ p → (h : Bool) → Ok made ≡ (if h then Ok b.made else Err NotHandedOut) → (c : Buffer) × In c s.buffers × (c.made ≡ made) × (c.receiver ≡ p)
     handed b l its true k = (b, l, cc, its)
@@ -147,4 +147,4 @@ freed-buffer s p pointer made e = at (find (at_buffer p pointer) s.buffers) refl
 
     at : (f : Option Buffer) → find (at_buffer p pointer) s.buffers ≡ f → Ok made ≡ freed_buffer f → (b : Buffer) × In b s.buffers × (b.made ≡ made) × (b.receiver ≡ p)
     at None f k = absurd (cc)
-    at (Some b) f k = let l = find-in (at_buffer p pointer) b s.buffers f in handed b l.0 (eqb-true b.receiver p (both (b.receiver == p) _ l.1).0) b.handed k
+    at (Some b) f k = let l = find_in (at_buffer p pointer) b s.buffers f in handed b l.0 (eqb-true b.receiver p (both (b.receiver == p) _ l.1).0) b.handed k

@@ -30,19 +30,19 @@ pub meets : (old new : Tables) (P : Space → Type 0) (f : Space → Outcome) (a
 meets old new P f answer k = record { answered = λ s h p. (k s h p).answered; stands = λ s h p. (k s h p).stands }
 
 -- a step that is taken meets no other clause
-pub taken-step : (old new : Tables) (P : Space → Type 0) (f : Space → Outcome) (x : Plain) → Meets old new P f (answer_of x) → IsStep old new P f (Ok x)
-taken-step old new P f x m = record { ok = m; err = tt; full = tt }
+pub taken_step : (old new : Tables) (P : Space → Type 0) (f : Space → Outcome) (x : Plain) → Meets old new P f (answer_of x) → IsStep old new P f (Ok x)
+taken_step old new P f x m = record { ok = m; err = tt; full = tt }
 
 -- steps that change nothing
-pub is-refused : (t : Tables) (s : Space) (x : Fault) → Before t s → IsOutcome t (Refused x) (refused s x)
-is-refused t s x h = record { answered = refl; stands = within t s h }
+pub is_refused : (t : Tables) (s : Space) (x : Fault) → Before t s → IsOutcome t (Refused x) (refused s x)
+is_refused t s x h = record { answered = refl; stands = within t s h }
 
-pub is-noted : (t : Tables) (s : Space) (n : Note) → Before t s → IsOutcome t (Noted n) (noted s n)
-is-noted t s n h = record { answered = refl; stands = within t s h }
+pub is_noted : (t : Tables) (s : Space) (n : Note) → Before t s → IsOutcome t (Noted n) (noted s n)
+is_noted t s n h = record { answered = refl; stands = within t s h }
 
 -- what the definition does by cases, in the case that is so
-pub in-case : {B : Type 0} (new : Tables) (answer : StepAnswer) (f : B → Outcome) (x y : B) → x ≡ y → IsOutcome new answer (f y) → IsOutcome new answer (f x)
-in-case new answer f x y e k = subst (λ b. IsOutcome new answer (f b)) (sym e) k
+pub in_case : {B : Type 0} (new : Tables) (answer : StepAnswer) (f : B → Outcome) (x y : B) → x ≡ y → IsOutcome new answer (f y) → IsOutcome new answer (f x)
+in_case new answer f x y e k = subst (λ b. IsOutcome new answer (f b)) (sym e) k
 
 -- ---- one definition said as another
 
@@ -56,38 +56,38 @@ module _ (old : Tables) (P Q : Space → Type 0) (f g : Space → Outcome) (same
   as_refused : (why : Why) → IsRefused old P f why → IsRefused old Q g why
   as_refused why m = λ s h q. let k = same s h q in subst (λ (o : Outcome). FullOnly why (has_number_past_limit o.space.names ≡ true)) (sym k.1) (m s h k.0)
 
-  pub as-step : (new : Tables) (r : Result Plain Why) → IsStep old new P f r → IsStep old new Q g r
-  as-step new (Ok x) m = record { ok = as_meets new (answer_of x) m.ok; err = tt; full = tt }
-  as-step new (Err why) m = record { ok = tt; err = m.err; full = as_refused why m.full }
+  pub as_step : (new : Tables) (r : Result Plain Why) → IsStep old new P f r → IsStep old new Q g r
+  as_step new (Ok x) m = record { ok = as_meets new (answer_of x) m.ok; err = tt; full = tt }
+  as_step new (Err why) m = record { ok = tt; err = m.err; full = as_refused why m.full }
 
   module _ (new : Tables) (both : Bool) (answer again : StepAnswer) where
-    pub as-step-written : (r : Result Brief Why) → IsStepWritten old new both P f answer again r → IsStepWritten old new both Q g answer again r
-    as-step-written (Ok x) m = record { ok = as_meets new answer m.ok; brief = m.brief; copied = m.copied; err = tt; full = tt }
-    as-step-written (Err why) m = record { ok = tt; brief = tt; copied = m.copied; err = m.err; full = as_refused why m.full }
+    pub as_step_written : (r : Result Brief Why) → IsStepWritten old new both P f answer again r → IsStepWritten old new both Q g answer again r
+    as_step_written (Ok x) m = record { ok = as_meets new answer m.ok; brief = m.brief; copied = m.copied; err = tt; full = tt }
+    as_step_written (Err why) m = record { ok = tt; brief = tt; copied = m.copied; err = m.err; full = as_refused why m.full }
 
 -- ---- answers that take no memory, written
 
 module _ (old new : Tables) (both : Bool) (P : Space → Type 0) (f : Space → Outcome) (answer again : StepAnswer) where
-  pub written-step : (r : Result Plain Why) (t : Result Brief Why) → IsWritten r t answer → IsStep old new P f r → IsStepWritten old new both P f answer again t
-  written-step (Ok x) t is m =
+  pub written_step : (r : Result Plain Why) (t : Result Brief Why) → IsWritten r t answer → IsStep old new P f r → IsStepWritten old new both P f answer again t
+  written_step (Ok x) t is m =
       subst (IsStepWritten old new both P f answer again) (sym is.0) (record { ok = subst (Meets old new P f) (sym is.1) m.ok; brief = is.1; copied = λ asked got. absurd (cc); err = tt; full = tt })
-  written-step (Err why) t is m = subst (IsStepWritten old new both P f answer again) (sym is) (record { ok = tt; brief = tt; copied = λ asked got. absurd (cc); err = m.err; full = m.full })
+  written_step (Err why) t is m = subst (IsStepWritten old new both P f answer again) (sym is) (record { ok = tt; brief = tt; copied = λ asked got. absurd (cc); err = m.err; full = m.full })
 
 -- ---- the step of a live thread, said as one of the thread's, and written
 
 module _ (old : Tables) (a : Actor) (f : Space → Outcome) where
   -- where the definition asks for no live thread
   module _ (g : Space → Outcome) (same : (s : Space) → f s ≡ g s) where
-    pub any-step : (new : Tables) (both : Bool) (answer again : StepAnswer) (r : Result Plain Why) (t : Result Brief Why) → IsWritten r t answer → IsStep old new IsAny g r
+    pub any_step : (new : Tables) (both : Bool) (answer again : StepAnswer) (r : Result Plain Why) (t : Result Brief Why) → IsWritten r t answer → IsStep old new IsAny g r
         → IsStepWritten old new both (IsBy a) f answer again t
-    any-step new both answer again r t is m =
-        written-step old new both (IsBy a) f answer again r t is (as-step old IsAny (IsBy a) g f (λ s h by. (by.tidy, same s)) new r m)
+    any_step new both answer again r t is m =
+        written_step old new both (IsBy a) f answer again r t is (as_step old IsAny (IsBy a) g f (λ s h by. (by.tidy, same s)) new r m)
 
   module _ (g : Space → Actor → Outcome) (same : (s : Space) → f s ≡ by_actor s (actor s a.thread.seat) (g s)) where
-    pub by-same : (s : Space) → Before old s → IsBy a s → IsBy a s × (f s ≡ g s a)
-    by-same s h by = (by, same s ∙ ap (λ o. by_actor s o (g s)) by.acts)
+    pub by_same : (s : Space) → Before old s → IsBy a s → IsBy a s × (f s ≡ g s a)
+    by_same s h by = (by, same s ∙ ap (λ o. by_actor s o (g s)) by.acts)
 
-    pub by-step : (new : Tables) (both : Bool) (answer again : StepAnswer) (r : Result Plain Why) (t : Result Brief Why) → IsWritten r t answer → IsStep old new (IsBy a) (λ s. g s a) r
+    pub by_step : (new : Tables) (both : Bool) (answer again : StepAnswer) (r : Result Plain Why) (t : Result Brief Why) → IsWritten r t answer → IsStep old new (IsBy a) (λ s. g s a) r
         → IsStepWritten old new both (IsBy a) f answer again t
-    by-step new both answer again r t is m =
-        written-step old new both (IsBy a) f answer again r t is (as-step old (IsBy a) (IsBy a) (λ s. g s a) f by-same new r m)
+    by_step new both answer again r t is m =
+        written_step old new both (IsBy a) f answer again r t is (as_step old (IsBy a) (IsBy a) (λ s. g s a) f by_same new r m)

@@ -22,23 +22,23 @@ use Rattle.bd_space.specs.Steps.{is_manager_busy, is_pid, is_window, open_fault}
 use Rattle.bd_laws.specs.Lists.{In}
 use Rattle.bd_laws.specs.Items.{IsQueued}
 use Rattle.bd_laws.specs.Tidy.{IsTidy}
-use Rattle.bd_laws.proofs.Lists.{in-append}
-use Rattle.bd_laws.proofs.Tests.{same-eq, and_then-ok, unless-ok, when-none}
-use Rattle.bd_laws.proofs.Fewer.{to-false}
-use Rattle.bd_laws.proofs.Sending.{find-none}
-use Rattle.bd_laws.proofs.Sendings.{Made, none-made, resolves, resolved-by, sending-keeps}
+use Rattle.bd_laws.proofs.Lists.{in_append}
+use Rattle.bd_laws.proofs.Tests.{same_eq, and_then_ok, unless_ok, when_none}
+use Rattle.bd_laws.proofs.Fewer.{to_false}
+use Rattle.bd_laws.proofs.Sending.{find_none}
+use Rattle.bd_laws.proofs.Sendings.{Made, none_made, resolves, resolved_by, sending_keeps}
 use Rattle.bd_nodes.specs.New.{IsNewIn, AreNewIn}
 use Rattle.bd_objects.specs.New.{IsNewManager, IsNewDeath}
 
-pub is-none : {A : Type 0} (o : Option A) → is_some o ≡ false → o ≡ None
-is-none None h = refl
-is-none (Some x) h = absurd (cc)
+pub is_none : {A : Type 0} (o : Option A) → is_some o ≡ false → o ≡ None
+is_none None h = refl
+is_none (Some x) h = absurd (cc)
 
 -- ---- objects
 
 -- no object has an identity that each differs from
-object-none : (objects : List Object) (o : ObjectId) → ((x : Object) → In x objects → x.id ≡ o → ⊥) → object_in objects o ≡ None
-object-none objects o h = find-none (λ (x : Object). same x.id o) objects (λ x l. to-false (same x.id o) (λ e. h x l (same-eq x.id o e)))
+object_none : (objects : List Object) (o : ObjectId) → ((x : Object) → In x objects → x.id ≡ o → ⊥) → object_in objects o ≡ None
+object_none objects o h = find_none (λ (x : Object). same x.id o) objects (λ x l. to_false (same x.id o) (λ e. h x l (same_eq x.id o e)))
 
 -- objects are of earlier steps
 earlier : (s : Space) (i : ℕ) → IsTidy s → (x : Object) → In x s.objects → x.id ≡ (let o : ObjectId = record { place = s.steps; index = i } in o) → ⊥
@@ -47,10 +47,10 @@ earlier s i tidy x l e =
     let at : x.id.place ≡ s.steps = ap (λ (o : ObjectId). o.place) e in
     omega arith
 
-are-new-push : (objects made : List Object) (o : Object) → AreNewIn objects made → IsNewIn (objects ++ made) o → AreNewIn objects (made ++ o ∷ [])
-are-new-push objects [] o h k = (subst (λ xs. IsNewIn xs o) (append-nil objects) k, tt)
-are-new-push objects (x ∷ xs) o h k =
-    (h.0, are-new-push (objects ++ x ∷ []) xs o h.1 (subst (λ ys. IsNewIn ys o) (sym (append_assoc objects (x ∷ []) xs)) k))
+are_new_push : (objects made : List Object) (o : Object) → AreNewIn objects made → IsNewIn (objects ++ made) o → AreNewIn objects (made ++ o ∷ [])
+are_new_push objects [] o h k = (subst (λ xs. IsNewIn xs o) (append-nil objects) k, tt)
+are_new_push objects (x ∷ xs) o h k =
+    (h.0, are_new_push (objects ++ x ∷ []) xs o h.1 (subst (λ ys. IsNewIn ys o) (sym (append_assoc objects (x ∷ []) xs)) k))
 
 module _ (s : Space) (p : ℕ) (tidy : IsTidy s) where
   -- what the sending of p made so far is new, and numbered
@@ -58,41 +58,41 @@ module _ (s : Space) (p : ℕ) (tidy : IsTidy s) where
     pub makes : Made s p made
     pub new : AreNewIn s.objects made
 
-  new-object : (made : List Object) (x : FlatObject) → Made s p made → own_in (s.objects ++ made) p x.binder ≡ None → IsNewIn (s.objects ++ made) (new_object s.steps p made x)
-  new-object made x h none =
+  object_is_new : (made : List Object) (x : FlatObject) → Made s p made → own_in (s.objects ++ made) p x.binder ≡ None → IsNewIn (s.objects ++ made) (new_object s.steps p made x)
+  object_is_new made x h none =
       let o = new_object s.steps p made x in (
-        object-none (s.objects ++ made) o.id (λ y l e. elim (in-append y s.objects made l) [
+        object_none (s.objects ++ made) o.id (λ y l e. elim (in_append y s.objects made l) [
           | inl i ↦ earlier s (length made) tidy y i e
           | inr i ↦ (let lt = h.index y i in let at : y.id.index ≡ length made = ap (λ (o : ObjectId). o.index) e in omega arith)
         ]),
         none,
       )
 
-  made-more : (made : List Object) (items : List Item) (i : Item) (r : Resolved) → i.object ≡ r.object → resolve s p made i.flat ≡ Ok r → MadeNew made items
+  made_more : (made : List Object) (items : List Item) (i : Item) (r : Resolved) → i.object ≡ r.object → resolve s p made i.flat ≡ Ok r → MadeNew made items
       → MadeNew (made ++ option_to_list r.new) (items ++ i ∷ [])
-  made-more made items i r same_object e h =
+  made_more made items i r same_object e h =
       let still = subst (AreNewIn s.objects) (sym (append-nil made)) h.new in
       record {
         makes = (resolves s p made i.flat r h.makes e).makes;
-        new = resolved-by s p made i.flat (λ own q. AreNewIn s.objects (made ++ option_to_list q.new))
-            (λ none. are-new-push s.objects made _ h.new (new-object made i.flat h.makes none)) (λ o found. still) (λ o n. still) r e;
+        new = resolved_by s p made i.flat (λ own q. AreNewIn s.objects (made ++ option_to_list q.new))
+            (λ none. are_new_push s.objects made _ h.new (object_is_new made i.flat h.makes none)) (λ o found. still) (λ o n. still) r e;
       }
 
   -- what a parcel makes is new
-  pub sending-new : (d : TransactionData) (parcel : Option Parcel) (v : Sending) → sending_of s p d parcel ≡ Ok v → AreNewIn s.objects v.made
-  sending-new d parcel v h = (sending-keeps s p MadeNew (record { makes = none-made s p; new = tt }) made-more d parcel v h).new
+  pub sending_new : (d : TransactionData) (parcel : Option Parcel) (v : Sending) → sending_of s p d parcel ≡ Ok v → AreNewIn s.objects v.made
+  sending_new d parcel v h = (sending_keeps s p MadeNew (record { makes = none_made s p; new = tt }) made_more d parcel v h).new
 
 -- ---- the context manager
 
-busy-parts : (a b : Bool) → (a || b) ≡ false → b ≡ false
-busy-parts true b h = absurd (cc)
-busy-parts false b h = h
+busy_parts : (a b : Bool) → (a || b) ≡ false → b ≡ false
+busy_parts true b h = absurd (cc)
+busy_parts false b h = h
 
-pub new-manager : (s : Space) (place p : ℕ) → s.steps ≡ place → IsTidy s → is_manager_busy s p ≡ false → IsNewManager place p s
-new-manager s place p at tidy idle = record {
+pub new_manager : (s : Space) (place p : ℕ) → s.steps ≡ place → IsTidy s → is_manager_busy s p ≡ false → IsNewManager place p s
+new_manager s place p at tidy idle = record {
   at = at;
-  id = subst (λ n. object_in s.objects (record { place = n; index = 0 }) ≡ None) at (object-none s.objects (record { place = s.steps; index = 0 }) (earlier s 0 tidy));
-  ptr = is-none (own_in s.objects p 0) (busy-parts (is_some s.manager) (is_some (own_in s.objects p 0)) idle);
+  id = subst (λ n. object_in s.objects (record { place = n; index = 0 }) ≡ None) at (object_none s.objects (record { place = s.steps; index = 0 }) (earlier s 0 tidy));
+  ptr = is_none (own_in s.objects p 0) (busy_parts (is_some s.manager) (is_some (own_in s.objects p 0)) idle);
 }
 
 -- ---- death notifications
@@ -101,17 +101,17 @@ new-manager s place p at tidy idle = record {
 unnotified : (s : Space) (place : ℕ) → s.steps ≡ place → IsTidy s → find (is_notification place) s.deaths ≡ None
 unfolding IsQueued
 unnotified s place at tidy =
-    find-none (is_notification place) s.deaths (λ x l. to-false (x.made == place) (λ e. let lt = tidy.queued.fresh x l in let is = eqb-true x.made place e in omega arith))
+    find_none (is_notification place) s.deaths (λ x l. to_false (x.made == place) (λ e. let lt = tidy.queued.fresh x l in let is = eqb-true x.made place e in omega arith))
 
-pub new-death : (s : Space) (place p n : ℕ) (o : ObjectId) → s.steps ≡ place → IsTidy s → request_check s p n ≡ Ok o → IsNewDeath place p o s
+pub new_death : (s : Space) (place p n : ℕ) (o : ObjectId) → s.steps ≡ place → IsTidy s → request_check s p n ≡ Ok o → IsNewDeath place p o s
 unfolding request_check
-new-death s place p n o at tidy check =
-    let c = and_then-ok (ok_or (named s p n) NoSuchNumber) (λ (o : ObjectId). unless (when (is_some (uncleared_in s.deaths p o)) AlreadyAsked) o) o check in
-    let k = unless-ok (when (is_some (uncleared_in s.deaths p c.0)) AlreadyAsked) c.0 o c.2 in
+new_death s place p n o at tidy check =
+    let c = and_then_ok (ok_or (named s p n) NoSuchNumber) (λ (o : ObjectId). unless (when (is_some (uncleared_in s.deaths p o)) AlreadyAsked) o) o check in
+    let k = unless_ok (when (is_some (uncleared_in s.deaths p c.0)) AlreadyAsked) c.0 o c.2 in
     record {
       at = at;
       made = unnotified s place at tidy;
-      asked = subst (λ i. uncleared_in s.deaths p i ≡ None) k.1 (is-none (uncleared_in s.deaths p c.0) (when-none (is_some (uncleared_in s.deaths p c.0)) AlreadyAsked k.0));
+      asked = subst (λ i. uncleared_in s.deaths p i ≡ None) k.1 (is_none (uncleared_in s.deaths p c.0) (when_none (is_some (uncleared_in s.deaths p c.0)) AlreadyAsked k.0));
     }
 
 -- ---- processes
@@ -127,8 +127,8 @@ module _ (s : Space) (seat pid window : ℕ) (e : open_fault s seat pid window �
   free : (is_some (thread_in s.threads seat) ≡ false) × (is_some (process_with_pid s.processes pid) ≡ false)
   free = unfaulted (not (is_pid pid)) (not (is_window window)) (is_some (thread_in s.threads seat)) (is_some (process_with_pid s.processes pid)) _ _ _ _ e
 
-  pub new-seat : thread_in s.threads seat ≡ None
-  new-seat = is-none (thread_in s.threads seat) free.0
+  pub new_seat : thread_in s.threads seat ≡ None
+  new_seat = is_none (thread_in s.threads seat) free.0
 
-  pub new-pid : process_with_pid s.processes pid ≡ None
-  new-pid = is-none (process_with_pid s.processes pid) free.1
+  pub new_pid : process_with_pid s.processes pid ≡ None
+  new_pid = is_none (process_with_pid s.processes pid) free.1

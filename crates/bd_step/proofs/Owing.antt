@@ -19,7 +19,7 @@ use Rattle.bd_processes.specs.Stands.{ProcessesAre}
 use Rattle.bd_deaths.specs.Due.{is_due, due_in}
 use Rattle.bd_objects.specs.declared.table.ObjectTable.{ObjectTable}
 use Rattle.bd_objects.specs.Stands as objects
-use Rattle.bd_objects.proofs.Owned.{both-filters}
+use Rattle.bd_objects.proofs.Owned.{both_filters}
 use Rattle.bd_calls.specs.Stands as calls
 use Rattle.bd_buffers.specs.WindowsStand.{WindowsOf}
 use Rattle.bd_step.specs.declared.tables.Tables.{Tables}
@@ -34,31 +34,31 @@ record Owes (s t : Space) (todo : List Work) : Type 0 where
   rest_is : rest t ≡ rest s
   todo_is : t.todo ≡ todo
 
-Owes-case : (s : Space) (x : DeathNotification) (b : Bool)
+Owes_case : (s : Space) (x : DeathNotification) (b : Bool)
     → Owes s (cond b (owe (with_phase s x.made Queued) (OfProcess x.process) (Death x.made)) s) (cond b (owed_death s.steps s.todo x) s.todo)
 unfolding owe with_phase rest
-Owes-case s x true = record { rest_is = refl; todo_is = refl }
-Owes-case s x false = record { rest_is = refl; todo_is = refl }
+Owes_case s x true = record { rest_is = refl; todo_is = refl }
+Owes_case s x false = record { rest_is = refl; todo_is = refl }
 
-Owes-one : (p : ℕ) (s : Space) (x : DeathNotification) → Owes s (tell_death p s x) (cond (is_due s.objects p x) (owed_death s.steps s.todo x) s.todo)
-Owes-one p s x = Owes-case s x (is_due s.objects p x)
+Owes_one : (p : ℕ) (s : Space) (x : DeathNotification) → Owes s (tell_death p s x) (cond (is_due s.objects p x) (owed_death s.steps s.todo x) s.todo)
+Owes_one p s x = Owes_case s x (is_due s.objects p x)
 
 -- what the notifications that are due make
 told : ℕ → List Object → ℕ → List Work → List DeathNotification → List Work
 told place os p todo xs = fold (owed_death place) todo (filter (is_due os p) xs)
 
-told-in : (place : ℕ) (todo : List Work) (x : DeathNotification) (ys : List DeathNotification) (b : Bool)
+told_in : (place : ℕ) (todo : List Work) (x : DeathNotification) (ys : List DeathNotification) (b : Bool)
     → fold (owed_death place) (cond b (owed_death place todo x) todo) ys ≡ fold (owed_death place) todo (cond b (x ∷ ys) ys)
-told-in place todo x ys true = refl
-told-in place todo x ys false = refl
+told_in place todo x ys true = refl
+told_in place todo x ys false = refl
 
-Owes-all : (p : ℕ) (xs : List DeathNotification) (s : Space) → Owes s (fold (tell_death p) s xs) (told s.steps s.objects p s.todo xs)
+Owes_all : (p : ℕ) (xs : List DeathNotification) (s : Space) → Owes s (fold (tell_death p) s xs) (told s.steps s.objects p s.todo xs)
 unfolding rest told
-Owes-all p [] s = record { rest_is = refl; todo_is = refl }
-Owes-all p (x ∷ xs) s =
+Owes_all p [] s = record { rest_is = refl; todo_is = refl }
+Owes_all p (x ∷ xs) s =
     let t = tell_death p s x in
-    let one = Owes-one p s x in
-    let more = Owes-all p xs t in
+    let one = Owes_one p s x in
+    let more = Owes_all p xs t in
     let steps : t.steps ≡ s.steps = ap (λ z. z.steps) one.rest_is in
     let objects : t.objects ≡ s.objects = ap (λ z. z.objects) one.rest_is in
     record {
@@ -67,15 +67,15 @@ Owes-all p (x ∷ xs) s =
           ∙ ap (λ n. told n t.objects p t.todo xs) steps
           ∙ ap (λ os. told s.steps os p t.todo xs) objects
           ∙ ap (λ todo. told s.steps s.objects p todo xs) one.todo_is
-          ∙ told-in s.steps s.todo x (filter (is_due s.objects p) xs) (is_due s.objects p x);
+          ∙ told_in s.steps s.todo x (filter (is_due s.objects p) xs) (is_due s.objects p x);
     }
 
 -- tables whose work items tell it, once their death notifications do
-pub told-stands : (t : Tables) (os : ObjectTable) (s : Space) (p : ℕ) → Within t (owed s (filter (is_due s.objects p) s.deaths))
+pub told_stands : (t : Tables) (os : ObjectTable) (s : Space) (p : ℕ) → Within t (owed s (filter (is_due s.objects p) s.deaths))
     → objects.StandsFor os (tell_deaths s p) → Within (record t { objects = os }) (tell_deaths s p)
 unfolding rest tell_deaths told
-told-stands t os s p h k =
-    let all = Owes-all p s.deaths s in
+told_stands t os s p h k =
+    let all = Owes_all p s.deaths s in
     let e = sym all.rest_is in
     let todo = sym all.todo_is in
     record {
@@ -92,27 +92,27 @@ told-stands t os s p h k =
 
 -- ---- one notification more
 
-pub owed-more : (n : ℕ) (t : Tables) (s : Space) (due : List DeathNotification) (k : ℕ) (d : DeathNotification) → k < length due
+pub owed_more : (n : ℕ) (t : Tables) (s : Space) (due : List DeathNotification) (k : ℕ) (d : DeathNotification) → k < length due
     → StandsAt n t (record s { todo = owed_death s.steps (owed s (take k due)).todo (get_or due k d) }) → StandsAt n t (owed s (take (k + 1) due))
-owed-more n t s due k d within h = subst (λ ws. StandsAt n t (record s { todo = ws })) (sym (fold_more (owed_death s.steps) s.todo due k d within)) h
+owed_more n t s due k d within h = subst (λ ws. StandsAt n t (record s { todo = ws })) (sym (fold_more (owed_death s.steps) s.todo due k d within)) h
 
 -- ---- what ends before it is told
 
-gone-deaths : (seats : List ℕ) (s : Space) → (fold thread_goes s seats).deaths ≡ s.deaths
+gone_deaths : (seats : List ℕ) (s : Space) → (fold thread_goes s seats).deaths ≡ s.deaths
 unfolding thread_goes
-gone-deaths [] s = refl
-gone-deaths (seat ∷ more) s = gone-deaths more (thread_goes s seat)
+gone_deaths [] s = refl
+gone_deaths (seat ∷ more) s = gone_deaths more (thread_goes s seat)
 
-gone-objects : (seats : List ℕ) (s : Space) → (fold thread_goes s seats).objects ≡ s.objects
+gone_objects : (seats : List ℕ) (s : Space) → (fold thread_goes s seats).objects ≡ s.objects
 unfolding thread_goes
-gone-objects [] s = refl
-gone-objects (seat ∷ more) s = gone-objects more (thread_goes s seat)
+gone_objects [] s = refl
+gone_objects (seat ∷ more) s = gone_objects more (thread_goes s seat)
 
 -- those that were due before anything ended are those that are, once the process has gone
-pub still-due : (s : Space) (p : ℕ) → due_in s.objects p s.deaths
+pub still_due : (s : Space) (p : ℕ) → due_in s.objects p s.deaths
     ≡ filter (is_due (without_process (threads_go s p) p).objects p) (without_process (threads_go s p) p).deaths
 unfolding without_process threads_go
-still-due s p =
+still_due s p =
     let seats = map seat_of (filter (λ (t : Thread). t.process == p) s.threads) in
     let gone = fold thread_goes s seats in
-    ap (λ os. due_in os p s.deaths) (sym (gone-objects seats s)) ∙ ap (due_in gone.objects p) (sym (gone-deaths seats s)) ∙ sym (both-filters _ _ _ (λ x. refl) gone.deaths)
+    ap (λ os. due_in os p s.deaths) (sym (gone_objects seats s)) ∙ ap (due_in gone.objects p) (sym (gone_deaths seats s)) ∙ sym (both_filters _ _ _ (λ x. refl) gone.deaths)

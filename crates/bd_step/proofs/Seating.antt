@@ -22,17 +22,17 @@ use Rattle.bd_space.specs.ProcessExits.{exit_process_step}
 use Rattle.bd_space.specs.Outcomes.{refused}
 
 -- a seat without a live thread can only open and attach
-pub nobody-changes : (s : Space) (seat : ℕ) (x : Step) → ((a b c : ℕ) → x ≡ Open a b c → ⊥) → ((a : ℕ) → x ≡ Attach a → ⊥) → actor s seat ≡ None
+pub nobody_changes : (s : Space) (seat : ℕ) (x : Step) → ((a b c : ℕ) → x ≡ Open a b c → ⊥) → ((a : ℕ) → x ≡ Attach a → ⊥) → actor s seat ≡ None
     → change s seat x ≡ refused s NoProcess
 unfolding change
-nobody-changes s seat (Open a b c) k l e = absurd (k a b c refl)
-nobody-changes s seat (Attach a) k l e = absurd (l a refl)
-nobody-changes s seat SetManager k l e = ap (λ o. by_actor s o (manager_step s)) e
-nobody-changes s seat (SetSpam on) k l e = ap (λ o. by_actor s o (spam_step s on)) e
-nobody-changes s seat (Command c parcel) k l e = ap (λ o. by_actor s o (λ a. command_step s a c parcel)) e
-nobody-changes s seat (Read limit) k l e = ap (λ o. by_actor s o (λ a. read_step s a limit)) e
-nobody-changes s seat ExitThread k l e = ap (λ o. by_actor s o (exit_thread_step s)) e
-nobody-changes s seat ExitProcess k l e = ap (λ o. by_actor s o (exit_process_step s)) e
+nobody_changes s seat (Open a b c) k l e = absurd (k a b c refl)
+nobody_changes s seat (Attach a) k l e = absurd (l a refl)
+nobody_changes s seat SetManager k l e = ap (λ o. by_actor s o (manager_step s)) e
+nobody_changes s seat (SetSpam on) k l e = ap (λ o. by_actor s o (spam_step s on)) e
+nobody_changes s seat (Command c parcel) k l e = ap (λ o. by_actor s o (λ a. command_step s a c parcel)) e
+nobody_changes s seat (Read limit) k l e = ap (λ o. by_actor s o (λ a. read_step s a limit)) e
+nobody_changes s seat ExitThread k l e = ap (λ o. by_actor s o (exit_thread_step s)) e
+nobody_changes s seat ExitProcess k l e = ap (λ o. by_actor s o (exit_process_step s)) e
 
 -- ---- the actor of a seat sits there
 
@@ -50,5 +50,5 @@ pub sits : (s : Space) (seat : ℕ) (a : Actor) → actor s seat ≡ Some a → 
 unfolding actor
 sits s seat a e = of_thread s seat (thread_in s.threads seat) a refl e
 
-pub acting-seat : (s : Space) (seat : ℕ) (a : Actor) (x : Step) → actor s seat ≡ Some a → IsTidy s → IsBy a s × (change s seat x ≡ change s a.thread.seat x)
-acting-seat s seat a x e q = let same = sym (sits s seat a e) in (record { acts = subst (λ n. actor s n ≡ Some a) same e; tidy = q }, ap (λ n. change s n x) same)
+pub acting_seat : (s : Space) (seat : ℕ) (a : Actor) (x : Step) → actor s seat ≡ Some a → IsTidy s → IsBy a s × (change s seat x ≡ change s a.thread.seat x)
+acting_seat s seat a x e q = let same = sym (sits s seat a e) in (record { acts = subst (λ n. actor s n ≡ Some a) same e; tidy = q }, ap (λ n. change s n x) same)

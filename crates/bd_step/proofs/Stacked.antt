@@ -9,28 +9,28 @@ use Rattle.bd_laws.specs.Lists.{In}
 use Rattle.bd_laws.specs.Frames.{IsFramed}
 use Rattle.bd_laws.specs.Stacks.{last_of}
 use Rattle.bd_laws.specs.Tidy.{IsTidy}
-use Rattle.bd_laws.proofs.Stacks.{innermost-last}
+use Rattle.bd_laws.proofs.Stacks.{innermost_last}
 
 abbrev or_else : Option Frame → Option Frame → Option Frame
 or_else None o = o
 or_else (Some f) o = Some f
 
-or-none : (o : Option Frame) → or_else o None ≡ o
-or-none None = refl
-or-none (Some f) = refl
+or_none : (o : Option Frame) → or_else o None ≡ o
+or_none None = refl
+or_none (Some f) = refl
 
-last-more : (f : Frame) (fs : List Frame) → last_of (f ∷ fs) ≡ or_else (last_of fs) (Some f)
-last-more f [] = refl
-last-more f (g ∷ gs) = let e = last-more g gs in e ∙ sym (kept (last_of gs)) ∙ ap (λ o. or_else o (Some f)) (sym e)
+last_more : (f : Frame) (fs : List Frame) → last_of (f ∷ fs) ≡ or_else (last_of fs) (Some f)
+last_more f [] = refl
+last_more f (g ∷ gs) = let e = last_more g gs in e ∙ sym (kept (last_of gs)) ∙ ap (λ o. or_else o (Some f)) (sym e)
   where
     kept : (o : Option Frame) → or_else (or_else o (Some g)) (Some f) ≡ or_else o (Some g)
     kept None = refl
     kept (Some x) = refl
 
 module _ (p : Frame → Bool) where
-  find-push : (fs : List Frame) (f : Frame) → find p (fs ++ f ∷ []) ≡ or_else (find p fs) (cond (p f) (Some f) None)
-  find-push [] f = refl
-  find-push (g ∷ gs) f = at (p g) (find-push gs f)
+  find_push : (fs : List Frame) (f : Frame) → find p (fs ++ f ∷ []) ≡ or_else (find p fs) (cond (p f) (Some f) None)
+  find_push [] f = refl
+  find_push (g ∷ gs) f = at (p g) (find_push gs f)
     where
       at : (b : Bool) → find p (gs ++ f ∷ []) ≡ or_else (find p gs) (cond (p f) (Some f) None)
           → cond b (Some g) (find p (gs ++ f ∷ [])) ≡ or_else (cond b (Some g) (find p gs)) (cond (p f) (Some f) None)
@@ -38,21 +38,21 @@ module _ (p : Frame → Bool) where
       at false h = h
 
   -- the last of those that pass is the first from behind
-  last-newest : (fs : List Frame) → last_of (filter p fs) ≡ find p (reverse fs)
-  last-newest [] = refl
-  last-newest (f ∷ fs) = at (p f) (last-newest fs) ∙ sym (find-push (reverse fs) f) ∙ ap (find p) (sym (reverse-append (f ∷ []) fs))
+  last_newest : (fs : List Frame) → last_of (filter p fs) ≡ find p (reverse fs)
+  last_newest [] = refl
+  last_newest (f ∷ fs) = at (p f) (last_newest fs) ∙ sym (find_push (reverse fs) f) ∙ ap (find p) (sym (reverse-append (f ∷ []) fs))
     where
       at : (b : Bool) → last_of (filter p fs) ≡ find p (reverse fs) → last_of (cond b (f ∷ filter p fs) (filter p fs)) ≡ or_else (find p (reverse fs)) (cond b (Some f) None)
-      at true h = last-more f (filter p fs) ∙ ap (λ o. or_else o (Some f)) h
-      at false h = h ∙ sym (or-none (find p (reverse fs)))
+      at true h = last_more f (filter p fs) ∙ ap (λ o. or_else o (Some f)) h
+      at false h = h ∙ sym (or_none (find p (reverse fs)))
 
-pub tidy-stacked : (s : Space) → IsTidy s → IsStacked s
-tidy-stacked s tidy seat = innermost-last s tidy seat ∙ last-newest (takes_part seat) s.frames
+pub tidy_stacked : (s : Space) → IsTidy s → IsStacked s
+tidy_stacked s tidy seat = innermost_last s tidy seat ∙ last_newest (takes_part seat) s.frames
 
 -- and all were made before the step
-pub tidy-takes : (s : Space) → IsTidy s → TakesCalls s
+pub tidy_takes : (s : Space) → IsTidy s → TakesCalls s
 unfolding IsFramed
-tidy-takes s tidy = record { stacked = tidy-stacked s tidy; before = all 0 s.frames (omega arith) tidy.framed.below }
+tidy_takes s tidy = record { stacked = tidy_stacked s tidy; before = all 0 s.frames (omega arith) tidy.framed.below }
   where
     all : (m : ℕ) (fs : List Frame) → m ≤ s.steps → ((f : Frame) → In f fs → f.made < s.steps) → IsAfter m fs s.steps
     all m [] h below = h

@@ -93,22 +93,22 @@ calls_changed t cs s z same h k =
       windows_stand = subst (λ z. WindowsOf t.windows (z.steps + 1) z.processes z.buffers) e h.windows_stand;
     }
 
-pub settled-stands : (t : Tables) (cs : CallTable) (s : Space) → Within t s → calls.StandsFor cs (settle s) → Within (record t { calls = cs }) (settle s)
-settled-stands t cs s h k = calls_changed t cs s (settle s) (settle_rest s) h k
+pub settled_stands : (t : Tables) (cs : CallTable) (s : Space) → Within t s → calls.StandsFor cs (settle s) → Within (record t { calls = cs }) (settle s)
+settled_stands t cs s h k = calls_changed t cs s (settle s) (settle_rest s) h k
 
-pub closed-up-stands : (t : Tables) (cs : CallTable) (s : Space) (made : Option ℕ) → Within t s → calls.StandsFor cs (close_up (length s.frames) made s)
+pub closed_up_stands : (t : Tables) (cs : CallTable) (s : Space) (made : Option ℕ) → Within t s → calls.StandsFor cs (close_up (length s.frames) made s)
     → Within (record t { calls = cs }) (close_up (length s.frames) made s)
-closed-up-stands t cs s made h k = calls_changed t cs s _ (up_rest (length s.frames) made s) h k
+closed_up_stands t cs s made h k = calls_changed t cs s _ (up_rest (length s.frames) made s) h k
 
-pub closed-among-stands : (t : Tables) (cs : CallTable) (s : Space) (c : ℕ → Bool) → Within t s → calls.StandsFor cs (close_among (length s.frames) c s)
+pub closed_among_stands : (t : Tables) (cs : CallTable) (s : Space) (c : ℕ → Bool) → Within t s → calls.StandsFor cs (close_among (length s.frames) c s)
     → Within (record t { calls = cs }) (close_among (length s.frames) c s)
-closed-among-stands t cs s c h k = calls_changed t cs s _ (among_rest (length s.frames) c s) h k
+closed_among_stands t cs s c h k = calls_changed t cs s _ (among_rest (length s.frames) c s) h k
 
 -- ---- numbers past the limit
 
-names-completed : (s : Space) → (completed s).names ≡ (names_go s).names
+names_completed : (s : Space) → (completed s).names ≡ (names_go s).names
 unfolding completed follow notify work_goes deaths_go objects_go names_go ripen rest
-names-completed s = ap (λ (z : Space). z.names) (settle_rest (follow (ripen s)))
+names_completed s = ap (λ (z : Space). z.names) (settle_rest (follow (ripen s)))
 
-pub numbers-completed : (s : Space) → has_number_past_limit (names_go s).names ≡ true → has_number_past_limit (completed s).names ≡ true
-numbers-completed s e = ap has_number_past_limit (names-completed s) ∙ e
+pub numbers_completed : (s : Space) → has_number_past_limit (names_go s).names ≡ true → has_number_past_limit (completed s).names ≡ true
+numbers_completed s e = ap has_number_past_limit (names_completed s) ∙ e

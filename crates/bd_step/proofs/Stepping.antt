@@ -31,14 +31,14 @@ use Rattle.bd_space.specs.Replies.{caller_of, reply_check, replied, reply_refuse
 use Rattle.bd_calls.specs.Stacked.{TakesCalls}
 use Rattle.bd_step.specs.declared.tables.Tables.{Tables}
 use Rattle.bd_step.specs.Stands.{StandsAt, Within}
-use Rattle.bd_laws.proofs.Checks.{actor-acts}
-use Rattle.bd_step.proofs.Finding.{found-lives}
+use Rattle.bd_laws.proofs.Checks.{actor_acts}
+use Rattle.bd_step.proofs.Finding.{found_lives}
 
 -- ---- processes that are found live
 
-pub if-lives : (ps : List Process) (made : ℕ) (r : Option Process) → r ≡ process_in ps made → IfSome r (λ q. process_in ps q.made ≡ Some q)
-if-lives ps made None e = tt
-if-lives ps made (Some q) e = found-lives ps made q (sym e)
+pub if_lives : (ps : List Process) (made : ℕ) (r : Option Process) → r ≡ process_in ps made → IfSome r (λ q. process_in ps q.made ≡ Some q)
+if_lives ps made None e = tt
+if_lives ps made (Some q) e = found_lives ps made q (sym e)
 
 -- ---- whom a transaction goes to
 
@@ -48,24 +48,24 @@ callee o q = record { object = o; process = q }
 abbrev with_owner : Space → ObjectId → Result Callee Cause
 with_owner s o = ok_or (option_map (callee o) (owner_of s o)) DeadOwner
 
-pub target-manager : (s : Space) (p handle : ℕ) (o : ObjectId) → handle ≡ 0 → s.manager ≡ Some o → not_own s p o ≡ target_of s p handle
+pub target_manager : (s : Space) (p handle : ℕ) (o : ObjectId) → handle ≡ 0 → s.manager ≡ Some o → not_own s p o ≡ target_of s p handle
 unfolding target_of
-target-manager s p handle o e m =
+target_manager s p handle o e m =
     ap (λ (x : Option ObjectId). and_then (ok_or x NoManager) (not_own s p)) (sym m) ∙ rw e refl
 
-pub owner-dead : (s : Space) (p handle : ℕ) (o : ObjectId) → Ok o ≡ target_of s p handle → None ≡ owner_of s o → Err DeadOwner ≡ callee_of s p handle
+pub owner_dead : (s : Space) (p handle : ℕ) (o : ObjectId) → Ok o ≡ target_of s p handle → None ≡ owner_of s o → Err DeadOwner ≡ callee_of s p handle
 unfolding callee_of
-owner-dead s p handle o e k =
+owner_dead s p handle o e k =
     ap (λ (x : Option Process). ok_or (option_map (λ (q : Process). callee o q) x) DeadOwner) k ∙ ap (λ (r : Result ObjectId Cause). and_then r (with_owner s)) e
 
-pub owner-lives : (s : Space) (p handle : ℕ) (o : ObjectId) (q : Process) → Ok o ≡ target_of s p handle → Some q ≡ owner_of s o → Ok (callee o q) ≡ callee_of s p handle
+pub owner_lives : (s : Space) (p handle : ℕ) (o : ObjectId) (q : Process) → Ok o ≡ target_of s p handle → Some q ≡ owner_of s o → Ok (callee o q) ≡ callee_of s p handle
 unfolding callee_of
-owner-lives s p handle o q e k =
+owner_lives s p handle o q e k =
     ap (λ (x : Option Process). ok_or (option_map (λ (q : Process). callee o q) x) DeadOwner) k ∙ ap (λ (r : Result ObjectId Cause). and_then r (with_owner s)) e
 
-pub no-target : (s : Space) (p handle : ℕ) (x : Cause) → Err x ≡ target_of s p handle → Err x ≡ callee_of s p handle
+pub no_target : (s : Space) (p handle : ℕ) (x : Cause) → Err x ≡ target_of s p handle → Err x ≡ callee_of s p handle
 unfolding callee_of
-no-target s p handle x e = ap (λ (r : Result ObjectId Cause). and_then r (with_owner s)) e
+no_target s p handle x e = ap (λ (r : Result ObjectId Cause). and_then r (with_owner s)) e
 
 -- ---- the whole test of a transaction
 
@@ -76,20 +76,20 @@ module _ (s : Space) (a : Actor) (d : TransactionData) (parcel : Option Parcel) 
   abbrev rest : Callee → Result Delivery Cause
   rest c = and_then (unless (if is_one_way d then None else caller_cause s a.thread.seat) c) sent_to
 
-  pub no-callee : (x : Cause) → Err x ≡ callee_of s a.process.made n → Err x ≡ transaction_check s a d parcel
+  pub no_callee : (x : Cause) → Err x ≡ callee_of s a.process.made n → Err x ≡ transaction_check s a d parcel
   unfolding transaction_check
-  no-callee x e = ap (λ (r : Result Callee Cause). and_then r rest) (e ∙ ap (callee_of s a.process.made) handle)
+  no_callee x e = ap (λ (r : Result Callee Cause). and_then r rest) (e ∙ ap (callee_of s a.process.made) handle)
 
-  pub may-not-call : (c : Callee) (b : Bool) (x : Cause) → Ok c ≡ callee_of s a.process.made n → b ≡ is_one_way d → Some x ≡ (if b then None else caller_cause s a.thread.seat) → Err x ≡ transaction_check s a d parcel
+  pub may_not_call : (c : Callee) (b : Bool) (x : Cause) → Ok c ≡ callee_of s a.process.made n → b ≡ is_one_way d → Some x ≡ (if b then None else caller_cause s a.thread.seat) → Err x ≡ transaction_check s a d parcel
   unfolding transaction_check
-  may-not-call c b x e o k =
+  may_not_call c b x e o k =
       ap (λ (y : Option Cause). and_then (unless y c) sent_to) (k ∙ ap (λ (v : Bool). if v then None else caller_cause s a.thread.seat) o)
       ∙ ap (λ (r : Result Callee Cause). and_then r rest) (e ∙ ap (callee_of s a.process.made) handle)
 
-  pub may-call : (c : Callee) (b : Bool) → Ok c ≡ callee_of s a.process.made n → b ≡ is_one_way d → None ≡ (if b then None else caller_cause s a.thread.seat)
+  pub may_call : (c : Callee) (b : Bool) → Ok c ≡ callee_of s a.process.made n → b ≡ is_one_way d → None ≡ (if b then None else caller_cause s a.thread.seat)
       → and_then (sending_of s a.process.made d parcel) (placed_for s d c.process (Some c.object) b) ≡ transaction_check s a d parcel
   unfolding transaction_check
-  may-call c b e o k =
+  may_call c b e o k =
       ap (λ (v : Bool). and_then (sending_of s a.process.made d parcel) (placed_for s d c.process (Some c.object) v)) o
       ∙ ap (λ (y : Option Cause). and_then (unless y c) sent_to) (k ∙ ap (λ (v : Bool). if v then None else caller_cause s a.thread.seat) o)
       ∙ ap (λ (r : Result Callee Cause). and_then r rest) (e ∙ ap (callee_of s a.process.made) handle)
@@ -101,17 +101,17 @@ unfolding call_out owe names_go
 called_names z seat p true = refl
 called_names z seat p false = refl
 
-pub transacted-full : (s : Space) (a : Actor) (d : TransactionData) (v : Delivery) → has_number_past_limit (names_go (known_by s v)).names ≡ true
+pub transacted_full : (s : Space) (a : Actor) (d : TransactionData) (v : Delivery) → has_number_past_limit (names_go (known_by s v)).names ≡ true
     → has_number_past_limit (names_go (transacted s a d v)).names ≡ true
 unfolding transacted owe delivered own_notices add_buffer names_go
-transacted-full s a d v e =
+transacted_full s a d v e =
     let z = delivered s a d v in
     ap has_number_past_limit (called_names (owe z (OfThread a.thread.seat) (Complete (is_spam z a v))) a.thread.seat v.receiver.made v.one_way) ∙ e
 
 -- a delivery leaves the frames as they are
-pub sent-takes : (s : Space) (a : Actor) (d : TransactionData) (v : Delivery) → TakesCalls s → TakesCalls (delivered s a d v)
+pub sent_takes : (s : Space) (a : Actor) (d : TransactionData) (v : Delivery) → TakesCalls s → TakesCalls (delivered s a d v)
 unfolding delivered own_notices add_buffer known_by assign_numbers refer make_objects
-sent-takes s a d v k = record { stacked = k.stacked; before = k.before }
+sent_takes s a d v k = record { stacked = k.stacked; before = k.before }
 
 -- nor does it change a process
 sent_processes : (s : Space) (a : Actor) (d : TransactionData) (v : Delivery) → (delivered s a d v).processes ≡ s.processes
@@ -126,22 +126,22 @@ called_within t z seat p false spam h = h
 
 module _ (s : Space) (a : Actor) (d : TransactionData) (v : Delivery) (p : ℕ) (b : Bool) (receiver : p ≡ v.receiver.made) (one_way : b ≡ v.one_way) where
   -- what is told of the receiver that is found after the delivery is told of the delivery
-  pub spam-told : (spam : Bool) → process_in s.processes v.receiver.made ≡ Some v.receiver
+  pub spam_told : (spam : Bool) → process_in s.processes v.receiver.made ≡ Some v.receiver
       → ((q : Process) → process_in (delivered s a d v).processes p ≡ Some q
       → spam ≡ (a.process.spam_detection && b && floods q.window (buffers_of (delivered s a d v).buffers p) a.process.made))
       → spam ≡ is_spam (delivered s a d v) a v
   unfolding is_spam
-  spam-told spam lives told =
+  spam_told spam lives told =
       let z = delivered s a d v in
       let found = ap (λ (qs : List Process). process_in qs p) (sent_processes s a d v) ∙ ap (process_in s.processes) receiver ∙ lives in
       told v.receiver found
       ∙ ap (λ (c : Bool). a.process.spam_detection && c && floods v.receiver.window (buffers_of z.buffers p) a.process.made) one_way
       ∙ ap (λ (q : ℕ). a.process.spam_detection && v.one_way && floods v.receiver.window (buffers_of z.buffers q) a.process.made) receiver
 
-  pub transacted-stands : (t : Tables) (spam : Bool) → spam ≡ is_spam (delivered s a d v) a v
+  pub transacted_stands : (t : Tables) (spam : Bool) → spam ≡ is_spam (delivered s a d v) a v
       → StandsAt ((delivered s a d v).steps + 1) t (called (owe (delivered s a d v) (OfThread a.thread.seat) (Complete spam)) a.thread.seat p b) → Within t (transacted s a d v)
   unfolding transacted
-  transacted-stands t spam is h =
+  transacted_stands t spam is h =
       let z = delivered s a d v in
       let one = subst (λ (q : ℕ). StandsAt (z.steps + 1) t (called (owe z (OfThread a.thread.seat) (Complete spam)) a.thread.seat q b)) receiver h in
       let two = subst (λ (c : Bool). StandsAt (z.steps + 1) t (called (owe z (OfThread a.thread.seat) (Complete spam)) a.thread.seat v.receiver.made c)) one_way one in
@@ -150,48 +150,48 @@ module _ (s : Space) (a : Actor) (d : TransactionData) (v : Delivery) (p : ℕ) 
 
 -- ---- the step of a transaction
 
-pub transaction-stops : (s : Space) (a : Actor) (d : TransactionData) (parcel : Option Parcel) (x : Cause) (told : Return) → Err x ≡ transaction_check s a d parcel → told ≡ refusal x
+pub transaction_stops : (s : Space) (a : Actor) (d : TransactionData) (parcel : Option Parcel) (x : Cause) (told : Return) → Err x ≡ transaction_check s a d parcel → told ≡ refusal x
     → transaction_step s a d parcel ≡ stopped x (owe s (OfThread a.thread.seat) (Refusal told))
 unfolding transaction_step
-transaction-stops s a d parcel x told e k =
+transaction_stops s a d parcel x told e k =
     ap (transaction_outcome s a d) (sym e) ∙ ap (λ (r : Return). stopped x (owe s (OfThread a.thread.seat) (Refusal r))) (sym k)
 
-pub transaction-sends : (s : Space) (a : Actor) (d : TransactionData) (parcel : Option Parcel) (v : Delivery) → Ok v ≡ transaction_check s a d parcel
+pub transaction_sends : (s : Space) (a : Actor) (d : TransactionData) (parcel : Option Parcel) (v : Delivery) → Ok v ≡ transaction_check s a d parcel
     → transaction_step s a d parcel ≡ accepted (transacted s a d v)
 unfolding transaction_step
-transaction-sends s a d parcel v e = ap (transaction_outcome s a d) (sym e)
+transaction_sends s a d parcel v e = ap (transaction_outcome s a d) (sym e)
 
 -- ---- whom a reply goes to
 
-pub actor-lives : (s : Space) (seat : ℕ) (r : Option Actor) → r ≡ actor s seat → IfSome r (λ c. process_in s.processes c.process.made ≡ Some c.process)
-actor-lives s seat None e = tt
-actor-lives s seat (Some c) e = (actor-acts s seat c (sym e)).found
+pub actor_lives : (s : Space) (seat : ℕ) (r : Option Actor) → r ≡ actor s seat → IfSome r (λ c. process_in s.processes c.process.made ≡ Some c.process)
+actor_lives s seat None e = tt
+actor_lives s seat (Some c) e = (actor_acts s seat c (sym e)).found
 
-pub caller-is : (s : Space) (f : Frame) (o : Option ℕ) → f.caller ≡ o → option_and_then (actor s) o ≡ caller_of s f
+pub caller_is : (s : Space) (f : Frame) (o : Option ℕ) → f.caller ≡ o → option_and_then (actor s) o ≡ caller_of s f
 unfolding caller_of
-caller-is s f o e = ap (λ (x : Option ℕ). option_and_then (actor s) x) (sym e)
+caller_is s f o e = ap (λ (x : Option ℕ). option_and_then (actor s) x) (sym e)
 
 module _ (s : Space) (a : Actor) (d : TransactionData) (parcel : Option Parcel) (f : Frame) where
   abbrev reply_to_caller : Actor → Result Delivery Cause
   reply_to_caller c = and_then (sending_of s a.process.made d parcel) (placed_for s d c.process None false)
 
-  pub caller-gone : None ≡ caller_of s f → Err CallerGone ≡ reply_check s a d parcel f
+  pub caller_gone : None ≡ caller_of s f → Err CallerGone ≡ reply_check s a d parcel f
   unfolding reply_check
-  caller-gone e = ap (λ (o : Option Actor). and_then (ok_or o CallerGone) reply_to_caller) e
+  caller_gone e = ap (λ (o : Option Actor). and_then (ok_or o CallerGone) reply_to_caller) e
 
-  pub caller-there : (c : Actor) → Some c ≡ caller_of s f → and_then (sending_of s a.process.made d parcel) (placed_for s d c.process None false) ≡ reply_check s a d parcel f
+  pub caller_there : (c : Actor) → Some c ≡ caller_of s f → and_then (sending_of s a.process.made d parcel) (placed_for s d c.process None false) ≡ reply_check s a d parcel f
   unfolding reply_check
-  caller-there c e = ap (λ (o : Option Actor). and_then (ok_or o CallerGone) reply_to_caller) e
+  caller_there c e = ap (λ (o : Option Actor). and_then (ok_or o CallerGone) reply_to_caller) e
 
-  pub reply-stops : (x : Cause) → Err x ≡ reply_check s a d parcel f → reply_to s a d parcel (Some f) ≡ stopped x (reply_refused s a.thread.seat f)
-  reply-stops x e = ap (reply_outcome s a d f) (sym e)
+  pub reply_stops : (x : Cause) → Err x ≡ reply_check s a d parcel f → reply_to s a d parcel (Some f) ≡ stopped x (reply_refused s a.thread.seat f)
+  reply_stops x e = ap (reply_outcome s a d f) (sym e)
 
-  pub reply-answers : (v : Delivery) → Ok v ≡ reply_check s a d parcel f → reply_to s a d parcel (Some f) ≡ accepted (replied s a d f v)
-  reply-answers v e = ap (reply_outcome s a d f) (sym e)
+  pub reply_answers : (v : Delivery) → Ok v ≡ reply_check s a d parcel f → reply_to s a d parcel (Some f) ≡ accepted (replied s a d f v)
+  reply_answers v e = ap (reply_outcome s a d f) (sym e)
 
-pub reply-by-frame : (s : Space) (a : Actor) (d : TransactionData) (parcel : Option Parcel) (o : Option Frame) → o ≡ served_innermost s a.thread.seat → reply_step s a d parcel ≡ reply_to s a d parcel o
+pub reply_by_frame : (s : Space) (a : Actor) (d : TransactionData) (parcel : Option Parcel) (o : Option Frame) → o ≡ served_innermost s a.thread.seat → reply_step s a d parcel ≡ reply_to s a d parcel o
 unfolding reply_step
-reply-by-frame s a d parcel o e = ap (reply_to s a d parcel) (sym e)
+reply_by_frame s a d parcel o e = ap (reply_to s a d parcel) (sym e)
 
 -- ---- the change of a reply
 
@@ -201,10 +201,10 @@ unfolding owe names_go
 told_names z None kind = refl
 told_names z (Some u) kind = refl
 
-pub replied-full : (s : Space) (a : Actor) (d : TransactionData) (f : Frame) (v : Delivery) → has_number_past_limit (names_go (known_by s v)).names ≡ true
+pub replied_full : (s : Space) (a : Actor) (d : TransactionData) (f : Frame) (v : Delivery) → has_number_past_limit (names_go (known_by s v)).names ≡ true
     → has_number_past_limit (names_go (replied s a d f v)).names ≡ true
 unfolding replied owe closed delivered known_by assign_numbers refer make_objects own_notices add_buffer names_go
-replied-full s a d f v e =
+replied_full s a d f v e =
     ap has_number_past_limit (told_names (owe (delivered (closed s f.made) a d v) (OfThread a.thread.seat) (Complete false)) f.caller (Reply s.steps)) ∙ e
 
 told_at : (n : ℕ) (t : Tables) (z : Space) (caller : Option ℕ) (kind : WorkKind) → n ≡ z.steps + 1
@@ -219,14 +219,14 @@ closed_first : (s : Space) (a : Actor) (d : TransactionData) (made : ℕ) (v : D
 unfolding closed delivered known_by assign_numbers refer make_objects own_notices add_buffer translation
 closed_first s a d made v = refl
 
-pub replied-stands : (t : Tables) (s : Space) (a : Actor) (d : TransactionData) (f : Frame) (v : Delivery)
+pub replied_stands : (t : Tables) (s : Space) (a : Actor) (d : TransactionData) (f : Frame) (v : Delivery)
     → StandsAt ((delivered s a d v).steps + 1) t (tell_caller (owe (closed (delivered s a d v) f.made) (OfThread a.thread.seat) (Complete false)) f (Reply (delivered s a d v).steps))
     → Within t (replied s a d f v)
 unfolding replied owe closed delivered known_by assign_numbers refer make_objects own_notices add_buffer translation
-replied-stands t s a d f v h =
+replied_stands t s a d f v h =
     told_at _ t (owe (closed (delivered s a d v) f.made) (OfThread a.thread.seat) (Complete false)) f.caller (Reply s.steps) refl h
 
-pub refused-stands : (t : Tables) (s : Space) (seat : ℕ) (f : Frame) → StandsAt (s.steps + 1) t (reply_refused s seat f) → Within t (reply_refused s seat f)
+pub refused_stands : (t : Tables) (s : Space) (seat : ℕ) (f : Frame) → StandsAt (s.steps + 1) t (reply_refused s seat f) → Within t (reply_refused s seat f)
 unfolding reply_refused owe closed
-refused-stands t s seat f h =
+refused_stands t s seat f h =
     told_at (s.steps + 1) t (closed (owe s (OfThread seat) (Refusal TransactionComplete)) f.made) f.caller (Verdict FailedReply) refl h

@@ -44,8 +44,8 @@ module _ (s : Space) (left : ℕ) (w : Work) (ws : List Work) where
   abbrev then_rest : List Work
   then_rest = taken s (left - length (bytes_read s w)) ws
 
-  pub taken-on : nat_lt left 68 ≡ false → ends_read w.kind ≡ false → taken s left (w ∷ ws) ≡ w ∷ then_rest
-  taken-on e t = ap (λ b. cond b [] (w ∷ cond (ends_read w.kind) [] then_rest)) e ∙ ap (λ b. w ∷ cond b [] then_rest) t
+  pub taken_on : nat_lt left 68 ≡ false → ends_read w.kind ≡ false → taken s left (w ∷ ws) ≡ w ∷ then_rest
+  taken_on e t = ap (λ b. cond b [] (w ∷ cond (ends_read w.kind) [] then_rest)) e ∙ ap (λ b. w ∷ cond b [] then_rest) t
 
 -- ---- what is taken so far, and what still is to be
 
@@ -72,24 +72,24 @@ module _ (s : Space) (limit : ℕ) (list : List Work) where
   abbrev pub IsAt : List Work → List Work → List ℕ → Type 0
   IsAt rest works stream = IsSoFar s all works stream (taken s (limit - length stream) rest)
 
-  pub at-start : (rest works : List Work) (stream : List ℕ) → rest ≡ list → works ≡ [] → stream ≡ return_bytes Noop → IsAt rest works stream
-  at-start rest works stream r e f = rw (r, e, f) (begun s all)
+  pub at_start : (rest works : List Work) (stream : List ℕ) → rest ≡ list → works ≡ [] → stream ≡ return_bytes Noop → IsAt rest works stream
+  at_start rest works stream r e f = rw (r, e, f) (begun s all)
 
   module _ (before rest : List Work) (w : Work) (works : List Work) (stream : List ℕ) where
     -- the item is the first of the rest
     there : IsAt before works stream → before ≡ w ∷ rest → IsAt (w ∷ rest) works stream
     there h e = subst (λ ws. IsAt ws works stream) e h
 
-    pub at-next : (works' : List Work) (stream' : List ℕ) → IsAt before works stream → before ≡ w ∷ rest → nat_lt (limit - length stream) 68 ≡ false → ends_read w.kind ≡ false
+    pub at_next : (works' : List Work) (stream' : List ℕ) → IsAt before works stream → before ≡ w ∷ rest → nat_lt (limit - length stream) 68 ≡ false → ends_read w.kind ≡ false
         → works' ≡ works ++ w ∷ [] → stream' ≡ stream ++ bytes_read s w → IsAt rest works' stream'
-    at-next works' stream' h e room ends f g =
+    at_next works' stream' h e room ends f g =
         let less : limit - length stream' ≡ limit - length stream - length (bytes_read s w) = omega (arith, ap length g, length-append stream (bytes_read s w)) in
-        rw less (pushed s all works works' stream stream' w _ (subst (IsSoFar s all works stream) (taken-on s (limit - length stream) w rest room ends) (there h e)) f g)
+        rw less (pushed s all works works' stream stream' w _ (subst (IsSoFar s all works stream) (taken_on s (limit - length stream) w rest room ends) (there h e)) f g)
 
 -- ---- the step by its cases
 
-pub too-small : (limit : ℕ) (ws : List Work) → limit < 72 → read_fault limit ws ≡ Some ReadTooSmall
-too-small limit ws h = ap (λ b. first_of (when b ReadTooSmall ∷ when (none_due ws) Again ∷ [])) (lt_true limit 72 h)
+pub too_small : (limit : ℕ) (ws : List Work) → limit < 72 → read_fault limit ws ≡ Some ReadTooSmall
+too_small limit ws h = ap (λ b. first_of (when b ReadTooSmall ∷ when (none_due ws) Again ∷ [])) (lt_true limit 72 h)
 
 pub nothing : (limit : ℕ) (ws : List Work) → 72 ≤ limit → none_due ws ≡ true → read_fault limit ws ≡ Some Again
 nothing limit ws h e =

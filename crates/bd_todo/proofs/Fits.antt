@@ -6,6 +6,6 @@ use Rattle.bd_todo.specs.QueuesStand.{queue_room}
 use Rattle.bd_todo.specs.Registered.{register_room}
 use Rattle.bd_todo.specs.Stands.{work_room}
 
-pub room-fits : (t : WorkTable) → work_room t < 2 ^ 64
+pub room_fits : (t : WorkTable) → work_room t < 2 ^ 64
 unfolding work_room
-room-fits t = omega (arith, min-le_right (min (queue_room t.queues) (register_room t.register)) 18446744073709551615)
+room_fits t = omega (arith, min-le_right (min (queue_room t.queues) (register_room t.register)) 18446744073709551615)

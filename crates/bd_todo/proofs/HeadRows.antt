@@ -11,49 +11,49 @@ use Rattle.bd_todo.specs.Keys.{list_key, same_key}
 use Rattle.bd_todo.specs.Heads.{row_of, head_by}
 use Rattle.bd_todo.proofs.ListKeys.{same_keys}
 
-row-some : (n t i : ℕ) → row_of n (OfThread t) ≡ Some i → (t ≡ i) × (t < n)
-row-some n t i h = at (nat_lt t n) refl h
+row_some : (n t i : ℕ) → row_of n (OfThread t) ≡ Some i → (t ≡ i) × (t < n)
+row_some n t i h = at (nat_lt t n) refl h
   where
     at : (b : Bool) → nat_lt t n ≡ b → cond b (Some t) None ≡ Some i → (t ≡ i) × (t < n)
     at true e h = (cc, ltb-true t n e)
     at false e h = absurd (cc)
 
-row-none : (n t : ℕ) → row_of n (OfThread t) ≡ None → n ≤ t
-row-none n t h = at (nat_lt t n) refl h
+row_none : (n t : ℕ) → row_of n (OfThread t) ≡ None → n ≤ t
+row_none n t h = at (nat_lt t n) refl h
   where
     at : (b : Bool) → nat_lt t n ≡ b → cond b (Some t) None ≡ None → n ≤ t
     at true e h = absurd (cc)
     at false e h = ltb-false t n e
 
-pub row-within : (n i : ℕ) (l : TodoList) → row_of n l ≡ Some i → i < n
-row-within n i (OfThread t) h = let r = row-some n t i h in omega (arith, r.0, r.1)
-row-within n i (OfProcess p) h = absurd (cc)
+pub row_within : (n i : ℕ) (l : TodoList) → row_of n l ≡ Some i → i < n
+row_within n i (OfThread t) h = let r = row_some n t i h in omega (arith, r.0, r.1)
+row_within n i (OfProcess p) h = absurd (cc)
 
 -- one list with a row and one without are two
-pub row-apart : (n i : ℕ) (a b : TodoList) → row_of n a ≡ Some i → row_of n b ≡ None → same_list a b ≡ false
-row-apart n i (OfThread t) (OfThread u) h g =
-    ne_eqb t u (λ e. let r = row-some n t i h in omega (arith, r.1, e, row-none n u g))
-row-apart n i (OfThread t) (OfProcess q) h g = refl
-row-apart n i (OfProcess p) b h g = absurd (cc)
+pub row_apart : (n i : ℕ) (a b : TodoList) → row_of n a ≡ Some i → row_of n b ≡ None → same_list a b ≡ false
+row_apart n i (OfThread t) (OfThread u) h g =
+    ne_eqb t u (λ e. let r = row_some n t i h in omega (arith, r.1, e, row_none n u g))
+row_apart n i (OfThread t) (OfProcess q) h g = refl
+row_apart n i (OfProcess p) b h g = absurd (cc)
 
-pub apart-row : (n j : ℕ) (a b : TodoList) → row_of n a ≡ None → row_of n b ≡ Some j → same_list a b ≡ false
-apart-row n j (OfThread t) (OfThread u) h g =
-    ne_eqb t u (λ e. let r = row-some n u j g in omega (arith, r.1, e, row-none n t h))
-apart-row n j (OfProcess p) (OfThread u) h g = refl
-apart-row n j a (OfProcess q) h g = absurd (cc)
+pub apart_row : (n j : ℕ) (a b : TodoList) → row_of n a ≡ None → row_of n b ≡ Some j → same_list a b ≡ false
+apart_row n j (OfThread t) (OfThread u) h g =
+    ne_eqb t u (λ e. let r = row_some n u j g in omega (arith, r.1, e, row_none n t h))
+apart_row n j (OfProcess p) (OfThread u) h g = refl
+apart_row n j a (OfProcess q) h g = absurd (cc)
 
 -- two with rows are the same by their rows
-pub rows-same : (n i j : ℕ) (a b : TodoList) → row_of n a ≡ Some i → row_of n b ≡ Some j → same_list a b ≡ (i == j)
-rows-same n i j (OfThread t) (OfThread u) h g =
-    let r = row-some n t i h in let s = row-some n u j g in
+pub rows_same : (n i j : ℕ) (a b : TodoList) → row_of n a ≡ Some i → row_of n b ≡ Some j → same_list a b ≡ (i == j)
+rows_same n i j (OfThread t) (OfThread u) h g =
+    let r = row_some n t i h in let s = row_some n u j g in
     ap (λ x. x == u) r.0 ∙ ap (λ y. i == y) s.0
-rows-same n i j (OfThread t) (OfProcess q) h g = absurd (cc)
-rows-same n i j (OfProcess p) b h g = absurd (cc)
+rows_same n i j (OfThread t) (OfProcess q) h g = absurd (cc)
+rows_same n i j (OfProcess p) b h g = absurd (cc)
 
 -- a row after a change at another, or at its own
-pub row-set : (rs : List (Option ℕ)) (i j : ℕ) (x : Option ℕ) → i < length rs
+pub row_set : (rs : List (Option ℕ)) (i j : ℕ) (x : Option ℕ) → i < length rs
     → get_or (set rs i x) j None ≡ cond (i == j) x (get_or rs j None)
-row-set rs i j x less = elim (cases_eq i j) [
+row_set rs i j x less = elim (cases_eq i j) [
   | inl e ↦
       ap (λ k. get_or (set rs i x) k None) (sym e) ∙ get_or-set_same rs i x None less
       ∙ ap (λ b. cond b x (get_or rs j None)) (sym (eq-eqb i j e))
@@ -63,45 +63,45 @@ row-set rs i j x less = elim (cases_eq i j) [
 
 module _ {S : Type 0} (rs : List (Option ℕ)) (others : HashMap ListKey ℕ S) where
   -- a list with a row has another head
-  pub row-put : (list : TodoList) (i : ℕ) (x : Option ℕ) → row_of (length rs) list ≡ Some i → (l : TodoList)
+  pub row_put : (list : TodoList) (i : ℕ) (x : Option ℕ) → row_of (length rs) list ≡ Some i → (l : TodoList)
       → head_by (set rs i x) others l (row_of (length (set rs i x)) l)
       ≡ cond (same_list list l) x (head_by rs others l (row_of (length rs) l))
-  row-put list i x is l =
+  row_put list i x is l =
       ap (λ n. head_by (set rs i x) others l (row_of n l)) (length-set rs i x) ∙ at (row_of (length rs) l) refl
     where
       at : (o : Option ℕ) → row_of (length rs) l ≡ o
           → head_by (set rs i x) others l o ≡ cond (same_list list l) x (head_by rs others l o)
-      at None e = ap (λ b. cond b x (head_by rs others l None)) (sym (row-apart (length rs) i list l is e))
+      at None e = ap (λ b. cond b x (head_by rs others l None)) (sym (row_apart (length rs) i list l is e))
       at (Some j) e =
-          row-set rs i j x (row-within (length rs) i list is)
-          ∙ ap (λ b. cond b x (get_or rs j None)) (sym (rows-same (length rs) i j list l is e))
+          row_set rs i j x (row_within (length rs) i list is)
+          ∙ ap (λ b. cond b x (get_or rs j None)) (sym (rows_same (length rs) i j list l is e))
 
   -- a list without one has
-  pub key-put : (then : HashMap ListKey ℕ S) (list : TodoList) (x : Option ℕ) → row_of (length rs) list ≡ None
+  pub key_put : (then : HashMap ListKey ℕ S) (list : TodoList) (x : Option ℕ) → row_of (length rs) list ≡ None
       → ((k : ListKey) → get_by (same_key k) then ≡ cond (same_key (list_key list) k) x (get_by (same_key k) others))
       → (l : TodoList) → head_by rs then l (row_of (length rs) l)
       ≡ cond (same_list list l) x (head_by rs others l (row_of (length rs) l))
-  key-put then list x is put l = at (row_of (length rs) l) refl
+  key_put then list x is put l = at (row_of (length rs) l) refl
     where
       at : (o : Option ℕ) → row_of (length rs) l ≡ o
           → head_by rs then l o ≡ cond (same_list list l) x (head_by rs others l o)
       at None e = put (list_key l) ∙ ap (λ b. cond b x (head_by rs others l None)) (sym (same_keys list l))
-      at (Some j) e = ap (λ b. cond b x (get_or rs j None)) (sym (apart-row (length rs) j list l is e))
+      at (Some j) e = ap (λ b. cond b x (get_or rs j None)) (sym (apart_row (length rs) j list l is e))
 
   -- no row has a head, and no key
-  pub none-has : ((i : ℕ) → get_or rs i None ≡ None) → ((l : TodoList) → get_by (same_key (list_key l)) others ≡ None)
+  pub none_has : ((i : ℕ) → get_or rs i None ≡ None) → ((l : TodoList) → get_by (same_key (list_key l)) others ≡ None)
       → (l : TodoList) → head_by rs others l (row_of (length rs) l) ≡ None
-  none-has rows keys l = at (row_of (length rs) l)
+  none_has rows keys l = at (row_of (length rs) l)
     where
       at : (o : Option ℕ) → head_by rs others l o ≡ None
       at None = keys l
       at (Some i) = rows i
 
 -- the same by each key
-pub same-keys : {S : Type 0} (rs : List (Option ℕ)) (was then : HashMap ListKey ℕ S)
+pub same_numbers : {S : Type 0} (rs : List (Option ℕ)) (was then : HashMap ListKey ℕ S)
     → ((l : TodoList) → get_by (same_key (list_key l)) then ≡ get_by (same_key (list_key l)) was)
     → (l : TodoList) → head_by rs then l (row_of (length rs) l) ≡ head_by rs was l (row_of (length rs) l)
-same-keys rs was then same l = at (row_of (length rs) l)
+same_numbers rs was then same l = at (row_of (length rs) l)
   where
     at : (o : Option ℕ) → head_by rs then l o ≡ head_by rs was l o
     at None = same l
@@ -110,7 +110,7 @@ same-keys rs was then same l = at (row_of (length rs) l)
 abbrev nothing : Option ℕ
 nothing = None
 
-pub no-heads : (n i : ℕ) → get_or (replicate n nothing) i nothing ≡ nothing
-no-heads zero i = refl
-no-heads (suc n) zero = refl
-no-heads (suc n) (suc i) = no-heads n i
+pub no_heads : (n i : ℕ) → get_or (replicate n nothing) i nothing ≡ nothing
+no_heads zero i = refl
+no_heads (suc n) zero = refl
+no_heads (suc n) (suc i) = no_heads n i

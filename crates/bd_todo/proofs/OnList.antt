@@ -6,9 +6,9 @@ use Rattle.bd_space.specs.declared.space.Work.{Work}
 use Rattle.bd_space.specs.ReadItems.{none_due}
 use Rattle.bd_space.specs.Words.{without_first}
 
-pub any-filter : (p q : Work → Bool) (ws : List Work) → list_any q (filter p ws) ≡ list_any (λ w. p w && q w) ws
-any-filter p q [] = refl
-any-filter p q (w ∷ ws) = at (p w) (any-filter p q ws)
+pub any_filter : (p q : Work → Bool) (ws : List Work) → list_any q (filter p ws) ≡ list_any (λ w. p w && q w) ws
+any_filter p q [] = refl
+any_filter p q (w ∷ ws) = at (p w) (any_filter p q ws)
   where
     at : (b : Bool) → list_any q (filter p ws) ≡ list_any (λ w. p w && q w) ws → list_any q (cond b (w ∷ filter p ws) (filter p ws)) ≡ ((b && q w) || list_any (λ w. p w && q w) ws)
     at true e = ap (λ b. q w || b) e

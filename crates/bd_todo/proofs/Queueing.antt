@@ -18,8 +18,8 @@ use Rattle.bd_todo.specs.Heads.{head_at}
 use Rattle.bd_todo.specs.Rows.{works, IsListed}
 use Rattle.bd_todo.specs.QueuesStand.{Shows, Stands, FrontIn}
 use Rattle.bd_todo.specs.declared.queues.Queues.{Queues}
-use Rattle.bd_todo.proofs.Each.{each-so}
-use Rattle.bd_todo.proofs.ListKeys.{same_list-eq, same_list-refl}
+use Rattle.bd_todo.proofs.Each.{each_so}
+use Rattle.bd_todo.proofs.ListKeys.{same_list_eq, same_list_refl}
 use Rattle.bd_todo.proofs.OnList.{any_first}
 use Rattle.bd_todo.proofs.Rows.{on_list, unread_on, none_on, none_unread, none_ring, front_dropped}
 
@@ -28,7 +28,7 @@ pub kept_shows : (t u : Queues) (rs ss : List (Row Work)) → Shows t rs → Hol
     → ((m : ℕ) → is_open u.chains m ≡ is_open t.chains m) → ((l : TodoList) → head_at u.lists l ≡ head_at t.lists l) → Shows u ss
 kept_shows t u rs ss h holds listed opens heads = record {
   holds = holds;
-  listed = each-so (IsListed (head_at t.lists)) (IsListed (head_at u.lists)) (λ r k. (heads r.held.value.list ∙ k.0, k.1)) ss listed;
+  listed = each_so (IsListed (head_at t.lists)) (IsListed (head_at u.lists)) (λ r k. (heads r.held.value.list ∙ k.0, k.1)) ss listed;
   opened = λ l n is. opens n ∙ h.opened l n (sym (heads l) ∙ is);
   one_list = λ l m n a b. h.one_list l m n (sym (heads l) ∙ a) (sym (heads m) ∙ b);
 }
@@ -38,7 +38,7 @@ pub opened_shows : (t u : Queues) (rs : List (Row Work)) (list : TodoList) (n : 
     → ((m : ℕ) → is_open u.chains m ≡ cond (n == m) true (is_open t.chains m)) → ((l : TodoList) → head_at u.lists l ≡ cond (same_list list l) (Some n) (head_at t.lists l)) → Shows u rs
 opened_shows t u rs list n h none holds fresh opens heads = record {
   holds = holds;
-  listed = each-so (IsListed (head_at t.lists)) (IsListed (head_at u.lists)) (λ r k. (heads r.held.value.list ∙ other r.held.value.list (same_list list r.held.value.list) refl k.0, k.1)) rs h.listed;
+  listed = each_so (IsListed (head_at t.lists)) (IsListed (head_at u.lists)) (λ r k. (heads r.held.value.list ∙ other r.held.value.list (same_list list r.held.value.list) refl k.0, k.1)) rs h.listed;
   opened = λ l g is. opens g ∙ is_opened g (n == g) refl (λ e. had l g (same_list list l) refl e (sym (heads l) ∙ is));
   one_list = λ l m g a b. one l m g (same_list list l) (same_list list m) refl refl (sym (heads l) ∙ a) (sym (heads m) ∙ b);
 }
@@ -53,7 +53,7 @@ opened_shows t u rs list n h none holds fresh opens heads = record {
     clash a b = cc
 
     other : (l : TodoList) {g : ℕ} (b : Bool) → same_list list l ≡ b → head_at t.lists l ≡ Some g → cond b (Some n) (head_at t.lists l) ≡ Some g
-    other l true e is = absurd (none_is (sym none ∙ ap (head_at t.lists) (same_list-eq list l e) ∙ is))
+    other l true e is = absurd (none_is (sym none ∙ ap (head_at t.lists) (same_list_eq list l e) ∙ is))
     other l false e is = is
 
     had : (l : TodoList) (g : ℕ) (b : Bool) → same_list list l ≡ b → (n == g) ≡ false → cond b (Some n) (head_at t.lists l) ≡ Some g → is_open t.chains g ≡ true
@@ -65,7 +65,7 @@ opened_shows t u rs list n h none holds fresh opens heads = record {
     is_opened g false e k = k e
 
     one : (l m : TodoList) (g : ℕ) (b c : Bool) → same_list list l ≡ b → same_list list m ≡ c → cond b (Some n) (head_at t.lists l) ≡ Some g → cond c (Some n) (head_at t.lists m) ≡ Some g → l ≡ m
-    one l m g true true e f a b = sym (same_list-eq list l e) ∙ same_list-eq list m f
+    one l m g true true e f a b = sym (same_list_eq list l e) ∙ same_list_eq list m f
     one l m g true false e f a b = absurd (clash (h.opened m n (b ∙ sym a)) fresh)
     one l m g false true e f a b = absurd (clash (h.opened l n (a ∙ sym b)) fresh)
     one l m g false false e f a b = h.one_list l m g a b
@@ -95,7 +95,7 @@ closed_shows t u rs list n h is none holds opens heads = record {
 
     still : (l : TodoList) (g : ℕ) (b c : Bool) → same_list list l ≡ b → (n == g) ≡ c → cond b None (head_at t.lists l) ≡ Some g → cond c false (is_open t.chains g) ≡ true
     still l g true c e f a = absurd (none_is a)
-    still l g false true e f a = absurd (clash (ap (same_list list) (sym (h.one_list list l n is (a ∙ ap Some (sym (eqb-true n g f))))) ∙ same_list-refl list) e)
+    still l g false true e f a = absurd (clash (ap (same_list list) (sym (h.one_list list l n is (a ∙ ap Some (sym (eqb-true n g f))))) ∙ same_list_refl list) e)
     still l g false false e f a = h.opened l g a
 
     one : (l m : TodoList) (g : ℕ) (b c : Bool) → cond b None (head_at t.lists l) ≡ Some g → cond c None (head_at t.lists m) ≡ Some g → l ≡ m

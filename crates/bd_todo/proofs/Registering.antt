@@ -9,7 +9,7 @@ use Rattle.bd_todo.specs.Rising.{rank, RisesTo}
 use Rattle.bd_todo.specs.Spots.{sought_of, Counted}
 use Rattle.bd_todo.specs.Registered.{Registered}
 use Rattle.bd_todo.proofs.Dating.{dated_new, dated_older, dated_cut}
-use Rattle.bd_todo.proofs.Each.{each-push, each-cut, each-so, pairs-push, pairs-cut}
+use Rattle.bd_todo.proofs.Each.{each_push, each_cut, each_so, pairs_push, pairs_cut}
 
 -- by their ranks
 abbrev Under : Work → Work → Type 0
@@ -29,8 +29,8 @@ register_came t u w todo h few is counts rises newer older = at (nat_le t.last.p
         let both = and_parts t.rises (nat_lt (rank t.last) (rank w.id)) k in
         let was = h.rising both.0 in
         let above = ltb-true (rank t.last) (rank w.id) both.1 in
-        let all = each-so (λ (v : Work). rank v.id ≤ rank t.last) (λ (v : Work). Under v w) (λ v l. omega (arith, l, above)) todo was.1 in
-        (pairs-push Under todo w was.0 all, each-push (λ (v : Work). rank v.id ≤ rank w.id) todo w (each-so (λ (v : Work). Under v w) (λ (v : Work). rank v.id ≤ rank w.id) (λ v l. omega (arith, l)) todo all) (omega arith))
+        let all = each_so (λ (v : Work). rank v.id ≤ rank t.last) (λ (v : Work). Under v w) (λ v l. omega (arith, l, above)) todo was.1 in
+        (pairs_push Under todo w was.0 all, each_push (λ (v : Work). rank v.id ≤ rank w.id) todo w (each_so (λ (v : Work). Under v w) (λ (v : Work). rank v.id ≤ rank w.id) (λ v l. omega (arith, l)) todo all) (omega arith))
 
     at : (b : Bool) → nat_le t.last.place w.id.place ≡ b → Registered u (todo ++ w ∷ [])
     at true e =
@@ -60,5 +60,5 @@ register_went t u before w after h counts rises last count = record {
   dated = subst (λ i. Dated i.place u.count (before ++ after)) (sym last) (dated_cut t.last.place t.count u.count before w after h.dated count);
   rising = λ r.
       let was = h.rising (sym rises ∙ r) in
-      subst (λ i. RisesTo i (before ++ after)) (sym last) (pairs-cut Under before w after was.0, each-cut (λ (v : Work). rank v.id ≤ rank t.last) before w after was.1);
+      subst (λ i. RisesTo i (before ++ after)) (sym last) (pairs_cut Under before w after was.0, each_cut (λ (v : Work). rank v.id ≤ rank t.last) before w after was.1);
 }

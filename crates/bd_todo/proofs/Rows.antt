@@ -13,7 +13,7 @@ use Rattle.bd_chains.proofs.Rowing.{drop_none, first_in}
 use Rattle.bd_todo.specs.Each.{Each}
 use Rattle.bd_todo.specs.Rows.{works, IsListed}
 use Rattle.bd_todo.proofs.Plain.{none_some}
-use Rattle.bd_todo.proofs.ListKeys.{same_list-eq, same_list-refl}
+use Rattle.bd_todo.proofs.ListKeys.{same_list_eq, same_list_refl}
 
 clash : {b : Bool} → b ≡ true → b ≡ false → ⊥
 clash h k = cc
@@ -22,9 +22,9 @@ pub works_more : (rs : List (Row Work)) (r : Row Work) → works (rs ++ r ∷ []
 works_more [] r = refl
 works_more (q ∷ rs) r = ap (λ ws. q.held.value ∷ ws) (works_more rs r)
 
-pub works-length : (rs : List (Row Work)) → length (works rs) ≡ length rs
-works-length [] = refl
-works-length (q ∷ rs) = let e = works-length rs in omega (arith, e)
+pub works_length : (rs : List (Row Work)) → length (works rs) ≡ length rs
+works_length [] = refl
+works_length (q ∷ rs) = let e = works_length rs in omega (arith, e)
 
 pub each_dropped : (P : Row Work → Type 0) (x : ℕ) (rs : List (Row Work)) → Each P rs → Each P (drop_key x rs)
 each_dropped P x [] h = tt
@@ -47,9 +47,9 @@ module _ (H : TodoList → Option ℕ) (one : (l m : TodoList) (h : ℕ) → H l
       at false e false f = refl
       at true e false f =
           let its : l ≡ r.held.value.list = one l r.held.value.list h is (own.0 ∙ ap Some (eqb-true r.list h e)) in
-          absurd (clash (ap (same_list l) (sym its) ∙ same_list-refl l) f)
+          absurd (clash (ap (same_list l) (sym its) ∙ same_list_refl l) f)
       at false e true f =
-          let its : l ≡ r.held.value.list = same_list-eq l r.held.value.list f in
+          let its : l ≡ r.held.value.list = same_list_eq l r.held.value.list f in
           absurd (clash (eq-eqb r.list h (some_is (sym own.0 ∙ sym (ap H its) ∙ is))) e)
 
   pub on_list : (l : TodoList) (h : ℕ) (rs : List (Row Work)) → H l ≡ Some h → Each (IsListed H) rs → filter (is_on l) (works rs) ≡ values_on h rs
@@ -99,7 +99,7 @@ not_on : (H : TodoList → Option ℕ) (l : TodoList) (r : Row Work) → H l ≡
 not_on H l r none own = at (is_on l r.held.value) refl
   where
     at : (b : Bool) → is_on l r.held.value ≡ b → b ≡ false
-    at true e = absurd (none_some r.list (sym none ∙ ap H (same_list-eq l r.held.value.list e) ∙ own.0))
+    at true e = absurd (none_some r.list (sym none ∙ ap H (same_list_eq l r.held.value.list e) ∙ own.0))
     at false e = refl
 
 pub none_on : (H : TodoList → Option ℕ) (l : TodoList) (rs : List (Row Work)) → H l ≡ None → Each (IsListed H) rs → filter (is_on l) (works rs) ≡ []

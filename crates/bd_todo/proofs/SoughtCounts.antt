@@ -16,24 +16,24 @@ pub count_updated : (b : Bool) (w old new : Option Spot) → new ≡ cond b w ol
 count_updated true w old new h = ap (λ o. unwrap_or (option_map (λ (s : Spot). s.count) o) 0) h
 count_updated false w old new h = ap (λ o. unwrap_or (option_map (λ (s : Spot). s.count) o) 0) h
 
-pub same_sought-eq : (a b : Sought) → same_sought a b ≡ true → a ≡ b
-same_sought-eq (Notice p i) (Notice q j) h =
+pub same_sought_eq : (a b : Sought) → same_sought a b ≡ true → a ≡ b
+same_sought_eq (Notice p i) (Notice q j) h =
     let r = both (p == q) (i == j) h in
     ap (λ n. Notice n i) (eqb-true p q r.0) ∙ ap (λ n. Notice q n) (eqb-true i j r.1)
   where
     both : (a b : Bool) → (a && b) ≡ true → (a ≡ true) × (b ≡ true)
     both true b h = (refl, h)
     both false b h = cc
-same_sought-eq (Call b) (Call c) h = ap Call (eqb-true b c h)
-same_sought-eq (Death m) (Death n) h = ap Death (eqb-true m n h)
-same_sought-eq _ _ h = cc
+same_sought_eq (Call b) (Call c) h = ap Call (eqb-true b c h)
+same_sought_eq (Death m) (Death n) h = ap Death (eqb-true m n h)
+same_sought_eq _ _ h = cc
 
 -- what is written at a key, as a change of what was found is_there
 pub at_key : (t : Spots) (a k : Sought) (v : ℕ) (f : ℕ → ℕ) (n : ℕ) → v ≡ f (count_at t a) → cond (same_sought a k) v (count_at t k) ≡ cond (same_sought a k) (f (count_at t k)) (count_at t k)
 at_key t a k v f n e = at (same_sought a k) refl
   where
     at : (b : Bool) → same_sought a k ≡ b → cond b v (count_at t k) ≡ cond b (f (count_at t k)) (count_at t k)
-    at true s = e ∙ ap (λ x. f (count_at t x)) (same_sought-eq a k s)
+    at true s = e ∙ ap (λ x. f (count_at t x)) (same_sought_eq a k s)
     at false s = refl
 
 -- none is left, and what stood is_there goes
@@ -42,7 +42,7 @@ pub gone_down : (t : Spots) (a k : Sought) (m n new : ℕ) → count_at t a ≡ 
 gone_down t a k m n new none down gone = at (same_sought a k) refl down gone
   where
     at : (b : Bool) → same_sought a k ≡ b → count_at t k ≡ cond b m n → new ≡ cond b 0 (count_at t k) → new ≡ cond b m n
-    at true s d g = g ∙ sym none ∙ ap (count_at t) (same_sought-eq a k s) ∙ d
+    at true s d g = g ∙ sym none ∙ ap (count_at t) (same_sought_eq a k s) ∙ d
     at false s d g = g ∙ d
 
 -- nothing is found where there is nothing
@@ -55,19 +55,19 @@ pub count_or : (o : Option Spot) (new : Spot) → (unwrap_or o new).count ≡ un
 count_or None new = refl
 count_or (Some s) new = refl
 
-pub count-append : (p : Work → Bool) (xs ys : List Work) → count_by p (xs ++ ys) ≡ count_by p xs + count_by p ys
-count-append p xs ys = sum_by-append (λ w. cond (p w) 1 0) xs ys
+pub count_append : (p : Work → Bool) (xs ys : List Work) → count_by p (xs ++ ys) ≡ count_by p xs + count_by p ys
+count_append p xs ys = sum_by-append (λ w. cond (p w) 1 0) xs ys
 
-pub count-cons : (p : Work → Bool) (w : Work) (ws : List Work) → count_by p (w ∷ ws) ≡ cond (p w) 1 0 + count_by p ws
-count-cons p w ws = sum_by-cons (λ v. cond (p v) 1 0) w ws
+pub count_cons : (p : Work → Bool) (w : Work) (ws : List Work) → count_by p (w ∷ ws) ≡ cond (p w) 1 0 + count_by p ws
+count_cons p w ws = sum_by-cons (λ v. cond (p v) 1 0) w ws
 
 -- ---- a work item comes or goes
 
-pub count-more : (p : Work → Bool) (ws : List Work) (w : Work) → count_by p (ws ++ w ∷ []) ≡ count_by p ws + cond (p w) 1 0
-count-more p ws w = let a = count-append p ws (w ∷ []) in let b = count-cons p w [] in omega (arith, a, b)
+pub count_more : (p : Work → Bool) (ws : List Work) (w : Work) → count_by p (ws ++ w ∷ []) ≡ count_by p ws + cond (p w) 1 0
+count_more p ws w = let a = count_append p ws (w ∷ []) in let b = count_cons p w [] in omega (arith, a, b)
 
-pub count-less : (p : Work → Bool) (before : List Work) (w : Work) (after : List Work) → count_by p (before ++ w ∷ after) ≡ cond (p w) 1 0 + count_by p (before ++ after)
-count-less p before w after = let a = count-append p before (w ∷ after) in let b = count-cons p w after in let c = count-append p before after in omega (arith, a, b, c)
+pub count_less : (p : Work → Bool) (before : List Work) (w : Work) (after : List Work) → count_by p (before ++ w ∷ after) ≡ cond (p w) 1 0 + count_by p (before ++ after)
+count_less p before w after = let a = count_append p before (w ∷ after) in let b = count_cons p w after in let c = count_append p before after in omega (arith, a, b, c)
 
 module _ (f : Work → Option Sought) (t u : Spots) (w : Work) (o : Option Sought) (is : o ≡ f w) where
   looked_up : (k : Sought) → is_key k (f w) ≡ is_key k o
@@ -83,14 +83,14 @@ module _ (f : Work → Option Sought) (t u : Spots) (w : Work) (o : Option Sough
       at : (b : Bool) → is_key k o ≡ b → count_at u k ≡ count_by (λ w. is_key k (f w)) (todo ++ w ∷ [])
       at true e =
           let c = new k ∙ ap (λ b. cond b (min (count_at t k + 1) 18446744073709551615) (count_at t k)) e in
-          let m = count-more (λ (v : Work). is_key k (f v)) todo w in
+          let m = count_more (λ (v : Work). is_key k (f v)) todo w in
           let one = ap {B = ℕ} (λ b. cond b 1 0) (looked_up k ∙ e) in
           let low = count_by-le-length (λ (v : Work). is_key k (f v)) todo in
           let was = h k in
           omega (arith, c, m, one, low, was, few)
       at false e =
           let c = new k ∙ ap (λ b. cond b (min (count_at t k + 1) 18446744073709551615) (count_at t k)) e in
-          let m = count-more (λ (v : Work). is_key k (f v)) todo w in
+          let m = count_more (λ (v : Work). is_key k (f v)) todo w in
           let one = ap {B = ℕ} (λ b. cond b 1 0) (looked_up k ∙ e) in
           let was = h k in
           omega (arith, c, m, one, was)
@@ -102,7 +102,7 @@ module _ (f : Work → Option Sought) (t u : Spots) (w : Work) (o : Option Sough
       at : (b : Bool) → is_key k o ≡ b → count_at u k ≡ count_by (λ w. is_key k (f w)) (before ++ after)
       at b e =
           let c = new k in
-          let m = count-less (λ (v : Work). is_key k (f v)) before w after in
+          let m = count_less (λ (v : Work). is_key k (f v)) before w after in
           let one = ap {B = ℕ} (λ b. cond b 1 0) (looked_up k ∙ e) in
           let was = h k in
           both b e c one m was
@@ -119,9 +119,9 @@ none_pass p [] e = refl
 none_pass p (w ∷ ws) e = at (p w) refl (none_pass p ws)
   where
     at : (b : Bool) → p w ≡ b → (count_by p ws ≡ 0 → filter (λ w. not (p w)) ws ≡ ws) → filter (λ w. not (p w)) (w ∷ ws) ≡ w ∷ ws
-    at true h rest = let c = count-cons p w ws in let one = ap {B = ℕ} (λ b. cond b 1 0) h in absurd (omega (arith, c, one, e))
+    at true h rest = let c = count_cons p w ws in let one = ap {B = ℕ} (λ b. cond b 1 0) h in absurd (omega (arith, c, one, e))
     at false h rest =
-        let c = count-cons p w ws in
+        let c = count_cons p w ws in
         let one = ap {B = ℕ} (λ b. cond b 1 0) h in
         ap (λ b. cond (not b) (w ∷ filter (λ w. not (p w)) ws) (filter (λ w. not (p w)) ws)) h ∙ ap (λ vs. w ∷ vs) (rest (omega (arith, c, one, e)))
 
@@ -131,5 +131,5 @@ any_counted p [] = refl
 any_counted p (w ∷ ws) = at (p w) refl (any_counted p ws)
   where
     at : (b : Bool) → p w ≡ b → nat_lt 0 (count_by p ws) ≡ list_any p ws → nat_lt 0 (count_by p (w ∷ ws)) ≡ list_any p (w ∷ ws)
-    at true h k = ap (nat_lt 0) (count-cons p w ws ∙ ap {B = ℕ} (λ b. cond b 1 0 + count_by p ws) h) ∙ lt-ltb 0 (1 + count_by p ws) (omega arith) ∙ sym (ap (λ b. b || list_any p ws) h)
-    at false h k = ap (nat_lt 0) (let c = count-cons p w ws in let one = ap {B = ℕ} (λ b. cond b 1 0) h in let same : count_by p (w ∷ ws) ≡ count_by p ws = omega (arith, c, one) in same) ∙ k ∙ sym (ap (λ b. b || list_any p ws) h)
+    at true h k = ap (nat_lt 0) (count_cons p w ws ∙ ap {B = ℕ} (λ b. cond b 1 0 + count_by p ws) h) ∙ lt-ltb 0 (1 + count_by p ws) (omega arith) ∙ sym (ap (λ b. b || list_any p ws) h)
+    at false h k = ap (nat_lt 0) (let c = count_cons p w ws in let one = ap {B = ℕ} (λ b. cond b 1 0) h in let same : count_by p (w ∷ ws) ≡ count_by p ws = omega (arith, c, one) in same) ∙ k ∙ sym (ap (λ b. b || list_any p ws) h)

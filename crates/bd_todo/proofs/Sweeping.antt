@@ -16,8 +16,8 @@ use Rattle.bd_todo.specs.declared.queues.Queues.{Queues}
 use Rattle.bd_todo.specs.QueuesStand.{Shows, work_at}
 use Rattle.bd_todo.specs.Stands.{RowsAre}
 use Rattle.bd_todo.specs.declared.table.WorkTable.{WorkTable}
-use Rattle.bd_todo.proofs.Each.{each-so}
-use Rattle.bd_todo.proofs.SoughtCounts.{count-cons}
+use Rattle.bd_todo.proofs.Each.{each_so}
+use Rattle.bd_todo.proofs.SoughtCounts.{count_cons}
 
 -- ---- one slot further
 
@@ -118,11 +118,11 @@ module _ (p : Work → Bool) (i : ℕ) where
     work_is = ap (option_map (λ (v : ℕ × Held Work). v.1.value)) (h.shows.holds.stands.shown i ∙ row_kept rs)
 
     pub swept_kept : ((w : Work) → work_at t.queues i ≡ Some w → p w ≡ true) → RowsAre t (filter (stays p (i + 1)) rs)
-    swept_kept stay = subst (RowsAre t) (kept_past rs (each-so _ (λ (r : Row Work). (r.key == i) ≡ true → p r.held.value ≡ true) (λ r k e. stay r.held.value (work_is ∙ sym (k e))) rs (at_key None rs apart))) h
+    swept_kept stay = subst (RowsAre t) (kept_past rs (each_so _ (λ (r : Row Work). (r.key == i) ≡ true → p r.held.value ≡ true) (λ r k e. stay r.held.value (work_is ∙ sym (k e))) rs (at_key None rs apart))) h
 
     pub swept_cut : (u : WorkTable) (w : Work) → work_at t.queues i ≡ Some w → p w ≡ false → ((ss : List (Row Work)) → RowsAre t ss → RowsAre u (drop_key i ss)) → RowsAre u (filter (stays p (i + 1)) rs)
     swept_cut u w is goes gone =
-        subst (RowsAre u) (cut_past rs (each-so _ (λ (r : Row Work). (r.key == i) ≡ true → p r.held.value ≡ false) (λ r k e. ap p (some_is (k e ∙ sym work_is ∙ is)) ∙ goes) rs (at_key None rs apart)))
+        subst (RowsAre u) (cut_past rs (each_so _ (λ (r : Row Work). (r.key == i) ≡ true → p r.held.value ≡ false) (λ r k e. ap p (some_is (k e ∙ sym work_is ∙ is)) ∙ goes) rs (at_key None rs apart)))
         (gone (filter (stays p i) rs) h)
       where
         some_is : {a b : Work} → Some a ≡ Some b → a ≡ b
@@ -187,7 +187,7 @@ pub seen_all : (p : Work → Bool) (n : ℕ) (rs : List (Row Work)) → Each (λ
 seen_all p n [] h = refl
 seen_all p n (r ∷ rs) h =
     ap (λ b. cond (b && p r.held.value) (seen_by p n rs + 1) (seen_by p n rs)) (lt-ltb r.key n h.0) ∙ ap (λ m. cond (p r.held.value) (m + 1) m) (seen_all p n rs h.1)
-    ∙ added (p r.held.value) (count_by p (works rs)) ∙ sym (count-cons p r.held.value (works rs))
+    ∙ added (p r.held.value) (count_by p (works rs)) ∙ sym (count_cons p r.held.value (works rs))
   where
     added : (b : Bool) (m : ℕ) → cond b (m + 1) m ≡ cond b 1 0 + m
     added true m = omega arith

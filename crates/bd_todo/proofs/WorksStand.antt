@@ -24,7 +24,7 @@ use Rattle.bd_todo.specs.Stands.{WorksAre, RowsAre}
 use Rattle.bd_todo.specs.Registered.{Registered}
 use Rattle.bd_todo.proofs.Plain.{none_some}
 use Rattle.bd_todo.proofs.Rows.{Cut, cut_at}
-use Rattle.bd_todo.proofs.SoughtCounts.{count-less, none_pass, any_counted}
+use Rattle.bd_todo.proofs.SoughtCounts.{count_less, none_pass, any_counted}
 use Rattle.bd_todo.proofs.Dating.{none_later}
 
 -- ---- rows and the work items that they hold
@@ -128,7 +128,7 @@ only_goes t u p l x h is one gone = of (work_at t.queues x) refl is
         let rs = h.queues_stand.rows in
         let c = row_cut t.queues rs x w h.queues_stand.shows e in
         let less = ap (count_by p) (sym c.whole ∙ h.queues_stand.works_are) in
-        let split = count-less p c.before w c.after in
+        let split = count_less p c.before w c.after in
         let its = ap {B = ℕ} (λ b. cond b 1 0) k in
         let left : works (drop_key x rs) ≡ filter (λ v. not (p v)) l =
         c.rest ∙ sym (none_pass p (c.before ++ c.after) (omega (arith, less, split, its, one))) ∙ sym (cut_one p c.before w c.after k) ∙ ap (filter (λ v. not (p v))) (sym c.whole ∙ h.queues_stand.works_are) in

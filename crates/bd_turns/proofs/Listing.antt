@@ -10,7 +10,7 @@ use Rattle.bd_turns.specs.declared.key.ListKey.{ListKey}
 use Rattle.bd_turns.specs.declared.lists.Lists.{Lists}
 use Rattle.bd_turns.specs.Keys.{same_key}
 use Rattle.bd_turns.specs.Lists.{number_at, AreListed, Shows}
-use Rattle.bd_turns.proofs.Keys.{same_key-eq, same_key-refl}
+use Rattle.bd_turns.proofs.Keys.{same_key_eq, same_key_refl}
 
 some_is : {a b : ℕ} → Some a ≡ Some b → a ≡ b
 some_is e = cc
@@ -78,7 +78,7 @@ module _ {T : Type 0} (key : T → ListKey) where
   }
     where
       other : (k : ListKey) {g : ℕ} (b : Bool) → same_key own k ≡ b → number_at t.numbers k ≡ Some g → cond b (Some n) (number_at t.numbers k) ≡ Some g
-      other k true e is = absurd (none_is (sym none ∙ ap (number_at t.numbers) (same_key-eq own k e) ∙ is))
+      other k true e is = absurd (none_is (sym none ∙ ap (number_at t.numbers) (same_key_eq own k e) ∙ is))
       other k false e is = is
 
       had : (k : ListKey) (g : ℕ) (b : Bool) → (n == g) ≡ false → cond b (Some n) (number_at t.numbers k) ≡ Some g → is_open t.chains g ≡ true
@@ -90,7 +90,7 @@ module _ {T : Type 0} (key : T → ListKey) where
       is_opened g false e k = k e
 
       one : (k l : ListKey) (g : ℕ) (b c : Bool) → same_key own k ≡ b → same_key own l ≡ c → cond b (Some n) (number_at t.numbers k) ≡ Some g → cond c (Some n) (number_at t.numbers l) ≡ Some g → k ≡ l
-      one k l g true true e f a b = sym (same_key-eq own k e) ∙ same_key-eq own l f
+      one k l g true true e f a b = sym (same_key_eq own k e) ∙ same_key_eq own l f
       one k l g true false e f a b = absurd (clash (h.opened l n (b ∙ sym a)) fresh)
       one k l g false true e f a b = absurd (clash (h.opened k n (a ∙ sym b)) fresh)
       one k l g false false e f a b = h.one_list k l g a b
@@ -103,8 +103,8 @@ module _ {T : Type 0} (key : T → ListKey) where
         at : (b : Bool) → (list == n) ≡ b → (c : Bool) → same_key (key v) own ≡ c → c ≡ b
         at true e true f = refl
         at false e false f = refl
-        at true e false f = absurd (clash (ap (λ k. same_key k own) (h.one_list (key v) own n (on ∙ ap Some (eqb-true list n e)) is) ∙ same_key-refl own) f)
-        at false e true f = absurd (clash (eq-eqb list n (some_is (sym on ∙ ap (number_at t.numbers) (same_key-eq (key v) own f) ∙ is))) e)
+        at true e false f = absurd (clash (ap (λ k. same_key k own) (h.one_list (key v) own n (on ∙ ap Some (eqb-true list n e)) is) ∙ same_key_refl own) f)
+        at false e true f = absurd (clash (eq-eqb list n (some_is (sym on ∙ ap (number_at t.numbers) (same_key_eq (key v) own f) ∙ is))) e)
 
     first_on : (n : ℕ) → number_at t.numbers own ≡ Some n → (ss : List (Row T)) → AreListed key (number_at t.numbers) ss
         → slice_get (values_on n ss) 0 ≡ find (λ v. same_key (key v) own) (map (λ r. r.held.value) ss)
@@ -126,7 +126,7 @@ module _ {T : Type 0} (key : T → ListKey) where
       where
         at : (b : Bool) → same_key (key r.held.value) own ≡ b → None ≡ find (λ v. same_key (key v) own) (map (λ r. r.held.value) ss)
             → None ≡ cond b (Some r.held.value) (find (λ v. same_key (key v) own) (map (λ r. r.held.value) ss))
-        at true e k = absurd (none_is (sym none ∙ ap (number_at t.numbers) (sym (same_key-eq (key r.held.value) own e)) ∙ l.0))
+        at true e k = absurd (none_is (sym none ∙ ap (number_at t.numbers) (sym (same_key_eq (key r.held.value) own e)) ∙ l.0))
         at false e k = k
 
     pub no_front : number_at t.numbers own ≡ None → None ≡ find (λ v. same_key (key v) own) (map (λ r. r.held.value) rs)
@@ -139,7 +139,7 @@ module _ {T : Type 0} (key : T → ListKey) where
     off_list n is (r ∷ ss) empty l = at (r.list == n) refl empty (λ none. off_list n is ss none l.1)
       where
         own_is : (b : Bool) → same_key own (key r.held.value) ≡ b → (r.list == n) ≡ false → cond b None (number_at t.numbers (key r.held.value)) ≡ Some r.list
-        own_is true e far = absurd (clash (eq-eqb r.list n (some_is (sym l.0 ∙ ap (number_at t.numbers) (sym (same_key-eq own (key r.held.value) e)) ∙ is))) far)
+        own_is true e far = absurd (clash (eq-eqb r.list n (some_is (sym l.0 ∙ ap (number_at t.numbers) (sym (same_key_eq own (key r.held.value) e)) ∙ is))) far)
         own_is false e far = l.0
 
         at : (b : Bool) → (r.list == n) ≡ b → cond b (r.key ∷ ring n ss) (ring n ss) ≡ [] → (ring n ss ≡ [] → AreListed key (λ m. cond (same_key own m) None (number_at t.numbers m)) ss)
@@ -159,7 +159,7 @@ module _ {T : Type 0} (key : T → ListKey) where
       where
         still : (k : ListKey) (g : ℕ) (b c : Bool) → same_key own k ≡ b → (n == g) ≡ c → cond b None (number_at t.numbers k) ≡ Some g → cond c false (is_open t.chains g) ≡ true
         still k g true c e f a = absurd (none_is a)
-        still k g false true e f a = absurd (clash (ap (same_key own) (sym (h.one_list own k n is (a ∙ ap Some (sym (eqb-true n g f))))) ∙ same_key-refl own) e)
+        still k g false true e f a = absurd (clash (ap (same_key own) (sym (h.one_list own k n is (a ∙ ap Some (sym (eqb-true n g f))))) ∙ same_key_refl own) e)
         still k g false false e f a = h.opened k g a
 
         one : (k l : ListKey) (g : ℕ) (b c : Bool) → cond b None (number_at t.numbers k) ≡ Some g → cond c None (number_at t.numbers l) ≡ Some g → k ≡ l

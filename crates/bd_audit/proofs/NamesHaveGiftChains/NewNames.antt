@@ -3,8 +3,8 @@ use Rattle.bd_laws.proofs.words.Logic.{fold, arith, filter, ◌≡◌, ℕ, ◌+
 use Rattle.bd_laws.proofs.words.Types.{TransactionData, ObjectId, Step, Actor, Frame, Process, Object, Reference, Buffer, Carried, Name, Item, is_strong_kind}
 use Rattle.bd_laws.proofs.words.Space.{Space, actor, reference_of, stays_in, objects_go, is_named_in, number_in, free_number, with_name, assign_numbers, names_go, follow, notify, work_goes, deaths_go, Delivery, delivered, buffer_of, own_notices, add_buffer, known_by, refer, make_objects, buffer_references, object_of_item, ask_check}
 use Rattle.bd_laws.specs.Lists.{In}
-use Rattle.bd_laws.proofs.Lists.{in-right, in-push, in-last, in-filter, filter-in, in-map}
-use Rattle.bd_laws.proofs.Tests.{both, not-true}
+use Rattle.bd_laws.proofs.Lists.{in_right, in_push, in_last, in_filter, filter_in, in_map}
+use Rattle.bd_laws.proofs.Tests.{both, not_true}
 use Rattle.bd_laws.proofs.Machine.EveryEnding.{IsAsking}
 use Rattle.bd_laws.proofs.Sendings.{Owns, HasName, Sent, Sends}
 use Rattle.bd_laws.proofs.Objects.{stays}
@@ -43,67 +43,67 @@ Naming s seat x z = (m : Name) → In m z.names → Given s seat x z m
 -- ---- names that come
 
 module _ (manager : Option ObjectId) (objects : List Object) (references : List Reference) (p : ℕ) where
-  one-name : (b : Bool) (names : List Name) (o : ObjectId) (m : Name) → (is_named_in objects references p o && not (is_some (number_in names p o))) ≡ b
+  one_name : (b : Bool) (names : List Name) (o : ObjectId) (m : Name) → (is_named_in objects references p o && not (is_some (number_in names p o))) ≡ b
       → In m (cond b (names ++ record { process = p; number = free_number manager names p o; object = o } ∷ []) names)
       → In m names ⊎ ((m.process ≡ p) × (m.object ≡ o) × (is_some (number_in names p o) ≡ false))
-  one-name b names o m e i = search (arith, in-push, not-true, both)
+  one_name b names o m e i = search (arith, in_push, not_true, both)
 
-  pub new-name : (names : List Name) (o : ObjectId) (m : Name) → In m (with_name manager objects references p names o)
+  pub new_name : (names : List Name) (o : ObjectId) (m : Name) → In m (with_name manager objects references p names o)
       → In m names ⊎ ((m.process ≡ p) × (m.object ≡ o) × (is_some (number_in names p o) ≡ false))
-  new-name names o m i = one-name (is_named_in objects references p o && not (is_some (number_in names p o))) names o m refl i
+  new_name names o m i = one_name (is_named_in objects references p o && not (is_some (number_in names p o))) names o m refl i
 
-  pub new-names : (os : List ObjectId) (names : List Name) (m : Name) → In m (fold (with_name manager objects references p) names os) → In m names ⊎ ((m.process ≡ p) × In m.object os)
-  new-names [] names m i = inl i
-  new-names (o ∷ os) names m i = elim (new-names os (with_name manager objects references p names o) m i) [
-    | inl k ↦ elim (new-name names o m k) [ inl j ↦ inl j | inr n ↦ inr (n.0, inl (sym n.1)) ]
+  pub new_names : (os : List ObjectId) (names : List Name) (m : Name) → In m (fold (with_name manager objects references p) names os) → In m names ⊎ ((m.process ≡ p) × In m.object os)
+  new_names [] names m i = inl i
+  new_names (o ∷ os) names m i = elim (new_names os (with_name manager objects references p names o) m i) [
+    | inl k ↦ elim (new_name names o m k) [ inl j ↦ inl j | inr n ↦ inr (n.0, inl (sym n.1)) ]
     | inr k ↦ inr (k.0, inr k.1)
   ]
 
-pub carried-reference : (b q : ℕ) (items : List Item) (target : Option ObjectId) (k : ℕ) (i : Item) → In i items
+pub carried_reference : (b q : ℕ) (items : List Item) (target : Option ObjectId) (k : ℕ) (i : Item) → In i items
     → (r : Reference) × In r (buffer_references b q k items target) × (r.object ≡ i.object) × (r.holder ≡ Carried b q)
-carried-reference b q [] target k i l = absurd l
-carried-reference b q (x ∷ xs) target k i (inl e) =
+carried_reference b q [] target k i l = absurd l
+carried_reference b q (x ∷ xs) target k i (inl e) =
     (reference_of b k x.object (is_strong_kind x.flat.kind) (Carried b q), inl refl, ap (λ (y : Item). y.object) e, refl)
-carried-reference b q (x ∷ xs) target k i (inr l) = let r = carried-reference b q xs target (k + 1) i l in (r.0, inr r.1, r.2, r.3)
+carried_reference b q (x ∷ xs) target k i (inr l) = let r = carried_reference b q xs target (k + 1) i l in (r.0, inr r.1, r.2, r.3)
 
 -- what is delivered from the space, or from it after a frame closed
-pub delivered-naming : (s : Space) (frames : List Frame) (seat : ℕ) (x : Step) (a : Actor) (d : TransactionData) (v : Delivery) → actor s seat ≡ Some a
+pub delivered_naming : (s : Space) (frames : List Frame) (seat : ℕ) (x : Step) (a : Actor) (d : TransactionData) (v : Delivery) → actor s seat ≡ Some a
     → Sends (record s { frames = frames }) a.process.made v.sending.made v.sending.items → Naming s seat x (delivered (record s { frames = frames }) a d v)
 unfolding delivered own_notices add_buffer known_by assign_numbers refer make_objects
-delivered-naming s frames seat x a d v acts sends =
+delivered_naming s frames seat x a d v acts sends =
     let y = record s { frames = frames } in
-    λ m i. elim (new-names s.manager (s.objects ++ v.sending.made) (s.references ++ buffer_references s.steps v.receiver.made 0 v.sending.items v.target) v.receiver.made
+    λ m i. elim (new_names s.manager (s.objects ++ v.sending.made) (s.references ++ buffer_references s.steps v.receiver.made 0 v.sending.items v.target) v.receiver.made
     (map object_of_item v.sending.items) s.names m i) [
       | inl k ↦ inl k
       | inr k ↦ (
-          let item = in-map object_of_item m.object v.sending.items k.1 in
-          let r = carried-reference s.steps v.receiver.made v.sending.items v.target 0 item.0 item.1 in
+          let item = in_map object_of_item m.object v.sending.items k.1 in
+          let r = carried_reference s.steps v.receiver.made v.sending.items v.target 0 item.0 item.1 in
           inr (inl (record {
             by = a;
             acts = acts;
             has = subst (Sent y a.process.made v.sending.made) item.2 (sends.sent item.0 item.1);
-            carried = (r.0, in-right r.0 s.references (buffer_references s.steps v.receiver.made 0 v.sending.items v.target) r.1, r.2 ∙ item.2, r.3 ∙ ap (λ q. Carried s.steps q) (sym k.0));
-            buffer = (buffer_of (known_by y v) a d v, in-last (buffer_of (known_by y v) a d v) s.buffers, refl);
+            carried = (r.0, in_right r.0 s.references (buffer_references s.steps v.receiver.made 0 v.sending.items v.target) r.1, r.2 ∙ item.2, r.3 ∙ ap (λ q. Carried s.steps q) (sym k.0));
+            buffer = (buffer_of (known_by y v) a d v, in_last (buffer_of (known_by y v) a d v) s.buffers, refl);
           })))
     ]
 
 -- ---- what comes later
 
-owner-stays : (processes : List Process) (objects : List Object) (references : List Reference) (p : ℕ) (o : ObjectId) (r : Reference) → In r references → r.object ≡ o → Owns objects p o
+owner_stays : (processes : List Process) (objects : List Object) (references : List Reference) (p : ℕ) (o : ObjectId) (r : Reference) → In r references → r.object ≡ o → Owns objects p o
     → Owns (filter (stays_in processes references) objects) p o
-owner-stays processes objects references p o r l e h =
-    (h.0, filter-in (stays_in processes references) h.0 objects h.1 (stays processes references h.0 r l (h.2 ∙ sym e)), h.2, h.3)
+owner_stays processes objects references p o r l e h =
+    (h.0, filter_in (stays_in processes references) h.0 objects h.1 (stays processes references h.0 r l (h.2 ∙ sym e)), h.2, h.3)
 
-objects_go-naming : (s : Space) (seat : ℕ) (x : Step) (z : Space) → Naming s seat x z → Naming s seat x (objects_go z)
+objects_go_naming : (s : Space) (seat : ℕ) (x : Step) (z : Space) → Naming s seat x z → Naming s seat x (objects_go z)
 unfolding objects_go
-objects_go-naming s seat x z h =
+objects_go_naming s seat x z h =
     λ m i. elim (h m i) [
       | inl k ↦ inl k
       | inr k ↦ inr (elim k [
         | inl g ↦ inl (record {
           by = g.by;
           acts = g.acts;
-          has = elim g.has [ inl o ↦ inl (owner-stays z.processes z.objects z.references g.by.process.made m.object g.carried.0 g.carried.1 g.carried.2 o) | inr n ↦ inr n ];
+          has = elim g.has [ inl o ↦ inl (owner_stays z.processes z.objects z.references g.by.process.made m.object g.carried.0 g.carried.1 g.carried.2 o) | inr n ↦ inr n ];
           carried = g.carried;
           buffer = g.buffer;
         })
@@ -111,7 +111,7 @@ objects_go-naming s seat x z h =
       ])
     ]
 
-pub follow-naming : (s : Space) (seat : ℕ) (x : Step) (z : Space) → Naming s seat x z → Naming s seat x (follow z)
+pub follow_naming : (s : Space) (seat : ℕ) (x : Step) (z : Space) → Naming s seat x z → Naming s seat x (follow z)
 unfolding follow names_go notify work_goes deaths_go objects_go
-follow-naming s seat x z h =
-    objects_go-naming s seat x (names_go z) (λ m i. h m (in-filter (λ (m : Name). is_named_in z.objects z.references m.process m.object) m z.names i).0)
+follow_naming s seat x z h =
+    objects_go_naming s seat x (names_go z) (λ m i. h m (in_filter (λ (m : Name). is_named_in z.objects z.references m.process m.object) m z.names i).0)

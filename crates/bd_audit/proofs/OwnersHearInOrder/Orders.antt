@@ -40,16 +40,16 @@ rest_of ended n = []
 abbrev CanGo : Hearing → List Event → Type 0
 CanGo st es = (n : ℕ) × (rest : List Event) × (filter is_return es ++ rest ≡ rest_of st n)
 
-told-on : (es : List Event) (st : Hearing) → is_some (hears_all st es) ≡ true → CanGo st es
-told-on [] st h = (0, rest_of st 0, refl)
-told-on (increfs ∷ es) unheard h = let k = told-on es (weakly true) h in (k.0, k.1, ap (λ xs. increfs ∷ xs) k.2)
-told-on (acquire ∷ es) (weakly w) h = let k = told-on es (strongly w true) h in (suc k.0, k.1, ap (λ xs. acquire ∷ xs) k.2)
-told-on (release ∷ es) (strongly w false) h = let k = told-on es (weakly w) h in (k.0, k.1, ap (λ xs. release ∷ xs) k.2)
-told-on (decrefs ∷ es) (weakly false) h = let k = told-on es ended h in (0, k.1, ap (λ xs. decrefs ∷ xs) k.2)
-told-on (increfs_done ∷ es) (weakly true) h = told-on es (weakly false) h
-told-on (increfs_done ∷ es) (strongly true w) h = told-on es (strongly false w) h
-told-on (acquire_done ∷ es) (strongly w true) h = told-on es (strongly w false) h
-told-on (v ∷ es) st h = absurd (cc)
+told_on : (es : List Event) (st : Hearing) → is_some (hears_all st es) ≡ true → CanGo st es
+told_on [] st h = (0, rest_of st 0, refl)
+told_on (increfs ∷ es) unheard h = let k = told_on es (weakly true) h in (k.0, k.1, ap (λ xs. increfs ∷ xs) k.2)
+told_on (acquire ∷ es) (weakly w) h = let k = told_on es (strongly w true) h in (suc k.0, k.1, ap (λ xs. acquire ∷ xs) k.2)
+told_on (release ∷ es) (strongly w false) h = let k = told_on es (weakly w) h in (k.0, k.1, ap (λ xs. release ∷ xs) k.2)
+told_on (decrefs ∷ es) (weakly false) h = let k = told_on es ended h in (0, k.1, ap (λ xs. decrefs ∷ xs) k.2)
+told_on (increfs_done ∷ es) (weakly true) h = told_on es (weakly false) h
+told_on (increfs_done ∷ es) (strongly true w) h = told_on es (strongly false w) h
+told_on (acquire_done ∷ es) (strongly w true) h = told_on es (strongly w false) h
+told_on (v ∷ es) st h = absurd (cc)
 
 -- ---- what is acknowledged
 
@@ -60,41 +60,41 @@ Knows (weakly w) es = IsAnswered increfs increfs_done (not w) es
 Knows (strongly w a) es = IsAnswered increfs increfs_done (not w) es × IsAnswered acquire acquire_done (not a) es
 Knows ended es = Unit {0}
 
-any-push : (v x : Event) (xs : List Event) (b c : Bool) → list_any (same_event v) xs ≡ b → same_event v x ≡ c → list_any (same_event v) (xs ++ x ∷ []) ≡ (b || c)
-any-push v x xs b c h k = rw (list_any-append (same_event v) xs (x ∷ []), h, k) (search arith)
+any_push : (v x : Event) (xs : List Event) (b c : Bool) → list_any (same_event v) xs ≡ b → same_event v x ≡ c → list_any (same_event v) (xs ++ x ∷ []) ≡ (b || c)
+any_push v x xs b c h k = rw (list_any-append (same_event v) xs (x ∷ []), h, k) (search arith)
 
 -- one event more, which isn't the return
-goes-on : (v done x : Event) (b c : Bool) (es : List Event) → same_event v x ≡ false → same_event done x ≡ c → IsAnswered v done b es → IsAnswered v done (b || c) (es ++ x ∷ [])
-goes-on v done x b c es other is k =
-    (k.0, k.1 ++ x ∷ [], ap (λ xs. xs ++ x ∷ []) k.2 ∙ append_assoc k.0 (v ∷ k.1) (x ∷ []), any-push v x k.1 false false k.3 other, any-push done x k.1 b c k.4 is)
+goes_on : (v done x : Event) (b c : Bool) (es : List Event) → same_event v x ≡ false → same_event done x ≡ c → IsAnswered v done b es → IsAnswered v done (b || c) (es ++ x ∷ [])
+goes_on v done x b c es other is k =
+    (k.0, k.1 ++ x ∷ [], ap (λ xs. xs ++ x ∷ []) k.2 ∙ append_assoc k.0 (v ∷ k.1) (x ∷ []), any_push v x k.1 false false k.3 other, any_push done x k.1 b c k.4 is)
 
-now-told : (v done : Event) (es : List Event) → IsAnswered v done false (es ++ v ∷ [])
-now-told v done es = (es, [], refl, refl, refl)
+now_told : (v done : Event) (es : List Event) → IsAnswered v done false (es ++ v ∷ [])
+now_told v done es = (es, [], refl, refl, refl)
 
 -- one event more, which is neither the return nor its acknowledgement
-goes-past : (v done x : Event) (b : Bool) (es : List Event) → same_event v x ≡ false → same_event done x ≡ false → IsAnswered v done b es → IsAnswered v done b (es ++ x ∷ [])
-goes-past v done x true es other is k = goes-on v done x true false es other is k
-goes-past v done x false es other is k = goes-on v done x false false es other is k
+goes_past : (v done x : Event) (b : Bool) (es : List Event) → same_event v x ≡ false → same_event done x ≡ false → IsAnswered v done b es → IsAnswered v done b (es ++ x ∷ [])
+goes_past v done x true es other is k = goes_on v done x true false es other is k
+goes_past v done x false es other is k = goes_on v done x false false es other is k
 
 -- what is known once an event has come
 abbrev Known : Option Hearing → List Event → Type 0
 Known f es = IfSome f (λ now. Knows now es)
 
-knows-next : (v : Event) (st : Hearing) (es : List Event) → Knows st es → Known (hears v st) (es ++ v ∷ [])
-knows-next increfs unheard es k = now-told increfs increfs_done es
-knows-next acquire (weakly w) es k = (goes-past increfs increfs_done acquire (not w) es refl refl k, now-told acquire acquire_done es)
-knows-next release (strongly w false) es k = goes-past increfs increfs_done release (not w) es refl refl k.0
-knows-next decrefs (weakly false) es k = tt
-knows-next increfs_done (weakly true) es k = goes-on increfs increfs_done increfs_done false true es refl refl k
-knows-next increfs_done (strongly true a) es k =
-    (goes-on increfs increfs_done increfs_done false true es refl refl k.0, goes-past acquire acquire_done increfs_done (not a) es refl refl k.1)
-knows-next acquire_done (strongly w true) es k =
-    (goes-past increfs increfs_done acquire_done (not w) es refl refl k.0, goes-on acquire acquire_done acquire_done false true es refl refl k.1)
-knows-next v st es k = tt
+knows_next : (v : Event) (st : Hearing) (es : List Event) → Knows st es → Known (hears v st) (es ++ v ∷ [])
+knows_next increfs unheard es k = now_told increfs increfs_done es
+knows_next acquire (weakly w) es k = (goes_past increfs increfs_done acquire (not w) es refl refl k, now_told acquire acquire_done es)
+knows_next release (strongly w false) es k = goes_past increfs increfs_done release (not w) es refl refl k.0
+knows_next decrefs (weakly false) es k = tt
+knows_next increfs_done (weakly true) es k = goes_on increfs increfs_done increfs_done false true es refl refl k
+knows_next increfs_done (strongly true a) es k =
+    (goes_on increfs increfs_done increfs_done false true es refl refl k.0, goes_past acquire acquire_done increfs_done (not a) es refl refl k.1)
+knows_next acquire_done (strongly w true) es k =
+    (goes_past increfs increfs_done acquire_done (not w) es refl refl k.0, goes_on acquire acquire_done acquire_done false true es refl refl k.1)
+knows_next v st es k = tt
 
-knows-all : (xs past : List Event) (st now : Hearing) → hears_all st xs ≡ Some now → Knows st past → Knows now (past ++ xs)
-knows-all [] past st now h k = let is : st ≡ now = cc in subst (Knows now) (sym (append-nil past)) (subst (λ x. Knows x past) is k)
-knows-all (v ∷ xs) past st now h k = of (hears v st) h (knows-next v st past k) (λ y g. knows-all xs (past ++ v ∷ []) y now g)
+knows_all : (xs past : List Event) (st now : Hearing) → hears_all st xs ≡ Some now → Knows st past → Knows now (past ++ xs)
+knows_all [] past st now h k = let is : st ≡ now = cc in subst (Knows now) (sym (append-nil past)) (subst (λ x. Knows x past) is k)
+knows_all (v ∷ xs) past st now h k = of (hears v st) h (knows_next v st past k) (λ y g. knows_all xs (past ++ v ∷ []) y now g)
   where
     of : (f : Option Hearing) → option_and_then (λ y. hears_all y xs) f ≡ Some now → Known f (past ++ v ∷ [])
         → ((y : Hearing) → hears_all y xs ≡ Some now → Knows y (past ++ v ∷ []) → Knows now ((past ++ v ∷ []) ++ xs)) → Knows now (past ++ v ∷ xs)
@@ -103,9 +103,9 @@ knows-all (v ∷ xs) past st now h k = of (hears v st) h (knows-next v st past k
 
 -- ---- lists in two parts
 
-pub hears-append : (xs ys : List Event) (st now : Hearing) → hears_all st xs ≡ Some now → hears_all st (xs ++ ys) ≡ hears_all now ys
-hears-append [] ys st now h = let is : st ≡ now = cc in ap (λ x. hears_all x ys) is
-hears-append (v ∷ vs) ys st now h = of (hears v st) (λ y k. hears-append vs ys y now k) h
+pub hears_append : (xs ys : List Event) (st now : Hearing) → hears_all st xs ≡ Some now → hears_all st (xs ++ ys) ≡ hears_all now ys
+hears_append [] ys st now h = let is : st ≡ now = cc in ap (λ x. hears_all x ys) is
+hears_append (v ∷ vs) ys st now h = of (hears v st) (λ y k. hears_append vs ys y now k) h
   where
     of : (f : Option Hearing) → ((y : Hearing) → hears_all y vs ≡ Some now → hears_all y (vs ++ ys) ≡ hears_all now ys)
         → option_and_then (λ y. hears_all y vs) f ≡ Some now → option_and_then (λ y. hears_all y (vs ++ ys)) f ≡ hears_all now ys
@@ -131,13 +131,13 @@ KnownBefore acquire_done front = IsAnswered acquire acquire_done false front
 KnownBefore increfs_done front = IsAnswered increfs increfs_done false front
 KnownBefore v front = Unit {0}
 
-knows-before : (v : Event) (now : Hearing) (front back : List Event) → is_some (hears_all now (v ∷ back)) ≡ true → Knows now front → KnownBefore v front
-knows-before v now front back h k = search arith
+knows_before : (v : Event) (now : Hearing) (front back : List Event) → is_some (hears_all now (v ∷ back)) ≡ true → Knows now front → KnownBefore v front
+knows_before v now front back h k = search arith
 
-pub in-order : (es : List Event) → is_some (hears_all unheard es) ≡ true → InOrder es
-in-order es h = record { told = told-on es unheard h; before_release = at release; before_decrefs = at decrefs; before_acquire_done = at acquire_done; before_increfs_done = at increfs_done }
+pub in_order : (es : List Event) → is_some (hears_all unheard es) ≡ true → InOrder es
+in_order es h = record { told = told_on es unheard h; before_release = at release; before_decrefs = at decrefs; before_acquire_done = at acquire_done; before_increfs_done = at increfs_done }
   where
     at : (v : Event) (front back : List Event) → es ≡ front ++ v ∷ back → KnownBefore v front
     at v front back e =
         let r = parts front (v ∷ back) unheard (subst (λ xs. is_some (hears_all unheard xs) ≡ true) e h) in
-        knows-before v r.0 front back r.2 (knows-all front [] unheard r.0 r.1 tt)
+        knows_before v r.0 front back r.2 (knows_all front [] unheard r.0 r.1 tt)

@@ -4,11 +4,11 @@ use Rattle.bd_laws.proofs.words.Types.{ObjectId, Object, Reference, Holder, Mana
 use mathlib.Core.Bool.{beq}
 use Rattle.bd_laws.proofs.words.Space.{without_first, Space, lives_in, is_asked_by, is_shaking, is_in_window, is_handshake, is_of_owner, buffer_of_holder}
 use Rattle.bd_laws.proofs.words.Laws.{In}
-use Rattle.bd_laws.proofs.Lists.{in-left, filter-in, without-in}
-use Rattle.bd_laws.proofs.Tests.{both, same-eq}
-use Rattle.bd_laws.proofs.KeptBefore.ObjectsKept.{and-false}
+use Rattle.bd_laws.proofs.Lists.{in_left, filter_in, without_in}
+use Rattle.bd_laws.proofs.Tests.{both, same_eq}
+use Rattle.bd_laws.proofs.KeptBefore.ObjectsKept.{and_false}
 use Rattle.bd_audit.proofs.OwnersHearInOrder.Orders.{Hearing, unheard, weakly, strongly, ended}
-use Rattle.bd_audit.proofs.OwnersHearInOrder.Tallies.{tally, tally-more, tally-filter, tally-without}
+use Rattle.bd_audit.proofs.OwnersHearInOrder.Tallies.{tally, tally_more, tally_filter, tally_without}
 
 -- ---- what has been heard
 
@@ -69,36 +69,36 @@ pub record HeardBefore (o : ObjectId) (st : Hearing) (s : Space) : Type 0 where
 
 -- ---- references
 
-pub shaking-parts : (o : ObjectId) (b : Bool) (r : Reference) → is_shaking o b r ≡ true → (r.object ≡ o) × (is_handshake r.holder ≡ true) × (beq r.strong b ≡ true)
-shaking-parts o b r h = search (arith, both, same-eq)
+pub shaking_parts : (o : ObjectId) (b : Bool) (r : Reference) → is_shaking o b r ≡ true → (r.object ≡ o) × (is_handshake r.holder ≡ true) × (beq r.strong b ≡ true)
+shaking_parts o b r h = search (arith, both, same_eq)
 
-handshake-own : (h : Holder) → is_handshake h ≡ true → is_of_owner h ≡ true
-handshake-own h e = search arith
+handshake_own : (h : Holder) → is_handshake h ≡ true → is_of_owner h ≡ true
+handshake_own h e = search arith
 
-pub own-unasked : (h : Holder) (p : ℕ) → is_of_owner h ≡ true → is_asked_by p h ≡ false
-own-unasked h p e = search arith
+pub own_unasked : (h : Holder) (p : ℕ) → is_of_owner h ≡ true → is_asked_by p h ≡ false
+own_unasked h p e = search arith
 
-pub own-window : (h : Holder) (p : ℕ) → is_of_owner h ≡ true → is_in_window p h ≡ false
-own-window h p e = search arith
+pub own_window : (h : Holder) (p : ℕ) → is_of_owner h ≡ true → is_in_window p h ≡ false
+own_window h p e = search arith
 
-pub own-buffer : (h : Holder) → is_of_owner h ≡ true → buffer_of_holder h ≡ None
-own-buffer h e = search arith
+pub own_buffer : (h : Holder) → is_of_owner h ≡ true → buffer_of_holder h ≡ None
+own_buffer h e = search arith
 
 -- the owner's own references on the object are the same
 pub record Same (o : ObjectId) (more references : List Reference) : Type 0 where
   pub shakes : (b : Bool) → shaken references o b ≡ shaken more o b
   pub manages : (r : Reference) → In r more → r.object ≡ o → r.holder ≡ Manager → In r references
 
-pub tells-same : (E D : Type 0) (o : ObjectId) (more references : List Reference) (x : Object) (st : Hearing) → Same o more references → (E → D) → Tells E more o x st → Tells D references o x st
-tells-same E D o more references x st k f h = search arith
+pub tells_same : (E D : Type 0) (o : ObjectId) (more references : List Reference) (x : Object) (st : Hearing) → Same o more references → (E → D) → Tells E more o x st → Tells D references o x st
+tells_same E D o more references x st k f h = search arith
 
-pub same-more : (o : ObjectId) (references new : List Reference) → ((r : Reference) → In r new → is_handshake r.holder ≡ false) → Same o references (references ++ new)
-same-more o references new none = search (arith, tally-more, and-false, in-left)
+pub same_more : (o : ObjectId) (references new : List Reference) → ((r : Reference) → In r new → is_handshake r.holder ≡ false) → Same o references (references ++ new)
+same_more o references new none = search (arith, tally_more, and_false, in_left)
 
-pub same-filter : (o : ObjectId) (references : List Reference) (p : Reference → Bool) → ((r : Reference) → r.object ≡ o → is_of_owner r.holder ≡ true → p r ≡ true)
+pub same_filter : (o : ObjectId) (references : List Reference) (p : Reference → Bool) → ((r : Reference) → r.object ≡ o → is_of_owner r.holder ≡ true → p r ≡ true)
     → Same o references (filter p references)
-same-filter o references p stay = search (arith, tally-filter, shaking-parts, handshake-own, filter-in)
+same_filter o references p stay = search (arith, tally_filter, shaking_parts, handshake_own, filter_in)
 
-pub same-without : (o : ObjectId) (references : List Reference) (p : Reference → Bool) → ((r : Reference) → is_of_owner r.holder ≡ true → p r ≡ false)
+pub same_without : (o : ObjectId) (references : List Reference) (p : Reference → Bool) → ((r : Reference) → is_of_owner r.holder ≡ true → p r ≡ false)
     → Same o references (without_first p references)
-same-without o references p stay = search (arith, tally-without, handshake-own, shaking-parts, without-in)
+same_without o references p stay = search (arith, tally_without, handshake_own, shaking_parts, without_in)

@@ -5,26 +5,26 @@ use Rattle.bd_laws.proofs.words.Types.{DeadReply, FailedReply, TransactionComple
 use Rattle.bd_laws.proofs.words.Space.{Space, opening, actor, closed, is_frame, is_deepest_in, served_innermost, owe, is_item, list_to_read, ripen, follow, notify, work_goes, deaths_go, names_go, objects_go, is_abandoned, refusal, replied, reply_refused, read_by, taken, read_fault, change, counted, after}
 use Rattle.bd_space.specs.declared.space.WorkKind.TheVariants as work
 use Rattle.bd_laws.specs.Lists.{In}
-use Rattle.bd_laws.proofs.Machine.EveryStep.{KeepsWhole, keeps-both, every_whole_step}
-use Rattle.bd_laws.proofs.Machine.Table.{Any, set_up-by, changes-by, ripen-by, followed-by}
-use Rattle.bd_laws.proofs.Lists.{in-filter, filter-in, find-in, any-found, any-in, by-last}
-use Rattle.bd_laws.proofs.Tests.{and-both, not-false}
-use Rattle.bd_laws.proofs.IsInTurn.Ripening.{read-in}
-use Rattle.bd_laws.proofs.OnPaths.PathWords.{served-is}
+use Rattle.bd_laws.proofs.Machine.EveryStep.{KeepsWhole, keeps_both, every_whole_step}
+use Rattle.bd_laws.proofs.Machine.Table.{Any, set_up_by, changes_by, ripen_by, followed_by}
+use Rattle.bd_laws.proofs.Lists.{in_filter, filter_in, find_in, any_found, any_in, by_last}
+use Rattle.bd_laws.proofs.Tests.{and_both, not_false}
+use Rattle.bd_laws.proofs.IsInTurn.Ripening.{read_in}
+use Rattle.bd_laws.proofs.OnPaths.PathWords.{served_is}
 use Rattle.bd_audit.specs.Replies.{made_in, thread_made, items_taken, Calls, At}
 use Rattle.bd_audit.specs.Latest.{Closes, ReadsAnswer, is_answer, is_answer_of}
-use Rattle.bd_audit.proofs.Beginnings.{after-append}
-use Rattle.bd_laws.proofs.Machine.Steps.{always-steps}
-use Rattle.bd_audit.proofs.RepliesReachTheirCallers.Answering.{absent, closed-absent, always-traced, takes-items}
-use Rattle.bd_audit.proofs.RepliesReachTheirCallers.Traces.{Called, at-more, at-here, at-below, actor-made}
+use Rattle.bd_audit.proofs.Beginnings.{after_append}
+use Rattle.bd_laws.proofs.Machine.Steps.{always_steps}
+use Rattle.bd_audit.proofs.RepliesReachTheirCallers.Answering.{absent, closed_absent, always_traced, takes_items}
+use Rattle.bd_audit.proofs.RepliesReachTheirCallers.Traces.{Called, at_more, at_here, at_below, actor_made}
 use Rattle.bd_audit.proofs.RepliesReachTheirCallers.ReplyLaw.{NoFrame}
-use Rattle.bd_audit.proofs.TurnsTellOfCalls.TurnsTelling.{at-split}
-use Rattle.bd_audit.proofs.RepliesAnswerTheLatestOpenCall.Callers.{HasCallers, Comes, comes-kept, callers-within, always-callers, made-first}
+use Rattle.bd_audit.proofs.TurnsTellOfCalls.TurnsTelling.{at_split}
+use Rattle.bd_audit.proofs.RepliesAnswerTheLatestOpenCall.Callers.{HasCallers, Comes, comes_kept, callers_within, always_callers, made_first}
 use Rattle.bd_audit.proofs.RepliesAnswerTheLatestOpenCall.Unread as part
-use Rattle.bd_audit.proofs.RepliesAnswerTheLatestOpenCall.Unread.{Held, Leaves, leaves_table, leaves_exits, holds_table, holds-owe, sent-holds, read-stay}
-use Rattle.bd_laws.proofs.Machine.Fields.{sent-steps, sent-frames, sent-threads, told-frames}
-use Rattle.bd_laws.proofs.Always.{tidy-after}
-use Rattle.bd_audit.proofs.RepliesAnswerTheLatestOpenCall.OpenCalls.{StandsIn, Waits, WasRead, Answered, was-more, holds-waits, told, told-threads, told-holds, told-waits, called-stands, read-on}
+use Rattle.bd_audit.proofs.RepliesAnswerTheLatestOpenCall.Unread.{Held, Leaves, leaves_table, leaves_exits, holds_table, holds_owe, sent_holds, read_stay}
+use Rattle.bd_laws.proofs.Machine.Fields.{sent_steps, sent_frames, sent_threads, told_frames}
+use Rattle.bd_laws.proofs.Always.{tidy_after}
+use Rattle.bd_audit.proofs.RepliesAnswerTheLatestOpenCall.OpenCalls.{StandsIn, Waits, WasRead, Answered, was_more, holds_waits, told, told_threads, told_holds, told_waits, called_stands, read_on}
 
 module _ (es : List Entry) (e : Entry) (h : Answered es (after opening es)) where
   abbrev s : Space
@@ -41,7 +41,7 @@ module _ (es : List Entry) (e : Entry) (h : Answered es (after opening es)) wher
         → In w z.todo ⊎ ((t ≡ e.seat) × In w (items_taken s e.seat e.step))
 
   early : (j m : ℕ) → Called es j m → m < s.steps
-  early j m c = let lt = made-first es j m c in let below = at-below es j (λ z e. Calls z e m) c in let place = always-steps es in omega arith
+  early j m c = let lt = made_first es j m c in let below = at_below es j (λ z e. Calls z e m) c in let place = always_steps es in omega arith
 
   left : (z : Space) → Leaves z s → Ends z
   left z k = record {
@@ -58,7 +58,7 @@ module _ (es : List Entry) (e : Entry) (h : Answered es (after opening es)) wher
   changes z y threads frames todo goes n = record {
     calls = λ j m t c i o. elim (n.calls j m t c (was t m i) o) [
       | inl x ↦ goes j m t c (was t m i) x
-      | inr x ↦ inr (λ f l. x.0 f (frames f l), holds-waits z y t (length es) todo x.1)
+      | inr x ↦ inr (λ f l. x.0 f (frames f l), holds_waits z y t (length es) todo x.1)
     ];
     answers = λ w t m lt i on a l. elim (n.answers w t m lt (was t m i) on a l) [ inl x ↦ inl (todo w a x) | inr r ↦ inr r ];
   }
@@ -73,31 +73,31 @@ module _ (es : List Entry) (e : Entry) (h : Answered es (after opening es)) wher
   closes : (x y : Space) (f : Frame) (kind : WorkKind) → is_answer kind ≡ true → x.steps ≡ s.steps → x.threads ≡ y.threads → x.frames ≡ (closed y f.made).frames → Held x y → In f y.frames
       → HasCallers more y → Ends y → Ends (told x f.caller kind)
   unfolding closed
-  closes x y f kind is_one steps threads frames todo here callers_are = changes z y (told-threads x f.caller kind ∙ threads)
-      (λ g l. (in-filter (λ (v : Frame). not (is_frame f.made v)) g y.frames (subst (In g) all l)).0)
-      (λ w a l. told-holds x f.caller kind w a (todo w a l)) (λ j m t c was o. closing j m t c was o (f.made == j) refl)
+  closes x y f kind is_one steps threads frames todo here callers_are = changes z y (told_threads x f.caller kind ∙ threads)
+      (λ g l. (in_filter (λ (v : Frame). not (is_frame f.made v)) g y.frames (subst (In g) all l)).0)
+      (λ w a l. told_holds x f.caller kind w a (todo w a l)) (λ j m t c was o. closing j m t c was o (f.made == j) refl)
     where
       z : Space
       z = told x f.caller kind
 
       all : z.frames ≡ (closed y f.made).frames
-      all = told-frames x f.caller kind ∙ frames
+      all = told_frames x f.caller kind ∙ frames
 
       closing : (j m t : ℕ) → Called es j m → thread_made y t ≡ Some m → StandsIn y j → (b : Bool) → (f.made == j) ≡ b → StandsIn z j ⊎ (NoFrame j z × Waits z t (length es))
       closing j m t c was o true q =
           let is = eqb-true f.made j q in
-          let called : Called more f.made m = subst (λ x. Called more x m) (sym is) (at-more es (e ∷ []) j (λ z e. Calls z e m) c) in
-          inr (λ g l made. closed-absent y f.made g (subst (In g) all l) (made ∙ sym is), told-waits x f.caller kind (length es) is_one (steps ∙ always-steps es) t (callers_are f m t here called was))
+          let called : Called more f.made m = subst (λ x. Called more x m) (sym is) (at_more es (e ∷ []) j (λ z e. Calls z e m) c) in
+          inr (λ g l made. closed_absent y f.made g (subst (In g) all l) (made ∙ sym is), told_waits x f.caller kind (length es) is_one (steps ∙ always_steps es) t (callers_are f m t here called was))
       closing j m t c was o false q =
           let apart : is_frame f.made o.0 ≡ false = search (arith, eqb-true, eq-eqb) in
-          inl (o.0, subst (In o.0) (sym all) (filter-in (λ (v : Frame). not (is_frame f.made v)) o.0 y.frames o.1 (not-false (is_frame f.made o.0) apart)), o.2)
+          inl (o.0, subst (In o.0) (sym all) (filter_in (λ (v : Frame). not (is_frame f.made v)) o.0 y.frames o.1 (not_false (is_frame f.made o.0) apart)), o.2)
 
   -- the first that closes is the one that a thread serves innermost
-  serves-closed : (x : Space) (a : Actor) (f : Frame) → served_innermost s a.thread.seat ≡ Some f → (kind : WorkKind) → is_answer kind ≡ true → x.steps ≡ s.steps → x.threads ≡ s.threads
+  serves_closed : (x : Space) (a : Actor) (f : Frame) → served_innermost s a.thread.seat ≡ Some f → (kind : WorkKind) → is_answer kind ≡ true → x.steps ≡ s.steps → x.threads ≡ s.threads
       → x.frames ≡ (closed s f.made).frames → Held x s → Ends (told x f.caller kind)
-  serves-closed x a f g kind is_one steps threads frames todo =
-      closes x s f kind is_one steps threads frames todo (find-in (is_deepest_in s.frames a.thread.seat) f s.frames (served-is s a.thread.seat f g).0).0
-      (callers-within es e (always-callers es) s (comes-kept es e).set_up.same) now
+  serves_closed x a f g kind is_one steps threads frames todo =
+      closes x s f kind is_one steps threads frames todo (find_in (is_deepest_in s.frames a.thread.seat) f s.frames (served_is s a.thread.seat f g).0).0
+      (callers_within es e (always_callers es) s (comes_kept es e).set_up.same) now
 
   -- ---- a reading
 
@@ -105,7 +105,7 @@ module _ (es : List Entry) (e : Entry) (h : Answered es (after opening es)) wher
       → Ends (read_by s a.thread.seat (taken s (limit - 4) (list_to_read s a.thread)))
   unfolding read_by
   reads a limit acts x n = record {
-    calls = λ j m t c i o. let g = read-stay s a.thread.seat ws o.0 o.1 in inl (g.0, g.1, g.2.made ∙ o.2);
+    calls = λ j m t c i o. let g = read_stay s a.thread.seat ws o.0 o.1 in inl (g.0, g.1, g.2.made ∙ o.2);
     answers = λ w t m lt i on is_one l. waiting w t on l (list_any (λ (d : Work). is_item w d) ws) refl;
   }
     where
@@ -114,12 +114,12 @@ module _ (es : List Entry) (e : Entry) (h : Answered es (after opening es)) wher
 
       waiting : (w : Work) (t : ℕ) → w.list ≡ OfThread t → In w s.todo → (b : Bool) → list_any (λ (d : Work). is_item w d) ws ≡ b
           → In w (filter (λ (v : Work). not (list_any (λ (d : Work). is_item v d) ws)) s.todo) ⊎ ((t ≡ e.seat) × In w (items_taken s e.seat e.step))
-      waiting w t on l false q = inl (filter-in (λ (v : Work). not (list_any (λ (d : Work). is_item v d) ws)) w s.todo l (not-false (list_any (λ (d : Work). is_item w d) ws) q))
+      waiting w t on l false q = inl (filter_in (λ (v : Work). not (list_any (λ (d : Work). is_item v d) ws)) w s.todo l (not_false (list_any (λ (d : Work). is_item w d) ws) q))
       waiting w t on l true q =
-          let d = any-found (λ (d : Work). is_item w d) ws q in
-          let is : w ≡ d.0 = (tidy-after es).told.distinct w d.0 l (read-in s a.thread (limit - 4) d.0 d.1) d.2 in
+          let d = any_found (λ (d : Work). is_item w d) ws q in
+          let is : w ≡ d.0 = (tidy_after es).told.distinct w d.0 l (read_in s a.thread (limit - 4) d.0 d.1) d.2 in
           let here = subst (λ v. In v ws) (sym is) d.1 in
-          inr (read-on s a.thread (limit - 4) w t here on ∙ (actor-made s e.seat a acts).0, subst (In w) (sym (takes-items es e (always-traced es) a acts limit x n)) here)
+          inr (read_on s a.thread (limit - 4) w t here on ∙ (actor_made s e.seat a acts).0, subst (In w) (sym (takes_items es e (always_traced es) a acts limit x n)) here)
 
   -- ---- the whole step
 
@@ -128,42 +128,42 @@ module _ (es : List Entry) (e : Entry) (h : Answered es (after opening es)) wher
 
   kept : KeepsWhole s e.seat e.step Both Both
   unfolding replied reply_refused closed owe ripen follow notify work_goes deaths_go objects_go names_go
-  kept = keeps-both s e.seat e.step (Comes es e) (Comes es e) Ends Ends (comes-kept es e) (record {
-    set_up = set_up-by Leaves Any leaves_table s e.seat e.step Ends left;
-    changes = changes-by Leaves Any leaves_table s e.seat e.step Ends left leaves_exits (record {
+  kept = keeps_both s e.seat e.step (Comes es e) (Comes es e) Ends Ends (comes_kept es e) (record {
+    set_up = set_up_by Leaves Any leaves_table s e.seat e.step Ends left;
+    changes = changes_by Leaves Any leaves_table s e.seat e.step Ends left leaves_exits (record {
       transacts = λ a d parcel v x i t. let p = part.transacts s a d v in record { calls = λ j m u c k o. inl (o.0, p.stay o.0 o.1, o.2); answers = λ w u m lt k on is_one l. inl (p.todo w is_one l) };
       replies = λ a d parcel f v x i g t.
           let y = closed s f.made in
-          serves-closed _ a f g (work.Reply s.steps) refl (sent-steps y a d v false) (sent-threads y a d v false) (sent-frames y a d v false) (sent-holds y a d v false);
+          serves_closed _ a f g (work.Reply s.steps) refl (sent_steps y a d v false) (sent_threads y a d v false) (sent_frames y a d v false) (sent_holds y a d v false);
       reads = reads;
-      ripens = λ z. later (ripen z) z refl refl (ripen-by Held Any holds_table (λ m. tt) z);
+      ripens = λ z. later (ripen z) z refl refl (ripen_by Held Any holds_table (λ m. tt) z);
     });
-    follows = λ z c. later (follow z) z refl refl (followed-by Held Any holds_table z);
+    follows = λ z c. later (follow z) z refl refl (followed_by Held Any holds_table z);
     refuses = λ t c. left _ (leaves_table.owes s (OfThread t) (work.Refusal (refusal c)) tt);
-    fails = λ a d parcel f x i g. serves-closed _ a f g (work.Verdict FailedReply) refl refl refl refl (holds-owe s (OfThread a.thread.seat) (work.Refusal TransactionComplete));
+    fails = λ a d parcel f x i g. serves_closed _ a f g (work.Verdict FailedReply) refl refl refl refl (holds_owe s (OfThread a.thread.seat) (work.Refusal TransactionComplete));
     abandons = λ z f found k.
-        closes (closed z f.made) z f (work.Verdict DeadReply) refl k.steps refl refl (λ w a l. l) (find-in (is_abandoned z.frames) f z.frames found).0 (callers-within es e (always-callers es) z k);
+        closes (closed z f.made) z f (work.Verdict DeadReply) refl k.steps refl refl (λ w a l. l) (find_in (is_abandoned z.frames) f z.frames found).0 (callers_within es e (always_callers es) z k);
   })
 
   ended : Both (change s e.seat e.step).space
   ended = every_whole_step s e.seat e.step Both Both kept
 
   -- what its thread read now
-  was-read : (j m t d : ℕ) → Called es j m → thread_made s t ≡ Some m → At es d (λ y f. Closes y f j) → (v : Waits s t d) → t ≡ e.seat → In v.0 (items_taken s e.seat e.step) → WasRead more j m
-  was-read j m t d c i closes v seat l = record {
+  was_read : (j m t d : ℕ) → Called es j m → thread_made s t ≡ Some m → At es d (λ y f. Closes y f j) → (v : Waits s t d) → t ≡ e.seat → In v.0 (items_taken s e.seat e.step) → WasRead more j m
+  was_read j m t d c i closes v seat l = record {
     closed = d;
     read = length es;
-    order = at-below es d (λ y f. Closes y f j) closes;
-    closes = at-more es (e ∷ []) d (λ y f. Closes y f j) closes;
-    reads = at-here es e (λ y f. ReadsAnswer y f d m) (record {
+    order = at_below es d (λ y f. Closes y f j) closes;
+    closes = at_more es (e ∷ []) d (λ y f. Closes y f j) closes;
+    reads = at_here es e (λ y f. ReadsAnswer y f d m) (record {
       by = subst (λ n. thread_made s n ≡ Some m) seat i;
-      taken = any-in (is_answer_of d) v.0 (items_taken s e.seat e.step) l (and-both (is_answer v.0.kind) (v.0.id.place == d) v.3 (eq-eqb v.0.id.place d v.4));
+      taken = any_in (is_answer_of d) v.0 (items_taken s e.seat e.step) l (and_both (is_answer v.0.kind) (v.0.id.place == d) v.3 (eq-eqb v.0.id.place d v.4));
     });
   }
 
-  step-answered : Answered more (after opening more)
+  step_answered : Answered more (after opening more)
   unfolding counted
-  step-answered = subst (Answered more) (sym (after-append opening es (e ∷ []))) (λ j m t c i. elim (at-split es e j (λ z e. Calls z e m) c) [
+  step_answered = subst (Answered more) (sym (after_append opening es (e ∷ []))) (λ j m t c i. elim (at_split es e j (λ z e. Calls z e m) c) [
     | inl past ↦ (
         let was = ended.0.threads t m (early j m past) i in
         elim (h j m t past was) [
@@ -171,26 +171,26 @@ module _ (es : List Entry) (e : Entry) (h : Answered es (after opening es)) wher
             | inl x ↦ inl x
             | inr x ↦ inr (inl (
               length es,
-              at-here es e (λ y f. Closes y f j) (record { stood = any-in (is_frame j) o.0 s.frames o.1 (eq-eqb o.0.made j o.2); goes = absent j (change s e.seat e.step).space.frames x.0 }),
+              at_here es e (λ y f. Closes y f j) (record { stood = any_in (is_frame j) o.0 s.frames o.1 (eq-eqb o.0.made j o.2); goes = absent j (change s e.seat e.step).space.frames x.0 }),
               x.1,
             ))
           ]
           | inr x ↦ elim x [
             | inl w ↦ elim (ended.1.answers w.2.0 t m (early j m past) i w.2.2 w.2.3 w.2.1) [
-              | inl l ↦ inr (inl (w.0, at-more es (e ∷ []) w.0 (λ y f. Closes y f j) w.1, (w.2.0, l, w.2.2, w.2.3, w.2.4)))
-              | inr r ↦ inr (inr (was-read j m t w.0 past was w.1 w.2 r.0 r.1))
+              | inl l ↦ inr (inl (w.0, at_more es (e ∷ []) w.0 (λ y f. Closes y f j) w.1, (w.2.0, l, w.2.2, w.2.3, w.2.4)))
+              | inr r ↦ inr (inr (was_read j m t w.0 past was w.1 w.2 r.0 r.1))
             ]
-            | inr r ↦ inr (inr (was-more es (e ∷ []) j m r))
+            | inr r ↦ inr (inr (was_more es (e ∷ []) j m r))
           ]
         ])
-    | inr new ↦ inl (subst (StandsIn (change s e.seat e.step).space) (always-steps es ∙ sym new.0) (step-calls m new.1))
+    | inr new ↦ inl (subst (StandsIn (change s e.seat e.step).space) (always_steps es ∙ sym new.0) (step_calls m new.1))
   ])
     where
       -- the call that the step makes is open after it
-      step-calls : (m : ℕ) → Calls s e m → StandsIn (change s e.seat e.step).space s.steps
-      step-calls m c = subst (λ x. StandsIn (change s e.seat x).space s.steps) (sym c.command)
-          (called-stands s e.seat c.fields c.parcel (λ f l. let lt = (always-traced es).below f l in let n = always-steps es in omega arith) c.two_way
+      step_calls : (m : ℕ) → Calls s e m → StandsIn (change s e.seat e.step).space s.steps
+      step_calls m c = subst (λ x. StandsIn (change s e.seat x).space s.steps) (sym c.command)
+          (called_stands s e.seat c.fields c.parcel (λ f l. let lt = (always_traced es).below f l in let n = always_steps es in omega arith) c.two_way
           (ap (λ x. (change s e.seat x).answer) (sym c.command) ∙ c.accepted))
 
-pub always-answered : (es : List Entry) → Answered es (after opening es)
-always-answered es = by-last (λ es. Answered es (after opening es)) step-answered (λ j m t c i. let lt = at-below [] j (λ z e. Calls z e m) c in absurd (omega arith)) es
+pub always_answered : (es : List Entry) → Answered es (after opening es)
+always_answered es = by_last (λ es. Answered es (after opening es)) step_answered (λ j m t c i. let lt = at_below [] j (λ z e. Calls z e m) c in absurd (omega arith)) es

@@ -5,16 +5,16 @@ use Rattle.bd_laws.proofs.words.Space.{Space, actor, closed, is_gone, innermost_
 use Rattle.bd_uapi.specs.declared.command.Command.TheVariants as bc
 use Rattle.bd_space.specs.declared.space.WorkKind.TheVariants as work
 use Rattle.bd_laws.specs.Lists.{In}
-use Rattle.bd_laws.proofs.Lists.{in-last, in-filter, filter-in, find-in}
-use Rattle.bd_laws.proofs.Tests.{both, not-false}
-use Rattle.bd_laws.proofs.Checks.{transaction-checked}
+use Rattle.bd_laws.proofs.Lists.{in_last, in_filter, filter_in, find_in}
+use Rattle.bd_laws.proofs.Tests.{both, not_false}
+use Rattle.bd_laws.proofs.Checks.{transaction_checked}
 use Rattle.bd_audit.specs.Replies.{thread_made, At}
 use Rattle.bd_audit.specs.Latest.{Closes, ReadsAnswer, is_answer}
 use Rattle.bd_laws.proofs.IsInTurn.Ripening as read
-use Rattle.bd_audit.proofs.RepliesReachTheirCallers.Traces.{Called, at-more}
-use Rattle.bd_audit.proofs.RepliesAnswerTheLatestOpenCall.Unread.{Holds, holds-owe, transacts}
-use Rattle.bd_laws.proofs.Machine.Fields.{owe-frames, owe-threads}
-use Rattle.bd_laws.proofs.Machine.Settled.{settle-keeps}
+use Rattle.bd_audit.proofs.RepliesReachTheirCallers.Traces.{Called, at_more}
+use Rattle.bd_audit.proofs.RepliesAnswerTheLatestOpenCall.Unread.{Holds, holds_owe, transacts}
+use Rattle.bd_laws.proofs.Machine.Fields.{owe_frames, owe_threads}
+use Rattle.bd_laws.proofs.Machine.Settled.{settle_keeps}
 
 abbrev pub StandsIn : Space → ℕ → Type 0
 StandsIn z j = (f : Frame) × In f z.frames × (f.made ≡ j)
@@ -38,33 +38,33 @@ Stays es z j m t =
 abbrev pub Answered : List Entry → Space → Type 0
 Answered es z = (j m t : ℕ) → Called es j m → thread_made z t ≡ Some m → Stays es z j m t
 
-pub was-more : (es fs : List Entry) (j m : ℕ) → WasRead es j m → WasRead (es ++ fs) j m
-was-more es fs j m h = record {
+pub was_more : (es fs : List Entry) (j m : ℕ) → WasRead es j m → WasRead (es ++ fs) j m
+was_more es fs j m h = record {
   closed = h.closed;
   read = h.read;
   order = h.order;
-  closes = at-more es fs h.closed (λ z e. Closes z e j) h.closes;
-  reads = at-more es fs h.read (λ z e. ReadsAnswer z e h.closed m) h.reads;
+  closes = at_more es fs h.closed (λ z e. Closes z e j) h.closes;
+  reads = at_more es fs h.read (λ z e. ReadsAnswer z e h.closed m) h.reads;
 }
 
-pub holds-waits : (z y : Space) (t d : ℕ) → Holds z.todo y.todo → Waits y t d → Waits z t d
-holds-waits z y t d h v = (v.0, h v.0 v.3 v.1, v.2, v.3, v.4)
+pub holds_waits : (z y : Space) (t d : ℕ) → Holds z.todo y.todo → Waits y t d → Waits z t d
+holds_waits z y t d h v = (v.0, h v.0 v.3 v.1, v.2, v.3, v.4)
 
 -- ---- a caller that is told
 
 abbrev pub told : Space → Option ℕ → WorkKind → Space
 told y caller kind = elim caller as (λ (o : Option ℕ). Space) [ None ↦ y | Some t ↦ owe y (OfThread t) kind ]
 
-pub told-threads : (y : Space) (caller : Option ℕ) (kind : WorkKind) → (told y caller kind).threads ≡ y.threads
-told-threads y caller kind = search (arith, owe-threads)
+pub told_threads : (y : Space) (caller : Option ℕ) (kind : WorkKind) → (told y caller kind).threads ≡ y.threads
+told_threads y caller kind = search (arith, owe_threads)
 
-pub told-holds : (y : Space) (caller : Option ℕ) (kind : WorkKind) → Holds (told y caller kind).todo y.todo
-told-holds y caller kind = search (arith, holds-owe)
+pub told_holds : (y : Space) (caller : Option ℕ) (kind : WorkKind) → Holds (told y caller kind).todo y.todo
+told_holds y caller kind = search (arith, holds_owe)
 
-pub told-waits : (y : Space) (caller : Option ℕ) (kind : WorkKind) (n : ℕ) → is_answer kind ≡ true → y.steps ≡ n → (t : ℕ) → caller ≡ Some t → Waits (told y caller kind) t n
+pub told_waits : (y : Space) (caller : Option ℕ) (kind : WorkKind) (n : ℕ) → is_answer kind ≡ true → y.steps ≡ n → (t : ℕ) → caller ≡ Some t → Waits (told y caller kind) t n
 unfolding owe
-told-waits y None kind n a e t c = absurd (cc)
-told-waits y (Some u) kind n a e t c = (_, in-last _ y.todo, ap (λ x. OfThread x) (let j : u ≡ t = cc in j), a, e)
+told_waits y None kind n a e t c = absurd (cc)
+told_waits y (Some u) kind n a e t c = (_, in_last _ y.todo, ap (λ x. OfThread x) (let j : u ≡ t = cc in j), a, e)
 
 -- ---- a call stays open while its server hasn't gone
 
@@ -73,33 +73,33 @@ abbrev pub Open : Space → ℕ → Type 0
 Open z n = StandsIn z n × ((g : Frame) → In g z.frames → g.made ≡ n → is_gone g.server ≡ false)
 
 module _ (n : ℕ) where
-  told-open : (y : Space) (caller : Option ℕ) (kind : WorkKind) → Open y n → Open (told y caller kind) n
-  told-open y caller kind h = search (arith, owe-frames)
+  told_open : (y : Space) (caller : Option ℕ) (kind : WorkKind) → Open y n → Open (told y caller kind) n
+  told_open y caller kind h = search (arith, owe_frames)
 
-  closed-open : (z : Space) (f : Frame) → (f.made ≡ n → ⊥) → Open z n → Open (closed z f.made) n
+  closed_open : (z : Space) (f : Frame) → (f.made ≡ n → ⊥) → Open z n → Open (closed z f.made) n
   unfolding closed
-  closed-open z f other h = search (arith, filter-in, not-false, in-filter, eqb-true)
+  closed_open z f other h = search (arith, filter_in, not_false, in_filter, eqb-true)
 
-  completed-open : (z : Space) → Open z n → Open (completed z) n
+  completed_open : (z : Space) → Open z n → Open (completed z) n
   unfolding completed ripen follow notify work_goes deaths_go objects_go names_go
-  completed-open z = settle-keeps (λ y. Open y n) (λ y f e h.
-      let k = find-in (is_abandoned y.frames) f y.frames e in
+  completed_open z = settle_keeps (λ y. Open y n) (λ y f e h.
+      let k = find_in (is_abandoned y.frames) f y.frames e in
       let gone = (both (is_gone f.server) _ k.1).0 in
-      told-open (closed y f.made) f.caller (work.Verdict DeadReply) (closed-open y f (λ is. let here = h.1 f k.0 is in absurd (cc)) h)) (follow (ripen z))
+      told_open (closed y f.made) f.caller (work.Verdict DeadReply) (closed_open y f (λ is. let here = h.1 f k.0 is in absurd (cc)) h)) (follow (ripen z))
 
-transacted-open : (s : Space) (a : Actor) (d : TransactionData) (v : Delivery) → v.one_way ≡ false → ((f : Frame) → In f s.frames → f.made < s.steps) → Open (transacted s a d v) s.steps
-transacted-open s a d v two_way below =
+transacted_open : (s : Space) (a : Actor) (d : TransactionData) (v : Delivery) → v.one_way ≡ false → ((f : Frame) → In f s.frames → f.made < s.steps) → Open (transacted s a d v) s.steps
+transacted_open s a d v two_way below =
     let p = transacts s a d v in
     (p.new two_way, λ g l is. elim (p.came g l) [ inl i ↦ (let lt = below g i in absurd (omega arith)) | inr new ↦ ap is_gone new.server ])
 
-pub called-stands : (s : Space) (seat : ℕ) (d : TransactionData) (parcel : Option Parcel) → ((f : Frame) → In f s.frames → f.made < s.steps) → is_one_way d ≡ false
+pub called_stands : (s : Space) (seat : ℕ) (d : TransactionData) (parcel : Option Parcel) → ((f : Frame) → In f s.frames → f.made < s.steps) → is_one_way d ≡ false
     → (change s seat (Command (bc.Transaction d) parcel)).answer ≡ Accepted → StandsIn (change s seat (Command (bc.Transaction d) parcel)).space s.steps
 unfolding change command_step transaction_step
-called-stands s seat d parcel below two_way h = at (actor s seat) h
+called_stands s seat d parcel below two_way h = at (actor s seat) h
   where
     checks : (a : Actor) (r : Result Delivery Cause) → transaction_check s a d parcel ≡ r → (transaction_outcome s a d r).answer ≡ Accepted → StandsIn (transaction_outcome s a d r).space s.steps
     checks a (Err x) k q = absurd (cc)
-    checks a (Ok v) k q = (completed-open s.steps (transacted s a d v) (transacted-open s a d v ((transaction-checked s a d parcel v k).one_way ∙ two_way) below)).0
+    checks a (Ok v) k q = (completed_open s.steps (transacted s a d v) (transacted_open s a d v ((transaction_checked s a d parcel v k).one_way ∙ two_way) below)).0
 
     at : (o : Option Actor) → (by_actor s o (λ a. command_step s a (bc.Transaction d) parcel)).answer ≡ Accepted → StandsIn (by_actor s o (λ a. command_step s a (bc.Transaction d) parcel)).space s.steps
     at o q = search (arith, checks)
@@ -107,12 +107,12 @@ called-stands s seat d parcel below two_way h = at (actor s seat) h
 -- ---- which list is read
 
 -- what a thread reads of a thread's list is of its own
-pub read-on : (s : Space) (th : Thread) (left : ℕ) (w : Work) (t : ℕ) → In w (taken s left (list_to_read s th)) → w.list ≡ OfThread t → t ≡ th.seat
+pub read_on : (s : Space) (th : Thread) (left : ℕ) (w : Work) (t : ℕ) → In w (taken s left (list_to_read s th)) → w.list ≡ OfThread t → t ≡ th.seat
 unfolding list_to_read
-read-on s th left w t l on = at (has_work_in s.todo (OfThread th.seat)) (th.looping && is_none (innermost_in s.frames th.seat)) (read.taken-in s (list_to_read s th) left w l)
+read_on s th left w t l on = at (has_work_in s.todo (OfThread th.seat)) (th.looping && is_none (innermost_in s.frames th.seat)) (read.taken_in s (list_to_read s th) left w l)
   where
     own : (list : TodoList) → In w (filter (is_on list) s.todo) → same_list list (OfThread t) ≡ true
-    own list i = ap (λ x. same_list list x) (sym on) ∙ (in-filter (is_on list) w s.todo i).1
+    own list i = ap (λ x. same_list list x) (sym on) ∙ (in_filter (is_on list) w s.todo i).1
 
     at : (b c : Bool) → In w (work_on s.todo (cond b (Some (OfThread th.seat)) (cond c (Some (OfProcess th.process)) None))) → t ≡ th.seat
     at b c i = search (arith, eqb-true, own)

@@ -6,25 +6,25 @@ use Rattle.bd_laws.proofs.words.Types.{DeadReply, FailedReply, TransactionComple
 use Rattle.bd_laws.proofs.words.Space.{Space, opening, closed, is_frame, is_gone, is_child_of, is_deepest_in, served_innermost, owe, tell_caller, list_to_read, ripen, follow, notify, work_goes, deaths_go, names_go, objects_go, is_abandoned, refusal, replied, reply_refused, taken, counted, after, is_item, Delivery, delivered, add_buffer, transacted, call_out, read_by, thread_goes, with_looping, with_thread, without_buffer, without_process}
 use Rattle.bd_space.specs.declared.space.WorkKind.TheVariants as work
 use Rattle.bd_laws.proofs.words.Laws.{In, OnPaths}
-use Rattle.bd_laws.proofs.Machine.EveryStep.{KeepsWhole, whole, keeps-both, keeps-alone, every_whole_step}
-use Rattle.bd_laws.proofs.Machine.Table.{set_up-by, changes-by, ripen-by, followed-by, Table, Exits, sent-by, transacted-by}
-use Rattle.bd_laws.proofs.Lists.{in-push, in-filter, find-in, by-last}
+use Rattle.bd_laws.proofs.Machine.EveryStep.{KeepsWhole, whole, keeps_both, keeps_alone, every_whole_step}
+use Rattle.bd_laws.proofs.Machine.Table.{set_up_by, changes_by, ripen_by, followed_by, Table, Exits, sent_by, transacted_by}
+use Rattle.bd_laws.proofs.Lists.{in_push, in_filter, find_in, by_last}
 use Rattle.bd_laws.proofs.Tests.{both}
-use Rattle.bd_laws.proofs.OnPaths.PathWords.{served-is}
-use Rattle.bd_laws.proofs.Always.{always-on_paths, tidy-after}
+use Rattle.bd_laws.proofs.OnPaths.PathWords.{served_is}
+use Rattle.bd_laws.proofs.Always.{always_on_paths, tidy_after}
 use Rattle.bd_laws.proofs.ItemsAreToldApart.Identities.{count_at}
 use Rattle.bd_audit.specs.Replies.{made_in}
 use Rattle.bd_audit.specs.Latest.{is_answer}
-use Rattle.bd_audit.proofs.Beginnings.{after-append}
-use Rattle.bd_laws.proofs.Machine.Steps.{always-steps}
+use Rattle.bd_audit.proofs.Beginnings.{after_append}
+use Rattle.bd_laws.proofs.Machine.Steps.{always_steps}
 use Rattle.bd_audit.proofs.RepliesReachTheirCallers.Answering as answering
-use Rattle.bd_audit.proofs.RepliesReachTheirCallers.Answering.{closed-absent, always-traced}
+use Rattle.bd_audit.proofs.RepliesReachTheirCallers.Answering.{closed_absent, always_traced}
 use Rattle.bd_audit.proofs.RepliesReachTheirCallers.Traces.{Traced}
 use Rattle.bd_audit.proofs.CallsEndLatestFirst.LatestFirst as earlier
-use Rattle.bd_audit.proofs.CallsEndLatestFirst.LatestFirst.{Earlier, earlier-open}
-use Rattle.bd_audit.proofs.RepliesAnswerTheLatestOpenCall.Callers.{Comes, comes-kept, made-first}
-use Rattle.bd_audit.proofs.RepliesAnswerTheLatestOpenCall.OpenCalls.{told-threads}
-use Rattle.bd_laws.proofs.Machine.Fields.{told-frames, closed-threads, sent-steps, sent-frames}
+use Rattle.bd_audit.proofs.CallsEndLatestFirst.LatestFirst.{Earlier, earlier_open}
+use Rattle.bd_audit.proofs.RepliesAnswerTheLatestOpenCall.Callers.{Comes, comes_kept, made_first}
+use Rattle.bd_audit.proofs.RepliesAnswerTheLatestOpenCall.OpenCalls.{told_threads}
+use Rattle.bd_laws.proofs.Machine.Fields.{told_frames, closed_threads, sent_steps, sent_frames}
 
 -- no reply or verdict comes
 abbrev Silent : Space → Space → Type 0
@@ -34,40 +34,40 @@ Silent z y = (w : Work) → is_answer w.kind ≡ true → In w z.todo → In w y
 abbrev NoAnswer : WorkKind → Type 0
 NoAnswer kind = is_answer kind ≡ false
 
-none-trans : (z y x : Space) → Silent z y → Silent y x → Silent z x
-none-trans z y x h k w a l = k w a (h w a l)
+none_trans : (z y x : Space) → Silent z y → Silent y x → Silent z x
+none_trans z y x h k w a l = k w a (h w a l)
 
-none-owe : (z : Space) (list : TodoList) (kind : WorkKind) → NoAnswer kind → Silent (owe z list kind) z
+none_owe : (z : Space) (list : TodoList) (kind : WorkKind) → NoAnswer kind → Silent (owe z list kind) z
 unfolding owe
-none-owe z list kind apart w a l = elim (in-push w _ z.todo l) [
+none_owe z list kind apart w a l = elim (in_push w _ z.todo l) [
   | inl i ↦ i
   | inr is ↦ (let k : is_answer w.kind ≡ false = ap (λ (x : Work). is_answer x.kind) (sym is) ∙ apart in absurd (cc))
 ]
 
-none-fewer : (z : Space) (p : Work → Bool) → Silent (record z { todo = filter p z.todo }) z
-none-fewer z p w a l = (in-filter p w z.todo l).0
+none_fewer : (z : Space) (p : Work → Bool) → Silent (record z { todo = filter p z.todo }) z
+none_fewer z p w a l = (in_filter p w z.todo l).0
 
 none_table : Table Silent NoAnswer
 unfolding with_thread with_looping without_buffer work_goes
-none_table = search (arith, none-trans, none-owe, none-fewer)
+none_table = search (arith, none_trans, none_owe, none_fewer)
 
 none_exits : Exits Silent
 unfolding thread_goes without_process
-none_exits = record { goes = λ z seat. none-fewer z _; rest = λ z p. none-fewer z _ }
+none_exits = record { goes = λ z seat. none_fewer z _; rest = λ z p. none_fewer z _ }
 
 -- ---- deliveries and readings
 
-none-sent : (s : Space) (a : Actor) (d : TransactionData) (v : Delivery) (spam : Bool) → Silent (owe (delivered s a d v) (OfThread a.thread.seat) (work.Complete spam)) s
+none_sent : (s : Space) (a : Actor) (d : TransactionData) (v : Delivery) (spam : Bool) → Silent (owe (delivered s a d v) (OfThread a.thread.seat) (work.Complete spam)) s
 unfolding add_buffer
-none-sent = sent-by Silent NoAnswer none_table (λ z o. none-fewer z _) (λ z b w a l. l) (λ spam. refl)
+none_sent = sent_by Silent NoAnswer none_table (λ z o. none_fewer z _) (λ z b w a l. l) (λ spam. refl)
 
-none-transacted : (s : Space) (a : Actor) (d : TransactionData) (v : Delivery) → Silent (transacted s a d v) s
+none_transacted : (s : Space) (a : Actor) (d : TransactionData) (v : Delivery) → Silent (transacted s a d v) s
 unfolding add_buffer call_out
-none-transacted = transacted-by Silent NoAnswer none_table (λ z o. none-fewer z _) (λ z b w a l. l) (λ spam. refl) (λ z seat p. none-owe z _ _ refl)
+none_transacted = transacted_by Silent NoAnswer none_table (λ z o. none_fewer z _) (λ z b w a l. l) (λ spam. refl) (λ z seat p. none_owe z _ _ refl)
 
-none-read : (z : Space) (seat : ℕ) (ws : List Work) → Silent (read_by z seat ws) z
+none_read : (z : Space) (seat : ℕ) (ws : List Work) → Silent (read_by z seat ws) z
 unfolding read_by
-none-read z seat ws = none-fewer z (λ (w : Work). not (list_any (λ (d : Work). is_item w d) ws))
+none_read z seat ws = none_fewer z (λ (w : Work). not (list_any (λ (d : Work). is_item w d) ws))
 
 abbrev pub Single : List Work → Type 0
 Single todo =
@@ -115,40 +115,40 @@ module _ (es : List Entry) (e : Entry) (h : Single (after opening es).todo) wher
   unfolding owe
   tells y None kind is_one steps closes old n = n
   tells y (Some t) kind is_one steps closes old n = record {
-    answers = λ w l a. elim (in-push w _ y.todo l) [
+    answers = λ w l a. elim (in_push w _ y.todo l) [
       | inl i ↦ n.answers w i a
-      | inr is ↦ inr (λ u on. closes u (same-thread u (ap (λ (x : Work). x.list) is ∙ on)))
+      | inr is ↦ inr (λ u on. closes u (same_thread u (ap (λ (x : Work). x.list) is ∙ on)))
     ];
-    single = λ v w u i j on off a b p. elim (in-push v _ y.todo i) [
-      | inl l ↦ elim (in-push w _ y.todo j) [ inl m ↦ n.single v w u l m on off a b p | inr is ↦ absurd (other v w u l on a off is p) ]
-      | inr was ↦ elim (in-push w _ y.todo j) [ inl m ↦ absurd (other w v u m off b on was (sym p)) | inr is ↦ sym was ∙ is ]
+    single = λ v w u i j on off a b p. elim (in_push v _ y.todo i) [
+      | inl l ↦ elim (in_push w _ y.todo j) [ inl m ↦ n.single v w u l m on off a b p | inr is ↦ absurd (other v w u l on a off is p) ]
+      | inr was ↦ elim (in_push w _ y.todo j) [ inl m ↦ absurd (other w v u m off b on was (sym p)) | inr is ↦ sym was ∙ is ]
     ];
   }
     where
       new : Work
       new = record { id = record { place = y.steps; index = count_at y.steps y.todo }; list = OfThread t; kind = kind }
 
-      same-thread : (u : ℕ) → OfThread t ≡ OfThread u → Some t ≡ Some u
-      same-thread u k = cc
+      same_thread : (u : ℕ) → OfThread t ≡ OfThread u → Some t ≡ Some u
+      same_thread u k = cc
 
       other : (v w : Work) (u : ℕ) → In v y.todo → v.list ≡ OfThread u → is_answer v.kind ≡ true → w.list ≡ OfThread u → new ≡ w → v.id.place ≡ w.id.place → ⊥
       other v w u l on a off is same =
-          let lt = (tidy-after es).told.fresh v (old u (same-thread u (ap (λ (x : Work). x.list) is ∙ off)) v l a on) in
+          let lt = (tidy_after es).told.fresh v (old u (same_thread u (ap (λ (x : Work). x.list) is ∙ off)) v l a on) in
           let place = ap (λ (x : Work). x.id.place) is in
           absurd (omega arith)
 
   -- the first that closes: no reply or verdict of this step stands before
-  first-tells : (y : Space) (seat : ℕ) (f : Frame) (kind : WorkKind) → is_answer kind ≡ true → served_innermost s seat ≡ Some f → y.steps ≡ s.steps → y.frames ≡ (closed s f.made).frames → Silent y s
+  first_tells : (y : Space) (seat : ℕ) (f : Frame) (kind : WorkKind) → is_answer kind ≡ true → served_innermost s seat ≡ Some f → y.steps ≡ s.steps → y.frames ≡ (closed s f.made).frames → Silent y s
       → Now (tell_caller y f kind)
-  first-tells y seat f kind is_one serves steps frames todo =
-      let here = (find-in (is_deepest_in s.frames seat) f s.frames (served-is s seat f serves).0).0 in
+  first_tells y seat f kind is_one serves steps frames todo =
+      let here = (find_in (is_deepest_in s.frames seat) f s.frames (served_is s seat f serves).0).0 in
       tells y f.caller kind is_one steps
-      (λ t c. record { frame = f; here = here; calls = c; gone = λ g l is. closed-absent s f.made g (subst (In g) frames l) is }) (λ t c w l a on. todo w a l) (apart y todo)
+      (λ t c. record { frame = f; here = here; calls = c; gone = λ g l is. closed_absent s f.made g (subst (In g) frames l) is }) (λ t c w l a on. todo w a l) (apart y todo)
 
   -- ---- an abandoned call
 
   paths : OnPaths s.steps s
-  paths = always-on_paths es
+  paths = always_on_paths es
 
   -- what else is kept
   abbrev Around : Space → Type 0
@@ -156,14 +156,14 @@ module _ (es : List Entry) (e : Entry) (h : Single (after opening es).todo) wher
 
   around : KeepsWhole s e.seat e.step Around Around
   around =
-      keeps-both s e.seat e.step _ _ _ _
-      (keeps-both s e.seat e.step _ _ _ _ (whole s e.seat e.step (Traced more) (Traced more) (answering.kept es e (always-traced es)))
-      (keeps-alone s e.seat e.step _ _ (Comes es e) (Comes es e) (comes-kept es e)))
-      (keeps-alone s e.seat e.step _ _ (Earlier s paths) (Earlier s paths) (earlier.kept s paths e.seat e.step))
+      keeps_both s e.seat e.step _ _ _ _
+      (keeps_both s e.seat e.step _ _ _ _ (whole s e.seat e.step (Traced more) (Traced more) (answering.kept es e (always_traced es)))
+      (keeps_alone s e.seat e.step _ _ (Comes es e) (Comes es e) (comes_kept es e)))
+      (keeps_alone s e.seat e.step _ _ (Earlier s paths) (Earlier s paths) (earlier.kept s paths e.seat e.step))
 
   module _ (z : Space) (f : Frame) (found : find (is_abandoned z.frames) z.frames ≡ Some f) (a : Around z) (n : Now z) where
     here : In f z.frames × (is_abandoned z.frames f ≡ true)
-    here = find-in (is_abandoned z.frames) f z.frames found
+    here = find_in (is_abandoned z.frames) f z.frames found
 
     -- it isn't one that the step made: that has no server that could go
     came : (g : Frame) × In g s.frames × (f.made ≡ g.made) × ((t : ℕ) → f.caller ≡ Some t → g.caller ≡ Some t)
@@ -181,16 +181,16 @@ module _ (es : List Entry) (e : Entry) (h : Single (after opening es).todo) wher
         let lives = a.0.0.callers f t here.0 c in
         let calls = came.3 t c in
         let made = came.2 in
-        let old : lives.0 < s.steps = (let first = made-first more f.made lives.0 lives.2 in let below = (always-traced es).below came.0 came.1 in let place = always-steps es in omega arith) in
+        let old : lives.0 < s.steps = (let first = made_first more f.made lives.0 lives.2 in let below = (always_traced es).below came.0 came.1 in let place = always_steps es in omega arith) in
         elim (cases_order d.frame.made came.0.made) [
           | inl same ↦ d.gone f here.0 (made ∙ sym same)
           | inr o ↦ elim o [
-            | inl lt ↦ (let x = earlier-open s paths z a.1 t lives.0 d.frame came.0 d.here came.1 d.calls calls lt old lives.1 in d.gone x.0 x.1 x.2)
+            | inl lt ↦ (let x = earlier_open s paths z a.1 t lives.0 d.frame came.0 d.here came.1 d.calls calls lt old lives.1 in d.gone x.0 x.1 x.2)
             | inr lt ↦ (
                 let y = tell_caller (closed z f.made) f (work.Verdict DeadReply) in
-                let threads = told-threads (closed z f.made) f.caller (work.Verdict DeadReply) ∙ closed-threads z f.made in
-                let x = earlier-open s paths y (earlier.abandons s paths z f found a.1) t lives.0 came.0 d.frame came.1 d.here calls d.calls lt old (ap (λ ts. made_in ts t) threads ∙ lives.1) in
-                closed-absent z f.made x.0 (subst (In x.0) (told-frames (closed z f.made) f.caller (work.Verdict DeadReply)) x.1) (x.2 ∙ sym made))
+                let threads = told_threads (closed z f.made) f.caller (work.Verdict DeadReply) ∙ closed_threads z f.made in
+                let x = earlier_open s paths y (earlier.abandons s paths z f found a.1) t lives.0 came.0 d.frame came.1 d.here calls d.calls lt old (ap (λ ts. made_in ts t) threads ∙ lives.1) in
+                closed_absent z f.made x.0 (subst (In x.0) (told_frames (closed z f.made) f.caller (work.Verdict DeadReply)) x.1) (x.2 ∙ sym made))
           ]
         ]
 
@@ -198,33 +198,33 @@ module _ (es : List Entry) (e : Entry) (h : Single (after opening es).todo) wher
     unfolding closed
     abandons =
         tells (closed z f.made) f.caller (work.Verdict DeadReply) refl a.0.1.steps
-        (λ t c. record { frame = came.0; here = came.1; calls = came.3 t c; gone = λ g l is. closed-absent z f.made g l (is ∙ sym came.2) })
+        (λ t c. record { frame = came.0; here = came.1; calls = came.3 t c; gone = λ g l is. closed_absent z f.made g l (is ∙ sym came.2) })
         (λ t c w l is_one on. elim (n.answers w l is_one) [ inl o ↦ o | inr d ↦ absurd (alone t c (d t on)) ])
-        (fewer (closed z f.made) z (λ g l. (in-filter (λ (x : Frame). not (is_frame f.made x)) g z.frames l).0) (λ w is_one l. l) n)
+        (fewer (closed z f.made) z (λ g l. (in_filter (λ (x : Frame). not (is_frame f.made x)) g z.frames l).0) (λ w is_one l. l) n)
 
   -- ---- the whole step
 
   kept : KeepsWhole s e.seat e.step (λ z. Around z × Now z) (λ z. Around z × Now z)
   unfolding replied reply_refused closed owe ripen follow notify work_goes deaths_go objects_go names_go
-  kept = keeps-both s e.seat e.step Around Around Now Now around (record {
-    set_up = set_up-by Silent NoAnswer none_table s e.seat e.step Now apart;
-    changes = changes-by Silent NoAnswer none_table s e.seat e.step Now apart none_exits (record {
-      transacts = λ a d parcel v x i t. apart _ (none-transacted s a d v);
+  kept = keeps_both s e.seat e.step Around Around Now Now around (record {
+    set_up = set_up_by Silent NoAnswer none_table s e.seat e.step Now apart;
+    changes = changes_by Silent NoAnswer none_table s e.seat e.step Now apart none_exits (record {
+      transacts = λ a d parcel v x i t. apart _ (none_transacted s a d v);
       replies = λ a d parcel f v x i g t.
           let y = closed s f.made in
-          first-tells _ a.thread.seat f (work.Reply s.steps) refl g (sent-steps y a d v false) (sent-frames y a d v false) (none-sent y a d v false);
-      reads = λ a limit i x n. apart _ (none-read s a.thread.seat (taken s (limit - 4) (list_to_read s a.thread)));
-      ripens = λ z. fewer (ripen z) z (λ f i. i) (ripen-by Silent NoAnswer none_table (λ m. refl) z);
+          first_tells _ a.thread.seat f (work.Reply s.steps) refl g (sent_steps y a d v false) (sent_frames y a d v false) (none_sent y a d v false);
+      reads = λ a limit i x n. apart _ (none_read s a.thread.seat (taken s (limit - 4) (list_to_read s a.thread)));
+      ripens = λ z. fewer (ripen z) z (λ f i. i) (ripen_by Silent NoAnswer none_table (λ m. refl) z);
     });
-    follows = λ z b. fewer (follow z) z (λ f i. i) (followed-by Silent NoAnswer none_table z);
+    follows = λ z b. fewer (follow z) z (λ f i. i) (followed_by Silent NoAnswer none_table z);
     refuses = λ t c. apart _ (none_table.owes s (OfThread t) (work.Refusal (refusal c)) refl);
-    fails = λ a d parcel f x i g. first-tells _ a.thread.seat f (work.Verdict FailedReply) refl g refl refl (none_table.owes s (OfThread a.thread.seat) (work.Refusal TransactionComplete) refl);
+    fails = λ a d parcel f x i g. first_tells _ a.thread.seat f (work.Verdict FailedReply) refl g refl refl (none_table.owes s (OfThread a.thread.seat) (work.Refusal TransactionComplete) refl);
     abandons = abandons;
   })
 
-  step-single : Single (after opening more).todo
+  step_single : Single (after opening more).todo
   unfolding counted
-  step-single = subst (λ (z : Space). Single z.todo) (sym (after-append opening es (e ∷ []))) (every_whole_step s e.seat e.step _ _ kept).1.single
+  step_single = subst (λ (z : Space). Single z.todo) (sym (after_append opening es (e ∷ []))) (every_whole_step s e.seat e.step _ _ kept).1.single
 
-pub always-single : (es : List Entry) → Single (after opening es).todo
-always-single es = by-last (λ es. Single (after opening es).todo) step-single (λ v w t i j on off a b p. absurd i) es
+pub always_single : (es : List Entry) → Single (after opening es).todo
+always_single es = by_last (λ es. Single (after opening es).todo) step_single (λ v w t i j on off a b p. absurd i) es

@@ -5,10 +5,10 @@ use Rattle.bd_laws.proofs.words.Space.{Space, opening, owe, closed, Delivery, de
 use Rattle.bd_space.specs.declared.space.WorkKind.TheVariants as work
 use Rattle.bd_laws.specs.Lists.{In}
 use Rattle.bd_laws.proofs.Machine.EveryStep.{KeepsWhole, every_whole_step, every_list}
-use Rattle.bd_laws.proofs.Lists.{in-push, in-filter}
-use Rattle.bd_laws.proofs.Machine.Adding.{told-keeps}
+use Rattle.bd_laws.proofs.Lists.{in_push, in_filter}
+use Rattle.bd_laws.proofs.Machine.Adding.{told_keeps}
 use Rattle.bd_audit.specs.HandedReplies.{is_reply}
-use Rattle.bd_laws.proofs.Machine.Table.{Table, Listing, Between, listing_table, listing_exits, set_up-by, changes-by, sent-by, transacted-by, ripen-by, followed-by}
+use Rattle.bd_laws.proofs.Machine.Table.{Table, Listing, Between, listing_table, listing_exits, set_up_by, changes_by, sent_by, transacted_by, ripen_by, followed_by}
 
 -- a return that the item itself carries is no BR_REPLY
 abbrev pub is_plain : WorkKind → Bool
@@ -22,13 +22,13 @@ Plain todo = (w : Work) → In w todo → is_plain w.kind ≡ true
 abbrev pub IsPlain : Space → Type 0
 IsPlain z = Plain z.todo
 
-refusal-plain : (c : Cause) → is_plain (work.Refusal (refusal c)) ≡ true
-refusal-plain c = search arith
+refusal_plain : (c : Cause) → is_plain (work.Refusal (refusal c)) ≡ true
+refusal_plain c = search arith
 
 -- ---- one item more, and fewer
 
-push-plain : (todo : List Work) (x : Work) → is_plain x.kind ≡ true → Plain todo → Plain (todo ++ x ∷ [])
-push-plain todo x k h w l = elim (in-push w x todo l) [ inl i ↦ h w i | inr is ↦ ap (λ (y : Work). is_plain y.kind) (sym is) ∙ k ]
+push_plain : (todo : List Work) (x : Work) → is_plain x.kind ≡ true → Plain todo → Plain (todo ++ x ∷ [])
+push_plain todo x k h w l = elim (in_push w x todo l) [ inl i ↦ h w i | inr is ↦ ap (λ (y : Work). is_plain y.kind) (sym is) ∙ k ]
 
 -- one list of items is plain if the other is
 abbrev Kept : List Work → List Work → Type 0
@@ -38,7 +38,7 @@ abbrev Allowed : WorkKind → Type 0
 Allowed kind = is_plain kind ≡ true
 
 listing : Listing Kept Allowed
-listing = search (arith, push-plain, in-filter)
+listing = search (arith, push_plain, in_filter)
 
 abbrev Keeping : Space → Space → Type 0
 Keeping = Between Kept Allowed listing
@@ -50,7 +50,7 @@ table = listing_table Kept Allowed listing
 closes : (z : Space) (f : Frame) (kind : WorkKind) → is_plain kind ≡ true → IsPlain z
     → IsPlain (elim f.caller as (λ (o : Option ℕ). Space) [ None ↦ closed z f.made | Some t ↦ owe (closed z f.made) (OfThread t) kind ])
 unfolding closed
-closes z f kind k = told-keeps IsPlain kind (λ z t. table.owes z (OfThread t) kind k) (closed z f.made) f.caller
+closes z f kind k = told_keeps IsPlain kind (λ z t. table.owes z (OfThread t) kind k) (closed z f.made) f.caller
 
 -- ---- transactions and replies
 
@@ -58,32 +58,32 @@ replies : (s : Space) (a : Actor) (d : TransactionData) (f : Frame) (v : Deliver
 unfolding replied closed add_buffer
 replies s a d f v h =
     let x = closed s f.made in
-    told-keeps IsPlain (work.Reply s.steps) (λ z t. table.owes z (OfThread t) (work.Reply s.steps) refl) (owe (delivered x a d v) (OfThread a.thread.seat) (work.Complete false)) f.caller
-    (sent-by Keeping Allowed table (λ z o. listing.fewer _ z.todo) (λ z b k. k) (λ spam. refl) x a d v false h)
+    told_keeps IsPlain (work.Reply s.steps) (λ z t. table.owes z (OfThread t) (work.Reply s.steps) refl) (owe (delivered x a d v) (OfThread a.thread.seat) (work.Complete false)) f.caller
+    (sent_by Keeping Allowed table (λ z o. listing.fewer _ z.todo) (λ z b k. k) (λ spam. refl) x a d v false h)
 
 -- ---- every step
 
 kept : (s : Space) (seat : ℕ) (x : Step) → IsPlain s → KeepsWhole s seat x IsPlain IsPlain
 unfolding read_by add_buffer call_out owe reply_refused
 kept s seat x h = record {
-  set_up = set_up-by Keeping Allowed table s seat x IsPlain (λ z k. k h);
-  changes = changes-by Keeping Allowed table s seat x IsPlain (λ z k. k h) (listing_exits Kept Allowed listing) (record {
-    transacts = λ a d parcel v e i t. transacted-by Keeping Allowed table (λ z o. listing.fewer _ z.todo) (λ z b k. k) (λ spam. refl) (λ z seat p. push-plain z.todo _ refl) s a d v h;
+  set_up = set_up_by Keeping Allowed table s seat x IsPlain (λ z k. k h);
+  changes = changes_by Keeping Allowed table s seat x IsPlain (λ z k. k h) (listing_exits Kept Allowed listing) (record {
+    transacts = λ a d parcel v e i t. transacted_by Keeping Allowed table (λ z o. listing.fewer _ z.todo) (λ z b k. k) (λ spam. refl) (λ z seat p. push_plain z.todo _ refl) s a d v h;
     replies = λ a d parcel f v e i g t. replies s a d f v h;
     reads = λ a limit e i n. listing.fewer _ s.todo h;
-    ripens = ripen-by Keeping Allowed table (λ made. refl);
+    ripens = ripen_by Keeping Allowed table (λ made. refl);
   });
-  follows = followed-by Keeping Allowed table;
-  refuses = λ t c. table.owes s (OfThread t) (work.Refusal (refusal c)) (refusal-plain c) h;
+  follows = followed_by Keeping Allowed table;
+  refuses = λ t c. table.owes s (OfThread t) (work.Refusal (refusal c)) (refusal_plain c) h;
   fails = λ a d parcel f e i g.
       closes (owe s (OfThread a.thread.seat) (work.Refusal TransactionComplete)) f (work.Verdict FailedReply) refl
       (table.owes s (OfThread a.thread.seat) (work.Refusal TransactionComplete) refl h);
   abandons = λ z f e. closes z f (work.Verdict DeadReply) refl;
 }
 
-step-plain : (s : Space) (e : Entry) → IsPlain s → IsPlain (next s e)
+step_plain : (s : Space) (e : Entry) → IsPlain s → IsPlain (next s e)
 unfolding counted
-step-plain s e h = every_whole_step s e.seat e.step IsPlain IsPlain (kept s e.seat e.step h)
+step_plain s e h = every_whole_step s e.seat e.step IsPlain IsPlain (kept s e.seat e.step h)
 
-pub always-plain : (es : List Entry) → IsPlain (after opening es)
-always-plain es = every_list IsPlain step-plain es opening (λ w l. absurd l)
+pub always_plain : (es : List Entry) → IsPlain (after opening es)
+always_plain es = every_list IsPlain step_plain es opening (λ w l. absurd l)

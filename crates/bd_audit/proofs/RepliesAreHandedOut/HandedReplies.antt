@@ -11,55 +11,55 @@ use Rattle.bd_codec.specs.Spelling.{return_bytes}
 use Rattle.bd_space.specs.declared.space.WorkKind.TheVariants as work
 use Rattle.bd_todo.specs.TodoList.{reply_of, first_reply_in}
 use Rattle.bd_laws.specs.Lists.{In}
-use Rattle.bd_laws.proofs.Lists.{find-some}
-use Rattle.bd_laws.proofs.Tests.{not-true}
-use Rattle.bd_laws.proofs.IsInTurn.Ripening.{read-in}
+use Rattle.bd_laws.proofs.Lists.{find_some}
+use Rattle.bd_laws.proofs.Tests.{not_true}
+use Rattle.bd_laws.proofs.IsInTurn.Ripening.{read_in}
 use Rattle.bd_audit.specs.Hearing.{is_got}
 use Rattle.bd_audit.specs.Replies.{items_taken, reply_taken, At}
 use Rattle.bd_audit.specs.Streams.{SpellsItems}
 use Rattle.bd_audit.specs.HandedReplies.{is_reply, HandsOut}
-use Rattle.bd_audit.proofs.Beginnings.{follows-rest}
+use Rattle.bd_audit.proofs.Beginnings.{follows_rest}
 use Rattle.bd_audit.proofs.RepliesReachTheirCallers.Readings.{reading}
-use Rattle.bd_audit.proofs.RepliesAreHandedOut.ReplyBuffers.{always-held}
+use Rattle.bd_audit.proofs.RepliesAreHandedOut.ReplyBuffers.{always_held}
 use Rattle.bd_audit.proofs.RepliesAreHandedOut.BuffersSent.{RepliesHeld}
-use Rattle.bd_audit.proofs.RepliesAreHandedOut.CarriedReturns.{is_plain, always-plain}
+use Rattle.bd_audit.proofs.RepliesAreHandedOut.CarriedReturns.{is_plain, always_plain}
 
 -- ---- the returns that one item gives
 
 abbrev HasReply : List Return → Bool
 HasReply rs = list_any is_reply rs
 
-none-if : (b : Bool) (r : Return) → is_reply r ≡ false → HasReply (cond b (r ∷ []) []) ≡ false
-none-if b r e = search arith
+none_if : (b : Bool) (r : Return) → is_reply r ≡ false → HasReply (cond b (r ∷ []) []) ≡ false
+none_if b r e = search arith
 
-none-both : (xs ys : List Return) → HasReply xs ≡ false → HasReply ys ≡ false → HasReply (xs ++ ys) ≡ false
-none-both xs ys h k = list_any-append is_reply xs ys ∙ rw (h, k) refl
+none_both : (xs ys : List Return) → HasReply xs ≡ false → HasReply ys ≡ false → HasReply (xs ++ ys) ≡ false
+none_both xs ys h k = list_any-append is_reply xs ys ∙ rw (h, k) refl
 
-notice-none : (references : List Reference) (o : Option Object) → HasReply (returns_of_object references o) ≡ false
-notice-none references o = search (arith, none-both, none-if)
+notice_none : (references : List Reference) (o : Option Object) → HasReply (returns_of_object references o) ≡ false
+notice_none references o = search (arith, none_both, none_if)
 
-carried-none : (r : Return) → not (is_reply r) ≡ true → HasReply (r ∷ []) ≡ false
-carried-none r h = rw (not-true (is_reply r) h) refl
+carried_none : (r : Return) → not (is_reply r) ≡ true → HasReply (r ∷ []) ≡ false
+carried_none r h = rw (not_true (is_reply r) h) refl
 
-one-none : {A : Type 0} (f : A → Return) (o : Option A) → ((x : A) → is_reply (f x) ≡ false) → HasReply (option_to_list (option_map f o)) ≡ false
-one-none f o h = search (arith, none-if)
+one_none : {A : Type 0} (f : A → Return) (o : Option A) → ((x : A) → is_reply (f x) ≡ false) → HasReply (option_to_list (option_map f o)) ≡ false
+one_none f o h = search (arith, none_if)
 
-reply-is : (z : Space) (o : Option Buffer) → HasReply (option_to_list (option_map (λ (x : Buffer). br.Reply (data_of z x)) o)) ≡ is_some o
-reply-is z o = search arith
+reply_is : (z : Space) (o : Option Buffer) → HasReply (option_to_list (option_map (λ (x : Buffer). br.Reply (data_of z x)) o)) ≡ is_some o
+reply_is z o = search arith
 
 -- a reply whose buffer lives gives a BR_REPLY, and no other item does
-item-gives : (z : Space) (k : WorkKind) → is_plain k ≡ true → ((b : ℕ) → reply_of k ≡ Some b → is_some (buffer_in z.buffers b) ≡ true)
+item_gives : (z : Space) (k : WorkKind) → is_plain k ≡ true → ((b : ℕ) → reply_of k ≡ Some b → is_some (buffer_in z.buffers b) ≡ true)
     → HasReply (returns_of z k) ≡ is_some (reply_of k)
 unfolding returns_of
-item-gives z (work.Notice o) p h = notice-none z.references (object_in z.objects o)
-item-gives z (work.Complete false) p h = refl
-item-gives z (work.Complete true) p h = refl
-item-gives z (work.Refusal r) p h = carried-none r p
-item-gives z (work.Call b) p h = one-none (λ (x : Buffer). br.Transaction (data_of z x)) (buffer_in z.buffers b) (λ x. refl)
-item-gives z (work.Reply b) p h = reply-is z (buffer_in z.buffers b) ∙ h b refl
-item-gives z (work.Verdict r) p h = carried-none r p
-item-gives z (work.Death n) p h = one-none (λ (x : DeathNotification). br.DeadBinder x.cookie) (find (is_notification n) z.deaths) (λ x. refl)
-item-gives z (work.Cleared cookie) p h = refl
+item_gives z (work.Notice o) p h = notice_none z.references (object_in z.objects o)
+item_gives z (work.Complete false) p h = refl
+item_gives z (work.Complete true) p h = refl
+item_gives z (work.Refusal r) p h = carried_none r p
+item_gives z (work.Call b) p h = one_none (λ (x : Buffer). br.Transaction (data_of z x)) (buffer_in z.buffers b) (λ x. refl)
+item_gives z (work.Reply b) p h = reply_is z (buffer_in z.buffers b) ∙ h b refl
+item_gives z (work.Verdict r) p h = carried_none r p
+item_gives z (work.Death n) p h = one_none (λ (x : DeathNotification). br.DeadBinder x.cookie) (find (is_notification n) z.deaths) (λ x. refl)
+item_gives z (work.Cleared cookie) p h = refl
 
 -- ---- the returns of a reading
 
@@ -70,46 +70,46 @@ spells : (z : Space) (ws : List Work) → concat (map (bytes_read z) ws) ≡ con
 spells z [] = refl
 spells z (w ∷ ws) = search (arith, map-append, concat-append, spells z ws)
 
-all-give : (z : Space) (ws : List Work) → ((w : Work) → In w ws → HasReply (returns_of z w.kind) ≡ is_some (reply_of w.kind))
+all_give : (z : Space) (ws : List Work) → ((w : Work) → In w ws → HasReply (returns_of z w.kind) ≡ is_some (reply_of w.kind))
     → HasReply (returns_of_all z ws) ≡ is_some (first_reply_in ws)
-all-give z [] h = refl
-all-give z (w ∷ ws) h = search (arith, list_any-append, h w (inl refl), all-give z ws (λ v l. h v (inr l)))
+all_give z [] h = refl
+all_give z (w ∷ ws) h = search (arith, list_any-append, h w (inl refl), all_give z ws (λ v l. h v (inr l)))
 
 -- ---- only a reading answers with bytes
 
 abbrev IsSilent : Outcome → Type 0
 IsSilent o = is_got o.answer ≡ false
 
-acts-silent : (s : Space) (o : Option Actor) (f : Actor → Outcome) → ((a : Actor) → IsSilent (f a)) → IsSilent (by_actor s o f)
-acts-silent s o f h = search arith
+acts_silent : (s : Space) (o : Option Actor) (f : Actor → Outcome) → ((a : Actor) → IsSilent (f a)) → IsSilent (by_actor s o f)
+acts_silent s o f h = search arith
 
-transaction-silent : (s : Space) (a : Actor) (d : TransactionData) (r : Result Delivery Cause) → IsSilent (transaction_outcome s a d r)
-transaction-silent s a d r = search arith
+transaction_silent : (s : Space) (a : Actor) (d : TransactionData) (r : Result Delivery Cause) → IsSilent (transaction_outcome s a d r)
+transaction_silent s a d r = search arith
 
-reply-silent : (s : Space) (a : Actor) (d : TransactionData) (f : Frame) (r : Result Delivery Cause) → IsSilent (reply_outcome s a d f r)
-reply-silent s a d f r = search arith
+reply_silent : (s : Space) (a : Actor) (d : TransactionData) (f : Frame) (r : Result Delivery Cause) → IsSilent (reply_outcome s a d f r)
+reply_silent s a d f r = search arith
 
-reply_to-silent : (s : Space) (a : Actor) (d : TransactionData) (parcel : Option Parcel) (o : Option Frame) → IsSilent (reply_to s a d parcel o)
-reply_to-silent s a d parcel o = search (arith, reply-silent)
+reply_to_silent : (s : Space) (a : Actor) (d : TransactionData) (parcel : Option Parcel) (o : Option Frame) → IsSilent (reply_to s a d parcel o)
+reply_to_silent s a d parcel o = search (arith, reply_silent)
 
-free-silent : (s : Space) (o : Option Buffer) → IsSilent (free_outcome s o)
-free-silent s o = search arith
+free_silent : (s : Space) (o : Option Buffer) → IsSilent (free_outcome s o)
+free_silent s o = search arith
 
-check-silent : {A : Type 0} (s : Space) (f : A → Space) (r : Result A Note) → IsSilent (by_check s f r)
-check-silent s f r = search arith
+check_silent : {A : Type 0} (s : Space) (f : A → Space) (r : Result A Note) → IsSilent (by_check s f r)
+check_silent s f r = search arith
 
-command-silent : (s : Space) (a : Actor) (c : command.Command) (parcel : Option Parcel) → IsSilent (command_step s a c parcel)
+command_silent : (s : Space) (a : Actor) (c : command.Command) (parcel : Option Parcel) → IsSilent (command_step s a c parcel)
 unfolding command_step transaction_step reply_step free_step
-command-silent s a c parcel = search (arith, transaction-silent, reply_to-silent, free-silent, check-silent)
+command_silent s a c parcel = search (arith, transaction_silent, reply_to_silent, free_silent, check_silent)
 
-open-silent : (s : Space) (seat pid euid window : ℕ) (o : Option Fault) → IsSilent (open_outcome s seat pid euid window o)
-open-silent s seat pid euid window o = search arith
+open_silent : (s : Space) (seat pid euid window : ℕ) (o : Option Fault) → IsSilent (open_outcome s seat pid euid window o)
+open_silent s seat pid euid window o = search arith
 
-attach-silent : (s : Space) (seat : ℕ) (q : Option Process) (b : Bool) → IsSilent (attach_outcome s seat q b)
-attach-silent s seat q b = search arith
+attach_silent : (s : Space) (seat : ℕ) (q : Option Process) (b : Bool) → IsSilent (attach_outcome s seat q b)
+attach_silent s seat q b = search arith
 
-manager-silent : (s : Space) (p : ℕ) (b : Bool) → IsSilent (manager_outcome s p b)
-manager-silent s p b = search arith
+manager_silent : (s : Space) (p : ℕ) (b : Bool) → IsSilent (manager_outcome s p b)
+manager_silent s p b = search arith
 
 -- ---- the bytes that a reading answers are those of the items that it takes
 
@@ -118,29 +118,29 @@ record GotOf (z : Space) (ws : List Work) (stream : List ℕ) : Type 0 where
   due : (w : Work) → In w ws → In w z.todo
 
 module _ (z : Space) (seat : ℕ) (stream bytes offsets : List ℕ) where
-  not-silent : {A : Type 0} (y : StepAnswer) → is_got y ≡ false → y ≡ Got stream bytes offsets → A
-  not-silent y h e = let yes : is_got y ≡ true = ap is_got e in absurd (cc)
+  not_silent : {A : Type 0} (y : StepAnswer) → is_got y ≡ false → y ≡ Got stream bytes offsets → A
+  not_silent y h e = let yes : is_got y ≡ true = ap is_got e in absurd (cc)
 
   gives : (own : List ℕ) (o : Option Buffer) → got own o ≡ Got stream bytes offsets → stream ≡ own
   gives own o e = search arith
 
-  got-of : (x : Step) → (change z seat x).answer ≡ Got stream bytes offsets → GotOf z (items_taken z seat x) stream
+  got_of : (x : Step) → (change z seat x).answer ≡ Got stream bytes offsets → GotOf z (items_taken z seat x) stream
   unfolding read_taking change open_step attach_step manager_step spam_step exit_thread_step exit_process_step
-  got-of (Open pid euid window) e = not-silent _ (open-silent z seat pid euid window (open_fault z seat pid window)) e
-  got-of (Attach pid) e = not-silent _ (attach-silent z seat (process_with_pid z.processes pid) (is_some (thread_in z.threads seat))) e
-  got-of SetManager e = not-silent _ (acts-silent z (actor z seat) (manager_step z) (λ a. manager-silent z a.process.made (is_manager_busy z a.process.made))) e
-  got-of (SetSpam on) e = not-silent _ (acts-silent z (actor z seat) (spam_step z on) (λ a. refl)) e
-  got-of (Command c parcel) e = not-silent _ (acts-silent z (actor z seat) (λ a. command_step z a c parcel) (λ a. command-silent z a c parcel)) e
-  got-of (Read limit) e =
+  got_of (Open pid euid window) e = not_silent _ (open_silent z seat pid euid window (open_fault z seat pid window)) e
+  got_of (Attach pid) e = not_silent _ (attach_silent z seat (process_with_pid z.processes pid) (is_some (thread_in z.threads seat))) e
+  got_of SetManager e = not_silent _ (acts_silent z (actor z seat) (manager_step z) (λ a. manager_silent z a.process.made (is_manager_busy z a.process.made))) e
+  got_of (SetSpam on) e = not_silent _ (acts_silent z (actor z seat) (spam_step z on) (λ a. refl)) e
+  got_of (Command c parcel) e = not_silent _ (acts_silent z (actor z seat) (λ a. command_step z a c parcel) (λ a. command_silent z a c parcel)) e
+  got_of (Read limit) e =
       reading (λ ws o. o.answer ≡ Got stream bytes offsets → GotOf z ws stream) z (λ f e. absurd (cc)) seat limit
-      (λ a acts e. let ws = taken z (limit - 4) (list_to_read z a.thread) in record { stream_is = gives (stream_of z ws) (buffer_taken z ws) e; due = read-in z a.thread (limit - 4) }) e
-  got-of ExitThread e = not-silent _ (acts-silent z (actor z seat) (exit_thread_step z) (λ a. refl)) e
-  got-of ExitProcess e = not-silent _ (acts-silent z (actor z seat) (exit_process_step z) (λ a. refl)) e
+      (λ a acts e. let ws = taken z (limit - 4) (list_to_read z a.thread) in record { stream_is = gives (stream_of z ws) (buffer_taken z ws) e; due = read_in z a.thread (limit - 4) }) e
+  got_of ExitThread e = not_silent _ (acts_silent z (actor z seat) (exit_thread_step z) (λ a. refl)) e
+  got_of ExitProcess e = not_silent _ (acts_silent z (actor z seat) (exit_process_step z) (λ a. refl)) e
 
 -- ---- the law
 
-held-lives : (z : Space) → RepliesHeld z → (w : Work) (b : ℕ) → In w z.todo → reply_of w.kind ≡ Some b → is_some (buffer_in z.buffers b) ≡ true
-held-lives z h w b l e = let x = h.buffer w b l e in find-some (is_made_at b) x.buffer z.buffers x.here (eq-eqb x.buffer.made b x.made)
+held_lives : (z : Space) → RepliesHeld z → (w : Work) (b : ℕ) → In w z.todo → reply_of w.kind ≡ Some b → is_some (buffer_in z.buffers b) ≡ true
+held_lives z h w b l e = let x = h.buffer w b l e in find_some (is_made_at b) x.buffer z.buffers x.here (eq-eqb x.buffer.made b x.made)
 
 module _ (h : History) (lawful : IsHistory h) (i : ℕ) (stream bytes offsets : List ℕ) (at : At h.entries i (λ z e. e.answer ≡ Got stream bytes offsets)) where
   abbrev z : Space
@@ -152,25 +152,25 @@ module _ (h : History) (lawful : IsHistory h) (i : ℕ) (stream bytes offsets : 
   gotten : GotOf z (items_taken z e.seat e.step) stream
   gotten =
       let stands = at.2 in
-      let follows = (follows-rest opening at.0 (e ∷ stands.rest) (subst (Follows opening) stands.all lawful.follows)).0 in
-      got-of z e.seat stream bytes offsets e.step (follows.answer ∙ at.3)
+      let follows = (follows_rest opening at.0 (e ∷ stands.rest) (subst (Follows opening) stands.all lawful.follows)).0 in
+      got_of z e.seat stream bytes offsets e.step (follows.answer ∙ at.3)
 
-  spells-items : SpellsItems z e stream
+  spells_items : SpellsItems z e stream
   unfolding stream_of
-  spells-items = gotten.stream_is ∙ ap (λ l. return_bytes br.Noop ++ l) (spells z (items_taken z e.seat e.step))
+  spells_items = gotten.stream_is ∙ ap (λ l. return_bytes br.Noop ++ l) (spells z (items_taken z e.seat e.step))
 
   pub spelt : At h.entries i (λ z e. SpellsItems z e stream)
-  spelt = (at.0, e, at.2, spells-items)
+  spelt = (at.0, e, at.2, spells_items)
 
-  pub handed-out : At h.entries i (λ z e. HandsOut z e stream)
+  pub handed_out : At h.entries i (λ z e. HandsOut z e stream)
   unfolding reply_taken
-  handed-out = (
+  handed_out = (
     at.0,
     e,
     at.2,
     record {
-      spelt = spells-items;
-      replies = all-give z (items_taken z e.seat e.step)
-          (λ w l. item-gives z w.kind (always-plain at.0 w (gotten.due w l)) (λ b k. held-lives z (always-held at.0) w b (gotten.due w l) k));
+      spelt = spells_items;
+      replies = all_give z (items_taken z e.seat e.step)
+          (λ w l. item_gives z w.kind (always_plain at.0 w (gotten.due w l)) (λ b k. held_lives z (always_held at.0) w b (gotten.due w l) k));
     },
   )

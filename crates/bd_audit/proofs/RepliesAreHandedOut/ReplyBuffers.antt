@@ -8,29 +8,29 @@ use Rattle.bd_todo.specs.TodoList.{reply_of}
 use Rattle.bd_laws.proofs.words.Laws.{In, IsInTurn}
 use Rattle.bd_laws.proofs.Machine.EveryEnding.{SetUp}
 use Rattle.bd_laws.proofs.Machine.EveryStep.{Keeps, every_step, every_list}
-use Rattle.bd_laws.proofs.IsInTurn.Received.{one-made, one-buffer}
-use Rattle.bd_laws.proofs.Lists.{in-left, in-filter, filter-in, changed-in, map-in, any-in}
-use Rattle.bd_laws.proofs.Tests.{not-true}
-use Rattle.bd_laws.proofs.IsInTurn.InTurn.{Turning, opening-in_turn}
-use Rattle.bd_laws.proofs.IsInTurn.Ripening.{taken-due, read-in, turn-parts}
-use Rattle.bd_laws.proofs.OnPaths.PathWords.{same-item}
-use Rattle.bd_laws.proofs.Machine.Deaths.{tell_deaths-aside, on-mapped, on-both, on-commands, commands-both, on_deaths-aside}
+use Rattle.bd_laws.proofs.IsInTurn.Received.{one_made, one_buffer}
+use Rattle.bd_laws.proofs.Lists.{in_left, in_filter, filter_in, changed_in, map_in, any_in}
+use Rattle.bd_laws.proofs.Tests.{not_true}
+use Rattle.bd_laws.proofs.IsInTurn.InTurn.{Turning, opening_in_turn}
+use Rattle.bd_laws.proofs.IsInTurn.Ripening.{taken_due, read_in, turn_parts}
+use Rattle.bd_laws.proofs.OnPaths.PathWords.{same_item}
+use Rattle.bd_laws.proofs.Machine.Deaths.{tell_deaths_aside, on_mapped, on_both, on_commands, commands_both, on_deaths_aside}
 use Rattle.bd_laws.proofs.IsInTurn.OneWay as one_way
 use Rattle.bd_laws.proofs.IsInTurn.InTurn as turn
-use Rattle.bd_laws.proofs.IsInTurn.Passing.{at_pointer-in, lost-on}
-use Rattle.bd_laws.proofs.Machine.Following.{threads-keep}
-use Rattle.bd_audit.proofs.RepliesAreHandedOut.BuffersSent.{Held, HasBuffer, RepliesHeld, has-moved, grown, calm, call-held, ripen-keeps-in, owed, transacts, closes, replies}
+use Rattle.bd_laws.proofs.IsInTurn.Passing.{at_pointer_in, lost_on}
+use Rattle.bd_laws.proofs.Machine.Following.{threads_keep}
+use Rattle.bd_audit.proofs.RepliesAreHandedOut.BuffersSent.{Held, HasBuffer, RepliesHeld, has_moved, grown, calm, call_held, ripen_keeps_in, owed, transacts, closes, replies}
 
 -- ---- one-way calls that become due
 
 ripens : (z : Space) → Turning z → RepliesHeld z → RepliesHeld (ripen z)
 unfolding ripen
 ripens z turns =
-    ripen-keeps-in (Held z.threads z.buffers) z (λ todo b t l turn h.
-    let k = turn-parts b t turn in
-    call-held z.threads z.buffers z.steps todo (OfProcess t.receiver) t.made (λ w i e.
+    ripen_keeps_in (Held z.threads z.buffers) z (λ todo b t l turn h.
+    let k = turn_parts b t turn in
+    call_held z.threads z.buffers z.steps todo (OfProcess t.receiver) t.made (λ w i e.
     let x = h.buffer w t.made i e in
-    let is : x.buffer ≡ b = one-made (suc z.steps) z.buffers z.todo turns x.buffer b x.here l (x.made ∙ k.0) in
+    let is : x.buffer ≡ b = one_made (suc z.steps) z.buffers z.todo turns x.buffer b x.here l (x.made ∙ k.0) in
     let yes : x.buffer.one_way ≡ true = ap (λ (y : Buffer). y.one_way) is ∙ k.3 in
     let no = x.two_way in absurd (cc)) h)
 
@@ -42,7 +42,7 @@ remains z y was stay h = record {
   buffer = λ w b l e.
       let x = h.buffer w b (was w l) e in
       let k = stay w b l e x in
-      has-moved y.threads z.threads y.buffers z.buffers w.list b x k.0 k.1;
+      has_moved y.threads z.threads y.buffers z.buffers w.list b x k.0 k.1;
   one = λ v w b i j. h.one v w b (was v i) (was w j);
 }
 
@@ -51,12 +51,12 @@ frees : (s : Space) (b : Buffer) → IsInTurn s → In b s.buffers → b.handed 
 unfolding without_buffer
 frees s b turns here out h =
     remains (without_buffer s b.made) s (λ w l. l) (λ w m l e x. (
-      filter-in (λ (c : Buffer). not (is_made_at b.made c)) x.buffer s.buffers x.here (other x.buffer x.here x.handed (is_made_at b.made x.buffer) refl),
+      filter_in (λ (c : Buffer). not (is_made_at b.made c)) x.buffer s.buffers x.here (other x.buffer x.here x.handed (is_made_at b.made x.buffer) refl),
       x.lives,
     )) h
   where
     other : (c : Buffer) → In c s.buffers → c.handed ≡ false → (q : Bool) → is_made_at b.made c ≡ q → not q ≡ true
-    other c i kept q k = search (arith, one-buffer, here, eqb-true)
+    other c i kept q k = search (arith, one_buffer, here, eqb-true)
 
 -- a reading takes the item whose buffer it hands out
 module _ (s : Space) (h : RepliesHeld s) (t : Thread) (left : ℕ) where
@@ -68,31 +68,31 @@ module _ (s : Space) (h : RepliesHeld s) (t : Thread) (left : ℕ) where
 
   unhanded : (o : Option Buffer) → buffer_taken s ws ≡ o → (w : Work) (b : ℕ) → In w s.todo → stays w ≡ true → reply_of w.kind ≡ Some b → (c : Buffer) → In c s.buffers → c.made ≡ b
       → In c (handed_buffers s.buffers o)
-  unhanded o e w b l on f c i made = search (arith, changed-in, taken-due, eqb-true, read-in, any-in, same-item, not-true)
+  unhanded o e w b l on f c i made = search (arith, changed_in, taken_due, eqb-true, read_in, any_in, same_item, not_true)
 
   reads : RepliesHeld (read_by s t.seat ws)
   unfolding read_by
   reads =
-      remains (read_by s t.seat ws) s (λ w l. (in-filter stays w s.todo l).0) (λ w b l e x.
-      let i = in-filter stays w s.todo l in (unhanded (buffer_taken s ws) refl w b i.0 i.1 e x.buffer x.here x.made, x.lives)) h
+      remains (read_by s t.seat ws) s (λ w l. (in_filter stays w s.todo l).0) (λ w b l e x.
+      let i = in_filter stays w s.todo l in (unhanded (buffer_taken s ws) refl w b i.0 i.1 e x.buffer x.here x.made, x.lives)) h
 
 -- with a thread go the buffers that its own list would have handed over
 module _ (z : Space) (seat : ℕ) (h : RepliesHeld z) where
   unlost : (w : Work) (b : ℕ) → In w z.todo → is_on (OfThread seat) w ≡ false → reply_of w.kind ≡ Some b → (q : Bool) → is_lost_with z.todo (OfThread seat) b ≡ q → not q ≡ true
-  unlost w b l off e q k = search (arith, lost-on)
+  unlost w b l off e q k = search (arith, lost_on)
 
-  other-seat : (l : TodoList) (u : ℕ) → l ≡ OfThread u → same_list (OfThread seat) l ≡ false → (q : Bool) → (u == seat) ≡ q → not q ≡ true
-  other-seat l u on off q k = search (arith, eq-eqb, eqb-true)
+  other_seat : (l : TodoList) (u : ℕ) → l ≡ OfThread u → same_list (OfThread seat) l ≡ false → (q : Bool) → (u == seat) ≡ q → not q ≡ true
+  other_seat l u on off q k = search (arith, eq-eqb, eqb-true)
 
   goes : RepliesHeld (thread_goes z seat)
   unfolding thread_goes
   goes =
-      remains (thread_goes z seat) z (λ w l. (in-filter (λ (w : Work). not (is_on (OfThread seat) w)) w z.todo l).0) (λ w b l e x.
-      let i = in-filter (λ (w : Work). not (is_on (OfThread seat) w)) w z.todo l in
-      let off = not-true (is_on (OfThread seat) w) i.1 in (
-        filter-in (λ (c : Buffer). not (is_lost_with z.todo (OfThread seat) c.made)) x.buffer z.buffers x.here
+      remains (thread_goes z seat) z (λ w l. (in_filter (λ (w : Work). not (is_on (OfThread seat) w)) w z.todo l).0) (λ w b l e x.
+      let i = in_filter (λ (w : Work). not (is_on (OfThread seat) w)) w z.todo l in
+      let off = not_true (is_on (OfThread seat) w) i.1 in (
+        filter_in (λ (c : Buffer). not (is_lost_with z.todo (OfThread seat) c.made)) x.buffer z.buffers x.here
             (unlost w x.buffer.made i.0 off (e ∙ ap (λ n. Some n) (sym x.made)) (is_lost_with z.todo (OfThread seat) x.buffer.made) refl),
-        filter-in (λ (t : Thread). not (t.seat == seat)) x.thread z.threads x.lives (other-seat w.list x.thread.seat x.on off (x.thread.seat == seat) refl),
+        filter_in (λ (t : Thread). not (t.seat == seat)) x.thread z.threads x.lives (other_seat w.list x.thread.seat x.on off (x.thread.seat == seat) refl),
       )) h
 
 -- ---- with a process go the buffers that it received, and none of its threads is left
@@ -100,26 +100,26 @@ module _ (z : Space) (seat : ℕ) (h : RepliesHeld z) where
 abbrev NoThread : ℕ → Space → Type 0
 NoThread p z = (t : Thread) → In t z.threads → t.process ≡ p → ⊥
 
-gone-in : (z : Space) (seat : ℕ) (t : Thread) → In t (thread_goes z seat).threads → In t z.threads × (t.seat ≡ seat → ⊥)
+gone_in : (z : Space) (seat : ℕ) (t : Thread) → In t (thread_goes z seat).threads → In t z.threads × (t.seat ≡ seat → ⊥)
 unfolding thread_goes
-gone-in z seat t l = search (arith, in-filter, not-true, eq-eqb)
+gone_in z seat t l = search (arith, in_filter, not_true, eq-eqb)
 
-left-in : (seats : List ℕ) (z : Space) (t : Thread) → In t (fold thread_goes z seats).threads → In t z.threads × (In t.seat seats → ⊥)
-left-in [] z t l = (l, λ i. absurd i)
-left-in (n ∷ ns) z t l =
-    let k = left-in ns (thread_goes z n) t l in
-    let j = gone-in z n t k.0 in
+left_in : (seats : List ℕ) (z : Space) (t : Thread) → In t (fold thread_goes z seats).threads → In t z.threads × (In t.seat seats → ⊥)
+left_in [] z t l = (l, λ i. absurd i)
+left_in (n ∷ ns) z t l =
+    let k = left_in ns (thread_goes z n) t l in
+    let j = gone_in z n t k.0 in
     (j.0, λ i. elim i [ inl is ↦ j.1 (sym is) | inr r ↦ k.1 r ])
 
-none-left : (s : Space) (p : ℕ) → NoThread p (threads_go s p)
+none_left : (s : Space) (p : ℕ) → NoThread p (threads_go s p)
 unfolding threads_go
-none-left s p t l e = search (arith, left-in, map-in, filter-in, eq-eqb)
+none_left s p t l e = search (arith, left_in, map_in, filter_in, eq-eqb)
 
-process-goes : (z : Space) (p : ℕ) → NoThread p z → RepliesHeld z → RepliesHeld (without_process z p)
+process_goes : (z : Space) (p : ℕ) → NoThread p z → RepliesHeld z → RepliesHeld (without_process z p)
 unfolding without_process
-process-goes z p none h =
-    remains (without_process z p) z (λ w l. (in-filter (λ (w : Work). not (is_on (OfProcess p) w)) w z.todo l).0) (λ w b l e x. (
-      filter-in (λ (c : Buffer). not (c.receiver == p)) x.buffer z.buffers x.here (other x.buffer x.thread x.lives x.receiver (x.buffer.receiver == p) refl),
+process_goes z p none h =
+    remains (without_process z p) z (λ w l. (in_filter (λ (w : Work). not (is_on (OfProcess p) w)) w z.todo l).0) (λ w b l e x. (
+      filter_in (λ (c : Buffer). not (c.receiver == p)) x.buffer z.buffers x.here (other x.buffer x.thread x.lives x.receiver (x.buffer.receiver == p) refl),
       x.lives,
     )) h
   where
@@ -131,15 +131,15 @@ ends : (z : Space) (p : ℕ) → RepliesHeld z → RepliesHeld (tell_deaths (wit
 ends z p h =
     let a = threads_go z p in
     let b = without_process a p in
-    calm (tell_deaths b p) b (one_way.tell_deaths-less b p) (tell_deaths-aside b p).buffers (tell_deaths-aside b p).threads
-    (process-goes a p (none-left z p) (threads-keep RepliesHeld (λ y seat k. goes y seat k) z p h))
+    calm (tell_deaths b p) b (one_way.tell_deaths_less b p) (tell_deaths_aside b p).buffers (tell_deaths_aside b p).threads
+    (process_goes a p (none_left z p) (threads_keep RepliesHeld (λ y seat k. goes y seat k) z p h))
 
 -- ---- every step
 
 -- one thread more
 attached : (z : Space) (seat p : ℕ) → RepliesHeld z → RepliesHeld (with_thread z seat p)
 unfolding with_thread
-attached z seat p h = grown (with_thread z seat p) z (record { due = λ w m l e. l; buffers = λ c l. l; threads = λ t l. (t, in-left t z.threads _ l, refl, refl) }) h
+attached z seat p h = grown (with_thread z seat p) z (record { due = λ w m l e. l; buffers = λ c l. l; threads = λ t l. (t, in_left t z.threads _ l, refl, refl) }) h
 
 loops : (z : Space) (seat : ℕ) (looping : Bool) → RepliesHeld z → RepliesHeld (with_looping z seat looping)
 unfolding with_looping
@@ -149,7 +149,7 @@ loops z seat looping h =
       buffers = λ c l. l;
       threads = λ t l.
           let k = at (t.seat == seat) t in
-          (_, changed-in (λ (t : Thread). t.seat == seat) (λ (t : Thread). record t { looping = looping }) t z.threads l, k.0, k.1);
+          (_, changed_in (λ (t : Thread). t.seat == seat) (λ (t : Thread). record t { looping = looping }) t z.threads l, k.0, k.1);
     }) h
   where
     at : (q : Bool) (t : Thread) → ((cond q (record t { looping = looping }) t).seat ≡ t.seat) × ((cond q (record t { looping = looping }) t).process ≡ t.process)
@@ -170,18 +170,18 @@ module _ (s : Space) (seat : ℕ) (x : Step) (turns : IsInTurn s) (h : RepliesHe
     changes = record {
       transacts = λ a d parcel v e i t. (k.changes.transacts a d parcel v e i t, transacts s a d v turns h);
       replies = λ a d parcel f v e i g t. (k.changes.replies a d parcel f v e i g t, replies s a d parcel f v turns t h);
-      frees = λ p ptr b e t. (k.changes.frees p ptr b e t, frees s b turns (at_pointer-in s p ptr b e) t h);
+      frees = λ p ptr b e t. (k.changes.frees p ptr b e t, frees s b turns (at_pointer_in s p ptr b e) t h);
       asks = λ a n strong o e i t. (k.changes.asks a n strong o e i t, h);
       drops = λ p o strong. (k.changes.drops p o strong, h);
       acknowledges = λ o strong i. (k.changes.acknowledges o strong i, h);
       loops = λ a looping e. (k.changes.loops a looping e, loops s a.thread.seat looping h);
-      on_deaths = commands-both s _ _ k.changes.on_deaths (on-commands s _ (on-mapped s _ _ (λ y l. calm y s l.0 l.1.buffers l.1.threads h) (on-both s _ _ (one_way.on_deaths-less s) (on_deaths-aside s))));
+      on_deaths = commands_both s _ _ k.changes.on_deaths (on_commands s _ (on_mapped s _ _ (λ y l. calm y s l.0 l.1.buffers l.1.threads h) (on_both s _ _ (one_way.on_deaths_less s) (on_deaths_aside s))));
       reads = λ a limit e i n. (k.changes.reads a limit e i n, reads s h a.thread (limit - 4));
       leaves = λ a e. (k.changes.leaves a e, goes s a.thread.seat h);
       ends = λ a e. (k.changes.ends a e, ends s a.process.made h);
       ripens = λ z b. (k.changes.ripens z b.0, ripens z b.0 b.1);
     };
-    follows = λ z b. (k.follows z b.0, calm (follow z) z (one_way.follow-less z) refl refl b.1);
+    follows = λ z b. (k.follows z b.0, calm (follow z) z (one_way.follow_less z) refl refl b.1);
     closes = λ z made b. (k.closes z made b.0, closes z made b.1);
     refuses = λ z t r b. (k.refuses z t r b.0, owed z (OfThread t) (work.Refusal r) refl b.1);
     tells = λ z t r b. (k.tells z t r b.0, owed z (OfThread t) (work.Verdict r) refl b.1);
@@ -190,9 +190,9 @@ module _ (s : Space) (seat : ℕ) (x : Step) (turns : IsInTurn s) (h : RepliesHe
 abbrev IsHeld : Space → Type 0
 IsHeld s = IsInTurn s × RepliesHeld s
 
-step-held : (s : Space) (e : Entry) → IsHeld s → IsHeld (next s e)
+step_held : (s : Space) (e : Entry) → IsHeld s → IsHeld (next s e)
 unfolding counted
-step-held s e h = every_step s e.seat e.step Both Both (kept s e.seat e.step h.0 h.1 (turn.kept s e.seat e.step h.0))
+step_held s e h = every_step s e.seat e.step Both Both (kept s e.seat e.step h.0 h.1 (turn.kept s e.seat e.step h.0))
 
-pub always-held : (es : List Entry) → RepliesHeld (after opening es)
-always-held es = (every_list IsHeld step-held es opening (opening-in_turn, record { buffer = λ w b l e. absurd l; one = λ v w b i j e f. absurd i })).1
+pub always_held : (es : List Entry) → RepliesHeld (after opening es)
+always_held es = (every_list IsHeld step_held es opening (opening_in_turn, record { buffer = λ w b l e. absurd l; one = λ v w b i j e f. absurd i })).1

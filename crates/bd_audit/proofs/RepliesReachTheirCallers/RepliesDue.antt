@@ -7,15 +7,15 @@ use Rattle.bd_space.specs.declared.space.WorkKind.TheVariants as work
 use Rattle.bd_todo.specs.TodoList.{reply_of}
 use Rattle.bd_laws.proofs.words.Laws.{In, Distinct}
 use Rattle.bd_laws.proofs.Machine.EveryStep.{Keeps, every_step, every_list}
-use Rattle.bd_laws.proofs.Machine.Adding.{told-keeps}
-use Rattle.bd_laws.proofs.Machine.Fields.{serve-made}
-use Rattle.bd_laws.proofs.Machine.Table.{keeps-by}
-use Rattle.bd_laws.proofs.Lists.{in-push, in-filter, in-changed}
-use Rattle.bd_laws.proofs.Readings.{always-distinct}
-use Rattle.bd_audit.proofs.RepliesAreHandedOut.BuffersSent.{reply-hands}
-use Rattle.bd_audit.proofs.RepliesAreHandedOut.ReplyBuffers.{always-held}
-use Rattle.bd_audit.proofs.RepliesReachTheirCallers.Quiet.{sent-quiet, ripen-quiet, quiet_table, quiet_exits, quiet_closes, Quiet, with_work-quiet, answered-quiet}
-use Rattle.bd_laws.proofs.ItemsAreToldApart.Identities.{Indexed, push-indexed}
+use Rattle.bd_laws.proofs.Machine.Adding.{told_keeps}
+use Rattle.bd_laws.proofs.Machine.Fields.{serve_made}
+use Rattle.bd_laws.proofs.Machine.Table.{keeps_by}
+use Rattle.bd_laws.proofs.Lists.{in_push, in_filter, in_changed}
+use Rattle.bd_laws.proofs.Readings.{always_distinct}
+use Rattle.bd_audit.proofs.RepliesAreHandedOut.BuffersSent.{reply_hands}
+use Rattle.bd_audit.proofs.RepliesAreHandedOut.ReplyBuffers.{always_held}
+use Rattle.bd_audit.proofs.RepliesReachTheirCallers.Quiet.{sent_quiet, ripen_quiet, quiet_table, quiet_exits, quiet_closes, Quiet, with_work_quiet, answered_quiet}
+use Rattle.bd_laws.proofs.ItemsAreToldApart.Identities.{Indexed, push_indexed}
 
 -- ---- the items of this step are numbered, and stay through what follows
 
@@ -30,14 +30,14 @@ pub record Fresh (n : ℕ) (processes : List Process) (objects : List Object) (r
   pub wanted : (w : Work) → In w todo → w.id.place ≡ n → Wanted processes objects references w.kind
 
 module _ (n : ℕ) (processes : List Process) (objects : List Object) (references : List Reference) where
-  pub wanted-push : (todo : List Work) (list : TodoList) (kind : WorkKind) → Wanted processes objects references kind
+  pub wanted_push : (todo : List Work) (list : TodoList) (kind : WorkKind) → Wanted processes objects references kind
       → ((w : Work) → In w todo → w.id.place ≡ n → Wanted processes objects references w.kind)
       → (w : Work) → In w (with_work n todo list kind) → w.id.place ≡ n → Wanted processes objects references w.kind
-  wanted-push todo list kind k h w l at = search (arith, in-push)
+  wanted_push todo list kind k h w l at = search (arith, in_push)
 
-  fresh-push : (todo : List Work) (list : TodoList) (kind : WorkKind) → Wanted processes objects references kind
+  fresh_push : (todo : List Work) (list : TodoList) (kind : WorkKind) → Wanted processes objects references kind
       → Fresh n processes objects references todo → Fresh n processes objects references (with_work n todo list kind)
-  fresh-push todo list kind k h = record { numbered = push-indexed n todo list kind h.numbered; wanted = wanted-push todo list kind k h.wanted }
+  fresh_push todo list kind k h = record { numbered = push_indexed n todo list kind h.numbered; wanted = wanted_push todo list kind k h.wanted }
 
 abbrev pub Lasts : Space → Type 0
 Lasts z = (w : Work) → In w z.todo → w.id.place ≡ z.steps → Wanted z.processes z.objects z.references w.kind
@@ -49,55 +49,55 @@ pub record From (s z : Space) : Type 0 where
   pub frames : (f : Frame) → In f z.frames → ((g : Frame) × In g s.frames × (f.made ≡ g.made)) ⊎ (f.made ≡ s.steps)
   pub replies : (w : Work) (b : ℕ) → In w z.todo → reply_of w.kind ≡ Some b → In w s.todo ⊎ ((b ≡ s.steps) × (w.id.place ≡ b))
 
-from-quiet : (s z y : Space) → Quiet z y → From s y → From s z
-from-quiet s z y k h = record {
+from_quiet : (s z y : Space) → Quiet z y → From s y → From s z
+from_quiet s z y k h = record {
   steps = k.steps ∙ h.steps;
   frames = λ f l. let g = k.frames f l in elim (h.frames g.0 g.1) [ inl x ↦ inl (x.0, x.1, g.2.made ∙ x.2) | inr e ↦ inr (g.2.made ∙ e) ];
   replies = λ w b l e. h.replies w b (k.replies w b l e) e;
 }
 
-from-quietly : (s z : Space) → Quiet z s → From s z
-from-quietly s z q = from-quiet s z s q (record { steps = refl; frames = λ f l. inl (f, l, refl); replies = λ w b l e. inl l })
+from_quietly : (s z : Space) → Quiet z s → From s z
+from_quietly s z q = from_quiet s z s q (record { steps = refl; frames = λ f l. inl (f, l, refl); replies = λ w b l e. inl l })
 
-from-call : (s y : Space) (seat p : ℕ) (one_way : Bool) → From s y → From s (called y seat p one_way)
+from_call : (s y : Space) (seat p : ℕ) (one_way : Bool) → From s y → From s (called y seat p one_way)
 unfolding call_out owe
-from-call s y seat p true h = h
-from-call s y seat p false h = record {
+from_call s y seat p true h = h
+from_call s y seat p false h = record {
   steps = h.steps;
-  frames = λ f l. elim (in-push f _ y.frames l) [ inl i ↦ h.frames f i | inr is ↦ inr (sym (ap (λ (x : Frame). x.made) is) ∙ h.steps) ];
-  replies = λ w b l e. h.replies w b (with_work-quiet y.steps y.todo (goes_to y seat p) (work.Call y.steps) refl w b l e) e;
+  frames = λ f l. elim (in_push f _ y.frames l) [ inl i ↦ h.frames f i | inr is ↦ inr (sym (ap (λ (x : Frame). x.made) is) ∙ h.steps) ];
+  replies = λ w b l e. h.replies w b (with_work_quiet y.steps y.todo (goes_to y seat p) (work.Call y.steps) refl w b l e) e;
 }
 
-from-transacted : (s : Space) (a : Actor) (d : TransactionData) (v : Delivery) → From s (transacted s a d v)
+from_transacted : (s : Space) (a : Actor) (d : TransactionData) (v : Delivery) → From s (transacted s a d v)
 unfolding transacted
-from-transacted s a d v = from-call s _ a.thread.seat v.receiver.made v.one_way (from-quietly s _ (sent-quiet s a d v _))
+from_transacted s a d v = from_call s _ a.thread.seat v.receiver.made v.one_way (from_quietly s _ (sent_quiet s a d v _))
 
-from-reply : (s y : Space) (t : ℕ) → From s y → From s (owe y (OfThread t) (work.Reply s.steps))
+from_reply : (s y : Space) (t : ℕ) → From s y → From s (owe y (OfThread t) (work.Reply s.steps))
 unfolding owe
-from-reply s y t h = search (arith, in-push, h.frames, h.replies)
+from_reply s y t h = search (arith, in_push, h.frames, h.replies)
 
-from-replied : (s : Space) (a : Actor) (d : TransactionData) (f : Frame) (v : Delivery) → From s (replied s a d f v)
+from_replied : (s : Space) (a : Actor) (d : TransactionData) (f : Frame) (v : Delivery) → From s (replied s a d f v)
 unfolding replied
-from-replied s a d f v = told-keeps (From s) (work.Reply s.steps) (from-reply s) _ f.caller (from-quietly s _ (answered-quiet s a d f v))
+from_replied s a d f v = told_keeps (From s) (work.Reply s.steps) (from_reply s) _ f.caller (from_quietly s _ (answered_quiet s a d f v))
 
-from-read : (s : Space) (seat : ℕ) (ws : List Work) → From s (read_by s seat ws)
+from_read : (s : Space) (seat : ℕ) (ws : List Work) → From s (read_by s seat ws)
 unfolding read_by
-from-read s seat ws = search (arith, in-changed, serve-made, in-filter)
+from_read s seat ws = search (arith, in_changed, serve_made, in_filter)
 
-from-kept : (s : Space) (seat : ℕ) (x : Step) → Keeps s seat x (From s) (From s)
-from-kept s seat x = search (arith, keeps-by, quiet_table, from-quietly, quiet_exits, quiet_closes, from-quiet, from-transacted, from-replied, from-read, ripen-quiet)
+from_kept : (s : Space) (seat : ℕ) (x : Step) → Keeps s seat x (From s) (From s)
+from_kept s seat x = search (arith, keeps_by, quiet_table, from_quietly, quiet_exits, quiet_closes, from_quiet, from_transacted, from_replied, from_read, ripen_quiet)
 
-pub step-from : (s : Space) (e : Entry) → From s (change s e.seat e.step).space
-step-from s e = every_step s e.seat e.step (From s) (From s) (from-kept s e.seat e.step)
+pub step_from : (s : Space) (e : Entry) → From s (change s e.seat e.step).space
+step_from s e = every_step s e.seat e.step (From s) (From s) (from_kept s e.seat e.step)
 
 -- ---- every history
 
 abbrev MadeHere : Space → Type 0
 MadeHere s = (w : Work) (b : ℕ) → In w s.todo → reply_of w.kind ≡ Some b → w.id.place ≡ b
 
-step-made : (s : Space) (e : Entry) → MadeHere s → MadeHere (next s e)
+step_made : (s : Space) (e : Entry) → MadeHere s → MadeHere (next s e)
 unfolding counted
-step-made s e h w b l is = elim ((step-from s e).replies w b l is) [ inl i ↦ h w b i is | inr new ↦ new.1 ]
+step_made s e h w b l is = elim ((step_from s e).replies w b l is) [ inl i ↦ h w b i is | inr new ↦ new.1 ]
 
 pub record Owed (todo : List Work) : Type 0 where
   pub made : (w : Work) (b : ℕ) → In w todo → reply_of w.kind ≡ Some b → w.id.place ≡ b
@@ -108,13 +108,13 @@ pub record Owed (todo : List Work) : Type 0 where
 abbrev pub IsOwed : Space → Type 0
 IsOwed s = Owed s.todo
 
-pub always-owed : (h : History) → IsOwed (space_after h)
+pub always_owed : (h : History) → IsOwed (space_after h)
 unfolding space_after
-always-owed h =
-    let held = always-held h.entries in
+always_owed h =
+    let held = always_held h.entries in
     record {
-      made = every_list MadeHere step-made h.entries opening (λ w b l. absurd l);
+      made = every_list MadeHere step_made h.entries opening (λ w b l. absurd l);
       list = λ w b l e. let x = held.buffer w b l e in (x.thread.seat, x.on);
-      one = λ v w b i j e. held.one v w b i j (reply-hands v.kind b e);
-      apart = always-distinct h;
+      one = λ v w b i j e. held.one v w b i j (reply_hands v.kind b e);
+      apart = always_distinct h;
     }

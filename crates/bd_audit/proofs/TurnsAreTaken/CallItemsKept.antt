@@ -6,11 +6,11 @@ use Rattle.bd_laws.proofs.words.Space.{same, Space, with_work, is_call, hands_ou
 use Rattle.bd_uapi.specs.declared.command.Command.TheVariants as bc
 use Rattle.bd_space.specs.declared.space.WorkKind.TheVariants as work
 use Rattle.bd_laws.proofs.words.Laws.{In, IsInTurn, On}
-use Rattle.bd_laws.proofs.Lists.{in-push, in-filter, filter-in, in-filter_map, any-in}
-use Rattle.bd_laws.proofs.Tests.{not-true, ripe-parts}
-use Rattle.bd_laws.proofs.IsInTurn.Ripening.{turn-parts}
-use Rattle.bd_laws.proofs.IsInTurn.Passing.{lost-on, not-on}
-use Rattle.bd_laws.proofs.IsInTurn.Received.{one-buffer}
+use Rattle.bd_laws.proofs.Lists.{in_push, in_filter, filter_in, in_filter_map, any_in}
+use Rattle.bd_laws.proofs.Tests.{not_true, ripe_parts}
+use Rattle.bd_laws.proofs.IsInTurn.Ripening.{turn_parts}
+use Rattle.bd_laws.proofs.IsInTurn.Passing.{lost_on, not_on}
+use Rattle.bd_laws.proofs.IsInTurn.Received.{one_buffer}
 use Rattle.bd_audit.specs.Replies.{items_taken}
 use Rattle.bd_audit.specs.TurnCalls.{CallsOneWay}
 
@@ -35,8 +35,8 @@ pub record DueOnce (m : ℕ) (buffers : List Buffer) (todo : List Work) : Type 0
   pub unread : (w : Work) → Hands m todo w → Unread m buffers w
 
 -- nothing hands over yet what a step makes
-pub fresh-once : (s : Space) → IsInTurn s → (m : ℕ) → m ≡ s.steps → DueOnce m s.buffers s.todo
-fresh-once s turns m is = record {
+pub fresh_once : (s : Space) → IsInTurn s → (m : ℕ) → m ≡ s.steps → DueOnce m s.buffers s.todo
+fresh_once s turns m is = record {
   one = λ v w i j. absurd (none v i);
   call = λ w i. absurd (none w i);
   unread = λ w i. absurd (none w i);
@@ -68,54 +68,54 @@ Treats s e m z = Treated s e m z.buffers z.todo
 
 module _ (s : Space) (e : Entry) (m : ℕ) where
   -- what is due was due, and its buffer stays
-  pub once-less : (bs cs : List Buffer) (more todo : List Work) → ((w : Work) → Hands m more w → In w todo)
+  pub once_less : (bs cs : List Buffer) (more todo : List Work) → ((w : Work) → Hands m more w → In w todo)
       → ((w : Work) → Hands m more w → (u : Unread m bs w) → In u.buffer cs) → DueOnce m bs todo → DueOnce m cs more
-  once-less bs cs more todo due stay h = record {
+  once_less bs cs more todo due stay h = record {
     one = λ v w i j. h.one v w (due v i, i.1) (due w j, j.1);
     call = λ w i. h.call w (due w i, i.1);
     unread = λ w i. let u = h.unread w (due w i, i.1) in record { buffer = u.buffer; here = stay w i u; made = u.made; handed = u.handed; list = u.list };
   }
 
-  pub treats-less : (bs cs : List Buffer) (more todo : List Work) → ((c : Buffer) → In c cs → In c bs) → ((w : Work) → Hands m more w → In w todo)
+  pub treats_less : (bs cs : List Buffer) (more todo : List Work) → ((c : Buffer) → In c cs → In c bs) → ((w : Work) → Hands m more w → In w todo)
       → (DueOnce m bs todo → (w : Work) → Hands m more w → (u : Unread m bs w) → In u.buffer cs) → Treated s e m bs todo → Treated s e m cs more
-  treats-less bs cs more todo had due stay h = record {
-    once = λ fits. let k = h.once fits in once-less bs cs more todo due (stay k) k;
+  treats_less bs cs more todo had due stay h = record {
+    once = λ fits. let k = h.once fits in once_less bs cs more todo due (stay k) k;
     handed = λ c i. h.handed c (had c i);
     made = λ o c i. h.made o c (had c i);
   }
 
-  pub treats-same : (bs cs : List Buffer) (more todo : List Work) → cs ≡ bs → ((w : Work) → Hands m more w → In w todo) → Treated s e m bs todo → Treated s e m cs more
-  treats-same bs cs more todo same due h = treats-less bs cs more todo (λ c i. subst (In c) same i) due (λ k w i u. subst (In u.buffer) (sym same) u.here) h
+  pub treats_same : (bs cs : List Buffer) (more todo : List Work) → cs ≡ bs → ((w : Work) → Hands m more w → In w todo) → Treated s e m bs todo → Treated s e m cs more
+  treats_same bs cs more todo same due h = treats_less bs cs more todo (λ c i. subst (In c) same i) due (λ k w i u. subst (In u.buffer) (sym same) u.here) h
 
   -- ---- what goes
 
-  pub gone-buffer : (b : Buffer) → IsInTurn s → In b s.buffers → b.handed ≡ true → Treats s e m s → Treats s e m (without_buffer s b.made)
+  pub gone_buffer : (b : Buffer) → IsInTurn s → In b s.buffers → b.handed ≡ true → Treats s e m s → Treats s e m (without_buffer s b.made)
   unfolding without_buffer
-  gone-buffer b turns here handed h =
-      treats-less s.buffers _ s.todo s.todo (λ c i. (in-filter stays c s.buffers i).0) (λ w i. i.0)
-      (λ k w i u. filter-in stays u.buffer s.buffers u.here (other u.buffer u.here u.handed (is_made_at b.made u.buffer) refl)) h
+  gone_buffer b turns here handed h =
+      treats_less s.buffers _ s.todo s.todo (λ c i. (in_filter stays c s.buffers i).0) (λ w i. i.0)
+      (λ k w i u. filter_in stays u.buffer s.buffers u.here (other u.buffer u.here u.handed (is_made_at b.made u.buffer) refl)) h
     where
       stays : Buffer → Bool
       stays c = not (is_made_at b.made c)
 
       other : (c : Buffer) → In c s.buffers → c.handed ≡ false → (t : Bool) → is_made_at b.made c ≡ t → not t ≡ true
-      other c i unhanded t f = search (arith, one-buffer, here, eqb-true)
+      other c i unhanded t f = search (arith, one_buffer, here, eqb-true)
 
-  pub gone-thread : (z : Space) (seat : ℕ) → Treats s e m z → Treats s e m (thread_goes z seat)
+  pub gone_thread : (z : Space) (seat : ℕ) → Treats s e m z → Treats s e m (thread_goes z seat)
   unfolding thread_goes
-  gone-thread z seat h = search (arith, treats-less, in-filter, filter-in, lost-on, not-on)
+  gone_thread z seat h = search (arith, treats_less, in_filter, filter_in, lost_on, not_on)
 
-  pub gone-process : (z : Space) (p : ℕ) → Treats s e m z → Treats s e m (without_process z p)
+  pub gone_process : (z : Space) (p : ℕ) → Treats s e m z → Treats s e m (without_process z p)
   unfolding without_process
-  gone-process z p h = search (arith, treats-less, in-filter, filter-in, not-true, eq-eqb, eqb-true)
+  gone_process z p h = search (arith, treats_less, in_filter, filter_in, not_true, eq-eqb, eqb-true)
 
   -- ---- ripening
 
   module _ (bs : List Buffer) (place : ℕ) where
     -- one call that ripens, with its buffer
-    ripens-once : (todo : List Work) (older : List Turn) (t : Turn) → ((b : Buffer) × In b bs × (turn_of b ≡ Some t)) → is_ripe todo older t ≡ true → DueOnce m bs todo
+    ripens_once : (todo : List Work) (older : List Turn) (t : Turn) → ((b : Buffer) × In b bs × (turn_of b ≡ Some t)) → is_ripe todo older t ≡ true → DueOnce m bs todo
         → DueOnce m bs (with_work place todo (OfProcess t.receiver) (work.Call t.made))
-    ripens-once todo older t own ripe h = record {
+    ripens_once todo older t own ripe h = record {
       one = λ v w i j. elim (pushed v i) [
         | inl k ↦ elim (pushed w j) [ inl l ↦ h.one v w k l | inr y ↦ absurd (none v k y.1) ]
         | inr x ↦ elim (pushed w j) [ inl l ↦ absurd (none w l x.1) | inr y ↦ sym x.0 ∙ y.0 ]
@@ -123,7 +123,7 @@ module _ (s : Space) (e : Entry) (m : ℕ) where
       call = λ w i. elim (pushed w i) [ inl k ↦ h.call w k | inr x ↦ ap (λ (v : Work). is_call m v.kind) (sym x.0) ∙ eq-eqb t.made m x.1 ];
       unread = λ w i. elim (pushed w i) [
         | inl k ↦ h.unread w k
-        | inr x ↦ (let p = turn-parts own.0 t own.2 in record {
+        | inr x ↦ (let p = turn_parts own.0 t own.2 in record {
           buffer = own.0;
           here = own.1;
           made = sym p.0 ∙ x.1;
@@ -134,34 +134,34 @@ module _ (s : Space) (e : Entry) (m : ℕ) where
     }
       where
         parts : (t.handed ≡ false) × (list_any (λ (w : Work). is_call t.made w.kind) todo ≡ false)
-        parts = ripe-parts t.handed (list_any (λ (u : Turn). same u.target t.target) older) (list_any (λ (w : Work). is_call t.made w.kind) todo) ripe
+        parts = ripe_parts t.handed (list_any (λ (u : Turn). same u.target t.target) older) (list_any (λ (w : Work). is_call t.made w.kind) todo) ripe
 
         new : Work
         new = record { id = record { place = place; index = count_by (λ (w : Work). w.id.place == place) todo }; list = OfProcess t.receiver; kind = work.Call t.made }
 
         pushed : (w : Work) → Hands m (todo ++ new ∷ []) w → Hands m todo w ⊎ ((new ≡ w) × (t.made ≡ m))
-        pushed w i = elim (in-push w new todo i.0) [
+        pushed w i = elim (in_push w new todo i.0) [
           | inl k ↦ inl (k, i.1)
           | inr is ↦ inr (is, (let k : Some t.made ≡ Some m = ap (λ (x : Work). hands_out x.kind) is ∙ i.1 in cc))
         ]
 
         none : (v : Work) → Hands m todo v → t.made ≡ m → ⊥
-        none v i is = search (arith, any-in, parts)
+        none v i is = search (arith, any_in, parts)
 
-    ripens-if : (b : Bool) (todo : List Work) (older : List Turn) (t : Turn) → ((b : Buffer) × In b bs × (turn_of b ≡ Some t)) → is_ripe todo older t ≡ b → DueOnce m bs todo
+    ripens_if : (b : Bool) (todo : List Work) (older : List Turn) (t : Turn) → ((b : Buffer) × In b bs × (turn_of b ≡ Some t)) → is_ripe todo older t ≡ b → DueOnce m bs todo
         → DueOnce m bs (cond b (with_work place todo (OfProcess t.receiver) (work.Call t.made)) todo)
-    ripens-if b todo older t own ripe h = search (arith, ripens-once)
+    ripens_if b todo older t own ripe h = search (arith, ripens_once)
 
-    ripens-all : (ts : List Turn) (todo : List Work) (older : List Turn) → ((t : Turn) → In t ts → (b : Buffer) × In b bs × (turn_of b ≡ Some t)) → DueOnce m bs todo
+    ripens_all : (ts : List Turn) (todo : List Work) (older : List Turn) → ((t : Turn) → In t ts → (b : Buffer) × In b bs × (turn_of b ≡ Some t)) → DueOnce m bs todo
         → DueOnce m bs (ripened place older todo ts)
-    ripens-all [] todo older own h = h
-    ripens-all (t ∷ ts) todo older own h =
-        ripens-all ts _ (older ++ t ∷ []) (λ u i. own u (inr i)) (ripens-if (is_ripe todo older t) todo older t (own t (inl refl)) refl h)
+    ripens_all [] todo older own h = h
+    ripens_all (t ∷ ts) todo older own h =
+        ripens_all ts _ (older ++ t ∷ []) (λ u i. own u (inr i)) (ripens_if (is_ripe todo older t) todo older t (own t (inl refl)) refl h)
 
   pub ripens : (z : Space) → Treats s e m z → Treats s e m (ripen z)
   unfolding ripen
   ripens z h = record {
-    once = λ fits. ripens-all z.buffers z.steps (turns_of z.buffers) z.todo [] (λ t i. in-filter_map turn_of t z.buffers i) (h.once fits);
+    once = λ fits. ripens_all z.buffers z.steps (turns_of z.buffers) z.todo [] (λ t i. in_filter_map turn_of t z.buffers i) (h.once fits);
     handed = h.handed;
     made = h.made;
   }

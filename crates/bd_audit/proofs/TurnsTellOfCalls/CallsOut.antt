@@ -6,18 +6,18 @@ use Rattle.bd_laws.proofs.words.Space.{first_of, Space, actor, owe, is_call, han
 use Rattle.bd_uapi.specs.declared.command.Command.TheVariants as bc
 use Rattle.bd_space.specs.declared.space.WorkKind.TheVariants as work
 use Rattle.bd_laws.proofs.words.Laws.{In, On}
-use Rattle.bd_laws.proofs.Lists.{in-last, any-found, find-in, find-some, changed-in}
-use Rattle.bd_laws.proofs.IsInTurn.InTurn.{is_call-hands}
-use Rattle.bd_laws.proofs.IsInTurn.Ripening.{read-in}
-use Rattle.bd_laws.proofs.Checks.{transaction-checked}
-use Rattle.bd_laws.proofs.IsInTurn.Passed.{follow-after}
+use Rattle.bd_laws.proofs.Lists.{in_last, any_found, find_in, find_some, changed_in}
+use Rattle.bd_laws.proofs.IsInTurn.InTurn.{is_call_hands}
+use Rattle.bd_laws.proofs.IsInTurn.Ripening.{read_in}
+use Rattle.bd_laws.proofs.Checks.{transaction_checked}
+use Rattle.bd_laws.proofs.IsInTurn.Passed.{follow_after}
 use Rattle.bd_audit.specs.TurnSearch.{is_handed}
 use Rattle.bd_audit.specs.Replies.{items_taken, items_read, items_unless}
 use Rattle.bd_audit.specs.TurnCalls.{CallsOneWay}
-use Rattle.bd_laws.proofs.Machine.Settled.{settle-keeps}
+use Rattle.bd_laws.proofs.Machine.Settled.{settle_keeps}
 use Rattle.bd_laws.proofs.Machine.Untouched
-use Rattle.bd_laws.proofs.Tests.{is_some-ok}
-use Rattle.bd_audit.proofs.TurnsAreTaken.Logged.{handed-in}
+use Rattle.bd_laws.proofs.Tests.{is_some_ok}
+use Rattle.bd_audit.proofs.TurnsAreTaken.Logged.{handed_in}
 
 -- ---- what a reading takes was due
 
@@ -32,17 +32,17 @@ pub record Reading (s : Space) (seat : ℕ) (x : Step) : Type 0 where
 pub reading : (s : Space) (seat : ℕ) (x : Step) (w : Work) → In w (items_taken s seat x) → Reading s seat x
 reading s seat x w l = search (arith, taken)
 
-pub reading-items : (s : Space) (seat : ℕ) (x : Step) (r : Reading s seat x) → items_taken s seat x ≡ taken s (r.limit - 4) (list_to_read s r.actor_is.thread)
-reading-items s seat x r =
+pub reading_items : (s : Space) (seat : ℕ) (x : Step) (r : Reading s seat x) → items_taken s seat x ≡ taken s (r.limit - 4) (list_to_read s r.actor_is.thread)
+reading_items s seat x r =
     ap (items_taken s seat) r.reads ∙ ap (items_read s r.limit) r.acts ∙ ap (λ f. items_unless f (taken s (r.limit - 4) (list_to_read s r.actor_is.thread))) r.allowed
 
-read-space : (s : Space) (seat limit : ℕ) (a : Actor) → actor s seat ≡ Some a → read_fault limit (list_to_read s a.thread) ≡ None
+read_space : (s : Space) (seat limit : ℕ) (a : Actor) → actor s seat ≡ Some a → read_fault limit (list_to_read s a.thread) ≡ None
     → (change s seat (Read limit)).space ≡ follow (read_by s a.thread.seat (taken s (limit - 4) (list_to_read s a.thread)))
 unfolding change read_step read_taking
-read-space s seat limit a acts allowed = search arith
+read_space s seat limit a acts allowed = search arith
 
-pub items-due : (s : Space) (seat : ℕ) (x : Step) (w : Work) → In w (items_taken s seat x) → In w s.todo
-items-due s seat x w i = let r = reading s seat x w i in read-in s r.actor_is.thread (r.limit - 4) w (subst (In w) (reading-items s seat x r) i)
+pub items_due : (s : Space) (seat : ℕ) (x : Step) (w : Work) → In w (items_taken s seat x) → In w s.todo
+items_due s seat x w i = let r = reading s seat x w i in read_in s r.actor_is.thread (r.limit - 4) w (subst (In w) (reading_items s seat x r) i)
 
 -- ---- the call among the items is what hands a buffer out
 
@@ -52,89 +52,89 @@ first_handed ws = first_of (map (λ w. hands_out w.kind) ws)
 -- what holds of a list and of what is taken of it: nothing, or an item and more, but for one that ends the read
 module _ (s : Space) (R : List Work → List Work → Type 0) (none : (ws : List Work) → R ws []) (last : (w : Work) (ws : List Work) → ends_read w.kind ≡ true → R (w ∷ ws) (w ∷ []))
     (more : (w : Work) (ws items : List Work) → ends_read w.kind ≡ false → R ws items → R (w ∷ ws) (w ∷ items)) where
-  pub taken-by : (ws : List Work) (left : ℕ) → R ws (taken s left ws)
-  taken-by [] left = none []
-  taken-by (w ∷ ws) left = at (nat_lt left 68) (ends_read w.kind) refl (taken-by ws (left - length (bytes_read s w)))
+  pub taken_by : (ws : List Work) (left : ℕ) → R ws (taken s left ws)
+  taken_by [] left = none []
+  taken_by (w ∷ ws) left = at (nat_lt left 68) (ends_read w.kind) refl (taken_by ws (left - length (bytes_read s w)))
     where
       at : (b c : Bool) → ends_read w.kind ≡ c → R ws (taken s (left - length (bytes_read s w)) ws) → R (w ∷ ws) (cond b [] (w ∷ cond c [] (taken s (left - length (bytes_read s w)) ws)))
       at true c e k = none (w ∷ ws)
       at false true e k = last w ws e
       at false false e k = more w ws _ e k
 
-hands-none : (kind : WorkKind) → ends_read kind ≡ false → hands_out kind ≡ None
-hands-none (work.Call b) h = absurd (cc)
-hands-none (work.Reply b) h = absurd (cc)
-hands-none _ h = refl
+hands_none : (kind : WorkKind) → ends_read kind ≡ false → hands_out kind ≡ None
+hands_none (work.Call b) h = absurd (cc)
+hands_none (work.Reply b) h = absurd (cc)
+hands_none _ h = refl
 
 -- nothing is taken after what hands over, so that a call among the items taken is the first that does
 module _ (s : Space) (m : ℕ) where
   abbrev has_call : List Work → Bool
   has_call ws = list_any (λ w. is_call m w.kind) ws
 
-  one-call : (kind : WorkKind) (o : Option ℕ) → hands_out kind ≡ o → (is_call m kind || false) ≡ true → first_of (o ∷ []) ≡ Some m
-  one-call kind o e h = search (arith, is_call-hands)
+  one_call : (kind : WorkKind) (o : Option ℕ) → hands_out kind ≡ o → (is_call m kind || false) ≡ true → first_of (o ∷ []) ≡ Some m
+  one_call kind o e h = search (arith, is_call_hands)
 
-  no-call : (kind : WorkKind) (items : List Work) → hands_out kind ≡ None → (is_call m kind || has_call items) ≡ true → has_call items ≡ true
-  no-call kind items e h = search (arith, is_call-hands)
+  no_call : (kind : WorkKind) (items : List Work) → hands_out kind ≡ None → (is_call m kind || has_call items) ≡ true → has_call items ≡ true
+  no_call kind items e h = search (arith, is_call_hands)
 
-  first-call : (ws : List Work) (left : ℕ) → has_call (taken s left ws) ≡ true → first_handed (taken s left ws) ≡ Some m
-  first-call = taken-by s (λ ws items. has_call items ≡ true → first_handed items ≡ Some m) (λ ws h. absurd (cc)) (λ w ws e. one-call w.kind (hands_out w.kind) refl)
-      (λ w ws items e k h. let none = hands-none w.kind e in ap (λ o. first_of (o ∷ map (λ (w : Work). hands_out w.kind) items)) none ∙ k (no-call w.kind items none h))
+  first_call : (ws : List Work) (left : ℕ) → has_call (taken s left ws) ≡ true → first_handed (taken s left ws) ≡ Some m
+  first_call = taken_by s (λ ws items. has_call items ≡ true → first_handed items ≡ Some m) (λ ws h. absurd (cc)) (λ w ws e. one_call w.kind (hands_out w.kind) refl)
+      (λ w ws items e k h. let none = hands_none w.kind e in ap (λ o. first_of (o ∷ map (λ (w : Work). hands_out w.kind) items)) none ∙ k (no_call w.kind items none h))
 
   -- where the call's buffer lives, taking its item marks it
   module _ (b : Buffer) (here : In b s.buffers) (made : b.made ≡ m) where
-    buffer-found : (y : Buffer) × (buffer_in s.buffers m ≡ Some y) × (y.made ≡ m)
-    buffer-found =
-        let y = is_some-ok (buffer_in s.buffers m) (find-some (is_made_at m) b s.buffers here (eq-eqb b.made m made)) in
-        (y.0, y.1, eqb-true y.0.made m (find-in (is_made_at m) y.0 s.buffers y.1).1)
+    buffer_found : (y : Buffer) × (buffer_in s.buffers m ≡ Some y) × (y.made ≡ m)
+    buffer_found =
+        let y = is_some_ok (buffer_in s.buffers m) (find_some (is_made_at m) b s.buffers here (eq-eqb b.made m made)) in
+        (y.0, y.1, eqb-true y.0.made m (find_in (is_made_at m) y.0 s.buffers y.1).1)
 
-    taken-buffer : (ws : List Work) → first_handed ws ≡ Some m → (y : Buffer) × (buffer_taken s ws ≡ Some y) × (y.made ≡ m)
+    taken_buffer : (ws : List Work) → first_handed ws ≡ Some m → (y : Buffer) × (buffer_taken s ws ≡ Some y) × (y.made ≡ m)
     unfolding buffer_taken
-    taken-buffer ws h = search (arith, buffer-found)
+    taken_buffer ws h = search (arith, buffer_found)
 
-    marked-handed : (y : Buffer) → y.made ≡ m → is_handed (handed_buffers s.buffers (Some y)) m ≡ true
-    marked-handed y e = search (arith, eq-eqb, changed-in, handed-in)
+    marked_handed : (y : Buffer) → y.made ≡ m → is_handed (handed_buffers s.buffers (Some y)) m ≡ true
+    marked_handed y e = search (arith, eq-eqb, changed_in, handed_in)
 
-    read-handed : (seat : ℕ) (ws : List Work) → first_handed ws ≡ Some m → is_handed (read_by s seat ws).buffers m ≡ true
+    read_handed : (seat : ℕ) (ws : List Work) → first_handed ws ≡ Some m → is_handed (read_by s seat ws).buffers m ≡ true
     unfolding read_by
-    read-handed seat ws h = search (arith, taken-buffer, marked-handed)
+    read_handed seat ws h = search (arith, taken_buffer, marked_handed)
 
-    pub hands-out : (seat : ℕ) (x : Step) → has_call (items_taken s seat x) ≡ true → is_handed (change s seat x).space.buffers m ≡ true
-    hands-out seat x h =
-        let w = any-found (λ (w : Work). is_call m w.kind) (items_taken s seat x) h in
+    pub hands_it_out : (seat : ℕ) (x : Step) → has_call (items_taken s seat x) ≡ true → is_handed (change s seat x).space.buffers m ≡ true
+    hands_it_out seat x h =
+        let w = any_found (λ (w : Work). is_call m w.kind) (items_taken s seat x) h in
         let r = reading s seat x w.0 w.1 in
         let items = taken s (r.limit - 4) (list_to_read s r.actor_is.thread) in
-        let first = first-call (list_to_read s r.actor_is.thread) (r.limit - 4) (ap has_call (sym (reading-items s seat x r)) ∙ h) in
-        let space = ap (λ y. (change s seat y).space) r.reads ∙ read-space s seat r.limit r.actor_is r.acts r.allowed in
-        ap (λ (z : Space). is_handed z.buffers m) space ∙ ap (λ bs. is_handed bs m) (follow-after (read_by s r.actor_is.thread.seat items)).buffers ∙ read-handed r.actor_is.thread.seat items first
+        let first = first_call (list_to_read s r.actor_is.thread) (r.limit - 4) (ap has_call (sym (reading_items s seat x r)) ∙ h) in
+        let space = ap (λ y. (change s seat y).space) r.reads ∙ read_space s seat r.limit r.actor_is r.acts r.allowed in
+        ap (λ (z : Space). is_handed z.buffers m) space ∙ ap (λ bs. is_handed bs m) (follow_after (read_by s r.actor_is.thread.seat items)).buffers ∙ read_handed r.actor_is.thread.seat items first
 
 -- ---- an accepted one-way transaction makes a buffer
 
-completed-buffers : (z : Space) → (completed z).buffers ≡ z.buffers
+completed_buffers : (z : Space) → (completed z).buffers ≡ z.buffers
 unfolding completed
-completed-buffers z =
-    settle-keeps (λ y. y.buffers ≡ z.buffers)
+completed_buffers z =
+    settle_keeps (λ y. y.buffers ≡ z.buffers)
     (λ y f found k. (Untouched.told-untouched (closed y f.made) f.caller (work.Verdict DeadReply)).buffers ∙ (Untouched.closed-untouched y f.made).buffers ∙ k) (follow (ripen z))
-    ((follow-after (ripen z)).buffers ∙ (Untouched.ripen-untouched z).buffers)
+    ((follow_after (ripen z)).buffers ∙ (Untouched.ripen-untouched z).buffers)
 
 -- the step makes this object's one-way call
 abbrev pub MakesCall : Space → ObjectId → List Buffer → Type 0
 MakesCall s o bs = (c : Buffer) × In c bs × (c.made ≡ s.steps) × On o c
 
-delivered-makes : (s : Space) (a : Actor) (d : TransactionData) (v : Delivery) (o : ObjectId) → v.one_way ≡ true → v.target ≡ Some o → MakesCall s o (delivered s a d v).buffers
+delivered_makes : (s : Space) (a : Actor) (d : TransactionData) (v : Delivery) (o : ObjectId) → v.one_way ≡ true → v.target ≡ Some o → MakesCall s o (delivered s a d v).buffers
 unfolding delivered own_notices add_buffer known_by assign_numbers refer make_objects
-delivered-makes s a d v o one_way target =
-    (buffer_of (known_by s v) a d v, in-last (buffer_of (known_by s v) a d v) s.buffers, refl, (one_way, target))
+delivered_makes s a d v o one_way target =
+    (buffer_of (known_by s v) a d v, in_last (buffer_of (known_by s v) a d v) s.buffers, refl, (one_way, target))
 
-transacted-buffers : (s : Space) (a : Actor) (d : TransactionData) (v : Delivery) → (transacted s a d v).buffers ≡ (delivered s a d v).buffers
+transacted_buffers : (s : Space) (a : Actor) (d : TransactionData) (v : Delivery) → (transacted s a d v).buffers ≡ (delivered s a d v).buffers
 unfolding transacted
-transacted-buffers s a d v =
+transacted_buffers s a d v =
     let z = delivered s a d v in
     let y = owe z (OfThread a.thread.seat) (work.Complete (is_spam z a v)) in
     (Untouched.called-untouched y a.thread.seat v.receiver.made v.one_way).buffers ∙ (Untouched.owe-untouched z (OfThread a.thread.seat) (work.Complete (is_spam z a v))).buffers
 
-same-object : (r : Result ObjectId Cause) (o p : ObjectId) → r ≡ Ok o → r ≡ Ok p → o ≡ p
-same-object r o p h k = let e : (let q : Result ObjectId Cause = Ok o in q) ≡ Ok p = sym h ∙ k in cc
+same_object : (r : Result ObjectId Cause) (o p : ObjectId) → r ≡ Ok o → r ≡ Ok p → o ≡ p
+same_object r o p h k = let e : (let q : Result ObjectId Cause = Ok o in q) ≡ Ok p = sym h ∙ k in cc
 
 -- what an accepted transaction leaves
 accepted : (s : Space) (seat : ℕ) (a : Actor) (d : TransactionData) (parcel : Option Parcel) → actor s seat ≡ Some a → (change s seat (Command (bc.Transaction d) parcel)).answer ≡ Accepted
@@ -142,12 +142,12 @@ accepted : (s : Space) (seat : ℕ) (a : Actor) (d : TransactionData) (parcel : 
 unfolding change command_step transaction_step
 accepted s seat a d parcel acts h = search arith
 
-pub call-makes : (s : Space) (e : Entry) (o : ObjectId) → CallsOneWay s e o → MakesCall s o (change s e.seat e.step).space.buffers
-call-makes s e o h =
+pub call_makes : (s : Space) (e : Entry) (o : ObjectId) → CallsOneWay s e o → MakesCall s o (change s e.seat e.step).space.buffers
+call_makes s e o h =
     let a = h.actor_is in
     let k = accepted s e.seat a h.fields h.parcel h.acts (ap (λ x. (change s e.seat x).answer) (sym h.command) ∙ h.accepted) in
-    let t = transaction-checked s a h.fields h.parcel k.0 k.1 in
-    let is = same-object (target_of s a.process.made (handle_of h.fields)) t.object o t.named h.target in
+    let t = transaction_checked s a h.fields h.parcel k.0 k.1 in
+    let is = same_object (target_of s a.process.made (handle_of h.fields)) t.object o t.named h.target in
     let space = ap (λ x. (change s e.seat x).space) h.command ∙ k.2 in
-    subst (MakesCall s o) (sym (ap (λ (z : Space). z.buffers) space ∙ completed-buffers (transacted s a h.fields k.0) ∙ transacted-buffers s a h.fields k.0))
-    (delivered-makes s a h.fields k.0 o (t.one_way ∙ h.one_way) (t.target ∙ ap (λ y. Some y) is))
+    subst (MakesCall s o) (sym (ap (λ (z : Space). z.buffers) space ∙ completed_buffers (transacted s a h.fields k.0) ∙ transacted_buffers s a h.fields k.0))
+    (delivered_makes s a h.fields k.0 o (t.one_way ∙ h.one_way) (t.target ∙ ap (λ y. Some y) is))

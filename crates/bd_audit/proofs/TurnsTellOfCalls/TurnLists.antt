@@ -4,15 +4,15 @@ use Rattle.bd_laws.proofs.words.Logic.{◌≡◌, ℕ, ◌+◌, ◌<◌, Bool, f
 use Rattle.bd_laws.proofs.words.Types.{ObjectId, Entry, Buffer}
 use Rattle.bd_laws.proofs.words.Space.{is_some_and, Space, is_made_at, buffer_in, History, after, next, space_after}
 use Rattle.bd_laws.proofs.words.Laws.{In, Pairs, Waits}
-use Rattle.bd_ways.proofs.Ranges.{any-some}
-use Rattle.bd_laws.proofs.Lists.{pairs-map, any-found}
-use Rattle.bd_laws.proofs.Tests.{both, not-eq}
-use Rattle.bd_laws.proofs.Always.{always-tidy}
+use Rattle.bd_ways.proofs.Ranges.{any_some}
+use Rattle.bd_laws.proofs.Lists.{pairs_map, any_found}
+use Rattle.bd_laws.proofs.Tests.{both, not_eq}
+use Rattle.bd_laws.proofs.Always.{always_tidy}
 use Rattle.bd_audit.specs.declared.turns.Turn.{Turn}
 use Rattle.bd_audit.specs.Replays.{with_entry}
 use Rattle.bd_audit.specs.TurnSearch.{is_call_on, is_live, is_handed, turn_made, next_turns, turns_from, turns_on}
-use Rattle.bd_audit.proofs.Beginnings.{after-append}
-use Rattle.bd_laws.proofs.Machine.Steps.{always-steps}
+use Rattle.bd_audit.proofs.Beginnings.{after_append}
+use Rattle.bd_laws.proofs.Machine.Steps.{always_steps}
 
 -- ---- the buffer made at a place
 
@@ -20,68 +20,68 @@ abbrev Rising : Buffer → Buffer → Type 0
 Rising b c = b.made < c.made
 
 -- no later buffer is made there
-later-not : (bs : List Buffer) (made : ℕ) → ((c : Buffer) → In c bs → c.made ≡ made → ⊥) → is_handed bs made ≡ false
-later-not bs made h = search (arith, any-found, both, eqb-true)
+later_not : (bs : List Buffer) (made : ℕ) → ((c : Buffer) → In c bs → c.made ≡ made → ⊥) → is_handed bs made ≡ false
+later_not bs made h = search (arith, any_found, both, eqb-true)
 
-later-none : (o : ObjectId) (bs : List Buffer) (made : ℕ) → ((c : Buffer) → In c bs → c.made ≡ made → ⊥) → filter_map (turn_made o made) bs ≡ []
-later-none o [] made h = refl
-later-none o (b ∷ bs) made h = let no : is_made_at made b ≡ false = not-eq b.made made (h b (inl refl)) in rw no (later-none o bs made (λ c i. h c (inr i)))
+later_none : (o : ObjectId) (bs : List Buffer) (made : ℕ) → ((c : Buffer) → In c bs → c.made ≡ made → ⊥) → filter_map (turn_made o made) bs ≡ []
+later_none o [] made h = refl
+later_none o (b ∷ bs) made h = let no : is_made_at made b ≡ false = not_eq b.made made (h b (inl refl)) in rw no (later_none o bs made (λ c i. h c (inr i)))
 
-or-false : (a b : Bool) → b ≡ false → (a || b) ≡ a
-or-false a b h = search arith
+or_false : (a b : Bool) → b ≡ false → (a || b) ≡ a
+or_false a b h = search arith
 
-pub handed-find : (bs : List Buffer) (made : ℕ) → Pairs Rising bs → is_handed bs made ≡ is_some_and (buffer_in bs made) (λ b. b.handed)
-handed-find [] made h = refl
-handed-find (b ∷ bs) made h = search (arith, handed-find bs made h.1, or-false, later-not, eqb-true)
+pub handed_find : (bs : List Buffer) (made : ℕ) → Pairs Rising bs → is_handed bs made ≡ is_some_and (buffer_in bs made) (λ b. b.handed)
+handed_find [] made h = refl
+handed_find (b ∷ bs) made h = search (arith, handed_find bs made h.1, or_false, later_not, eqb-true)
 
 abbrev pub one_turn : ObjectId → ℕ → Option Buffer → List Turn
 one_turn o made None = []
 one_turn o made (Some b) = cond (is_call_on o b) (record { made = made; handed = None; ended = None } ∷ []) []
 
-made-find : (o : ObjectId) (bs : List Buffer) (made : ℕ) → Pairs Rising bs → filter_map (turn_made o made) bs ≡ one_turn o made (buffer_in bs made)
-made-find o [] made h = refl
-made-find o (b ∷ bs) made h = search (arith, made-find o bs made h.1, later-none, eqb-true)
+made_find : (o : ObjectId) (bs : List Buffer) (made : ℕ) → Pairs Rising bs → filter_map (turn_made o made) bs ≡ one_turn o made (buffer_in bs made)
+made_find o [] made h = refl
+made_find o (b ∷ bs) made h = search (arith, made_find o bs made h.1, later_none, eqb-true)
 
 rising : (h : History) → Pairs Rising (space_after h).buffers
-rising h = pairs-map (Waits (space_after h).todo) Rising (space_after h).buffers (λ b c i j w. w.earlier) (always-tidy h).before.turns.waits
+rising h = pairs_map (Waits (space_after h).todo) Rising (space_after h).buffers (λ b c i j w. w.earlier) (always_tidy h).before.turns.waits
 
 -- ---- as an engine's reading call finds the buffer
 
-pub live-is : (h : History) (made : ℕ) (o : Option Buffer) → o ≡ buffer_in (space_after h).buffers made → is_some o ≡ is_live (space_after h).buffers made
-live-is h made o e = ap is_some e ∙ sym (any-some (is_made_at made) (space_after h).buffers)
+pub live_is : (h : History) (made : ℕ) (o : Option Buffer) → o ≡ buffer_in (space_after h).buffers made → is_some o ≡ is_live (space_after h).buffers made
+live_is h made o e = ap is_some e ∙ sym (any_some (is_made_at made) (space_after h).buffers)
 
-pub handed-is : (h : History) (made : ℕ) (o : Option Buffer) → o ≡ buffer_in (space_after h).buffers made → is_some_and o (λ b. b.handed) ≡ is_handed (space_after h).buffers made
-handed-is h made o e = ap (λ x. is_some_and x (λ b. b.handed)) e ∙ sym (handed-find (space_after h).buffers made (rising h))
+pub handed_is : (h : History) (made : ℕ) (o : Option Buffer) → o ≡ buffer_in (space_after h).buffers made → is_some_and o (λ b. b.handed) ≡ is_handed (space_after h).buffers made
+handed_is h made o e = ap (λ x. is_some_and x (λ b. b.handed)) e ∙ sym (handed_find (space_after h).buffers made (rising h))
 
-pub made-is : (h : History) (x : ObjectId) (made : ℕ) (o : Option Buffer) → o ≡ buffer_in (space_after h).buffers made → one_turn x made o ≡ filter_map (turn_made x made) (space_after h).buffers
-made-is h x made o e = ap (one_turn x made) e ∙ sym (made-find x (space_after h).buffers made (rising h))
+pub made_is : (h : History) (x : ObjectId) (made : ℕ) (o : Option Buffer) → o ≡ buffer_in (space_after h).buffers made → one_turn x made o ≡ filter_map (turn_made x made) (space_after h).buffers
+made_is h x made o e = ap (one_turn x made) e ∙ sym (made_find x (space_after h).buffers made (rising h))
 
-pub made-call : (h : History) (x : ObjectId) (made : ℕ) (b : Buffer) (is : Bool) → Some b ≡ buffer_in (space_after h).buffers made → is_call_on x b ≡ is
+pub made_call : (h : History) (x : ObjectId) (made : ℕ) (b : Buffer) (is : Bool) → Some b ≡ buffer_in (space_after h).buffers made → is_call_on x b ≡ is
     → cond is (record { made = made; handed = None; ended = None } ∷ []) [] ≡ filter_map (turn_made x made) (space_after h).buffers
-made-call h x made b is e k = ap (λ c. cond c (let t : Turn = record { made = made; handed = None; ended = None } in t ∷ []) []) (sym k) ∙ made-is h x made (Some b) e
+made_call h x made b is e k = ap (λ c. cond c (let t : Turn = record { made = made; handed = None; ended = None } in t ∷ []) []) (sym k) ∙ made_is h x made (Some b) e
 
 -- ---- marking
 
-pub mark-next : (f : Turn → Turn) (xs ys : List Turn) (i : ℕ) (d r : Turn) → ys ≡ map f (take i xs) ++ drop i xs → i < length xs → i < length ys → r ≡ f (get_or ys i d)
+pub mark_next : (f : Turn → Turn) (xs ys : List Turn) (i : ℕ) (d r : Turn) → ys ≡ map f (take i xs) ++ drop i xs → i < length xs → i < length ys → r ≡ f (get_or ys i d)
     → set ys i r ≡ map f (take (i + 1) xs) ++ drop (i + 1) xs
-mark-next f xs ys i d r e lt below k =
+mark_next f xs ys i d r e lt below k =
     ap (λ t. set ys i t) k ∙ map_over_more f xs ys i (get_or ys i d) lt e (get_or_default ys i d (get_or ys i d) below)
 
 -- ---- one step more
 
-pub turns-last : (o : ObjectId) (es : List Entry) (s : Space) (ts : List Turn) (e : Entry)
+pub turns_last : (o : ObjectId) (es : List Entry) (s : Space) (ts : List Turn) (e : Entry)
     → turns_from o s ts (es ++ e ∷ []) ≡ next_turns o (after s es).steps (next (after s es) e).buffers (turns_from o s ts es)
-turns-last o [] s ts e = refl
-turns-last o (x ∷ es) s ts e = turns-last o es (next s x) (next_turns o s.steps (next s x).buffers ts) e
+turns_last o [] s ts e = refl
+turns_last o (x ∷ es) s ts e = turns_last o es (next s x) (next_turns o s.steps (next s x).buffers ts) e
 
-pub turns-next : (o : ObjectId) (h : History) (e : Entry) → turns_on o (with_entry h e) ≡ next_turns o (length h.entries) (space_after (with_entry h e)).buffers (turns_on o h)
+pub turns_next : (o : ObjectId) (h : History) (e : Entry) → turns_on o (with_entry h e) ≡ next_turns o (length h.entries) (space_after (with_entry h e)).buffers (turns_on o h)
 unfolding turns_on space_after
-turns-next o h e = search (arith, turns-last, always-steps, after-append)
+turns_next o h e = search (arith, turns_last, always_steps, after_append)
 
-pub turns-noted : (o : ObjectId) (g k : History) (e : Entry) (place : ℕ) (ts us : List Turn) → k ≡ with_entry g e → place ≡ length g.entries → ts ≡ turns_on o g
+pub turns_noted : (o : ObjectId) (g k : History) (e : Entry) (place : ℕ) (ts us : List Turn) → k ≡ with_entry g e → place ≡ length g.entries → ts ≡ turns_on o g
     → us ≡ next_turns o place (space_after k).buffers ts → us ≡ turns_on o k
-turns-noted o g k e place ts us at p t u = search (arith, turns-next)
+turns_noted o g k e place ts us at p t u = search (arith, turns_next)
 
-pub turns-none : (o : ObjectId) (seats : ℕ) → turns_on o (record { seats = seats; entries = [] }) ≡ []
+pub turns_none : (o : ObjectId) (seats : ℕ) → turns_on o (record { seats = seats; entries = [] }) ≡ []
 unfolding turns_on
-turns-none o seats = refl
+turns_none o seats = refl

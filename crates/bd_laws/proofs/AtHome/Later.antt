@@ -5,15 +5,15 @@ use Rattle.bd_laws.proofs.words.Types.{ObjectId, Process, Thread, Object, Refere
 use Rattle.bd_laws.proofs.words.Space.{Space, thread_in, hands_out, is_asking, is_shaking, assign_numbers, owe, closed, follow, notify, work_goes, deaths_go, objects_go, names_go, without_buffer, ask, drop_asked, acknowledge, with_looping, read_by, thread_goes, threads_go, without_process, tell_deaths, with_thread, with_process, with_manager, with_spam_detection, handed_buffers, serve, hand_out, is_made_at, buffer_taken, is_call, handshakes}
 use Rattle.bd_space.specs.declared.space.WorkKind.TheVariants as work
 use Rattle.bd_laws.proofs.words.Laws.{In, Pairs, OtherSeat, Homed, IsInWindows, OfOthers}
-use Rattle.bd_laws.proofs.Lists.{in-append, in-push, in-left, in-filter, filter-in, in-without, in-map, in-changed, changed-in, find-some, pairs-push, pairs-filter, pairs-changed}
-use Rattle.bd_laws.proofs.Tests.{not-true}
-use Rattle.bd_laws.proofs.Machine.Deaths.{KeptOnDeaths, on-kept, on-told, on-mapped, on-commands}
+use Rattle.bd_laws.proofs.Lists.{in_append, in_push, in_left, in_filter, filter_in, in_without, in_map, in_changed, changed_in, find_some, pairs_push, pairs_filter, pairs_changed}
+use Rattle.bd_laws.proofs.Tests.{not_true}
+use Rattle.bd_laws.proofs.Machine.Deaths.{KeptOnDeaths, on_kept, on_told, on_mapped, on_commands}
 use Rattle.bd_laws.proofs.Machine.EveryStep.{Keeps}
 use Rattle.bd_laws.proofs.Machine.Table.{Carried as Calls}
-use Rattle.bd_laws.proofs.Machine.Following.{ends-by, threads-by}
-use Rattle.bd_laws.proofs.FollowingIsLocal.Handshakes.{is-handshake}
-use Rattle.bd_laws.proofs.IsInTurn.OneWay.{Less, owe-less, follow-less}
-use Rattle.bd_laws.proofs.OnPaths.PathWords.{caller-stays}
+use Rattle.bd_laws.proofs.Machine.Following.{ends_by, threads_by}
+use Rattle.bd_laws.proofs.FollowingIsLocal.Handshakes.{is_a_handshake}
+use Rattle.bd_laws.proofs.IsInTurn.OneWay.{Less, owe_less, follow_less}
+use Rattle.bd_laws.proofs.OnPaths.PathWords.{caller_stays}
 
 -- no more buffers, and each for the same receiver
 abbrev Received : List Buffer → List Buffer → Type 0
@@ -40,16 +40,16 @@ pub record Later (z y : Space) : Type 0 where
   pub seats : Pairs OtherSeat y.threads → Pairs OtherSeat z.threads
   pub readers : (w : Work) (b : ℕ) (t : Thread) → In w z.todo → hands_out w.kind ≡ Some b → w.list ≡ OfThread t.seat → In t y.threads → Stays z.threads t
 
-same-buffers : (bs : List Buffer) → Received bs bs
-same-buffers bs c l = (c, l, refl, refl)
+same_buffers : (bs : List Buffer) → Received bs bs
+same_buffers bs c l = (c, l, refl, refl)
 
-same-frames : (fs : List Frame) → Called fs fs
-same-frames fs f l = (f, l, refl, λ t c. c)
+same_frames : (fs : List Frame) → Called fs fs
+same_frames fs f l = (f, l, refl, λ t c. c)
 
 -- ---- what rests on it
 
-pub later-home : (n : ℕ) (z y : Space) → Later z y → Homed n y.threads y.references y.buffers y.todo → Homed n z.threads z.references z.buffers z.todo
-later-home n z y l h = record {
+pub later_home : (n : ℕ) (z y : Space) → Later z y → Homed n y.threads y.references y.buffers y.todo → Homed n z.threads z.references z.buffers z.todo
+later_home n z y l h = record {
   seats = l.seats h.seats;
   home = λ w t b i on e.
       let k = h.home w t b (l.due w b i e) on e in
@@ -63,27 +63,27 @@ later-home n z y l h = record {
   carried = λ r b q m c. h.carried r b q (l.carried r b q m c) c;
 }
 
-pub later-windows : (z y : Space) → Later z y → IsInWindows y → IsInWindows z
-later-windows z y l h r c q i m e = let b = l.buffers c m in sym b.3 ∙ h r b.0 q (l.carried r c.made q i e) b.1 (e ∙ ap (λ n. Carried n q) (sym b.2))
+pub later_windows : (z y : Space) → Later z y → IsInWindows y → IsInWindows z
+later_windows z y l h r c q i m e = let b = l.buffers c m in sym b.3 ∙ h r b.0 q (l.carried r c.made q i e) b.1 (e ∙ ap (λ n. Carried n q) (sym b.2))
 
-pub later-others : (z y : Space) → Later z y → OfOthers y → OfOthers z
-later-others z y l h w f t i e on m c = let g = l.frames f m in h w g.0 t (l.due w f.made i (ap hands_out e)) (e ∙ ap work.Call (sym g.2)) on g.1 (g.3 t c)
+pub later_others : (z y : Space) → Later z y → OfOthers y → OfOthers z
+later_others z y l h w f t i e on m c = let g = l.frames f m in h w g.0 t (l.due w f.made i (ap hands_out e)) (e ∙ ap work.Call (sym g.2)) on g.1 (g.3 t c)
 
 -- ---- the parts of a step
 
 -- where threads stay as they are
-on-threads : (z y : Space) → z.threads ≡ y.threads → Handing z.todo y.todo → Carries z.references y.references → Received z.buffers y.buffers → Called z.frames y.frames → Later z y
-on-threads z y ts due carried buffers frames = search arith
+on_threads : (z y : Space) → z.threads ≡ y.threads → Handing z.todo y.todo → Carries z.references y.references → Received z.buffers y.buffers → Called z.frames y.frames → Later z y
+on_threads z y ts due carried buffers frames = search arith
 
-beside-later : (z : Space) (qs : List Process) (m : Option ObjectId) (os : List Object) (rs : List Reference) (ns : List Name) (ds : List DeathNotification) → Carries rs z.references
+beside_later : (z : Space) (qs : List Process) (m : Option ObjectId) (os : List Object) (rs : List Reference) (ns : List Name) (ds : List DeathNotification) → Carries rs z.references
     → Later (record z { processes = qs; manager = m; objects = os; references = rs; names = ns; deaths = ds }) z
-beside-later z qs m os rs ns ds k = on-threads _ z refl (λ w b l e. l) k (same-buffers z.buffers) (same-frames z.frames)
+beside_later z qs m os rs ns ds k = on_threads _ z refl (λ w b l e. l) k (same_buffers z.buffers) (same_frames z.frames)
 
-same-later : (z : Space) → Later z z
-same-later z = beside-later z _ _ _ _ _ _ (λ r b q l c. l)
+same_later : (z : Space) → Later z z
+same_later z = beside_later z _ _ _ _ _ _ (λ r b q l c. l)
 
-pub later-trans : (z y x : Space) → Later z y → Later y x → Later z x
-later-trans z y x h k = record {
+pub later_trans : (z y x : Space) → Later z y → Later y x → Later z x
+later_trans z y x h k = record {
   due = λ w b l e. k.due w b (h.due w b l e) e;
   carried = λ r b q l c. k.carried r b q (h.carried r b q l c) c;
   buffers = λ c l. let b = h.buffers c l in let a = k.buffers b.0 b.1 in (a.0, a.1, a.2 ∙ b.2, a.3 ∙ b.3);
@@ -95,28 +95,28 @@ later-trans z y x h k = record {
 }
 
 -- what touches neither threads, references nor frames
-less-later : (z y : Space) → Less z y → z.threads ≡ y.threads → z.references ≡ y.references → z.frames ≡ y.frames → Later z y
-less-later z y l ts rs fs =
-    on-threads z y ts l.due (λ r b q i c. subst (In r) rs i) (λ c i. same-buffers y.buffers c (l.buffers c i)) (subst (λ gs. Called gs y.frames) (sym fs) (same-frames y.frames))
+less_later : (z y : Space) → Less z y → z.threads ≡ y.threads → z.references ≡ y.references → z.frames ≡ y.frames → Later z y
+less_later z y l ts rs fs =
+    on_threads z y ts l.due (λ r b q i c. subst (In r) rs i) (λ c i. same_buffers y.buffers c (l.buffers c i)) (subst (λ gs. Called gs y.frames) (sym fs) (same_frames y.frames))
 
-pub owe-later : (z : Space) (list : TodoList) (kind : WorkKind) → hands_out kind ≡ None → Later (owe z list kind) z
+pub owe_later : (z : Space) (list : TodoList) (kind : WorkKind) → hands_out kind ≡ None → Later (owe z list kind) z
 unfolding owe
-owe-later z list kind none = less-later _ z (owe-less z list kind none) refl refl refl
+owe_later z list kind none = less_later _ z (owe_less z list kind none) refl refl refl
 
-pub closed-later : (z : Space) (made : ℕ) → Later (closed z made) z
+pub closed_later : (z : Space) (made : ℕ) → Later (closed z made) z
 unfolding closed
-closed-later z made = on-threads _ z refl (λ w b l e. l) (λ r b q l c. l) (same-buffers z.buffers) (λ f l. same-frames z.frames f (in-filter _ f z.frames l).0)
+closed_later z made = on_threads _ z refl (λ w b l e. l) (λ r b q l c. l) (same_buffers z.buffers) (λ f l. same_frames z.frames f (in_filter _ f z.frames l).0)
 
 -- where processes and threads alone change
-seats-later : (z : Space) (qs : List Process) (ts : List Thread) → (Pairs OtherSeat z.threads → Pairs OtherSeat ts) → ((t : Thread) → In t z.threads → Stays ts t)
+seats_later : (z : Space) (qs : List Process) (ts : List Thread) → (Pairs OtherSeat z.threads → Pairs OtherSeat ts) → ((t : Thread) → In t z.threads → Stays ts t)
     → Later (record z { processes = qs; threads = ts }) z
-seats-later z qs ts seats stay = search arith
+seats_later z qs ts seats stay = search arith
 
-looping-later : (z : Space) (seat : ℕ) (looping : Bool) → Later (with_looping z seat looping) z
+looping_later : (z : Space) (seat : ℕ) (looping : Bool) → Later (with_looping z seat looping) z
 unfolding with_looping
-looping-later z seat looping =
-    seats-later z _ _ (pairs-changed OtherSeat mine set (λ x y d e. d (sym (at (x.seat == seat) x).0 ∙ e ∙ (at (y.seat == seat) y).0)) z.threads)
-    (λ t i. let k = at (t.seat == seat) t in (_, changed-in mine set t z.threads i, k.0, k.1))
+looping_later z seat looping =
+    seats_later z _ _ (pairs_changed OtherSeat mine set (λ x y d e. d (sym (at (x.seat == seat) x).0 ∙ e ∙ (at (y.seat == seat) y).0)) z.threads)
+    (λ t i. let k = at (t.seat == seat) t in (_, changed_in mine set t z.threads i, k.0, k.1))
   where
     mine : Thread → Bool
     mine t = t.seat == seat
@@ -127,23 +127,23 @@ looping-later z seat looping =
     at : (q : Bool) (t : Thread) → (let u : Thread = cond q (record t { looping = looping }) t in (u.seat ≡ t.seat) × (u.process ≡ t.process))
     at q t = search arith
 
-opened-later : (z : Space) (qs : List Process) (seat p : ℕ) → thread_in z.threads seat ≡ None
+opened_later : (z : Space) (qs : List Process) (seat p : ℕ) → thread_in z.threads seat ≡ None
     → Later (record z { processes = qs; threads = z.threads ++ record { made = z.steps; seat = seat; process = p; looping = false } ∷ [] }) z
-opened-later z qs seat p free =
-    seats-later z _ _ (λ h. pairs-push OtherSeat _ z.threads h (λ t l e. let some = find-some (λ (t : Thread). t.seat == seat) t z.threads l (eq-eqb t.seat seat e) in absurd (cc)))
-    (λ t i. (t, in-left t z.threads _ i, refl, refl))
+opened_later z qs seat p free =
+    seats_later z _ _ (λ h. pairs_push OtherSeat _ z.threads h (λ t l e. let some = find_some (λ (t : Thread). t.seat == seat) t z.threads l (eq-eqb t.seat seat e) in absurd (cc)))
+    (λ t i. (t, in_left t z.threads _ i, refl, refl))
 
-pub read-later : (z : Space) (seat : ℕ) (ws : List Work) → Later (read_by z seat ws) z
+pub read_later : (z : Space) (seat : ℕ) (ws : List Work) → Later (read_by z seat ws) z
 unfolding read_by
-read-later z seat ws =
-    on-threads _ z refl (λ w b l e. (in-filter _ w z.todo l).0)
-    (λ r b q l c. elim (in-append r z.references (handshakes z 0 ws) l) [ inl i ↦ i | inr i ↦ (let e = is-handshake z ws 0 r i in absurd (cc)) ]) (handed (buffer_taken z ws))
+read_later z seat ws =
+    on_threads _ z refl (λ w b l e. (in_filter _ w z.todo l).0)
+    (λ r b q l c. elim (in_append r z.references (handshakes z 0 ws) l) [ inl i ↦ i | inr i ↦ (let e = is_a_handshake z ws 0 r i in absurd (cc)) ]) (handed (buffer_taken z ws))
     (λ f l.
-    let g = in-changed called-in (serve seat) f z.frames l in
-    let k = served (called-in g.0) g.0 in (g.0, g.1, sym k.0 ∙ sym (ap (λ (x : Frame). x.made) g.2), λ t c. sym k.1 ∙ sym (ap (λ (x : Frame). x.caller) g.2) ∙ c))
+    let g = in_changed called_in (serve seat) f z.frames l in
+    let k = served (called_in g.0) g.0 in (g.0, g.1, sym k.0 ∙ sym (ap (λ (x : Frame). x.made) g.2), λ t c. sym k.1 ∙ sym (ap (λ (x : Frame). x.caller) g.2) ∙ c))
   where
-    called-in : Frame → Bool
-    called-in f = list_any (λ (w : Work). is_call f.made w.kind) ws
+    called_in : Frame → Bool
+    called_in f = list_any (λ (w : Work). is_call f.made w.kind) ws
 
     served : (c : Bool) (f : Frame) → ((cond c (serve seat f) f).made ≡ f.made) × ((cond c (serve seat f) f).caller ≡ f.caller)
     served c f = search arith
@@ -152,57 +152,57 @@ read-later z seat ws =
     at e b c is = search arith
 
     handed : (o : Option Buffer) → Received (handed_buffers z.buffers o) z.buffers
-    handed None c l = same-buffers z.buffers c l
-    handed (Some b) c l = let x = in-changed (is_made_at b.made) hand_out c z.buffers l in let e = at (is_made_at b.made x.0) x.0 c x.2 in (x.0, x.1, e.0, e.1)
+    handed None c l = same_buffers z.buffers c l
+    handed (Some b) c l = let x = in_changed (is_made_at b.made) hand_out c z.buffers l in let e = at (is_made_at b.made x.0) x.0 c x.2 in (x.0, x.1, e.0, e.1)
 
-left-later : (z : Space) (seat : ℕ) → Later (thread_goes z seat) z
+left_later : (z : Space) (seat : ℕ) → Later (thread_goes z seat) z
 unfolding thread_goes
-left-later z seat = search (arith, in-filter, in-map, caller-stays, pairs-filter, not-true, filter-in, eq-eqb, eqb-true)
+left_later z seat = search (arith, in_filter, in_map, caller_stays, pairs_filter, not_true, filter_in, eq-eqb, eqb-true)
 
-without-later : (z : Space) (p : ℕ) → Later (without_process z p) z
+without_later : (z : Space) (p : ℕ) → Later (without_process z p) z
 unfolding without_process
-without-later z p = search (arith, in-filter, same-buffers, in-map)
+without_later z p = search (arith, in_filter, same_buffers, in_map)
 
-deaths-later : (z : Space) → KeptOnDeaths (λ y. Later y z)
-deaths-later z = search (arith, later-trans, owe-later)
+deaths_later : (z : Space) → KeptOnDeaths (λ y. Later y z)
+deaths_later z = search (arith, later_trans, owe_later)
 
-ended-later : (z : Space) (p : ℕ) → Later (tell_deaths (without_process (threads_go z p) p) p) z
-ended-later = ends-by Later later-trans (threads-by Later same-later later-trans left-later) without-later (λ z p. on-told _ (deaths-later z) z p (same-later z))
+ended_later : (z : Space) (p : ℕ) → Later (tell_deaths (without_process (threads_go z p) p) p) z
+ended_later = ends_by Later later_trans (threads_by Later same_later later_trans left_later) without_later (λ z p. on_told _ (deaths_later z) z p (same_later z))
 
-one-carries : (rs : List Reference) (x : Reference) → ((b q : ℕ) → x.holder ≡ Carried b q → ⊥) → Carries (rs ++ x ∷ []) rs
-one-carries rs x none r b q l c = search (arith, in-push)
+one_carries : (rs : List Reference) (x : Reference) → ((b q : ℕ) → x.holder ≡ Carried b q → ⊥) → Carries (rs ++ x ∷ []) rs
+one_carries rs x none r b q l c = search (arith, in_push)
 
 -- ---- every step
 
-pub later-keeps : (s : Space) (seat : ℕ) (x : Step) (F : Space → Type 0) → ((z y : Space) → Later z y → F y → F z) → F s → Calls s seat x F → Keeps s seat x F F
+pub later_keeps : (s : Space) (seat : ℕ) (x : Step) (F : Space → Type 0) → ((z y : Space) → Later z y → F y → F z) → F s → Calls s seat x F → Keeps s seat x F F
 unfolding with_thread with_process with_manager with_spam_detection without_buffer ask assign_numbers drop_asked acknowledge deaths_go follow names_go notify objects_go work_goes
-later-keeps s seat x F later h k =
+later_keeps s seat x F later h k =
     let from : (z : Space) → Later z s → F z = λ z l. later z s l h in
     record {
       set_up = record {
         same = h;
-        opened = λ pid euid window free. from _ (opened-later s _ seat s.steps free);
-        attached = λ p free. from _ (opened-later s s.processes seat p free);
-        managed = λ a e b. from _ (beside-later s _ _ _ _ _ _ (one-carries s.references _ (λ b q e. cc)));
-        marked = λ p on. from _ (beside-later s _ s.manager s.objects s.references s.names s.deaths (λ r b q l c. l));
+        opened = λ pid euid window free. from _ (opened_later s _ seat s.steps free);
+        attached = λ p free. from _ (opened_later s s.processes seat p free);
+        managed = λ a e b. from _ (beside_later s _ _ _ _ _ _ (one_carries s.references _ (λ b q e. cc)));
+        marked = λ p on. from _ (beside_later s _ s.manager s.objects s.references s.names s.deaths (λ r b q l c. l));
       };
       changes = record {
         transacts = k.transacts;
         replies = k.replies;
-        frees = λ p ptr b e t. from _ (on-threads _ s refl (λ w b l e. l) (λ r b q l c. (in-filter _ r s.references l).0)
-            (λ c l. same-buffers s.buffers c (in-filter _ c s.buffers l).0) (same-frames s.frames));
-        asks = λ a n strong o e i t. from _ (beside-later s _ _ _ _ _ _ (one-carries s.references _ (λ b q e. cc)));
-        drops = λ p o strong. from _ (beside-later s _ _ _ _ _ _ (λ r b q l c. in-without (is_asking p o strong) r s.references l));
-        acknowledges = λ o strong i. from _ (beside-later s _ _ _ _ _ _ (λ r b q l c. in-without (is_shaking o strong) r s.references l));
-        loops = λ a looping e. from _ (looping-later s a.thread.seat looping);
-        on_deaths = on-commands s F (on-mapped s _ F from (on-kept _ (deaths-later s) s (same-later s)));
+        frees = λ p ptr b e t. from _ (on_threads _ s refl (λ w b l e. l) (λ r b q l c. (in_filter _ r s.references l).0)
+            (λ c l. same_buffers s.buffers c (in_filter _ c s.buffers l).0) (same_frames s.frames));
+        asks = λ a n strong o e i t. from _ (beside_later s _ _ _ _ _ _ (one_carries s.references _ (λ b q e. cc)));
+        drops = λ p o strong. from _ (beside_later s _ _ _ _ _ _ (λ r b q l c. in_without (is_asking p o strong) r s.references l));
+        acknowledges = λ o strong i. from _ (beside_later s _ _ _ _ _ _ (λ r b q l c. in_without (is_shaking o strong) r s.references l));
+        loops = λ a looping e. from _ (looping_later s a.thread.seat looping);
+        on_deaths = on_commands s F (on_mapped s _ F from (on_kept _ (deaths_later s) s (same_later s)));
         reads = k.reads;
-        leaves = λ a e. from _ (left-later s a.thread.seat);
-        ends = λ a e. from _ (ended-later s a.process.made);
+        leaves = λ a e. from _ (left_later s a.thread.seat);
+        ends = λ a e. from _ (ended_later s a.process.made);
         ripens = k.ripens;
       };
-      follows = λ z. later _ z (search (arith, less-later, follow-less));
-      closes = λ z made. later _ z (closed-later z made);
-      refuses = λ z t r. later _ z (owe-later z (OfThread t) (work.Refusal r) refl);
-      tells = λ z t r. later _ z (owe-later z (OfThread t) (work.Verdict r) refl);
+      follows = λ z. later _ z (search (arith, less_later, follow_less));
+      closes = λ z made. later _ z (closed_later z made);
+      refuses = λ z t r. later _ z (owe_later z (OfThread t) (work.Refusal r) refl);
+      tells = λ z t r. later _ z (owe_later z (OfThread t) (work.Verdict r) refl);
     }

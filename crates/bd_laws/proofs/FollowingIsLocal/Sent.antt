@@ -5,24 +5,24 @@ use Rattle.bd_laws.proofs.words.Types.{TransactionData, ObjectId, Object, Refere
 use Rattle.bd_laws.proofs.words.Space.{buffer_of, same, is_some_and, Space, object_in, held_in, strong_in, is_named_in, with_name, assign_numbers, with_work, is_call, wants_notice, has_notice_in, is_name_of, object_of_item, Delivery, delivered, own_notices, add_buffer, known_by, refer, make_objects, buffer_references, ObjectTest, no_name, objects_of_items, lives_in, owned_in, stays_in, is_notice, add_notice, withdraw_notice}
 use Rattle.bd_space.specs.declared.space.WorkKind.TheVariants as work
 use Rattle.bd_laws.proofs.words.Laws.{In, KeptBefore, Elsewhere, IsFollowed}
-use Rattle.bd_laws.proofs.Lists.{in-push, in-filter, filter-in, any-found, any-in, find-in, fold-keeps, in-append}
-use Rattle.bd_laws.proofs.Machine.Adding.{Missing, notice-keeps}
-use Rattle.bd_laws.proofs.Tests.{both, same-eq, eq-same, and-both, to-false}
-use Rattle.bd_laws.proofs.KeptBefore.ObjectsKept.{buffer-reference}
-pub use Rattle.bd_laws.proofs.FollowingIsLocal.Finding.{any-none}
-use Rattle.bd_laws.proofs.FollowingIsLocal.Finding.{any-more, any-same, any-none, find-left, found-still}
+use Rattle.bd_laws.proofs.Lists.{in_push, in_filter, filter_in, any_found, any_in, find_in, fold_keeps, in_append}
+use Rattle.bd_laws.proofs.Machine.Adding.{Missing, notice_keeps}
+use Rattle.bd_laws.proofs.Tests.{both, same_eq, eq_same, and_both, to_false}
+use Rattle.bd_laws.proofs.KeptBefore.ObjectsKept.{buffer_reference}
+pub use Rattle.bd_laws.proofs.FollowingIsLocal.Finding.{any_none}
+use Rattle.bd_laws.proofs.FollowingIsLocal.Finding.{any_more, any_same, any_none, find_left, found_still}
 
 -- ---- names that come are named
 
-pub with_names-named : (manager : Option ObjectId) (objects : List Object) (references : List Reference) (p : ℕ) (os : List ObjectId) (names : List Name) (m : Name)
+pub with_names_named : (manager : Option ObjectId) (objects : List Object) (references : List Reference) (p : ℕ) (os : List ObjectId) (names : List Name) (m : Name)
     → In m (fold (with_name manager objects references p) names os) → In m names ⊎ (is_named_in objects references m.process m.object ≡ true)
-with_names-named manager objects references p [] names m l = inl l
-with_names-named manager objects references p (o ∷ os) names m l = search (arith, with_names-named manager objects references p os (with_name manager objects references p names o) m l, in-push)
+with_names_named manager objects references p [] names m l = inl l
+with_names_named manager objects references p (o ∷ os) names m l = search (arith, with_names_named manager objects references p os (with_name manager objects references p names o) m l, in_push)
 
 -- names that there were are there still
-pub name-stays : (manager : Option ObjectId) (objects : List Object) (references : List Reference) (p : ℕ) (names : List Name) (o : ObjectId) (q : ℕ) (i : ObjectId)
+pub name_stays : (manager : Option ObjectId) (objects : List Object) (references : List Reference) (p : ℕ) (names : List Name) (o : ObjectId) (q : ℕ) (i : ObjectId)
     → is_name_of names q i ≡ true → is_name_of (with_name manager objects references p names o) q i ≡ true
-name-stays manager objects references p names o q i h = search (arith, any-more)
+name_stays manager objects references p names o q i h = search (arith, any_more)
 
 -- ---- objects and references that come: of an older object nothing is pending, where references say of it what they said
 
@@ -33,62 +33,62 @@ module _ (b : ObjectTest) (s : Space) (h : IsFollowed s) (kept : KeptBefore s) (
   abbrev pub references : List Reference
   references = s.references ++ more
 
-  named-still : (m : Name) → In m s.names → is_named_in objects references m.process m.object ≡ true
-  named-still m l =
+  named_still : (m : Name) → In m s.names → is_named_in objects references m.process m.object ≡ true
+  named_still m l =
       let t = both (not (owned_in s.objects m.process m.object)) _ (h.names m l refl) in
       let r = kept.named m l in
       let x = kept.kept.refs r.0 r.1 in
       let lt = kept.kept.below x.0 x.1 in
       let place : x.0.id.place ≡ m.object.place = ap (λ (i : ObjectId). i.place) (x.2 ∙ r.2) in
-      let none : owned_in objects m.process m.object ≡ owned_in s.objects m.process m.object = any-none _ s.objects made (λ y i. to-false _ (λ e.
-      let is : y.id.place ≡ m.object.place = ap (λ (i : ObjectId). i.place) (same-eq y.id m.object (both (same y.id m.object) _ e).0) in
+      let none : owned_in objects m.process m.object ≡ owned_in s.objects m.process m.object = any_none _ s.objects made (λ y i. to_false _ (λ e.
+      let is : y.id.place ≡ m.object.place = ap (λ (i : ObjectId). i.place) (same_eq y.id m.object (both (same y.id m.object) _ e).0) in
       let at = new y i in absurd (omega arith))) in
-      and-both (not (owned_in objects m.process m.object)) _ (rw none t.0) (search (arith, list_any-append, t.1))
+      and_both (not (owned_in objects m.process m.object)) _ (rw none t.0) (search (arith, list_any-append, t.1))
 
   -- of an object that isn't touched the references say the same, and for one that comes nothing is to be done
-  pub come-elsewhere : ((x : Object) → In x s.objects → b x.id ≡ false → (held_in references x.id ≡ held_in s.references x.id) × (strong_in references x.id ≡ strong_in s.references x.id))
+  pub come_elsewhere : ((x : Object) → In x s.objects → b x.id ≡ false → (held_in references x.id ≡ held_in s.references x.id) × (strong_in references x.id ≡ strong_in s.references x.id))
       → ((x : Object) → In x made → b x.id ≡ false → (stays_in s.processes references x ≡ true) × (wants_notice s.processes references x ≡ false)) → (manager : Option ObjectId)
       → Elsewhere no_name b (record s { manager = manager; objects = objects; references = references })
-  come-elsewhere untied comes manager = record {
-    names = λ m l none. named-still m l;
-    objects = λ x l none. elim (in-append x s.objects made l) [
+  come_elsewhere untied comes manager = record {
+    names = λ m l none. named_still m l;
+    objects = λ x l none. elim (in_append x s.objects made l) [
       | inl i ↦ ap (λ c. c || (lives_in s.processes x.owner && (x.told_weak || x.told_strong))) (untied x i none).0 ∙ h.objects x i refl
       | inr i ↦ (comes x i none).0
     ];
     deaths = λ d l none. h.deaths d l refl;
     notices = λ w o l e none.
         let due = h.notices w o l e refl in
-        ap (λ (f : Option Object). is_some_and f (wants_notice s.processes references)) (find-left (λ (x : Object). same x.id o) s.objects made _ due)
-        ∙ found-still s.objects o _ _ (λ x i is wants. wants-same x i (ap b is ∙ none) ∙ wants) due;
+        ap (λ (f : Option Object). is_some_and f (wants_notice s.processes references)) (find_left (λ (x : Object). same x.id o) s.objects made _ due)
+        ∙ found_still s.objects o _ _ (λ x i is wants. wants_same x i (ap b is ∙ none) ∙ wants) due;
     tellings = h.tellings;
-    made = λ x l none wants. elim (in-append x s.objects made l) [
-      | inl i ↦ h.made x i refl (sym (wants-same x i none) ∙ wants)
+    made = λ x l none wants. elim (in_append x s.objects made l) [
+      | inl i ↦ h.made x i refl (sym (wants_same x i none) ∙ wants)
       | inr i ↦ (let no = (comes x i none).1 in absurd (cc))
     ];
   }
     where
-      wants-same : (x : Object) → In x s.objects → b x.id ≡ false → wants_notice s.processes references x ≡ wants_notice s.processes s.references x
-      wants-same x l none = search arith
+      wants_same : (x : Object) → In x s.objects → b x.id ≡ false → wants_notice s.processes references x ≡ wants_notice s.processes s.references x
+      wants_same x l none = search arith
 
 -- ---- Notices of the sender's own: standing ones of sent objects go first, then missing ones of sent objects come
 
 module _ (P R : List Work → Type 0) (z : Space) (seat : ℕ) (items : List Item) where
-  pub sent_notices-keep : ((i : Item) (todo : List Work) → In i items → P todo → P (filter (λ (w : Work). not (is_notice i.object w.kind)) todo)) → ((todo : List Work) → P todo → R todo)
+  pub sent_notices_keep : ((i : Item) (todo : List Work) → In i items → P todo → P (filter (λ (w : Work). not (is_notice i.object w.kind)) todo)) → ((todo : List Work) → P todo → R todo)
       → ((i : Item) (todo : List Work) (x : Object) → In i items → object_in z.objects i.object ≡ Some x → Missing z.processes z.references todo x → R todo
       → R (with_work z.steps todo (OfThread seat) (work.Notice x.id)))
       → P z.todo → R (own_notices z seat items).todo
   unfolding own_notices
-  sent_notices-keep takes turns makes h =
-      fold-keeps R (add_notice z seat) items (λ todo i l. search (arith, notice-keeps)) _
-      (turns _ (fold-keeps P (withdraw_notice z.objects) items (λ todo i l. search arith) z.todo h))
+  sent_notices_keep takes turns makes h =
+      fold_keeps R (add_notice z seat) items (λ todo i l. search (arith, notice_keeps)) _
+      (turns _ (fold_keeps P (withdraw_notice z.objects) items (λ todo i l. search arith) z.todo h))
 
 -- ---- the whole delivery
 
-pub strong-held : (references : List Reference) (o : ObjectId) → strong_in references o ≡ true → held_in references o ≡ true
-strong-held references o e = search (arith, any-found, any-in)
+pub strong_held : (references : List Reference) (o : ObjectId) → strong_in references o ≡ true → held_in references o ≡ true
+strong_held references o e = search (arith, any_found, any_in)
 
-or-more : (a b c : Bool) → (b ≡ true → c ≡ true) → (a || b) ≡ true → (a || c) ≡ true
-or-more a b c k h = search arith
+or_more : (a b c : Bool) → (b ≡ true → c ≡ true) → (a || b) ≡ true → (a || c) ≡ true
+or_more a b c k h = search arith
 
 -- what has been checked of a delivery: its objects are there or made by it, and somebody holds its target strongly
 pub record Delivers (s : Space) (v : Delivery) : Type 0 where
@@ -109,10 +109,10 @@ module _ (s : Space) (v : Delivery) (h : IsFollowed s) (kept : KeptBefore s) (k 
   -- each new reference is a sent object's or the target's
   comes : (o : ObjectId) → is_sent o ≡ false → (r : Reference) → In r (buffer_references s.steps v.receiver.made 0 v.sending.items v.target) → same r.object o ≡ true
       → strong_in s.references o ≡ true
-  comes o none r l e = search (arith, buffer-reference, any-in)
+  comes o none r l e = search (arith, buffer_reference, any_in)
 
   come : (manager : Option ObjectId) → Elsewhere no_name is_sent (record s { manager = manager; objects = all_objects; references = all_references })
-  come = come-elsewhere is_sent s h kept v.sending.made _ k.new (λ x l. search (arith, any-same, strong-held, comes, both)) (λ x l none. (let yes = k.sent x l in absurd (cc)))
+  come = come_elsewhere is_sent s h kept v.sending.made _ k.new (λ x l. search (arith, any_same, strong_held, comes, both)) (λ x l none. (let yes = k.sent x l in absurd (cc)))
 
   -- ---- the Notices of the sender's own
 
@@ -122,35 +122,35 @@ module _ (s : Space) (v : Delivery) (h : IsFollowed s) (kept : KeptBefore s) (k 
     pub calls : (n : ℕ) → list_any (λ (w : Work). is_call n w.kind) s.todo ≡ true → list_any (λ (w : Work). is_call n w.kind) todo ≡ true
     pub has : (o : ObjectId) → is_sent o ≡ false → has_notice_in s.todo o ≡ true → has_notice_in todo o ≡ true
 
-  sent-item : (x : Item) (o : ObjectId) → In x v.sending.items → is_sent o ≡ false → same x.object o ≡ true → ⊥
-  sent-item x o l none e = search (arith, any-in)
+  sent_item : (x : Item) (o : ObjectId) → In x v.sending.items → is_sent o ≡ false → same x.object o ≡ true → ⊥
+  sent_item x o l none e = search (arith, any_in)
 
-  adds-work : (todo : List Work) (list : TodoList) (kind : WorkKind) → ((o : ObjectId) → kind ≡ work.Notice o → is_sent o ≡ false → ⊥) → ((n : ℕ) → kind ≡ work.Death n → ⊥) → Todo todo
+  adds_work : (todo : List Work) (list : TodoList) (kind : WorkKind) → ((o : ObjectId) → kind ≡ work.Notice o → is_sent o ≡ false → ⊥) → ((n : ℕ) → kind ≡ work.Death n → ⊥) → Todo todo
       → Todo (with_work s.steps todo list kind)
-  adds-work todo list kind none never t = search (arith, in-push, any-more)
+  adds_work todo list kind none never t = search (arith, in_push, any_more)
 
-  pub delivered-todo : (a : Actor) (d : TransactionData) → Todo (delivered s a d v).todo
+  pub delivered_todo : (a : Actor) (d : TransactionData) → Todo (delivered s a d v).todo
   unfolding delivered add_buffer known_by assign_numbers refer make_objects
-  delivered-todo a d =
-      sent_notices-keep Todo Todo (add_buffer (known_by s v) (buffer_of (known_by s v) a d v)) a.thread.seat v.sending.items
-      (λ i todo l t. search (arith, in-filter, any-found, any-in, filter-in, to-false, sent-item, eq-same, same-eq)) (λ todo t. t)
-      (λ i todo x l e missing. adds-work todo (OfThread a.thread.seat) (work.Notice x.id)
+  delivered_todo a d =
+      sent_notices_keep Todo Todo (add_buffer (known_by s v) (buffer_of (known_by s v) a d v)) a.thread.seat v.sending.items
+      (λ i todo l t. search (arith, in_filter, any_found, any_in, filter_in, to_false, sent_item, eq_same, same_eq)) (λ todo t. t)
+      (λ i todo x l e missing. adds_work todo (OfThread a.thread.seat) (work.Notice x.id)
       (λ o is none.
-      let id = same-eq x.id i.object (find-in (λ (y : Object). same y.id i.object) x all_objects e).1 in
-      sent-item i o l none (eq-same i.object o (let j : x.id ≡ o = cc in sym id ∙ j)))
+      let id = same_eq x.id i.object (find_in (λ (y : Object). same y.id i.object) x all_objects e).1 in
+      sent_item i o l none (eq_same i.object o (let j : x.id ≡ o = cc in sym id ∙ j)))
       (λ n is. cc)) (record { due = (come s.manager).notices; tells = h.tellings; calls = λ n e. e; has = λ o none e. e })
 
-  pub delivered-elsewhere : (a : Actor) (d : TransactionData) → Elsewhere no_name is_sent (delivered s a d v)
+  pub delivered_elsewhere : (a : Actor) (d : TransactionData) → Elsewhere no_name is_sent (delivered s a d v)
   unfolding delivered own_notices add_buffer known_by assign_numbers refer make_objects
-  delivered-elsewhere a d =
-      let t = delivered-todo a d in
+  delivered_elsewhere a d =
+      let t = delivered_todo a d in
       let e = come s.manager in
       record {
-        names = λ m l none. elim (with_names-named s.manager all_objects all_references v.receiver.made (map object_of_item v.sending.items) s.names m l) [ inl i ↦ e.names m i refl | inr is ↦ is ];
+        names = λ m l none. elim (with_names_named s.manager all_objects all_references v.receiver.made (map object_of_item v.sending.items) s.names m l) [ inl i ↦ e.names m i refl | inr is ↦ is ];
         objects = e.objects;
-        deaths = λ x l none. or-more x.cleared (is_name_of s.names x.process x.object) _ (fold-keeps (λ names. is_name_of names x.process x.object ≡ true)
+        deaths = λ x l none. or_more x.cleared (is_name_of s.names x.process x.object) _ (fold_keeps (λ names. is_name_of names x.process x.object ≡ true)
             (with_name s.manager all_objects all_references v.receiver.made) (map object_of_item v.sending.items)
-            (λ names o i j. name-stays s.manager all_objects all_references v.receiver.made names o x.process x.object j) s.names) (h.deaths x l refl);
+            (λ names o i j. name_stays s.manager all_objects all_references v.receiver.made names o x.process x.object j) s.names) (h.deaths x l refl);
         notices = t.due;
         tellings = t.tells;
         made = λ x l none wants. t.has x.id none (e.made x l none wants);

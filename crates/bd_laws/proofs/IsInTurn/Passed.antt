@@ -4,14 +4,14 @@ use Rattle.bd_laws.proofs.words.Logic.{arith, ◌≡◌, ℕ, ◌==◌, Bool, tr
 use Rattle.bd_laws.proofs.words.Types.{ObjectId, Process, Actor, Object, Buffer, Work, OfProcess}
 use Rattle.bd_laws.proofs.words.Space.{Space, actor, objects_go, stays_in, names_go, assign_numbers, hands_out, follow, notify, work_goes, deaths_go, ask, drop_asked, acknowledge, with_thread, with_process, with_manager, with_spam_detection}
 use Rattle.bd_laws.proofs.words.Laws.{In, Due, On, OnLists}
-use Rattle.bd_laws.proofs.Lists.{in-push, in-filter, find-in}
+use Rattle.bd_laws.proofs.Lists.{in_push, in_filter, find_in}
 use Rattle.bd_laws.proofs.IsInTurn.OneWay.{less_table, HandsNothing, Less}
-use Rattle.bd_laws.proofs.Machine.Table.{notify-by}
+use Rattle.bd_laws.proofs.Machine.Table.{notify_by}
 use Rattle.bd_laws.proofs.Machine.Untouched
 use Rattle.bd_laws.proofs.Machine.Untouched.{Untouched}
-use Rattle.bd_laws.proofs.Checks.{actor-acts}
-use Rattle.bd_laws.proofs.Machine.Following.{follow-by}
-use Rattle.bd_laws.proofs.Machine.Marks.{marked-in}
+use Rattle.bd_laws.proofs.Checks.{actor_acts}
+use Rattle.bd_laws.proofs.Machine.Following.{follow_by}
+use Rattle.bd_laws.proofs.Machine.Marks.{marked_in}
 
 -- a live process
 abbrev pub Lives : List Process → ℕ → Type 0
@@ -44,11 +44,11 @@ pub record Passed (s z : Space) : Type 0 where
   pub to : (o : ObjectId) (b : Buffer) → In b s.buffers → On o b → ((c : Buffer) × In c z.buffers × Became s b c) ⊎ ((b.handed ≡ true) ⊎ Ended z b.receiver)
   pub lists : (w : Work) (c : Buffer) (o : ObjectId) → In w z.todo → hands_out w.kind ≡ Some c.made → In c z.buffers → On o c → w.list ≡ OfProcess c.receiver
 
-pub same-buffer : (s : Space) (b : Buffer) → Became s b b
-same-buffer s b = record { made = refl; receiver = refl; one_way = refl; target = refl; handed = inl refl }
+pub same_buffer : (s : Space) (b : Buffer) → Became s b b
+same_buffer s b = record { made = refl; receiver = refl; one_way = refl; target = refl; handed = inl refl }
 
-pub passed-none : (s : Space) → OnLists s → Passed s s
-passed-none s l = search (arith, same-buffer)
+pub passed_none : (s : Space) → OnLists s → Passed s s
+passed_none s l = search (arith, same_buffer)
 
 -- ---- what comes later in the step
 
@@ -60,11 +60,11 @@ pub record After (z y : Space) : Type 0 where
   pub buffers : z.buffers ≡ y.buffers
   pub due : (w : Work) (m : ℕ) → In w z.todo → hands_out w.kind ≡ Some m → In w y.todo
 
-pub after-trans : (z y x : Space) → After z y → After y x → After z x
-after-trans z y x h k = search (arith, k.steps, h.processes, k.processes, k.objects, h.objects, h.buffers, k.buffers, k.due, h.due)
+pub after_trans : (z y x : Space) → After z y → After y x → After z x
+after_trans z y x h k = search (arith, k.steps, h.processes, k.processes, k.objects, h.objects, h.buffers, k.buffers, k.due, h.due)
 
-pub untouched-after : (z y : Space) → Untouched z y → Less z y → After z y
-untouched-after z y u l = record { steps = u.steps; processes = u.processes; objects = λ x i. subst (In x) u.objects i; buffers = u.buffers; due = l.due }
+pub untouched_after : (z y : Space) → Untouched z y → Less z y → After z y
+untouched_after z y u l = record { steps = u.steps; processes = u.processes; objects = λ x i. subst (In x) u.objects i; buffers = u.buffers; due = l.due }
 
 -- what ends at most: nothing is made, and a buffer of a one-way call stays unless its receiver ends
 pub record Going (z y : Space) : Type 0 where
@@ -74,8 +74,8 @@ pub record Going (z y : Space) : Type 0 where
   pub buffers : (c : Buffer) → In c z.buffers → In c y.buffers
   pub stays : (o : ObjectId) (c : Buffer) → In c y.buffers → On o c → In c z.buffers ⊎ Ended z c.receiver
 
-pub going-passed : (s z y : Space) → Going z y → OnLists z → Passed s y → Passed s z
-going-passed s z y g l h = record {
+pub going_passed : (s z y : Space) → Going z y → OnLists z → Passed s y → Passed s z
+going_passed s z y g l h = record {
   steps = g.steps ∙ h.steps;
   processes = λ q i. h.processes q (g.processes q i);
   objects = λ x i. h.objects x (g.objects x i);
@@ -88,59 +88,59 @@ going-passed s z y g l h = record {
   lists = l;
 }
 
-pub passed-after : (s z y : Space) → After z y → Passed s y → Passed s z
-passed-after s z y a h = going-passed s z y (search (arith, a.steps, a.processes, a.objects, a.buffers)) (λ w c o i e j on. h.lists w c o (a.due w c.made i e) e (subst (In c) a.buffers j) on) h
+pub passed_after : (s z y : Space) → After z y → Passed s y → Passed s z
+passed_after s z y a h = going_passed s z y (search (arith, a.steps, a.processes, a.objects, a.buffers)) (λ w c o i e j on. h.lists w c o (a.due w c.made i e) e (subst (In c) a.buffers j) on) h
 
 -- ---- asking and dropping, which touch references and names alone
 
-pub ask-after : (z : Space) (p : ℕ) (o : ObjectId) (strong : Bool) → After (ask z p o strong) z
+pub ask_after : (z : Space) (p : ℕ) (o : ObjectId) (strong : Bool) → After (ask z p o strong) z
 unfolding ask assign_numbers
-ask-after z p o strong = record { steps = refl; processes = refl; objects = λ x i. i; buffers = refl; due = λ w m l e. l }
+ask_after z p o strong = record { steps = refl; processes = refl; objects = λ x i. i; buffers = refl; due = λ w m l e. l }
 
-pub drop_asked-after : (z : Space) (p : ℕ) (o : ObjectId) (strong : Bool) → After (drop_asked z p o strong) z
+pub drop_asked_after : (z : Space) (p : ℕ) (o : ObjectId) (strong : Bool) → After (drop_asked z p o strong) z
 unfolding drop_asked
-drop_asked-after z p o strong = record { steps = refl; processes = refl; objects = λ x i. i; buffers = refl; due = λ w m l e. l }
+drop_asked_after z p o strong = record { steps = refl; processes = refl; objects = λ x i. i; buffers = refl; due = λ w m l e. l }
 
-pub acknowledge-after : (z : Space) (o : ObjectId) (strong : Bool) → After (acknowledge z o strong) z
+pub acknowledge_after : (z : Space) (o : ObjectId) (strong : Bool) → After (acknowledge z o strong) z
 unfolding acknowledge
-acknowledge-after z o strong = record { steps = refl; processes = refl; objects = λ x i. i; buffers = refl; due = λ w m l e. l }
+acknowledge_after z o strong = record { steps = refl; processes = refl; objects = λ x i. i; buffers = refl; due = λ w m l e. l }
 
-pub follow-after : (z : Space) → After (follow z) z
+pub follow_after : (z : Space) → After (follow z) z
 unfolding names_go objects_go deaths_go
-follow-after = follow-by After after-trans (record {
+follow_after = follow_by After after_trans (record {
   names = λ z. record { steps = refl; processes = refl; objects = λ x i. i; buffers = refl; due = λ w m l e. l };
-  objects = λ z. record { steps = refl; processes = refl; objects = λ x i. (in-filter (stays_in z.processes z.references) x z.objects i).0; buffers = refl; due = λ w m l e. l };
+  objects = λ z. record { steps = refl; processes = refl; objects = λ x i. (in_filter (stays_in z.processes z.references) x z.objects i).0; buffers = refl; due = λ w m l e. l };
   deaths = λ z. record { steps = refl; processes = refl; objects = λ x i. i; buffers = refl; due = λ w m l e. l };
-  work = λ z. untouched-after (work_goes z) z (Untouched.work_goes-untouched z) (less_table.sheds z);
-  notices = λ z. untouched-after (notify z) z (Untouched.notify-untouched z) (notify-by Less HandsNothing less_table z);
+  work = λ z. untouched_after (work_goes z) z (Untouched.work_goes-untouched z) (less_table.sheds z);
+  notices = λ z. untouched_after (notify z) z (Untouched.notify-untouched z) (notify_by Less HandsNothing less_table z);
 })
 
 -- ---- opening, managing and marking
 
-pub opened-passed : (s : Space) (seat pid euid window : ℕ) → OnLists s → Passed s (with_thread (with_process s pid euid window) seat s.steps)
+pub opened_passed : (s : Space) (seat pid euid window : ℕ) → OnLists s → Passed s (with_thread (with_process s pid euid window) seat s.steps)
 unfolding with_thread with_process
-opened-passed s seat pid euid window l = search (arith, in-push, same-buffer)
+opened_passed s seat pid euid window l = search (arith, in_push, same_buffer)
 
-pub attached-passed : (s : Space) (seat p : ℕ) → OnLists s → Passed s (with_thread s seat p)
+pub attached_passed : (s : Space) (seat p : ℕ) → OnLists s → Passed s (with_thread s seat p)
 unfolding with_thread
-attached-passed s seat p l = search arith
+attached_passed s seat p l = search arith
 
-pub actor-alive : (s : Space) (seat : ℕ) (a : Actor) → actor s seat ≡ Some a → Lives s.processes a.process.made
-actor-alive s seat a h = (a.process, (actor-acts s seat a h).process, refl)
+pub actor_alive : (s : Space) (seat : ℕ) (a : Actor) → actor s seat ≡ Some a → Lives s.processes a.process.made
+actor_alive s seat a h = (a.process, (actor_acts s seat a h).process, refl)
 
-pub managed-passed : (s : Space) (seat : ℕ) (a : Actor) → actor s seat ≡ Some a → OnLists s → Passed s (with_manager s a.process.made)
+pub managed_passed : (s : Space) (seat : ℕ) (a : Actor) → actor s seat ≡ Some a → OnLists s → Passed s (with_manager s a.process.made)
 unfolding with_manager
-managed-passed s seat a acts l = search (arith, in-push, actor-alive, same-buffer)
+managed_passed s seat a acts l = search (arith, in_push, actor_alive, same_buffer)
 
-pub marked-passed : (s : Space) (p : ℕ) (on : Bool) → OnLists s → Passed s (with_spam_detection s p on)
+pub marked_passed : (s : Space) (p : ℕ) (on : Bool) → OnLists s → Passed s (with_spam_detection s p on)
 unfolding with_spam_detection
-marked-passed s p on l =
-    let h = passed-none s l in
+marked_passed s p on l =
+    let h = passed_none s l in
     record {
       steps = refl;
-      processes = λ q i. let r = marked-in p on s.processes q i in inl (r.0, r.1, r.2);
+      processes = λ q i. let r = marked_in p on s.processes q i in inl (r.0, r.1, r.2);
       objects = h.objects;
       from = h.from;
-      to = λ o b i on. inl (b, i, same-buffer s b);
+      to = λ o b i on. inl (b, i, same_buffer s b);
       lists = l;
     }

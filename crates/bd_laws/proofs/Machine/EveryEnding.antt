@@ -26,11 +26,11 @@ pub record SetUp (s : Space) (seat : ℕ) (F : Space → Type 0) : Type 0 where
   pub marked : (p : ℕ) (on : Bool) → F (with_spam_detection s p on)
 
 -- it touches neither frames nor work
-pub set_up-beside : (s : Space) (seat : ℕ) (F : Space → Type 0)
+pub set_up_beside : (s : Space) (seat : ℕ) (F : Space → Type 0)
     → ((qs : List Process) (ts : List Thread) (os : List Object) (rs : List Reference) (m : Option ObjectId) → F (record s { processes = qs; threads = ts; objects = os; references = rs; manager = m }))
     → SetUp s seat F
 unfolding with_thread with_process with_manager with_spam_detection
-set_up-beside s seat F h =
+set_up_beside s seat F h =
     record { same = h s.processes s.threads s.objects s.references s.manager; opened = λ pid euid window free. h _ _ _ _ _; attached = λ p free. h _ _ _ _ _; managed = λ a e b. h _ _ _ _ _; marked = λ p on. h _ _ _ _ _ }
 
 -- What the parts of a step by this seat make of its space, up to what follows on: M holds after each, and while buffers'
@@ -69,44 +69,44 @@ module _ (s : Space) (seat : ℕ) (x : Step) (M F : Space → Type 0) (k : Endin
   acts : (o : Option Actor) (f : Actor → Outcome) → actor s seat ≡ o → ((a : Actor) → actor s seat ≡ Some a → F (f a).space) → F (by_actor s o f).space
   acts o f e h = search arith
 
-  transacts-to : (a : Actor) (d : TransactionData) (parcel : Option Parcel) (r : Result Delivery Cause) → x ≡ Command (bc.Transaction d) parcel → actor s seat ≡ Some a
+  transacts_to : (a : Actor) (d : TransactionData) (parcel : Option Parcel) (r : Result Delivery Cause) → x ≡ Command (bc.Transaction d) parcel → actor s seat ≡ Some a
       → transaction_check s a d parcel ≡ r → F (transaction_outcome s a d r).space
-  transacts-to a d parcel r e h t = search arith
+  transacts_to a d parcel r e h t = search arith
 
-  replies-with : (a : Actor) (d : TransactionData) (parcel : Option Parcel) (f : Frame) (r : Result Delivery Cause) → x ≡ Command (bc.Reply d) parcel → actor s seat ≡ Some a
+  replies_with : (a : Actor) (d : TransactionData) (parcel : Option Parcel) (f : Frame) (r : Result Delivery Cause) → x ≡ Command (bc.Reply d) parcel → actor s seat ≡ Some a
       → served_innermost s a.thread.seat ≡ Some f → reply_check s a d parcel f ≡ r → F (reply_outcome s a d f r).space
-  replies-with a d parcel f r e h i t = search arith
+  replies_with a d parcel f r e h i t = search arith
 
-  replies-to : (a : Actor) (d : TransactionData) (parcel : Option Parcel) (o : Option Frame) → x ≡ Command (bc.Reply d) parcel → actor s seat ≡ Some a
+  replies_to : (a : Actor) (d : TransactionData) (parcel : Option Parcel) (o : Option Frame) → x ≡ Command (bc.Reply d) parcel → actor s seat ≡ Some a
       → served_innermost s a.thread.seat ≡ o → F (reply_to s a d parcel o).space
-  replies-to a d parcel None e h i = k.refuses a.thread.seat NoCall
-  replies-to a d parcel (Some f) e h i = replies-with a d parcel f (reply_check s a d parcel f) e h i refl
+  replies_to a d parcel None e h i = k.refuses a.thread.seat NoCall
+  replies_to a d parcel (Some f) e h i = replies_with a d parcel f (reply_check s a d parcel f) e h i refl
 
-  frees-if : (p ptr : ℕ) (b : Buffer) → buffer_at_pointer s p ptr ≡ Some b → (handed : Bool) → b.handed ≡ handed
+  frees_if : (p ptr : ℕ) (b : Buffer) → buffer_at_pointer s p ptr ≡ Some b → (handed : Bool) → b.handed ≡ handed
       → F (cond {A = Outcome} handed (record { answer = Accepted; space = completed (without_buffer s b.made) }) (record { answer = Noted NotHandedOut; space = s })).space
-  frees-if p ptr b e handed h = search arith
+  frees_if p ptr b e handed h = search arith
 
-  frees-at : (p ptr : ℕ) (o : Option Buffer) → buffer_at_pointer s p ptr ≡ o → F (free_outcome s o).space
-  frees-at p ptr o e = search (arith, frees-if)
+  frees_at : (p ptr : ℕ) (o : Option Buffer) → buffer_at_pointer s p ptr ≡ o → F (free_outcome s o).space
+  frees_at p ptr o e = search (arith, frees_if)
 
-  asks-for : (a : Actor) (n : ℕ) (strong : Bool) (r : Result ObjectId Note) → actor s seat ≡ Some a → IsAsking x n strong → ask_check s a.process.made n strong ≡ r
+  asks_for : (a : Actor) (n : ℕ) (strong : Bool) (r : Result ObjectId Note) → actor s seat ≡ Some a → IsAsking x n strong → ask_check s a.process.made n strong ≡ r
       → F (by_check s (λ o. ask s a.process.made o strong) r).space
-  asks-for a n strong r e i t = search arith
+  asks_for a n strong r e i t = search arith
 
-  drops-of : (p : ℕ) (strong : Bool) (r : Result ObjectId Note) → F (by_check s (λ o. drop_asked s p o strong) r).space
-  drops-of p strong r = search arith
+  drops_of : (p : ℕ) (strong : Bool) (r : Result ObjectId Note) → F (by_check s (λ o. drop_asked s p o strong) r).space
+  drops_of p strong r = search arith
 
-  acknowledges-of : (strong : Bool) (r : Result Object Note) → IsAcknowledging x strong → F (by_check s (λ x. acknowledge s x.id strong) r).space
-  acknowledges-of strong r i = search arith
+  acknowledges_of : (strong : Bool) (r : Result Object Note) → IsAcknowledging x strong → F (by_check s (λ x. acknowledge s x.id strong) r).space
+  acknowledges_of strong r i = search arith
 
-  requests-of : (p n cookie : ℕ) (r : Result ObjectId Note) → request_check s p n ≡ r → F (by_check s (λ o. requested s p o cookie) r).space
-  requests-of p n cookie r e = search arith
+  requests_of : (p n cookie : ℕ) (r : Result ObjectId Note) → request_check s p n ≡ r → F (by_check s (λ o. requested s p o cookie) r).space
+  requests_of p n cookie r e = search arith
 
-  clears-of : (t : ℕ) (r : Result DeathNotification Note) → F (by_check s (cleared s t) r).space
-  clears-of t r = search arith
+  clears_of : (t : ℕ) (r : Result DeathNotification Note) → F (by_check s (cleared s t) r).space
+  clears_of t r = search arith
 
-  is_done-of : (t p cookie : ℕ) (o : Option DeathNotification) → told_death s p cookie ≡ o → F (by_check s (death_done s t) (ok_or o NoneTold)).space
-  is_done-of t p cookie o e = search arith
+  is_done_of : (t p cookie : ℕ) (o : Option DeathNotification) → told_death s p cookie ≡ o → F (by_check s (death_done s t) (ok_or o NoneTold)).space
+  is_done_of t p cookie o e = search arith
 
   changes : (y : Step) → x ≡ y → F (change s seat y).space
   unfolding change open_step attach_step manager_step spam_step read_step exit_thread_step exit_process_step read_taking command_step free_step reply_step transaction_step
@@ -114,7 +114,7 @@ module _ (s : Space) (seat : ℕ) (x : Step) (M F : Space → Type 0) (k : Endin
   changes (Attach pid) e = search arith
   changes SetManager e = acts (actor s seat) _ refl (λ a h. search arith)
   changes (SetSpam on) e = acts (actor s seat) _ refl (λ a h. k.set_up.marked a.process.made on)
-  changes (Command c parcel) e = acts (actor s seat) _ refl (λ a h. search (arith, transacts-to, replies-to, frees-at, asks-for, drops-of, acknowledges-of, requests-of, clears-of, is_done-of))
+  changes (Command c parcel) e = acts (actor s seat) _ refl (λ a h. search (arith, transacts_to, replies_to, frees_at, asks_for, drops_of, acknowledges_of, requests_of, clears_of, is_done_of))
   changes (Read limit) e = acts (actor s seat) _ refl (λ a h. search arith)
   changes ExitThread e = acts (actor s seat) _ refl (λ a h. k.leaves a h)
   changes ExitProcess e = acts (actor s seat) _ refl (λ a h. k.ends a h)

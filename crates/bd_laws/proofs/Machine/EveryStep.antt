@@ -4,10 +4,10 @@ use Rattle.bd_laws.proofs.words.Types.{TransactionData, Return, DeadReply, Cause
 use Rattle.bd_laws.proofs.words.Space.{Space, actor, served_innermost, closed, owe, tell_caller, settle, is_abandoned, refusal, reply_refused, follow, completed, change, after, next}
 use Rattle.bd_uapi.specs.declared.command.Command.TheVariants as bc
 use Rattle.bd_space.specs.declared.space.WorkKind.TheVariants as work
-use Rattle.bd_laws.proofs.Machine.Adding.{told-keeps}
-use Rattle.bd_laws.proofs.Machine.Deaths.{commands-both}
+use Rattle.bd_laws.proofs.Machine.Adding.{told_keeps}
+use Rattle.bd_laws.proofs.Machine.Deaths.{commands_both}
 use Rattle.bd_laws.proofs.Machine.EveryEnding.{SetUp, Changes, Endings, every_ending_step}
-use Rattle.bd_laws.proofs.Machine.Settled.{settle-keeps}
+use Rattle.bd_laws.proofs.Machine.Settled.{settle_keeps}
 
 -- What the parts of a step by this seat keep: M up to what follows on, and F from there. A refusal is said with its cause,
 -- and a frame closes together with what its caller is told.
@@ -22,18 +22,18 @@ pub record KeepsWhole (s : Space) (seat : ℕ) (x : Step) (M F : Space → Type 
 
 module _ (s : Space) (seat : ℕ) (x : Step) (M F : Space → Type 0) (k : KeepsWhole s seat x M F) where
   settles : (z : Space) → F z → F (settle z)
-  settles = settle-keeps F k.abandons
+  settles = settle_keeps F k.abandons
 
   completes : (z : Space) → M z → F (completed z)
   unfolding completed
   completes z h = search (arith, settles)
 
-  kept-endings : Endings s seat x M F
-  kept-endings = search (arith, completes, settles)
+  kept_endings : Endings s seat x M F
+  kept_endings = search (arith, completes, settles)
 
   -- what the parts keep, the step keeps
   pub every_whole_step : F (change s seat x).space
-  every_whole_step = every_ending_step s seat x M F kept-endings
+  every_whole_step = every_ending_step s seat x M F kept_endings
 
 -- The same, where closing a frame and telling its caller keep F each by itself.
 pub record Keeps (s : Space) (seat : ℕ) (x : Step) (M F : Space → Type 0) : Type 0 where
@@ -47,7 +47,7 @@ pub record Keeps (s : Space) (seat : ℕ) (x : Step) (M F : Space → Type 0) : 
 module _ (s : Space) (seat : ℕ) (x : Step) (M F : Space → Type 0) (k : Keeps s seat x M F) where
   pub whole : KeepsWhole s seat x M F
   unfolding reply_refused
-  whole = search (arith, told-keeps)
+  whole = search (arith, told_keeps)
 
   pub every_step : F (change s seat x).space
   every_step = every_whole_step s seat x M F whole
@@ -63,12 +63,12 @@ pub record KeepsBeside (s : Space) (seat : ℕ) (x : Step) (M F N G : Space → 
   pub abandons : (z : Space) (f : Frame) → find (is_abandoned z.frames) z.frames ≡ Some f → F z → G z → G (tell_caller (closed z f.made) f (work.Verdict DeadReply))
 
 -- what is kept by itself
-pub keeps-alone : (s : Space) (seat : ℕ) (x : Step) (M F N G : Space → Type 0) → KeepsWhole s seat x N G → KeepsBeside s seat x M F N G
-keeps-alone s seat x M F N G k = search arith
+pub keeps_alone : (s : Space) (seat : ℕ) (x : Step) (M F N G : Space → Type 0) → KeepsWhole s seat x N G → KeepsBeside s seat x M F N G
+keeps_alone s seat x M F N G k = search arith
 
-pub keeps-both : (s : Space) (seat : ℕ) (x : Step) (M F N G : Space → Type 0) → KeepsWhole s seat x M F → KeepsBeside s seat x M F N G
+pub keeps_both : (s : Space) (seat : ℕ) (x : Step) (M F N G : Space → Type 0) → KeepsWhole s seat x M F → KeepsBeside s seat x M F N G
     → KeepsWhole s seat x (λ z. M z × N z) (λ z. F z × G z)
-keeps-both s seat x M F N G k l = search (arith, commands-both)
+keeps_both s seat x M F N G k l = search (arith, commands_both)
 
 -- an invariant of every step is one of every list of steps
 pub every_list : (P : Space → Type 0) → ((s : Space) (e : Entry) → P s → P (next s e)) → (es : List Entry) (s : Space) → P s → P (after s es)

@@ -6,63 +6,63 @@ use Rattle.bd_space.specs.declared.space.WorkKind.TheVariants as work
 
 -- ---- one item more
 
-pub owe-threads : (z : Space) (list : TodoList) (kind : WorkKind) → (owe z list kind).threads ≡ z.threads
+pub owe_threads : (z : Space) (list : TodoList) (kind : WorkKind) → (owe z list kind).threads ≡ z.threads
 unfolding owe
-owe-threads z list kind = refl
+owe_threads z list kind = refl
 
-pub owe-frames : (z : Space) (list : TodoList) (kind : WorkKind) → (owe z list kind).frames ≡ z.frames
+pub owe_frames : (z : Space) (list : TodoList) (kind : WorkKind) → (owe z list kind).frames ≡ z.frames
 unfolding owe
-owe-frames z list kind = refl
+owe_frames z list kind = refl
 
-pub owe-buffers : (z : Space) (list : TodoList) (kind : WorkKind) → (owe z list kind).buffers ≡ z.buffers
+pub owe_buffers : (z : Space) (list : TodoList) (kind : WorkKind) → (owe z list kind).buffers ≡ z.buffers
 unfolding owe
-owe-buffers z list kind = refl
+owe_buffers z list kind = refl
 
-pub told-frames : (z : Space) (caller : Option ℕ) (kind : WorkKind) → (elim caller as (λ (o : Option ℕ). Space) [ None ↦ z | Some t ↦ owe z (OfThread t) kind ]).frames ≡ z.frames
-told-frames z caller kind = search (arith, owe-frames)
+pub told_frames : (z : Space) (caller : Option ℕ) (kind : WorkKind) → (elim caller as (λ (o : Option ℕ). Space) [ None ↦ z | Some t ↦ owe z (OfThread t) kind ]).frames ≡ z.frames
+told_frames z caller kind = search (arith, owe_frames)
 
 -- ---- a frame closes, or is served
 
-pub closed-steps : (z : Space) (made : ℕ) → (closed z made).steps ≡ z.steps
+pub closed_steps : (z : Space) (made : ℕ) → (closed z made).steps ≡ z.steps
 unfolding closed
-closed-steps z made = refl
+closed_steps z made = refl
 
-pub closed-threads : (z : Space) (made : ℕ) → (closed z made).threads ≡ z.threads
+pub closed_threads : (z : Space) (made : ℕ) → (closed z made).threads ≡ z.threads
 unfolding closed
-closed-threads z made = refl
+closed_threads z made = refl
 
-pub closed-frames : (z : Space) (made : ℕ) → (closed z made).frames ≡ filter (λ g. not (is_frame made g)) z.frames
+pub closed_frames : (z : Space) (made : ℕ) → (closed z made).frames ≡ filter (λ g. not (is_frame made g)) z.frames
 unfolding closed
-closed-frames z made = refl
+closed_frames z made = refl
 
-pub closed-same : (s : Space) (made : ℕ) → ((closed s made).steps ≡ s.steps) × ((closed s made).threads ≡ s.threads) × ((closed s made).references ≡ s.references) × ((closed s made).todo ≡ s.todo)
+pub closed_same : (s : Space) (made : ℕ) → ((closed s made).steps ≡ s.steps) × ((closed s made).threads ≡ s.threads) × ((closed s made).references ≡ s.references) × ((closed s made).todo ≡ s.todo)
     × ((closed s made).buffers ≡ s.buffers)
 unfolding closed
-closed-same s made = (refl, refl, refl, refl, refl)
+closed_same s made = (refl, refl, refl, refl, refl)
 
-pub serve-made : (seat : ℕ) (c : Bool) (f : Frame) → (cond c (serve seat f) f).made ≡ f.made
-serve-made seat c f = search arith
+pub serve_made : (seat : ℕ) (c : Bool) (f : Frame) → (cond c (serve seat f) f).made ≡ f.made
+serve_made seat c f = search arith
 
 -- ---- what is sent
 
-pub sent-steps : (s : Space) (a : Actor) (d : TransactionData) (v : Delivery) (spam : Bool) → (owe (delivered s a d v) (OfThread a.thread.seat) (work.Complete spam)).steps ≡ s.steps
+pub sent_steps : (s : Space) (a : Actor) (d : TransactionData) (v : Delivery) (spam : Bool) → (owe (delivered s a d v) (OfThread a.thread.seat) (work.Complete spam)).steps ≡ s.steps
 unfolding owe delivered own_notices add_buffer known_by assign_numbers refer make_objects
-sent-steps s a d v spam = refl
+sent_steps s a d v spam = refl
 
-pub sent-threads : (s : Space) (a : Actor) (d : TransactionData) (v : Delivery) (spam : Bool) → (owe (delivered s a d v) (OfThread a.thread.seat) (work.Complete spam)).threads ≡ s.threads
+pub sent_threads : (s : Space) (a : Actor) (d : TransactionData) (v : Delivery) (spam : Bool) → (owe (delivered s a d v) (OfThread a.thread.seat) (work.Complete spam)).threads ≡ s.threads
 unfolding owe delivered own_notices add_buffer known_by assign_numbers refer make_objects
-sent-threads s a d v spam = refl
+sent_threads s a d v spam = refl
 
-pub sent-frames : (s : Space) (a : Actor) (d : TransactionData) (v : Delivery) (spam : Bool) → (owe (delivered s a d v) (OfThread a.thread.seat) (work.Complete spam)).frames ≡ s.frames
+pub sent_frames : (s : Space) (a : Actor) (d : TransactionData) (v : Delivery) (spam : Bool) → (owe (delivered s a d v) (OfThread a.thread.seat) (work.Complete spam)).frames ≡ s.frames
 unfolding owe delivered own_notices add_buffer known_by assign_numbers refer make_objects
-sent-frames s a d v spam = refl
+sent_frames s a d v spam = refl
 
 -- ---- what follows, and the step's end
 
-pub follow_of-frames : (a : NameTest) (b : ObjectTest) (z : Space) → (follow_of a b z).frames ≡ z.frames
+pub follow_of_frames : (a : NameTest) (b : ObjectTest) (z : Space) → (follow_of a b z).frames ≡ z.frames
 unfolding follow_of names_go_of objects_go_of deaths_go_of work_goes_of notify_of
-follow_of-frames a b z = refl
+follow_of_frames a b z = refl
 
-pub counted-buffers : (z : Space) → (counted z).buffers ≡ z.buffers
+pub counted_buffers : (z : Space) → (counted z).buffers ≡ z.buffers
 unfolding counted
-counted-buffers z = refl
+counted_buffers z = refl

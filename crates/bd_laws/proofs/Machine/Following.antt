@@ -3,7 +3,7 @@
 use Rattle.bd_laws.proofs.words.Space.{Space, objects_go, names_go, deaths_go, work_goes, notify, follow, thread_goes, seat_of, threads_go, without_process, tell_deaths}
 use Rattle.std.proofs.Common.{arith, ℕ, ◌==◌, map, filter}
 use Rattle.bd_space.specs.declared.space.Thread.{Thread}
-use Rattle.bd_laws.proofs.Lists.{fold-keeps}
+use Rattle.bd_laws.proofs.Lists.{fold_keeps}
 
 -- what holds of the spaces after each of the five parts of what follows
 pub record FollowedBy (R : Space → Space → Type 0) : Type 0 where
@@ -14,21 +14,21 @@ pub record FollowedBy (R : Space → Space → Type 0) : Type 0 where
   pub notices : (z : Space) → R (notify z) z
 
 module _ (R : Space → Space → Type 0) (trans : (z y x : Space) → R z y → R y x → R z x) where
-  pub follow-by : FollowedBy R → (z : Space) → R (follow z) z
+  pub follow_by : FollowedBy R → (z : Space) → R (follow z) z
   unfolding follow
-  follow-by k z = search arith
+  follow_by k z = search arith
 
   -- a process ends: its threads go, then what it has, and deaths are told
-  pub ends-by : ((z : Space) (p : ℕ) → R (threads_go z p) z) → ((z : Space) (p : ℕ) → R (without_process z p) z) → ((z : Space) (p : ℕ) → R (tell_deaths z p) z)
+  pub ends_by : ((z : Space) (p : ℕ) → R (threads_go z p) z) → ((z : Space) (p : ℕ) → R (without_process z p) z) → ((z : Space) (p : ℕ) → R (tell_deaths z p) z)
       → (z : Space) (p : ℕ) → R (tell_deaths (without_process (threads_go z p) p) p) z
-  ends-by threads rest deaths z p = search arith
+  ends_by threads rest deaths z p = search arith
 
 -- what each thread's going keeps, that of a process's threads keeps
-pub threads-keep : (P : Space → Type 0) → ((z : Space) (seat : ℕ) → P z → P (thread_goes z seat)) → (z : Space) (p : ℕ) → P z → P (threads_go z p)
+pub threads_keep : (P : Space → Type 0) → ((z : Space) (seat : ℕ) → P z → P (thread_goes z seat)) → (z : Space) (p : ℕ) → P z → P (threads_go z p)
 unfolding threads_go
-threads-keep P k z p = fold-keeps P thread_goes (map seat_of (filter (λ (t : Thread). t.process == p) z.threads)) (λ y seat l. k y seat) z
+threads_keep P k z p = fold_keeps P thread_goes (map seat_of (filter (λ (t : Thread). t.process == p) z.threads)) (λ y seat l. k y seat) z
 
 -- and what lies between the space before one and that after it, between those before and after all
-pub threads-by : (R : Space → Space → Type 0) → ((z : Space) → R z z) → ((z y x : Space) → R z y → R y x → R z x) → ((z : Space) (seat : ℕ) → R (thread_goes z seat) z)
+pub threads_by : (R : Space → Space → Type 0) → ((z : Space) → R z z) → ((z y x : Space) → R z y → R y x → R z x) → ((z : Space) (seat : ℕ) → R (thread_goes z seat) z)
     → (z : Space) (p : ℕ) → R (threads_go z p) z
-threads-by R same trans k z p = threads-keep (λ y. R y z) (λ y seat. trans (thread_goes y seat) y z (k y seat)) z p (same z)
+threads_by R same trans k z p = threads_keep (λ y. R y z) (λ y seat. trans (thread_goes y seat) y z (k y seat)) z p (same z)

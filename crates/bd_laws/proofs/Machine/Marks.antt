@@ -4,20 +4,20 @@ use Rattle.bd_laws.proofs.words.Logic.{arith, ◌≡◌, ℕ, ◌==◌, Bool, co
 use Rattle.bd_laws.proofs.words.Types.{Process}
 use Rattle.bd_laws.proofs.words.Space.{changed, lives_in, detecting}
 use Rattle.bd_laws.proofs.words.Laws.{In}
-use Rattle.bd_laws.proofs.Lists.{in-changed}
+use Rattle.bd_laws.proofs.Lists.{in_changed}
 
 -- the live processes, with the mark set on the one at p
 abbrev pub marked : ℕ → Bool → List Process → List Process
 marked p on processes = changed (λ (q : Process). q.made == p) (detecting on) processes
 
-mark-made : (on b : Bool) (q : Process) → (cond b (detecting on q) q).made ≡ q.made
-mark-made on b q = search arith
+mark_made : (on b : Bool) (q : Process) → (cond b (detecting on q) q).made ≡ q.made
+mark_made on b q = search arith
 
 -- each was there before
-pub marked-in : (p : ℕ) (on : Bool) (processes : List Process) (q : Process) → In q (marked p on processes) → (r : Process) × In r processes × (r.made ≡ q.made)
-marked-in p on processes q l = search (arith, in-changed)
+pub marked_in : (p : ℕ) (on : Bool) (processes : List Process) (q : Process) → In q (marked p on processes) → (r : Process) × In r processes × (r.made ≡ q.made)
+marked_in p on processes q l = search (arith, in_changed)
 
 -- the same ones live
-pub marked-lives : (p : ℕ) (on : Bool) (processes : List Process) (n : ℕ) → lives_in (marked p on processes) n ≡ lives_in processes n
-marked-lives p on [] n = refl
-marked-lives p on (q ∷ qs) n = search (arith, marked-lives p on qs n)
+pub marked_lives : (p : ℕ) (on : Bool) (processes : List Process) (n : ℕ) → lives_in (marked p on processes) n ≡ lives_in processes n
+marked_lives p on [] n = refl
+marked_lives p on (q ∷ qs) n = search (arith, marked_lives p on qs n)

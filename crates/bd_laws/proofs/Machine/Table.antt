@@ -6,10 +6,10 @@ use Rattle.bd_laws.proofs.words.Types.{ObjectId, Process, Object, Reference, Nam
 use Rattle.bd_laws.proofs.words.Space.{Space, call_out, is_notice, settle, completed, delivered, own_notices, add_buffer, known_by, refer, make_objects, buffer_of, owe, closed, follow, notify, work_goes, deaths_go, objects_go, names_go, assign_numbers, ripen, ask, drop_asked, acknowledge, with_looping, without_buffer, with_thread, with_process, with_manager, thread_goes, threads_go, without_process, tell_deaths, Delivery, transacted, transaction_check, replied, reply_check, served_innermost, read_by, taken, list_to_read, read_fault, actor, with_spam_detection}
 use Rattle.bd_space.specs.declared.space.WorkKind.TheVariants as work
 use Rattle.bd_uapi.specs.declared.command.Command.TheVariants as bc
-use Rattle.bd_laws.proofs.Machine.Adding.{told-keeps, notify-keeps, own_notices-keeps, ripen-keeps}
-use Rattle.bd_laws.proofs.Machine.Settled.{settle-keeps}
-use Rattle.bd_laws.proofs.Machine.Deaths.{OnDeaths, KeptOnDeaths, on-kept, on-told, on-commands}
-use Rattle.bd_laws.proofs.Machine.Following.{follow-by, ends-by, threads-by}
+use Rattle.bd_laws.proofs.Machine.Adding.{told_keeps, notify_keeps, own_notices_keeps, ripen_keeps}
+use Rattle.bd_laws.proofs.Machine.Settled.{settle_keeps}
+use Rattle.bd_laws.proofs.Machine.Deaths.{OnDeaths, KeptOnDeaths, on_kept, on_told, on_commands}
+use Rattle.bd_laws.proofs.Machine.Following.{follow_by, ends_by, threads_by}
 use Rattle.bd_laws.proofs.Machine.EveryEnding.{SetUp, Changes}
 use Rattle.bd_laws.proofs.Machine.EveryStep.{Keeps}
 
@@ -51,98 +51,98 @@ pub record Carried (s : Space) (seat : ℕ) (x : Step) (M : Space → Type 0) : 
 module _ (R : Space → Space → Type 0) (T : WorkKind → Type 0) (t : Table R T) where
   -- ---- what follows, and the ends of processes
 
-  pub notify-by : (z : Space) → R (notify z) z
+  pub notify_by : (z : Space) → R (notify z) z
   unfolding notify owe
-  notify-by z =
-      notify-keeps (λ todo. R (record z { todo = todo }) z) z
+  notify_by z =
+      notify_keeps (λ todo. R (record z { todo = todo }) z) z
       (λ todo x l due. let y = record z { todo = todo } in t.trans _ y z (t.owes y (OfProcess x.owner) (work.Notice x.id) (t.notice x.id))) (t.same z)
 
-  pub followed-by : (z : Space) → R (follow z) z
+  pub followed_by : (z : Space) → R (follow z) z
   unfolding names_go objects_go deaths_go
-  followed-by = follow-by R t.trans (record {
+  followed_by = follow_by R t.trans (record {
     names = λ z. t.beside z _ _ _ _ _ _;
     objects = λ z. t.beside z _ _ _ _ _ _;
     deaths = λ z. t.beside z _ _ _ _ _ _;
     work = t.sheds;
-    notices = notify-by;
+    notices = notify_by;
   })
 
-  deaths-kept : (z : Space) → KeptOnDeaths (λ y. R y z)
-  deaths-kept z = search (arith, t.trans, t.beside, t.owes, t.death, t.clear)
+  deaths_kept : (z : Space) → KeptOnDeaths (λ y. R y z)
+  deaths_kept z = search (arith, t.trans, t.beside, t.owes, t.death, t.clear)
 
-  pub deaths-by : (z : Space) → OnDeaths z (λ y. R y z)
-  deaths-by z = on-kept _ (deaths-kept z) z (t.same z)
+  pub deaths_by : (z : Space) → OnDeaths z (λ y. R y z)
+  deaths_by z = on_kept _ (deaths_kept z) z (t.same z)
 
-  pub tell_deaths-by : (z : Space) (p : ℕ) → R (tell_deaths z p) z
-  tell_deaths-by z p = on-told _ (deaths-kept z) z p (t.same z)
+  pub tell_deaths_by : (z : Space) (p : ℕ) → R (tell_deaths z p) z
+  tell_deaths_by z p = on_told _ (deaths_kept z) z p (t.same z)
 
-  pub ended-by : Exits R → (z : Space) (p : ℕ) → R (tell_deaths (without_process (threads_go z p) p) p) z
-  ended-by e = ends-by R t.trans (threads-by R t.same t.trans e.goes) e.rest tell_deaths-by
+  pub ended_by : Exits R → (z : Space) (p : ℕ) → R (tell_deaths (without_process (threads_go z p) p) p) z
+  ended_by e = ends_by R t.trans (threads_by R t.same t.trans e.goes) e.rest tell_deaths_by
 
-  pub ripen-by : ((made : ℕ) → T (work.Call made)) → (z : Space) → R (ripen z) z
+  pub ripen_by : ((made : ℕ) → T (work.Call made)) → (z : Space) → R (ripen z) z
   unfolding ripen owe
-  ripen-by call z =
-      ripen-keeps (λ todo. R (record z { todo = todo }) z) z
+  ripen_by call z =
+      ripen_keeps (λ todo. R (record z { todo = todo }) z) z
       (λ todo u. let y = record z { todo = todo } in t.trans _ y z (t.owes y (OfProcess u.receiver) (work.Call u.made) (call u.made))) (t.same z)
 
   -- what closing frames adds, settling adds
-  settled-by : Closing R → T (work.Verdict DeadReply) → (z : Space) → R (settle z) z
-  settled-by closes verdict z =
-      settle-keeps (λ y. R y z) (λ y f abandoned h. told-keeps (λ y. R y z) (work.Verdict DeadReply) (λ y u. t.trans _ y z (t.owes y (OfThread u) (work.Verdict DeadReply) verdict))
+  settled_by : Closing R → T (work.Verdict DeadReply) → (z : Space) → R (settle z) z
+  settled_by closes verdict z =
+      settle_keeps (λ y. R y z) (λ y f abandoned h. told_keeps (λ y. R y z) (work.Verdict DeadReply) (λ y u. t.trans _ y z (t.owes y (OfThread u) (work.Verdict DeadReply) verdict))
       (closed y f.made) f.caller (t.trans _ y z (closes y f.made) h)) z (t.same z)
 
-  pub completed-by : Closing R → T (work.Verdict DeadReply) → ((z : Space) → R (ripen z) z) → (z : Space) → R (completed z) z
+  pub completed_by : Closing R → T (work.Verdict DeadReply) → ((z : Space) → R (ripen z) z) → (z : Space) → R (completed z) z
   unfolding completed
-  completed-by closes verdict ripens z = t.trans _ (follow (ripen z)) z (settled-by closes verdict (follow (ripen z))) (t.trans _ (ripen z) z (followed-by (ripen z)) (ripens z))
+  completed_by closes verdict ripens z = t.trans _ (follow (ripen z)) z (settled_by closes verdict (follow (ripen z))) (t.trans _ (ripen z) z (followed_by (ripen z)) (ripens z))
 
   -- ---- what is sent
 
   module _ (withdraws : (z : Space) (o : ObjectId) → R (record z { todo = filter (λ (w : Work). not (is_notice o w.kind)) z.todo }) z) (arrives : (z : Space) (b : Buffer) → R (add_buffer z b) z)
       (complete : (spam : Bool) → T (work.Complete spam)) where
-    pub own_notices-by : (z : Space) (seat : ℕ) (items : List Item) → R (own_notices z seat items) z
+    pub own_notices_by : (z : Space) (seat : ℕ) (items : List Item) → R (own_notices z seat items) z
     unfolding own_notices owe
-    own_notices-by z seat items =
-        own_notices-keeps (λ todo. R (record z { todo = todo }) z) z seat items (λ todo o. let y = record z { todo = todo } in t.trans _ y z (withdraws y o))
+    own_notices_by z seat items =
+        own_notices_keeps (λ todo. R (record z { todo = todo }) z) z seat items (λ todo o. let y = record z { todo = todo } in t.trans _ y z (withdraws y o))
         (λ todo x due. let y = record z { todo = todo } in t.trans _ y z (t.owes y (OfThread seat) (work.Notice x.id) (t.notice x.id))) (t.same z)
 
-    pub delivered-by : (s : Space) (a : Actor) (d : TransactionData) (v : Delivery) → R (delivered s a d v) s
+    pub delivered_by : (s : Space) (a : Actor) (d : TransactionData) (v : Delivery) → R (delivered s a d v) s
     unfolding delivered known_by assign_numbers refer make_objects
-    delivered-by s a d v =
+    delivered_by s a d v =
         let y = known_by s v in
         let b = buffer_of y a d v in
-        t.trans _ (add_buffer y b) s (own_notices-by (add_buffer y b) a.thread.seat v.sending.items) (t.trans _ y s (arrives y b) (t.beside s _ _ _ _ _ _))
+        t.trans _ (add_buffer y b) s (own_notices_by (add_buffer y b) a.thread.seat v.sending.items) (t.trans _ y s (arrives y b) (t.beside s _ _ _ _ _ _))
 
-    pub sent-by : (s : Space) (a : Actor) (d : TransactionData) (v : Delivery) (spam : Bool) → R (owe (delivered s a d v) (OfThread a.thread.seat) (work.Complete spam)) s
-    sent-by s a d v spam = t.trans _ (delivered s a d v) s (t.owes (delivered s a d v) (OfThread a.thread.seat) (work.Complete spam) (complete spam)) (delivered-by s a d v)
+    pub sent_by : (s : Space) (a : Actor) (d : TransactionData) (v : Delivery) (spam : Bool) → R (owe (delivered s a d v) (OfThread a.thread.seat) (work.Complete spam)) s
+    sent_by s a d v spam = t.trans _ (delivered s a d v) s (t.owes (delivered s a d v) (OfThread a.thread.seat) (work.Complete spam) (complete spam)) (delivered_by s a d v)
 
-    pub transacted-by : ((z : Space) (seat p : ℕ) → R (call_out z seat p) z) → (s : Space) (a : Actor) (d : TransactionData) (v : Delivery) → R (transacted s a d v) s
+    pub transacted_by : ((z : Space) (seat p : ℕ) → R (call_out z seat p) z) → (s : Space) (a : Actor) (d : TransactionData) (v : Delivery) → R (transacted s a d v) s
     unfolding transacted
-    transacted-by calls s a d v = search (arith, sent-by)
+    transacted_by calls s a d v = search (arith, sent_by)
 
   -- ---- every step, for what rests on a space as R tells
 
   module _ (s : Space) (seat : ℕ) (x : Step) (F : Space → Type 0) (from : (z : Space) → R z s → F z) where
-    pub set_up-by : SetUp s seat F
+    pub set_up_by : SetUp s seat F
     unfolding with_process with_manager with_spam_detection
-    set_up-by = search arith
+    set_up_by = search arith
 
     -- where exits are told by themselves
-    pub changes-but : Carried s seat x F → ((a : Actor) → actor s seat ≡ Some a → F (thread_goes s a.thread.seat))
+    pub changes_but : Carried s seat x F → ((a : Actor) → actor s seat ≡ Some a → F (thread_goes s a.thread.seat))
         → ((a : Actor) → actor s seat ≡ Some a → F (tell_deaths (without_process (threads_go s a.process.made) a.process.made) a.process.made)) → Changes s seat x F
     unfolding ask assign_numbers drop_asked acknowledge
-    changes-but k leaves ends = search (arith, on-commands, deaths-by)
+    changes_but k leaves ends = search (arith, on_commands, deaths_by)
 
     module _ (e : Exits R) where
-      pub changes-by : Carried s seat x F → Changes s seat x F
-      changes-by k = changes-but k (λ a i. from _ (e.goes s a.thread.seat)) (λ a i. from _ (ended-by e s a.process.made))
+      pub changes_by : Carried s seat x F → Changes s seat x F
+      changes_by k = changes_but k (λ a i. from _ (e.goes s a.thread.seat)) (λ a i. from _ (ended_by e s a.process.made))
 
-      pub keeps-by : Closing R → ((z y : Space) → R z y → F y → F z) → ((r : Return) → T (work.Refusal r)) → ((r : Return) → T (work.Verdict r)) → Carried s seat x F → Keeps s seat x F F
-      keeps-by closing later refusal verdict k = search (arith, set_up-by, changes-by, followed-by, t.owes)
+      pub keeps_by : Closing R → ((z y : Space) → R z y → F y → F z) → ((r : Return) → T (work.Refusal r)) → ((r : Return) → T (work.Verdict r)) → Carried s seat x F → Keeps s seat x F F
+      keeps_by closing later refusal verdict k = search (arith, set_up_by, changes_by, followed_by, t.owes)
 
 -- ---- two tables together
 
-pub table-both : (R S : Space → Space → Type 0) (T U : WorkKind → Type 0) → Table R T → Table S U → Table (λ z y. R z y × S z y) (λ k. T k × U k)
-table-both R S T U t u = search arith
+pub table_both : (R S : Space → Space → Type 0) (T U : WorkKind → Type 0) → Table R T → Table S U → Table (λ z y. R z y × S z y) (λ k. T k × U k)
+table_both R S T U t u = search arith
 
 -- ---- what touches no frames
 

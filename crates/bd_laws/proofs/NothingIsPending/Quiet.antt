@@ -4,14 +4,14 @@ use Rattle.bd_laws.proofs.words.Types.{ObjectId, Object, DeathNotification, Work
 use Rattle.bd_laws.proofs.words.Space.{closed, same, is_some_and, Space, opening, object_in, stays_in, objects_go, names_go, with_work, owe, is_notice, notice_of, is_call, turns_of, is_ripe, ripen, settle, NameTest, ObjectTest, completed, wants_notice, has_notice_in, with_notice, is_name_of, deaths_go, work_goes, notify, follow}
 use Rattle.bd_space.specs.declared.space.WorkKind.TheVariants as work
 use Rattle.bd_laws.proofs.words.Laws.{In, Pairs, Differ, Elsewhere, NoneRipe, IsFollowed, IsQuiet}
-use Rattle.bd_laws.proofs.Lists.{in-left, in-last, in-push, in-filter, filter-in, any-found, any-in, pairs-filter, fold-keeps}
-use Rattle.bd_laws.proofs.Tests.{and-both, not-true, eq-same}
-use Rattle.bd_laws.proofs.NothingIsPending.Noticing.{follow-wanted}
-use Rattle.bd_laws.proofs.Machine.Settled.{settle-settles, settle-keeps}
-pub use Rattle.bd_laws.proofs.FollowingIsLocal.Finding.{any-more}
-use Rattle.bd_laws.proofs.FollowingIsLocal.Finding.{find-only}
-use Rattle.bd_laws.proofs.FollowingIsLocal.Ripe.{ripen-none}
-use Rattle.bd_laws.proofs.Machine.Adding.{told-keeps, notice-keeps, notify-keeps}
+use Rattle.bd_laws.proofs.Lists.{in_left, in_last, in_push, in_filter, filter_in, any_found, any_in, pairs_filter, fold_keeps}
+use Rattle.bd_laws.proofs.Tests.{and_both, not_true, eq_same}
+use Rattle.bd_laws.proofs.NothingIsPending.Noticing.{follow_wanted}
+use Rattle.bd_laws.proofs.Machine.Settled.{settle_settles, settle_keeps}
+pub use Rattle.bd_laws.proofs.FollowingIsLocal.Finding.{any_more}
+use Rattle.bd_laws.proofs.FollowingIsLocal.Finding.{find_only}
+use Rattle.bd_laws.proofs.FollowingIsLocal.Ripe.{ripen_none}
+use Rattle.bd_laws.proofs.Machine.Adding.{told_keeps, notice_keeps, notify_keeps}
 
 -- ---- after what follows, nothing more does
 
@@ -23,44 +23,44 @@ module _ (z : Space) where
   abbrev AllTell : List DeathNotification → List Work → Type 0
   AllTell deaths todo = (w : Work) (n : ℕ) → In w todo → w.kind ≡ work.Death n → list_any (λ (x : DeathNotification). x.made == n) deaths ≡ true
 
-  follow-tellings : AllTell (follow z).deaths (follow z).todo
+  follow_tellings : AllTell (follow z).deaths (follow z).todo
   unfolding follow notify told work_goes deaths_go objects_go names_go
-  follow-tellings =
+  follow_tellings =
       let y = deaths_go (objects_go (names_go z)) in
-      notify-keeps (AllTell y.deaths) (work_goes y) (λ todo x i due k w n l e. search (arith, in-push))
-      (λ w n l e. search (arith, in-filter))
+      notify_keeps (AllTell y.deaths) (work_goes y) (λ todo x i due k w n l e. search (arith, in_push))
+      (λ w n l e. search (arith, in_filter))
 
-  follow-differ : Pairs Differ z.objects → Pairs Differ (follow z).objects
+  follow_differ : Pairs Differ z.objects → Pairs Differ (follow z).objects
   unfolding follow notify work_goes deaths_go objects_go names_go
-  follow-differ h = search (arith, pairs-filter)
+  follow_differ h = search (arith, pairs_filter)
 
-  follow-notices : Pairs Differ z.objects → (w : Work) (o : ObjectId) → In w (follow z).todo → w.kind ≡ work.Notice o
+  follow_notices : Pairs Differ z.objects → (w : Work) (o : ObjectId) → In w (follow z).todo → w.kind ≡ work.Notice o
       → is_some_and (object_in (follow z).objects o) (wants_notice (follow z).processes (follow z).references) ≡ true
-  follow-notices h w o l e =
-      let x = follow-wanted z w o l (ap notice_of e) in
-      let found = find-only (follow z).objects x.0 o (follow-differ h) x.1 x.2 in
+  follow_notices h w o l e =
+      let x = follow_wanted z w o l (ap notice_of e) in
+      let found = find_only (follow z).objects x.0 o (follow_differ h) x.1 x.2 in
       ap (λ (f : Option Object). is_some_and f (wants_notice (follow z).processes (follow z).references)) found ∙ x.3
 
   -- ---- each Notice that is wanted is made
 
-  all-made : (xs : List Object) (todo : List Work) (x : Object) → In x xs → wants_notice z.processes z.references x ≡ true → has_notice_in (fold told todo xs) x.id ≡ true
+  all_made : (xs : List Object) (todo : List Work) (x : Object) → In x xs → wants_notice z.processes z.references x ≡ true → has_notice_in (fold told todo xs) x.id ≡ true
   unfolding told
-  all-made [] todo x l wants = absurd l
-  all-made (y ∷ ys) todo x (inl e) wants =
+  all_made [] todo x l wants = absurd l
+  all_made (y ∷ ys) todo x (inl e) wants =
       let wanted = subst (λ (v : Object). wants_notice z.processes z.references v ≡ true) (sym e) wants in
-      fold-keeps (λ todo. has_notice_in todo x.id ≡ true) told ys (λ todo v l k. search (arith, notice-keeps, any-found, any-in, in-left)) (told todo y)
-      (subst (λ (v : Object). has_notice_in (told todo y) v.id ≡ true) e (search (arith, any-in, in-last, eq-same)))
-  all-made (y ∷ ys) todo x (inr l) wants = all-made ys (told todo y) x l wants
+      fold_keeps (λ todo. has_notice_in todo x.id ≡ true) told ys (λ todo v l k. search (arith, notice_keeps, any_found, any_in, in_left)) (told todo y)
+      (subst (λ (v : Object). has_notice_in (told todo y) v.id ≡ true) e (search (arith, any_in, in_last, eq_same)))
+  all_made (y ∷ ys) todo x (inr l) wants = all_made ys (told todo y) x l wants
 
-  pub follow-followed : Pairs Differ z.objects → IsFollowed (follow z)
+  pub follow_followed : Pairs Differ z.objects → IsFollowed (follow z)
   unfolding follow notify told work_goes deaths_go objects_go names_go
-  follow-followed h = record {
-    names = λ m l none. search (arith, in-filter, any-found, any-in, not-true, and-both);
-    objects = λ x l none. (in-filter (stays_in z.processes z.references) x z.objects l).1;
-    deaths = λ d l none. (in-filter (λ (x : DeathNotification). x.cleared || is_name_of (names_go z).names x.process x.object) d z.deaths l).1;
-    notices = λ w o l e none. follow-notices h w o l e;
-    tellings = follow-tellings;
-    made = λ x l none wants. all-made (objects_go (names_go z)).objects (work_goes (deaths_go (objects_go (names_go z)))).todo x l wants;
+  follow_followed h = record {
+    names = λ m l none. search (arith, in_filter, any_found, any_in, not_true, and_both);
+    objects = λ x l none. (in_filter (stays_in z.processes z.references) x z.objects l).1;
+    deaths = λ d l none. (in_filter (λ (x : DeathNotification). x.cleared || is_name_of (names_go z).names x.process x.object) d z.deaths l).1;
+    notices = λ w o l e none. follow_notices h w o l e;
+    tellings = follow_tellings;
+    made = λ x l none wants. all_made (objects_go (names_go z)).objects (work_goes (deaths_go (objects_go (names_go z)))).todo x l wants;
   }
 
 -- ---- after an accepted command's change, whatever it was
@@ -69,18 +69,18 @@ module _ (todo more : List Work) where
   abbrev pub CallsStay : Turn → Type 0
   CallsStay t = list_any (λ (w : Work). is_call t.made w.kind) todo ≡ true → list_any (λ (w : Work). is_call t.made w.kind) more ≡ true
 
-  pub unripe-one : (older less : List Turn) (t : Turn) → list_any (λ (u : Turn). same u.target t.target) less ≡ list_any (λ (u : Turn). same u.target t.target) older → CallsStay t
+  pub unripe_one : (older less : List Turn) (t : Turn) → list_any (λ (u : Turn). same u.target t.target) less ≡ list_any (λ (u : Turn). same u.target t.target) older → CallsStay t
       → is_ripe todo older t ≡ false → is_ripe more less t ≡ false
-  unripe-one older less t e k h = search arith
+  unripe_one older less t e k h = search arith
 
-  pub unripe-kept : (ts older : List Turn) → NoneRipe todo older ts → ((t : Turn) → In t ts → CallsStay t) → NoneRipe more older ts
-  unripe-kept [] older h k = tt
-  unripe-kept (t ∷ ts) older h k = (unripe-one older older t refl (k t (inl refl)) h.0, unripe-kept ts (older ++ t ∷ []) h.1 (λ u l. k u (inr l)))
+  pub unripe_kept : (ts older : List Turn) → NoneRipe todo older ts → ((t : Turn) → In t ts → CallsStay t) → NoneRipe more older ts
+  unripe_kept [] older h k = tt
+  unripe_kept (t ∷ ts) older h k = (unripe_one older older t refl (k t (inl refl)) h.0, unripe_kept ts (older ++ t ∷ []) h.1 (λ u l. k u (inr l)))
 
 -- following touches neither calls that are due nor frames
-pub still-unripe-if : (todo more : List Work) (z : Space) → ((n : ℕ) → list_any (λ (w : Work). is_call n w.kind) todo ≡ true → list_any (λ (w : Work). is_call n w.kind) more ≡ true)
+pub still_unripe_if : (todo more : List Work) (z : Space) → ((n : ℕ) → list_any (λ (w : Work). is_call n w.kind) todo ≡ true → list_any (λ (w : Work). is_call n w.kind) more ≡ true)
     → (ts older : List Turn) → NoneRipe todo older ts → NoneRipe more older ts
-still-unripe-if todo more z k ts older h = unripe-kept todo more ts older h (λ t l. k t.made)
+still_unripe_if todo more z k ts older h = unripe_kept todo more ts older h (λ t l. k t.made)
 
 -- nothing is pending but abandoned calls
 pub record IsCalm (z : Space) : Type 0 where
@@ -89,64 +89,64 @@ pub record IsCalm (z : Space) : Type 0 where
   pub unripe : NoneRipe z.todo [] (turns_of z.buffers)
 
 -- where nothing is pending it is the same with other threads, frames and buffers, at any step
-pub elsewhere-aside : (a : NameTest) (b : ObjectTest) (z : Space) (n : ℕ) (ts : List Thread) (fs : List Frame) (bs : List Buffer) → Elsewhere a b z
+pub elsewhere_aside : (a : NameTest) (b : ObjectTest) (z : Space) (n : ℕ) (ts : List Thread) (fs : List Frame) (bs : List Buffer) → Elsewhere a b z
     → Elsewhere a b (record z { steps = n; threads = ts; frames = fs; buffers = bs })
-elsewhere-aside a b z n ts fs bs h = record { names = h.names; objects = h.objects; deaths = h.deaths; notices = h.notices; tellings = h.tellings; made = h.made }
+elsewhere_aside a b z n ts fs bs h = record { names = h.names; objects = h.objects; deaths = h.deaths; notices = h.notices; tellings = h.tellings; made = h.made }
 
 -- it tells neither of an object nor of a death
 abbrev pub IsPlainKind : WorkKind → Type 0
 IsPlainKind kind = ((o : ObjectId) → kind ≡ work.Notice o → ⊥) × ((n : ℕ) → kind ≡ work.Death n → ⊥)
 
-pub owe-calm : (z : Space) (list : TodoList) (kind : WorkKind) → IsPlainKind kind → IsCalm z → IsCalm (owe z list kind)
+pub owe_calm : (z : Space) (list : TodoList) (kind : WorkKind) → IsPlainKind kind → IsCalm z → IsCalm (owe z list kind)
 unfolding owe
-owe-calm z list kind plain h = record {
+owe_calm z list kind plain h = record {
   differ = h.differ;
   followed = record {
     names = h.followed.names;
     objects = h.followed.objects;
     deaths = h.followed.deaths;
-    notices = λ w o l e none. elim (in-push w _ z.todo l) [ inl k ↦ h.followed.notices w o k e none | inr is ↦ absurd (plain.0 o (ap (λ (v : Work). v.kind) is ∙ e)) ];
-    tellings = λ w n l e. elim (in-push w _ z.todo l) [ inl k ↦ h.followed.tellings w n k e | inr is ↦ absurd (plain.1 n (ap (λ (v : Work). v.kind) is ∙ e)) ];
-    made = λ x l none wants. any-more (λ (w : Work). is_notice x.id w.kind) z.todo _ (h.followed.made x l none wants);
+    notices = λ w o l e none. elim (in_push w _ z.todo l) [ inl k ↦ h.followed.notices w o k e none | inr is ↦ absurd (plain.0 o (ap (λ (v : Work). v.kind) is ∙ e)) ];
+    tellings = λ w n l e. elim (in_push w _ z.todo l) [ inl k ↦ h.followed.tellings w n k e | inr is ↦ absurd (plain.1 n (ap (λ (v : Work). v.kind) is ∙ e)) ];
+    made = λ x l none wants. any_more (λ (w : Work). is_notice x.id w.kind) z.todo _ (h.followed.made x l none wants);
   };
-  unripe = still-unripe-if z.todo (with_work z.steps z.todo list kind) z (λ n k. any-more (λ (w : Work). is_call n w.kind) z.todo _ k) (turns_of z.buffers) [] h.unripe;
+  unripe = still_unripe_if z.todo (with_work z.steps z.todo list kind) z (λ n k. any_more (λ (w : Work). is_call n w.kind) z.todo _ k) (turns_of z.buffers) [] h.unripe;
 }
 
-pub closed-calm : (z : Space) (made : ℕ) → IsCalm z → IsCalm (closed z made)
+pub closed_calm : (z : Space) (made : ℕ) → IsCalm z → IsCalm (closed z made)
 unfolding closed
-closed-calm z made h = record { differ = h.differ; followed = elsewhere-aside _ _ z _ _ _ _ h.followed; unripe = h.unripe }
+closed_calm z made h = record { differ = h.differ; followed = elsewhere_aside _ _ z _ _ _ _ h.followed; unripe = h.unripe }
 
-pub told-calm : (z : Space) (caller : Option ℕ) (kind : WorkKind) → IsPlainKind kind → IsCalm z
+pub told_calm : (z : Space) (caller : Option ℕ) (kind : WorkKind) → IsPlainKind kind → IsCalm z
     → IsCalm (elim caller as (λ (o : Option ℕ). Space) [ None ↦ z | Some t ↦ owe z (OfThread t) kind ])
-told-calm z caller kind plain = told-keeps IsCalm kind (λ z t. owe-calm z (OfThread t) kind plain) z caller
+told_calm z caller kind plain = told_keeps IsCalm kind (λ z t. owe_calm z (OfThread t) kind plain) z caller
 
 -- settling a calm space makes it quiet
-pub settle-quiet : (z : Space) → IsCalm z → IsQuiet (settle z)
-settle-quiet z h =
-    let k = settle-keeps IsCalm (λ z f e h. told-calm (closed z f.made) f.caller (work.Verdict DeadReply) ((λ o e. cc), (λ n e. cc)) (closed-calm z f.made h)) z h in
-    record { differ = k.differ; followed = k.followed; unripe = k.unripe; settled = settle-settles z }
+pub settle_quiet : (z : Space) → IsCalm z → IsQuiet (settle z)
+settle_quiet z h =
+    let k = settle_keeps IsCalm (λ z f e h. told_calm (closed z f.made) f.caller (work.Verdict DeadReply) ((λ o e. cc), (λ n e. cc)) (closed_calm z f.made h)) z h in
+    record { differ = k.differ; followed = k.followed; unripe = k.unripe; settled = settle_settles z }
 
 -- ---- what follows keeps the calls that are due
 
-follow-calls : (z : Space) (n : ℕ) → list_any (λ (w : Work). is_call n w.kind) z.todo ≡ true → list_any (λ (w : Work). is_call n w.kind) (follow z).todo ≡ true
+follow_calls : (z : Space) (n : ℕ) → list_any (λ (w : Work). is_call n w.kind) z.todo ≡ true → list_any (λ (w : Work). is_call n w.kind) (follow z).todo ≡ true
 unfolding follow notify told work_goes deaths_go objects_go names_go
-follow-calls z n h =
+follow_calls z n h =
     let y = deaths_go (objects_go (names_go z)) in
-    notify-keeps (λ todo. list_any (λ (w : Work). is_call n w.kind) todo ≡ true) (work_goes y) (λ todo x l due. any-more (λ (w : Work). is_call n w.kind) todo _)
-    (search (arith, any-found, any-in, filter-in))
+    notify_keeps (λ todo. list_any (λ (w : Work). is_call n w.kind) todo ≡ true) (work_goes y) (λ todo x l due. any_more (λ (w : Work). is_call n w.kind) todo _)
+    (search (arith, any_found, any_in, filter_in))
 
-pub follow-calm : (z : Space) → Pairs Differ z.objects → NoneRipe z.todo [] (turns_of z.buffers) → IsCalm (follow z)
+pub follow_calm : (z : Space) → Pairs Differ z.objects → NoneRipe z.todo [] (turns_of z.buffers) → IsCalm (follow z)
 unfolding follow notify work_goes deaths_go objects_go names_go
-follow-calm z differ none = record {
-  differ = follow-differ z differ;
-  followed = follow-followed z differ;
-  unripe = still-unripe-if z.todo (follow z).todo z (follow-calls z) (turns_of z.buffers) [] none;
+follow_calm z differ none = record {
+  differ = follow_differ z differ;
+  followed = follow_followed z differ;
+  unripe = still_unripe_if z.todo (follow z).todo z (follow_calls z) (turns_of z.buffers) [] none;
 }
 
 -- whatever an accepted command changes, the space after it is quiet
-pub completed-quiet : (z : Space) → Pairs Differ z.objects → IsQuiet (completed z)
+pub completed_quiet : (z : Space) → Pairs Differ z.objects → IsQuiet (completed z)
 unfolding completed ripen
-completed-quiet z h = settle-quiet _ (follow-calm (ripen z) h (ripen-none z))
+completed_quiet z h = settle_quiet _ (follow_calm (ripen z) h (ripen_none z))
 
-pub opening-quiet : IsQuiet opening
-opening-quiet = search arith
+pub opening_quiet : IsQuiet opening
+opening_quiet = search arith

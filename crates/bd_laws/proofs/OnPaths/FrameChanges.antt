@@ -3,14 +3,14 @@ use Rattle.bd_laws.proofs.words.Types.{Frame, Buffer, Work, Serving, OfThread}
 use Rattle.std.proofs.Common.{◌≡◌, ℕ, ◌<◌, ◌≤◌, List, [], ◌∷◌, map, Some, ap, sym, subst, ◌∙◌, arith}
 use Rattle.bd_space.specs.declared.space.WorkKind.TheVariants as work
 use Rattle.bd_laws.proofs.words.Laws.{In, Pairs, Forest, Older, NoChild, Part, Nested}
-use Rattle.bd_laws.proofs.Lists.{in-map, map-in}
+use Rattle.bd_laws.proofs.Lists.{in_map, map_in}
 use Rattle.bd_laws.proofs.OnPaths.Forests.{Kept, Calls}
 
-pairs-mapped : (k : Frame → Frame) → ((f : Frame) → (k f).made ≡ f.made) → (fs : List Frame) → Pairs Older fs → Pairs Older (map k fs)
-pairs-mapped k made [] h = tt
-pairs-mapped k made (f ∷ fs) h = (
-  (λ y l. let x = in-map k y fs l in let lt : f.made < x.0.made = h.0 x.0 x.1 in let a = made f in let b = made x.0 in let c = ap (λ (z : Frame). z.made) x.2 in omega arith),
-  pairs-mapped k made fs h.1,
+pairs_mapped : (k : Frame → Frame) → ((f : Frame) → (k f).made ≡ f.made) → (fs : List Frame) → Pairs Older fs → Pairs Older (map k fs)
+pairs_mapped k made [] h = tt
+pairs_mapped k made (f ∷ fs) h = (
+  (λ y l. let x = in_map k y fs l in let lt : f.made < x.0.made = h.0 x.0 x.1 in let a = made f in let b = made x.0 in let c = ap (λ (z : Frame). z.made) x.2 in omega arith),
+  pairs_mapped k made fs h.1,
 )
 
 -- what a change of callers and servers has to keep
@@ -32,28 +32,28 @@ module _ (n : ℕ) (root : ℕ → ℕ) (fs : List Frame) (bs : List Buffer) (td
     parent : frame.parent ≡ f.parent
 
   before : (f : Frame) → In f (map k fs) → Before f
-  before f l = search (arith, in-map)
+  before f l = search (arith, in_map)
 
-  childless-then : (f : Frame) (x : Before f) → NoChild (map k fs) f → NoChild fs x.frame
-  childless-then f x none y m e = none (k y) (map-in k y fs m) (c.parent y ∙ e ∙ ap (λ i. Some i) x.made)
+  childless_then : (f : Frame) (x : Before f) → NoChild (map k fs) f → NoChild fs x.frame
+  childless_then f x none y m e = none (k y) (map_in k y fs m) (c.parent y ∙ e ∙ ap (λ i. Some i) x.made)
 
-  childless-now : (f : Frame) (x : Before f) → NoChild fs x.frame → NoChild (map k fs) f
-  childless-now f x none y m e = search (arith, before)
+  childless_now : (f : Frame) (x : Before f) → NoChild fs x.frame → NoChild (map k fs) f
+  childless_now f x none y m e = search (arith, before)
 
   roots : (f g : Frame) (x : Before f) (y : Before g) → root f.made ≡ root g.made → root x.frame.made ≡ root y.frame.made
   roots f g x y e = search arith
 
-  pub forest-changed : Forest n root (map k fs) cs ud
-  forest-changed = record {
+  pub forest_changed : Forest n root (map k fs) cs ud
+  forest_changed = record {
     below = λ f l. let x = before f l in let lt = h.below x.frame x.here in let e = x.made in omega arith;
     rooted = λ f l. let x = before f l in subst (λ i. root i ≤ i) x.made (h.rooted x.frame x.here);
-    sorted = pairs-mapped k c.made fs h.sorted;
+    sorted = pairs_mapped k c.made fs h.sorted;
     parents = λ g p l e.
         let y = before g l in
         let u = h.parents y.frame p y.here (y.parent ∙ e) in
         record {
           frame = k u.frame;
-          here = map-in k u.frame fs u.here;
+          here = map_in k u.frame fs u.here;
           made = c.made u.frame ∙ u.made;
           older = subst (λ i. p < i) y.made u.older;
           same = ap root (sym y.made) ∙ u.same;
@@ -69,7 +69,7 @@ module _ (n : ℕ) (root : ℕ → ℕ) (fs : List Frame) (bs : List Buffer) (td
         let x = before f l in
         let y = before g m in
         let a = x.made in let b = y.made in
-        let le = h.leaf x.frame y.frame x.here y.here (roots f g x y e) (childless-then f x none) in omega arith;
+        let le = h.leaf x.frame y.frame x.here y.here (roots f g x y e) (childless_then f x none) in omega arith;
     shared = λ t f g l m p q.
         let x = before f l in
         let y = before g m in
@@ -77,10 +77,10 @@ module _ (n : ℕ) (root : ℕ → ℕ) (fs : List Frame) (bs : List Buffer) (td
     waiting = λ w t f l e o i.
         let x = before f i in
         let u = h.waiting w t x.frame (calls w f.made l e) (e ∙ ap (λ j. work.Call j) (sym x.made)) o x.here in
-        (k u.0, map-in k u.0 fs u.1, c.callers w t f.made u.0 l e o u.2, ap root (c.made u.0) ∙ u.3 ∙ ap root x.made, (let lt = u.4 in let a = c.made u.0 in let b = x.made in omega arith));
+        (k u.0, map_in k u.0 fs u.1, c.callers w t f.made u.0 l e o u.2, ap root (c.made u.0) ∙ u.3 ∙ ap root x.made, (let lt = u.4 in let a = c.made u.0 in let b = x.made in omega arith));
     childless = λ w f l e i.
         let x = before f i in
-        childless-now f x (h.childless w x.frame (calls w f.made l e) (e ∙ ap (λ j. work.Call j) (sym x.made)) x.here);
+        childless_now f x (h.childless w x.frame (calls w f.made l e) (e ∙ ap (λ j. work.Call j) (sym x.made)) x.here);
     unserved = λ w f t l e i s. search (arith, before);
     one = λ v w b l m e o. h.one v w b (calls v b l e) (calls w b m o) e o;
     due = λ w b l e. h.due w b (calls w b l e) e;

@@ -3,43 +3,43 @@ use Rattle.bd_laws.proofs.words.Logic.{arith, ◌≡◌, ℕ, ◌==◌, true, fa
 use Rattle.bd_laws.proofs.words.Types.{Frame, Work, Server, Serving, TodoList, OfThread, OfProcess}
 use Rattle.bd_laws.proofs.words.Space.{Space, serves, innermost_in, served_innermost, is_item, unread_server, gone_caller, gone_server, goes_to, ancestry, waits_in, list_of_caller, made_of}
 use Rattle.bd_laws.proofs.words.Laws.{In}
-use Rattle.bd_laws.proofs.Lists.{find-in}
+use Rattle.bd_laws.proofs.Lists.{find_in}
 
-pub is-serving : (seat : ℕ) (v : Server) → serves seat v ≡ true → v ≡ Serving seat
-is-serving seat v e = search (arith, eqb-true)
+pub is_serving : (seat : ℕ) (v : Server) → serves seat v ≡ true → v ≡ Serving seat
+is_serving seat v e = search (arith, eqb-true)
 
-pub served-is : (s : Space) (seat : ℕ) (f : Frame) → served_innermost s seat ≡ Some f → (innermost_in s.frames seat ≡ Some f) × (f.server ≡ Serving seat)
+pub served_is : (s : Space) (seat : ℕ) (f : Frame) → served_innermost s seat ≡ Some f → (innermost_in s.frames seat ≡ Some f) × (f.server ≡ Serving seat)
 unfolding served_innermost
-served-is s seat f h = search (arith, is-serving)
+served_is s seat f h = search (arith, is_serving)
 
-pub same-item : (v w : Work) → v ≡ w → is_item v w ≡ true
-same-item v w e = search arith
+pub same_item : (v w : Work) → v ≡ w → is_item v w ≡ true
+same_item v w e = search arith
 
 -- of this thread is told what it is when it is gone, of another one what it was
-other-stays : {A : Type 0} (of : ℕ → A) (gone : A) (seat u t : ℕ) → (gone ≡ of t → ⊥) → (of u ≡ of t → u ≡ t) → cond (u == seat) gone (of u) ≡ of t → (of u ≡ of t) × ((t == seat) ≡ false)
-other-stays of gone seat u t never same h = search arith
+other_stays : {A : Type 0} (of : ℕ → A) (gone : A) (seat u t : ℕ) → (gone ≡ of t → ⊥) → (of u ≡ of t → u ≡ t) → cond (u == seat) gone (of u) ≡ of t → (of u ≡ of t) × ((t == seat) ≡ false)
+other_stays of gone seat u t never same h = search arith
 
-pub caller-stays : (seat : ℕ) (c : Option ℕ) (t : ℕ) → gone_caller seat c ≡ Some t → (c ≡ Some t) × ((t == seat) ≡ false)
-caller-stays seat c t h = search (arith, other-stays)
+pub caller_stays : (seat : ℕ) (c : Option ℕ) (t : ℕ) → gone_caller seat c ≡ Some t → (c ≡ Some t) × ((t == seat) ≡ false)
+caller_stays seat c t h = search (arith, other_stays)
 
-pub unread-serving : (todo : List Work) (list : TodoList) (n : ℕ) (v : Server) (t : ℕ) → unread_server todo list n v ≡ Serving t → v ≡ Serving t
-unread-serving todo list n v t h = search arith
+pub unread_serving : (todo : List Work) (list : TodoList) (n : ℕ) (v : Server) (t : ℕ) → unread_server todo list n v ≡ Serving t → v ≡ Serving t
+unread_serving todo list n v t h = search arith
 
-pub server-stays : (seat : ℕ) (v : Server) (t : ℕ) → gone_server seat v ≡ Serving t → (v ≡ Serving t) × ((t == seat) ≡ false)
-server-stays seat v t h = search (arith, other-stays)
+pub server_stays : (seat : ℕ) (v : Server) (t : ℕ) → gone_server seat v ≡ Serving t → (v ≡ Serving t) × ((t == seat) ≡ false)
+server_stays seat v t h = search (arith, other_stays)
 
 -- a call that goes to a thread goes to the caller of a frame that its own innermost frame is inside of
-pub goes-to-waiting : (s : Space) (seat p t : ℕ) → goes_to s seat p ≡ OfThread t
+pub goes_to_waiting : (s : Space) (seat p t : ℕ) → goes_to s seat p ≡ OfThread t
     → (f : Frame) × (innermost_in s.frames seat ≡ Some f) × ((g : Frame) × In g (ancestry (Some f.made) (reverse s.frames)) × (g.caller ≡ Some t) × (waits_in s.threads p g ≡ true))
 unfolding goes_to
-goes-to-waiting s seat p t h = at (innermost_in s.frames seat) refl h
+goes_to_waiting s seat p t h = at (innermost_in s.frames seat) refl h
   where
     on : (c : Option ℕ) → (elim c as (λ (x : Option ℕ). TodoList) [ None ↦ OfProcess p | Some u ↦ OfThread u ]) ≡ OfThread t → c ≡ Some t
     on c k = search arith
 
     found : (xs : List Frame) (g : Option Frame) → find (waits_in s.threads p) xs ≡ g → list_of_caller p g ≡ OfThread t → (f : Frame) × In f xs × (f.caller ≡ Some t) × (waits_in s.threads p f ≡ true)
     found xs None k q = absurd (cc)
-    found xs (Some f) k q = let l = find-in (waits_in s.threads p) f xs k in (f, l.0, on f.caller q, l.1)
+    found xs (Some f) k q = let l = find_in (waits_in s.threads p) f xs k in (f, l.0, on f.caller q, l.1)
 
     nothing : (xs : List Frame) → list_of_caller p (find (waits_in s.threads p) (ancestry None xs)) ≡ OfThread t → ⊥
     nothing [] k = absurd (cc)

@@ -5,38 +5,38 @@ use Rattle.bd_laws.proofs.words.Space.{Space, History, space_after, takes_part, 
 use Rattle.bd_space.specs.ReadItems.{none_due}
 use Rattle.bd_space.specs.Histories.{is_ready}
 use Rattle.bd_laws.proofs.words.Laws.{In, Framed, OnPaths, IsFramed, IsTidy}
-use Rattle.bd_laws.proofs.Lists.{find-in, any-found, any-in}
-use Rattle.bd_laws.proofs.Tests.{either-way, to-false}
-use Rattle.bd_laws.proofs.Always.{always-tidy}
-use Rattle.bd_laws.proofs.OnPaths.Innermost.{innermost-is, none-innermost, part-true, true-part}
+use Rattle.bd_laws.proofs.Lists.{find_in, any_found, any_in}
+use Rattle.bd_laws.proofs.Tests.{either_way, to_false}
+use Rattle.bd_laws.proofs.Always.{always_tidy}
+use Rattle.bd_laws.proofs.OnPaths.Innermost.{innermost_is, none_innermost, part_true, true_part}
 use Rattle.bd_laws.specs.Reached.{is_filled_or_emptied, IsReached}
 use Rattle.bd_laws.specs.Laws.{WhomAStepReaches}
-use Rattle.bd_laws.proofs.WhomAStepReaches.OtherSeats.{is_busy, Left, Told, left-of}
+use Rattle.bd_laws.proofs.WhomAStepReaches.OtherSeats.{is_busy, Left, Told, left_of}
 
 -- ---- a seat is ready
 
-any-left : (p : Work → Bool) (xs : List Work) → not (none_due (filter p xs)) ≡ list_any p xs
-any-left p [] = refl
-any-left p (x ∷ xs) = search (arith, any-left p xs)
+any_left : (p : Work → Bool) (xs : List Work) → not (none_due (filter p xs)) ≡ list_any p xs
+any_left p [] = refl
+any_left p (x ∷ xs) = search (arith, any_left p xs)
 
 idle : (fs : List Frame) (t : ℕ) → is_none (innermost_in fs t) ≡ not (is_busy t fs)
 idle fs t = at (innermost_in fs t) refl
   where
     at : (o : Option Frame) → innermost_in fs t ≡ o → is_none o ≡ not (is_busy t fs)
-    at None e = ap not (sym (to-false (is_busy t fs) (λ k. let f = any-found (takes_part t) fs k in none-innermost fs t e f.0 f.1 (true-part t f.0 f.2))))
-    at (Some f) e = let k = innermost-is fs t f e in ap not (sym (any-in (takes_part t) f fs k.0 (part-true t f k.1)))
+    at None e = ap not (sym (to_false (is_busy t fs) (λ k. let f = any_found (takes_part t) fs k in none_innermost fs t e f.0 f.1 (true_part t f.0 f.2))))
+    at (Some f) e = let k = innermost_is fs t f e in ap not (sym (any_in (takes_part t) f fs k.0 (part_true t f k.1)))
 
 abbrev ready_by : Bool → Bool → Bool → Bool → Bool
 ready_by own looping busy shared = own || (looping && not busy && shared)
 
 module _ (z : Space) (a : Thread) where
-  reads-some : not (none_due (list_to_read z a)) ≡ ready_by (has_work_in z.todo (OfThread a.seat)) a.looping (is_busy a.seat z.frames) (has_work_in z.todo (OfProcess a.process))
+  reads_some : not (none_due (list_to_read z a)) ≡ ready_by (has_work_in z.todo (OfThread a.seat)) a.looping (is_busy a.seat z.frames) (has_work_in z.todo (OfProcess a.process))
   unfolding list_to_read
-  reads-some = at (has_work_in z.todo (OfThread a.seat)) refl a.looping (is_none (innermost_in z.frames a.seat)) (is_busy a.seat z.frames) (idle z.frames a.seat)
+  reads_some = at (has_work_in z.todo (OfThread a.seat)) refl a.looping (is_none (innermost_in z.frames a.seat)) (is_busy a.seat z.frames) (idle z.frames a.seat)
     where
       at : (own : Bool) → has_work_in z.todo (OfThread a.seat) ≡ own → (looping i busy : Bool) → i ≡ not busy
           → not (none_due (work_on z.todo (cond own (Some (OfThread a.seat)) (cond (looping && i) (Some (OfProcess a.process)) None)))) ≡ ready_by own looping busy (has_work_in z.todo (OfProcess a.process))
-      at own e looping i busy q = search (arith, any-left)
+      at own e looping i busy q = search (arith, any_left)
 
 -- ---- it is as it was, or the seat is reached
 
@@ -49,61 +49,61 @@ module _ (s : Space) (tidy : IsTidy s) (seat : ℕ) (x : Step) (t : ℕ) (other 
   framed = tidy.framed
 
   after : Left s seat t other z
-  after = left-of s seat t other framed tidy.on_paths x
+  after = left_of s seat t other framed tidy.on_paths x
 
   Result : Type 0
   Result = (is_ready z t ≡ is_ready s t) ⊎ IsReached s z t
 
   -- what it was told is there
-  has-one : (w : Work) → In w z.todo → w.list ≡ OfThread t → has_work_in z.todo (OfThread t) ≡ true
-  has-one w l e = any-in (is_on (OfThread t)) w z.todo l (search (arith, eq-eqb))
+  has_one : (w : Work) → In w z.todo → w.list ≡ OfThread t → has_work_in z.todo (OfThread t) ≡ true
+  has_one w l e = any_in (is_on (OfThread t)) w z.todo l (search (arith, eq-eqb))
 
-  both-ready : (a : Thread) → a.seat ≡ t → has_work_in z.todo (OfThread t) ≡ true → has_work_in s.todo (OfThread t) ≡ true → not (none_due (list_to_read z a)) ≡ not (none_due (list_to_read s a))
-  both-ready a e own before = reads-some z a ∙ both ∙ sym (reads-some s a)
+  both_ready : (a : Thread) → a.seat ≡ t → has_work_in z.todo (OfThread t) ≡ true → has_work_in s.todo (OfThread t) ≡ true → not (none_due (list_to_read z a)) ≡ not (none_due (list_to_read s a))
+  both_ready a e own before = reads_some z a ∙ both ∙ sym (reads_some s a)
     where
       both : ready_by (has_work_in z.todo (OfThread a.seat)) a.looping (is_busy a.seat z.frames) (has_work_in z.todo (OfProcess a.process))
           ≡ ready_by (has_work_in s.todo (OfThread a.seat)) a.looping (is_busy a.seat s.frames) (has_work_in s.todo (OfProcess a.process))
       both = search arith
 
-  changed-list : (list : TodoList) → beq (has_work_in s.todo list) (has_work_in z.todo list) ≡ false → is_filled_or_emptied s z list ≡ true
-  changed-list list e = search arith
+  changed_list : (list : TodoList) → beq (has_work_in s.todo list) (has_work_in z.todo list) ≡ false → is_filled_or_emptied s z list ≡ true
+  changed_list list e = search arith
 
-  same-list : (list : TodoList) → beq (has_work_in s.todo list) (has_work_in z.todo list) ≡ true → has_work_in z.todo list ≡ has_work_in s.todo list
-  same-list list e = search arith
+  same_list_still : (list : TodoList) → beq (has_work_in s.todo list) (has_work_in z.todo list) ≡ true → has_work_in z.todo list ≡ has_work_in s.todo list
+  same_list_still list e = search arith
 
-  same-ready : (a : Thread) → a.seat ≡ t → has_work_in z.todo (OfThread t) ≡ has_work_in s.todo (OfThread t) → has_work_in z.todo (OfProcess a.process) ≡ has_work_in s.todo (OfProcess a.process)
+  same_ready : (a : Thread) → a.seat ≡ t → has_work_in z.todo (OfThread t) ≡ has_work_in s.todo (OfThread t) → has_work_in z.todo (OfProcess a.process) ≡ has_work_in s.todo (OfProcess a.process)
       → is_busy t z.frames ≡ is_busy t s.frames → not (none_due (list_to_read z a)) ≡ not (none_due (list_to_read s a))
-  same-ready a e own shared busy = reads-some z a ∙ both ∙ sym (reads-some s a)
+  same_ready a e own shared busy = reads_some z a ∙ both ∙ sym (reads_some s a)
     where
       both : ready_by (has_work_in z.todo (OfThread a.seat)) a.looping (is_busy a.seat z.frames) (has_work_in z.todo (OfProcess a.process))
           ≡ ready_by (has_work_in s.todo (OfThread a.seat)) a.looping (is_busy a.seat s.frames) (has_work_in s.todo (OfProcess a.process))
       both = search arith
 
-  for-thread : (o : Option Thread) → thread_in s.threads t ≡ o → thread_in z.threads t ≡ o → Result
+  for_thread : (o : Option Thread) → thread_in s.threads t ≡ o → thread_in z.threads t ≡ o → Result
   unfolding Result
-  for-thread None e k = inl (ap (λ p. is_some_and p (λ a. not (none_due (list_to_read z a)))) k ∙ sym (ap (λ p. is_some_and p (λ a. not (none_due (list_to_read s a)))) e))
-  for-thread (Some a) e k =
-      let seat_is = eqb-true a.seat t (find-in (λ (q : Thread). q.seat == t) a s.threads e).1 in
+  for_thread None e k = inl (ap (λ p. is_some_and p (λ a. not (none_due (list_to_read z a)))) k ∙ sym (ap (λ p. is_some_and p (λ a. not (none_due (list_to_read s a)))) e))
+  for_thread (Some a) e k =
+      let seat_is = eqb-true a.seat t (find_in (λ (q : Thread). q.seat == t) a s.threads e).1 in
       elim after.calls [
-        | inr (inl w) ↦ either-way (beq (has_work_in s.todo (OfThread t)) (has_work_in z.todo (OfThread t)))
-            (λ own. let one = has-one w.0 w.1 w.2 in inl (ap (λ p. is_some_and p (λ b. not (none_due (list_to_read z b)))) k
-            ∙ both-ready a seat_is one (sym (same-list (OfThread t) own) ∙ one)
+        | inr (inl w) ↦ either_way (beq (has_work_in s.todo (OfThread t)) (has_work_in z.todo (OfThread t)))
+            (λ own. let one = has_one w.0 w.1 w.2 in inl (ap (λ p. is_some_and p (λ b. not (none_due (list_to_read z b)))) k
+            ∙ both_ready a seat_is one (sym (same_list_still (OfThread t) own) ∙ one)
             ∙ sym (ap (λ p. is_some_and p (λ b. not (none_due (list_to_read s b)))) e)))
-            (λ own. inr (inl (changed-list (OfThread t) own)))
+            (λ own. inr (inl (changed_list (OfThread t) own)))
         | inr (inr off) ↦ inr (inr (inr off))
-        | inl busy ↦ either-way (beq (has_work_in s.todo (OfThread t)) (has_work_in z.todo (OfThread t)))
-            (λ own. either-way (beq (has_work_in s.todo (OfProcess a.process)) (has_work_in z.todo (OfProcess a.process)))
+        | inl busy ↦ either_way (beq (has_work_in s.todo (OfThread t)) (has_work_in z.todo (OfThread t)))
+            (λ own. either_way (beq (has_work_in s.todo (OfProcess a.process)) (has_work_in z.todo (OfProcess a.process)))
             (λ shared. inl (ap (λ p. is_some_and p (λ b. not (none_due (list_to_read z b)))) k
-            ∙ same-ready a seat_is (same-list (OfThread t) own) (same-list (OfProcess a.process) shared) busy
+            ∙ same_ready a seat_is (same_list_still (OfThread t) own) (same_list_still (OfProcess a.process) shared) busy
             ∙ sym (ap (λ p. is_some_and p (λ b. not (none_due (list_to_read s b)))) e)))
-            (λ shared. inr (inr (inl (a, e, changed-list (OfProcess a.process) shared)))))
-            (λ own. inr (inl (changed-list (OfThread t) own)))
+            (λ shared. inr (inr (inl (a, e, changed_list (OfProcess a.process) shared)))))
+            (λ own. inr (inl (changed_list (OfThread t) own)))
       ]
 
   pub reaches : (is_ready z t ≡ is_ready s t) ⊎ IsReached s z t
   unfolding Result
-  reaches = elim after.thread [ inl e ↦ for-thread (thread_in s.threads t) refl e | inr off ↦ inr (inr (inr off)) ]
+  reaches = elim after.thread [ inl e ↦ for_thread (thread_in s.threads t) refl e | inr off ↦ inr (inr (inr off)) ]
 
 pub whom_reached : WhomAStepReaches
 unfolding counted list_to_read
-whom_reached h seat x t other = reaches (space_after h) (always-tidy h) seat x t other
+whom_reached h seat x t other = reaches (space_after h) (always_tidy h) seat x t other

@@ -1,10 +1,10 @@
 -- The words of logic, numbers and lists in which the laws' proofs speak, passed on from std.
 pub use Rattle.std.proofs.Common.{Bool, Err, IfOk, IfSome, List, None, Ok, Option, Result, Some, [], add-one, ap, append-nil, append_assoc, arith, cond, drop, false, filter, find, get_or, inl, inr, length, length-append, map, ne_eqb, not, refl, reverse, rules, set, subst, suc, sym, take, true, zero, ℕ, ◌%◌, ◌&&◌, ◌++◌, ◌+◌, ◌-◌, ◌<◌, ◌==◌, ◌^◌, ◌||◌, ◌∙◌, ◌∷◌, ◌≡◌, ◌≤◌, ◌⊎◌}
-pub use Rattle.std.proofs.Math.Bool.{or-false}
+pub use Rattle.std.proofs.Math.Bool.{or-false as or_false}
 pub use Rattle.std.proofs.Math.ListN.{get_or-append}
 pub use Rattle.std.proofs.Math.Seq.{get_or-append_seam}
 pub use Rattle.std.proofs.lemmas.Bool.{cases_Bool, cases_lt, eq-eqb, eqb-true, le-leb, le-ltb, leb-true, lt-leb, lt-ltb, ltb-false, ltb-true}
-pub use Rattle.std.proofs.lemmas.List.{get_or_default, length-take-le, map-append, reverse-append, take-append-drop, take-append-le, take-take, take_all, take_more}
+pub use Rattle.std.proofs.lemmas.List.{get_or_default, length-take-le, map-append, reverse-append, take-append-drop, take-append-le, take-take as take_take, take_all, take_more}
 pub use Rattle.std.proofs.lemmas.List.Edits.{map_over_more}
 pub use Rattle.std.proofs.lemmas.List.Folds.{list_all-map, list_all_more, list_any-append}
 pub use Rattle.std.proofs.lemmas.List.Sorted.{sorted_far}

@@ -1,19 +1,19 @@
 use Rattle.bd_laws.proofs.words.Logic.{rules, arith, ◌≡◌, [], ◌∷◌, ◌++◌, None, subst, sym, err_from_is_err_and}
 use Rattle.bd_space.specs.Histories.{History, history_in}
 use Rattle.bd_audit.specs.GiftSearch.{AreGifts}
-use Rattle.bd_audit.proofs.Beginnings.{all-played, next-beginning, next-lawful}
-use Rattle.bd_audit.proofs.NamesHaveGiftChains.GiftSteps.{receiver-there, gifts-same, gifts-more}
+use Rattle.bd_audit.proofs.Beginnings.{all_played, next_beginning, next_lawful}
+use Rattle.bd_audit.proofs.NamesHaveGiftChains.GiftSteps.{receiver_there, gifts_same, gifts_more}
 use Rattle.bd_audit.proofs.gifts.gifts_of.Goals as goal
 use Rattle.bd_audit.proofs.gifts.gifts_of.Goals.{in-Some+else-is_err, in_default-2}
 
 pub next_gift-requires-clause-lawful : goal.next_gift-requires-clause-lawful
 next_gift-requires-clause-lawful c =
-    next-lawful (history_in c.args.history.now) c.loop-entry.engine c.loop-entry.entry-index c.entry-item.result c.as_slice-entry-items.result.now c.requires.lawful
+    next_lawful (history_in c.args.history.now) c.loop-entry.engine c.loop-entry.entry-index c.entry-item.result c.as_slice-entry-items.result.now c.requires.lawful
     c.loop-entry.invariant.engine c.as_slice-entry-items.ensures c.loop-entry-test.true c.entry-item.is
 
 pub next_gift-requires-clause-receiver : goal.next_gift-requires-clause-receiver
 next_gift-requires-clause-receiver c =
-    receiver-there (history_in c.args.history.now) c.loop-entry.engine c.loop-entry.entry-index c.entry-item.result c.as_slice-entry-items.result.now c.args.receivers.now c.len.result
+    receiver_there (history_in c.args.history.now) c.loop-entry.engine c.loop-entry.entry-index c.entry-item.result c.as_slice-entry-items.result.now c.args.receivers.now c.len.result
     c.requires.receivers c.loop-entry.invariant.engine c.as_slice-entry-items.ensures c.loop-entry-test.true c.entry-item.is c.len.ensures
 
 pub loop-entry-preserved : goal.loop-entry-preserved
@@ -22,18 +22,18 @@ loop-entry-preserved c =
     let k = c.next_gift.new.engine in
     let gs = c.loop-entry.gifts.items in
     record {
-      engine = next-beginning (history_in c.args.history.now) h k c.loop-entry.entry-index c.entry-item.result c.as_slice-entry-items.result.now
+      engine = next_beginning (history_in c.args.history.now) h k c.loop-entry.entry-index c.entry-item.result c.as_slice-entry-items.result.now
           c.loop-entry.invariant.engine c.as_slice-entry-items.ensures c.loop-entry-test.true c.entry-item.is c.in_ok-gift.ensures.ok;
       gifts = elim c.match-branch-2.branch [
         | in-Some+else-is_err w ↦ (
             let g = w.in-Some.gift in
             let pushed : c.match-branch-2.gifts.items ≡ gs ++ g ∷ [] = search rules in
-            gifts-more h k c.entry-item.result c.args.object gs c.in_ok-gift.field-0 c.in_ok-gift.ensures.ok c.loop-entry.invariant.gifts c.in_ok-gift.ensures.gift g c.match-branch-2.gifts.items w.in-Some.is pushed)
+            gifts_more h k c.entry-item.result c.args.object gs c.in_ok-gift.field-0 c.in_ok-gift.ensures.ok c.loop-entry.invariant.gifts c.in_ok-gift.ensures.gift g c.match-branch-2.gifts.items w.in-Some.is pushed)
         | in_default-2 w ↦ (
             let stays : c.match-branch-2.gifts.items ≡ gs = search rules in
             let none : c.in_ok-gift.field-0 ≡ None = search rules in
             subst (AreGifts k.entries c.args.object) (sym stays)
-            (gifts-same h k c.entry-item.result c.args.object gs c.in_ok-gift.field-0 c.in_ok-gift.ensures.ok c.loop-entry.invariant.gifts c.in_ok-gift.ensures.gift none))
+            (gifts_same h k c.entry-item.result c.args.object gs c.in_ok-gift.field-0 c.in_ok-gift.ensures.ok c.loop-entry.invariant.gifts c.in_ok-gift.ensures.gift none))
       ];
     }
 
@@ -45,5 +45,5 @@ returns-in_err-gift c =
 pub returns : goal.returns
 returns c =
     let done = c.loop-entry-test.false in
-    let played = all-played (history_in c.args.history.now) c.loop-entry.engine c.loop-entry.entry-index c.as_slice-entry-items.result.now c.loop-entry.invariant.engine c.as_slice-entry-items.ensures (omega arith) in
+    let played = all_played (history_in c.args.history.now) c.loop-entry.engine c.loop-entry.entry-index c.as_slice-entry-items.result.now c.loop-entry.invariant.engine c.as_slice-entry-items.ensures (omega arith) in
     subst (λ (h : History). AreGifts h.entries c.args.object c.loop-entry.gifts.items) played c.loop-entry.invariant.gifts

@@ -1,12 +1,12 @@
 use Rattle.bd_laws.proofs.words.Space.{space_after, step}
 use Rattle.std.proofs.Common.{◌≡◌, ◌∙◌, ap, true, false}
 use Rattle.bd_space.specs.declared.step.Step.{Step}
-use Rattle.bd_audit.proofs.Beginnings.{wrong-answer, refused}
+use Rattle.bd_audit.proofs.Beginnings.{wrong_answer, refused}
 use Rattle.bd_audit.proofs.judging.accept.Goals as goal
 
 pub returns-in-Ok-step-clause-unlawful : goal.returns-in-Ok-step-clause-unlawful
 returns-in-Ok-step-clause-unlawful c =
-    wrong-answer c.args.engine.now c.args.entry.now c.in-Ok-step.answer
+    wrong_answer c.args.engine.now c.args.entry.now c.in-Ok-step.answer
     (c.in-Ok-step.ensures.answer ∙ ap (λ (x : Step). (step (space_after c.args.engine.now) c.args.entry.now.seat x).answer) c.in-Ok.ensures)
     (λ e. let wrong : false ≡ true = c.if-is_same_answer.ensures.1 e in absurd (cc))
 

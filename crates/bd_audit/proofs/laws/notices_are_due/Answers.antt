@@ -1,5 +1,5 @@
-use Rattle.bd_audit.proofs.NoticesAreDue.Due.{notices-due}
+use Rattle.bd_audit.proofs.NoticesAreDue.Due.{notices_due}
 use Rattle.bd_audit.proofs.laws.notices_are_due.Goals as goal
 
 pub returns : goal.returns
-returns c = λ h lawful. notices-due h
+returns c = λ h lawful. notices_due h

@@ -1,5 +1,5 @@
-use Rattle.bd_audit.proofs.OwnersHearInOrder.Heard.{hears-in-order}
+use Rattle.bd_audit.proofs.OwnersHearInOrder.Heard.{hears_in_order}
 use Rattle.bd_audit.proofs.laws.owners_hear_in_order.Goals as goal
 
 pub returns : goal.returns
-returns c = λ h lawful o. hears-in-order h lawful o
+returns c = λ h lawful o. hears_in_order h lawful o

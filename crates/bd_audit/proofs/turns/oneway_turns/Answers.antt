@@ -2,35 +2,35 @@ use Rattle.bd_laws.proofs.words.Logic.{◌∙◌, refl, sym, ap, subst, arith, e
 use Rattle.bd_space.specs.Histories.{History, history_in}
 use Rattle.bd_audit.specs.TurnSearch.{turns_on}
 use Rattle.bd_audit.specs.TurnCalls.{AreTurns}
-use Rattle.bd_audit.proofs.Beginnings.{all-played, next-beginning, next-lawful}
-use Rattle.bd_audit.proofs.TurnsTellOfCalls.TurnLists.{turns-noted, turns-none}
-use Rattle.bd_audit.proofs.TurnsAreTaken.TurnMarks.{in-turn}
-use Rattle.bd_audit.proofs.TurnsTellOfCalls.TurnCalls.{turns-are}
+use Rattle.bd_audit.proofs.Beginnings.{all_played, next_beginning, next_lawful}
+use Rattle.bd_audit.proofs.TurnsTellOfCalls.TurnLists.{turns_noted, turns_none}
+use Rattle.bd_audit.proofs.TurnsAreTaken.TurnMarks.{in_turn}
+use Rattle.bd_audit.proofs.TurnsTellOfCalls.TurnCalls.{turns_are}
 use Rattle.bd_audit.proofs.turns.oneway_turns.Goals as goal
 
 pub loop-entry-init : goal.loop-entry-init
 loop-entry-init c = record {
   engine = c.in-Ok.ensures.ok;
-  turns = c.new-turns.ensures.items ∙ sym (ap (λ (h : History). turns_on c.args.object h) c.in-Ok.ensures.ok ∙ turns-none c.args.object c.args.record.now.seats);
+  turns = c.new-turns.ensures.items ∙ sym (ap (λ (h : History). turns_on c.args.object h) c.in-Ok.ensures.ok ∙ turns_none c.args.object c.args.record.now.seats);
   ended = refl;
 }
 
 pub advance-requires : goal.advance-requires
 advance-requires c = record {
-  lawful = next-lawful (history_in c.args.record.now) c.loop-entry.engine c.loop-entry.entry-index c.entry-item.result c.as_slice-entry-items.result.now c.requires.lawful
+  lawful = next_lawful (history_in c.args.record.now) c.loop-entry.engine c.loop-entry.entry-index c.entry-item.result c.as_slice-entry-items.result.now c.requires.lawful
       c.loop-entry.invariant.engine c.as_slice-entry-items.ensures c.loop-entry-test.true c.entry-item.is;
 }
 
 pub note-requires : goal.note-requires
 note-requires c =
-    in-turn c.args.object c.loop-entry.engine c.advance.new.engine c.entry-item.result c.len-place.result c.loop-entry.list.ended c.loop-entry.list.turns.items
+    in_turn c.args.object c.loop-entry.engine c.advance.new.engine c.entry-item.result c.len-place.result c.loop-entry.list.ended c.loop-entry.list.turns.items
     c.in_ok-advance.ensures.ok c.len-place.ensures c.loop-entry.invariant.turns c.loop-entry.invariant.ended
 
 pub loop-entry-preserved : goal.loop-entry-preserved
 loop-entry-preserved c = record {
-  engine = next-beginning (history_in c.args.record.now) c.loop-entry.engine c.advance.new.engine c.loop-entry.entry-index c.entry-item.result c.as_slice-entry-items.result.now
+  engine = next_beginning (history_in c.args.record.now) c.loop-entry.engine c.advance.new.engine c.loop-entry.entry-index c.entry-item.result c.as_slice-entry-items.result.now
       c.loop-entry.invariant.engine c.as_slice-entry-items.ensures c.loop-entry-test.true c.entry-item.is c.in_ok-advance.ensures.ok;
-  turns = turns-noted c.args.object c.loop-entry.engine c.advance.new.engine c.entry-item.result c.len-place.result c.loop-entry.list.turns.items c.note.new.list.turns.items
+  turns = turns_noted c.args.object c.loop-entry.engine c.advance.new.engine c.entry-item.result c.len-place.result c.loop-entry.list.turns.items c.note.new.list.turns.items
       c.in_ok-advance.ensures.ok c.len-place.ensures c.loop-entry.invariant.turns c.in_ok-note.ensures.ok;
   ended = c.in_ok-note.ensures.ended;
 }
@@ -40,8 +40,8 @@ returns c =
     let h = history_in c.args.record.now in
     let o = c.args.object in
     let done = c.loop-entry-test.false in
-    let played = all-played h c.loop-entry.engine c.loop-entry.entry-index c.as_slice-entry-items.result.now c.loop-entry.invariant.engine c.as_slice-entry-items.ensures (omega arith) in
-    subst (λ ts. AreTurns h.entries o ts) (sym (c.loop-entry.invariant.turns ∙ ap (λ (g : History). turns_on o g) played)) (turns-are h o)
+    let played = all_played h c.loop-entry.engine c.loop-entry.entry-index c.as_slice-entry-items.result.now c.loop-entry.invariant.engine c.as_slice-entry-items.ensures (omega arith) in
+    subst (λ ts. AreTurns h.entries o ts) (sym (c.loop-entry.invariant.turns ∙ ap (λ (g : History). turns_on o g) played)) (turns_are h o)
 
 pub returns-in_err-advance : goal.returns-in_err-advance
 returns-in_err-advance c =

@@ -1,14 +1,14 @@
 use Rattle.std.proofs.Common.{◌∙◌, arith}
-use Rattle.bd_calls.proofs.Marking.{listing-more, listing-all}
+use Rattle.bd_calls.proofs.Marking.{listing_more, listing_all}
 use Rattle.bd_calls.proofs.marks.list_changed.Goals as goal
 
 pub loop-mark-preserved : goal.loop-mark-preserved
 loop-mark-preserved c = record {
   listed = λ ws are.
-      listing-more ws c.args.marks.now c.loop-mark.mark-index _ _ _ (omega arith) (c.loop-mark.invariant.listed ws are) (c.push_changed.ensures.listed ws are);
+      listing_more ws c.args.marks.now c.loop-mark.mark-index _ _ _ (omega arith) (c.loop-mark.invariant.listed ws are) (c.push_changed.ensures.listed ws are);
   len = let before = c.loop-mark.invariant.len in let more = c.push_changed.ensures.len in omega (arith, before, more);
   capacity = c.push_changed.ensures.capacity ∙ c.loop-mark.invariant.capacity;
 }
 
 pub returns : goal.returns
-returns c = λ ws are. listing-all ws c.args.marks.now c.loop-mark.mark-index _ (omega arith) (c.loop-mark.invariant.listed ws are)
+returns c = λ ws are. listing_all ws c.args.marks.now c.loop-mark.mark-index _ (omega arith) (c.loop-mark.invariant.listed ws are)

@@ -1,21 +1,21 @@
 use Rattle.std.proofs.Common.{◌∙◌, Some, rules, subst}
 use Rattle.bd_space.specs.Todo.{work_on}
-use Rattle.bd_calls.proofs.Losing.{Losing, losing-begins, losing-next, losing-ends, lost-on}
+use Rattle.bd_calls.proofs.Losing.{Losing, losing_begins, losing_next, losing_ends, lost_on}
 use Rattle.bd_calls.proofs.turn.remove_turns_on.Goals as goal
 
 pub loop-work-init : goal.loop-work-init
 loop-work-init c = record {
   losing = λ works are ts stands.
-      subst (Losing _ _) (lost-on works c.args.list ts)
-      (losing-begins _ ts (work_on works (Some c.args.list)) _ (c.into_iter-work-iterator.ensures.into_iter_gives ∙ c.works_on-work-items.ensures works are) stands);
+      subst (Losing _ _) (lost_on works c.args.list ts)
+      (losing_begins _ ts (work_on works (Some c.args.list)) _ (c.into_iter-work-iterator.ensures.into_iter_gives ∙ c.works_on-work-items.ensures works are) stands);
   uses = search rules;
 }
 
 pub loop-work-preserved : goal.loop-work-preserved
 loop-work-preserved c = record {
-  losing = λ works are ts stands. losing-next _ _ c.in-Some.work _ _ _ c.in-Some.ensures.steps c.remove_turn_of.ensures.turns (c.loop-work.invariant.losing works are ts stands);
+  losing = λ works are ts stands. losing_next _ _ c.in-Some.work _ _ _ c.in-Some.ensures.steps c.remove_turn_of.ensures.turns (c.loop-work.invariant.losing works are ts stands);
   uses = search rules;
 }
 
 pub returns-clause-turns : goal.returns-clause-turns
-returns-clause-turns c = λ works are ts stands. losing-ends _ _ _ c.in-None.ensures.steps.0 (c.loop-work.invariant.losing works are ts stands)
+returns-clause-turns c = λ works are ts stands. losing_ends _ _ _ c.in-None.ensures.steps.0 (c.loop-work.invariant.losing works are ts stands)

@@ -3,8 +3,8 @@ use Rattle.std.specs.Prelude.{◌==◌}
 use Rattle.std.proofs.lemmas.Result.{err_from_is_err_and}
 use Rattle.bd_space.specs.declared.space.DeathNotification.{DeathNotification}
 use Rattle.bd_deaths.specs.Due.{is_due, is_place}
-use Rattle.bd_deaths.proofs.Gathered.{any-told}
-use Rattle.bd_deaths.proofs.Lives.{put-then, put-else}
+use Rattle.bd_deaths.proofs.Gathered.{any_told}
+use Rattle.bd_deaths.proofs.Lives.{put_then, put_else}
 use Rattle.bd_deaths.proofs.due.push_due.Goals as goal
 use Rattle.bd_deaths.proofs.due.push_due.Goals.{then-is_told_by+in_ok-push, else-is_told_by}
 
@@ -17,10 +17,10 @@ loop-s-preserved c = λ objects ns.
     let is = sym (c.is_told_by.ensures objects ns) in
     elim c.if-is_told_by.branch [
       | then-is_told_by+in_ok-push w ↦ ap (λ v. v.items) w.told-is ∙ w.in_ok-push.ensures.items
-          ∙ put-then q ss k _ c.loop-s-test.true _ _ was (is ∙ w.if-is_told_by.true)
-      | else-is_told_by w ↦ ap (λ v. v.items) w.told-is ∙ put-else q ss k _ c.loop-s-test.true _ _ was (is ∙ w.if-is_told_by.false)
+          ∙ put_then q ss k _ c.loop-s-test.true _ _ was (is ∙ w.if-is_told_by.true)
+      | else-is_told_by w ↦ ap (λ v. v.items) w.told-is ∙ put_else q ss k _ c.loop-s-test.true _ _ was (is ∙ w.if-is_told_by.false)
     ]
 
 pub returns-in_err-push-clause-grown : goal.returns-in_err-push-clause-grown
 returns-in_err-push-clause-grown c = rw (err_from_is_err_and c.from_residual.result c.from_residual.ensures.1).1 (λ objects ns.
-    any-told objects c.args.p (is_place c.args.place) c.args.slots.now c.loop-s.s-index _ c.loop-s-test.true (sym (c.is_told_by.ensures objects ns) ∙ c.if-is_told_by.true))
+    any_told objects c.args.p (is_place c.args.place) c.args.slots.now c.loop-s.s-index _ c.loop-s-test.true (sym (c.is_told_by.ensures objects ns) ∙ c.if-is_told_by.true))

@@ -4,7 +4,7 @@ use Rattle.std.proofs.lemmas.List.{take_all}
 use Rattle.bd_deaths.specs.declared.slot.Slot.{Slot}
 use Rattle.bd_deaths.specs.Listed.{IsListed}
 use Rattle.bd_deaths.specs.Slots.{lives}
-use Rattle.bd_deaths.proofs.Lives.{listed-then, listed-else}
+use Rattle.bd_deaths.proofs.Lives.{listed_then, listed_else}
 use Rattle.bd_deaths.proofs.listing.push_places.Goals as goal
 use Rattle.bd_deaths.proofs.listing.push_places.Goals.{then-s, else-s}
 
@@ -16,12 +16,12 @@ loop-s-preserved c =
     let was = inv.uses in
     elim c.if-s.branch [
       | then-s w ↦ rw w.groups-is (record {
-        listed = listed-then (IsListed c.loop-s.groups) (IsListed w.push_place.new.groups) w.push_place.ensures.kept ss k _ c.loop-s-test.true
+        listed = listed_then (IsListed c.loop-s.groups) (IsListed w.push_place.new.groups) w.push_place.ensures.kept ss k _ c.loop-s-test.true
             w.if-s.true w.push_place.ensures.listed inv.listed;
         uses = let now = w.push_place.ensures.uses in omega (arith, was, now);
       })
       | else-s w ↦ rw w.groups-is (record {
-        listed = listed-else (IsListed c.loop-s.groups) ss k _ c.loop-s-test.true w.if-s.false inv.listed;
+        listed = listed_else (IsListed c.loop-s.groups) ss k _ c.loop-s-test.true w.if-s.false inv.listed;
         uses = omega (arith, was);
       })
     ]

@@ -2,10 +2,10 @@ use Rattle.std.proofs.Common.{◌≡◌, Bool, true, false, cond, Option, Some, 
 use Rattle.bd_keys.specs.declared.key.WordKey.{WordKey}
 use Rattle.bd_keys.specs.Keys.{same_word}
 use Rattle.bd_keys.specs.Look.{look}
-use Rattle.bd_keys.proofs.Keys.{word-eq}
+use Rattle.bd_keys.proofs.Keys.{word_eq}
 use Rattle.bd_deaths.specs.declared.key.Sharers.{Sharers}
 use Rattle.bd_deaths.specs.Keys.{without_one}
-use Rattle.bd_deaths.proofs.SharedKeys.{set-left}
+use Rattle.bd_deaths.proofs.SharedKeys.{set_left}
 use Rattle.bd_deaths.proofs.sharing.remove_cookie.Goals as goal
 
 pub returns-in-Some-clause-at : goal.returns-in-Some-clause-at
@@ -27,8 +27,8 @@ returns-in-Some-clause-at c =
 
     at : (k : WordKey) (b : Bool) → same_word key k ≡ b
         → cond b (option_map (λ _. c.in-Some.now) (old k)) (old k) ≡ cond b (left key) (old k)
-    at k true e = ap (λ j. option_map (λ _. c.in-Some.now) (old j)) (sym (word-eq key k e))
-        ∙ set-left c.args.x.now.made (old key) c.in-Some.now is
+    at k true e = ap (λ j. option_map (λ _. c.in-Some.now) (old j)) (sym (word_eq key k e))
+        ∙ set_left c.args.x.now.made (old key) c.in-Some.now is
     at k false e = refl
 
 pub returns-in-None-clause-at : goal.returns-in-None-clause-at

@@ -1,5 +1,5 @@
-use Rattle.bd_engine.proofs.Reaching.{these-name-all}
+use Rattle.bd_engine.proofs.Reaching.{these_name_all}
 use Rattle.bd_engine.proofs.reached.these_name_all.Goals as goal
 
 pub returns : goal.returns
-returns c = these-name-all
+returns c = these_name_all

@@ -3,7 +3,7 @@ use Rattle.std.proofs.lemmas.List.Sorted.{IsPartitionPoint-from_clause}
 use Rattle.bd_space.specs.declared.space.Frame.{Frame}
 use Rattle.bd_frames.specs.Places.{is_reached}
 use Rattle.bd_frames.proofs.Places.{partitioned}
-use Rattle.bd_frames.proofs.Linking.{reach-down, none-after-point}
+use Rattle.bd_frames.proofs.Linking.{reach_down, none_after_point}
 use Rattle.bd_frames.proofs.place.newest_part.Goals as goal
 
 pub loop-from-init : goal.loop-from-init
@@ -12,7 +12,7 @@ loop-from-init c = record {
   after = λ r b.
       let xs = c.args.frames.now in
       let q = λ (n : ℕ). is_reached c.args.floor c.args.bound n in
-      none-after-point c.args.floor c.args.bound c.args.seat xs c.partition_point-from.result
-      (IsPartitionPoint-from_clause (λ (x : Frame). q x.made) xs _ c.partition_point-from.ensures.partitioned (partitioned q (reach-down c.args.floor c.args.bound) 0 xs r)
+      none_after_point c.args.floor c.args.bound c.args.seat xs c.partition_point-from.result
+      (IsPartitionPoint-from_clause (λ (x : Frame). q x.made) xs _ c.partition_point-from.ensures.partitioned (partitioned q (reach_down c.args.floor c.args.bound) 0 xs r)
       (λ a d f k. search (rules, tests))) b;
 }

@@ -3,8 +3,8 @@ use Rattle.bd_space.specs.Frames.{takes_part}
 use Rattle.bd_frames.specs.Words.{left_frame}
 use Rattle.bd_frames.specs.Places.{IsRising}
 use Rattle.bd_frames.specs.Linked.{AreStacks}
-use Rattle.bd_frames.proofs.Alike.{left-other}
-use Rattle.bd_frames.proofs.Down.{way-begins, way-on, step-same, begun-same, got-begun, none-yet, map-left, map-next}
+use Rattle.bd_frames.proofs.Alike.{left_other}
+use Rattle.bd_frames.proofs.Down.{way_begins, way_on, step_same, begun_same, got_begun, none_yet, map_left, map_next}
 use Rattle.bd_frames.proofs.walk.leave_down.Goals as goal
 
 pub loop-older-init : goal.loop-older-init
@@ -13,8 +13,8 @@ loop-older-init c =
     let long : c.len.result ≡ length xs = omega (arith, c.len.ensures) in
     record {
       within = omega (arith, c.len.ensures);
-      way = λ k r. way-begins c.args.stacks.now xs c.args.seat c.len.result c.top_of.result k r long c.top_of.ensures;
-      so_far = λ k r. none-yet (left_frame c.args.seat) c.len.result xs long;
+      way = λ k r. way_begins c.args.stacks.now xs c.args.seat c.len.result c.top_of.result k r long c.top_of.ensures;
+      so_far = λ k r. none_yet (left_frame c.args.seat) c.len.result xs long;
       len = refl;
       capacity = refl;
     }
@@ -31,19 +31,19 @@ loop-older-preserved c =
     let low : v.end < w.end = c.in-Some.ensures.lower in
     let few : w.end ≤ length xs = omega (arith, inv.within) in
     let rest = map g (drop w.end xs) in
-    let stepped = λ (k : AreStacks st xs) (r : IsRising 0 xs). step-same st seat xs c.deref.result.now w (Some v)
-    (sym (begun-same w.end xs rest few) ∙ sym (ap (take w.end) (c.deref.ensures.value ∙ inv.so_far k r))) c.in-Some.ensures.steps (inv.way k r) in
+    let stepped = λ (k : AreStacks st xs) (r : IsRising 0 xs). step_same st seat xs c.deref.result.now w (Some v)
+    (sym (begun_same w.end xs rest few) ∙ sym (ap (take w.end) (c.deref.ensures.value ∙ inv.so_far k r))) c.in-Some.ensures.steps (inv.way k r) in
     record {
       within = omega (arith, low, inv.within);
-      way = λ k r. way-on st seat xs w v (inv.way k r) low (stepped k r);
+      way = λ k r. way_on st seat xs w v (inv.way k r) low (stepped k r);
       so_far = λ k r.
           let f = c.index-frame.result.now in
           let ys = c.loop-older.frames.items in
           let so = inv.so_far k r in
-          let at = c.index-frame.ensures ∙ ap (λ zs. get_or zs v.end f) so ∙ got-begun w.end v.end xs rest f low few in
+          let at = c.index-frame.ensures ∙ ap (λ zs. get_or zs v.end f) so ∙ got_begun w.end v.end xs rest f low few in
           ap (set ys v.end) c.frame_without.ensures
           ∙ ap (λ x. set ys v.end (g x)) at ∙ ap (λ zs. set zs v.end (g (get_or xs v.end f))) so
-          ∙ map-next (takes_part seat) g (left-other seat) w.end v.end xs f low (omega (arith, low, few)) (stepped k r).newest;
+          ∙ map_next (takes_part seat) g (left_other seat) w.end v.end xs f low (omega (arith, low, few)) (stepped k r).newest;
       len = inv.len;
       capacity = inv.capacity;
     }
@@ -57,6 +57,6 @@ returns-clause-frames c = λ k r.
     let xs = c.args.frames.now.items in
     let w = c.loop-older.way in
     let few : w.end ≤ length xs = omega (arith, inv.within) in
-    let none = step-same st seat xs c.deref.result.now w None
-    (sym (begun-same w.end xs (map g (drop w.end xs)) few) ∙ sym (ap (take w.end) (c.deref.ensures.value ∙ inv.so_far k r))) c.in_default.ensures.steps (inv.way k r) in
-    inv.so_far k r ∙ map-left (takes_part seat) g (left-other seat) w.end xs none
+    let none = step_same st seat xs c.deref.result.now w None
+    (sym (begun_same w.end xs (map g (drop w.end xs)) few) ∙ sym (ap (take w.end) (c.deref.ensures.value ∙ inv.so_far k r))) c.in_default.ensures.steps (inv.way k r) in
+    inv.so_far k r ∙ map_left (takes_part seat) g (left_other seat) w.end xs none

@@ -1,7 +1,7 @@
 use Rattle.std.proofs.Common.{length, arith, ap}
 use Rattle.std.specs.Map.Iter.{deref_pair}
 use Rattle.std.proofs.lemmas.Map.Iter.{rest_more, rest_all}
-use Rattle.bd_handles.proofs.Listing.{come, all-come, listed-all}
+use Rattle.bd_handles.proofs.Listing.{come, all_come, listed_all}
 use Rattle.bd_handles.proofs.held.renewed.Goals as goal
 
 pub loop-k-preserved : goal.loop-k-preserved
@@ -18,4 +18,4 @@ loop-k-preserved c =
 pub returns-clause-listed : goal.returns-clause-listed
 returns-clause-listed c = λ l h.
     let none = rest_all deref_pair _ _ _ c.in-None.is c.next.ensures.steps in
-    listed-all c.args.names.now c.loop-k.held l h (λ p o n has. all-come c.loop-k.held c.loop-k.k-iterator p o n none (c.loop-k.invariant.coming p o n has))
+    listed_all c.args.names.now c.loop-k.held l h (λ p o n has. all_come c.loop-k.held c.loop-k.k-iterator p o n none (c.loop-k.invariant.coming p o n has))

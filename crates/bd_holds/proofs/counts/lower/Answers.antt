@@ -5,7 +5,7 @@ use Rattle.bd_keys.proofs.Options.{is_there}
 use Rattle.bd_holds.specs.declared.count.Count.{Count}
 use Rattle.bd_holds.specs.Count.{less}
 use Rattle.bd_holds.specs.Keys.{same_use}
-use Rattle.bd_holds.proofs.Tests.{use-eq}
+use Rattle.bd_holds.proofs.Tests.{use_eq}
 use Rattle.bd_holds.proofs.counts.lower.Goals as goal
 
 pub returns-in-Some-clause-lowered : goal.returns-in-Some-clause-lowered

@@ -1,5 +1,5 @@
 use Rattle.std.proofs.Common.{sym, ◌∙◌}
-use Rattle.bd_holds.proofs.Listing.{put-has, put-keeps, put-only, risen, had}
+use Rattle.bd_holds.proofs.Listing.{put_has, put_keeps, put_only, risen, had}
 use Rattle.bd_holds.proofs.users.push_new_user.Goals as goal
 
 pub returns-then-is_empty-clause-are : goal.returns-then-is_empty-clause-are
@@ -8,8 +8,8 @@ returns-then-is_empty-clause-are c = λ was later is same are.
     let old = c.args.users.now in
     let new = c.push_user.new.users in
     let put = c.push_user.ensures.put in
-    risen u was later old new same (put-has u old new put) (put-keeps u old new put)
-    (λ v p h. put-only u old new put v p (are.only v p) h) are
+    risen u was later old new same (put_has u old new put) (put_keeps u old new put)
+    (λ v p h. put_only u old new put v p (are.only v p) h) are
 
 pub returns-else-is_empty-clause-are : goal.returns-else-is_empty-clause-are
 returns-else-is_empty-clause-are c = λ was later is same are.

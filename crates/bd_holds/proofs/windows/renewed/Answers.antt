@@ -7,8 +7,8 @@ use Rattle.bd_space.specs.References.{is_in_window}
 use Rattle.bd_holds.specs.declared.keys.ItemKey.{ItemKey}
 use Rattle.bd_holds.specs.Keys.{same_item}
 use Rattle.bd_holds.specs.Listed.{has_buffer}
-use Rattle.bd_holds.proofs.Entries.{entry-step}
-use Rattle.bd_holds.proofs.Tests.{item-eq}
+use Rattle.bd_holds.proofs.Entries.{entry_step}
+use Rattle.bd_holds.proofs.Tests.{item_eq}
 use Rattle.bd_holds.proofs.windows.renewed.Goals as goal
 
 pub loop-k-preserved : goal.loop-k-preserved
@@ -20,7 +20,7 @@ loop-k-preserved c =
     let fewer = ap length first in
     record {
       has = λ k p r found within. elim (inv.has k p r found within) [
-        | inl more ↦ elim (entry-step same_item item-eq k r (j, c.in-Some.r.now) _ _ first more) [
+        | inl more ↦ elim (entry_step same_item item_eq k r (j, c.in-Some.r.now) _ _ first more) [
           | inl is ↦ inr (ap (λ (i : ItemKey). has_buffer new p i.buffer) is.0
               ∙ c.list_window.ensures.has p (ap (λ (x : Reference). is_in_window p x.holder) is.1 ∙ within))
           | inr rest ↦ inl rest

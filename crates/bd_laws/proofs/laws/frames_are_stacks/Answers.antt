@@ -1,7 +1,7 @@
 use Rattle.bd_space.specs.Histories.{space_after}
-use Rattle.bd_laws.proofs.Always.{always-tidy}
-use Rattle.bd_laws.proofs.Stacks.{always-stacks, innermost-last}
+use Rattle.bd_laws.proofs.Always.{always_tidy}
+use Rattle.bd_laws.proofs.Stacks.{always_stacks, innermost_last}
 use Rattle.bd_laws.proofs.laws.frames_are_stacks.Goals as goal
 
 pub returns : goal.returns
-returns c = λ h. (always-stacks h, innermost-last (space_after h) (always-tidy h))
+returns c = λ h. (always_stacks h, innermost_last (space_after h) (always_tidy h))

@@ -1,7 +1,7 @@
 use Rattle.std.proofs.Common.{◌+◌, ◌++◌, [], length, None, ap, subst, sym, ◌∙◌, append_assoc, ◌≡◌, arith}
 use Rattle.bd_space.specs.Delivery.{buffer_references}
 use Rattle.bd_holds.specs.Stands.{ReferencesAre}
-use Rattle.bd_objects.proofs.BufferReferences.{with-target}
+use Rattle.bd_objects.proofs.BufferReferences.{with_target}
 use Rattle.bd_objects.proofs.delivery.add_references.Goals as goal
 
 pub returns-clause-stands : goal.returns-clause-stands
@@ -11,5 +11,5 @@ returns-clause-stands c = λ l h.
     let last : length items ≡ 0 + length items = omega arith in
     subst (λ rs. ReferencesAre c.add_target.new.references rs)
     (ap (λ n. (l ++ carried) ++ buffer_references c.args.place c.args.q n [] c.args.target) last
-    ∙ append_assoc l carried _ ∙ ap (λ rs. l ++ rs) (sym (with-target c.args.place c.args.q items 0 c.args.target)))
+    ∙ append_assoc l carried _ ∙ ap (λ rs. l ++ rs) (sym (with_target c.args.place c.args.q items 0 c.args.target)))
     (c.add_target.ensures.stands _ (c.add_carried.ensures.stands l h))

@@ -2,7 +2,7 @@ use Rattle.std.proofs.Common.{rules, arith, ◌≡◌, ◌∙◌, ◌+◌, ℕ, 
 use Rattle.std.specs.List.{slice_get}
 use Rattle.std.proofs.lemmas.List.Elements.{All-nil, All-push}
 use Rattle.bd_space.specs.Histories.{history_in}
-use Rattle.bd_audit.proofs.Beginnings.{next-beginning, next-lawful, one-next}
+use Rattle.bd_audit.proofs.Beginnings.{next_beginning, next_lawful, one_next}
 use Rattle.bd_player.specs.Certified.{IsGiftOf}
 use Rattle.bd_player.proofs.Gifts.{AreSoFar, all_given, gives, made_there, none_yet, passes, placed, so_many}
 use Rattle.bd_player.proofs.certificates.gifts_at.Goals as goal
@@ -19,7 +19,7 @@ loop-entry-init c =
 
 pub gift_made-requires : goal.gift_made-requires
 gift_made-requires c =
-    next-lawful (history_in c.args.record.now) c.loop-entry.engine c.loop-entry.entry-index c.entry-item.result c.as_slice-entries.result.now c.requires.lawful
+    next_lawful (history_in c.args.record.now) c.loop-entry.engine c.loop-entry.entry-index c.entry-item.result c.as_slice-entries.result.now c.requires.lawful
     c.loop-entry.invariant.engine c.as_slice-entries.ensures c.loop-entry-test.true c.entry-item.is
 
 pub loop-entry-preserved : goal.loop-entry-preserved
@@ -36,7 +36,7 @@ loop-entry-preserved c =
     let asked = c.place_at-asked.result in
     let at : asked ≡ slice_get c.args.places.now (length gs) = search rules in
     record {
-      engine = next-beginning h c.loop-entry.engine c.gift_made.new.engine i c.entry-item.result es was same below found c.in_ok-gift.ensures.engine;
+      engine = next_beginning h c.loop-entry.engine c.gift_made.new.engine i c.entry-item.result es was same below found c.in_ok-gift.ensures.engine;
       each = elim c.match-branch-3.branch [
         | in-Some+else-is_err w ↦ (
             let g = w.in-Some.gift in
@@ -44,7 +44,7 @@ loop-entry-preserved c =
             subst (All (IsGiftOf h)) (sym pushed)
             (All-push (IsGiftOf h) gs g c.loop-entry.invariant.each
             (made_there h c.loop-entry.engine i c.entry-item.result es g was same below found
-            (one-next h c.loop-entry.engine i c.entry-item.result es was same below found) (search rules))))
+            (one_next h c.loop-entry.engine i c.entry-item.result es was same below found) (search rules))))
         | in_default w ↦ (
             let stays : c.match-branch-3.gifts.items ≡ gs = search rules in
             subst (All (IsGiftOf h)) (sym stays) c.loop-entry.invariant.each)

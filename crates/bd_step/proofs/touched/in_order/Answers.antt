@@ -2,7 +2,7 @@ use Rattle.std.proofs.Common.{rules, ◌+◌, get_or, sym, ◌∙◌}
 use Rattle.std.proofs.Math.Path.{fun_ext}
 use Rattle.std.proofs.lemmas.List.Sorted.{answers_always, list_any-IsPermutation}
 use Rattle.bd_ways.specs.Local.{at_object}
-use Rattle.bd_laws.proofs.Earlier.{earlier-cmp, sorted-in_order}
+use Rattle.bd_laws.proofs.Earlier.{earlier_cmp, sorted_in_order}
 use Rattle.bd_step.proofs.touched.in_order.Goals as goal
 
 pub returns-clause-touched : goal.returns-clause-touched
@@ -10,6 +10,6 @@ returns-clause-touched c =
     let os = c.sort_unstable_by_key.new.self.items in
     let sorted = c.sort_unstable_by_key.ensures.sorted (λ o. (o.place, o.index)) (answers_always _ _ _ (λ f a r g called. search rules)) in
     record {
-      in_order = sorted-in_order os (λ k d low lt. sym (earlier-cmp (get_or os (k + 1) d) (get_or os k d)) ∙ sorted k d low lt);
+      in_order = sorted_in_order os (λ k d low lt. sym (earlier_cmp (get_or os (k + 1) d) (get_or os k d)) ∙ sorted k d low lt);
       among = fun_ext (λ o. sym (list_any-IsPermutation (λ x. at_object x o) _ _ c.sort_unstable_by_key.ensures.permutation));
     }

@@ -4,7 +4,7 @@ use Rattle.bd_space.specs.declared.space.Work.{Work}
 use Rattle.bd_space.specs.declared.space.TodoList.TheVariants.{OfThread}
 use Rattle.bd_space.specs.declared.space.WorkKind.TheVariants.{Notice}
 use Rattle.bd_calls.specs.Ready.{AreSeen, told_then, told_after}
-use Rattle.bd_calls.proofs.Seats.{told-same, told-more}
+use Rattle.bd_calls.proofs.Seats.{told_same, told_more}
 use Rattle.bd_calls.proofs.ready.ReadySeats.note_lists_of.Goals as goal
 
 -- where there is none
@@ -16,7 +16,7 @@ loop-work-preserved c = λ ts told ws are before.
     let i = c.loop-work.work-index in
     let ds = c.args.taken.now in
     let was = told_after ws (take i ds) told in
-    told-same c.note.new.self ts _ _ (λ list. told-more ws ds i blank told list (omega arith))
+    told_same c.note.new.self ts _ _ (λ list. told_more ws ds i blank told list (omega arith))
     (subst (λ b. AreSeen c.note.new.self ts (told_then (get_or ds i blank).list b was)) (c.has_any.ensures ws are)
     (c.note.ensures ts was (c.loop-work.invariant ts told ws are before)))
 

@@ -9,11 +9,11 @@ use Rattle.bd_space.specs.Transactions.{call_out}
 use Rattle.bd_frames.specs.Stands.{FramesAre}
 use Rattle.bd_frames.specs.Places.{IsAfter}
 use Rattle.bd_frames.specs.InOrder.{IsBefore, IsNextOf}
-use Rattle.bd_calls.proofs.InList.{found-before}
+use Rattle.bd_calls.proofs.InList.{found_before}
 use Rattle.bd_todo.specs.Stands.{WorksAre}
 use Rattle.bd_calls.specs.Ready.{AreSeen, told_then}
-use Rattle.bd_calls.proofs.Seats.{told-same, pushed-told}
-use Rattle.bd_calls.proofs.Marking.{told-on, pushed-beside}
+use Rattle.bd_calls.proofs.Seats.{told_same, pushed_told}
+use Rattle.bd_calls.proofs.Marking.{told_on, pushed_beside}
 use Rattle.bd_calls.specs.Told.{Recalls}
 use Rattle.bd_calls.proofs.table.CallTable.call_out.Goals as goal
 
@@ -34,7 +34,7 @@ returns-clause-stands c = λ s h k.
     let next : IsNextOf (new_frame c.args.place seat c.newest_made-parent.result) s.frames = record {
       after = subst (IsAfter 0 s.frames) k.0 k.1.before;
       before = subst (λ (o : Option ℕ). IsBefore o c.args.place) (sym parent) (subst (IsBefore (option_map made_of (innermost s seat))) k.0
-          (found-before (is_deepest_in s.frames seat) s.steps s.frames h.frames_are.in_order.rising k.1.before));
+          (found_before (is_deepest_in s.frames seat) s.steps s.frames h.frames_are.in_order.rising k.1.before));
       unread = refl;
     } in
     record {
@@ -45,7 +45,7 @@ returns-clause-stands c = λ s h k.
       todo_are = subst (λ n. WorksAre c.push.new.self (with_work n s.todo (goes_to s seat p) (Call n))) (sym k.0)
           (subst (λ l. WorksAre c.push.new.self (with_work c.args.place s.todo l (Call c.args.place))) list (c.push.ensures.stands s.todo h.todo_are));
       turns_are = h.turns_are;
-      ready_are = told-same c.note.new.self s.threads _ _ (pushed-told s.steps s.todo (goes_to s seat p) (Call s.steps))
+      ready_are = told_same c.note.new.self s.threads _ _ (pushed_told s.steps s.todo (goes_to s seat p) (Call s.steps))
           (subst (λ l. AreSeen c.note.new.self s.threads (told_then l true (has_work_in s.todo))) list (c.note.ensures s.threads _ h.ready_are));
     }
 
@@ -53,5 +53,5 @@ pub returns-clause-told : goal.returns-clause-told
 unfolding Recalls
 returns-clause-told c = λ told k.
     let to = c.list_from-list.result in
-    told-on c.mark.new.self _ _ (λ ws. with_work c.args.place ws to (Call c.args.place)) told c.push.ensures.stands
-    (λ ws list out. pushed-beside c.mark.new.self c.args.place ws to (Call c.args.place) list c.mark.ensures.marked out) (c.mark.ensures.recalls told k)
+    told_on c.mark.new.self _ _ (λ ws. with_work c.args.place ws to (Call c.args.place)) told c.push.ensures.stands
+    (λ ws list out. pushed_beside c.mark.new.self c.args.place ws to (Call c.args.place) list c.mark.ensures.marked out) (c.mark.ensures.recalls told k)

@@ -1,20 +1,20 @@
 use Rattle.std.proofs.Common.{sym, subst, refl}
 use Rattle.bd_space.specs.Todo.{owe, with_work}
 use Rattle.bd_todo.specs.Stands.{WorksAre}
-use Rattle.bd_calls.proofs.Works.{works-stand}
-use Rattle.bd_calls.proofs.Seats.{told-same, pushed-told}
-use Rattle.bd_calls.proofs.Marking.{told-on, pushed-beside}
+use Rattle.bd_calls.proofs.Works.{works_stand}
+use Rattle.bd_calls.proofs.Seats.{told_same, pushed_told}
+use Rattle.bd_calls.proofs.Marking.{told_on, pushed_beside}
 use Rattle.bd_calls.specs.Told.{Recalls}
 use Rattle.bd_calls.proofs.table.CallTable.owe.Goals as goal
 
 pub returns-clause-stands : goal.returns-clause-stands
 unfolding owe
-returns-clause-stands c = λ s h at. works-stand _ _ s _ h refl refl refl
+returns-clause-stands c = λ s h at. works_stand _ _ s _ h refl refl refl
     (subst (λ n. WorksAre c.push.new.self (with_work n s.todo c.args.list c.args.kind)) (sym at) (c.push.ensures.stands s.todo h.todo_are))
-    (told-same c.note.new.self s.threads _ _ (pushed-told s.steps s.todo c.args.list c.args.kind) (c.note.ensures s.threads _ h.ready_are))
+    (told_same c.note.new.self s.threads _ _ (pushed_told s.steps s.todo c.args.list c.args.kind) (c.note.ensures s.threads _ h.ready_are))
 
 pub returns-clause-told : goal.returns-clause-told
 unfolding Recalls
 returns-clause-told c = λ told k.
-    told-on c.mark.new.self _ _ (λ ws. with_work c.args.place ws c.args.list c.args.kind) told c.push.ensures.stands
-    (λ ws list out. pushed-beside c.mark.new.self c.args.place ws c.args.list c.args.kind list c.mark.ensures.marked out) (c.mark.ensures.recalls told k)
+    told_on c.mark.new.self _ _ (λ ws. with_work c.args.place ws c.args.list c.args.kind) told c.push.ensures.stands
+    (λ ws list out. pushed_beside c.mark.new.self c.args.place ws c.args.list c.args.kind list c.mark.ensures.marked out) (c.mark.ensures.recalls told k)

@@ -4,10 +4,10 @@ use Rattle.bd_space.specs.Words.{first_of}
 use Rattle.bd_space.specs.Todo.{hands_out}
 use Rattle.bd_space.specs.ReadItems.{read_by, buffer_taken}
 use Rattle.bd_turns.specs.Stands.{TurnsAre}
-use Rattle.bd_calls.proofs.OneWay.{turns-handed}
-use Rattle.bd_calls.proofs.Seats.{told-same, taken-told}
+use Rattle.bd_calls.proofs.OneWay.{turns_handed}
+use Rattle.bd_calls.proofs.Seats.{told_same, taken_told}
 use Rattle.bd_space.specs.Todo.{without_taken}
-use Rattle.bd_calls.proofs.Marking.{told-on, taken-beside}
+use Rattle.bd_calls.proofs.Marking.{told_on, taken_beside}
 use Rattle.bd_calls.specs.Told.{Recalls}
 use Rattle.bd_calls.proofs.table.CallTable.read_by.Goals as goal
 
@@ -20,13 +20,13 @@ returns-clause-stands c =
       threads_are = stands.threads_are;
       frames_are = c.serve.ensures.frames _ stands.frames_are;
       todo_are = c.remove_taken.ensures.stands _ stands.todo_are;
-      turns_are = subst (TurnsAre c.hand_out_taken.new.turns) (sym (turns-handed s.buffers made)) (c.hand_out_taken.ensures.turns _ stands.turns_are);
-      ready_are = told-same c.note_lists_of.new.self s.threads _ _ (taken-told c.args.taken.now s.todo)
+      turns_are = subst (TurnsAre c.hand_out_taken.new.turns) (sym (turns_handed s.buffers made)) (c.hand_out_taken.ensures.turns _ stands.turns_are);
+      ready_are = told_same c.note_lists_of.new.self s.threads _ _ (taken_told c.args.taken.now s.todo)
           (c.note_lists_of.ensures s.threads _ _ (c.remove_taken.ensures.stands _ stands.todo_are) stands.ready_are);
     }
 
 pub returns-clause-told : goal.returns-clause-told
 unfolding Recalls
 returns-clause-told c = λ told k.
-    told-on c.mark_lists_of.new.self _ _ (λ ws. without_taken c.args.taken.now ws) told c.remove_taken.ensures.stands
-    (λ ws list out. taken-beside c.mark_lists_of.new.self c.args.taken.now ws list c.mark_lists_of.ensures.marked out) (c.mark_lists_of.ensures.recalls told k)
+    told_on c.mark_lists_of.new.self _ _ (λ ws. without_taken c.args.taken.now ws) told c.remove_taken.ensures.stands
+    (λ ws list out. taken_beside c.mark_lists_of.new.self c.args.taken.now ws list c.mark_lists_of.ensures.marked out) (c.mark_lists_of.ensures.recalls told k)

@@ -1,6 +1,6 @@
 use Rattle.std.proofs.Common.{sym, subst}
 use Rattle.bd_calls.specs.Told.{Recalls, ReachesFew}
-use Rattle.bd_calls.proofs.Few.{few-same}
+use Rattle.bd_calls.proofs.Few.{few_same}
 use Rattle.bd_calls.proofs.table.CallTable.reserve_ahead.Goals as goal
 use Rattle.bd_calls.proofs.table.CallTable.reserve_ahead.Goals.{then-works-via-then-works, then-works-via-else-works+then-is_err}
 
@@ -15,6 +15,6 @@ returns-clause-told c = c.reserve_each.ensures.told
 
 pub returns-then-works-clause-few : goal.returns-then-works-clause-few
 returns-then-works-clause-few c = elim c.then-works.branch [
-  | then-works-via-then-works w ↦ subst (ReachesFew 0 c.args.self.now) (sym w.self-is) (few-same c.args.self.now 0)
+  | then-works-via-then-works w ↦ subst (ReachesFew 0 c.args.self.now) (sym w.self-is) (few_same c.args.self.now 0)
   | then-works-via-else-works+then-is_err w ↦ subst (ReachesFew 0 c.args.self.now) (sym w.self-is) w.reserve_each.ensures.few
 ]

@@ -3,7 +3,7 @@ use Rattle.bd_space.specs.declared.space.DeathNotification.{DeathNotification}
 use Rattle.bd_space.specs.Deaths.{is_notification}
 use Rattle.bd_deaths.specs.Slots.{of, with}
 use Rattle.bd_deaths.proofs.Kept.{kept}
-use Rattle.bd_deaths.proofs.Told.{told-kept}
+use Rattle.bd_deaths.proofs.Told.{told_kept}
 use Rattle.bd_deaths.proofs.list.DeathList.mark_cleared.Goals as goal
 
 pub returns-clause-stands : goal.returns-clause-stands
@@ -12,4 +12,4 @@ returns-clause-stands c = λ l h.
     let f = λ (x : DeathNotification). record x { cleared = true } in
     let items = c.change_in.ensures.items f (λ x y k. search (rules, tests)) (c.made_range-range.ensures.within l h) in
     kept c.args.self.now _ q f (λ x. record { made = refl; process = refl; object = refl; cookie = refl }) l h items
-    refl refl refl (rw items (told-kept (of q) (with f) _ _ h.none_told (λ s e. e)))
+    refl refl refl (rw items (told_kept (of q) (with f) _ _ h.none_told (λ s e. e)))

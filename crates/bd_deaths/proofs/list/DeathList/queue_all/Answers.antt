@@ -3,22 +3,22 @@ use Rattle.std.proofs.lemmas.List.{map-id}
 use Rattle.std.proofs.lemmas.Iterator.Consumers.{YieldsList-at, YieldsList-from_first, YieldsList-end}
 use Rattle.bd_deaths.specs.Due.{queued_at, has_place}
 use Rattle.bd_deaths.specs.Stands.{AreIn}
-use Rattle.bd_keys.proofs.Tables.{uses-none, uses-then}
-use Rattle.bd_deaths.proofs.Telling.{no-places, place-next}
+use Rattle.bd_keys.proofs.Tables.{uses_none, uses_then}
+use Rattle.bd_deaths.proofs.Telling.{no_places, place_next}
 use Rattle.bd_deaths.proofs.list.DeathList.queue_all.Goals as goal
 
 pub loop-made-init : goal.loop-made-init
 loop-made-init c = record {
-  so_far = λ objects xs n h. subst (AreIn c.args.self.now) (no-places objects c.args.p xs) h;
-  uses = uses-none c.args.self.now;
+  so_far = λ objects xs n h. subst (AreIn c.args.self.now) (no_places objects c.args.p xs) h;
+  uses = uses_none c.args.self.now;
 }
 
 pub loop-made-preserved : goal.loop-made-preserved
 loop-made-preserved c = record {
   so_far = λ objects xs n h.
-      subst (AreIn c.queue_at.new.self) (place-next objects c.args.p c.loop-made.yielded c.in-Some.made xs)
+      subst (AreIn c.queue_at.new.self) (place_next objects c.args.p c.loop-made.yielded c.in-Some.made xs)
       (c.queue_at.ensures.stands objects _ n (c.loop-made.invariant.so_far objects xs n h));
-  uses = uses-then c.loop-made.invariant.uses c.queue_at.ensures.uses;
+  uses = uses_then c.loop-made.invariant.uses c.queue_at.ensures.uses;
 }
 
 pub returns-clause-stands : goal.returns-clause-stands

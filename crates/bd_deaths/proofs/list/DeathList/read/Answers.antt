@@ -10,13 +10,13 @@ use Rattle.bd_space.specs.declared.space.DeathNotification.{DeathNotification}
 use Rattle.bd_space.specs.declared.space.Phase.TheVariants.{Told}
 use Rattle.bd_deaths.specs.Stands.{AreIn}
 use Rattle.bd_deaths.proofs.Changes.{none, same_tests, twice}
-use Rattle.bd_keys.proofs.Tables.{uses-none, uses-then}
+use Rattle.bd_keys.proofs.Tables.{uses_none, uses_then}
 use Rattle.bd_deaths.proofs.list.DeathList.read.Goals as goal
 
 pub loop-w-init : goal.loop-w-init
 loop-w-init c = record {
   so_far = λ xs h. subst (AreIn c.args.self.now) (sym (none (λ (x : DeathNotification). record x { phase = Told }) (λ x. false) xs (λ x. refl))) h;
-  uses = uses-none c.args.self.now;
+  uses = uses_none c.args.self.now;
 }
 
 -- one more item
@@ -35,7 +35,7 @@ pub loop-w-preserved : goal.loop-w-preserved
 loop-w-preserved c = record {
   so_far = λ xs h.
       subst (AreIn c.read_one.new.self) (read-next c.args.taken.now c.loop-w.w-index _ xs c.loop-w-test.true) (c.read_one.ensures.stands _ (c.loop-w.invariant.so_far xs h));
-  uses = uses-then c.loop-w.invariant.uses c.read_one.ensures.uses;
+  uses = uses_then c.loop-w.invariant.uses c.read_one.ensures.uses;
 }
 
 pub returns-clause-stands : goal.returns-clause-stands

@@ -5,7 +5,7 @@ use Rattle.bd_space.specs.declared.space.Phase.TheVariants.{Told}
 use Rattle.bd_space.specs.Words.{changed, is_some_and}
 use Rattle.bd_deaths.specs.Stands.{AreIn}
 use Rattle.bd_deaths.proofs.Changes.{none, same_tests}
-use Rattle.bd_keys.proofs.Lists.{eqb-turned}
+use Rattle.bd_keys.proofs.Lists.{eqb_turned}
 use Rattle.bd_deaths.proofs.list.DeathList.read_one.Goals as goal
 
 pub returns-in-None-clause-stands : goal.returns-in-None-clause-stands
@@ -19,4 +19,4 @@ returns-in-Some-clause-stands c = λ l h.
     let told = λ (x : DeathNotification). record x { phase = Told } in
     let made = c.in-Some.made in
     subst (λ d. AreIn c.set_phase.new.self (changed (λ x. is_some_and d (λ n. n == x.made)) told l)) (sym c.in-Some.is ∙ c.death_of.ensures)
-    (subst (AreIn c.set_phase.new.self) (same_tests told (is_notification made) (λ x. made == x.made) l (λ x. eqb-turned x.made made)) (c.set_phase.ensures.stands l h))
+    (subst (AreIn c.set_phase.new.self) (same_tests told (is_notification made) (λ x. made == x.made) l (λ x. eqb_turned x.made made)) (c.set_phase.ensures.stands l h))

@@ -5,8 +5,8 @@ use Rattle.bd_deaths.specs.declared.key.Key.{Key}
 use Rattle.bd_deaths.specs.Keys.{has, name_key}
 use Rattle.bd_deaths.specs.Slots.{on}
 use Rattle.bd_ways.specs.Ranges.{IsWithin}
-use Rattle.bd_deaths.proofs.Lives.{within-on}
-use Rattle.bd_ways.proofs.Ranges.{last-two}
+use Rattle.bd_deaths.proofs.Lives.{within_on}
+use Rattle.bd_ways.proofs.Ranges.{last_two}
 use Rattle.bd_deaths.proofs.list.DeathList.remove_uncleared.Goals as goal
 
 pub returns-clause-stands : goal.returns-clause-stands
@@ -18,4 +18,4 @@ returns-clause-stands c = λ l h.
     let ss = c.args.self.now.slots.items in
     let there = subst (λ (k : Key). IsWithin (on (has k)) r.start r.end ss) c.name_key.ensures (c.key_range-range.ensures.within l h) in
     c.compact.ensures.stands _ (c.remove_if.ensures.stands q (λ x b k. search rules) l h
-    (within-on q (has (name_key p o)) (λ x e. last-two (not x.cleared) (x.process == p) (same x.object o) e) r.start r.end ss there))
+    (within_on q (has (name_key p o)) (λ x e. last_two (not x.cleared) (x.process == p) (same x.object o) e) r.start r.end ss there))

@@ -3,7 +3,7 @@ use Rattle.bd_space.specs.declared.space.DeathNotification.{DeathNotification}
 use Rattle.bd_space.specs.Deaths.{is_notification}
 use Rattle.bd_deaths.specs.Slots.{of}
 use Rattle.bd_deaths.proofs.Kept.{kept}
-use Rattle.bd_deaths.proofs.Told.{told-phase}
+use Rattle.bd_deaths.proofs.Told.{told_phase}
 use Rattle.bd_deaths.proofs.list.DeathList.turn_phase.Goals as goal
 
 pub returns-clause-stands : goal.returns-clause-stands
@@ -14,4 +14,4 @@ returns-clause-stands c = λ l h.
     let items = c.change_in.ensures.items f (λ x y k. search (rules, tests)) within in
     kept c.args.self.now _ q f (λ x. record { made = refl; process = refl; object = refl; cookie = refl }) l h items
     refl refl refl
-    (rw items (told-phase c.args.phase (of q) _ _ _ _ h.none_told c.told_before-self.ensures.less c.told_before-self.ensures.before within.before))
+    (rw items (told_phase c.args.phase (of q) _ _ _ _ h.none_told c.told_before-self.ensures.less c.told_before-self.ensures.before within.before))

@@ -2,7 +2,7 @@ use Rattle.std.proofs.Common.{eqb, sym, subst}
 use Rattle.std.specs.List.Sorted.{IsStrictlyIncreasing}
 use Rattle.std.proofs.lemmas.List.Filters.{dedup_is}
 use Rattle.std.proofs.lemmas.Map.Keys.{IsStrictlyIncreasing-dedup}
-use Rattle.bd_deaths.proofs.Gathered.{still-there}
+use Rattle.bd_deaths.proofs.Gathered.{still_there}
 use Rattle.bd_deaths.proofs.table.DeathTable.due_places.Goals as goal
 
 pub returns-clause-rising : goal.returns-clause-rising
@@ -15,5 +15,5 @@ pub returns-clause-all : goal.returns-clause-all
 returns-clause-all c = λ objects l ns h n e.
     let sorted = c.sort_unstable.new.self.items in
     let once = c.dedup.new.self.items in
-    still-there c.push_due_places.new.touched.items sorted once c.sort_unstable.ensures.permutation
+    still_there c.push_due_places.new.touched.items sorted once c.sort_unstable.ensures.permutation
     (dedup_is eqb sorted once c.dedup.ensures.filtered) n (c.in_ok-push_due_places.ensures.all objects l ns h n e)

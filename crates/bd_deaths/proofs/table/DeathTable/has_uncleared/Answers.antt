@@ -2,7 +2,7 @@ use Rattle.std.proofs.Common.{◌≡◌, ◌==◌, ◌&&◌, not, Bool, true, fa
 use Rattle.bd_space.specs.Words.{same}
 use Rattle.bd_space.specs.Deaths.{is_uncleared_on}
 use Rattle.bd_ways.specs.Local.{at_name}
-use Rattle.bd_ways.proofs.Ranges.{any-some, same-any}
+use Rattle.bd_ways.proofs.Ranges.{any_some, same_any}
 use Rattle.bd_deaths.proofs.table.DeathTable.has_uncleared.Goals as goal
 
 turned : (a b c : Bool) → ((not c && a) && b) ≡ ((a && b) && not c)
@@ -17,5 +17,5 @@ pub returns : goal.returns
 returns c = λ l h.
     let p = c.args.p in
     let o = c.args.o in
-    c.is_some.ensures ∙ ap is_some (c.uncleared.ensures l h) ∙ sym (any-some (is_uncleared_on p o) l)
-    ∙ same-any (is_uncleared_on p o) (λ x. at_name p o x.process x.object && not x.cleared) (λ x. turned (x.process == p) (same x.object o) x.cleared) l
+    c.is_some.ensures ∙ ap is_some (c.uncleared.ensures l h) ∙ sym (any_some (is_uncleared_on p o) l)
+    ∙ same_any (is_uncleared_on p o) (λ x. at_name p o x.process x.object && not x.cleared) (λ x. turned (x.process == p) (same x.object o) x.cleared) l

@@ -6,7 +6,7 @@ use Rattle.std.proofs.lemmas.Result.{err_from_is_err_and}
 use Rattle.std.proofs.lemmas.Iterator.Consumers.{YieldsList-at, YieldsList-from_first, YieldsList-end}
 use Rattle.std.proofs.Math.Bool.{or-false}
 use Rattle.bd_nodes.specs.New.{HasAll}
-use Rattle.bd_deaths.proofs.Visiting.{put-next, both-told}
+use Rattle.bd_deaths.proofs.Visiting.{put_next, both_told}
 use Rattle.bd_deaths.proofs.table.DeathTable.push_due_places.Goals as goal
 
 pub loop-o-init : goal.loop-o-init
@@ -14,7 +14,7 @@ loop-o-init c = λ objects xs ns h n. sym (or-false _)
 
 pub loop-o-preserved : goal.loop-o-preserved
 loop-o-preserved c = λ objects xs ns h n.
-    put-next c.args.self.now.groups objects c.args.p c.loop-o.yielded c.in-Some.o xs _ _ _ n
+    put_next c.args.self.now.groups objects c.args.p c.loop-o.yielded c.in-Some.o xs _ _ _ n
     (c.loop-o.invariant objects xs ns h n) (c.in_ok-due_on.ensures.put objects xs ns h n)
 
 pub returns-in_err-due_on-clause-grown : goal.returns-in_err-due_on-clause-grown
@@ -27,4 +27,4 @@ returns-clause-all c = λ objects l ns h n e.
     let all = sym (map-id c.loop-o.yielded) ∙ road.0 in
     let has = subst (λ os. HasAll os (map (λ x. x.id) (filter (λ x. x.owner == c.args.p) objects))) (sym all) (c.listed-o-items.ensures.all objects ns) in
     c.loop-o.invariant objects l ns h.are_in n
-    ∙ or_right _ _ (both-told c.args.self.now.groups objects c.args.p c.loop-o.yielded has l h.listed n ∙ e)
+    ∙ or_right _ _ (both_told c.args.self.now.groups objects c.args.p c.loop-o.yielded has l h.listed n ∙ e)

@@ -9,17 +9,17 @@ use Rattle.bd_deaths.specs.Keys.{object_group}
 use Rattle.bd_deaths.specs.Due.{is_queued_in}
 use Rattle.bd_deaths.specs.Listed.{IsListed}
 use Rattle.bd_deaths.specs.Stands.{AreIn}
-use Rattle.bd_deaths.proofs.Listed.{listed-changed}
-use Rattle.bd_keys.proofs.Tables.{uses-none, uses-then}
-use Rattle.bd_deaths.proofs.Telling.{queued, no-places}
-use Rattle.bd_deaths.proofs.Visiting.{object-next, all-queued}
+use Rattle.bd_deaths.proofs.Listed.{listed_changed}
+use Rattle.bd_keys.proofs.Tables.{uses_none, uses_then}
+use Rattle.bd_deaths.proofs.Telling.{queued, no_places}
+use Rattle.bd_deaths.proofs.Visiting.{object_next, all_queued}
 use Rattle.bd_deaths.proofs.table.DeathTable.queue_due.Goals as goal
 
 pub loop-o-init : goal.loop-o-init
 loop-o-init c = record {
-  so_far = λ objects xs n h. subst (AreIn c.args.self.now.list) (no-places objects c.args.p xs) h;
+  so_far = λ objects xs n h. subst (AreIn c.args.self.now.list) (no_places objects c.args.p xs) h;
   groups = refl;
-  uses = uses-none c.args.self.now.list;
+  uses = uses_none c.args.self.now.list;
 }
 
 pub loop-o-preserved : goal.loop-o-preserved
@@ -29,11 +29,11 @@ loop-o-preserved c =
     record {
       so_far = λ objects xs n h.
           subst (AreIn c.queue_all.new.self)
-          (object-next c.args.self.now.groups objects c.args.p c.loop-o.yielded c.in-Some.o _
+          (object_next c.args.self.now.groups objects c.args.p c.loop-o.yielded c.in-Some.o _
           (listed ∙ ap (λ g. members g (object_group c.in-Some.o)) inv.groups) xs)
           (c.queue_all.ensures.stands objects _ n (inv.so_far objects xs n h));
       groups = inv.groups;
-      uses = uses-then inv.uses c.queue_all.ensures.uses;
+      uses = uses_then inv.uses c.queue_all.ensures.uses;
     }
 
 pub returns-clause-stands : goal.returns-clause-stands
@@ -46,8 +46,8 @@ returns-clause-stands c = λ objects l n h.
     let all = sym (map-id c.loop-o.yielded) ∙ road.0 in
     let has = subst (λ os. HasAll os (map (λ x. x.id) (filter (λ x. x.owner == p) objects))) (sym all) (c.listed-o-items.ensures.all objects n) in
     record {
-      are_in = subst (AreIn c.loop-o.self.list) (all-queued groups objects p c.loop-o.yielded has l h.listed) (inv.so_far objects l n h.are_in);
+      are_in = subst (AreIn c.loop-o.self.list) (all_queued groups objects p c.loop-o.yielded has l h.listed) (inv.so_far objects l n h.are_in);
       listed = subst (λ g. All (IsListed g) (changed (is_queued_in l objects p) (queued objects p) l)) (sym inv.groups)
-          (listed-changed groups (is_queued_in l objects p) (queued objects p)
+          (listed_changed groups (is_queued_in l objects p) (queued objects p)
           (λ x. record { made = refl; process = refl; object = refl; cookie = refl }) l h.listed);
     }

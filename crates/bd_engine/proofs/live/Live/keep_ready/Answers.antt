@@ -2,8 +2,8 @@ use Rattle.std.proofs.Common.{refl, sym, subst}
 use Rattle.bd_space.specs.Histories.{space_after}
 use Rattle.bd_step.specs.declared.tables.Tables.{Tables}
 use Rattle.bd_step.specs.Stands.{Before}
-use Rattle.bd_engine.proofs.Keeping.{follows-kept}
-use Rattle.bd_step.proofs.Changing.{with-calls}
+use Rattle.bd_engine.proofs.Keeping.{follows_kept}
+use Rattle.bd_step.proofs.Changing.{with_calls}
 use Rattle.bd_calls.specs.Told.{Recalls}
 use Rattle.bd_engine.proofs.live.Live.keep_ready.Goals as goal
 
@@ -11,7 +11,7 @@ pub returns-clause-follows : goal.returns-clause-follows
 returns-clause-follows c = λ h follows.
     let s = space_after h in
     let before = subst (λ (t : Tables). Before t s) (sym c.deref_mut-tables.ensures.value) follows.stands in
-    follows-kept h c.args.self.now _ follows refl (with-calls s.steps _ s c.keep_ready.new.self s.threads s.frames s.todo before (c.keep_ready.ensures.stands s before.calls_stand))
+    follows_kept h c.args.self.now _ follows refl (with_calls s.steps _ s c.keep_ready.new.self s.threads s.frames s.todo before (c.keep_ready.ensures.stands s before.calls_stand))
 
 pub returns-clause-told : goal.returns-clause-told
 returns-clause-told c = λ told k. c.keep_ready.ensures.told told (subst (λ (t : Tables). Recalls t.calls told) (sym c.deref_mut-tables.ensures.value) k)

@@ -2,7 +2,7 @@ use Rattle.std.proofs.Common.{rules, ◌≡◌, ◌<◌, [], ◌∷◌, ◌++◌
 use Rattle.std.proofs.lemmas.List.{take_more}
 use Rattle.std.proofs.lemmas.List.Elements.{All-same, All-push}
 use Rattle.bd_space.specs.Histories.{space_after, is_ready}
-use Rattle.bd_engine.proofs.Noting.{seen-same, seen-other, seen-none, seen-whole, seen-all, seen-as, differ, agree}
+use Rattle.bd_engine.proofs.Noting.{seen_same, seen_other, seen_none, seen_whole, seen_all, seen_as, differ, agree}
 use Rattle.bd_engine.proofs.live.Live.note_ready.Goals as goal
 use Rattle.bd_engine.proofs.live.Live.note_ready.Goals.{then-at-noted+then-noted-at, then-at-noted+else-noted-at, else-at-noted}
 
@@ -11,7 +11,7 @@ loop-i-init c = record {
   len = refl;
   room = omega arith;
   inside = search (rules, arith);
-  seen = λ h follows y lt. seen-as (space_after h) _ c.args.noted.now _ [] c.args.changed.now.items [] [] y refl c.requires.none refl (seen-none (space_after h) c.args.noted.now y);
+  seen = λ h follows y lt. seen_as (space_after h) _ c.args.noted.now _ [] c.args.changed.now.items [] [] y refl c.requires.none refl (seen_none (space_after h) c.args.noted.now y);
 }
 
 pub loop-i-preserved : goal.loop-i-preserved
@@ -41,29 +41,29 @@ loop-i-preserved c = record {
       let seen = c.loop-i.invariant.seen h follows y lt in
       elim c.if-at-noted.branch [
         | then-at-noted+then-noted-at w ↦
-            seen-as s before _ c.if-at-noted.noted _ c.if-at-noted.changed.items _ _ y w.noted-is (ap (λ v. v.items) w.changed-is ∙ w.push_reserved.ensures.items) more
-            (seen-other s before c.loop-i.noted c.loop-i.changed.items done x y seen w.is_ready-ready.result w.if-at-noted.true (differ _ _ w.if-noted-at.true) (λ e. w.is_ready-ready.ensures h follows))
+            seen_as s before _ c.if-at-noted.noted _ c.if-at-noted.changed.items _ _ y w.noted-is (ap (λ v. v.items) w.changed-is ∙ w.push_reserved.ensures.items) more
+            (seen_other s before c.loop-i.noted c.loop-i.changed.items done x y seen w.is_ready-ready.result w.if-at-noted.true (differ _ _ w.if-noted-at.true) (λ e. w.is_ready-ready.ensures h follows))
         | then-at-noted+else-noted-at w ↦
-            seen-as s before _ c.if-at-noted.noted _ c.if-at-noted.changed.items _ _ y w.noted-is (ap (λ v. v.items) w.changed-is) more
-            (seen-same s before c.loop-i.noted c.loop-i.changed.items done x y seen
+            seen_as s before _ c.if-at-noted.noted _ c.if-at-noted.changed.items _ _ y w.noted-is (ap (λ v. v.items) w.changed-is) more
+            (seen_same s before c.loop-i.noted c.loop-i.changed.items done x y seen
             (λ e. subst (λ v. get_or c.loop-i.noted v false ≡ is_ready s v) e (agree _ _ w.if-noted-at.false ∙ w.is_ready-ready.ensures h follows)))
         | else-at-noted w ↦
-            seen-as s before _ c.if-at-noted.noted _ c.if-at-noted.changed.items _ _ y w.noted-is (ap (λ v. v.items) w.changed-is) more
-            (seen-same s before c.loop-i.noted c.loop-i.changed.items done x y seen (λ e. absurd (omega (arith, w.if-at-noted.false, c.loop-i.invariant.len, lt, e))))
+            seen_as s before _ c.if-at-noted.noted _ c.if-at-noted.changed.items _ _ y w.noted-is (ap (λ v. v.items) w.changed-is) more
+            (seen_same s before c.loop-i.noted c.loop-i.changed.items done x y seen (λ e. absurd (omega (arith, w.if-at-noted.false, c.loop-i.invariant.len, lt, e))))
       ];
 }
 
 pub returns-clause-seen : goal.returns-clause-seen
 returns-clause-seen c = λ h follows y lt.
     let seen = c.loop-i.invariant.seen h follows y (omega (arith, c.loop-i.invariant.len, lt)) in
-    (seen-whole (space_after h) c.args.noted.now c.loop-i.noted c.loop-i.changed.items c.args.touched.now c.loop-i.i y (omega arith) seen).is
+    (seen_whole (space_after h) c.args.noted.now c.loop-i.noted c.loop-i.changed.items c.args.touched.now c.loop-i.i y (omega arith) seen).is
 
 pub returns-clause-noted : goal.returns-clause-noted
 returns-clause-noted c = λ h follows touched_only y lt.
     let inside : y < length c.args.noted.now = omega (arith, c.loop-i.invariant.len, lt) in
     let seen = c.loop-i.invariant.seen h follows y inside in
-    seen-all (space_after h) c.args.noted.now c.loop-i.noted c.loop-i.changed.items c.args.touched.now y
-    (seen-whole (space_after h) c.args.noted.now c.loop-i.noted c.loop-i.changed.items c.args.touched.now c.loop-i.i y (omega arith) seen) (touched_only y inside)
+    seen_all (space_after h) c.args.noted.now c.loop-i.noted c.loop-i.changed.items c.args.touched.now y
+    (seen_whole (space_after h) c.args.noted.now c.loop-i.noted c.loop-i.changed.items c.args.touched.now c.loop-i.i y (omega arith) seen) (touched_only y inside)
 
 pub returns-clause-changed : goal.returns-clause-changed
 returns-clause-changed c = λ h follows y lt. (c.loop-i.invariant.seen h follows y lt).listed

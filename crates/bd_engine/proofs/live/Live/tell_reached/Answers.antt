@@ -6,10 +6,10 @@ use Rattle.bd_space.specs.Histories.{History, space_after}
 use Rattle.bd_calls.specs.Told.{Recalls, knows_all}
 use Rattle.bd_step.specs.declared.tables.Tables.{Tables}
 use Rattle.bd_step.specs.Stands.{Before}
-use Rattle.bd_step.proofs.Changing.{with-calls}
+use Rattle.bd_step.proofs.Changing.{with_calls}
 use Rattle.bd_engine.specs.declared.live.Live.{Live}
 use Rattle.bd_engine.specs.Follows.{Follows}
-use Rattle.bd_engine.proofs.Keeping.{follows-kept}
+use Rattle.bd_engine.proofs.Keeping.{follows_kept}
 use Rattle.bd_engine.proofs.live.Live.tell_reached.Goals as goal
 
 -- what is behind the pointer stands for the space, and recalls what was told
@@ -27,7 +27,7 @@ pub returns-in_err-reserve_reached-clause-follows : goal.returns-in_err-reserve_
 returns-in_err-reserve_reached-clause-follows c = λ h follows.
     let s = space_after h in
     let stood = before c.args.self.now _ c.deref_mut-tables.ensures.value h follows in
-    follows-kept h c.args.self.now _ follows refl (with-calls s.steps _ s c.reserve_reached.new.self s.threads s.frames s.todo stood (c.reserve_reached.ensures.stands s stood.calls_stand))
+    follows_kept h c.args.self.now _ follows refl (with_calls s.steps _ s c.reserve_reached.new.self s.threads s.frames s.todo stood (c.reserve_reached.ensures.stands s stood.calls_stand))
 
 pub returns-in_err-reserve_reached-clause-err : goal.returns-in_err-reserve_reached-clause-err
 returns-in_err-reserve_reached-clause-err c = whatever-is c.from_residual.result
@@ -37,7 +37,7 @@ pub returns-clause-follows : goal.returns-clause-follows
 returns-clause-follows c = λ h follows.
     let s = space_after h in
     let stood = before c.args.self.now _ c.deref_mut-tables.ensures.value h follows in
-    follows-kept h c.args.self.now _ follows refl (with-calls s.steps _ s c.tell_reached.new.self s.threads s.frames s.todo stood
+    follows_kept h c.args.self.now _ follows refl (with_calls s.steps _ s c.tell_reached.new.self s.threads s.frames s.todo stood
     (c.tell_reached.ensures.stands s (c.reserve_reached.ensures.stands s stood.calls_stand)))
 
 pub returns-clause-whole : goal.returns-clause-whole

@@ -3,15 +3,15 @@ use Rattle.std.specs.Prelude.{option_map, Some}
 use Rattle.bd_space.specs.Histories.{space_after}
 use Rattle.bd_space.specs.declared.space.Frame.{Frame}
 use Rattle.bd_space.specs.Frames.{serves}
-use Rattle.bd_laws.proofs.Always.{always-tidy}
-use Rattle.bd_step.proofs.Stacked.{tidy-stacked}
+use Rattle.bd_laws.proofs.Always.{always_tidy}
+use Rattle.bd_step.proofs.Stacked.{tidy_stacked}
 use Rattle.bd_engine.proofs.looks.Looks.innermost.Goals as goal
 
 pub returns-in-Some : goal.returns-in-Some
 returns-in-Some g c = g.Self.HasTables.concludes _ _ _
     (λ h stands.
     let s = space_after h in
-    let found = c.innermost.ensures s stands.calls_stand (tidy-stacked s (always-tidy h)) in
+    let found = c.innermost.ensures s stands.calls_stand (tidy_stacked s (always_tidy h)) in
     ap (λ b. Some (c.in-Some.f.made, b)) c.serves.ensures ∙ ap (option_map (λ (f : Frame). (f.made, serves c.args.seat f.server))) (sym c.in-Some.is ∙ found))
     c.tables.ensures
 
@@ -19,6 +19,6 @@ pub returns-in-None : goal.returns-in-None
 returns-in-None g c = g.Self.HasTables.concludes _ _ _
     (λ h stands.
     let s = space_after h in
-    let found = c.innermost.ensures s stands.calls_stand (tidy-stacked s (always-tidy h)) in
+    let found = c.innermost.ensures s stands.calls_stand (tidy_stacked s (always_tidy h)) in
     ap (option_map (λ (f : Frame). (f.made, serves c.args.seat f.server))) (sym c.in-None.is ∙ found))
     c.tables.ensures

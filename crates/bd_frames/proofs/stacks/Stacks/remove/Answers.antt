@@ -1,7 +1,7 @@
 use Rattle.std.proofs.Common.{ap, sym, ◌∙◌, arith}
 use Rattle.bd_frames.specs.Children.{kept_at}
 use Rattle.bd_frames.specs.Linked.{Reaches, any_bound}
-use Rattle.bd_frames.proofs.Linking.{linked-long}
+use Rattle.bd_frames.proofs.Linking.{linked_long}
 use Rattle.bd_frames.proofs.Stacking.{removed}
 use Rattle.bd_frames.proofs.stacks.Stacks.remove.Goals as goal
 
@@ -13,5 +13,5 @@ returns-then-i-len-clause-stands c = λ l h rising within is.
 
 pub returns-else-i-len-clause-stands : goal.returns-else-i-len-clause-stands
 returns-else-i-len-clause-stands c = λ l h rising within is.
-    let long = linked-long (Reaches c.args.self.now.floor) any_bound l c.args.self.now.below.items h.linked in
+    let long = linked_long (Reaches c.args.self.now.floor) any_bound l c.args.self.now.below.items h.linked in
     absurd (omega (arith, within, long, c.if-i-len.false))

@@ -5,8 +5,8 @@ use Rattle.bd_space.specs.Frames.{ancestry}
 use Rattle.bd_frames.specs.declared.table.FrameTable.{FrameTable}
 use Rattle.bd_frames.specs.Stands.{FramesAre}
 use Rattle.bd_frames.specs.Places.{IsRising}
-use Rattle.bd_frames.proofs.Ways.{way-ended, goes-on, goes-nowhere}
-use Rattle.bd_frames.proofs.Down.{take-whole}
+use Rattle.bd_frames.proofs.Ways.{way_ended, goes_on, goes_nowhere}
+use Rattle.bd_frames.proofs.Down.{take_whole}
 use Rattle.bd_frames.proofs.table.FrameTable.first_on_way.Goals as goal
 
 own : (t : FrameTable) (l : List Frame) → FramesAre t l → IsRising 0 t.frames.items
@@ -23,7 +23,7 @@ loop-next-init g c = record {
   within = omega (arith, c.len-end.ensures);
   rest = λ q by r.
       let long : c.len-end.result ≡ length c.args.self.now.frames.items = omega (arith, c.len-end.ensures) in
-      ap (λ ys. find q (ancestry c.args.from (reverse ys))) (sym (take-whole c.len-end.result c.args.self.now.frames.items long));
+      ap (λ ys. find q (ancestry c.args.from (reverse ys))) (sym (take_whole c.len-end.result c.args.self.now.frames.items long));
 }
 
 pub loop-next-preserved : goal.loop-next-preserved
@@ -36,7 +36,7 @@ loop-next-preserved g c =
       within = omega (arith, inv.within, c.in_ok-i.ensures.within, length-take c.loop-next.end c.deref.result.now);
       rest = λ q by r.
           let fails : q d ≡ false = sym (by d c.f.result c.f.ensures) ∙ c.if-f.false in
-          inv.rest q by r ∙ goes-on q c.loop-next.next c.in-Some.made c.loop-next.end xs _ c.in_ok-i.i d c.in-Some.is r c.deref.ensures.value c.in_ok-i.ensures.within c.in_ok-i.ensures.only
+          inv.rest q by r ∙ goes_on q c.loop-next.next c.in-Some.made c.loop-next.end xs _ c.in_ok-i.i d c.in-Some.is r c.deref.ensures.value c.in_ok-i.ensures.within c.in_ok-i.ensures.only
           c.index-frame.ensures
           ∙ ap (λ b. cond b (Some d) (find q (ancestry d.parent (reverse (take c.in_ok-i.i xs))))) fails;
     }
@@ -47,7 +47,7 @@ returns-in_err-i g c = λ q by l h.
     let gives : c.from_residual.result ≡ None = search rules in
     gives
     ∙ ends t l q c.args.from None h (c.loop-next.invariant.rest q by (own t l h)
-    ∙ goes-nowhere q c.loop-next.next c.in-Some.made c.loop-next.end t.frames.items _ c.in-Some.is (own t l h) c.deref.ensures.value c.in_err-i.ensures.only)
+    ∙ goes_nowhere q c.loop-next.next c.in-Some.made c.loop-next.end t.frames.items _ c.in-Some.is (own t l h) c.deref.ensures.value c.in_err-i.ensures.only)
 
 pub returns-then-f : goal.returns-then-f
 returns-then-f g c = λ q by l h.
@@ -55,7 +55,7 @@ returns-then-f g c = λ q by l h.
     let d = c.index-frame.result.now in
     let passes : q d ≡ true = sym (by d c.f.result c.f.ensures) ∙ c.if-f.true in
     ends t l q c.args.from (Some d) h (c.loop-next.invariant.rest q by (own t l h)
-    ∙ goes-on q c.loop-next.next c.in-Some.made c.loop-next.end t.frames.items _ c.in_ok-i.i d c.in-Some.is (own t l h) c.deref.ensures.value c.in_ok-i.ensures.within c.in_ok-i.ensures.only
+    ∙ goes_on q c.loop-next.next c.in-Some.made c.loop-next.end t.frames.items _ c.in_ok-i.i d c.in-Some.is (own t l h) c.deref.ensures.value c.in_ok-i.ensures.within c.in_ok-i.ensures.only
     c.index-frame.ensures
     ∙ ap (λ b. cond b (Some d) (find q (ancestry d.parent (reverse (take c.in_ok-i.i t.frames.items))))) passes)
 
@@ -65,4 +65,4 @@ returns g c = λ q by l h.
     let none : c.loop-next.next ≡ None = search rules in
     ends t l q c.args.from None h (c.loop-next.invariant.rest q by (own t l h)
     ∙ ap (λ (o : Option ℕ). find q (ancestry o (reverse (take c.loop-next.end t.frames.items)))) none
-    ∙ ap (find q) (way-ended (reverse (take c.loop-next.end t.frames.items))))
+    ∙ ap (find q) (way_ended (reverse (take c.loop-next.end t.frames.items))))

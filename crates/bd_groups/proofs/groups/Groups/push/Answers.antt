@@ -2,8 +2,8 @@ use Rattle.std.proofs.Common.{◌∷◌, ◌++◌, [], reverse, cond, inl, refl,
 use Rattle.bd_groups.specs.Group.{same_group}
 use Rattle.bd_groups.specs.Trail.{trail, latest_at}
 use Rattle.bd_groups.specs.Members.{members, IsIn}
-use Rattle.bd_groups.proofs.Same.{group-self}
-use Rattle.bd_groups.proofs.Trails.{pushed, still-in}
+use Rattle.bd_groups.proofs.Same.{group_self}
+use Rattle.bd_groups.proofs.Trails.{pushed, still_in}
 use Rattle.bd_groups.proofs.groups.Groups.push.Goals as goal
 
 pub returns-clause-put : goal.returns-clause-put
@@ -20,9 +20,9 @@ returns-clause-has g c =
     let k = c.args.g in
     let was = members c.args.self.now k in
     subst (IsIn c.args.member)
-    (sym (returns-clause-put g c k ∙ ap (λ b. cond b (c.args.member ∷ was) was) (group-self k))) (inl refl)
+    (sym (returns-clause-put g c k ∙ ap (λ b. cond b (c.args.member ∷ was) was) (group_self k))) (inl refl)
 
 pub returns-clause-keeps : goal.returns-clause-keeps
 returns-clause-keeps g c = λ h x is.
     subst (IsIn x) (sym (returns-clause-put g c h))
-    (still-in (same_group c.args.g h) x c.args.member (members c.args.self.now h) is)
+    (still_in (same_group c.args.g h) x c.args.member (members c.args.self.now h) is)

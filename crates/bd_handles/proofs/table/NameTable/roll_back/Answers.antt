@@ -1,6 +1,6 @@
 use Rattle.std.proofs.Common.{◌++◌, arith, subst}
 use Rattle.bd_handles.specs.Stands.{NamesSince}
-use Rattle.bd_handles.proofs.Given.{all-back}
+use Rattle.bd_handles.proofs.Given.{all_back}
 use Rattle.bd_handles.proofs.table.NameTable.roll_back.Goals as goal
 
 pub loop-preserved : goal.loop-preserved
@@ -12,4 +12,4 @@ loop-preserved c = record {
 
 pub returns-clause-stands : goal.returns-clause-stands
 returns-clause-stands c = λ base l h.
-    subst (NamesSince c.loop.self base) (all-back base c.loop.self.given.items (omega (arith, c.loop.invariant.left, c.len-end.ensures, c.loop-test.false))) (c.loop.invariant.stands base l h)
+    subst (NamesSince c.loop.self base) (all_back base c.loop.self.given.items (omega (arith, c.loop.invariant.left, c.len-end.ensures, c.loop-test.false))) (c.loop.invariant.stands base l h)

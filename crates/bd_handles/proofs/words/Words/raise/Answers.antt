@@ -3,7 +3,7 @@ use Rattle.bd_handles.specs.Keys.{is_number_key}
 use Rattle.std.proofs.Common.{eqb, ◌&&◌, Some}
 use Rattle.bd_keys.proofs.Options.{updated}
 use Rattle.bd_handles.specs.declared.keys.NumberKey.{NumberKey}
-use Rattle.bd_handles.proofs.Bits.{some-filled, filled-updated}
+use Rattle.bd_handles.proofs.Bits.{some_filled, filled_updated}
 use Rattle.bd_handles.proofs.words.Words.raise.Goals as goal
 
 pub returns-clause-words : goal.returns-clause-words
@@ -15,6 +15,6 @@ pub invariant_of-self : goal.invariant_of-self
 invariant_of-self c = record {
   filled = λ q v.
       let k : NumberKey = record { process = q; number = v } in
-      filled-updated (eqb c.args.p q && eqb c.args.w v) (Some c.args.x) (get_by (is_number_key q v) c.args.self.now.words) _ (c.insert_reserved.ensures.put k)
-      (some-filled c.args.x c.requires.filled) (c.args.self.now.filled q v);
+      filled_updated (eqb c.args.p q && eqb c.args.w v) (Some c.args.x) (get_by (is_number_key q v) c.args.self.now.words) _ (c.insert_reserved.ensures.put k)
+      (some_filled c.args.x c.requires.filled) (c.args.self.now.filled q v);
 }

@@ -6,7 +6,7 @@ use Rattle.bd_holds.specs.declared.keys.UseKey.{UseKey}
 use Rattle.bd_holds.specs.Count.{of_strength, one_more}
 use Rattle.bd_holds.specs.Keys.{same_use, same_key, use_of}
 use Rattle.bd_holds.specs.Counted.{both_at, count_at}
-use Rattle.bd_holds.proofs.Keyed.{both-updated, set-more}
+use Rattle.bd_holds.proofs.Keyed.{both_updated, set_more}
 use Rattle.bd_holds.proofs.counts.Counts.add.Goals as goal
 
 pub returns-in-Ok-clause-counts : goal.returns-in-Ok-clause-counts
@@ -17,8 +17,8 @@ returns-in-Ok-clause-counts c = λ q few.
     let u = c.use_of.result in
     let n = c.one_more.result in
     let is = c.use_of.ensures in
-    let more = set-more (both_at old) u (use_of q) q.strong _ n
-    (both-updated (same_use u (use_of q)) (Some n) (get same_use old.counts (use_of q)) (get same_use (map_with_value c.in-Ok.entry n) (use_of q))
+    let more = set_more (both_at old) u (use_of q) q.strong _ n
+    (both_updated (same_use u (use_of q)) (Some n) (get same_use old.counts (use_of q)) (get same_use (map_with_value c.in-Ok.entry n) (use_of q))
     ((c.in-Ok.ensures.update.0 n).0 (use_of q))) k.strong
     (c.one_more.ensures ∙ ap (one_more k.strong)
     (c.or_insert-count.ensures.value ∙ ap (λ o. unwrap_or o c.none.result) c.in-Ok.ensures.value

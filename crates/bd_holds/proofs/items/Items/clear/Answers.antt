@@ -1,7 +1,7 @@
 use Rattle.std.proofs.Common.{◌==◌, refl, arith}
 use Rattle.std.proofs.lemmas.Bool.{eq-eqb}
 use Rattle.std.specs.HashMap.{get_by}
-use Rattle.bd_holds.proofs.Ends.{ends-gone}
+use Rattle.bd_holds.proofs.Ends.{ends_gone}
 use Rattle.bd_holds.proofs.Updated.{fewer}
 use Rattle.bd_holds.proofs.items.Items.clear.Goals as goal
 
@@ -13,6 +13,6 @@ pub invariant_of-self-clause-ended : goal.invariant_of-self-clause-ended
 invariant_of-self-clause-ended c =
     let b = c.args.b in
     let end = c.end_of-end.ensures in
-    ends-gone c.args.self.now.held c.clear_to.new.held c.args.self.now.ends c.remove-gone.new.self b
+    ends_gone c.args.self.now.held c.clear_to.new.held c.args.self.now.ends c.remove-gone.new.self b
     (λ j lt. c.clear_to.ensures.gone j (omega (arith, lt, end))) (λ j le. c.clear_to.ensures.above j (omega (arith, le, end)))
     c.clear_to.ensures.others c.remove-gone.ensures.updates.0 (eq-eqb b b refl) c.args.self.now.ended

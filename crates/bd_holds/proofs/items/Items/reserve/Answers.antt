@@ -1,9 +1,9 @@
 use Rattle.std.proofs.Common.{◌∙◌, ap, unwrap_or}
 use Rattle.bd_holds.specs.Keys.{same_item}
 use Rattle.bd_holds.specs.Gathered.{item_in, gathered}
-use Rattle.bd_holds.proofs.Ends.{ends-same}
+use Rattle.bd_holds.proofs.Ends.{ends_same}
 use Rattle.bd_holds.proofs.Gathers.{agrees}
-use Rattle.bd_holds.proofs.Viewed.{windows-same}
+use Rattle.bd_holds.proofs.Viewed.{windows_same}
 use Rattle.bd_holds.proofs.items.Items.reserve.Goals as goal
 
 pub returns-clause-items : goal.returns-clause-items
@@ -26,10 +26,10 @@ unfolding same_item
 invariant_of-self-in-Break-branch-2 c =
     let old = c.args.self.now in
     record {
-      listed = windows-same old.held c.reserve.new.self old.ends c.reserve-2.new.self old.windows
+      listed = windows_same old.held c.reserve.new.self old.ends c.reserve-2.new.self old.windows
           (λ b i. c.reserve.ensures.entries.2 (record { buffer = b; index = i }))
           (λ b. ap (λ o. unwrap_or o 0) (c.reserve-2.ensures.entries.2 b)) old.listed;
-      ended = ends-same old.held c.reserve.new.self old.ends c.reserve-2.new.self
+      ended = ends_same old.held c.reserve.new.self old.ends c.reserve-2.new.self
           (λ b i. c.reserve.ensures.entries.2 (record { buffer = b; index = i })) c.reserve-2.ensures.entries.2 old.ended;
     }
 
@@ -38,9 +38,9 @@ unfolding same_item
 invariant_of-self-2 c =
     let old = c.args.self.now in
     record {
-      listed = c.reserve_windows.ensures.are (windows-same old.held c.reserve.new.self old.ends c.reserve-2.new.self old.windows
+      listed = c.reserve_windows.ensures.are (windows_same old.held c.reserve.new.self old.ends c.reserve-2.new.self old.windows
           (λ b i. c.reserve.ensures.entries.2 (record { buffer = b; index = i }))
           (λ b. ap (λ o. unwrap_or o 0) (c.reserve-2.ensures.entries.2 b)) old.listed);
-      ended = ends-same old.held c.reserve.new.self old.ends c.reserve-2.new.self
+      ended = ends_same old.held c.reserve.new.self old.ends c.reserve-2.new.self
           (λ b i. c.reserve.ensures.entries.2 (record { buffer = b; index = i })) c.reserve-2.ensures.entries.2 old.ended;
     }

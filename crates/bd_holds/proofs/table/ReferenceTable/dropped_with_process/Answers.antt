@@ -10,7 +10,7 @@ use Rattle.bd_holds.specs.declared.keys.UseKey.{UseKey}
 use Rattle.bd_holds.specs.declared.tallies.Tallies.{Tallies}
 use Rattle.bd_holds.specs.Counted.{is_counted}
 use Rattle.bd_holds.specs.Tallied.{Tallied}
-use Rattle.bd_holds.proofs.Listing.{goes, any-dropped, just-dropped}
+use Rattle.bd_holds.proofs.Listing.{goes, any_dropped, just_dropped}
 use Rattle.bd_holds.proofs.table.ReferenceTable.dropped_with_process.Goals as goal
 
 -- what was put tells of the same objects
@@ -19,7 +19,7 @@ same-objects : (p : ℕ) (t : Tallies) (l : List Reference) (uses : List UseKey)
     → (o : ObjectId) → is_among ids o ≡ is_among (before ++ map (λ r. r.object) (filter (goes p) l)) o
 same-objects p t l uses before ids are listed put o =
     ap (λ (os : List ObjectId). is_among os o) (put ∙ ap (λ (us : List UseKey). before ++ map (λ (u : UseKey). u.object) (filter (is_counted t.uses) us)) listed)
-    ∙ just-dropped p t.uses t.users l are.uses_are t.listed before o
+    ∙ just_dropped p t.uses t.users l are.uses_are t.listed before o
 
 pub returns-clause-all : goal.returns-clause-all
 returns-clause-all c = on_ok_weaker c.push_counted.result
@@ -35,6 +35,6 @@ pub returns-clause-grown : goal.returns-clause-grown
 returns-clause-grown c =
     let t = c.args.self.now.tallies in
     on_err_weaker c.push_counted.result
-    (λ h l are. sym (any-dropped c.args.p t.uses t.users l are.tallied.uses_are t.listed)
+    (λ h l are. sym (any_dropped c.args.p t.uses t.users l are.tallied.uses_are t.listed)
     ∙ ap (list_any (is_counted t.uses)) (sym c.of-listed.ensures) ∙ h)
     c.push_counted.ensures.grown

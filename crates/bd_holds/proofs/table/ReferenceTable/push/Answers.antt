@@ -2,7 +2,7 @@ use Rattle.std.proofs.Common.{◌-◌, ◌<◌, ◌^◌, cond, List, [], ◌∷�
 use Rattle.bd_space.specs.declared.space.Reference.{Reference}
 use Rattle.bd_space.specs.References.{is_of_buffer}
 use Rattle.bd_holds.specs.Room.{reference_room}
-use Rattle.bd_holds.proofs.Loads.{filter-push}
+use Rattle.bd_holds.proofs.Loads.{filter_push}
 use Rattle.bd_holds.proofs.table.ReferenceTable.push.Goals as goal
 
 pub returns-clause-stands : goal.returns-clause-stands
@@ -16,7 +16,7 @@ returns-clause-stands c = λ l are.
       held = λ b.
           c.hold.ensures.items b (λ d. omega (arith, are.ends d, small))
           ∙ ap (λ (xs : List Reference). cond (is_of_buffer b r.holder) (xs ++ r ∷ []) xs) (are.held b)
-          ∙ sym (filter-push (λ (x : Reference). is_of_buffer b x.holder) l r);
+          ∙ sym (filter_push (λ (x : Reference). is_of_buffer b x.holder) l r);
       few = omega (arith, length-append l (r ∷ []), are.few, made, small);
       ends = λ b. omega (arith, c.hold.ensures.ends b, are.ends b, made, small);
     }

@@ -1,10 +1,10 @@
 use Rattle.std.proofs.Common.{true, ◌&&◌, sym, ◌∙◌}
-use Rattle.bd_keys.proofs.Lists.{any-same}
+use Rattle.bd_keys.proofs.Lists.{any_same}
 use Rattle.bd_space.specs.declared.space.Reference.{Reference}
 use Rattle.bd_space.specs.Words.{same}
 use Rattle.bd_space.specs.References.{gives_name_to}
 use Rattle.bd_holds.specs.Keys.{names_with}
-use Rattle.bd_holds.proofs.ByKind.{naming-strongly}
+use Rattle.bd_holds.proofs.ByKind.{naming_strongly}
 use Rattle.bd_holds.proofs.table.ReferenceTable.refers_strongly.Goals as goal
 
 pub returns : goal.returns
@@ -12,5 +12,5 @@ returns c = λ l are.
     let p = c.args.p in
     let o = c.args.o in
     c.names_with.ensures l are.tallied
-    ∙ sym (any-same (λ (r : Reference). r.strong && same r.object o && gives_name_to p r.holder)
-    (names_with p o true) l (naming-strongly p o))
+    ∙ sym (any_same (λ (r : Reference). r.strong && same r.object o && gives_name_to p r.holder)
+    (names_with p o true) l (naming_strongly p o))

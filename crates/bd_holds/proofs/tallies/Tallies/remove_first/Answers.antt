@@ -4,10 +4,10 @@ use Rattle.std.proofs.lemmas.Bool.{lt-ltb, le-ltb}
 use Rattle.bd_space.specs.declared.space.Reference.{Reference}
 use Rattle.bd_holds.specs.Keys.{use_key, total_key, any_kind}
 use Rattle.bd_holds.specs.Counted.{count_at, CountBoth}
-use Rattle.bd_holds.proofs.Counting.{without-none}
-use Rattle.bd_holds.proofs.Keyed.{none-fewer}
-use Rattle.bd_holds.proofs.Tallying.{each-first, any-keyed}
-use Rattle.bd_holds.proofs.Tests.{key-eq}
+use Rattle.bd_holds.proofs.Counting.{without_none}
+use Rattle.bd_holds.proofs.Keyed.{none_fewer}
+use Rattle.bd_holds.proofs.Tallying.{each_first, any_keyed}
+use Rattle.bd_holds.proofs.Tests.{key_eq}
 use Rattle.bd_holds.proofs.tallies.Tallies.remove_first.Goals as goal
 
 pub returns-then-subtract-gt0-clause-stands : goal.returns-then-subtract-gt0-clause-stands
@@ -15,12 +15,12 @@ returns-then-subtract-gt0-clause-stands c = λ l test is t.
     let old = c.args.self.now in
     let k = c.args.k in
     let some : list_any test l ≡ true =
-    sym (any-keyed use_key old.uses test k l is t.uses_are) ∙ ap (λ n. ltb 0 n) (sym c.subtract.ensures.before) ∙ lt-ltb 0 _ c.if-subtract-gt0.true in
-    let all = λ (r : Reference) (h : test r ≡ true). key-eq (use_key r) k (sym (is r) ∙ h) in
+    sym (any_keyed use_key old.uses test k l is t.uses_are) ∙ ap (λ n. ltb 0 n) (sym c.subtract.ensures.before) ∙ lt-ltb 0 _ c.if-subtract-gt0.true in
+    let all = λ (r : Reference) (h : test r ≡ true). key_eq (use_key r) k (sym (is r) ∙ h) in
     record {
-      uses_are = each-first use_key old.uses c.subtract.new.self test k l
+      uses_are = each_first use_key old.uses c.subtract.new.self test k l
           all some t.uses_are c.subtract.ensures.counts;
-      totals_are = each-first total_key old.totals c.subtract-then-subtract-gt0.new.self test (any_kind k) l
+      totals_are = each_first total_key old.totals c.subtract-then-subtract-gt0.new.self test (any_kind k) l
           (λ r h. ap any_kind (all r h)) some t.totals_are (rw (← c.any_kind.ensures) c.subtract-then-subtract-gt0.ensures.counts);
     }
 
@@ -28,10 +28,10 @@ pub returns-else-subtract-gt0-clause-stands : goal.returns-else-subtract-gt0-cla
 returns-else-subtract-gt0-clause-stands c = λ l test is t.
     let old = c.args.self.now in
     let none : list_any test l ≡ false =
-    sym (any-keyed use_key old.uses test c.args.k l is t.uses_are) ∙ ap (λ n. ltb 0 n) (sym c.subtract.ensures.before)
+    sym (any_keyed use_key old.uses test c.args.k l is t.uses_are) ∙ ap (λ n. ltb 0 n) (sym c.subtract.ensures.before)
     ∙ le-ltb 0 _ c.if-subtract-gt0.false in
     let zero : count_at old.uses c.args.k ≡ 0 = omega (arith, c.subtract.ensures.before, c.if-subtract-gt0.false) in
-    subst (CountBoth c.subtract.new.self old.totals) (sym (without-none test l none)) (record {
-      uses_are = λ q. none-fewer (count_at old.uses) c.args.k q _ 1 (c.subtract.ensures.counts q) zero ∙ t.uses_are q;
+    subst (CountBoth c.subtract.new.self old.totals) (sym (without_none test l none)) (record {
+      uses_are = λ q. none_fewer (count_at old.uses) c.args.k q _ 1 (c.subtract.ensures.counts q) zero ∙ t.uses_are q;
       totals_are = t.totals_are;
     })

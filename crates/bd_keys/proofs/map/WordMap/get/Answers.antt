@@ -1,10 +1,10 @@
 use Rattle.std.proofs.Common.{sym, ◌∙◌}
-use Rattle.bd_keys.proofs.Looks.{look-none}
+use Rattle.bd_keys.proofs.Looks.{look_none}
 use Rattle.bd_keys.proofs.map.WordMap.get.Goals as goal
 
 pub returns-in_err-at : goal.returns-in_err-at
 returns-in_err-at g c =
-    c.from_residual.ensures ∙ sym (look-none c.args.self.now c.args.k (sym c.index_of.ensures.place ∙ c.in_err-at.was))
+    c.from_residual.ensures ∙ sym (look_none c.args.self.now c.args.k (sym c.index_of.ensures.place ∙ c.in_err-at.was))
 
 pub returns : goal.returns
 returns g c = c.value.ensures c.args.k (sym c.index_of.ensures.place ∙ c.in_ok-at.was)

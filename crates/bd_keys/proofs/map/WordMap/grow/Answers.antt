@@ -3,7 +3,7 @@ use Rattle.std.proofs.lemmas.Result.{on_ok_weaker}
 use Rattle.bd_keys.specs.Keys.{place_in}
 use Rattle.bd_keys.specs.Walk.{keys}
 use Rattle.bd_keys.specs.Look.{look, value_at, word_room}
-use Rattle.bd_keys.proofs.Looks.{alike-values}
+use Rattle.bd_keys.proofs.Looks.{alike_values}
 use Rattle.bd_keys.proofs.map.WordMap.grow.Goals as goal
 
 pub returns-in_err-reserve-clause-kept : goal.returns-in_err-reserve-clause-kept
@@ -18,7 +18,7 @@ returns-in_err-reserve-clause-uses g c = omega (arith, c.reserve.ensures.uses)
 pub returns-clause-kept : goal.returns-clause-kept
 unfolding look
 returns-clause-kept g c = λ k.
-    alike-values c.reserve-2.new.self.items _ _ _ k c.reserve-2.ensures.items (ap keys c.reserve.ensures.same)
+    alike_values c.reserve-2.new.self.items _ _ _ k c.reserve-2.ensures.items (ap keys c.reserve.ensures.same)
 
 pub returns-clause-uses : goal.returns-clause-uses
 unfolding word_room

@@ -1,8 +1,8 @@
 use Rattle.std.proofs.Common.{Some, sym, ◌∙◌, arith}
 use Rattle.bd_keys.specs.Walk.{keys}
 use Rattle.bd_keys.specs.Look.{look, word_room}
-use Rattle.bd_keys.proofs.Looks.{alike-values, value-push}
-use Rattle.bd_keys.proofs.Walks.{keys-length}
+use Rattle.bd_keys.proofs.Looks.{alike_values, value_push}
+use Rattle.bd_keys.proofs.Walks.{keys_length}
 use Rattle.bd_keys.proofs.map.WordMap.insert.Goals as goal
 
 pub push-requires-clause-room : goal.push-requires-clause-room
@@ -20,9 +20,9 @@ pub returns-in-None-clause-put : goal.returns-in-None-clause-put
 unfolding look
 returns-in-None-clause-put g c = λ l.
     let m = c.args.self.now in
-    alike-values c.push_reserved.new.self.items _ _ _ l c.push_reserved.ensures.items c.push.ensures.keys
-    ∙ value-push (keys m.tree.nodes.items) m.values.items c.args.k l (Some c.args.v)
-    (sym c.index_of.ensures.place ∙ c.in-None.is) (m.alike ∙ sym (keys-length m.tree.nodes.items))
+    alike_values c.push_reserved.new.self.items _ _ _ l c.push_reserved.ensures.items c.push.ensures.keys
+    ∙ value_push (keys m.tree.nodes.items) m.values.items c.args.k l (Some c.args.v)
+    (sym c.index_of.ensures.place ∙ c.in-None.is) (m.alike ∙ sym (keys_length m.tree.nodes.items))
 
 pub returns-in-None-clause-room : goal.returns-in-None-clause-room
 unfolding word_room

@@ -4,7 +4,7 @@ use Rattle.std.proofs.lemmas.List.Sums.{sum_by-drop_more}
 use Rattle.bd_keys.specs.Keys.{place_in}
 use Rattle.bd_keys.specs.Walk.{keys}
 use Rattle.bd_keys.specs.Look.{look}
-use Rattle.bd_keys.proofs.Looks.{below-all, below-insert, below-skip}
+use Rattle.bd_keys.proofs.Looks.{below_all, below_insert, below_skip}
 use Rattle.bd_keys.proofs.map.WordMap.rebuilt.Goals as goal
 use Rattle.bd_keys.proofs.map.WordMap.rebuilt.Goals.{in-Some, in_default}
 
@@ -27,7 +27,7 @@ loop-at-preserved g c =
           record {
             shown = λ k.
                 w.insert.ensures.put k
-                ∙ below-insert ns m.tree.stands vs i w.key.result k w.in-Some.v (look c.loop-at.fresh k)
+                ∙ below_insert ns m.tree.stands vs i w.key.result k w.in-Some.v (look c.loop-at.fresh k)
                 (omega (arith, less, m.alike)) w.key.ensures here (inv.shown k);
             room = omega (arith, inv.room, w.insert.ensures.room, counts, one);
             keys = omega (arith, inv.keys, w.insert.ensures.keys, counts, one);
@@ -36,7 +36,7 @@ loop-at-preserved g c =
           let here = sym item ∙ w.in_default.is in
           let none : ◌≡◌ {A = ℕ} (cond (is_some (get_or vs i None)) 1 0) 0 = ap (λ o. cond (is_some o) 1 0) here in
           record {
-            shown = λ k. inv.shown k ∙ below-skip vs i (place_in (keys ns) k) here;
+            shown = λ k. inv.shown k ∙ below_skip vs i (place_in (keys ns) k) here;
             room = omega (arith, inv.room, counts, none);
             keys = omega (arith, inv.keys, counts, none);
           })
@@ -46,4 +46,4 @@ pub returns-clause-kept : goal.returns-clause-kept
 unfolding look
 returns-clause-kept g c = λ k.
     let m = c.args.self.now in
-    c.loop-at.invariant.shown k ∙ below-all m.tree.nodes.items m.values.items c.loop-at.at k m.alike (omega arith)
+    c.loop-at.invariant.shown k ∙ below_all m.tree.nodes.items m.values.items c.loop-at.at k m.alike (omega arith)

@@ -1,17 +1,17 @@
 use Rattle.std.proofs.Common.{None, refl, sym, ◌∙◌}
 use Rattle.bd_keys.specs.Look.{look}
-use Rattle.bd_keys.proofs.Looks.{look-none, hidden}
+use Rattle.bd_keys.proofs.Looks.{look_none, hidden}
 use Rattle.bd_keys.proofs.map.WordMap.remove.Goals as goal
 
 pub returns-in_err-at-clause-taken : goal.returns-in_err-at-clause-taken
 returns-in_err-at-clause-taken g c =
-    c.from_residual.ensures ∙ sym (look-none c.args.self.now c.args.k (sym c.index_of.ensures.place ∙ c.in_err-at.was))
+    c.from_residual.ensures ∙ sym (look_none c.args.self.now c.args.k (sym c.index_of.ensures.place ∙ c.in_err-at.was))
 
 pub returns-in_err-at-clause-gone : goal.returns-in_err-at-clause-gone
 returns-in_err-at-clause-gone g c = λ l.
     let m = c.args.self.now in
     hidden (look m) c.args.k l (λ o. None)
-    (look-none m c.args.k (sym c.index_of.ensures.place ∙ c.in_err-at.was)) refl
+    (look_none m c.args.k (sym c.index_of.ensures.place ∙ c.in_err-at.was)) refl
 
 pub returns-clause-taken : goal.returns-clause-taken
 returns-clause-taken g c = c.value-value.ensures c.args.k (sym c.index_of.ensures.place ∙ c.in_ok-at.was)

@@ -5,17 +5,17 @@ use Rattle.bd_space.specs.declared.space.Object.{Object}
 use Rattle.bd_ways.specs.Local.{is_among}
 use Rattle.bd_space.specs.References.{owned_in}
 use Rattle.bd_nodes.specs.Stands.{NodesAre}
-use Rattle.bd_nodes.proofs.Listed.{owned-among, owned-listed, owns-one}
+use Rattle.bd_nodes.proofs.Listed.{owned_among, owned_listed, owns_one}
 use Rattle.bd_nodes.proofs.table.NodeTable.owned_by.Goals as goal
 use Rattle.bd_nodes.proofs.table.NodeTable.owned_by.Goals.{In-None}
 
-on-err : {T E P : Type 0} (r : Result T E) → P → OnErr r P
-on-err (Ok x) h = tt
-on-err (Err e) h = h
+on_err : {T E P : Type 0} (r : Result T E) → P → OnErr r P
+on_err (Ok x) h = tt
+on_err (Err e) h = h
 
 pub returns-in_err-push-clause-grown : goal.returns-in_err-push-clause-grown
-returns-in_err-push-clause-grown c = on-err c.from_residual.result (λ objects n.
-    owns-one objects c.args.p c.in-Some.o (sym (c.owns.ensures objects n) ∙ c.if-owns.true))
+returns-in_err-push-clause-grown c = on_err c.from_residual.result (λ objects n.
+    owns_one objects c.args.p c.in-Some.o (sym (c.owns.ensures objects n) ∙ c.if-owns.true))
 
 -- what the process owns was put, and nothing else
 pushed : (c : In-None) (objects : List Object) → NodesAre c.args.self.now objects → (o : ObjectId)
@@ -30,8 +30,8 @@ pushed c objects n o =
     ∙ append-nil c.loop-o.touched.items in
     ap (λ os. is_among os o)
     (sym all ∙ ap (λ os. before ++ filter is_owned os) c.into_iter-o-iterator.ensures.into_iter_gives)
-    ∙ owned-listed objects c.args.p before c.listed-o-items.result
-    (λ i h. c.listed-o-items.ensures.all objects n i (owned-among objects c.args.p i ∙ h)) o
+    ∙ owned_listed objects c.args.p before c.listed-o-items.result
+    (λ i h. c.listed-o-items.ensures.all objects n i (owned_among objects c.args.p i ∙ h)) o
 
 pub returns-clause-all : goal.returns-clause-all
 returns-clause-all c = λ objects n o h. pushed c objects n o ∙ h

@@ -1,5 +1,5 @@
 use Rattle.std.proofs.Common.{arith}
-use Rattle.bd_objects.proofs.Later.{finds-few, finds-more}
+use Rattle.bd_objects.proofs.Later.{finds_few, finds_more}
 use Rattle.bd_objects.proofs.made.Made.push.Goals as goal
 use Rattle.bd_objects.proofs.made.Made.push.Goals.{then-len-ge-FEW, else-len-ge-FEW}
 
@@ -11,10 +11,10 @@ invariant_of-self c =
     record {
       found = elim c.if-len-ge-FEW.branch [
         | then-len-ge-FEW w ↦ rw (w.self-is, c.push_reserved.ensures.items)
-            (finds-more xs x old.later w.note.new.later old.found
+            (finds_more xs x old.later w.note.new.later old.found
             (omega (arith, w.if-len-ge-FEW.true, c.len.ensures, old.objects.ok.0)) w.note.ensures.found)
         | else-len-ge-FEW w ↦ rw (w.self-is, c.push_reserved.ensures.items)
-            (finds-few xs x old.later old.found
+            (finds_few xs x old.later old.found
             (omega (arith, w.if-len-ge-FEW.false, c.len.ensures, old.objects.ok.0)))
       ];
     }

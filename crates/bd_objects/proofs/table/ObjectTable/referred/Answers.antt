@@ -1,5 +1,5 @@
-use Rattle.bd_objects.proofs.Results.{then-ok}
+use Rattle.bd_objects.proofs.Results.{then_ok}
 use Rattle.bd_objects.proofs.table.ObjectTable.referred.Goals as goal
 
 pub returns : goal.returns
-returns c = then-ok c.referred.result (λ f s h. f s.references h.references_are) c.referred.ensures
+returns c = then_ok c.referred.result (λ f s h. f s.references h.references_are) c.referred.ensures

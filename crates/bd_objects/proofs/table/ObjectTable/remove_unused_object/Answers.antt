@@ -5,14 +5,14 @@ use Rattle.bd_space.specs.Words.{same}
 use Rattle.bd_space.specs.References.{object_in, stays_in}
 use Rattle.bd_ways.specs.Local.{objects_go_of}
 use Rattle.bd_nodes.specs.Stands.{NodesAre}
-use Rattle.bd_nodes.proofs.Apart.{apart-some, apart-none}
+use Rattle.bd_nodes.proofs.Apart.{apart_some, apart_none}
 use Rattle.bd_objects.specs.Telling.{owner_due}
 use Rattle.bd_objects.proofs.table.ObjectTable.remove_unused_object.Goals as goal
 
 -- what is left out isn't found
-none-left : (o : ObjectId) (xs : List Object) → object_in (filter (λ x. not (same x.id o)) xs) o ≡ None
-none-left o [] = refl
-none-left o (x ∷ xs) = at (same x.id o) refl (none-left o xs)
+none_left : (o : ObjectId) (xs : List Object) → object_in (filter (λ x. not (same x.id o)) xs) o ≡ None
+none_left o [] = refl
+none_left o (x ∷ xs) = at (same x.id o) refl (none_left o xs)
   where
     at : (b : Bool) → same x.id o ≡ b → object_in (filter (λ x. not (same x.id o)) xs) o ≡ None
         → object_in (cond (not b) (x ∷ filter (λ x. not (same x.id o)) xs) (filter (λ x. not (same x.id o)) xs)) o ≡ None
@@ -23,7 +23,7 @@ pub returns-in_err-x-clause-stands : goal.returns-in_err-x-clause-stands
 unfolding objects_go_of
 returns-in_err-x-clause-stands c = λ s h p. record {
   objects_are = subst (NodesAre c.args.self.now.nodes)
-      (sym (apart-none s.objects c.args.o (stays_in s.processes s.references) (sym (c.in_err-x.ensures s.objects h.objects_are)))) h.objects_are;
+      (sym (apart_none s.objects c.args.o (stays_in s.processes s.references) (sym (c.in_err-x.ensures s.objects h.objects_are)))) h.objects_are;
   references_are = h.references_are;
   names_are = h.names_are;
   deaths_are = h.deaths_are;
@@ -33,7 +33,7 @@ pub returns-in_err-x-clause-owner : goal.returns-in_err-x-clause-owner
 unfolding objects_go_of
 returns-in_err-x-clause-owner c = λ s h p.
     let none = sym (c.in_err-x.ensures s.objects h.objects_are) in
-    let same_objects = apart-none s.objects c.args.o (stays_in s.processes s.references) none in
+    let same_objects = apart_none s.objects c.args.o (stays_in s.processes s.references) none in
     c.from_residual.ensures ∙ sym (ap (λ (xs : List Object). owner_due s (object_in xs c.args.o)) same_objects ∙ ap (owner_due s) none)
 
 pub returns-then-not-stays-clause-stands : goal.returns-then-not-stays-clause-stands
@@ -43,7 +43,7 @@ returns-then-not-stays-clause-stands c = λ s h p.
     rw (sym (c.hold-hold.ensures.held s.references h.references_are)) (rw (sym (c.lives-lives.ensures s.processes p)) (sym c.stays.ensures ∙ c.if-not-stays.true)) in
     record {
       objects_are = subst (NodesAre c.remove.new.self)
-          (sym (apart-some c.args.self.now.nodes s.objects c.args.o c.in_ok-x.x (stays_in s.processes s.references) h.objects_are (sym (c.in_ok-x.ensures s.objects h.objects_are)) ∙ rw goes refl))
+          (sym (apart_some c.args.self.now.nodes s.objects c.args.o c.in_ok-x.x (stays_in s.processes s.references) h.objects_are (sym (c.in_ok-x.ensures s.objects h.objects_are)) ∙ rw goes refl))
           (c.remove.ensures.stands s.objects h.objects_are);
       references_are = h.references_are;
       names_are = h.names_are;
@@ -55,8 +55,8 @@ unfolding objects_go_of
 returns-then-not-stays-clause-owner c = λ s h p.
     let goes : stays_in s.processes s.references c.in_ok-x.x ≡ false =
     rw (sym (c.hold-hold.ensures.held s.references h.references_are)) (rw (sym (c.lives-lives.ensures s.processes p)) (sym c.stays.ensures ∙ c.if-not-stays.true)) in
-    let left = apart-some c.args.self.now.nodes s.objects c.args.o c.in_ok-x.x (stays_in s.processes s.references) h.objects_are (sym (c.in_ok-x.ensures s.objects h.objects_are)) ∙ rw goes refl in
-    sym (ap (λ (xs : List Object). owner_due s (object_in xs c.args.o)) left ∙ ap (owner_due s) (none-left c.args.o s.objects))
+    let left = apart_some c.args.self.now.nodes s.objects c.args.o c.in_ok-x.x (stays_in s.processes s.references) h.objects_are (sym (c.in_ok-x.ensures s.objects h.objects_are)) ∙ rw goes refl in
+    sym (ap (λ (xs : List Object). owner_due s (object_in xs c.args.o)) left ∙ ap (owner_due s) (none_left c.args.o s.objects))
 
 pub returns-clause-stands : goal.returns-clause-stands
 unfolding objects_go_of
@@ -65,7 +65,7 @@ returns-clause-stands c = λ s h p.
     rw (sym (c.hold-hold.ensures.held s.references h.references_are)) (rw (sym (c.lives-lives.ensures s.processes p)) (sym c.stays.ensures ∙ c.if-not-stays.false)) in
     record {
       objects_are = subst (NodesAre c.args.self.now.nodes)
-          (sym (apart-some c.args.self.now.nodes s.objects c.args.o c.in_ok-x.x (stays_in s.processes s.references) h.objects_are (sym (c.in_ok-x.ensures s.objects h.objects_are)) ∙ rw stays refl))
+          (sym (apart_some c.args.self.now.nodes s.objects c.args.o c.in_ok-x.x (stays_in s.processes s.references) h.objects_are (sym (c.in_ok-x.ensures s.objects h.objects_are)) ∙ rw stays refl))
           h.objects_are;
       references_are = h.references_are;
       names_are = h.names_are;
@@ -80,6 +80,6 @@ returns-clause-owner c = λ s h p.
     let lives = c.lives-lives.ensures s.processes p in
     let found = sym (c.in_ok-x.ensures s.objects h.objects_are) in
     let stays : stays_in s.processes s.references c.in_ok-x.x ≡ true = rw (sym held) (rw (sym lives) (sym c.stays.ensures ∙ c.if-not-stays.false)) in
-    let left = apart-some c.args.self.now.nodes s.objects c.args.o c.in_ok-x.x (stays_in s.processes s.references) h.objects_are found ∙ rw stays refl in
+    let left = apart_some c.args.self.now.nodes s.objects c.args.o c.in_ok-x.x (stays_in s.processes s.references) h.objects_are found ∙ rw stays refl in
     let due : owner_due s (object_in s.objects c.args.o) ≡ c.owner_to_tell.result = ap (owner_due s) found ∙ rw (sym held) (rw (sym strong) (rw (sym lives) (sym c.owner_to_tell.ensures))) in
     sym (ap (λ (xs : List Object). owner_due s (object_in xs c.args.o)) left ∙ due)

@@ -4,13 +4,13 @@ use Rattle.bd_nodes.specs.Stands.{NodesAre}
 use Rattle.bd_holds.specs.Stands.{ReferencesAre}
 use Rattle.bd_handles.specs.Stands.{NamesAre}
 use Rattle.bd_deaths.specs.Stands.{DeathsAre}
-use Rattle.bd_objects.proofs.Telling.{Told-all}
+use Rattle.bd_objects.proofs.Telling.{Told_all}
 use Rattle.bd_objects.proofs.table.ObjectTable.tell_deaths.Goals as goal
 
 pub returns-clause-stands : goal.returns-clause-stands
 unfolding tell_deaths
 returns-clause-stands c = λ s h.
-    let told = Told-all s.objects c.args.p s.deaths s refl in
+    let told = Told_all s.objects c.args.p s.deaths s refl in
     let t = c.args.self.now in
     record {
       objects_are = subst (λ xs. NodesAre t.nodes xs) (sym told.objects_are) h.objects_are;

@@ -1,19 +1,19 @@
 use Rattle.std.proofs.lemmas.Bool.{or_left, or_right}
-use Rattle.bd_objects.proofs.Covering.{has-dropped, only-dropped, any-dropped}
-use Rattle.bd_objects.proofs.Results.{on-err, then-ok, then-err}
+use Rattle.bd_objects.proofs.Covering.{has_dropped, only_dropped, any_dropped}
+use Rattle.bd_objects.proofs.Results.{on_err, then_ok, then_err}
 use Rattle.bd_objects.proofs.table.ObjectTable.touched_by_end.Goals as goal
 
 pub returns-clause-all : goal.returns-clause-all
-returns-clause-all c = then-ok c.dropped_with_process.result
-    (λ f s h. has-dropped c.args.p s.objects s.references _ _ _ (c.in_ok-owned_by.ensures.all s.objects h.objects_are) (f s.references h.references_are)) c.dropped_with_process.ensures.all
+returns-clause-all c = then_ok c.dropped_with_process.result
+    (λ f s h. has_dropped c.args.p s.objects s.references _ _ _ (c.in_ok-owned_by.ensures.all s.objects h.objects_are) (f s.references h.references_are)) c.dropped_with_process.ensures.all
 
 pub returns-clause-only : goal.returns-clause-only
-returns-clause-only c = then-ok c.dropped_with_process.result
-    (λ f s h. only-dropped c.args.p s.objects s.references _ _ _ (c.in_ok-owned_by.ensures.only s.objects h.objects_are) (f s.references h.references_are)) c.dropped_with_process.ensures.only
+returns-clause-only c = then_ok c.dropped_with_process.result
+    (λ f s h. only_dropped c.args.p s.objects s.references _ _ _ (c.in_ok-owned_by.ensures.only s.objects h.objects_are) (f s.references h.references_are)) c.dropped_with_process.ensures.only
 
 pub returns-in_err-owned_by-clause-grown : goal.returns-in_err-owned_by-clause-grown
-returns-in_err-owned_by-clause-grown c = on-err c.from_residual.result (λ s h. or_left _ _ (c.in_err-owned_by.ensures.grown s.objects h.objects_are))
+returns-in_err-owned_by-clause-grown c = on_err c.from_residual.result (λ s h. or_left _ _ (c.in_err-owned_by.ensures.grown s.objects h.objects_are))
 
 pub returns-clause-grown : goal.returns-clause-grown
-returns-clause-grown c = then-err c.dropped_with_process.result
-    (λ f s h. or_right _ _ (any-dropped c.args.p s.objects s.references (f s.references h.references_are))) c.dropped_with_process.ensures.grown
+returns-clause-grown c = then_err c.dropped_with_process.result
+    (λ f s h. or_right _ _ (any_dropped c.args.p s.objects s.references (f s.references h.references_are))) c.dropped_with_process.ensures.grown

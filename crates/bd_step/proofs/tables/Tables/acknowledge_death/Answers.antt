@@ -5,7 +5,7 @@ use Rattle.bd_space.specs.declared.space.Phase.TheVariants.{Done}
 use Rattle.bd_space.specs.Space.{Space}
 use Rattle.bd_space.specs.Deaths.{death_done, death_ended, with_phase}
 use Rattle.bd_step.specs.Stands.{Within}
-use Rattle.bd_step.proofs.Changing.{with-objects}
+use Rattle.bd_step.proofs.Changing.{with_objects}
 use Rattle.bd_step.proofs.tables.Tables.acknowledge_death.Goals as goal
 
 -- the owner's end is known, by whether the notification was marked
@@ -22,4 +22,4 @@ unfolding death_done with_phase
 returns-else-x-clause-stands c = λ s h.
     let t = c.args.self.now in
     subst (λ marked. Within (record t { objects = c.with_phase.new.self }) (done_if s c.args.seat c.args.x marked)) (sym c.if-x.false)
-    (with-objects (s.steps + 1) t s _ _ _ _ _ h (c.with_phase.ensures.stands s h.objects_stand))
+    (with_objects (s.steps + 1) t s _ _ _ _ _ h (c.with_phase.ensures.stands s h.objects_stand))

@@ -1,9 +1,9 @@
 use Rattle.std.proofs.Common.{◌+◌}
 use Rattle.bd_space.specs.Deaths.{with_death}
-use Rattle.bd_step.proofs.Changing.{with-objects}
+use Rattle.bd_step.proofs.Changing.{with_objects}
 use Rattle.bd_step.proofs.tables.Tables.add_death.Goals as goal
 
 pub returns-clause-stands : goal.returns-clause-stands
 unfolding with_death
 returns-clause-stands c = λ s h new.
-    with-objects (s.steps + 1) c.args.self.now s _ _ _ _ _ h (c.with_death.ensures.stands s h.objects_stand new)
+    with_objects (s.steps + 1) c.args.self.now s _ _ _ _ _ h (c.with_death.ensures.stands s h.objects_stand new)

@@ -1,9 +1,9 @@
 use Rattle.std.proofs.Common.{◌+◌}
 use Rattle.bd_space.specs.Todo.{owe}
-use Rattle.bd_step.proofs.Changing.{with-calls}
+use Rattle.bd_step.proofs.Changing.{with_calls}
 use Rattle.bd_step.proofs.tables.Tables.add_work.Goals as goal
 
 pub returns-clause-stands : goal.returns-clause-stands
 unfolding owe
 returns-clause-stands c = λ s h.
-    with-calls (s.steps + 1) c.args.self.now s _ _ _ _ h (c.owe.ensures.stands s h.calls_stand h.own.steps_are)
+    with_calls (s.steps + 1) c.args.self.now s _ _ _ _ h (c.owe.ensures.stands s h.calls_stand h.own.steps_are)

@@ -3,21 +3,21 @@ use Rattle.bd_space.specs.Space.{Space}
 use Rattle.bd_space.specs.Replies.{replied}
 use Rattle.bd_ways.specs.Local.{ObjectTest, follow_of, close_up, no_name, is_among}
 use Rattle.bd_step.specs.Stands.{Within}
-use Rattle.bd_step.proofs.Standing.{numbers-completed}
-use Rattle.bd_step.proofs.Refusals.{full-if}
-use Rattle.bd_step.proofs.Afterwards.{replied-new, replied-followed, replied-ordered}
-use Rattle.bd_step.proofs.Meeting.{taken-step}
+use Rattle.bd_step.proofs.Standing.{numbers_completed}
+use Rattle.bd_step.proofs.Refusals.{full_if}
+use Rattle.bd_step.proofs.Afterwards.{replied_new, replied_followed, replied_ordered}
+use Rattle.bd_step.proofs.Meeting.{taken_step}
 use Rattle.bd_step.proofs.tables.Tables.answer.Goals as goal
 
 pub returns-in-Err-clause-step : goal.returns-in-Err-clause-step
 returns-in-Err-clause-step c = record {
   ok = tt;
   err = λ s h. c.in-Err.ensures.err s (c.in-Ok.ensures.stands s h);
-  full = λ s h p. full-if _ _ (numbers-completed (replied s c.args.a c.args.d.now c.args.f c.args.v) (c.in-Err.ensures.full s (c.in-Ok.ensures.stands s h)));
+  full = λ s h p. full_if _ _ (numbers_completed (replied s c.args.a c.args.d.now c.args.f c.args.v) (c.in-Err.ensures.full s (c.in-Ok.ensures.stands s h)));
 }
 
 pub returns-clause-step : goal.returns-clause-step
-returns-clause-step c = taken-step _ _ _ _ _ (
+returns-clause-step c = taken_step _ _ _ _ _ (
     record {
       answered = λ s h p. refl;
       stands = λ s h p.
@@ -26,7 +26,7 @@ returns-clause-step c = taken-step _ _ _ _ _ (
           let looked = ap is_among c.as_slice.ensures.value ∙ c.in-Ok.ensures.touched.among in
           subst (Within c.close_up.new.self)
           (ap (λ (b : ObjectTest). let y : Space = follow_of no_name b z in close_up (length y.frames) f.parent y) looked
-          ∙ sym (replied-followed s c.args.a c.args.d.now f c.args.v p))
+          ∙ sym (replied_followed s c.args.a c.args.d.now f c.args.v p))
           (c.close_up.ensures.stands (follow_of no_name (is_among c.as_slice.result.now) z)
-          (c.follow_objects.ensures.stands z (c.in-Ok-replied.ensures.ok s (c.in-Ok.ensures.stands s h) (replied-new s c.args.a c.args.d.now f c.args.v p)) (replied-ordered s c.args.a c.args.d.now f c.args.v p)));
+          (c.follow_objects.ensures.stands z (c.in-Ok-replied.ensures.ok s (c.in-Ok.ensures.stands s h) (replied_new s c.args.a c.args.d.now f c.args.v p)) (replied_ordered s c.args.a c.args.d.now f c.args.v p)));
     })

@@ -1,11 +1,11 @@
 use Rattle.std.proofs.Common.{◌∙◌, ap, refl, List}
 use Rattle.bd_space.specs.declared.space.Item.{Item}
 use Rattle.bd_space.specs.Parcels.{translation}
-use Rattle.bd_step.proofs.Deliveries.{buffer-is}
+use Rattle.bd_step.proofs.Deliveries.{buffer_is}
 use Rattle.bd_step.proofs.tables.Tables.buffer_of.Goals as goal
 
 pub returns-clause-buffer : goal.returns-clause-buffer
 returns-clause-buffer c = λ n s h.
     let v = c.v.inside in
     let bytes = c.translation.ensures.translated n s h ∙ ap (λ (xs : List Item). translation s v.receiver.made v.parcel.bytes xs) c.as_slice.ensures.value in
-    buffer-is s c.args.a c.args.d.now c.args.v _ _ _ _ _ c.v.view_is h.own.steps_are c.needed.ensures bytes refl
+    buffer_is s c.args.a c.args.d.now c.args.v _ _ _ _ _ c.v.view_is h.own.steps_are c.needed.ensures bytes refl

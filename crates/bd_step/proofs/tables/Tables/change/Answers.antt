@@ -1,17 +1,17 @@
 use Rattle.std.proofs.Common.{refl, sym, ◌∙◌}
 use Rattle.bd_space.specs.Steps.{change}
 use Rattle.bd_step.specs.Meets.{IsAny, IsNobody, IsBy}
-use Rattle.bd_step.proofs.Meeting.{as-step, as-step-written, written-step}
-use Rattle.bd_step.proofs.Seating.{acting-seat}
+use Rattle.bd_step.proofs.Meeting.{as_step, as_step_written, written_step}
+use Rattle.bd_step.proofs.Seating.{acting_seat}
 use Rattle.bd_step.proofs.tables.Tables.change.Goals as goal
 
 pub returns-in-Some-clause-step : goal.returns-in-Some-clause-step
 returns-in-Some-clause-step c =
-    as-step-written c.args.self.now (IsBy c.in-Some.a) IsAny (λ s. change s c.in-Some.a.thread.seat c.args.step.now) (λ s. change s c.args.seat c.args.step.now)
-    (λ s h q. acting-seat s c.args.seat c.in-Some.a c.args.step.now (sym (c.actor.ensures.found s.steps s h) ∙ c.in-Some.is) q) _ _ _ _ _ c.change_by.ensures.step
+    as_step_written c.args.self.now (IsBy c.in-Some.a) IsAny (λ s. change s c.in-Some.a.thread.seat c.args.step.now) (λ s. change s c.args.seat c.args.step.now)
+    (λ s h q. acting_seat s c.args.seat c.in-Some.a c.args.step.now (sym (c.actor.ensures.found s.steps s h) ∙ c.in-Some.is) q) _ _ _ _ _ c.change_by.ensures.step
 
 pub returns-in-None-clause-step : goal.returns-in-None-clause-step
 returns-in-None-clause-step c =
-    written-step _ _ _ _ _ _ _ _ _ c.written.ensures
-    (as-step c.args.self.now (IsNobody c.args.seat) IsAny (λ s. change s c.args.seat c.args.step.now) (λ s. change s c.args.seat c.args.step.now)
+    written_step _ _ _ _ _ _ _ _ _ c.written.ensures
+    (as_step c.args.self.now (IsNobody c.args.seat) IsAny (λ s. change s c.args.seat c.args.step.now) (λ s. change s c.args.seat c.args.step.now)
     (λ s h q. (record { nobody = sym (c.actor.ensures.found s.steps s h) ∙ c.in-None.is; tidy = q }, refl)) _ _ c.change_alone.ensures.step)

@@ -4,7 +4,7 @@ use Rattle.bd_space.specs.declared.space.DeathNotification.{DeathNotification}
 use Rattle.bd_space.specs.Space.{Space}
 use Rattle.bd_space.specs.Deaths.{cleared, mark_cleared, death_ended}
 use Rattle.bd_step.specs.Stands.{Within}
-use Rattle.bd_step.proofs.Changing.{with-objects}
+use Rattle.bd_step.proofs.Changing.{with_objects}
 use Rattle.bd_step.proofs.tables.Tables.clear_request.Goals as goal
 
 -- the notification is cleared, by whether it is queued or told
@@ -16,7 +16,7 @@ unfolding cleared mark_cleared
 returns-then-is_out-clause-stands c = λ s h.
     let t = c.args.self.now in
     subst (λ out. Within (record t { objects = c.mark_cleared.new.self }) (cleared_if s c.args.seat c.args.x out)) c.if-is_out.ensures
-    (with-objects (s.steps + 1) t s _ _ _ _ _ h (c.mark_cleared.ensures.stands s h.objects_stand))
+    (with_objects (s.steps + 1) t s _ _ _ _ _ h (c.mark_cleared.ensures.stands s h.objects_stand))
 
 pub returns-else-is_out-clause-stands : goal.returns-else-is_out-clause-stands
 unfolding cleared

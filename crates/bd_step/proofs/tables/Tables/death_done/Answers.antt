@@ -1,17 +1,17 @@
 use Rattle.std.proofs.Common.{sym, ap}
 use Rattle.bd_space.specs.{Words.{ok_or}, Outcomes.{by_check}, Deaths.{death_done}}
 use Rattle.bd_uapi.specs.declared.fault.Note.TheVariants.{NoneTold}
-use Rattle.bd_laws.proofs.Clearing.{done-local}
-use Rattle.bd_step.proofs.Accepting.{accepts-alone, notes}
-use Rattle.bd_step.proofs.Meeting.{taken-step}
+use Rattle.bd_laws.proofs.Clearing.{done_local}
+use Rattle.bd_step.proofs.Accepting.{accepts_alone, notes}
+use Rattle.bd_step.proofs.Meeting.{taken_step}
 use Rattle.bd_step.proofs.tables.Tables.death_done.Goals as goal
 
 pub returns-in-None-clause-step : goal.returns-in-None-clause-step
-returns-in-None-clause-step c = taken-step _ _ _ _ _ (
+returns-in-None-clause-step c = taken_step _ _ _ _ _ (
     notes _ _ _ _ (λ s h by. sym (ap (λ o. by_check s (death_done s c.args.a.thread.seat) (ok_or o NoneTold)) (c.in-None.ensures s h.objects_stand))))
 
 pub returns-clause-step : goal.returns-clause-step
-returns-clause-step c = taken-step _ _ _ _ _ (
-    accepts-alone _ c.reserve.new.self _ _ _ (λ s. death_done s c.args.a.thread.seat c.in-Some.x) c.reserve.ensures.stands (λ s h by. c.acknowledge_death.ensures.stands s)
-    (λ s h by. done-local s c.args.a.thread.seat c.args.a.process.made c.args.cookie c.in-Some.x by.tidy (sym (c.in-Some.ensures s h.objects_stand)))
+returns-clause-step c = taken_step _ _ _ _ _ (
+    accepts_alone _ c.reserve.new.self _ _ _ (λ s. death_done s c.args.a.thread.seat c.in-Some.x) c.reserve.ensures.stands (λ s h by. c.acknowledge_death.ensures.stands s)
+    (λ s h by. done_local s c.args.a.thread.seat c.args.a.process.made c.args.cookie c.in-Some.x by.tidy (sym (c.in-Some.ensures s h.objects_stand)))
     (λ s h by. sym (ap (λ o. by_check s (death_done s c.args.a.thread.seat) (ok_or o NoneTold)) (c.in-Some.ensures s h.objects_stand))))

@@ -3,11 +3,11 @@ use Rattle.std.specs.List.{fold}
 use Rattle.bd_space.specs.ProcessExits.{threads_go}
 use Rattle.bd_space.specs.ThreadExits.{thread_goes}
 use Rattle.bd_step.specs.Stands.{Within}
-use Rattle.bd_step.proofs.Owing.{still-due}
+use Rattle.bd_step.proofs.Owing.{still_due}
 use Rattle.bd_step.proofs.tables.Tables.end_process.Goals as goal
 
 pub returns-clause-stands : goal.returns-clause-stands
 unfolding threads_go
 returns-clause-stands c = λ s h seats due.
     let gone = subst (λ ts. Within c.threads_go.new.self (fold thread_goes s ts)) seats (c.threads_go.ensures.stands s h) in
-    c.tell_deaths.ensures.stands _ (c.without_process.ensures.stands _ gone) (due ∙ still-due s c.args.p)
+    c.tell_deaths.ensures.stands _ (c.without_process.ensures.stands _ gone) (due ∙ still_due s c.args.p)

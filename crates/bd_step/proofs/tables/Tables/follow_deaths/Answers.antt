@@ -2,7 +2,7 @@ use Rattle.std.proofs.Common.{sym, subst, ◌∙◌}
 use Rattle.bd_ways.specs.Local.{at_name, deaths_go_of, work_goes_of}
 use Rattle.bd_step.specs.Stands.{Within}
 use Rattle.bd_step.specs.Following.{deaths_followed, deaths_withdrawn}
-use Rattle.bd_step.proofs.Following.{none-lost}
+use Rattle.bd_step.proofs.Following.{none_lost}
 use Rattle.bd_step.proofs.tables.Tables.follow_deaths.Goals as goal
 
 pub returns-clause-stands : goal.returns-clause-stands
@@ -18,4 +18,4 @@ returns-clause-stands c = λ s h.
 
 pub returns-then-not-has_lost_death-clause-stands : goal.returns-then-not-has_lost_death-clause-stands
 returns-then-not-has_lost_death-clause-stands c = λ s h.
-    subst (Within c.args.self.now) (sym (none-lost c.args.p c.args.o s (sym (c.has_lost_death.ensures s h.objects_stand) ∙ c.if-not-has_lost_death.true))) h
+    subst (Within c.args.self.now) (sym (none_lost c.args.p c.args.o s (sym (c.has_lost_death.ensures s h.objects_stand) ∙ c.if-not-has_lost_death.true))) h

@@ -14,9 +14,9 @@ use Rattle.bd_step.specs.Stands.{Within}
 use Rattle.bd_step.specs.Freed.{referred}
 use Rattle.bd_step.specs.Following.{AreTouched}
 use Rattle.bd_step.proofs.Standing.{within}
-use Rattle.bd_step.proofs.Meeting.{taken-step, meets}
-use Rattle.bd_step.proofs.Freeing.{freed-buffer}
-use Rattle.bd_step.proofs.Acting.{process-of}
+use Rattle.bd_step.proofs.Meeting.{taken_step, meets}
+use Rattle.bd_step.proofs.Freeing.{buffer_freed}
+use Rattle.bd_step.proofs.Acting.{process_of}
 use Rattle.bd_step.proofs.Accepting.{notes}
 use Rattle.bd_step.proofs.tables.Tables.free.Goals as goal
 
@@ -39,10 +39,10 @@ by_check s (Some b) = if_handed s b.made b.handed
 
 pub returns-in-Err-clause-step : goal.returns-in-Err-clause-step
 unfolding free_step
-returns-in-Err-clause-step c = taken-step _ _ _ _ _ (
+returns-in-Err-clause-step c = taken_step _ _ _ _ _ (
     notes _ _ _ _ (λ s h by.
     let p = c.args.a.process.made in
-    let checked = c.in-Err.ensures s c.args.a.process (within c.args.self.now s h) (process-of s c.args.a.thread.seat c.args.a by.acts) in
+    let checked = c.in-Err.ensures s c.args.a.process (within c.args.self.now s h) (process_of s c.args.a.thread.seat c.args.a by.acts) in
     sym (ap (freed_outcome s) checked ∙ by_check s (buffer_at_pointer s p c.args.pointer))))
 
 pub returns-clause-step : goal.returns-clause-step
@@ -53,9 +53,9 @@ returns-clause-step c =
     record {
       ok =
           meets _ _ _ _ _ (λ s h by.
-          let checked = c.in-Ok.ensures s c.args.a.process (within c.args.self.now s h) (process-of s c.args.a.thread.seat c.args.a by.acts) in
+          let checked = c.in-Ok.ensures s c.args.a.process (within c.args.self.now s h) (process_of s c.args.a.thread.seat c.args.a by.acts) in
           let is = ap (freed_outcome s) checked ∙ by_check s (buffer_at_pointer s p c.args.pointer) in
-          let b = freed-buffer s p c.args.pointer made checked in
+          let b = buffer_freed s p c.args.pointer made checked in
           record {
             answered = ap (λ (o : Outcome). o.answer) is;
             stands = subst (λ (o : Outcome). Within c.release_buffer.new.self o.space) is

@@ -7,9 +7,9 @@ use Rattle.bd_space.specs.Steps.{change}
 use Rattle.bd_space.specs.Windows.{buffers_of}
 use Rattle.bd_buffers.specs.WindowsStand.{made_of_buffer}
 use Rattle.bd_buffers.proofs.WindowLaws.{stands_in}
-use Rattle.bd_laws.proofs.Always.{always-tidy}
+use Rattle.bd_laws.proofs.Always.{always_tidy}
 use Rattle.bd_step.specs.Ending.{HasEndings}
-use Rattle.bd_step.proofs.Ending.{nobody-exits-thread, nobody-exits-process, somebody-exits-thread, somebody-exits-process, if-ok}
+use Rattle.bd_step.proofs.Ending.{nobody_exits_thread, nobody_exits_process, somebody_exits_thread, somebody_exits_process, if_ok}
 use Rattle.bd_step.proofs.tables.Tables.list_received.Goals as goal
 
 -- what is listed is what the process has received
@@ -22,22 +22,22 @@ pub returns-in-None-clause-thread : goal.returns-in-None-clause-thread
 returns-in-None-clause-thread c = λ h before.
     let s = space_after h in
     subst (λ (ps : List ℕ). HasEndings ps s (change s c.args.seat step_of.ExitThread).space) (sym c.requires.none)
-    (nobody-exits-thread s c.args.seat (sym (c.in-None.ensures.found s.steps s before)))
+    (nobody_exits_thread s c.args.seat (sym (c.in-None.ensures.found s.steps s before)))
 
 pub returns-in-None-clause-process : goal.returns-in-None-clause-process
 returns-in-None-clause-process c = λ h before.
     let s = space_after h in
     subst (λ (ps : List ℕ). HasEndings ps s (change s c.args.seat step_of.ExitProcess).space) (sym c.requires.none)
-    (nobody-exits-process s c.args.seat (sym (c.in-None.ensures.found s.steps s before)))
+    (nobody_exits_process s c.args.seat (sym (c.in-None.ensures.found s.steps s before)))
 
 pub returns-in-Some-clause-thread : goal.returns-in-Some-clause-thread
-returns-in-Some-clause-thread c = if-ok c.list_made.result _ _ (λ listed h before.
+returns-in-Some-clause-thread c = if_ok c.list_made.result _ _ (λ listed h before.
     (let s = space_after h in
     received s c.args.seat step_of.ExitThread c.in-Some.a.process.made _ _ c.requires.none (listed s (stands_in c.args.self.now.windows s before.windows_stand))
-    (somebody-exits-thread s c.args.seat c.in-Some.a (always-tidy h).home (sym (c.in-Some.ensures.found s.steps s before))))) c.list_made.ensures
+    (somebody_exits_thread s c.args.seat c.in-Some.a (always_tidy h).home (sym (c.in-Some.ensures.found s.steps s before))))) c.list_made.ensures
 
 pub returns-in-Some-clause-process : goal.returns-in-Some-clause-process
-returns-in-Some-clause-process c = if-ok c.list_made.result _ _ (λ listed h before.
+returns-in-Some-clause-process c = if_ok c.list_made.result _ _ (λ listed h before.
     (let s = space_after h in
     received s c.args.seat step_of.ExitProcess c.in-Some.a.process.made _ _ c.requires.none (listed s (stands_in c.args.self.now.windows s before.windows_stand))
-    (somebody-exits-process s c.args.seat c.in-Some.a (always-tidy h).home (sym (c.in-Some.ensures.found s.steps s before))))) c.list_made.ensures
+    (somebody_exits_process s c.args.seat c.in-Some.a (always_tidy h).home (sym (c.in-Some.ensures.found s.steps s before))))) c.list_made.ensures

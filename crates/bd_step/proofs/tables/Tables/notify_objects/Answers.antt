@@ -2,7 +2,7 @@ use Rattle.std.proofs.Common.{rules, arith, List, take, take_all, subst}
 use Rattle.bd_space.specs.declared.step.ObjectId.{ObjectId}
 use Rattle.bd_step.specs.Stands.{Within}
 use Rattle.bd_step.specs.Following.{told_of}
-use Rattle.bd_step.proofs.FollowingObjects.{told-next}
+use Rattle.bd_step.proofs.FollowingObjects.{told_next}
 use Rattle.bd_step.proofs.tables.Tables.notify_objects.Goals as goal
 
 pub loop-o-init : goal.loop-o-init
@@ -23,7 +23,7 @@ loop-o-preserved c =
           let z = told_of (take k os) s in
           let i = c.loop-o.invariant.stands s h in
           let asked = c.owner_to_tell-owner.ensures z i.objects_stand i.own.processes_are in
-          subst (Within _) (told-next os k _ s c.loop-o-test.true) (c.tell_owner.ensures.stands z asked i);
+          subst (Within _) (told_next os k _ s c.loop-o-test.true) (c.tell_owner.ensures.stands z asked i);
       uses = search rules;
       told = λ told k. c.tell_owner.ensures.told told (c.loop-o.invariant.told told k);
     }

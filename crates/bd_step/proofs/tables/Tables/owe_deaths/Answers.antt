@@ -3,8 +3,8 @@ use Rattle.bd_space.specs.declared.space.DeathNotification.{DeathNotification}
 use Rattle.bd_space.specs.Todo.{owe}
 use Rattle.bd_step.specs.Stands.{Within}
 use Rattle.bd_step.specs.Telling.{owed}
-use Rattle.bd_step.proofs.Changing.{with-calls}
-use Rattle.bd_step.proofs.Owing.{owed-more}
+use Rattle.bd_step.proofs.Changing.{with_calls}
+use Rattle.bd_step.proofs.Owing.{owed_more}
 use Rattle.bd_step.proofs.tables.Tables.owe_deaths.Goals as goal
 
 pub loop-x-preserved : goal.loop-x-preserved
@@ -13,8 +13,8 @@ loop-x-preserved c = record {
   stands = λ s h.
       let told = owed s (take c.loop-x.x-index c.args.due.now) in
       let stood = c.loop-x.invariant.stands s h in
-      owed-more (s.steps + 1) _ s c.args.due.now c.loop-x.x-index _ (omega arith)
-      (with-calls (s.steps + 1) c.loop-x.self told _ _ _ _ stood (c.owe.ensures.stands told stood.calls_stand stood.own.steps_are));
+      owed_more (s.steps + 1) _ s c.args.due.now c.loop-x.x-index _ (omega arith)
+      (with_calls (s.steps + 1) c.loop-x.self told _ _ _ _ stood (c.owe.ensures.stands told stood.calls_stand stood.own.steps_are));
   uses = search rules;
   told = λ told k. c.owe.ensures.told told (c.loop-x.invariant.told told k);
 }

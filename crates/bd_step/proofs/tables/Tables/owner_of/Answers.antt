@@ -3,7 +3,7 @@ use Rattle.std.specs.Prelude.{option_and_then}
 use Rattle.bd_space.specs.declared.space.Object.{Object}
 use Rattle.bd_space.specs.Seats.{process_in}
 use Rattle.bd_space.specs.Transactions.{owner_of}
-use Rattle.bd_step.proofs.Stepping.{if-lives}
+use Rattle.bd_step.proofs.Stepping.{if_lives}
 use Rattle.bd_step.proofs.tables.Tables.owner_of.Goals as goal
 
 pub returns-clause-owner : goal.returns-clause-owner
@@ -12,4 +12,4 @@ returns-clause-owner c = λ n s h.
     c.process.ensures.found n s h ∙ ap (λ (y : Option Object). option_and_then (λ (x : Object). process_in s.processes x.owner) y) (c.in_ok-x.ensures s h.objects_stand)
 
 pub returns-clause-lives : goal.returns-clause-lives
-returns-clause-lives c = λ n s h. if-lives s.processes c.in_ok-x.x.owner c.process.result (c.process.ensures.found n s h)
+returns-clause-lives c = λ n s h. if_lives s.processes c.in_ok-x.x.owner c.process.result (c.process.ensures.found n s h)

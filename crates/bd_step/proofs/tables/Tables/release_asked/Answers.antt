@@ -1,11 +1,11 @@
 use Rattle.std.proofs.Common.{◌+◌, ◌∷◌, [], ◌∙◌, ap, sym, subst}
 use Rattle.bd_space.specs.Asking.{drop_asked}
 use Rattle.bd_ways.specs.Local.{follow_of, at_name, is_among}
-use Rattle.bd_laws.proofs.Fewer.{dropped-local}
+use Rattle.bd_laws.proofs.Fewer.{dropped_local}
 use Rattle.bd_step.specs.Stands.{Within}
-use Rattle.bd_step.proofs.Changing.{with-objects}
-use Rattle.bd_step.proofs.Following.{named-one}
-use Rattle.bd_step.proofs.FollowingObjects.{among-one}
+use Rattle.bd_step.proofs.Changing.{with_objects}
+use Rattle.bd_step.proofs.Following.{named_one}
+use Rattle.bd_step.proofs.FollowingObjects.{among_one}
 use Rattle.bd_step.proofs.tables.Tables.release_asked.Goals as goal
 
 pub returns-clause-stands : goal.returns-clause-stands
@@ -15,6 +15,6 @@ returns-clause-stands c = λ s h tidy.
     let o = c.args.o in
     let z = drop_asked s p o c.args.strong in
     subst (Within c.follow_among.new.self)
-    (ap (λ a. follow_of a (is_among (o ∷ [])) z) (named-one p o) ∙ ap (λ b. follow_of (at_name p o) b z) (among-one o) ∙ sym (dropped-local s p o c.args.strong tidy.quiet))
+    (ap (λ a. follow_of a (is_among (o ∷ [])) z) (named_one p o) ∙ ap (λ b. follow_of (at_name p o) b z) (among_one o) ∙ sym (dropped_local s p o c.args.strong tidy.quiet))
     (c.follow_among.ensures.stands z
-    (with-objects (s.steps + 1) c.args.self.now s _ _ _ _ _ h (c.drop_asked.ensures.stands s h.objects_stand)) tidy.before.objects.kept.in_order)
+    (with_objects (s.steps + 1) c.args.self.now s _ _ _ _ _ h (c.drop_asked.ensures.stands s h.objects_stand)) tidy.before.objects.kept.in_order)

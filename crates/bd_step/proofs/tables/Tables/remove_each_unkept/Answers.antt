@@ -3,12 +3,12 @@ use Rattle.bd_space.specs.declared.step.ObjectId.{ObjectId}
 use Rattle.bd_ways.specs.Local.{is_among}
 use Rattle.bd_step.specs.Stands.{Within}
 use Rattle.bd_step.specs.Following.{shed_of}
-use Rattle.bd_step.proofs.FollowingObjects.{shed-none, shed-next}
+use Rattle.bd_step.proofs.FollowingObjects.{shed_none, shed_next}
 use Rattle.bd_step.proofs.tables.Tables.remove_each_unkept.Goals as goal
 
 pub loop-o-init : goal.loop-o-init
 loop-o-init c = record {
-  stands = λ s h. subst (Within c.args.self.now) (sym (shed-none s)) h;
+  stands = λ s h. subst (Within c.args.self.now) (sym (shed_none s)) h;
   uses = search rules;
   told = λ told k. k;
 }
@@ -18,7 +18,7 @@ loop-o-preserved c =
     let os = c.args.touched.now in
     let k = c.loop-o.o-index in
     record {
-      stands = λ s h. subst (Within _) (shed-next os k _ s c.loop-o-test.true)
+      stands = λ s h. subst (Within _) (shed_next os k _ s c.loop-o-test.true)
           (c.remove_unkept.ensures.stands (shed_of (is_among (take k os)) s) (c.loop-o.invariant.stands s h));
       uses = search rules;
       told = λ told k. c.remove_unkept.ensures.told told (c.loop-o.invariant.told told k);

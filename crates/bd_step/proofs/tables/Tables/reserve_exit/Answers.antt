@@ -1,6 +1,6 @@
 use Rattle.std.proofs.Common.{refl}
-use Rattle.bd_step.proofs.Gathering.{grows-as}
+use Rattle.bd_step.proofs.Gathering.{grows_as}
 use Rattle.bd_step.proofs.tables.Tables.reserve_exit.Goals as goal
 
 pub returns-clause-grows : goal.returns-clause-grows
-returns-clause-grows c = grows-as _ _ c.in_order.ensures.touched.among refl
+returns-clause-grows c = grows_as _ _ c.in_order.ensures.touched.among refl

@@ -1,14 +1,14 @@
 use Rattle.std.proofs.Common.{◌+◌, refl}
 use Rattle.bd_space.specs.Steps.{with_looping}
-use Rattle.bd_laws.proofs.Others.{looping-local}
-use Rattle.bd_step.proofs.Changing.{with-calls}
-use Rattle.bd_step.proofs.Accepting.{accepts-alone}
-use Rattle.bd_step.proofs.Meeting.{taken-step}
+use Rattle.bd_laws.proofs.Others.{looping_local}
+use Rattle.bd_step.proofs.Changing.{with_calls}
+use Rattle.bd_step.proofs.Accepting.{accepts_alone}
+use Rattle.bd_step.proofs.Meeting.{taken_step}
 use Rattle.bd_step.proofs.tables.Tables.set_looping.Goals as goal
 
 pub returns-clause-step : goal.returns-clause-step
 unfolding with_looping
-returns-clause-step c = taken-step _ _ _ _ _ (
-    accepts-alone c.args.self.now c.args.self.now _ _ _ (λ s. with_looping s c.args.a.thread.seat c.args.looping) (λ s h. h)
-    (λ s h by w. with-calls (s.steps + 1) c.args.self.now s _ _ _ _ w (c.set_looping.ensures.stands s w.calls_stand))
-    (λ s h by. looping-local s c.args.a.thread.seat c.args.looping by.tidy.quiet) (λ s h by. refl))
+returns-clause-step c = taken_step _ _ _ _ _ (
+    accepts_alone c.args.self.now c.args.self.now _ _ _ (λ s. with_looping s c.args.a.thread.seat c.args.looping) (λ s h. h)
+    (λ s h by w. with_calls (s.steps + 1) c.args.self.now s _ _ _ _ w (c.set_looping.ensures.stands s w.calls_stand))
+    (λ s h by. looping_local s c.args.a.thread.seat c.args.looping by.tidy.quiet) (λ s h by. refl))

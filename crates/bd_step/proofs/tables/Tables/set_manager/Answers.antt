@@ -2,25 +2,25 @@ use Rattle.std.proofs.Common.{refl, sym, ◌∙◌}
 use Rattle.bd_uapi.specs.declared.fault.Fault.TheVariants.{ManagerBusy}
 use Rattle.bd_space.specs.Steps.{manager_step, manager_outcome, with_manager}
 use Rattle.bd_step.proofs.Standing.{within}
-use Rattle.bd_step.proofs.Meeting.{taken-step, meets, in-case, is-refused}
-use Rattle.bd_step.proofs.New.{new-manager}
+use Rattle.bd_step.proofs.Meeting.{taken_step, meets, in_case, is_refused}
+use Rattle.bd_step.proofs.New.{new_manager}
 use Rattle.bd_step.proofs.tables.Tables.set_manager.Goals as goal
 
 pub returns-then-is_manager_busy-clause-step : goal.returns-then-is_manager_busy-clause-step
 unfolding manager_step
-returns-then-is_manager_busy-clause-step c = taken-step _ _ _ _ _ (
+returns-then-is_manager_busy-clause-step c = taken_step _ _ _ _ _ (
     meets _ _ _ _ _ (λ s h by.
-    in-case _ _ (manager_outcome s c.args.a.process.made) _ _ (sym (c.is_manager_busy.ensures s h) ∙ c.if-is_manager_busy.true)
-    (is-refused _ s ManagerBusy h)))
+    in_case _ _ (manager_outcome s c.args.a.process.made) _ _ (sym (c.is_manager_busy.ensures s h) ∙ c.if-is_manager_busy.true)
+    (is_refused _ s ManagerBusy h)))
 
 pub returns-clause-step : goal.returns-clause-step
 unfolding manager_step with_manager
-returns-clause-step c = taken-step _ _ _ _ _ (
+returns-clause-step c = taken_step _ _ _ _ _ (
     meets _ _ _ _ _ (λ s h by.
-    in-case _ _ (manager_outcome s c.args.a.process.made) _ _ (sym (c.is_manager_busy.ensures s h) ∙ c.if-is_manager_busy.false)
+    in_case _ _ (manager_outcome s c.args.a.process.made) _ _ (sym (c.is_manager_busy.ensures s h) ∙ c.if-is_manager_busy.false)
     (record {
       answered = refl;
       stands =
           let w = within _ s (c.reserve.ensures.stands s h) in
-          c.with_manager.ensures.stands s w (new-manager s _ c.args.a.process.made w.own.steps_are by.tidy (sym (c.is_manager_busy.ensures s h) ∙ c.if-is_manager_busy.false));
+          c.with_manager.ensures.stands s w (new_manager s _ c.args.a.process.made w.own.steps_are by.tidy (sym (c.is_manager_busy.ensures s h) ∙ c.if-is_manager_busy.false));
     })))

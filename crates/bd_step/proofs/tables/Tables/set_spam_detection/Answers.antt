@@ -2,12 +2,12 @@ use Rattle.std.proofs.Common.{refl}
 use Rattle.bd_space.specs.Spam.{spam_step, with_spam_detection}
 use Rattle.bd_buffers.proofs.Marks.{stands_marked}
 use Rattle.bd_step.proofs.Standing.{within}
-use Rattle.bd_step.proofs.Meeting.{taken-step, meets}
+use Rattle.bd_step.proofs.Meeting.{taken_step, meets}
 use Rattle.bd_step.proofs.tables.Tables.set_spam_detection.Goals as goal
 
 pub returns-clause-step : goal.returns-clause-step
 unfolding spam_step with_spam_detection
-returns-clause-step c = taken-step _ _ _ _ _ (
+returns-clause-step c = taken_step _ _ _ _ _ (
     meets _ _ _ _ _ (λ s h by.
     let w = within _ s h in
     record {

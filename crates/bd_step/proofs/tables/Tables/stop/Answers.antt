@@ -1,16 +1,16 @@
 use Rattle.std.proofs.Common.{◌+◌, refl, sym, subst}
 use Rattle.bd_space.specs.Todo.{owe}
-use Rattle.bd_laws.proofs.Refusing.{refused-local}
+use Rattle.bd_laws.proofs.Refusing.{refused_local}
 use Rattle.bd_step.specs.Stands.{Within}
 use Rattle.bd_step.proofs.Standing.{within}
-use Rattle.bd_step.proofs.Meeting.{taken-step}
+use Rattle.bd_step.proofs.Meeting.{taken_step}
 use Rattle.bd_step.proofs.tables.Tables.stop.Goals as goal
 
 pub returns-clause-step : goal.returns-clause-step
 unfolding owe
-returns-clause-step c = taken-step _ _ _ _ _ (
+returns-clause-step c = taken_step _ _ _ _ _ (
     record {
       answered = λ s h p. refl;
-      stands = λ s h p. subst (Within c.owe.new.self) (sym (refused-local s c.args.seat c.args.told p.quiet))
+      stands = λ s h p. subst (Within c.owe.new.self) (sym (refused_local s c.args.seat c.args.told p.quiet))
           (c.owe.ensures.stands (s.steps + 1) s (within c.reserve.new.self s (c.reserve.ensures.stands s h)));
     })

@@ -1,18 +1,18 @@
 use Rattle.std.proofs.Common.{refl, sym, subst, ◌+◌}
 use Rattle.bd_space.specs.Replies.{reply_refused}
-use Rattle.bd_laws.proofs.Refusing.{refused_reply-local}
+use Rattle.bd_laws.proofs.Refusing.{refused_reply_local}
 use Rattle.bd_step.specs.Stands.{Within}
 use Rattle.bd_step.proofs.Standing.{within}
-use Rattle.bd_step.proofs.Afterwards.{one-frame-each, served-there}
-use Rattle.bd_step.proofs.Stepping.{refused-stands}
-use Rattle.bd_step.proofs.Meeting.{taken-step}
+use Rattle.bd_step.proofs.Afterwards.{one_frame_each, served_there}
+use Rattle.bd_step.proofs.Stepping.{refused_stands}
+use Rattle.bd_step.proofs.Meeting.{taken_step}
 use Rattle.bd_step.proofs.tables.Tables.stop_reply.Goals as goal
 
 pub returns-clause-step : goal.returns-clause-step
-returns-clause-step c = taken-step _ _ _ _ _ (
+returns-clause-step c = taken_step _ _ _ _ _ (
     record {
       answered = λ s h p. refl;
       stands = λ s h p. subst (Within c.close_up.new.self)
-          (sym (refused_reply-local s c.args.seat c.args.f p.tidy.quiet (one-frame-each s p.tidy) (served-there s c.args.seat c.args.f p)))
-          (c.close_up.ensures.stands (reply_refused s c.args.seat c.args.f) (refused-stands _ s c.args.seat c.args.f (c.refuse_reply.ensures.stands (s.steps + 1) s (within c.reserve.new.self s (c.reserve.ensures.stands s h)))));
+          (sym (refused_reply_local s c.args.seat c.args.f p.tidy.quiet (one_frame_each s p.tidy) (served_there s c.args.seat c.args.f p)))
+          (c.close_up.ensures.stands (reply_refused s c.args.seat c.args.f) (refused_stands _ s c.args.seat c.args.f (c.refuse_reply.ensures.stands (s.steps + 1) s (within c.reserve.new.self s (c.reserve.ensures.stands s h)))));
     })

@@ -2,10 +2,10 @@ use Rattle.std.proofs.Common.{List, subst}
 use Rattle.bd_space.specs.declared.space.DeathNotification.{DeathNotification}
 use Rattle.bd_step.specs.Stands.{Within}
 use Rattle.bd_step.specs.Telling.{owed}
-use Rattle.bd_step.proofs.Owing.{told-stands}
+use Rattle.bd_step.proofs.Owing.{told_stands}
 use Rattle.bd_step.proofs.tables.Tables.tell_deaths.Goals as goal
 
 pub returns-clause-stands : goal.returns-clause-stands
 returns-clause-stands c = λ s h due.
     let owing = subst (λ (xs : List DeathNotification). Within c.owe_deaths.new.self (owed s xs)) due (c.owe_deaths.ensures.stands s h) in
-    told-stands c.owe_deaths.new.self _ s c.args.p owing (c.tell_deaths.ensures.stands s owing.objects_stand)
+    told_stands c.owe_deaths.new.self _ s c.args.p owing (c.tell_deaths.ensures.stands s owing.objects_stand)

@@ -2,13 +2,13 @@ use Rattle.std.proofs.Common.{subst}
 use Rattle.bd_space.specs.ThreadExits.{thread_goes}
 use Rattle.bd_objects.specs.Stands.{StandsFor}
 use Rattle.bd_buffers.specs.WindowsStand.{StandsIn}
-use Rattle.bd_step.proofs.Handed.{lost-on}
+use Rattle.bd_step.proofs.Handed.{lost_on}
 use Rattle.bd_step.proofs.tables.Tables.thread_goes.Goals as goal
 
 pub returns-clause-stands : goal.returns-clause-stands
 unfolding thread_goes
 returns-clause-stands c = λ s h.
-    let lost = lost-on s c.args.seat _ (c.works_on-works.ensures s h.calls_stand) in
+    let lost = lost_on s c.args.seat _ (c.works_on-works.ensures s h.calls_stand) in
     record {
       own = h.own;
       objects_stand = subst (StandsFor c.end_handed.new.objects) lost (c.end_handed.ensures.objects s h.objects_stand);

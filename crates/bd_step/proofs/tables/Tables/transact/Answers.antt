@@ -4,21 +4,21 @@ use Rattle.bd_space.specs.Transactions.{transacted}
 use Rattle.bd_ways.specs.Local.{ObjectTest, follow_of, no_name, is_among, objects_of_items}
 use Rattle.bd_step.specs.Stands.{Within}
 use Rattle.bd_step.specs.Freed.{ripen_next}
-use Rattle.bd_step.proofs.Standing.{numbers-completed}
-use Rattle.bd_step.proofs.Refusals.{full-if}
-use Rattle.bd_step.proofs.Afterwards.{sent-call, sent-followed, sent-ordered, ripened-ordered}
-use Rattle.bd_step.proofs.Meeting.{taken-step}
+use Rattle.bd_step.proofs.Standing.{numbers_completed}
+use Rattle.bd_step.proofs.Refusals.{full_if}
+use Rattle.bd_step.proofs.Afterwards.{sent_call, sent_followed, sent_ordered, ripened_ordered}
+use Rattle.bd_step.proofs.Meeting.{taken_step}
 use Rattle.bd_step.proofs.tables.Tables.transact.Goals as goal
 
 pub returns-in-Err-clause-step : goal.returns-in-Err-clause-step
 returns-in-Err-clause-step c = record {
   ok = tt;
   err = λ s h. c.in-Err.ensures.err s (c.in-Ok.ensures.stands s h);
-  full = λ s h p. full-if _ _ (numbers-completed (transacted s c.args.a c.args.d.now c.args.v) (c.in-Err.ensures.full s (c.in-Ok.ensures.stands s h)));
+  full = λ s h p. full_if _ _ (numbers_completed (transacted s c.args.a c.args.d.now c.args.v) (c.in-Err.ensures.full s (c.in-Ok.ensures.stands s h)));
 }
 
 pub returns-clause-step : goal.returns-clause-step
-returns-clause-step c = taken-step _ _ _ _ _ (
+returns-clause-step c = taken_step _ _ _ _ _ (
     record {
       answered = λ s h p. refl;
       stands = λ s h p.
@@ -29,8 +29,8 @@ returns-clause-step c = taken-step _ _ _ _ _ (
           subst (Within c.follow_objects.new.self)
           (ap (λ (b : ObjectTest). follow_of no_name b (ripen_next target z)) looked
           ∙ ap (λ (o : Option ObjectId). follow_of no_name sent (ripen_next o z)) c.one_way_target-target.ensures
-          ∙ sym (sent-followed s c.args.a c.args.d.now c.args.v p))
+          ∙ sym (sent_followed s c.args.a c.args.d.now c.args.v p))
           (c.follow_objects.ensures.stands (ripen_next target z)
-          (c.ripen_next.ensures.stands z (c.in-Ok-transacted.ensures.ok s (c.in-Ok.ensures.stands s h) (sent-call s c.args.a c.args.d.now c.args.v p)))
-          (ripened-ordered target z (sent-ordered s c.args.a c.args.d.now c.args.v p)));
+          (c.ripen_next.ensures.stands z (c.in-Ok-transacted.ensures.ok s (c.in-Ok.ensures.stands s h) (sent_call s c.args.a c.args.d.now c.args.v p)))
+          (ripened_ordered target z (sent_ordered s c.args.a c.args.d.now c.args.v p)));
     })

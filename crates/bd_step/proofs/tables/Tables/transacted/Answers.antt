@@ -1,15 +1,15 @@
 use Rattle.std.proofs.Common.{◌+◌}
 use Rattle.bd_space.specs.Delivery.{delivered}
-use Rattle.bd_step.proofs.Stepping.{transacted-full, spam-told, transacted-stands, sent-takes}
+use Rattle.bd_step.proofs.Stepping.{transacted_full, spam_told, transacted_stands, sent_takes}
 use Rattle.bd_step.proofs.tables.Tables.transacted.Goals as goal
 
 pub returns-in-Err-clause-full : goal.returns-in-Err-clause-full
-returns-in-Err-clause-full c = λ s h. transacted-full s c.args.a c.args.d.now c.args.v (c.in-Err.ensures.full s h)
+returns-in-Err-clause-full c = λ s h. transacted_full s c.args.a c.args.d.now c.args.v (c.in-Err.ensures.full s h)
 
 pub returns-in-Ok-clause-ok : goal.returns-in-Ok-clause-ok
 returns-in-Ok-clause-ok c = λ s h k.
     let z = delivered s c.args.a c.args.d.now c.args.v in
     let w = c.in-Ok.ensures.ok s h k.new in
-    transacted-stands s c.args.a c.args.d.now c.args.v _ _ c.receiver-receiver.ensures c.is_one_way-one_way.ensures _ _
-    (spam-told s c.args.a c.args.d.now c.args.v _ _ c.receiver-receiver.ensures c.is_one_way-one_way.ensures _ k.lives (λ q found. c.is_spam-spam.ensures z q w found))
-    (c.called.ensures.stands (z.steps + 1) z w (sent-takes s c.args.a c.args.d.now c.args.v k.takes))
+    transacted_stands s c.args.a c.args.d.now c.args.v _ _ c.receiver-receiver.ensures c.is_one_way-one_way.ensures _ _
+    (spam_told s c.args.a c.args.d.now c.args.v _ _ c.receiver-receiver.ensures c.is_one_way-one_way.ensures _ k.lives (λ q found. c.is_spam-spam.ensures z q w found))
+    (c.called.ensures.stands (z.steps + 1) z w (sent_takes s c.args.a c.args.d.now c.args.v k.takes))

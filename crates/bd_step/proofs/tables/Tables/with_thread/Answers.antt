@@ -1,7 +1,7 @@
 use Rattle.bd_space.specs.Steps.{with_thread}
-use Rattle.bd_step.proofs.Changing.{with-calls}
+use Rattle.bd_step.proofs.Changing.{with_calls}
 use Rattle.bd_step.proofs.tables.Tables.with_thread.Goals as goal
 
 pub returns-clause-stands : goal.returns-clause-stands
 unfolding with_thread
-returns-clause-stands c = λ n s h free. with-calls n _ s c.add_thread.new.self _ s.frames s.todo h (c.add_thread.ensures.stands s h.calls_stand (h.own.steps_are, free))
+returns-clause-stands c = λ n s h free. with_calls n _ s c.add_thread.new.self _ s.frames s.todo h (c.add_thread.ensures.stands s h.calls_stand (h.own.steps_are, free))

@@ -3,19 +3,19 @@ use Rattle.std.specs.HashMap.{get_by}
 use Rattle.bd_todo.specs.declared.heads.ListKey.{ListKey}
 use Rattle.bd_todo.specs.Keys.{same_key}
 use Rattle.bd_todo.specs.Heads.{head_at}
-use Rattle.bd_todo.proofs.HeadRows.{row-put, key-put}
+use Rattle.bd_todo.proofs.HeadRows.{row_put, key_put}
 use Rattle.bd_todo.proofs.heads.Heads.remove.Goals as goal
 
 pub returns-in-Some-clause-heads : goal.returns-in-Some-clause-heads
 unfolding head_at
 returns-in-Some-clause-heads c =
     let t = c.args.self.now in
-    row-put t.threads t.others c.args.list c.in-Some.at None (sym c.row.ensures ∙ c.in-Some.is)
+    row_put t.threads t.others c.args.list c.in-Some.at None (sym c.row.ensures ∙ c.in-Some.is)
 
 pub returns-in-None-clause-heads : goal.returns-in-None-clause-heads
 unfolding head_at
 returns-in-None-clause-heads c =
     let t = c.args.self.now in
-    key-put t.threads t.others c.remove-gone.new.self c.args.list None (sym c.row.ensures ∙ c.in-None.is)
+    key_put t.threads t.others c.remove-gone.new.self c.args.list None (sym c.row.ensures ∙ c.in-None.is)
     (λ k. c.remove-gone.ensures.updates.0 k
     ∙ ap (λ (q : ListKey). cond {A = Option ℕ} (same_key q k) None (get_by (same_key k) t.others)) c.list_key.ensures)

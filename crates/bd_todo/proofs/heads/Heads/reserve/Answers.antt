@@ -1,10 +1,10 @@
 use Rattle.bd_todo.specs.Keys.{list_key}
 use Rattle.bd_todo.specs.Heads.{head_at}
-use Rattle.bd_todo.proofs.HeadRows.{same-keys}
+use Rattle.bd_todo.proofs.HeadRows.{same_numbers}
 use Rattle.bd_todo.proofs.heads.Heads.reserve.Goals as goal
 
 pub returns-clause-heads : goal.returns-clause-heads
 unfolding head_at
 returns-clause-heads c =
     let t = c.args.self.now in
-    same-keys t.threads t.others c.reserve.new.self (λ l. c.reserve.ensures.entries.2 (list_key l))
+    same_numbers t.threads t.others c.reserve.new.self (λ l. c.reserve.ensures.entries.2 (list_key l))

@@ -1,7 +1,7 @@
 use Rattle.std.proofs.Common.{refl, sym, ap, ◌∙◌, cond, Some}
 use Rattle.bd_todo.specs.Heads.{head_at}
 use Rattle.bd_todo.specs.declared.queues.Queues.{Queues}
-use Rattle.bd_todo.proofs.ListKeys.{same_list-refl}
+use Rattle.bd_todo.proofs.ListKeys.{same_list_refl}
 use Rattle.bd_todo.proofs.Queueing.{kept_stands, opened_shows}
 use Rattle.bd_todo.proofs.queues.Queues.head_for.Goals as goal
 
@@ -23,4 +23,4 @@ returns-clause-stands c = λ todo stands.
     }
 
 pub returns-clause-head : goal.returns-clause-head
-returns-clause-head c = c.insert.ensures.heads c.args.list ∙ ap (λ b. cond b (Some c.open-head.result) (head_at c.find.new.self c.args.list)) (same_list-refl c.args.list)
+returns-clause-head c = c.insert.ensures.heads c.args.list ∙ ap (λ b. cond b (Some c.open-head.result) (head_at c.find.new.self c.args.list)) (same_list_refl c.args.list)

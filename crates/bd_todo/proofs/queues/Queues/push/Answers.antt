@@ -3,8 +3,8 @@ use Rattle.bd_space.specs.declared.space.Work.{Work}
 use Rattle.bd_chains.specs.Rows.{Row}
 use Rattle.bd_todo.specs.Heads.{head_at}
 use Rattle.bd_todo.specs.Rows.{IsListed}
-use Rattle.bd_todo.proofs.Each.{each-push}
-use Rattle.bd_todo.proofs.Rows.{works_more, works-length}
+use Rattle.bd_todo.proofs.Each.{each_push}
+use Rattle.bd_todo.proofs.Rows.{works_more, works_length}
 use Rattle.bd_todo.proofs.Queueing.{kept_shows}
 use Rattle.bd_todo.proofs.queues.Queues.push.Goals as goal
 
@@ -17,7 +17,7 @@ returns-clause-stands c = λ todo stands.
       rows = s.rows ++ row ∷ [];
       shows = kept_shows t _ s.rows (s.rows ++ row ∷ []) s.shows
           (c.push.ensures.stands s.rows s.shows.holds (s.shows.opened c.args.work.list c.head_for-head.result c.head_for-head.ensures.head))
-          (each-push (IsListed (head_at t.lists)) s.rows row s.shows.listed (c.head_for-head.ensures.head, c.keeps_from_calling.ensures))
+          (each_push (IsListed (head_at t.lists)) s.rows row s.shows.listed (c.head_for-head.ensures.head, c.keeps_from_calling.ensures))
           c.push.ensures.open (λ l. refl);
       works_are = works_more s.rows row ∙ ap (λ ws. ws ++ c.args.work ∷ []) s.works_are;
     }
@@ -26,5 +26,5 @@ pub returns-clause-few : goal.returns-clause-few
 returns-clause-few c = λ todo stands.
     let s = c.head_for-head.ensures.stands todo stands in
     let few = c.push.ensures.few s.rows s.shows.holds in
-    let n = works-length s.rows in let m = ap length s.works_are in
+    let n = works_length s.rows in let m = ap length s.works_are in
     omega (arith, few, n, m)

@@ -2,7 +2,7 @@ use Rattle.std.proofs.Common.{◌∙◌, sym, refl, ap, length, subst, arith}
 use Rattle.bd_space.specs.Todo.{is_on}
 use Rattle.bd_todo.specs.Stands.{WorksAre}
 use Rattle.bd_todo.proofs.OnList.{nothing_goes, no_first, rest_same, one_less}
-use Rattle.bd_todo.proofs.Rows.{works-length}
+use Rattle.bd_todo.proofs.Rows.{works_length}
 use Rattle.bd_todo.proofs.WorksStand.{none_left}
 use Rattle.bd_todo.proofs.table.WorkTable.pop_all.Goals as goal
 
@@ -30,5 +30,5 @@ returns-clause-stands c = λ l h.
     let m = c.loop.invariant.left l h in
     let few = m.3 in
     let all = c.len-end.ensures h.queues_stand.rows h.queues_stand.shows.holds in
-    let n = works-length h.queues_stand.rows in let is = ap length h.queues_stand.works_are in
+    let n = works_length h.queues_stand.rows in let is = ap length h.queues_stand.works_are in
     subst (WorksAre c.loop.self) (sym (none_left (is_on c.args.list) m.0 (omega (arith, few, all, n, is))) ∙ m.2) m.1

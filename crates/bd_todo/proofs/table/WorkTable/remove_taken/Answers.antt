@@ -5,7 +5,7 @@ use Rattle.bd_space.specs.declared.space.TodoList.TheVariants.{OfThread}
 use Rattle.bd_space.specs.declared.space.WorkKind.TheVariants.{Notice}
 use Rattle.bd_space.specs.Todo.{without_taken}
 use Rattle.bd_todo.specs.Stands.{WorksAre}
-use Rattle.bd_todo.proofs.Fronts.{without_taken-cons, taken_all}
+use Rattle.bd_todo.proofs.Fronts.{without_taken_cons, taken_all}
 use Rattle.bd_todo.proofs.table.WorkTable.remove_taken.Goals as goal
 
 -- where there is none
@@ -20,7 +20,7 @@ loop-item-preserved c = record {
   uses = omega arith;
   left = λ l h.
       let m = c.loop-item.invariant.left l h in
-      (_, c.remove_item.ensures.stands m.0 m.1, m.2 ∙ ap (λ ds. without_taken ds m.0) (drop_more c.args.taken.now c.loop-item.item-index blank (omega arith)) ∙ without_taken-cons (get_or c.args.taken.now c.loop-item.item-index blank) _ m.0);
+      (_, c.remove_item.ensures.stands m.0 m.1, m.2 ∙ ap (λ ds. without_taken ds m.0) (drop_more c.args.taken.now c.loop-item.item-index blank (omega arith)) ∙ without_taken_cons (get_or c.args.taken.now c.loop-item.item-index blank) _ m.0);
 }
 
 pub returns-clause-stands : goal.returns-clause-stands
