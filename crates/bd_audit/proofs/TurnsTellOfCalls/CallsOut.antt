@@ -114,8 +114,8 @@ completed_buffers : (z : Space) → (completed z).buffers ≡ z.buffers
 unfolding completed
 completed_buffers z =
     settle_keeps (λ y. y.buffers ≡ z.buffers)
-    (λ y f found k. (Untouched.told-untouched (closed y f.made) f.caller (work.Verdict DeadReply)).buffers ∙ (Untouched.closed-untouched y f.made).buffers ∙ k) (follow (ripen z))
-    ((follow_after (ripen z)).buffers ∙ (Untouched.ripen-untouched z).buffers)
+    (λ y f found k. (Untouched.told_untouched (closed y f.made) f.caller (work.Verdict DeadReply)).buffers ∙ (Untouched.closed_untouched y f.made).buffers ∙ k) (follow (ripen z))
+    ((follow_after (ripen z)).buffers ∙ (Untouched.ripen_untouched z).buffers)
 
 -- the step makes this object's one-way call
 abbrev pub MakesCall : Space → ObjectId → List Buffer → Type 0
@@ -131,7 +131,7 @@ unfolding transacted
 transacted_buffers s a d v =
     let z = delivered s a d v in
     let y = owe z (OfThread a.thread.seat) (work.Complete (is_spam z a v)) in
-    (Untouched.called-untouched y a.thread.seat v.receiver.made v.one_way).buffers ∙ (Untouched.owe-untouched z (OfThread a.thread.seat) (work.Complete (is_spam z a v))).buffers
+    (Untouched.called_untouched y a.thread.seat v.receiver.made v.one_way).buffers ∙ (Untouched.owe_untouched z (OfThread a.thread.seat) (work.Complete (is_spam z a v))).buffers
 
 same_object : (r : Result ObjectId Cause) (o p : ObjectId) → r ≡ Ok o → r ≡ Ok p → o ≡ p
 same_object r o p h k = let e : (let q : Result ObjectId Cause = Ok o in q) ≡ Ok p = sym h ∙ k in cc

@@ -21,8 +21,8 @@ pub kept : (s : Space) (seat : ℕ) (x : Step) → InTurn s.steps s.buffers s.to
 kept s seat x h =
     let now : Turning s = more_steps s.steps (suc s.steps) s.buffers s.todo (omega arith) h in
     keeps_by Less HandsNothing less_table s seat x Turning (λ z l. in_turn_less z s l now) less_exits less_closes in_turn_less (λ r. refl) (λ r. refl) (record {
-      transacts = λ a d parcel v e i t. OneWay.transacted-in_turn s a d v h;
-      replies = λ a d parcel f v e i g t. OneWay.replied-in_turn s a d f v (reply_checked s a d parcel f v t).one_way h;
+      transacts = λ a d parcel v e i t. OneWay.transacted_in_turn s a d v h;
+      replies = λ a d parcel f v e i g t. OneWay.replied_in_turn s a d f v (reply_checked s a d parcel f v t).one_way h;
       reads = λ a limit e i n. read_in_turn s a.thread a.thread.seat _ now;
       ripens = λ z. ripen_in_turn z;
     })

@@ -111,8 +111,8 @@ follow_after = follow_by After after_trans (record {
   names = λ z. record { steps = refl; processes = refl; objects = λ x i. i; buffers = refl; due = λ w m l e. l };
   objects = λ z. record { steps = refl; processes = refl; objects = λ x i. (in_filter (stays_in z.processes z.references) x z.objects i).0; buffers = refl; due = λ w m l e. l };
   deaths = λ z. record { steps = refl; processes = refl; objects = λ x i. i; buffers = refl; due = λ w m l e. l };
-  work = λ z. untouched_after (work_goes z) z (Untouched.work_goes-untouched z) (less_table.sheds z);
-  notices = λ z. untouched_after (notify z) z (Untouched.notify-untouched z) (notify_by Less HandsNothing less_table z);
+  work = λ z. untouched_after (work_goes z) z (Untouched.work_goes_untouched z) (less_table.sheds z);
+  notices = λ z. untouched_after (notify z) z (Untouched.notify_untouched z) (notify_by Less HandsNothing less_table z);
 })
 
 -- ---- opening, managing and marking

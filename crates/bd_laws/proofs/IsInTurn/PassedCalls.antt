@@ -35,7 +35,7 @@ delivered_passed s fs a d v turns l lives made owned = record {
   ];
   to = λ o b i on. inl (b, in_left b s.buffers (buffer_of (known_by (record s { frames = fs }) v) a d v ∷ []) i, same_buffer s b);
   lists = λ w c o i e j on.
-      let old = OneWay.delivered-due (record s { frames = fs }) a d v w c.made i e in
+      let old = OneWay.delivered_due (record s { frames = fs }) a d v w c.made i e in
       elim (in_push c (buffer_of (known_by (record s { frames = fs }) v) a d v) s.buffers j) [
         | inl k ↦ l w c o old e k on
         | inr is ↦ (let lt = turns.fresh c.made (w, old, e) in let m : s.steps ≡ c.made = ap (λ (x : Buffer). x.made) is in absurd (omega arith))
@@ -82,7 +82,7 @@ none_new s a d v turns e c o i made on =
     ]
 
 owe_after : (z : Space) (list : TodoList) (kind : WorkKind) → hands_out kind ≡ None → After (owe z list kind) z
-owe_after z list kind none = untouched_after (owe z list kind) z (Untouched.owe-untouched z list kind) (OneWay.owe-less z list kind none)
+owe_after z list kind none = untouched_after (owe z list kind) z (Untouched.owe_untouched z list kind) (OneWay.owe_less z list kind none)
 
 none_after : (z y : Space) → After z y → NoneNew y → NoneNew z
 none_after z y a none c o i made on = none c o (subst (In c) a.buffers i) (made ∙ a.steps) on

@@ -87,7 +87,7 @@ without_process_passed s z p h = going_passed s _ z (rest_going z p) (search (ar
 pub ends_passed : (s : Space) (p : ℕ) → OnLists s → Passed s (tell_deaths (without_process (threads_go s p) p) p)
 ends_passed s p l =
     let b = without_process (threads_go s p) p in
-    passed_after s (tell_deaths b p) b (untouched_after (tell_deaths b p) b (Untouched.tell_deaths-untouched b p) (OneWay.tell_deaths-less b p))
+    passed_after s (tell_deaths b p) b (untouched_after (tell_deaths b p) b (Untouched.tell_deaths_untouched b p) (OneWay.tell_deaths_less b p))
     (without_process_passed s (threads_go s p) p (threads_keep (Passed s) (thread_goes_passed s) s p (passed_none s l)))
 
 -- ---- every step
@@ -101,7 +101,7 @@ pub record Passing (s z : Space) : Type 0 where
   pub passed : Passed s z
 
 passing_after : (s z y : Space) → After z y → Passing s y → Passing s z
-passing_after s z y a h = record { turns = OneWay.in_turn-less z y (OneWay.less-same z y a.steps a.buffers a.due) h.turns; passed = passed_after s z y a h.passed }
+passing_after s z y a h = record { turns = OneWay.in_turn_less z y (OneWay.less_same z y a.steps a.buffers a.due) h.turns; passed = passed_after s z y a h.passed }
 
 passing_untouched : (s z y : Space) → Untouched z y → Less z y → Passing s y → Passing s z
 passing_untouched s z y u l h = passing_after s z y (untouched_after z y u l) h
@@ -119,17 +119,17 @@ passing_step s seat x turns l =
         asks = λ a n strong o e i t. passing_after s _ s (ask_after s a.process.made o strong) none;
         drops = λ p o strong. passing_after s _ s (drop_asked_after s p o strong) none;
         acknowledges = λ o strong i. passing_after s _ s (acknowledge_after s o strong) none;
-        loops = λ a looping e. passing_untouched s _ s (Untouched.with_looping-untouched s a.thread.seat looping) (less_table.loops s a.thread.seat looping) none;
-        on_deaths = on_commands s _ (on_mapped s _ _ (λ y k. passing_untouched s y s k.0 k.1 none) (on_both s _ _ (Untouched.on_deaths-untouched s) (OneWay.on_deaths-less s)));
+        loops = λ a looping e. passing_untouched s _ s (Untouched.with_looping_untouched s a.thread.seat looping) (less_table.loops s a.thread.seat looping) none;
+        on_deaths = on_commands s _ (on_mapped s _ _ (λ y k. passing_untouched s y s k.0 k.1 none) (on_both s _ _ (Untouched.on_deaths_untouched s) (OneWay.on_deaths_less s)));
         reads = λ a limit e i n. record { turns = k.changes.reads a limit e i n; passed = read_passed s a.thread a.thread.seat _ l };
         leaves = λ a e. record { turns = k.changes.leaves a e; passed = thread_goes_passed s s a.thread.seat (passed_none s l) };
         ends = λ a e. record { turns = k.changes.ends a e; passed = ends_passed s a.process.made l };
         ripens = λ z h. record { turns = k.changes.ripens z h.turns; passed = ripen_passed s z h.turns h.passed };
       };
       follows = λ z. passing_after s (follow z) z (follow_after z);
-      closes = λ z made. passing_untouched s (closed z made) z (Untouched.closed-untouched z made) (less_closes z made);
-      refuses = λ z t r. passing_untouched s _ z (Untouched.owe-untouched z (OfThread t) (work.Refusal r)) (OneWay.owe-less z (OfThread t) (work.Refusal r) refl);
-      tells = λ z t r. passing_untouched s _ z (Untouched.owe-untouched z (OfThread t) (work.Verdict r)) (OneWay.owe-less z (OfThread t) (work.Verdict r) refl);
+      closes = λ z made. passing_untouched s (closed z made) z (Untouched.closed_untouched z made) (less_closes z made);
+      refuses = λ z t r. passing_untouched s _ z (Untouched.owe_untouched z (OfThread t) (work.Refusal r)) (OneWay.owe_less z (OfThread t) (work.Refusal r) refl);
+      tells = λ z t r. passing_untouched s _ z (Untouched.owe_untouched z (OfThread t) (work.Verdict r)) (OneWay.owe_less z (OfThread t) (work.Verdict r) refl);
     }
 
 pub step_passes : (s : Space) (e : Entry) → InTurn s.steps s.buffers s.todo → OnLists s → Passing s (change s e.seat e.step).space
