@@ -1,0 +1,182 @@
+/* SPDX-License-Identifier: Apache-2.0 OR MIT */
+/* A live engine in which much stands, and rounds that leave it as they found it: bench/crowds counts what they take.
+
+       crowds CROWD NUMBER ROUNDS
+
+   So many of the crowd stand first. A round is what the context manager's thread does with another process: a one-way call, and a call
+   that is answered; where calls are queued, one more of these is made, and the oldest read, too. `round` alone makes it. */
+#include "../../tools/asking.h"
+
+#include <stdio.h>
+#include <stdlib.h>
+
+enum { MANAGER, CLIENT, SERVER, FIRST, SEATS = 65536 };
+
+enum { MANAGER_PID = 100, CLIENT_PID = 200, SERVER_PID = 300, CROWD_PID = 1000 };
+
+enum { MOST_WINDOW = 4 << 20 };
+
+/* The manager's handles for an object of the server's, and for one of the crowd's. */
+enum { SERVER_HANDLE = 1, CROWD_HANDLE = 2 };
+
+static hullpippin_live live;
+
+static bool enters_loop(uint32_t seat)
+{
+    hullpippin_command command = {.code = HULLPIPPIN_BC_ENTER_LOOPER};
+    return runs(&live, seat, &command, NULL);
+}
+
+static bool calls(uint32_t seat, uint32_t handle, uint32_t flags)
+{
+    hullpippin_command command = {.code = HULLPIPPIN_BC_TRANSACTION, .transaction = {.target = handle, .flags = flags}};
+    return runs(&live, seat, &command, NULL);
+}
+
+static bool replies(uint32_t seat)
+{
+    hullpippin_command command = {.code = HULLPIPPIN_BC_REPLY};
+    return runs(&live, seat, &command, NULL);
+}
+
+/* Reads once, and frees the buffer of the call or reply that came, once it has kept an object that came by this handle, if there is one. */
+static bool takes(uint32_t seat, uint32_t handle)
+{
+    uint8_t stream[256];
+    hullpippin_command keep = {.code = HULLPIPPIN_BC_ACQUIRE, .handle = handle}, command = {.code = HULLPIPPIN_BC_FREE_BUFFER};
+    if (!reads(&live, seat))
+        return false;
+    size_t size = hullpippin_live_bytes(&live, HULLPIPPIN_STREAM, stream, sizeof stream);
+    if (size < CALL_SIZE || size > sizeof stream)
+        return fails("no call and no reply is read");
+    for (size_t i = 0; i < 8; i++)
+        command.pointer |= (uint64_t)stream[size - 16 + i] << 8 * i;
+    return (!handle || runs(&live, seat, &keep, NULL)) && runs(&live, seat, &command, NULL);
+}
+
+/* Sends the manager an object, which keeps it by this handle. */
+static bool gives(uint32_t seat, uint64_t pointer, uint32_t handle)
+{
+    uint8_t data[OBJECT_SIZE];
+    hullpippin_flat_object object = {.kind = HULLPIPPIN_TYPE_BINDER, .binder = pointer};
+    hullpippin_command send = {.code = HULLPIPPIN_BC_TRANSACTION,
+                               .transaction = {.flags = TF_ONE_WAY, .data_size = OBJECT_SIZE, .offsets_size = 8}};
+    return is(!hullpippin_put_object(&object, data, sizeof data), "the object has no place") && runs(&live, seat, &send, data)
+           && reads(&live, seat) && takes(MANAGER, handle);
+}
+
+static bool opens(uint32_t seat, uint32_t pid)
+{
+    hullpippin_answer answer;
+    return is_made(hullpippin_live_open(&live, seat, pid, 1000, MOST_WINDOW, &answer), &answer, HULLPIPPIN_OPENED);
+}
+
+static bool attaches(uint32_t seat, uint32_t pid)
+{
+    hullpippin_answer answer;
+    return is_made(hullpippin_live_attach(&live, seat, pid, &answer), &answer, HULLPIPPIN_OPENED);
+}
+
+/* ---- crowds */
+
+/* Threads of one process. */
+static bool threads(uint32_t number)
+{
+    bool good = opens(FIRST, CROWD_PID);
+    for (uint32_t i = 1; good && i < number; i++)
+        good = attaches(FIRST + i, CROWD_PID);
+    return good;
+}
+
+/* Processes of a thread each. */
+static bool processes(uint32_t number)
+{
+    bool good = true;
+    for (uint32_t i = 0; good && i < number; i++)
+        good = opens(FIRST + i, CROWD_PID + i);
+    return good;
+}
+
+/* Threads whose calls to the manager nobody has read. */
+static bool callers(uint32_t number)
+{
+    bool good = threads(number);
+    for (uint32_t i = 0; good && i < number; i++)
+        good = calls(FIRST + i, 0, 0) && reads(&live, FIRST + i);
+    return good;
+}
+
+/* Calls that two threads make to and fro, each while it serves the one before. */
+static bool nested(uint32_t number)
+{
+    uint32_t caller = FIRST, server = FIRST + 1;
+    bool good = opens(caller, CROWD_PID) && gives(caller, 0x2000, CROWD_HANDLE) && attaches(server, MANAGER_PID) && enters_loop(server);
+    for (uint32_t i = 0; good && i < number; i++)
+        good = i % 2 == 0 ? calls(caller, 0, 0) && reads(&live, caller) && takes(server, 0)
+                          : calls(server, CROWD_HANDLE, 0) && reads(&live, server) && takes(caller, 0);
+    return good;
+}
+
+/* One-way calls on the manager's object, of which one is due. */
+static bool queued(uint32_t number)
+{
+    bool good = true;
+    for (uint32_t i = 0; good && i < number; i++)
+        good = calls(CLIENT, 0, TF_ONE_WAY) && reads(&live, CLIENT);
+    return good;
+}
+
+/* ---- rounds */
+
+static bool calls_server(void)
+{
+    return calls(MANAGER, SERVER_HANDLE, TF_ONE_WAY) && reads(&live, MANAGER) && takes(SERVER, 0) && calls(MANAGER, SERVER_HANDLE, 0)
+           && reads(&live, MANAGER) && takes(SERVER, 0) && replies(SERVER) && reads(&live, SERVER) && takes(MANAGER, 0);
+}
+
+static bool queues_one_more(void)
+{
+    return calls(CLIENT, 0, TF_ONE_WAY) && reads(&live, CLIENT) && takes(MANAGER, 0) && calls_server();
+}
+
+static bool (*make)(void) = calls_server;
+
+/* What is counted. */
+__attribute__((noinline)) bool round_of(void);
+bool round_of(void)
+{
+    return make();
+}
+
+static const struct {
+    const char *name;
+    bool (*stand)(uint32_t number);
+    bool (*make)(void);
+} CROWDS[] = {
+    {"threads", threads, calls_server}, {"processes", processes, calls_server},    {"callers", callers, calls_server},
+    {"nested", nested, calls_server},   {"queued", queued, queues_one_more},
+};
+
+static bool stands(const char *name, uint32_t number)
+{
+    bool good = is_done(hullpippin_live_new(SEATS, &live)) && opens(MANAGER, MANAGER_PID) && opens(CLIENT, CLIENT_PID) && opens(SERVER, SERVER_PID);
+    hullpippin_answer answer;
+    good = good && is_made(hullpippin_live_manager(&live, MANAGER, &answer), &answer, HULLPIPPIN_SET) && enters_loop(MANAGER)
+           && enters_loop(SERVER) && gives(SERVER, 0x1000, SERVER_HANDLE);
+    for (size_t i = 0; i < sizeof CROWDS / sizeof CROWDS[0]; i++)
+        if (!strcmp(CROWDS[i].name, name)) {
+            make = CROWDS[i].make;
+            return good && CROWDS[i].stand(number);
+        }
+    return fails("no such crowd");
+}
+
+int main(int count, char **words)
+{
+    bool good = count == 4 && stands(words[1], (uint32_t)strtoul(words[2], NULL, 10));
+    for (unsigned long left = good ? strtoul(words[3], NULL, 10) : 0; good && left > 0; left--)
+        good = round_of();
+    if (!good)
+        fprintf(stderr, "crowds: %s\n", complaint ? complaint : "crowds CROWD NUMBER ROUNDS");
+    return good ? 0 : 1;
+}
