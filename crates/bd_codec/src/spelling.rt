@@ -27,7 +27,7 @@ impl Model for Spelling {
 }
 
 impl Spelling {
-    /// What was spelled.
+    /// All bytes of the spelling: the code, and the payload behind it.
     pub fn as_slice(&self) -> &[u8]
         ensures { result.now ≡ self.now }
     {

@@ -14,20 +14,20 @@ use Rattle.bd_examples.specs.Worked.{Plays}
 use Rattle.bd_examples.specs.Common.{complete_read, untold_read, object_call_read, death_read, object_sent, handshakes_done, two_watched, second_thread}
 use Rattle.bd_examples.specs.Script.{hex, tx, reply, act, enter, base, OBJ, HOBJ, OBJ2, HOBJ2, zeros}
 
--- the second object with another cookie
+-- The pointer of the second object with another cookie than its own.
 abbrev pub OBJ2X : List ℕ
 OBJ2X = hex "852a6273000000000810000000000000 0920000000000000"
 
--- a WEAK_BINDER with this ptr and cookie
+-- A weak object of the sender's own with this pointer and cookie, as it stands in a parcel.
 abbrev pub weak : ℕ → ℕ → List ℕ
 weak ptr cookie = hex "852a627700000000" ++ long ptr ++ long cookie
 
--- a BINDER at 0, and another one at 20, in its cookie
+-- Bytes that look like an object at 0, and like another one at 20, in the cookie of the first.
 abbrev pub nested : List ℕ
 nested = hex "852a6273000000000010000000000000 00200000" ++ OBJ2
 
--- The bit has no effect in a reply, and is handed on: a reply past half of the window is accepted, and the one-way call
--- after it finds its whole budget.
+-- The one-way flag has no effect in a reply, and is handed on: a reply past half of the window is accepted, and the one-way call after it
+-- finds its whole budget.
 abbrev pub one_way_bit_of_a_reply : Type 0
 one_way_bit_of_a_reply =
     Plays ((1, tx 0 1 0 OBJ (0 ∷ []), Accepted)
@@ -38,7 +38,7 @@ one_way_bit_of_a_reply =
     ∷ (1, enter, Accepted)
     ∷ (1, Read 256, Got (hex "0c720000 02724080 0010000000000000 0020000000000000 02000000 01000000 00000000 e8030000 0000000000000000 0000000000000000 0808010000000000 0808010000000000") [] []) ∷ [])
 
--- One is cleared when it is told, the other while it is queued. The buffer is freed and both names go (N1), and the
+-- One death notification is cleared when it is told, the other while it is queued. The buffer is freed and both names go (N1), and the
 -- objects too: yet the second is still told, and each completes its clearing when it is acknowledged.
 abbrev pub cleared_notifications_outlive_the_name : Type 0
 cleared_notifications_outlive_the_name =
@@ -75,7 +75,7 @@ owner_ends =
 abbrev pub target_of_a_window_that_ended : Type 0
 target_of_a_window_that_ended = Plays owner_ends
 
--- only the manager's object, which the step at 1 made, is left
+-- Of all objects only the manager's is left, which the step at place 1 of the history made.
 abbrev pub target_is_gone : Type 0
 target_is_gone = map (λ x. x.id.place) (ends opening (base ++ map asked owner_ends)).objects ≡ 1 ∷ []
 
@@ -130,7 +130,7 @@ unsupported_objects_cut_short =
     ∷ (1, tx 0 1 1 (hex "0000852a64660000000000000000000000000000000000000000") (2 ∷ []), Stopped cause.BadObject)
     ∷ (1, tx 0 1 1 (hex "852a627300000000001000000000000000200000" ++ hex "852a64660000000000000000000000000000000000000000") (0 ∷ 20 ∷ []), Stopped cause.BadObject) ∷ [])
 
--- one buffer is handed out, one waits for its turn, and then their process ends
+-- Of two buffers in the manager's window one is handed out and one waits for its turn; then the manager's process ends.
 abbrev pub window_ends : History
 window_ends =
     object_sent
@@ -138,12 +138,12 @@ window_ends =
     ++ (1, tx 0 2 1 (hex "6869") [], Accepted)
     ∷ (0, ExitProcess, Exited) ∷ []
 
--- no buffer is left, not even of another identity than a later process could ask for
+-- No buffer is left at all, also none that a later process with the same pid couldn't see.
 abbrev pub no_buffer_is_left : Type 0
 no_buffer_is_left = (ends opening (base ++ map asked window_ends)).buffers ≡ []
 
--- Its buffers go with the process, one handed out and one that waited for its turn: what they carried is released to
--- its owner, and who opens with the same pid has an empty window, its whole budget and no call to read.
+-- A process's buffers go with it, one handed out and one that waited for its turn: what they carried is released to its owner, and who
+-- opens with the same pid has an empty window, its whole budget and no call to read.
 abbrev pub window_of_a_process_that_ended : Type 0
 window_of_a_process_that_ended =
     Plays (window_ends ++ (1, enter, Accepted)

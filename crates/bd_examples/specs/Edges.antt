@@ -121,7 +121,7 @@ unread_verdict =
     ∷ (2, SetManager, Set)
     ∷ (1, tx 0 2 0 [] [], Stopped cause.Unread) ∷ [])
 
--- X16 is tried before X7.
+-- X16 is tried before X7: the caller has ended, and the parcel lies outside the area.
 abbrev pub reply_outside_the_area_to_a_caller_that_ended : Type 0
 reply_outside_the_area_to_a_caller_that_ended =
     Plays ((1, tx 0 1 0 [] [], Accepted)
@@ -135,7 +135,7 @@ budget_of_one_way_calls_alone =
     Plays ((1, tx 0 1 0 (zeros 2048) [], Accepted)
     ∷ (1, tx 0 1 1 (zeros 2048) [], Accepted) ∷ [])
 
--- two threads of one process send these, and then read these
+-- Two threads of one process send a parcel each, and then each reads what stands on its own list.
 abbrev pub sent_by_two : List ℕ → List ℕ → StepAnswer → StepAnswer → History
 sent_by_two a b first second =
     (2, Attach 200, Opened)
@@ -148,7 +148,7 @@ sent_by_two a b first second =
 abbrev pub notice_moves_with_binder : Type 0
 notice_moves_with_binder = Plays (sent_by_two WOBJ OBJ complete_read told_read)
 
--- A sending as WEAK_BINDER leaves it where it is.
+-- As above, but seat 2 sends the object as WEAK_BINDER, which leaves the Notice on seat 1's list.
 abbrev pub notice_stays_with_weak_binder : Type 0
 notice_stays_with_weak_binder = Plays (sent_by_two OBJ WOBJ told_read complete_read)
 
@@ -175,7 +175,7 @@ notification_gone_with_its_name =
     ∷ (1, ExitProcess, Exited)
     ∷ (0, Read 256, Refused fault.Again) ∷ [])
 
--- It goes at once. A new one on a dead object is queued at once.
+-- A death notification that was acknowledged is cleared at once. A new one on a dead object is queued at once.
 abbrev pub clearing_a_done_notification : Type 0
 clearing_a_done_notification =
     Plays ((1, tx 0 1 1 OBJ (0 ∷ []), Accepted)
@@ -211,7 +211,7 @@ pid_of_a_caller_that_ended =
     ∷ (1, ExitThread, Exited)
     ∷ (0, Read 256, Got (hex "0c720000 02724080 0000000000000000 0000000000000000 01000000 00000000 00000000 d0070000 0000000000000000 0000000000000000 0000010000000000 0000010000000000") [] []) ∷ [])
 
--- In a frame the process's list isn't read, and not in the same read after the own list.
+-- A thread with an open two-way call doesn't read its process's list, and no read goes on from the thread's list to the process's.
 abbrev pub one_list_a_read : Type 0
 one_list_a_read =
     Plays ((1, tx 0 1 0 [] [], Accepted)
@@ -222,8 +222,8 @@ one_list_a_read =
     ∷ (0, Read 256, complete_read)
     ∷ (0, Read 256, Got (hex "0c720000 02724080 0000000000000000 0000000000000000 02000000 01000000 00000000 d0070000 0000000000000000 0000000000000000 0800010000000000 0800010000000000") [] []) ∷ [])
 
--- The nested call on its list fails for its caller, its buffer's place is free again, and the Notice is made anew for
--- the process.
+-- The nested call on the ended thread's list fails for its caller, its buffer's place is free again, and the Notice is made anew for the
+-- process.
 abbrev pub thread_ends_with_a_call_unread : Type 0
 thread_ends_with_a_call_unread =
     Plays (second_thread
@@ -237,7 +237,7 @@ thread_ends_with_a_call_unread =
     ∷ (0, tx 1 3 1 [] [], Accepted)
     ∷ (2, Read 256, Got (hex "0c720000 02724080 0010000000000000 0020000000000000 03000000 01000000 00000000 e8030000 0000000000000000 0000000000000000 0000010000000000 0000010000000000") [] []) ∷ [])
 
--- The reply's buffer goes with it: the next buffer in that window gets its place, 65536.
+-- The buffer of the unread reply goes with its thread: the next buffer in that window gets its place, 65536.
 abbrev pub thread_ends_with_a_reply_unread : Type 0
 thread_ends_with_a_reply_unread =
     Plays (second_thread

@@ -1,5 +1,5 @@
--- Worked examples of reports of one-way flooding, and of a driver with the most seats.
--- The window is of 4096 bytes, so 1024 are a quarter of it.
+-- Worked examples of reports of one-way flooding, and of a driver with the most seats. The manager's window has 4096 bytes, so that 1024
+-- are a quarter of it, which one sender's one-way calls may take without a report.
 use Rattle.std.specs.Prelude.{ℕ, ◌≡◌, true, false, List, [], ◌∷◌, ◌++◌, map}
 use Rattle.bd_uapi.specs.declared.command.Return.TheVariants as br
 use Rattle.bd_uapi.specs.declared.command.Command.TheVariants as bc
@@ -16,26 +16,25 @@ use Rattle.bd_examples.specs.Worked.{Plays, to_manager}
 use Rattle.bd_examples.specs.Common.{complete_read, told_read, object_sent, second_thread}
 use Rattle.bd_examples.specs.Script.{hex, tx, reply, act, enter, OBJ, zeros, seen, reads}
 
--- BR_ONEWAY_SPAM_SUSPECT in place of BR_TRANSACTION_COMPLETE
+-- A call is reported as flooding: BR_ONEWAY_SPAM_SUSPECT is read in place of BR_TRANSACTION_COMPLETE.
 abbrev pub suspect_read : StepAnswer
 suspect_read = Got (hex "0c720000 13720000") [] []
 
--- a one-way call of so many zero bytes to the manager, and what its completion reads
+-- A seat makes a one-way call of so many zero bytes to the manager, and then reads its completion, or the report in place of that.
 abbrev pub one_way : ℕ → ℕ → StepAnswer → History
 one_way seat size completion = (seat, tx 0 1 1 (zeros size) [], Accepted) ∷ (seat, Read 256, completion) ∷ []
 
--- the manager reads such a call of the process with this user id, and frees it
+-- The manager reads such a call, of the process with this user id, and frees its buffer.
 abbrev pub read_and_freed : ℕ → ℕ → History
 read_and_freed euid size = (0, Read 256, to_manager 1 1 0 euid 0 (zeros size) []) ∷ (0, act (bc.FreeBuffer 65536), Accepted) ∷ []
 
--- another process, of seat 2
+-- Seat 2 opens another process.
 abbrev pub third_process : History
 third_process = (2, Open 300 3000 4096, Opened) ∷ []
 
--- ---- the row
+-- ---- the whole course
 
--- A quarter isn't reported, and 8 bytes more are; once the quarter is freed a further call isn't. A seat without a
--- process sets no mark.
+-- A quarter isn't reported, and 8 bytes more are; once the quarter is freed a further call isn't. A seat without a process sets no mark.
 abbrev pub flooding_reported : Type 0
 flooding_reported =
     Plays ((1, SetSpam true, Set)
@@ -51,15 +50,16 @@ flooding_reported =
 
 -- ---- how much is too much
 
--- exactly a quarter isn't, in one call
+-- Exactly a quarter, in one call, isn't reported.
 abbrev pub quarter_of_the_window : Type 0
 quarter_of_the_window = Plays ((1, SetSpam true, Set) ∷ one_way 1 1024 complete_read)
 
--- one byte more takes 8 bytes more of the window, and is
+-- One byte more than a quarter takes 8 bytes more of the window, and is reported.
 abbrev pub more_than_a_quarter : Type 0
 more_than_a_quarter = Plays ((1, SetSpam true, Set) ∷ one_way 1 1025 suspect_read)
 
--- an empty call takes 8 bytes, and the offsets count with the data: 24 and 8 bytes of an object beside 992
+-- Offsets count with the data: the 24 bytes of an object and the 8 of its offset make 992 bytes a quarter. An empty call takes 8 bytes, and
+-- is too much then.
 abbrev pub offsets_count : Type 0
 offsets_count =
     Plays ((1, SetSpam true, Set)
@@ -69,7 +69,7 @@ offsets_count =
     ∷ (1, tx 0 1 1 [] [], Accepted)
     ∷ (1, Read 256, suspect_read) ∷ [])
 
--- the report stands where the completion would: behind what the owner is told of its objects
+-- The report stands where the completion would: behind what the owner is told of its objects.
 abbrev pub report_behind_notices : Type 0
 report_behind_notices =
     Plays ((1, SetSpam true, Set)
@@ -79,7 +79,7 @@ report_behind_notices =
 
 -- ---- whose buffers count
 
--- neither sender has more than a quarter of the window, but together they have
+-- Neither sender has more than a quarter of the window, and so neither is reported, though together they have.
 abbrev pub senders_apart : Type 0
 senders_apart =
     Plays (third_process
@@ -89,7 +89,7 @@ senders_apart =
     ++ one_way 2 1024 complete_read
     ++ one_way 1 24 complete_read)
 
--- of two processes only the one that asked is told
+-- Of two processes only the one that asked for reports gets one.
 abbrev pub one_of_two_marked : Type 0
 one_of_two_marked =
     Plays (third_process
@@ -98,7 +98,7 @@ one_of_two_marked =
     ++ read_and_freed 3000 2048
     ++ one_way 1 2048 suspect_read)
 
--- what was read counts until it is freed, and then no longer
+-- What was read counts until it is freed, and then no longer.
 abbrev pub freed_counts_no_longer : Type 0
 freed_counts_no_longer =
     Plays ((1, SetSpam true, Set)
@@ -110,7 +110,7 @@ freed_counts_no_longer =
     ++ (0, act (bc.FreeBuffer 65536), Accepted)
     ∷ one_way 1 0 complete_read)
 
--- a two-way call isn't reported behind a flood of one-way ones, and doesn't count itself
+-- A two-way call isn't reported behind a flood of one-way ones, and its own buffer doesn't count.
 abbrev pub two_way_calls_apart : Type 0
 two_way_calls_apart =
     Plays ((1, SetSpam true, Set)
@@ -124,7 +124,7 @@ two_way_calls_apart =
     ++ (1, tx 0 1 0 [] [], Accepted)
     ∷ (1, Read 256, complete_read) ∷ [])
 
--- nor is a reply, though the manager that answers floods its caller
+-- A reply isn't reported, though the manager that answers floods its caller.
 abbrev pub replies_apart : Type 0
 replies_apart =
     Plays (object_sent
@@ -137,7 +137,7 @@ replies_apart =
     ∷ (0, reply 0 0 [] [], Accepted)
     ∷ (0, Read 256, complete_read) ∷ [])
 
--- a call that is refused reports nothing
+-- A one-way call that is over the budget (X14) is refused, and not reported.
 abbrev pub refused_calls_apart : Type 0
 refused_calls_apart =
     Plays ((1, SetSpam true, Set)
@@ -145,9 +145,9 @@ refused_calls_apart =
     ∷ (1, tx 0 1 1 [] [], Stopped cause.OverBudget)
     ∷ (1, Read 256, Got (hex "0c720000 13720000 11720000") [] []) ∷ [])
 
--- ---- the mark
+-- ---- whose mark counts, and when
 
--- any thread of a process sets its mark, and what another thread sent counts
+-- Any thread of a process asks for its reports, and what another thread of it sent counts.
 abbrev pub mark_of_the_process : Type 0
 mark_of_the_process =
     Plays (second_thread
@@ -158,7 +158,7 @@ mark_of_the_process =
     ++ (1, SetSpam false, Set)
     ∷ one_way 2 0 complete_read)
 
--- what counts is the mark when the call is accepted, not when its completion is read
+-- What counts is the mark when the call is accepted, not when its completion is read.
 abbrev pub marked_when_accepted : Type 0
 marked_when_accepted =
     Plays ((1, tx 0 1 1 (zeros 1032) [], Accepted)
@@ -167,7 +167,7 @@ marked_when_accepted =
     ∷ (1, SetSpam false, Set)
     ∷ (1, Read 256, Got (hex "0c720000 06720000 13720000") [] []) ∷ [])
 
--- a process that opens has no mark, though the one before it, at its seat and with its pid, had
+-- A process that opens has no mark, though the one before it, at its seat and with its pid, had.
 abbrev pub mark_ends_with_the_process : Type 0
 mark_ends_with_the_process =
     Plays ((1, SetSpam true, Set)
@@ -175,7 +175,7 @@ mark_ends_with_the_process =
     ∷ (1, Open 200 2000 4096, Opened)
     ∷ one_way 1 1032 complete_read)
 
--- nor does what that one sent count
+-- What the process before sent doesn't count either, though it lies in the manager's window still.
 abbrev pub buffers_of_the_process_before : Type 0
 buffers_of_the_process_before =
     Plays ((1, tx 0 1 1 (zeros 1024) [], Accepted)
@@ -186,7 +186,7 @@ buffers_of_the_process_before =
 
 -- ---- the most seats
 
--- the manager is at the last of 31 seats, and is called by the first
+-- The manager is at the last of 31 seats, and is called by the first.
 abbrev pub last_seat_called : History
 last_seat_called =
     (30, Open 100 1000 4096, Opened)
@@ -198,6 +198,6 @@ last_seat_called =
 abbrev pub entry_of : ℕ × Step × StepAnswer → Entry
 entry_of x = record { seat = x.0; step = x.1; answer = x.2 }
 
--- the call is there for seat 30, and its completion for seat 0
+-- Bits 30 and 0 of the ready word are set: the call is there for seat 30, and its completion for seat 0.
 abbrev pub last_seat_ready : Type 0
 last_seat_ready = ready_bits (history_of 31 (map entry_of last_seat_called)) ≡ 1073741825

@@ -55,7 +55,7 @@ references_of_others =
     ∷ (0, act (bc.Release 1), Accepted)
     ∷ (0, act (bc.Release 1), Noted note.NothingAsked) ∷ [])
 
--- They go with it, the strong one and the weak one, and the owner is told.
+-- What a process asked for goes with it, the strong reference and the weak one, and the owner is told.
 abbrev pub references_asked_by_a_process_that_ended : Type 0
 references_asked_by_a_process_that_ended =
     Plays (object_sent
@@ -133,7 +133,7 @@ limits_of_opening =
     ∷ (2, Open 2147483647 3000 4194304, Opened)
     ∷ (3, Open 300 4000 8192, Opened) ∷ [])
 
--- Each is refused with F4, though other refusals would hold too.
+-- Each request of a seat without a process is refused with F4, though other refusals would hold too.
 abbrev pub requests_without_a_process : Type 0
 requests_without_a_process =
     Plays ((2, SetManager, Refused fault.NoProcess)
@@ -153,8 +153,8 @@ room_for_one_return_more =
     ∷ (1, Read 75, complete_read)
     ∷ (1, Read 76, Got (hex "0c720000 06720000 06720000") [] []) ∷ [])
 
--- It lives on: its pid is taken (F6), its object can be called, and who attaches to it and enters the loop reads what
--- stood on its list.
+-- A process without threads lives on: its pid is taken (F6), its object can be called, and who attaches to it and enters the loop reads
+-- what stood on its list.
 abbrev pub process_without_threads : Type 0
 process_without_threads =
     Plays ((1, tx 0 1 1 OBJ (0 ∷ []), Accepted)
@@ -198,7 +198,7 @@ parcels_of_other_lengths =
     ∷ (1, Command (bc.Transaction (sending 0 1 1 [] [])) None, Stopped cause.OutsideArea)
     ∷ (1, Command bc.EnterLooper (Some (parcel OBJ (2 ∷ []))), Accepted) ∷ [])
 
--- which of the first n seats are ready after each of these steps, bit i for seat i
+-- Behind each of these steps, which of the first n seats are ready: bit i of the number stands for seat i.
 abbrev pub ready_after : ℕ → Space → List (ℕ × Step) → List ℕ
 ready_after n s [] = []
 ready_after n s (x ∷ xs) = let z = (step s x.0 x.1).space in ready_below z n ∷ ready_after n z xs

@@ -1,4 +1,4 @@
--- The words of a script, for worked examples.
+-- Short words for what worked examples are made of: parcels by their hex digits, records, steps and what is read.
 use Rattle.std.specs.Prelude.{ℕ, ◌+◌, ◌-◌, ◌*◌, ◌==◌, nat_lt, List, [], ◌∷◌, ◌++◌, length, map, Some, None, if◌then◌else◌, pos, codes}
 use Rattle.std.specs.List.{concat}
 use Prim.Native.String.{String}
@@ -19,7 +19,7 @@ use Rattle.bd_space.specs.Words.{round_up}
 abbrev pub digit : ℕ → ℕ
 digit c = if nat_lt c 58 then (c - 48) else (c - 87)
 
--- the bytes of pairs of hex digits, with blanks between pairs
+-- The bytes that a text says by pairs of hex digits, with blanks between pairs.
 abbrev pub unhex : List ℕ → List ℕ
 unhex [] = []
 unhex (a ∷ []) = []
@@ -28,7 +28,8 @@ unhex (a ∷ b ∷ cs) = if a == 32 then unhex (b ∷ cs) else ((16 * digit a + 
 abbrev pub hex : String → List ℕ
 hex t = unhex (codes t)
 
--- a record as its receiver reads it, by target, cookie, code, flags, pid, euid, both sizes and where the buffer lies
+-- A transaction's record as its receiver reads it: its data is so long, it has so many objects, and its buffer lies at that place of the
+-- receiver's window.
 abbrev pub seen : ℕ → ℕ → ℕ → ℕ → ℕ → ℕ → ℕ → ℕ → ℕ → TransactionData
 seen target cookie code flags pid euid size objects place = record {
   target = target;
@@ -43,7 +44,7 @@ seen target cookie code flags pid euid size objects place = record {
   offsets = 65536 + place + round_up size;
 }
 
--- a record as its sender writes it, with its data and then its offsets at the front of the area
+-- A transaction's record as its sender writes it: the data is at the front of the area, and the offsets are behind it.
 abbrev pub sending : ℕ → ℕ → ℕ → List ℕ → List ℕ → TransactionData
 sending target code flags bytes offsets =
     record (seen target 0 code flags 0 0 (length bytes) (length offsets) 0) { buffer = 0; offsets = round_up (length bytes) }
@@ -81,11 +82,11 @@ HOBJ2 = hex "852a6873000000000200000000000000 0000000000000000"
 abbrev pub OBJ3 : List ℕ
 OBJ3 = hex "852a6273000000001010000000000000 1020000000000000"
 
--- a binder with ptr 0
+-- An object of the sender's own with pointer 0 and cookie 0; sent by the manager's process it is the manager's object.
 abbrev pub OBJ0 : List ℕ
 OBJ0 = hex "852a6273000000000000000000000000 0000000000000000"
 
--- a weak binder of the same object as the first, and a weak handle of number 1
+-- The first object, sent weakly; below, a weak handle of number 1, as which its receiver reads it.
 abbrev pub WOBJ : List ℕ
 WOBJ = hex "852a6277000000000010000000000000 0020000000000000"
 
@@ -95,6 +96,6 @@ WHOBJ = hex "852a6877000000000100000000000000 0000000000000000"
 abbrev pub zeros : ℕ → List ℕ
 zeros n = bytes_low_first 0 n 0
 
--- what is read: a BR_NOOP, these returns, and the parcel
+-- The answer to a read: the stream begins with a BR_NOOP, then come these returns, and beside it there is the parcel.
 abbrev pub reads : List Return → List ℕ → List ℕ → StepAnswer
 reads rs bytes offsets = Got (return_bytes Noop ++ concat (map return_bytes rs)) bytes (concat (map (bytes_low_first 0 8) offsets))

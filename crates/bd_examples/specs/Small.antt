@@ -1,4 +1,4 @@
--- More worked examples.
+-- Worked examples of a few steps each. What each shows is said at its theorem, in src/small.rt.
 use Rattle.std.specs.Prelude.{[], ◌∷◌, ◌++◌}
 use Rattle.bd_uapi.specs.declared.command.Return.TheVariants as br
 use Rattle.bd_uapi.specs.declared.command.Command.TheVariants as bc

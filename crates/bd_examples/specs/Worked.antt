@@ -1,4 +1,4 @@
--- Worked examples.
+-- Worked examples of calls, objects and deaths. What each shows is said at its theorem, in src/worked.rt.
 use Rattle.std.specs.Prelude.{ℕ, ◌≡◌, List, [], ◌∷◌, ◌++◌, length, map}
 use Rattle.bd_uapi.specs.declared.command.Return.TheVariants as br
 use Rattle.bd_uapi.specs.declared.command.Command.TheVariants as bc
@@ -17,11 +17,11 @@ use Rattle.bd_examples.specs.Script.{hex, tx, reply, act, enter, base, OBJ, HOBJ
 abbrev pub opened : List StepAnswer
 opened = Opened ∷ Set ∷ Accepted ∷ Opened ∷ []
 
--- these steps after the base have these answers
+-- Behind the base, by which seat 0 is the manager's thread and seat 1 a client, these steps get these answers.
 abbrev pub Runs : List (ℕ × Step) → List StepAnswer → Type 0
 Runs steps found = answers opening (base ++ steps) ≡ opened ++ found
 
--- and so, each step with its answer
+-- The same, for steps that are written beside their answers.
 abbrev pub Plays : List (ℕ × Step × StepAnswer) → Type 0
 Plays history = Runs (map asked history) (map given history)
 
@@ -31,7 +31,7 @@ completes = reads (br.TransactionComplete ∷ []) [] []
 abbrev pub refers : ℕ → ℕ → StepAnswer
 refers ptr cookie = reads (br.Increfs ptr cookie ∷ br.Acquire ptr cookie ∷ br.TransactionComplete ∷ []) [] []
 
--- a call on the manager's object that is read
+-- What the manager reads of a call on its object, which lies at that place of its window.
 abbrev pub to_manager : ℕ → ℕ → ℕ → ℕ → ℕ → List ℕ → List ℕ → StepAnswer
 to_manager code flags pid euid place bytes offsets = elim offsets [
   | [] ↦ reads (br.Transaction (seen 0 0 code flags pid euid (length bytes) 0 place) ∷ []) bytes []
@@ -70,7 +70,7 @@ name_lives_as_long_as_a_buffer =
     (Accepted ∷ refers 4096 8192 ∷ Accepted ∷ to_manager 1 1 0 2000 0 HOBJ (0 ∷ []) ∷ Accepted ∷ to_manager 1 1 0 2000 32 HOBJ (0 ∷ []) ∷ Accepted
     ∷ Accepted ∷ to_manager 1 1 0 2000 0 HOBJ (0 ∷ []) ∷ [])
 
--- sent a second time before anybody reads: each sending has its buffer, and both have handle 1
+-- The object is sent a second time before anybody reads: each sending has its buffer, and both have handle 1.
 abbrev pub object_sent_twice : Type 0
 object_sent_twice =
     Runs ((1, tx 0 1 1 OBJ (0 ∷ []))

@@ -1,4 +1,4 @@
--- Worked examples of requests.
+-- Worked examples of writes, whose streams are read command by command.
 use Rattle.std.specs.Prelude.{ℕ, ◌≡◌, List, [], ◌∷◌, ◌++◌, Some, None, map, replicate}
 use Rattle.std.specs.List.{concat}
 use Prim.Native.String.{String}
@@ -27,31 +27,31 @@ base_answers = (Opened, 1) ∷ (Set, 2) ∷ (Wrote 4 [] None, 3) ∷ (Opened, 4)
 abbrev pub Answers : List (ℕ × Request) → List (Answer × ℕ) → Type 0
 Answers requests found = runs opening (base_requests ++ requests) ≡ base_answers ++ found
 
--- requests of seats, each with its answer and how long the history is then
+-- Behind the base these requests get these answers; the number beside an answer is how many steps the history has then.
 abbrev pub Plays : List (ℕ × Request × Answer × ℕ) → Type 0
 Plays history = Answers (map (λ x. (x.0, x.1)) history) (map (λ x. (x.2, x.3)) history)
 
--- a write without an area of which so many bytes are consumed: with these notes, or up to what stops it
+-- A write without an area that consumes so many bytes of its stream: all commands are run, and these notes are made.
 abbrev pub wrote : ℕ → String → ℕ → List (ℕ × Note) → ℕ → ℕ × Request × Answer × ℕ
 wrote seat bytes consumed notes steps = (seat, Write (hex bytes) [], Wrote consumed notes None, steps)
 
 abbrev pub stopped : ℕ → String → ℕ → Stop → ℕ → ℕ × Request × Answer × ℕ
 stopped seat bytes consumed by steps = (seat, Write (hex bytes) [], Wrote consumed [] (Some by), steps)
 
--- commands that can't be read; two commands, of which the first is refused
+-- An empty write, three streams that can't be read, and two commands of which the first is refused: the second isn't run.
 abbrev pub unreadable : Type 0
 unreadable =
     Answers ((1, Write [] []) ∷ (1, Write (hex "0c6300") []) ∷ (1, Write (hex "11634840") []) ∷ (1, Write (hex "0d720000") []) ∷ (1, Write (command_bytes (bc.Transaction (sending 5 1 1 [] [])) ++ hex "0c630000") []) ∷ [])
     ((Wrote 0 [] None, 4) ∷ (Wrote 0 [] (Some (stop.Fault fault.ShortCommand)), 4) ∷ (Wrote 0 [] (Some (stop.Fault fault.RefusedCommand)), 4) ∷ (Wrote 0 [] (Some (stop.Fault fault.UnknownCommand)), 4)
     ∷ (Wrote 68 [] (Some (stop.Cause cause.NotStronglyNamed)), 5) ∷ [])
 
--- a stream of three commands, the notes of two; the same of a seat that has no process
+-- Three commands are run, and two of them leave a note. A seat that has no process is refused with its first command.
 abbrev pub several : Type 0
 several =
     Answers ((1, Write (hex "0563044000000000 0663044001000000 0463044007000000") []) ∷ (2, Write (hex "0c630000 0c630000") []) ∷ [])
     ((Wrote 24 ((1, note.NoSuchNumber) ∷ (2, note.NoSuchNumber) ∷ []) None, 7) ∷ (Refused fault.NoProcess, 8) ∷ [])
 
--- a one-way call of that many bytes from that place in the area on
+-- The bytes of a one-way call whose parcel is said to be so long, and to begin at that place of the area.
 abbrev pub cut : ℕ → ℕ → ℕ → List ℕ
 cut target size from = command_bytes (bc.Transaction (record (sending target 0 1 [] []) { data_size = size; buffer = from; offsets = 0 }))
 
@@ -65,11 +65,11 @@ pointers_past_the_area =
     Answers ((1, Write (cut 0 2 18446744073709551615) (hex "6869")) ∷ (1, Write (cut 0 18446744073709551615 1) (hex "6869")) ∷ (1, Write (cut 0 0 1) []) ∷ (1, Write (cut 4294967296 0 0) []) ∷ [])
     (outside 5 ∷ outside 6 ∷ outside 7 ∷ (Wrote 68 [] None, 8) ∷ [])
 
--- 4097 bytes are no write
+-- A stream of 4097 bytes is one byte too long.
 abbrev pub stream_too_long : Type 0
 stream_too_long = Answers ((1, Write (concat (replicate 1024 (hex "0c630000")) ++ hex "00") []) ∷ []) ((Refused fault.StreamTooLong, 4) ∷ [])
 
--- and 4096 are 1024 steps
+-- A stream of 4096 bytes is just short enough: its 1024 commands are 1024 steps.
 abbrev pub full_stream : Type 0
 full_stream = Answers ((1, Write (concat (replicate 1024 (hex "0c630000"))) []) ∷ []) ((Wrote 4096 [] None, 1028) ∷ [])
 
@@ -112,7 +112,7 @@ writes_without_a_process =
     ∷ (1, Write (hex "00634040 0000000000000000 0000000000000000 00000000 01000000 00000000 00000000 0000000000000000 0900000000000000 0000000000000000 0000000000000000") (hex "0000000000000000"), Wrote 68 [] (Some (stop.Cause cause.OutsideArea)), 7)
     ∷ (1, Write (hex "00634040 0000000000000000 0000000000000000 00000000 01000000 00000000 00000000 0000000000000000 0900000000000000 0000000000000000 0000000000000000") (hex "000000000000000000"), Wrote 68 [] (Some (stop.Cause cause.OffsetsSize)), 8) ∷ [])
 
--- All five (F3), whether or not their payload is there. One of them with another size is unknown (F2), a known code
+-- Five codes are refused by name (F3), whether or not their payload is there. One of them with another size is unknown (F2), a known code
 -- without its whole payload is short (F1), and what stands before is run.
 abbrev pub codes_refused_by_name : Type 0
 codes_refused_by_name =

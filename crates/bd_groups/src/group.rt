@@ -8,12 +8,12 @@ ghost use Rattle.bd_groups.specs.Group.{spread};
 use bd_keys::{pair, wide};
 use std::hash::{Hash, Hasher};
 
-/// What members have in common.
+/// What the members of a group have in common: the process or the object that they belong to.
 #[derive(Clone, Copy, Debug, PartialEq, Eq)]
 pub enum Group {
-    /// The process that was made at this place.
+    /// A process, by the place of the step that opened it.
     Process { made: u32 },
-    /// The object with this identity.
+    /// An object, by its identity: the place of the step that made it, and which of those made there it is.
     Object { place: u32, index: u32 },
 }
 

@@ -129,7 +129,7 @@ impl<T: Copy> Groups<T> {
         reserve_latest(&mut self.latest, more)
     }
 
-    /// One member more. Takes no memory.
+    /// Takes in a member, as the latest of its group. Room for it was made, so it takes no memory.
     #[tactic(auto, unfolding(crate::specs::Members::group_room, crate::specs::Members::member_count))]
     pub fn push(&mut self, g: Group, member: T)
         requires { 1 ≤ group_room self.old }

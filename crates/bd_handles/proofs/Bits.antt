@@ -22,7 +22,7 @@ bit_here f p w t h =
     let m : (w * 64 + t) % 64 ≡ t = omega arith in
     ap (λ k. bit_at (f p k) ((w * 64 + t) % 64)) d ∙ ap (λ k. bit_at (f p w) k) m
 
--- a full word
+-- A word whose bits are all set has each of them.
 pub full_word : (x : ℕ) → x ≡ 2 ^ 64 - 1 → (i : ℕ) → i < 64 → bit_at x i ≡ 1
 full_word x e i h = ap (λ y. bit_at y i) e ∙ bit_at_ones 64 i h
 

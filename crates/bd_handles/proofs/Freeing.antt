@@ -51,7 +51,7 @@ module _ (p : ℕ) (names : List Name) where
   not_true true h = absurd (cc)
   not_true false h = refl
 
-  -- 0 is used
+  -- While 0 names something the search from 0 on finds what the one from 1 on does.
   pub zero_used : is_some (named_in names p 0) ≡ true → free_number_from names p 1 ≡ free_number_from names p 0
   zero_used e =
       let f = free_is p names 1 in

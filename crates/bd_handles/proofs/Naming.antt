@@ -78,7 +78,7 @@ gone_found : {B : Type 0} (f : Name → B) (key keep : Name → Bool) (b : Bool)
     → ((m : Name) → find key names ≡ Some m → keep m ≡ not b) → option_map f (find key (filter keep names)) ≡ cond b None (option_map f (find key names))
 gone_found f key keep b names few h = ap (λ x. option_map f x) (find_filter key keep names few) ∙ filtered f keep b (find key names) h
 
--- where none is found, none goes
+-- A key that no name has takes no name out of the list.
 none_goes : {B : Type 0} (f : Name → B) (key : Name → Bool) (names : List Name) → option_map f (find key names) ≡ None
     → filter (λ m. not (key m)) names ≡ names
 none_goes f key names e =
@@ -93,7 +93,7 @@ module _ (names : List Name) (h : Sound names) (p : ℕ) (o : ObjectId) where
   abbrev keep : Name → Bool
   keep m = not (has_object p o m)
 
-  -- where there is none
+  -- Where p has no name for the object, taking its name out changes nothing.
   pub none_gone : number_in names p o ≡ None → filter keep names ≡ names
   none_gone e = none_goes (λ (k : Name). k.number) (has_object p o) names e
 
@@ -136,7 +136,7 @@ module _ (names : List Name) (h : Sound names) (p : ℕ) (o : ObjectId) where
 -- ---- the name with a number of p
 
 module _ (names : List Name) (h : Sound names) (p n : ℕ) where
-  -- where there is none
+  -- Where p has no name with this number, taking it out changes nothing.
   pub no_number : named_in names p n ≡ None → filter (λ m. not (has_number p n m)) names ≡ names
   no_number e = none_goes (λ (k : Name). k.object) (has_number p n) names e
 

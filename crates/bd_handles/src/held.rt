@@ -10,7 +10,7 @@ use crate::names::Names;
 use bd_groups::{Group, Groups};
 use std::alloc::{AllocError, Global};
 
-// The numbers of the names that are there, and no others.
+// The groups made anew, in which the numbers of the names that are there stand, and no others.
 fn renewed(names: &Names, alloc: Global, more: usize) -> Result<Groups<u32>, AllocError>
     ensures listed { IfOk result (λ held. (l : List declared.Name) → Named names.now l → Listed held l) }
     ensures few { IfOk result (λ held. member_count held ≤ hash_map_len names.now.numbers) }
@@ -23,7 +23,7 @@ fn renewed(names: &Names, alloc: Global, more: usize) -> Result<Groups<u32>, All
     Ok(held)
 }
 
-/// Room for so many numbers more. Where most of them are of names that are gone, those go.
+/// Makes room for so many more numbers. Where most of those noted are of names that are gone, those go.
 pub fn reserve_held(
     held: &mut Groups<u32>,
     names: &Names,

@@ -14,7 +14,7 @@ use bd_space::ObjectId;
 use std::collections::HashMap;
 use std::hash::{Hash, Hasher};
 
-/// A number of a process: that of a page, or that of a word of bits.
+/// The key of a page of names, or of a word of bits: the process, and the page's or the word's number there.
 #[derive(Clone, Copy, PartialEq, Eq)]
 pub struct NumberKey {
     pub process: u32,
@@ -32,7 +32,7 @@ impl Hash for NumberKey {
     }
 }
 
-/// An object, for a process.
+/// The key of a name by its object: the process that has the name, and the object.
 #[derive(Clone, Copy, PartialEq, Eq)]
 pub struct ObjectKey {
     pub process: u32,
@@ -49,7 +49,7 @@ impl Hash for ObjectKey {
     }
 }
 
-/// The process's number of the object.
+/// The number by which the process names the object, if it does.
 pub fn number_of(numbers: &HashMap<ObjectKey, u32>, p: u32, o: ObjectId) -> Option<u32>
     ensures { result ≡ number_at numbers.now p o }
 {

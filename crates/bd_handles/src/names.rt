@@ -38,7 +38,7 @@ fn place_of(n: u32) -> u32
 }
 
 impl Names {
-    /// No names.
+    /// An index without names.
     pub fn new(alloc: Global) -> Names
         ensures { Named result [] }
     {
@@ -48,7 +48,7 @@ impl Names {
         }
     }
 
-    /// Room for so many names more.
+    /// Makes room for so many more names.
     pub fn reserve(&mut self, more: usize) -> Result<(), AllocError>
         ensures stands { Makes (Named self.old) (Named self.new) (λ l. l) }
         ensures uses { index_room self.old ≤ index_room self.new }
@@ -87,7 +87,7 @@ impl Names {
         next
     }
 
-    /// The process's number of the object.
+    /// The number by which the process names the object, if it does.
     pub fn number_of(&self, p: u32, o: ObjectId) -> Option<u32>
         ensures { Tells (Named self.now) result (λ l. names_of.number_in l p o) }
     {
@@ -105,7 +105,7 @@ impl Names {
         }
     }
 
-    // The same from 0 on.
+    // The least number from 0 on that the process doesn't use, if it is within the limit.
     fn free_from_zero(&self, p: u32) -> Option<u32>
         ensures { (l : List declared.Name) → Named self.now l → let free = numbers.free_number_from l p 0 in
             MatchOption result (4294967294 < free) (λ n. (n ≡ free) × (n ≤ 4294967294)) }
@@ -128,7 +128,7 @@ impl Names {
         }
     }
 
-    /// A name comes in.
+    /// Takes in a name whose number and whose object its process has no name with.
     pub fn insert(&mut self, m: Name)
         requires { 1 ≤ index_room self.old }
         ensures stands { (l : List declared.Name) → Named self.old l → m.number ≤ 4294967294

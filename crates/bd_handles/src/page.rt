@@ -14,7 +14,7 @@ pub struct Page {
 }
 
 impl Page {
-    /// No place names anything.
+    /// A page of which no place names anything.
     pub fn new() -> Page
         ensures { result.used ≡ 0 }
     {

@@ -22,7 +22,7 @@ pub struct Pages {
 impl Pages {
     ghost use Rattle.bd_handles.specs.Full.{FullAre, page_room};
 
-    /// No place names anything.
+    /// Pages of which no place names anything.
     pub fn new(alloc: Global) -> Pages
         ensures at { (p i : ℕ) → object_at result.pages p i ≡ None }
         ensures full { FullAre result }
@@ -33,7 +33,7 @@ impl Pages {
         }
     }
 
-    /// Room for so many names more.
+    /// Makes room for so many more names.
     pub fn reserve(&mut self, more: usize) -> Result<(), AllocError>
         ensures at { (p i : ℕ) → object_at self.new.pages p i ≡ object_at self.old.pages p i }
         ensures full { FullAre self.old → FullAre self.new }

@@ -39,7 +39,7 @@ impl NameTable {
         }
     }
 
-    /// Makes room for so many names more. Changes nothing else.
+    /// Makes room for so many more names. Changes nothing else.
     #[tactic(auto, unfolding(crate::specs::Stands::name_room))]
     pub fn reserve(&mut self, more: usize) -> Result<(), AllocError>
         ensures stands { (base l : List declared.Name) → NamesSince self.old base l → NamesSince self.new base l }
@@ -79,7 +79,7 @@ impl NameTable {
             .next_among(p, from, self.held.of(Group::Process { made: p }))
     }
 
-    /// The process's number of the object.
+    /// The number by which the process names the object, if it does.
     pub fn number_of(&self, p: u32, o: ObjectId) -> Option<u32>
         ensures { (base l : List declared.Name) → NamesSince self.now base l → result ≡ names_of.number_in l p o }
     {
@@ -111,7 +111,7 @@ impl NameTable {
         }
     }
 
-    // The same for an object without a name.
+    // Names an object that has no name.
     #[tactic(auto, unfolding(crate::specs::Stands::name_room))]
     fn give_new(&mut self, from_zero: bool, p: u32, o: ObjectId) -> Result<(), NumbersFull>
         requires { 1 ≤ name_room self.old }
@@ -136,7 +136,7 @@ impl NameTable {
         }
     }
 
-    // A name comes in.
+    // Takes in a name whose number and whose object the process has no name with.
     #[tactic(auto, unfolding(crate::specs::Stands::name_room))]
     fn push(&mut self, m: Name)
         requires { 1 ≤ name_room self.old }
@@ -150,7 +150,7 @@ impl NameTable {
         self.given.push_reserved(m);
     }
 
-    /// What was given since the last time stays.
+    /// Settles the table: the names given so far stay, and can't be taken back any more.
     #[tactic(auto, unfolding(crate::specs::Stands::name_room))]
     pub fn settle(&mut self)
         ensures stands { (base l : List declared.Name) → NamesSince self.old base l → NamesAre self.new l }
@@ -159,7 +159,7 @@ impl NameTable {
         self.given.clear();
     }
 
-    // What was given last is taken back.
+    // Takes back the name that was given last.
     #[tactic(auto, unfolding(crate::specs::Stands::name_room))]
     fn roll_back_last(&mut self)
         ensures stands { (base l : List declared.Name) → NamesSince self.old base l
@@ -173,7 +173,7 @@ impl NameTable {
         }
     }
 
-    /// What was given since the table was settled is taken back.
+    /// Takes back all names that were given since the table was settled.
     #[tactic(auto, unfolding(crate::specs::Stands::name_room))]
     pub fn roll_back(&mut self)
         ensures stands { (base l : List declared.Name) → NamesSince self.old base l → NamesAre self.new base }
@@ -184,7 +184,7 @@ impl NameTable {
         }
     }
 
-    /// The process's name of the object goes.
+    /// Takes out the process's name of the object, if it has one.
     #[tactic(auto, unfolding(crate::specs::Stands::name_room))]
     pub fn remove(&mut self, p: u32, o: ObjectId)
         ensures stands { Makes (NamesAre self.old) (NamesAre self.new)
@@ -194,7 +194,7 @@ impl NameTable {
         self.names.remove_object(p, o);
     }
 
-    /// All names of the process go.
+    /// Takes out all names of a process, when it ends.
     #[tactic(auto, unfolding(crate::specs::Stands::name_room))]
     pub fn remove_process(&mut self, p: u32)
         ensures stands { Makes (NamesAre self.old) (NamesAre self.new) (λ l. filter (λ m. not (m.process == p)) l) }

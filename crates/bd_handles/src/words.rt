@@ -19,7 +19,7 @@ pub struct Words {
 impl Words {
     ghost use Rattle.bd_handles.specs.Bits.{word_at, bit_of};
 
-    /// Empty sets.
+    /// An empty set for each process.
     pub fn new(alloc: Global) -> Words
         ensures { (p w : ℕ) → word_at result p w ≡ 0 }
     {
@@ -28,7 +28,7 @@ impl Words {
         }
     }
 
-    /// Room for so many words more.
+    /// Makes room for so many more words.
     pub fn reserve(&mut self, more: usize) -> Result<(), AllocError>
         ensures same { (p w : ℕ) → word_at self.new p w ≡ word_at self.old p w }
         ensures spare { spare self.old.words ≤ spare self.new.words }
@@ -38,7 +38,7 @@ impl Words {
         self.words.reserve(more)
     }
 
-    // A word of the process.
+    // The process's word with this number: 0 where none is stored.
     fn word(&self, p: u32, w: u32) -> u64
         ensures { result ≡ word_at self.now p w }
     {

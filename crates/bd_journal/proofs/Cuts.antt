@@ -19,7 +19,7 @@ use Rattle.bd_journal.proofs.Laws.{entry_takes, entry_again, heading_takes, head
 
 -- ---- entries
 
--- no entry is without bytes
+-- Reading an entry makes the rest shorter, so that reading entries comes to an end.
 entry_has_bytes : (e : Entry) (rest : List ℕ) → length rest < length (entry_bytes e ++ rest)
 entry_has_bytes e rest =
     let four : length (word e.seat) ≡ 4 = refl in

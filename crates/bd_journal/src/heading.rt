@@ -18,7 +18,7 @@ pub struct Heading<'a> {
     pub rest: &'a [u8],
 }
 
-// The number of seats.
+// The number of seats in the heading, if a journal of this version may have so many.
 #[tactic(auto, unfolding(crate::specs::Reading::seats_from))]
 fn seats_at(version: Version, bytes: &[u8]) -> Result<(u32, &[u8]), ReadError>
     ensures given { Gives (λ x. (x.0, x.1.now)) result (seats_from version bytes.now) }
@@ -31,7 +31,7 @@ fn seats_at(version: Version, bytes: &[u8]) -> Result<(u32, &[u8]), ReadError>
     Ok((seats, rest))
 }
 
-// The number of entries.
+// The number of entries in the heading: four bytes, eight in the third version.
 fn count_at(version: Version, bytes: &[u8]) -> Result<(u64, &[u8]), ReadError>
     ensures given { Gives (λ x. (x.0, x.1.now)) result (count_from version bytes.now) }
     ensures error { IfErr result (λ e. e ≡ Malformed) }

@@ -27,7 +27,7 @@ place_some (k ∷ ks) l i h =
         let less : suc j < length (k ∷ ks) = omega (arith, r.0) in
         subst (λ n. (n < length (k ∷ ks)) × (get_or (k ∷ ks) n blank ≡ l)) s (less, r.1)
 
--- where there is none, no place has it
+-- A key that the search finds no place of stands at no place.
 pub place_none : (ks : List WordKey) (l : WordKey) (i : ℕ) → place_in ks l ≡ None → i < length ks
     → get_or ks i blank ≡ l → ⊥
 unfolding place_in

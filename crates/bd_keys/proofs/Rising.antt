@@ -97,7 +97,7 @@ module _ {A : Type 0} (key : A → ℕ) where
 
   -- ---- where the element at an index has it
 
-  -- the first differs from one further on
+  -- In a list without two of one key the first isn't the one that was found further on.
   pub first_differs : (m : ℕ) (x : A) (xs : List A) (i : ℕ) → Distinct (x ∷ xs) → i < length xs
       → ((d : A) → key (get_or xs i d) ≡ m) → has m x ≡ false
   first_differs m x xs i apart lt is =

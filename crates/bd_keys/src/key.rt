@@ -3,7 +3,7 @@
 ghost use Rattle.std.specs.Prelude.{◌≡◌};
 ghost use Rattle.bd_keys.specs.Keys.{spread};
 
-/// Whose a value is, and the word that names it there.
+/// A key: the process that a value belongs to, and the word that names it there (a pointer, a cookie or a pid).
 #[derive(Clone, Copy, PartialEq, Eq)]
 pub struct WordKey {
     pub process: u32,

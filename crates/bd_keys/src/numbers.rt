@@ -11,7 +11,7 @@ pub fn pair(high: u32, low: u32) -> u64
     u64::from(high) * 0x1_0000_0000 + u64::from(low)
 }
 
-/// The same with a number of 64 bits below.
+/// A number of 32 bits above one of 64, as one number, another for each two.
 pub fn wide(high: u32, low: u64) -> u128
     ensures { result ≡ wide high low }
 {

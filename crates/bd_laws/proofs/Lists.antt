@@ -180,7 +180,7 @@ pairs_at R (x ∷ xs) h (suc i) (suc j) d lt le = pairs_at R xs h.1 i j d (omega
 
 -- ---- over a list
 
--- what each step keeps, all of them keep
+-- What holds at the start of a fold, and is kept by each of its steps over the list, holds at the end.
 pub fold_keeps : {A B : Type 0} (P : B → Type 0) (f : B → A → B) (xs : List A) → ((b : B) (x : A) → In x xs → P b → P (f b x)) → (b : B) → P b → P (fold f b xs)
 fold_keeps P f [] k b h = h
 fold_keeps P f (x ∷ xs) k b h = fold_keeps P f xs (λ c y l. k c y (inr l)) (f b x) (k b x (inl refl) h)

@@ -18,7 +18,7 @@ pub apart_some : (t : NodeTable) (objects : List Object) (o : ObjectId) (x : Obj
 apart_some t objects o x stays n e =
     some_stays id_key same same_eq same_self stays o x objects n.ids e
 
--- there is none
+-- Where no object has the identity every object stays.
 pub apart_none : (objects : List Object) (o : ObjectId) (stays : Object → Bool) → object_in objects o ≡ None
     → filter (λ y. not (same y.id o) || stays y) objects ≡ objects
 apart_none objects o stays e = none_stays id_key same stays o objects e

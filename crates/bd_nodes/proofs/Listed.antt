@@ -103,7 +103,7 @@ pub owns_one : (objects : List Object) (p : ℕ) (o : ObjectId) → owned_in obj
     → list_any (λ (x : Object). x.owner == p) objects ≡ true
 owns_one objects p o h = any_weaker _ _ objects (λ x e. (and_parts (same x.id o) (x.owner == p) e).1) h
 
--- of listed ones those that the process owns are all that it owns
+-- A list that has all objects of a process, and maybe others, has just those of the process once it is sifted by its ownership.
 pub owned_listed : (objects : List Object) (p : ℕ) (before listed : List ObjectId)
     → ((o : ObjectId) → owned_in objects p o ≡ true → is_among listed o ≡ true) → (o : ObjectId)
     → is_among (before ++ filter (owned_in objects p) listed) o
@@ -122,7 +122,7 @@ some_one : {A : Type 0} (o : Option A) → is_some o ≡ true → (x : A) × (o 
 some_one None h = absurd (cc)
 some_one (Some x) h = (x, refl)
 
--- what a process owns is listed
+-- A table lists each object under the process that owns it.
 pub owned_is_listed : (t : NodeTable) (objects : List Object) (p : ℕ) (o : ObjectId) → NodesAre t objects
     → owned_in objects p o ≡ true → is_among (members t.owned (owner_group p)) o ≡ true
 owned_is_listed t objects p o n h =

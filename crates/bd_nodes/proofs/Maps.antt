@@ -99,7 +99,7 @@ module _ {A K : Type 0} (key : A → K) (eq : K → K → Bool) (alike : (a b : 
           ap (λ b. Some (cond b (g x) x)) (sym yes) ∙ ap (λ o. option_map (λ y. y) (option_map by_test o)) (sym here)
       at l false e = f l ∙ other l e (find (λ y. eq (key y) l) xs) refl
 
--- of one key there is one
+-- Whether the one element of key l has key k is whether k and l are one key.
 pub only_key : {A K : Type 0} (key : A → K) (eq : K → K → Bool) (alike : (a b : K) → eq a b ≡ true → a ≡ b)
     (itself : (a : K) → eq a a ≡ true) (xs : List A) (k l : K) (y : A)
     → find (λ x. eq (key x) l) xs ≡ Some y → not (eq (key y) k) ≡ not (eq k l)

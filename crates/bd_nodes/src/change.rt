@@ -12,7 +12,7 @@ impl NodeTable {
     ghost use Rattle.bd_space.specs.declared.space.Object.{Object};
     ghost use Rattle.bd_nodes.specs.{Stands.{NodesAre}, New.{IsNewIn, AreNewIn}, Room.{Uses, node_room}};
 
-    /// Puts a new object to them.
+    /// Takes in an object that is new: no other has its identity, and its owner has none with its pointer.
     #[tactic(auto, unfolding(crate::specs::Room::node_room, crate::specs::Room::node_count))]
     pub fn push(&mut self, x: Object)
         requires { 1 ≤ node_room self.old }
@@ -25,7 +25,7 @@ impl NodeTable {
         let _ = self.objects.insert(x.id, x);
     }
 
-    /// Puts new objects to them.
+    /// Takes in objects that are new, also beside each other.
     pub fn push_all(&mut self, made: &[Object])
         requires { length made.now ≤ node_room self.old }
         ensures stands { (objects : List Object) → NodesAre self.old objects → AreNewIn objects made.now
@@ -37,7 +37,7 @@ impl NodeTable {
         }
     }
 
-    /// The owner was told of the object: whether it is referred to, and whether strongly.
+    /// Notes what the object's owner was told last: whether the object is held, and whether strongly.
     #[tactic(auto, unfolding(crate::specs::Room::node_room, crate::specs::Room::node_count))]
     pub fn set_told(&mut self, o: ObjectId, weak: bool, strong: bool)
         ensures stands { Makes (NodesAre self.old) (NodesAre self.new)
@@ -50,7 +50,7 @@ impl NodeTable {
         }
     }
 
-    /// The object goes.
+    /// Takes the object out, if it is there. Its identity stays in its owner's list until that is made anew.
     #[tactic(auto, unfolding(crate::specs::Room::node_room, crate::specs::Room::node_count))]
     pub fn remove(&mut self, o: ObjectId)
         ensures stands { Makes (NodesAre self.old) (NodesAre self.new)

@@ -7,7 +7,7 @@ use bd_groups::Group;
 use bd_keys::WordKey;
 use bd_space::Object;
 
-/// What its owner knows it by.
+/// The key by which an object is found in its owner's process: the owner, and the pointer that it picked.
 pub(crate) fn own_key(x: &Object) -> WordKey
     ensures { result ≡ keys.own_key x.now }
 {
@@ -17,7 +17,7 @@ pub(crate) fn own_key(x: &Object) -> WordKey
     }
 }
 
-/// Where a process's objects are listed.
+/// The group in which the identities of a process's objects are listed.
 pub(crate) fn owner_group(p: u32) -> Group
     ensures { result ≡ keys.owner_group p }
 {

@@ -28,7 +28,7 @@ impl NodeTable {
     ghost use Rattle.bd_space.specs.declared.space.Object.{Object};
     ghost use Rattle.bd_nodes.specs.Stands.{NodesAre};
 
-    /// The object with this identity.
+    /// The object with this identity, if it is still there.
     pub fn object(&self, o: ObjectId) -> Option<Object>
         ensures { Tells (NodesAre self.now) result (λ objects. refer.object_in objects o) }
     {
@@ -42,7 +42,7 @@ impl NodeTable {
         self.own_object(p, o).is_some()
     }
 
-    /// The process's own object with this ptr.
+    /// The object that the process knows by this pointer as its own, if there is one.
     pub fn own_with_ptr(&self, p: u32, ptr: u64) -> Option<Object>
         ensures { Tells (NodesAre self.now) result (λ objects. refer.own_in objects p ptr) }
     {
@@ -61,7 +61,7 @@ impl NodeTable {
         owned(self.object(o), p)
     }
 
-    /// The process's own object with this ptr and this cookie.
+    /// As `own_with_ptr`, where the object has this cookie, too.
     pub fn own_with(&self, p: u32, ptr: u64, cookie: u64) -> Option<Object>
         ensures { Tells (NodesAre self.now) result
             (λ objects. find (λ x. (x.owner == p) && (x.ptr == ptr) && (x.cookie == cookie)) objects) }

@@ -11,7 +11,7 @@ impl ProcessTable {
     ghost use Rattle.bd_space.specs.declared.space.Process.{Process};
     ghost use Rattle.bd_processes.specs.{New.{IsNewIn}, Stands.{ProcessesAre}, Room.{process_room}};
 
-    /// One more, opened after the others. Takes no memory.
+    /// Takes in a process that opened after all others and has another pid than they. Room for it was made, so it takes no memory.
     #[tactic(auto, unfolding(crate::specs::Room::process_room))]
     pub fn push(&mut self, process: Process)
         requires room { 1 ≤ process_room self.old }
@@ -24,7 +24,7 @@ impl ProcessTable {
         self.list.push_reserved(process);
     }
 
-    /// All but this one stay.
+    /// Takes out the process with this identity; all others stay.
     #[tactic(auto, unfolding(crate::specs::Room::process_room))]
     pub fn remove(&mut self, made: u32)
         ensures stands { Makes (ProcessesAre self.old) (ProcessesAre self.new)

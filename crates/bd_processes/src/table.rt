@@ -32,7 +32,7 @@ pub(crate) fn pid_key(pid: u32) -> WordKey
 impl ProcessTable {
     ghost use Rattle.bd_processes.specs.{Stands.{ProcessesAre, IsKept}, Room.{process_room}};
 
-    /// No process. Takes no memory.
+    /// A table without processes. Takes no memory.
     pub fn new(alloc: Global) -> ProcessTable
         ensures { ProcessesAre result [] }
     {

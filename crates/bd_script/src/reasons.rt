@@ -13,11 +13,11 @@ use thiserror::Error;
 pub struct Reason {
     /// Where, in bytes of the line, from 1.
     pub column: usize,
-    /// In which of its words, from 1.
+    /// Which of the line's words is the first bad one, from 1; one past the last where a word is missing.
     pub word: usize,
-    /// What may stand there.
+    /// What may stand there, for a person to read.
     pub expected: &'static str,
-    /// What stands there.
+    /// What stands there instead, for a person to read.
     pub found: &'static str,
 }
 

@@ -37,9 +37,9 @@ pub enum Verb {
 pub struct Line {
     /// Its number in the script, from 1.
     pub number: u64,
-    /// The seat that it is for.
+    /// Which seat does it, below the script's number of seats.
     pub seat: u32,
-    /// What it does.
+    /// What the seat does there.
     pub verb: Verb,
 }
 
