@@ -27,11 +27,11 @@ record_at i bytes = record {
   offsets = long_at (i + 56) bytes;
 }
 
--- the value, if the bytes are enough for it
+-- The value, if there are as many bytes as its spelling has, and else the fault of a command cut short.
 abbrev pub sized : {A : Type 0} → ℕ → List ℕ → A → Result A Fault
 sized n bytes x = if nat_lt (length bytes) n then Err ShortCommand else Ok x
 
--- a value that is so, and the length of its spelling, if the bytes are enough for it
+-- The result is a value of which P holds, with the length of its spelling, if there are as many bytes, and else the fault of one cut short.
 abbrev pub MakesSized : {A : Type 0} → ℕ → List ℕ → (A → Type 0) → Result (A × ℕ) Fault → Type 0
 MakesSized n bytes P (Ok x) = (nat_lt (length bytes) n ≡ false) × P x.0 × (x.1 ≡ n)
 MakesSized n bytes P (Err f) = (nat_lt (length bytes) n ≡ true) × (f ≡ ShortCommand)

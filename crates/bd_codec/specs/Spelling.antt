@@ -7,7 +7,7 @@ use Rattle.bd_uapi.specs.declared.command.Command.TheVariants.{Transaction, Repl
 use Rattle.bd_uapi.specs.declared.command.Return.{Return}
 use Rattle.bd_uapi.specs.declared.command.Return.TheVariants as returned
 
--- the code of a command
+-- The code by which a command's spelling begins.
 abbrev pub command_code : Command → ℕ
 command_code (Transaction t) = 0x40406300
 command_code (Reply t) = 0x40406301
@@ -102,7 +102,7 @@ return_payload returned.OnewaySpamSuspect = []
 abbrev pub return_bytes : Return → List ℕ
 return_bytes r = word (return_code r) ++ return_payload r
 
--- the same of a return
+-- Every number of a return fits its field; each Rust value is such a return.
 abbrev pub IsReturn : Return → Type 0
 IsReturn (returned.Transaction t) = IsRecord t
 IsReturn (returned.Reply t) = IsRecord t

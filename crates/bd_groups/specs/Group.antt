@@ -8,7 +8,7 @@ use Rattle.bd_groups.specs.contracts.group.GroupPartialEq.TheImpl as groups
 unfoldable pub same_group : Group → Group → Bool
 same_group = (groups.ghosts).eq
 
--- a number of 65 bits, another for each group
+-- A number of 65 bits by which a group is hashed: another for each group.
 abbrev pub spread : Group → ℕ
 spread (Process m) = wide 0 m
 spread (Object p i) = wide 1 (pair p i)

@@ -24,7 +24,7 @@ pub record Named (t : Names) (l : List Name) : Type 0 where
   pub full_are : FullAre t.pages
   pub fits : has_number_past_limit l ≡ false
 
--- how many names can come in without memory
+-- For how many more names there is room without asking for memory.
 abbrev pub index_room : Names → ℕ
 index_room t = min (page_room t.pages) (spare t.numbers)
 

@@ -26,7 +26,7 @@ module _ {S : Type 0} (pages : HashMap NumberKey Page S) where
   abbrev pub object_at : ℕ → ℕ → Option ObjectId
   object_at p i = place_in (page_at p (i / 64)) (i % 64)
 
-  -- the word of a page
+  -- The word that tells by its bits which of the 64 places of p's page w name something.
   abbrev pub used_at : ℕ → ℕ → ℕ
   used_at p w = word_in (page_at p w)
 

@@ -10,14 +10,14 @@ pub record NamesSince (t : NameTable) (base l : List Name) : Type 0 where
   pub listed : Listed t.held l
   pub grows : l ≡ base ++ t.given.items
 
--- nothing was given since
+-- The table stands for these names, and is settled: none of them can be taken back.
 abbrev pub NamesAre : NameTable → List Name → Type 0
 NamesAre t l = NamesSince t l l
 
--- how many names can be given without memory
+-- How many more names can be given without asking for memory.
 unfoldable pub name_room : NameTable → ℕ
 name_room t = min (min (index_room t.names) (group_room t.held)) (vec_capacity t.given - vec_len t.given)
 
--- a change takes room for at most so many
+-- A change takes away room for at most so many names.
 abbrev pub Uses : NameTable → NameTable → ℕ → Type 0
 Uses old new n = name_room old ≤ name_room new + n

@@ -39,7 +39,7 @@ pub record IsCutIn (v : Version) (count : ℕ) (bytes : List ℕ) (r : Record) (
   pub parts : bytes ≡ heading_in v r.seats count ++ flat_map entry_bytes r.entries ++ left
   pub none_left : entry_from v r.seats left ≡ None
 
--- the same in one of the versions
+-- In one of the versions the bytes are a heading with some count, the spelling of each entry, and then bytes that no entry begins.
 abbrev pub IsCut : List ℕ → Record → List ℕ → Type 0
 IsCut bytes r left = (v : Version) × (count : ℕ) × IsCutIn v count bytes r left
 
@@ -52,7 +52,7 @@ abbrev pub IsUnread : List ℕ → ReadError → Type 0
 IsUnread bytes errors.Malformed = (r : Record) → Tells bytes r → ⊥
 IsUnread bytes errors.Memory = HasHeading bytes
 
--- the same of what is whole of a journal that was cut off
+-- Why nothing is read of a journal that was cut off: it has no heading, or memory was refused.
 abbrev pub IsUncut : List ℕ → ReadError → Type 0
 IsUncut bytes errors.Malformed = HasHeading bytes → ⊥
 IsUncut bytes errors.Memory = HasHeading bytes

@@ -6,7 +6,7 @@ use Rattle.bd_keys.specs.contracts.key.WordKeyPartialEq.TheImpl as words
 abbrev pub same_word : WordKey → WordKey → Bool
 same_word = (words.ghosts).eq
 
--- a number of 97 bits, another for each key
+-- A number of 97 bits by whose bits a key is found: another for each key.
 abbrev pub spread : WordKey → ℕ
 spread k = k.word + k.process * (2 ^ 64 + 1)
 

@@ -5,6 +5,6 @@ use Rattle.std.specs.Prelude.{ℕ, ◌+◌, ◌*◌, ◌^◌}
 abbrev pub pair : ℕ → ℕ → ℕ
 pair high low = high * 2 ^ 32 + low
 
--- a number above another of 64 bits, another for each two
+-- A number above another one of 64 bits, as one number: another for each two.
 abbrev pub wide : ℕ → ℕ → ℕ
 wide high low = high * 2 ^ 64 + low

@@ -18,7 +18,7 @@ pub record IsNode (ns : List Node) (n : Node) : Type 0 where
   -- there is a node where a number goes to, three bits further
   pub within : (x : ℕ) → toward n x ≢ 0 → toward n x < length ns
   pub deeper : (x : ℕ) → toward n x ≢ 0 → (node_at ns (toward n x)).bit ≡ n.bit + 3
-  -- and what agrees with this one, and goes on, agrees with that one
+  -- A number that agrees with this node's key up to its bit, and goes on from here, agrees with the child's key up to the child's bit.
   pub agrees : (x : ℕ) → toward n x ≢ 0 → Agree n.bit (spread n.key) x
       → Agree (n.bit + 3) (spread (node_at ns (toward n x)).key) x
 

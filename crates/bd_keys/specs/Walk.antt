@@ -53,6 +53,6 @@ end_of ns k = end_from ns 34 0 k
 abbrev pub hung : List Node → WordKey → List Node
 hung ns k = set ns (end_of ns k) (linked (node_at ns (end_of ns k)) (spread k) (length ns))
 
--- and that node
+-- The node of a new key, whose bit is three further than that of the node it comes under.
 abbrev pub hanging : List Node → WordKey → Node
 hanging ns k = leaf k ((node_at ns (end_of ns k)).bit + 3)

@@ -11,11 +11,11 @@ id_key x = x.id
 abbrev pub own_key : Object → WordKey
 own_key x = record { process = x.owner; word = x.ptr }
 
--- where a process's objects are listed
+-- The group in which the identities of the objects of a process are listed.
 abbrev pub owner_group : ℕ → Group
 owner_group p = groups.Process p
 
--- what is there, if it passes
+-- What an option holds, if that passes the test, and else nothing.
 abbrev pub kept : {A : Type 0} → (A → Bool) → Option A → Option A
 kept q None = None
 kept q (Some x) = cond (q x) (Some x) None

@@ -4,15 +4,15 @@ use Rattle.bd_ways.specs.Words.{ObjectId, Object}
 use Rattle.bd_space.specs.References.{object_in, own_in}
 use Rattle.bd_ways.specs.Local.{is_among}
 
--- no object has its identity, and its owner has none with its ptr
+-- No object of the list has the identity of this one, and its owner has none there with its pointer.
 abbrev pub IsNewIn : List Object → Object → Type 0
 IsNewIn objects x = (object_in objects x.id ≡ None) × (own_in objects x.owner x.ptr ≡ None)
 
--- each is new, beside those before it too
+-- Each of these objects is new, beside the list and beside those before it.
 abbrev pub AreNewIn : List Object → List Object → Type 0
 AreNewIn objects [] = Unit {0}
 AreNewIn objects (x ∷ xs) = IsNewIn objects x × AreNewIn (objects ++ x ∷ []) xs
 
--- what the others list is among these
+-- Each identity of the second list stands in the first, too.
 abbrev pub HasAll : List ObjectId → List ObjectId → Type 0
 HasAll these others = (o : ObjectId) → is_among others o ≡ true → is_among these o ≡ true

@@ -12,6 +12,6 @@ node_room t = min (min (spare t.objects) (word_room t.owns)) (group_room t.owned
 unfoldable pub node_count : NodeTable → ℕ
 node_count t = hash_map_len t.objects
 
--- a change takes room for at most n objects, and adds at most n
+-- A change of the table takes away room for at most n objects, and adds at most n objects.
 abbrev pub Uses : NodeTable → NodeTable → ℕ → Type 0
 Uses = tables.Uses node_room node_count

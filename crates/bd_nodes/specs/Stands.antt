@@ -11,12 +11,12 @@ use Rattle.bd_ways.specs.Identities.{same_id}
 use Rattle.bd_nodes.specs.Keys.{id_key, own_key, owner_group}
 use Rattle.bd_nodes.specs.declared.table.NodeTable.{NodeTable}
 
--- no two have one key
+-- No two elements of the list have one key.
 abbrev pub AreDistinct : {A K : Type 0} → (A → K) → (K → K → Bool) → List A → Type 0
 AreDistinct key eq [] = Unit {0}
 AreDistinct key eq (x ∷ xs) = (find (λ y. eq (key y) (key x)) xs ≡ None) × AreDistinct key eq xs
 
--- at each key a map has what is shown of the first with that key; the map is told by its look
+-- A map, given by what a look at each key finds, has at each key what is shown of the list's first element with that key.
 abbrev pub Finds : {A K V : Type 0} → (K → K → Bool) → (A → K) → (A → V) → (K → Option V) → List A → Type 0
 Finds {K = K} eq key shown m xs = (k : K) → m k ≡ option_map shown (find (λ x. eq (key x) k) xs)
 
@@ -24,7 +24,7 @@ Finds {K = K} eq key shown m xs = (k : K) → m k ≡ option_map shown (find (λ
 abbrev pub IsListed : Groups ObjectId → Object → Type 0
 IsListed g x = HasMember g (owner_group x.owner) x.id
 
--- each object of the map is
+-- Each object of the map is listed among those of its owner.
 abbrev pub Lists : {S : Type 0} → HashMap ObjectId Object S → Groups ObjectId → Type 0
 Lists m g = (k : ObjectId) → IfSome (get same_id m k) (IsListed g)
 
@@ -36,6 +36,6 @@ pub record NodesAre (t : NodeTable) (objects : List Object) : Type 0 where
   pub owns : AreDistinct own_key same_word objects
   pub listed : Lists t.objects t.owned
 
--- the new table stands for what the old one does
+-- The new table stands for every list of objects that the old one stands for.
 abbrev pub IsKept : NodeTable → NodeTable → Type 0
 IsKept old new = (objects : List Object) → NodesAre old objects → NodesAre new objects

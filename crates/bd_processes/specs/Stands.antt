@@ -13,6 +13,6 @@ pub record ProcessesAre (t : ProcessTable) (processes : List Process) : Type 0 w
   pub apart : AllPairs (λ a b. a.pid ≡ b.pid → ⊥) processes
   pub found : (pid : ℕ) → look t.by_pid (pid_key pid) ≡ option_map (λ q. q.made) (process_with_pid processes pid)
 
--- the new table stands for what the old one does
+-- The new table stands for every list of processes that the old one stands for.
 abbrev pub IsKept : ProcessTable → ProcessTable → Type 0
 IsKept old new = (processes : List Process) → ProcessesAre old processes → ProcessesAre new processes

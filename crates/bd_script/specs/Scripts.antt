@@ -18,7 +18,7 @@ use Rattle.bd_script.specs.Requests.{verb_of}
 abbrev pub is_bad : ℕ → Bool
 is_bad b = nat_le 128 b || (b == 9) || (b == 13)
 
--- empty, or a comment
+-- A line does nothing: it is empty, or a comment.
 abbrev pub is_idle : List ℕ → Bool
 is_idle [] = true
 is_idle (b ∷ bs) = b == 35
@@ -52,7 +52,7 @@ pub record Read : Type 0 where
 abbrev pub read : Script → Read
 read script = record { seats = script.seats; lines = script.lines.items }
 
--- with one line more, if it isn't bad
+-- What was read, with one line more, if that line isn't bad.
 unfoldable pub with_line : ℕ → List ℕ → Read → Option Read
 with_line number line so_far =
     if list_any is_bad line then None
@@ -87,7 +87,7 @@ abbrev pub error_at : Trouble → ℕ → ScriptError
 error_at Bad number = error.Line number
 error_at Memory number = error.Memory
 
--- it is what was read, unless memory was refused
+-- The result says what was read, or names the first bad line, unless memory was refused.
 abbrev pub SaysAs : Result Script ScriptError → Result Read ℕ → Type 0
 SaysAs (Ok script) said = said ≡ Ok (read script)
 SaysAs (Err (error.Line number)) said = said ≡ Err number

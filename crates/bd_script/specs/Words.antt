@@ -6,17 +6,17 @@ use Rattle.bd_script.specs.declared.script.Trouble.{Trouble}
 use Rattle.bd_script.specs.declared.script.Trouble.TheVariants.{Bad}
 use Rattle.bd_script.specs.Numbers.{number_of}
 
--- It is read as this, or it is bad where it is none.
+-- The result is the value, or trouble with the words where there is no value.
 abbrev pub ReadsAs : {A : Type 0} → Result A Trouble → Option A → Type 0
 ReadsAs (Ok x) read = read ≡ Some x
 ReadsAs (Err trouble) read = (trouble ≡ Bad) × (read ≡ None)
 
--- The same, where memory may be refused too.
+-- The result is the value, or trouble with the words where there is none, or memory was refused.
 abbrev pub ReadsOrMemory : {A : Type 0} → Result A Trouble → Option A → Type 0
 ReadsOrMemory (Ok x) read = read ≡ Some x
 ReadsOrMemory (Err trouble) read = trouble ≡ Bad → read ≡ None
 
--- the words themselves, behind their references
+-- The bytes of the words, which the code has behind references.
 abbrev pub shown : List (Bor (List ℕ)) → List (List ℕ)
 shown args = map (λ word. word.now) args
 
