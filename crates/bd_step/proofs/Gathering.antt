@@ -221,9 +221,9 @@ module _ (x : Exit) (s : Space) where
           let l = any_found (λ (l : TodoList). is_on l w.0) lists c.1 in
           (has l.0 l.1 w.0 (filter_in (is_on l.0) w.0 s.todo w.1 l.2)).notice o c.0
 
-  frames_left : (seats : List ℕ) (lists : List TodoList) → ((t : ℕ) → In t seats → (f : Frame) → In f s.frames → serves t f.server ≡ true → HasFrame x f.made) → ((l : TodoList) → In l lists → HasList x s l)
+  frame_of_left : (seats : List ℕ) (lists : List TodoList) → ((t : ℕ) → In t seats → (f : Frame) → In f s.frames → serves t f.server ≡ true → HasFrame x f.made) → ((l : TodoList) → In l lists → HasList x s l)
       → (m : ℕ) → left_frames seats lists s m ≡ true → HasFrame x m
-  frames_left seats lists serving has m e =
+  frame_of_left seats lists serving has m e =
       let f = any_found (λ (f : Frame). is_frame m f && is_left_frame seats lists s.todo f) s.frames e in
       let c = both (is_frame m f.0) (is_left_frame seats lists s.todo f.0) f.2 in
       subst (HasFrame x) (eqb-true f.0.made m c.0) (at f.0 f.1 (list_any (λ t. serves t f.0.server) seats) refl c.1)
@@ -246,7 +246,7 @@ module _ (x : Exit) (s : Space) where
     thread_objects o e = left_has (λ (r : Reference). is_lost_reference s.todo (OfThread seat) r) (OfThread seat ∷ []) (λ r l f. lost_has (OfThread seat) h.list r l f) its_list o e
 
     pub thread_frames : (m : ℕ) → frames_left s seat m ≡ true → HasFrame x m
-    thread_frames m e = frames_left (seat ∷ []) (OfThread seat ∷ []) its_seat its_list m e
+    thread_frames m e = frame_of_left (seat ∷ []) (OfThread seat ∷ []) its_seat its_list m e
       where
         its_seat : (t : ℕ) → In t (seat ∷ []) → (f : Frame) → In f s.frames → serves t f.server ≡ true → HasFrame x f.made
         its_seat t (inl is) f l g = h.served f l (ap (λ n. serves n f.server) is ∙ g)
@@ -276,4 +276,4 @@ module _ (x : Exit) (s : Space) where
         at false f t = left_has (lost_with_process s p) (lists_in s p) lost_with its_lists o t
 
     pub process_frames : (m : ℕ) → frames_ended s p m ≡ true → HasFrame x m
-    process_frames m e = frames_left (seats_in s p) (lists_in s p) (λ t i. (h.threads t i).served) its_lists m e
+    process_frames m e = frame_of_left (seats_in s p) (lists_in s p) (λ t i. (h.threads t i).served) its_lists m e
