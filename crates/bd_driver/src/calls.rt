@@ -7,11 +7,12 @@ ghost use Rattle.bd_driver.specs.{declared.view.Pick.TheVariants.{Nothing}, decl
 use crate::boxed::BoxedEngine;
 use crate::driver::Driver;
 use crate::outcome::{Outcome, Why};
-use crate::page::{Page, taken_page};
+use crate::page::{Page, page_while_taken};
 use crate::plays::{Look, Publish, Put, Take};
 use crate::refusals::outcome_of;
 use crate::seat::{Seat, TableSeat};
 use crate::slot::Slot;
+use crate::words::{PAGE, TAKEN};
 use bd_space::Request;
 
 impl Driver {
@@ -53,7 +54,7 @@ impl Driver {
         ensures same { seat.new.table ≡ seat.old.table }
         ensures looks { LooksOnce seat.old.view seat.new.view result }
     {
-        Page::of_word(self.table.shared.load::<Look>(&mut seat.table_seat, 0))
+        Page::of_word(self.table.shared.load::<Look>(&mut seat.table_seat, PAGE))
     }
 
     // The engine, where the take finds bit 0 clear.
@@ -66,11 +67,11 @@ impl Driver {
         ensures takes { Takes (view_of table_seat.old.me.0) table_seat.old.me.1 table_seat.new.me result }
     {
         let shared = &self.table.shared;
-        let word = shared.fetch_or::<Take>(table_seat, 0, 1);
+        let word = shared.fetch_or::<Take>(table_seat, PAGE, TAKEN);
         if word % 2 == 1 {
             return None;
         }
-        match shared.exchange(table_seat, 0, Slot::Empty) {
+        match shared.exchange(table_seat, PAGE, Slot::Empty) {
             Slot::Home(engine) => Some(engine),
             _ => unreachable!(),
         }
@@ -91,9 +92,9 @@ impl Driver {
             table_seat.new.me }
     {
         let shared = &self.table.shared;
-        let page = taken_page(&engine);
-        shared.exchange(table_seat, 0, Slot::Home(engine));
-        shared.swap::<Publish>(table_seat, 0, page);
-        shared.fetch_and::<Put>(table_seat, 0, u64::MAX - 1);
+        let page = page_while_taken(&engine);
+        shared.exchange(table_seat, PAGE, Slot::Home(engine));
+        shared.swap::<Publish>(table_seat, PAGE, page);
+        shared.fetch_and::<Put>(table_seat, PAGE, u64::MAX - TAKEN);
     }
 }

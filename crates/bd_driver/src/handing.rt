@@ -7,6 +7,7 @@ use crate::outcome::{Outcome, Why};
 use crate::plays::{Collect, Post, Withdraw};
 use crate::seat::Seat;
 use crate::slot::Slot;
+use crate::words::{ANSWERED, EMPTY, POSTED};
 use bd_space::Request;
 
 impl Driver {
@@ -27,7 +28,7 @@ impl Driver {
         };
         let posted = Slot::Posted(envelope.filled(request));
         shared.exchange(&mut seat.table_seat, word, posted);
-        shared.swap::<Post>(&mut seat.table_seat, word, 1);
+        shared.swap::<Post>(&mut seat.table_seat, word, POSTED);
     }
 
     /// Takes back what was handed over, if nobody has picked it.
@@ -43,8 +44,8 @@ impl Driver {
     {
         let shared = &self.table.shared;
         let word = seat.number as usize + 1;
-        let found = shared.compare_exchange::<Withdraw>(&mut seat.table_seat, word, 1, 0);
-        if found != 1 {
+        let found = shared.compare_exchange::<Withdraw>(&mut seat.table_seat, word, POSTED, EMPTY);
+        if found != POSTED {
             return Outcome::Handed;
         }
         let Slot::Posted(posted) = shared.exchange(&mut seat.table_seat, word, Slot::Empty) else {
@@ -73,8 +74,8 @@ impl Driver {
     {
         let shared = &self.table.shared;
         let word = seat.number as usize + 1;
-        let found = shared.compare_exchange::<Collect>(&mut seat.table_seat, word, 3, 0);
-        if found != 3 {
+        let found = shared.compare_exchange::<Collect>(&mut seat.table_seat, word, ANSWERED, EMPTY);
+        if found != ANSWERED {
             return Outcome::Handed;
         }
         let Slot::Answered(answered) = shared.exchange(&mut seat.table_seat, word, Slot::Empty)

@@ -19,6 +19,7 @@ mod slot;
 #[cfg(test)]
 mod tests;
 mod view;
+mod words;
 
 pub use desk::Desk;
 pub use driver::Driver;

@@ -6,10 +6,11 @@ ghost use Rattle.bd_driver.specs.declared.slot.Slot.TheVariants.{Home, Empty};
 
 use crate::boxed::{BoxedEngine, Envelope};
 use crate::driver::{Driver, DriverTable};
-use crate::page::taken_page;
+use crate::page::page_while_taken;
 use crate::plays::{Deal, Open};
 use crate::seat::{Seat, TableSeat};
 use crate::slot::Slot;
+use crate::words::TAKEN;
 use atomic_table::Table;
 use bd_uapi::{Fault, MOST_SEATS};
 use std::alloc::{AllocError, Global};
@@ -36,7 +37,7 @@ impl Driver {
         let Ok(engine) = BoxedEngine::for_seats(alloc, seats) else {
             return Err(Fault::NoMemory);
         };
-        let page = taken_page(&engine) - 1;
+        let page = page_while_taken(&engine) - TAKEN;
         let Ok(words) = lay_words(alloc, page, seats as usize) else {
             return Err(Fault::NoMemory);
         };

@@ -31,7 +31,7 @@ impl Page {
 }
 
 /// The word of the page of an engine's history, while the engine is taken.
-pub(crate) fn taken_page(engine: &BoxedEngine) -> u64
+pub(crate) fn page_while_taken(engine: &BoxedEngine) -> u64
     ensures page { result ≡ page_word engine.now.seats 1 engine.now.entries }
     ensures length { length engine.now.entries < 4294967296 }
     ensures bits { ready_of engine.now.seats engine.now.entries < 2147483648 }

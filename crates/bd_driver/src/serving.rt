@@ -7,10 +7,11 @@ ghost use Rattle.bd_driver.specs.declared.slot.Slot.TheVariants.{Empty};
 use crate::boxed::{BoxedEngine, BoxedOutcome, BoxedRequest};
 use crate::driver::Driver;
 use crate::outcome::Served;
-use crate::page::taken_page;
+use crate::page::page_while_taken;
 use crate::plays::{AnswerPick, Pick, PublishFor, Put};
 use crate::seat::{Seat, TableSeat};
 use crate::slot::Slot;
+use crate::words::{ANSWERED, PAGE, PICKED, POSTED, TAKEN};
 
 impl Driver {
     ghost use Rattle.bd_driver.specs.Served.{Serves};
@@ -120,7 +121,7 @@ impl Driver {
     {
         let shared = &self.table.shared;
         let word = number as usize + 1;
-        if shared.compare_exchange::<Pick>(table_seat, word, 1, 2) != 1 {
+        if shared.compare_exchange::<Pick>(table_seat, word, POSTED, PICKED) != POSTED {
             return None;
         }
         match shared.exchange(table_seat, word, Slot::Empty) {
@@ -153,9 +154,9 @@ impl Driver {
     {
         let shared = &self.table.shared;
         let slot = number as usize + 1;
-        let page = taken_page(&engine);
+        let page = page_while_taken(&engine);
         shared.exchange(table_seat, slot, Slot::Home(engine));
-        shared.swap::<PublishFor>(table_seat, 0, page);
+        shared.swap::<PublishFor>(table_seat, PAGE, page);
         match shared.exchange(table_seat, slot, Slot::Empty) {
             Slot::Home(engine) => engine,
             _ => unreachable!(),
@@ -177,7 +178,7 @@ impl Driver {
         let shared = &self.table.shared;
         let word = number as usize + 1;
         shared.exchange(table_seat, word, Slot::Answered(told));
-        shared.swap::<AnswerPick>(table_seat, word, 3);
+        shared.swap::<AnswerPick>(table_seat, word, ANSWERED);
     }
 
     // Puts the engine home with nothing new.
@@ -190,8 +191,8 @@ impl Driver {
             ≡ (put_at (view_of table_seat.old.me.0) word ∷ [], rest table_seat.old.me.1)) }
     {
         let shared = &self.table.shared;
-        shared.exchange(table_seat, 0, Slot::Home(engine));
-        shared.fetch_and::<Put>(table_seat, 0, u64::MAX - 1);
+        shared.exchange(table_seat, PAGE, Slot::Home(engine));
+        shared.fetch_and::<Put>(table_seat, PAGE, u64::MAX - TAKEN);
     }
 }
 

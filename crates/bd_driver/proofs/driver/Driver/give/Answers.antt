@@ -14,7 +14,7 @@ swap-requires c =
     let e = c.args.engine in
     let held = placed c.args.table_seat.now.me c.exchange.new.seat.me (view_of c.args.table_seat.now.me.0) 0 Empty (Home e) (rest c.args.table_seat.now.me.1) r.one r.held c.exchange.ensures.3 in
     let seats = c.requires.engine.seats in
-    let p = c.taken_page-page.ensures in
+    let p = c.page_while_taken-page.ensures in
     let page = p.page ∙ ap (λ (z : ℕ). page_word z 1 e.entries) seats in
     let fits : (length e.entries < 4294967296) × (ready_of (view_of c.args.table_seat.now.me.0).seats e.entries < 2147483648) = (p.length, subst (λ (z : ℕ). ready_of z e.entries < 2147483648) seats p.bits) in
     (search rules, search rules, publishes_at _ _ _ _ (view_of c.args.table_seat.now.me.0) (rest c.args.table_seat.now.me.1) 0 e c.requires.engine.run _ held r.on r.open c.requires.engine.grown c.requires.engine.by_seat page fits)

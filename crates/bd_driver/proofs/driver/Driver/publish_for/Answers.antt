@@ -15,7 +15,7 @@ swap-requires c =
     let v = view_of c.args.table_seat.now.me.0 in
     let held = refill c.args.table_seat.now.me c.exchange.new.seat.me v _ (c.args.number + 1) Empty (Home e) r.held c.exchange.ensures.3 in
     let seats = c.requires.engine.seats in
-    let p = c.taken_page-page.ensures in
+    let p = c.page_while_taken-page.ensures in
     let page = p.page ∙ ap (λ (z : ℕ). page_word z 1 e.entries) seats in
     let fits : (length e.entries < 4294967296) × (ready_of v.seats e.entries < 2147483648) = (p.length, subst (λ (z : ℕ). ready_of z e.entries < 2147483648) seats p.bits) in
     (search rules, search rules, serves_at _ _ _ _ v (rest c.args.table_seat.now.me.1) _ c.args.number e _ held r.on c.requires.engine page fits)
