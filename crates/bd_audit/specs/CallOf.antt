@@ -22,7 +22,7 @@ pub record ClosesByReply (s : Space) (e : Entry) (c : ℕ) : Type 0 where
 abbrev pub is_reply_of : ℕ → Work → Bool
 is_reply_of w x = is_some_and (reply_of x.kind) (λ b. b == w)
 
--- the thread made at m reads, and takes it
+-- The step is a reading of the thread made at m, which takes the Reply that the step at w made.
 pub record TakesReply (s : Space) (e : Entry) (w m : ℕ) : Type 0 where
   pub by : thread_made s e.seat ≡ Some m
   pub taken : list_any (is_reply_of w) (items_taken s e.seat e.step) ≡ true
@@ -36,7 +36,7 @@ pub record IsCallOf (h : History) (s c : ℕ) : Type 0 where
   pub replied : At h.entries reply (λ z e. ClosesByReply z e c)
   pub read : At h.entries s (λ z e. TakesReply z e reply caller)
 
--- it is this call, and no other; or none
+-- The reading at s answers the call that was found, and no other; where none was found it answers none.
 pub record IsAnswerOf (h : History) (s : ℕ) (found : Option ℕ) : Type 0 where
   pub is : (c : ℕ) → found ≡ Some c → IsCallOf h s c
   pub only : (c : ℕ) → IsCallOf h s c → found ≡ Some c

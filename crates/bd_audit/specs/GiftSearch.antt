@@ -43,7 +43,7 @@ abbrev pub HolderGives : List Entry → ℕ → ObjectId → ℕ → ℕ → Typ
 HolderGives es i o p q =
     (before : List Entry) × (e : Entry) × Stands es i before e × Sends (after opening before) i e o p q × (knows_after before p o ≡ true)
 
--- the gift to q there, by this giver; with none a chain begins
+-- At this place q is given the object, by this process, which had a name for it; with None by its owner, or as the manager's.
 abbrev pub GivenBy : List Entry → ℕ → ObjectId → ℕ → Option ℕ → Type 0
 GivenBy es i o q None = OwnerGives es i o q ⊎ ManagerGives es i o q
 GivenBy es i o q (Some p) = HolderGives es i o p q
@@ -55,7 +55,7 @@ IsGift es o g = (g.place < length es) × GivenBy es g.place o g.receiver g.giver
 abbrev pub BeginsAt : List Entry → Entry → ObjectId → ℕ → Type 0
 BeginsAt es e o q = (knows_after es q o ≡ false) × (knows_after (es ++ e ∷ []) q o ≡ true)
 
--- and with this gift
+-- The name of the gift's receiver begins with this entry, which is the gift that is told.
 pub record BeginsWith (es : List Entry) (e : Entry) (o : ObjectId) (g : Gift) : Type 0 where
   pub begins : BeginsAt es e o g.receiver
   pub place : g.place ≡ length es
@@ -68,11 +68,11 @@ pub record IsGiftOf (es : List Entry) (e : Entry) (o : ObjectId) (gift : Option 
 
 -- ---- gifts in the order of their places
 
--- one of them is to q
+-- One of these gifts is to q.
 abbrev pub HasGift : List Gift → ℕ → Type 0
 HasGift gs q = (g : Gift) × In g gs × (g.receiver ≡ q)
 
--- those before are at earlier places, and one of them is to its giver
+-- The gift comes after all of these: they are at earlier places, and one of them is to its giver, if it has one.
 pub record Follows (before : List Gift) (g : Gift) : Type 0 where
   pub later : (h : Gift) → In h before → h.place < g.place
   pub given : IfSome g.giver (HasGift before)
@@ -81,15 +81,15 @@ abbrev pub FollowAfter : List Gift → List Gift → Type 0
 FollowAfter before [] = Unit {0}
 FollowAfter before (g ∷ gs) = Follows before g × FollowAfter (before ++ g ∷ []) gs
 
--- each follows those before it
+-- Each gift of the list follows those before it.
 abbrev pub IsLinked : List Gift → Type 0
 IsLinked gs = FollowAfter [] gs
 
--- gifts of the object in these entries
+-- All of these are gifts of the object in these entries.
 abbrev pub AllGifts : List Entry → ObjectId → List Gift → Type 0
 AllGifts es o gs = (g : Gift) → In g gs → IsGift es o g
 
--- they are linked, with one to each process that has a name for the object after these entries
+-- These gifts of the object are linked, and there is one to each process that has a name for the object after these entries.
 pub record AreGifts (es : List Entry) (o : ObjectId) (gs : List Gift) : Type 0 where
   pub linked : IsLinked gs
   pub gifts : AllGifts es o gs

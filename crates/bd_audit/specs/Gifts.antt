@@ -15,7 +15,7 @@ use Rattle.bd_space.specs.Histories.{History, IsHistory, after, next, space_afte
 abbrev pub is_by : Space → Entry → ℕ → Bool
 is_by s e p = is_some_and (actor s e.seat) (λ a. a.process.made == p)
 
--- the buffer made at this place in q's window carries it
+-- What holds an object is the buffer that the step at this place made in q's window, which carries it.
 abbrev pub is_carried_to : ℕ → ℕ → Holder → Bool
 is_carried_to place q (Carried b r) = (b == place) && (r == q)
 is_carried_to place q _ = false
@@ -33,7 +33,7 @@ pub record Sends (s : Space) (place : ℕ) (e : Entry) (o : ObjectId) (p q : ℕ
   pub has_it : has s (next s e) p o ≡ true
   pub carried : is_sent_to (next s e) o place q ≡ true
 
--- a BC_INCREFS or BC_ACQUIRE of 0
+-- The step asks for a reference by handle 0: BC_INCREFS or BC_ACQUIRE.
 abbrev pub is_asking_0 : Step → Bool
 is_asking_0 (Command (Increfs n) parcel) = n == 0
 is_asking_0 (Command (Acquire n) parcel) = n == 0
@@ -56,17 +56,17 @@ pub record Stands (es : List Entry) (place : ℕ) (before : List Entry) (e : Ent
 abbrev pub Gives : List Entry → ℕ → ObjectId → ℕ → ℕ → Type 0
 Gives es i o p q = (before : List Entry) × (e : Entry) × Stands es i before e × Sends (after opening before) i e o p q
 
--- there its owner gives it to q
+-- At this place the owner of the object gives it to q.
 abbrev pub OwnerGives : List Entry → ℕ → ObjectId → ℕ → Type 0
 OwnerGives es i o q =
     (before : List Entry) × (e : Entry) × (p : ℕ) × Stands es i before e × Sends (after opening before) i e o p q
     × (owned_in (next (after opening before) e).objects p o ≡ true)
 
--- there q asks for it, the context manager's
+-- At this place q asks for the object by handle 0, and it is the context manager's.
 abbrev pub ManagerGives : List Entry → ℕ → ObjectId → ℕ → Type 0
 ManagerGives es i o q = (before : List Entry) × (e : Entry) × Stands es i before e × AsksManager (after opening before) e o q
 
--- from p, which has it, on to q, at places from k on
+-- A chain of gifts from p, which has the object, on to q, at rising places from k on.
 abbrev pub IsChainFrom : List Entry → ObjectId → ℕ → ℕ → List ℕ → ℕ → Type 0
 IsChainFrom es o p k [] q = p ≡ q
 IsChainFrom es o p k (i ∷ is) q = (r : ℕ) × (k ≤ i) × Gives es i o p r × IsChainFrom es o r (i + 1) is q

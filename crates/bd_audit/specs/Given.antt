@@ -13,6 +13,6 @@ abbrev pub IsGivenTo : History → Entry → Given → Type 0
 IsGivenTo h e (Answer a) = a ≡ (step (space_after h) e.seat e.step).answer
 IsGivenTo h e NoStep = e.seat < h.seats → is_at_limit h e.seat (Some e.step) ≡ true
 
--- of the entry at a place, after those before it
+-- The same is given for the entry at a place, after the entries before it, if one stands there.
 abbrev pub IsGivenAt : History → ℕ → Given → Type 0
 IsGivenAt h place given = IfSome (slice_get h.entries place) (λ e. IsGivenTo (beginning place h) e given)

@@ -7,7 +7,7 @@ use Rattle.bd_space.specs.Histories.{History, IsHistory}
 use Rattle.bd_audit.specs.Replies.{reply_taken, At}
 use Rattle.bd_audit.specs.Streams.{SpellsItems, returns_given}
 
--- a BR_REPLY
+-- Whether the return is a BR_REPLY.
 abbrev pub is_reply : Return → Bool
 is_reply (br.Reply x) = true
 is_reply _ = false

@@ -91,12 +91,12 @@ same_event increfs_done increfs_done = true
 same_event acquire_done acquire_done = true
 same_event _ _ = false
 
--- BR_ACQUIRE and BR_RELEASE by turns, n times
+-- BR_ACQUIRE and BR_RELEASE, in turn and n times each.
 abbrev pub by_turns : ℕ → List Event
 by_turns zero = []
 by_turns (suc n) = acquire ∷ release ∷ by_turns n
 
--- all that an owner may be told: BR_INCREFS, those, and then, with none open, BR_DECREFS
+-- All that an owner may be told of an object: BR_INCREFS first, then n times BR_ACQUIRE with its BR_RELEASE, and last BR_DECREFS.
 abbrev pub telling : ℕ → List Event
 telling n = increfs ∷ by_turns n ++ decrefs ∷ []
 
@@ -114,7 +114,7 @@ pub record InOrder (es : List Event) : Type 0 where
   pub before_acquire_done : (front back : List Event) → es ≡ front ++ acquire_done ∷ back → IsAnswered acquire acquire_done false front
   pub before_increfs_done : (front back : List Event) → es ≡ front ++ increfs_done ∷ back → IsAnswered increfs increfs_done false front
 
--- so each owner hears of each object
+-- Of every object in every history, what its owner hears and acknowledges is in this order.
 abbrev pub OwnersHearInOrder : Type 0
 OwnersHearInOrder = (h : History) → IsHistory h → (o : ObjectId) → InOrder (heard_of o h)
 

@@ -6,7 +6,7 @@ use Rattle.bd_journal.specs.{Cut.{IsCut}, Spelling.{Tells}}
 use Rattle.bd_audit.specs.Judging.{HasJudged, IsStop}
 use Rattle.bd_audit.specs.declared.{judge.Judge.{Judge}, journals.Judgment.{Judgment}}
 
--- these entries behind the history
+-- The history with these entries behind its own.
 abbrev pub followed_by : History → List Entry → History
 followed_by h es = history_of h.seats (h.entries ++ es)
 
@@ -14,11 +14,11 @@ followed_by h es = history_of h.seats (h.entries ++ es)
 abbrev pub HasSeenMore : Judge → Judge → List Entry → Type 0
 HasSeenMore old new es = (h : History) → HasJudged old h → HasJudged new (followed_by h es)
 
--- all of them
+-- The judge has seen all entries that were left, none of which was misspelt.
 abbrev pub HasSeenAll : Judge → Judge → Option (List Entry) → Type 0
 HasSeenAll old new left = (es : List Entry) × (left ≡ Some es) × HasSeenMore old new es
 
--- all that is whole, which are so many, and so many bytes are behind them
+-- The judge has seen all entries that are whole; it is told how many they are, and how many bytes are behind them.
 abbrev pub HasSeenWhole : Judge → Judge → List Entry × List ℕ → ℕ → ℕ → Type 0
 HasSeenWhole old new whole entries left = HasSeenMore old new whole.0 × (entries ≡ length whole.0) × (left ≡ length whole.1)
 
@@ -26,10 +26,10 @@ HasSeenWhole old new whole entries left = HasSeenMore old new whole.0 × (entrie
 abbrev pub IsJudgment : Record → Judgment → Type 0
 IsJudgment r j = (j.entries ≡ length r.entries) × IsStop (history_in r) j.stopped
 
--- it is of the record that the bytes spell
+-- The judgment is of the record that the bytes spell.
 abbrev pub JudgesJournal : List ℕ → Judgment → Type 0
 JudgesJournal bytes j = (r : Record) × Tells bytes r × IsJudgment r j
 
--- it is of the entries that are whole in the bytes, and so many bytes are left
+-- The judgment is of the entries that are whole in the bytes, behind which so many bytes are left.
 abbrev pub JudgesCut : List ℕ → Judgment → ℕ → Type 0
 JudgesCut bytes j so_many = (r : Record) × (left : List ℕ) × IsCut bytes r left × IsJudgment r j × (so_many ≡ length left)

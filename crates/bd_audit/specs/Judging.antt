@@ -11,7 +11,7 @@ abbrev pub HasSeen : Live → Option ℕ → History → Type 0
 HasSeen live None h = Follows live h
 HasSeen live (Some at) h = StopsAt h at
 
--- these are the entries that it has seen
+-- The entries that the judge has seen are those of h, and it knows where they stop being a history, or that they are one.
 abbrev pub HasJudged : Judge → History → Type 0
 HasJudged j h = HasSeen j.live j.stopped h
 

@@ -27,7 +27,7 @@ is_answer (work.Reply b) = true
 is_answer (work.Verdict r) = true
 is_answer _ = false
 
--- one that the step at d made
+-- The work item is such an answer, and the step at d made it.
 abbrev pub is_answer_of : ℕ → Work → Bool
 is_answer_of d w = is_answer w.kind && (w.id.place == d)
 

@@ -8,7 +8,7 @@ use Rattle.bd_engine.specs.Why.TheVariants as why
 use Rattle.bd_audit.specs.declared.judging.AuditFault.{AuditFault}
 use Rattle.bd_audit.specs.declared.judging.AuditFault.TheVariants.{Unlawful, NoMemory}
 
--- its first n entries
+-- The first n entries of a history, as one of as many seats.
 abbrev pub beginning : ℕ → History → History
 beginning n h = history_of h.seats (take n h.entries)
 
@@ -36,7 +36,7 @@ abbrev pub fault_of : Why → ℕ → AuditFault
 fault_of why.HistoryFull at = Unlawful at
 fault_of why.NoMemory at = NoMemory
 
--- one entry more
+-- The history with one entry more.
 abbrev pub with_entry : History → Entry → History
 with_entry h e = history_of h.seats (h.entries ++ e ∷ [])
 

@@ -19,7 +19,7 @@ use Rattle.bd_audit.specs.Laws.{space_at}
 
 -- ---- what a step reads
 
--- nothing where it is refused
+-- The items that a reading takes, unless it is refused: then it takes none.
 abbrev pub items_unless : Option Fault → List Work → List Work
 items_unless (Some x) ws = []
 items_unless None ws = ws
@@ -79,7 +79,7 @@ pub record Calls (s : Space) (e : Entry) (m : ℕ) : Type 0 where
 abbrev pub HandsOutCall : ℕ → Space → Entry → Type 0
 HandsOutCall c s e = list_any (λ w. is_call c w.kind) (items_taken s e.seat e.step) ≡ true
 
--- one of the thread made at m
+-- The step is a reading of the thread made at m, to which the call made at c is handed out.
 pub record TakesCall (s : Space) (e : Entry) (c m : ℕ) : Type 0 where
   pub by : thread_made s e.seat ≡ Some m
   pub taken : HandsOutCall c s e
@@ -94,7 +94,7 @@ pub record AnswersCall (s : Space) (e : Entry) (c m : ℕ) : Type 0 where
   pub innermost : frame_of s e ≡ Some c
   pub closes : list_any (is_frame c) (next s e).frames ≡ false
 
--- so is the step at this place, made in the space of those before it
+-- Of the entry at this place, and of the space that those before it lead to, P holds.
 abbrev pub At : List Entry → ℕ → (Space → Entry → Type 0) → Type 0
 At es place P = (before : List Entry) × (e : Entry) × Stands es place before e × P (after opening before) e
 

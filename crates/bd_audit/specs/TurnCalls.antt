@@ -30,7 +30,7 @@ pub record CallsOneWay (s : Space) (e : Entry) (o : ObjectId) : Type 0 where
 abbrev pub has_buffer : Space → ℕ → Bool
 has_buffer s c = list_any (is_made_at c) s.buffers
 
--- it lives before the step, and no more after it
+-- The buffer made at c lives before the step, and no more after it.
 abbrev pub EndsBuffer : ℕ → Space → Entry → Type 0
 EndsBuffer c s e = (has_buffer s c ≡ true) × (has_buffer (next s e) c ≡ false)
 
@@ -63,6 +63,6 @@ TurnsTellOfCalls = (h : History) → IsHistory h → (o : ObjectId)
 abbrev pub IsTakenBefore : Turn → Turn → Type 0
 IsTakenBefore t u = (p : ℕ) → u.handed ≡ Some p → (q : ℕ) × (e : ℕ) × (t.handed ≡ Some q) × (t.ended ≡ Some e) × (q < p) × (e < p)
 
--- so are each two turns of an object
+-- In every history, of each two turns of an object the earlier is taken before the later.
 abbrev pub TurnsAreTaken : Type 0
 TurnsAreTaken = (h : History) → IsHistory h → (o : ObjectId) (ts : List Turn) → AreTurns h.entries o ts → AllPairs IsTakenBefore ts

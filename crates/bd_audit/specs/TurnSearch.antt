@@ -43,7 +43,7 @@ abbrev pub turns_from : ObjectId → Space → List Turn → List Entry → List
 turns_from o s ts [] = ts
 turns_from o s ts (e ∷ es) = turns_from o (next s e) (next_turns o s.steps (next s e).buffers ts) es
 
--- after all steps of a history
+-- The turns of an object after all steps of a history.
 unfoldable pub turns_on : ObjectId → History → List Turn
 turns_on o h = turns_from o opening [] h.entries
 

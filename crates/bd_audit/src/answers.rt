@@ -10,7 +10,7 @@ fn is_same_bytes(a: &Bytes, b: &Bytes) -> bool
     a.as_slice() == b.as_slice()
 }
 
-/// Whether the two answers are equal.
+/// Whether the two answers are equal, byte for byte where they have bytes.
 pub(crate) fn is_same_answer(a: &StepAnswer, b: &StepAnswer) -> bool
     ensures { IsTrue result ↔ (a.now ≡ b.now) }
 {

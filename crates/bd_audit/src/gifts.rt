@@ -17,15 +17,15 @@ use std::alloc::Global;
 /// A gift of an object to a process, by which its name for the object began.
 #[derive(Clone, Copy)]
 pub(crate) struct Gift {
-    /// The process.
+    /// The process that came to the name, by the place of its Open.
     receiver: u32,
-    /// The place of its step.
+    /// The place of the step by which it came to it.
     place: u32,
-    /// The process that gave the object by its own name for it; without one a gift chain begins here.
+    /// The process that gave the object by its own name for it, by the place of its Open; None where a gift chain begins here.
     giver: Option<u32>,
 }
 
-/// What a first replay tells.
+/// What a first replay of the record tells, before the gifts are looked for by a second one.
 #[derive(Drop)]
 pub(crate) struct Received {
     /// The engine after the last step.
@@ -37,9 +37,9 @@ pub(crate) struct Received {
 /// A process, and an object that it has a name for.
 #[derive(Clone, Copy)]
 pub(crate) struct Holder {
-    /// The place of the process's Open.
+    /// The process, by the place of its Open.
     process: u32,
-    /// The object.
+    /// The object that it has a name for.
     object: ObjectId,
 }
 

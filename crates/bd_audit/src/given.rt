@@ -16,9 +16,9 @@ use std::alloc::Global;
 /// What the rules give for the step of an entry, after those before it.
 #[derive(Drop, Debug)]
 pub enum Given {
-    /// This answer.
+    /// The step is made, and this is its answer.
     Answer(StepAnswer),
-    /// No step: there is no such seat, or a history has no place for it.
+    /// No step is made: there is no such seat, or the history has no place for it.
     NoStep,
 }
 

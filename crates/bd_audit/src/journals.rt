@@ -12,10 +12,10 @@ use crate::judging::Watch;
 use bd_journal::{JournalReader, ReadError};
 use std::alloc::Global;
 
-/// What is told of a journal's entries.
+/// What a judgment tells of a journal's entries.
 #[derive(Clone, Copy, Debug, PartialEq, Eq)]
 pub struct Judgment {
-    /// How many they are.
+    /// How many entries the journal has, or how many are whole in one that was cut off.
     pub entries: usize,
     /// The place of the first that doesn't follow from those before, from 0; None where they are a history.
     pub stopped: Option<u32>,

@@ -35,7 +35,7 @@ impl Judge {
         }
     }
 
-    /// Sees the next entry. The only fault is `NoMemory`, and nothing is known of the judge behind it.
+    /// Sees the next entry. The only fault is `NoMemory`, and nothing is known of the judge after it.
     pub fn see(&mut self, entry: &Entry) -> Result<(), Fault>
         ensures seen { IfOk result (λ _. (h : History) → HasJudged self.old h → HasJudged self.new (with_entry h entry.now)) }
         ensures fault { IfErr result (λ f. f ≡ faults.NoMemory) }

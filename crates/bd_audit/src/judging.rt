@@ -15,12 +15,12 @@ use std::alloc::Global;
 /// Why a record isn't accepted.
 #[derive(Clone, Copy, Debug, PartialEq, Eq)]
 pub enum AuditFault {
-    /// At this place is the first entry that doesn't follow from those before.
+    /// The record isn't a history: its first entry that doesn't follow from those before stands at this place.
     Unlawful {
-        /// The place, from 0.
+        /// That entry's place, from 0.
         at: u32,
     },
-    /// Memory ran out.
+    /// Memory was refused before the record was judged.
     NoMemory,
 }
 
@@ -89,13 +89,13 @@ pub(crate) fn accept_live(live: &mut Live, entry: &Entry) -> Result<(), AuditFau
     }
 }
 
-/// Is told how far a judgment is.
+/// Is told how far a judgment is, for whoever waits for a long one.
 pub trait Watch {
-    /// So much of all is done: entries, or bytes where nobody knows how many entries are to come.
+    /// So much of all is done: so many entries, or bytes where nobody knows how many entries are to come.
     fn follow(&mut self, done: usize, all: usize);
 }
 
-/// Wants to know nothing.
+/// A watch that does nothing, for whoever needn't know how far a judgment is.
 #[derive(Clone, Copy, Debug)]
 pub struct Unwatched;
 
@@ -114,7 +114,7 @@ pub fn replay(alloc: Global, record: &Record) -> Result<(), AuditFault>
     replay_watched(alloc, record, &mut Unwatched)
 }
 
-/// The same, and tells how far it is.
+/// Judges a record as `replay` does, and tells how far it is.
 pub fn replay_watched<W: Watch>(
     alloc: Global,
     record: &Record,

@@ -28,7 +28,7 @@ pub struct Turn {
 // The turns of an object's calls so far.
 #[derive(Drop)]
 struct TurnList {
-    // In the order in which the calls were made.
+    // The calls, in the order in which they were made.
     turns: Vec<Turn>,
     // So many have ended, the first ones. Nothing changes them any more.
     ended: usize,

@@ -13,15 +13,15 @@ use Rattle.bd_c.specs.declared.status.Status.TheVariants.{Done}
 abbrev pub IsThere : Option Held → Type 0
 IsThere h = (x : Held) × (h ≡ Some x)
 
--- something of the kind is, of which this is so
+-- What is behind the handle is of this kind, and P holds of it.
 abbrev pub Of : {T : Type 0} → (Held → Option T) → Option Held → (T → Type 0) → Type 0
 Of kind h P = IsSomeAnd h (λ v. IsSomeAnd (kind v) P)
 
--- the same of what is behind it before and after
+-- What is behind the handle is of this kind before and after the call, and P holds of the two.
 abbrev pub Over : {T : Type 0} → (Held → Option T) → Option Held → Option Held → (T → T → Type 0) → Type 0
 Over kind h k P = Of kind h (λ x. Of kind k (P x))
 
--- what was asked for is behind the handle, or nothing, and why
+-- What was asked for is behind the handle; or nothing is, and the status says why.
 abbrev pub IsMade : (Option Held → Type 0) → (Status → Type 0) → Option Held → Status → Type 0
 IsMade IsThis IsRefused h s = ((s ≡ Done) × IsThis h) ⊎ ((h ≡ None) × IsRefused s)
 

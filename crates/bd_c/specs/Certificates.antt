@@ -31,7 +31,7 @@ abbrev pub IsChain : Record → ℕ → ℕ → List ℕ → Type 0
 IsChain r pid number [] = named_by (space_after (history_in r)) pid number ≡ None
 IsChain r pid number places = IsChainOf (history_in r) pid number places
 
--- a place, or the number that none has
+-- The number that C is told for a place: where there is none 4294967295, which no place has.
 abbrev pub place_told : Option ℕ → ℕ
 place_told (Some place) = place
 place_told None = 4294967295

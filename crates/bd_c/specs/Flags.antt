@@ -5,7 +5,7 @@ use Rattle.bd_c.specs.declared.held.Held.{Held}
 use Rattle.bd_c.specs.declared.status.Status.{Status}
 use Rattle.bd_c.specs.declared.status.Status.TheVariants.{NoSuchRequest}
 
--- 0 no, 1 yes; no other number says either
+-- What a switch of C says: 0 is no, 1 is yes, and no other number says either.
 abbrev pub flag_of : ℕ → Option Bool
 flag_of n = if n == 0 then Some false else (if n == 1 then Some true else None)
 

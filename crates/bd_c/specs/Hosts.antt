@@ -18,13 +18,13 @@ pub record Opens (count key : ℕ) (h : Host) : Type 0 where
   pub driver : (arc_value h.keyed).driver.seats ≡ count
   pub seats : h.seats.items ≡ new_seats (arc_value h.keyed).driver.table count 0 count
 
--- the number is out of its limits, or there was no memory
+-- Why no driver was made: the number of seats is out of its limits, or there was no memory.
 abbrev pub IsRefusal : ℕ → Status → Type 0
 IsRefusal count SeatCount = 1 ≤ count → most_seats < count
 IsRefusal count NoMemory = IsSeats count
 IsRefusal count _ = ⊥
 
--- it is the same driver
+-- What is behind the handle is still the same driver.
 abbrev pub SameDriver : Host → Host → Type 0
 SameDriver h k = (k.keyed ≡ h.keyed) × (k.count ≡ h.count)
 
@@ -38,17 +38,17 @@ Hands h k seat =
     SameDriver h k × (h.seats.items ≡ seat.seat ∷ k.seats.items) × (arc_value seat.keyed ≡ arc_value h.keyed) × (seat.latest ≡ None)
     × (is_seat_away k ≡ true)
 
--- nothing is: none was there, or there was no memory
+-- No seat is handed out: none was there, or there was no memory.
 abbrev pub Keeps : Host → Host → Status → Type 0
 Keeps h k NoSeat = (k ≡ h) × (h.seats.items ≡ [])
 Keeps h k NoMemory = k ≡ h
 Keeps h k _ = ⊥
 
--- a seat is there again
+-- The driver has a seat again that was away.
 abbrev pub TakesBack : Host → Host → OwnedSeat → Type 0
 TakesBack h k seat = SameDriver h k × (k.seats.items ≡ h.seats.items ++ seat.seat ∷ [])
 
--- the record is that of the whole history
+-- All seats are there, and the record is the driver's whole history.
 abbrev pub Ends : Host → Record → Type 0
 Ends h r = (vec_len h.seats ≡ h.count)
     × (let d = (arc_value h.keyed).driver in AllSeats d.seats h.seats.items → IsFinal d.seats h.seats.items r.seats r.entries)

@@ -6,11 +6,11 @@ use Rattle.bd_c.specs.declared.host.Host.{Host}
 use Rattle.bd_c.specs.declared.seat.OwnedSeat.{OwnedSeat}
 use Rattle.bd_c.specs.Behind.{Of, driver_of, seat_of}
 
--- the key of a driver
+-- The key that a driver was made with, by which it knows its seats.
 abbrev pub host_key : Host → ℕ
 host_key h = (arc_value h.keyed).key
 
--- the key of a seat's driver
+-- The key of the driver that a seat was taken off.
 abbrev pub seat_key : OwnedSeat → ℕ
 seat_key s = (arc_value s.keyed).key
 

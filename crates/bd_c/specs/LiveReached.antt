@@ -16,11 +16,11 @@ abbrev pub list_told : TodoList → ListTold
 list_told (OfThread seat) = record { kind = 0; number = seat }
 list_told (OfProcess process) = record { kind = 1; number = process }
 
--- any list at all
+-- What is told where any list may have been filled or emptied.
 abbrev pub any_list : ListTold
 any_list = record { kind = 2; number = 0 }
 
--- where these aren't all, that alone is told
+-- How many lists C is told of. Where those that were found aren't all, one is told that stands for any list.
 abbrev pub lists_count : OwnedLive → ℕ
 lists_count x = if x.whole then length x.reached.items else 1
 
@@ -35,8 +35,8 @@ pub record OnlyLists (x y : OwnedLive) : Type 0 where
   pub notes : KeepsNotes x y
   pub follows : (h : History) → Follows x.live h → Follows y.live h
 
--- whatever was told of the lists: where these are all, they are exactly those of which it isn't so any more; and what is so after
--- the history is told from now on
+-- The engine was asked. Where the lists found are all, they are exactly those of which what was told before isn't so any more. From now
+-- on what counts as told is how the lists are after the history.
 pub record HasAsked (x y : OwnedLive) (count : ℕ) : Type 0 where
   pub only : OnlyLists x y
   pub whole : y.whole ≡ knows_all x.live
@@ -45,7 +45,7 @@ pub record HasAsked (x y : OwnedLive) (count : ℕ) : Type 0 where
   pub knows : knows_all y.live ≡ true
   pub count_is : count ≡ lists_count y
 
--- there was no memory: what was told is known still, and the lists of the last time are there still
+-- The engine was asked, and found no memory: what was told is known still, and the lists of the last time are there still.
 pub record HasNotAsked (x y : OwnedLive) : Type 0 where
   pub only : OnlyLists x y
   pub lists : KeepsLists x y

@@ -27,7 +27,7 @@ pub record Begins (seats : ℕ) (x : OwnedLive) : Type 0 where
   pub reached : x.reached.items ≡ []
   pub whole : x.whole ≡ true
 
--- the number is out of its limits, or there was no memory
+-- Why no live engine was made: the number of seats is out of its limits, or there was no memory.
 abbrev pub IsLiveRefusal : ℕ → Status → Type 0
 IsLiveRefusal seats SeatCount = IsLiveSeats seats → ⊥
 IsLiveRefusal seats NoMemory = IsLiveSeats seats
@@ -82,7 +82,7 @@ Steps x y seat z HistoryFull a b = ((h : History) → Follows x.live h → is_at
 Steps x y seat z NoMemory a b = ((h : History) → Follows x.live h → HasPlace h) × Rests x y a b
 Steps x y seat z _ a b = ⊥
 
--- a new live engine is behind the handle, or nothing, and why
+-- A new live engine is behind the handle; or nothing is, and the status says why.
 abbrev pub LiveOpensAt : ℕ → Option Held → Status → Type 0
 LiveOpensAt seats h s = IsMade (λ k. Of live_of k (Begins seats)) (IsLiveRefusal seats) h s
 

@@ -4,6 +4,6 @@ use Rattle.bd_c.specs.declared.held.Held.{Held}
 use Rattle.bd_c.specs.declared.status.Status.TheVariants.{Misuse}
 use Rattle.bd_c.specs.Status.{number_of}
 
--- it is told so, and what is behind the handle stays
+-- The call answers that it was misused, and what is behind the handle stays.
 abbrev pub IsMisuse : ℕ → Option Held → Option Held → Type 0
 IsMisuse n h k = (n ≡ number_of Misuse) × (k ≡ h)

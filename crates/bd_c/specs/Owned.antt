@@ -9,7 +9,7 @@ use Rattle.std_alloc.specs.Box.Ownership.{box_owns}
 use Rattle.bd_c.specs.declared.held.Held.{Held}
 use Rattle.bd_c.specs.contracts.held.Held.{the_row as held_row}
 
--- the right to free a block of the heap, as the allocator has it
+-- The right to free a block of the heap, as the allocator has it.
 abbrev pub chunk : Ty → Ptr → Fml
 chunk type p = ghosts.dealloc_token (record { memory = record { seal = tt } }) type p
 

@@ -27,7 +27,7 @@ notes_of _ = []
 abbrev pub filled : {T : Type 0} → List T → List T → List T
 filled old items = if nat_le (length items) (length old) then items ++ drop (length items) old else old
 
--- it is told how many they are, and what the buffer then has
+-- The answer is how many items there are, and the buffer begins with all of them where they fit.
 abbrev pub Fetches : {T : Type 0} → List T → List T → List T → ℕ → Type 0
 Fetches items old new count = (count ≡ length items) × (new ≡ filled old items)
 

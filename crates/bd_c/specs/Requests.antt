@@ -13,7 +13,8 @@ abbrev pub spam_request : Option Bool → Option Request
 spam_request (Some on) = Some (SetSpam on)
 spam_request None = None
 
--- 1 open, 2 attach, 3 become the manager, 4 write, 5 read, 6 end the thread, 7 end the process, 8 set reports of flooding
+-- The request that C gives: 1 open, 2 attach, 3 become the manager, 4 write, 5 read, 6 end the thread, 7 end the process, 8 set reports
+-- of flooding. None where no kind has the number, or where `on` is neither 0 nor 1.
 abbrev pub request_of : RequestGiven → List ℕ → List ℕ → Option Request
 request_of g stream area =
     if g.kind == 1 then Some (Open g.pid g.euid g.window)

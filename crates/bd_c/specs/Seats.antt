@@ -20,22 +20,22 @@ use Rattle.bd_c.specs.declared.held.Held.{Held}
 use Rattle.bd_c.specs.declared.status.Status.{Status}
 use Rattle.bd_c.specs.declared.status.Status.TheVariants.{Done, NoMemory, NoSuchRequest, Waiting, NotWaiting}
 
--- it is a seat of the same driver
+-- After the call the seat is of the same driver.
 abbrev pub Stays : OwnedSeat → OwnedSeat → Type 0
 Stays x y = (y.keyed ≡ x.keyed) × (y.seat.table ≡ x.seat.table)
 
--- nothing was done
+-- Nothing was done: the seat is as it was, and so is what the caller has for an answer.
 abbrev pub Nothing : OwnedSeat → OwnedSeat → Told → Told → Type 0
 Nothing x y a b = (y ≡ x) × (b ≡ a)
 
--- the outcome is kept, and told
+-- The seat keeps the outcome, and the caller is told it.
 abbrev pub Keeps : OwnedSeat → Outcome → Told → Type 0
 Keeps y o b = (y.latest ≡ Some o) × (b ≡ told_of o)
 
 abbrev pub IsWaiting : OwnedSeat → Bool → Type 0
 IsWaiting x waits = is_waiting x.seat.view.handover ≡ waits
 
--- only a write has bytes that are copied
+-- The request has bytes that the library copies: it is a write.
 abbrev pub HasBytes : Request → Type 0
 HasBytes (Write stream area) = Unit {0}
 HasBytes _ = ⊥
@@ -85,7 +85,7 @@ Collects x y s a b = Fetched handing.Collects x y s a b
 abbrev pub Withdraws : OwnedSeat → OwnedSeat → Status → Told → Told → Type 0
 Withdraws x y s a b = Fetched handing.Withdraws x y s a b
 
--- of the seat behind the handle before and after, which is one of the same driver, this is so
+-- This holds of the seat that is behind the handle before and after the call, which is of the same driver then.
 abbrev pub OverSeat : Option Held → Option Held → (OwnedSeat → OwnedSeat → Type 0) → Type 0
 OverSeat h k P = Over seat_of h k (λ x y. Stays x y × P x y)
 

@@ -89,16 +89,16 @@ work_of_kind w (Cleared cookie) = record (bare_work w 8) { cookie = cookie }
 abbrev pub work_told : Work → WorkTold
 work_told w = work_of_kind w w.kind
 
--- what there is is told, and else nothing is written
+-- What was looked for is told, and the answer says that it is there; or it isn't, and nothing is written.
 abbrev pub Finds : {A : Type 0} → Option A → A → A → Bool → Type 0
 Finds None old new found = (found ≡ false) × (new ≡ old)
 Finds (Some told) old new found = (found ≡ true) × (new ≡ told)
 
--- the same, where what there is is said by what it is
+-- The same, where a statement says what is there, as of a least one, in place of a function that finds it.
 abbrev pub FindsBy : {A : Type 0} → (Option A → Type 0) → A → A → Bool → Type 0
 FindsBy Is old new true = Is (Some new)
 FindsBy Is old new false = Is None × (new ≡ old)
 
--- it is so of the space after each history that the engine follows
+-- P holds of the space after each history that the engine follows.
 abbrev pub InSpace : OwnedLive → (Space → Type 0) → Type 0
 InSpace x P = (h : History) → Follows x.live h → P (space_after h)

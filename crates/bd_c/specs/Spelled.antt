@@ -74,7 +74,7 @@ command_told c size = fields_told c (bare_command (command_code c) size)
 abbrev pub bare_return : ℕ → ℕ → ReturnInC
 bare_return code size = record { code = code; pointer = 0; cookie = 0; transaction = no_transaction; size = size }
 
--- the same of a return
+-- The fields of a return, beside its code and its size.
 abbrev pub return_fields_told : Return → ReturnInC → ReturnInC
 return_fields_told (returned.Transaction t) g = record g { transaction = transaction_told t }
 return_fields_told (returned.Reply t) g = record g { transaction = transaction_told t }

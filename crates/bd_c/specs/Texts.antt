@@ -6,7 +6,7 @@ abbrev pub text_in : List (ℕ × List ℕ) → ℕ → List ℕ
 text_in [] n = []
 text_in (t ∷ rest) n = if n == t.0 then t.1 else text_in rest n
 
--- what came of a call
+-- The texts of statuses, which tell whether a call was made.
 abbrev pub status_texts : List (ℕ × List ℕ)
 status_texts =
     (0, codes "done")
@@ -26,7 +26,7 @@ status_texts =
     ∷ (14, codes "the journal is of no history")
     ∷ []
 
--- F1 to F16
+-- The texts of faults, by their numbers in the rules: F1 to F16.
 abbrev pub fault_texts : List (ℕ × List ℕ)
 fault_texts =
     (1, codes "the command is cut short")
@@ -47,7 +47,7 @@ fault_texts =
     ∷ (16, codes "the number of seats is out of range")
     ∷ []
 
--- X1 to X16
+-- The texts of causes, by their numbers in the rules: X1 to X16.
 abbrev pub cause_texts : List (ℕ × List ℕ)
 cause_texts =
     (1, codes "the handle is not strongly named")
@@ -68,7 +68,7 @@ cause_texts =
     ∷ (16, codes "the caller has ended")
     ∷ []
 
--- N1 to N11
+-- The texts of notes, by their numbers in the rules: N1 to N11.
 abbrev pub note_texts : List (ℕ × List ℕ)
 note_texts =
     (1, codes "no such handle")
@@ -126,7 +126,7 @@ return_texts =
     ∷ (0x00007213, codes "BR_ONEWAY_SPAM_SUSPECT")
     ∷ []
 
--- 1 status, 2 fault, 3 cause, 4 note, 5 command, 6 return
+-- The text of a number of this kind: 1 status, 2 fault, 3 cause, 4 note, 5 command, 6 return.
 abbrev pub text_of : ℕ → ℕ → List ℕ
 text_of kind n =
     if kind == 1 then text_in status_texts n
@@ -137,6 +137,6 @@ text_of kind n =
     else (if kind == 6 then text_in return_texts n
     else [])))))
 
--- 1.0.0, a byte each
+-- The version of the library, 1.0.0, with a byte for each of its numbers.
 abbrev pub version : ℕ
 version = 0x010000

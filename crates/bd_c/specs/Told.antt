@@ -30,7 +30,7 @@ why_number NoMemory = 2
 why_number HistoryFull = 3
 why_number Withdrawn = 4
 
--- with the places of its steps, and nothing else yet
+-- What is told of an answer of this kind, with the places of its steps and nothing else yet.
 abbrev pub placed : ℕ → ℕ → ℕ → Told
 placed kind start end = record { kind = kind; from = start; to = end; consumed = 0; notes = 0; stop = 0; number = 0; why = 0; stream = 0; bytes = 0; offsets = 0 }
 

@@ -41,7 +41,7 @@ TellsNext (Ok (Some x)) w v a b result =
 TellsNext (Ok None) w v a b result = (result ≡ false) × (v ≡ record w { cause = 0 }) × (b ≡ a)
 TellsNext (Err fault) w v a b result = (result ≡ false) × (v ≡ record w { cause = walk_number fault }) × (b ≡ a)
 
--- a fault, of the offset of another index
+-- The same fault, told of the offset of this index.
 abbrev pub with_index : WalkFault → ℕ → WalkFault
 with_index Size i = Size
 with_index (Bad j) i = Bad i
@@ -51,7 +51,8 @@ with_index (Unsupported j) i = Unsupported i
 abbrev pub fault_ahead : List ℕ → List ℕ → WalkInC → Option WalkFault
 fault_ahead bytes offsets w = fault_from bytes w.end w.index (drop w.index (offsets_in offsets))
 
--- behind an object it is the same; at the end there is none; and a refusal is for it, but where the offsets are no whole numbers
+-- What the earliest fault ahead is before and after a walk's step: behind an object it is the same; at the end there is none; and a
+-- refusal is for that fault, unless the offsets are no whole numbers.
 abbrev pub Ahead : Result (Option (FlatObject × ℕ)) WalkFault → Option WalkFault → Option WalkFault → Type 0
 Ahead (Ok (Some x)) here next = here ≡ next
 Ahead (Ok None) here next = here ≡ None
@@ -68,7 +69,7 @@ flat_given g = record { kind = kind_of g.kind; flags = g.flags; binder = g.binde
 abbrev pub kind_found : ℕ → Result ObjectKind WalkFault
 kind_found n = if is_in supported_types n then Ok (kind_of n) else Err (if is_in unsupported_types n then Unsupported 0 else Bad 0)
 
--- why a walk would refuse it there, as the first object of all
+-- Why a walk would refuse this object at its place, if it were the parcel's first.
 abbrev pub fault_given : List ℕ → FlatObjectInC → Option WalkFault
 fault_given bytes g =
     if is_placed bytes 0 g.start then
@@ -76,7 +77,7 @@ fault_given bytes g =
     else Some (if is_in unsupported_types g.kind then Unsupported 0 else Bad 0))
     else Some (Bad 0)
 
--- its 24 bytes stand there, and the answer is 0; or it is the number of the cause, and the bytes are as they were
+-- The object's 24 bytes stand at its place, and the answer is 0; or the answer is the number of a cause, and the bytes are as they were.
 abbrev pub Puts : FlatObjectInC → Option WalkFault → List ℕ → List ℕ → ℕ → Type 0
 Puts g None old new answer = (answer ≡ 0) × (new ≡ take g.start old ++ object_bytes (flat_given g) ++ drop (g.start + 24) old)
 Puts g (Some fault) old new answer = (answer ≡ walk_number fault) × (new ≡ old)

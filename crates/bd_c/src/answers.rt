@@ -27,9 +27,9 @@ pub struct Told {
     pub why: u32,
     /// Of a read, how many bytes of returns there are.
     pub stream: usize,
-    /// How many bytes of data.
+    /// Of a read, how many bytes of data there are.
     pub bytes: usize,
-    /// How many bytes of offsets.
+    /// Of a read, how many bytes of offsets there are.
     pub offsets: usize,
 }
 
@@ -37,7 +37,7 @@ impl Told {
     ghost use Rattle.std.specs.Prelude.{◌≡◌};
     ghost use Rattle.bd_c.specs.Told.{told_of, placed, got_of, refused_of, done_of, told_of_step};
 
-    // With the places of its steps.
+    // What is told of an answer of this kind, with the places of its steps and nothing else yet.
     fn placed(kind: u32, from: u32, to: u32) -> Told
         ensures { result ≡ placed kind from to }
     {
@@ -56,7 +56,7 @@ impl Told {
         }
     }
 
-    // What was read.
+    // What is told of a read: how many bytes it got.
     fn got(stream: &Bytes, bytes: &Bytes, offsets: &Bytes, from: u32, to: u32) -> Told
         ensures { result ≡ got_of stream.now bytes.now offsets.now from to }
     {
@@ -77,7 +77,7 @@ impl Told {
         }
     }
 
-    // What was run.
+    // What is told of a request that was run, whose steps stand at these places.
     fn done(answer: &Answer, from: u32, to: u32) -> Told
         ensures { result ≡ done_of answer.now from to }
     {

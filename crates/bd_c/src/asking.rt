@@ -33,7 +33,7 @@ impl OwnedSeat {
         self.latest = Some(outcome);
     }
 
-    /// The driver's call of a request, whose outcome is kept and told. Nothing is done while a request is handed over.
+    /// Has the driver run a request, and keeps and tells the outcome. Nothing is done while a request is handed over.
     pub(crate) fn call(&mut self, request: Request, told: &mut Told) -> Status
         ensures stays { Stays self.old self.new }
         ensures asks { Asks self.old self.new request result told.old told.new }
@@ -46,7 +46,7 @@ impl OwnedSeat {
         Status::Done
     }
 
-    /// The driver's call of the request that the latest call gave back. Its bytes aren't copied.
+    /// Has the driver run the request that the latest call gave back. Its bytes aren't copied again.
     pub(crate) fn again(&mut self, told: &mut Told) -> Status
         ensures stays { Stays self.old self.new }
         ensures again { AsksAgain self.old self.new result told.old told.new }
@@ -62,7 +62,7 @@ impl OwnedSeat {
         Status::Done
     }
 
-    /// The driver's look.
+    /// Looks at the driver's page, by one load.
     pub(crate) fn look(&mut self) -> Page
         ensures stays { Stays self.old self.new }
         ensures looks { Looks self.old self.new result }
@@ -70,7 +70,7 @@ impl OwnedSeat {
         self.keyed.driver.look(&mut self.seat)
     }
 
-    /// The driver's post.
+    /// Hands a request over, unless one is handed over already.
     pub(crate) fn post(&mut self, request: Request) -> Status
         ensures stays { Stays self.old self.new }
         ensures posts { Posts self.old self.new request result }
@@ -82,7 +82,7 @@ impl OwnedSeat {
         Status::Done
     }
 
-    /// The driver's serve.
+    /// Runs what all seats have handed over.
     pub(crate) fn serve(&mut self) -> Served
         ensures stays { Stays self.old self.new }
         ensures serves { Serves self.old self.new result }
@@ -90,7 +90,7 @@ impl OwnedSeat {
         self.keyed.driver.serve(&mut self.seat)
     }
 
-    /// The driver's collect, whose outcome is kept and told.
+    /// Fetches the answer to what was handed over, and keeps and tells it. Nothing is done while nothing is handed over.
     pub(crate) fn collect(&mut self, told: &mut Told) -> Status
         ensures stays { Stays self.old self.new }
         ensures collects { Collects self.old self.new result told.old told.new }
@@ -103,7 +103,7 @@ impl OwnedSeat {
         Status::Done
     }
 
-    /// The driver's withdraw, whose outcome is kept and told.
+    /// Takes back what was handed over, and keeps and tells the outcome. Nothing is done while nothing is handed over.
     pub(crate) fn withdraw(&mut self, told: &mut Told) -> Status
         ensures stays { Stays self.old self.new }
         ensures withdraws { Withdraws self.old self.new result told.old told.new }

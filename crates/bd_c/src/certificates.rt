@@ -19,11 +19,11 @@ use std::alloc::{AllocError, Global};
 #[repr(C)]
 #[derive(Clone, Copy)]
 pub struct TurnTold {
-    /// The place of its transaction.
+    /// The place of the step that made the call.
     pub made: u32,
-    /// The place where it was read, if it was.
+    /// The place of the step that read it, or 4294967295.
     pub handed: u32,
-    /// The place where its buffer ended, if it did.
+    /// The place of the step by which its buffer ended, or 4294967295.
     pub ended: u32,
 }
 

@@ -4,7 +4,7 @@ ghost use Rattle.bd_c.specs.{declared.held.Held.{Held}, Owned.{coded_held}};
 
 use std::marker::Model;
 
-/// A pointer, and what is behind it.
+/// A handle as C has it: one pointer, which is null where nothing is behind the handle.
 #[repr(C)]
 #[derive(Drop)]
 pub struct Handle {

@@ -4,16 +4,16 @@ use crate::live::OwnedLive;
 use crate::seat::OwnedSeat;
 use bd_space::Record;
 
-/// What is behind a handle.
+/// What is behind a handle: a handle begins with nothing, and goes from one of these to another by the calls made with it.
 #[derive(Drop)]
 pub enum Held {
-    /// A driver.
+    /// A driver that hasn't ended, with those of its seats that are there.
     Driver(Host),
-    /// A seat.
+    /// A seat that was taken off a driver.
     Seat(OwnedSeat),
     /// The history of a driver that has ended.
     History(Record),
-    /// A live engine.
+    /// A live engine, with its latest entry.
     Live(OwnedLive),
     /// Nothing yet, or no longer.
     Nothing,

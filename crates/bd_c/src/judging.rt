@@ -11,7 +11,7 @@ use bd_journal::{ReadError, write_journal};
 use bd_space::Record;
 use std::alloc::Global;
 
-/// What is said of a journal.
+/// What C is told of a journal by its judgment.
 #[repr(C)]
 #[derive(Clone, Copy)]
 pub struct Verdict {

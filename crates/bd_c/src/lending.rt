@@ -26,7 +26,7 @@ impl Handle {
         Some(unsafe { &mut *(self.at as *mut Held) })
     }
 
-    /// The driver.
+    /// The driver that is behind the handle, if one is that hasn't ended.
     pub(crate) fn host(&mut self) -> Option<&mut Host>
         ensures* lends { sem 𝓛 (LendsAs host_row Driver self.entry result) }
         ensures host { MatchOption result (IsDriver self.old.held → ⊥) (λ r. self.old.held ≡ Some (Driver r.now)) }
@@ -37,7 +37,7 @@ impl Handle {
         }
     }
 
-    /// The history of a driver that has ended.
+    /// The history that is behind the handle of a driver that has ended.
     pub(crate) fn history(&mut self) -> Option<&mut Record>
         ensures* lends { sem 𝓛 (LendsAs record_row History self.entry result) }
         ensures history { MatchOption result (IsEnded self.old.held → ⊥) (λ r. self.old.held ≡ Some (History r.now)) }
@@ -48,7 +48,7 @@ impl Handle {
         }
     }
 
-    /// The seat.
+    /// The seat that is behind the handle, if one is.
     pub(crate) fn seat(&mut self) -> Option<&mut OwnedSeat>
         ensures* lends { sem 𝓛 (LendsAs seat_row Seat self.entry result) }
         ensures seat { MatchOption result (IsSeat self.old.held → ⊥) (λ r. self.old.held ≡ Some (Seat r.now)) }
@@ -59,7 +59,7 @@ impl Handle {
         }
     }
 
-    /// The live engine.
+    /// The live engine that is behind the handle, if one is.
     pub(crate) fn engine(&mut self) -> Option<&mut OwnedLive>
         ensures* lends { sem 𝓛 (LendsAs live_row Live self.entry result) }
         ensures engine { MatchOption result (IsLive self.old.held → ⊥) (λ r. self.old.held ≡ Some (Live r.now)) }
@@ -81,7 +81,7 @@ impl Handle {
         }
     }
 
-    /// The key of the driver whose seat is, if a seat is.
+    /// The key of the driver that the seat behind the handle was taken off, if a seat is there.
     #[tactic(auto, using(crate::proofs::Keys::seat_there))]
     pub(crate) fn key_of_seat(&mut self) -> Option<u64>
         ensures same { self.new.held ≡ self.old.held }

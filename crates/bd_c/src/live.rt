@@ -53,7 +53,7 @@ impl OwnedLive {
         }
     }
 
-    /// Makes a step of one of the seats, whose entry is kept, and its answer told.
+    /// Makes a step of a seat that the engine has. Its entry is kept, and its answer told.
     pub(crate) fn make(&mut self, seat: u32, step: Step, told: &mut Told) -> Status
         requires { seat < self.old.live.seats }
         ensures { Steps self.old self.new seat step result told.old told.new }
@@ -71,7 +71,7 @@ impl OwnedLive {
         }
     }
 
-    /// Makes a step, whose entry is kept, and its answer told.
+    /// Makes a step as `make` does, if the engine has the seat.
     pub(crate) fn step(&mut self, seat: u32, step: Step, told: &mut Told) -> Status
         ensures { Steps self.old self.new seat step result told.old told.new }
     {

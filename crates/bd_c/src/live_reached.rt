@@ -14,7 +14,7 @@ use bd_space::TodoList;
 pub struct ListTold {
     /// 0 that of a seat's thread, 1 that of a process, 2 any list at all.
     pub kind: u32,
-    /// The seat, or the place of the process's Open.
+    /// The seat whose thread's list it is, or the process whose list it is, by the place of its Open; 0 of any list.
     pub number: u32,
 }
 

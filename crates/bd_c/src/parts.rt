@@ -12,9 +12,9 @@ use bd_uapi::Note;
 #[repr(C)]
 #[derive(Clone, Copy)]
 pub struct NoteTold {
-    /// Which command of the stream.
+    /// Which command of the stream it was, from 0.
     pub command: u32,
-    /// Why it changed nothing.
+    /// The number of the note that says why it changed nothing, 1 to 11.
     pub number: u32,
 }
 
@@ -54,7 +54,7 @@ pub(crate) fn bytes_of(latest: &Option<Outcome>, part: u32) -> &[u8]
     }
 }
 
-/// The notes of a write.
+/// The notes of a seat's latest call, if it was a write; else none.
 pub(crate) fn notes_of(latest: &Option<Outcome>) -> &[(u32, Note)]
     ensures { result.now ≡ notes_of latest.now }
 {
@@ -80,7 +80,7 @@ pub(crate) fn fill<T: Copy>(out: &mut [T], from: &[T]) -> usize
     count
 }
 
-/// Tells the note at an index, if there is one.
+/// Fills `told` with the note at an index. Answers whether there is one; else `told` stays as it is.
 pub(crate) fn tell_note(notes: &[(u32, Note)], index: usize, told: &mut NoteTold) -> bool
     ensures { TellsNote notes.now index told.old told.new result }
 {

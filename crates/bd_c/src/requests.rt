@@ -14,19 +14,19 @@ pub struct RequestGiven {
     /// 1 open, 2 attach, 3 become the manager, 4 write, 5 read, 6 end the thread, 7 end the process, 8 set reports of
     /// flooding.
     pub kind: u32,
-    /// Of open and attach.
+    /// The pid of the process that is opened or attached to.
     pub pid: u32,
-    /// Of open.
+    /// The effective user id of the process that is opened.
     pub euid: u32,
-    /// Of open.
+    /// The size of the window of the process that is opened, in bytes.
     pub window: u32,
-    /// Of read.
+    /// How many bytes of returns are read at most.
     pub limit: u32,
-    /// Of set reports of flooding: 1 where they are to be, 0 where they are to be no longer.
+    /// Whether flooding is to be reported: 1 where it is, 0 where it isn't any more.
     pub on: u32,
 }
 
-/// The same bytes, in memory of their own.
+/// A copy of the bytes, in memory of its own.
 pub(crate) fn copied(alloc: Global, from: &[u8]) -> Result<Bytes, AllocError>
     ensures { IfOk result (λ b. b ≡ from.now) }
 {
@@ -54,7 +54,7 @@ pub(crate) fn flag_of(on: u32) -> Result<bool, Status>
     }
 }
 
-/// The request that is given so.
+/// The request that C gives by these fields and bytes.
 pub(crate) fn request_of(
     alloc: Global,
     given: &RequestGiven,

@@ -14,7 +14,7 @@ use crate::space_told::{
 };
 use bd_space::{ObjectId, TodoList};
 
-/// The live process that was opened there, by the place of its Open.
+/// Tells the live process that was opened by the step at a place.
 #[unsafe(no_mangle)]
 pub extern "C" fn hullpippin_live_process(
     live: &mut Handle,
@@ -48,7 +48,7 @@ pub extern "C" fn hullpippin_live_process_of_pid(
     }
 }
 
-/// The live thread of a seat.
+/// Tells which live thread a seat has, and of which process.
 #[unsafe(no_mangle)]
 pub extern "C" fn hullpippin_live_thread(
     live: &mut Handle,
@@ -65,7 +65,7 @@ pub extern "C" fn hullpippin_live_thread(
     }
 }
 
-/// The context manager's object.
+/// Tells the identity of the context manager's object, if there is a manager.
 #[unsafe(no_mangle)]
 pub extern "C" fn hullpippin_live_manager_object(live: &mut Handle, told: &mut IdTold) -> bool
     ensures same { live.new.held ≡ live.old.held }
@@ -78,7 +78,7 @@ pub extern "C" fn hullpippin_live_manager_object(live: &mut Handle, told: &mut I
     }
 }
 
-/// An object of the space, by its identity.
+/// Tells an object of the space, by its identity.
 #[unsafe(no_mangle)]
 pub extern "C" fn hullpippin_live_object(
     live: &mut Handle,
@@ -114,7 +114,7 @@ pub extern "C" fn hullpippin_live_named(
     }
 }
 
-/// The live buffer made there.
+/// Tells the live buffer that was made by the step at a place.
 #[unsafe(no_mangle)]
 pub extern "C" fn hullpippin_live_buffer(
     live: &mut Handle,
@@ -202,7 +202,7 @@ pub extern "C" fn hullpippin_live_innermost(
     }
 }
 
-/// The death notification that was asked for there.
+/// Tells the death notification that was asked for by the step at a place.
 #[unsafe(no_mangle)]
 pub extern "C" fn hullpippin_live_death(live: &mut Handle, made: u32, told: &mut DeathTold) -> bool
     ensures same { live.new.held ≡ live.old.held }

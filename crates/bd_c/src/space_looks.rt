@@ -25,7 +25,7 @@ fn unread_at(mut works: Works<'_>, index: usize) -> Option<Work>
 }
 
 impl OwnedLive {
-    /// The live process that was opened there.
+    /// Tells the live process that was opened by the step at a place.
     #[tactic(auto, using(crate::proofs::Looking::finds_some, crate::proofs::Looking::finds_none))]
     pub(crate) fn tell_process(&self, made: u32, told: &mut ProcessTold) -> bool
         ensures { InSpace self.now (λ s. Finds (option_map process_told (process_in s.processes made)) told.old told.new result) }
@@ -39,7 +39,7 @@ impl OwnedLive {
         }
     }
 
-    /// The live thread of a seat.
+    /// Tells the live thread of a seat.
     #[tactic(auto, using(crate::proofs::Looking::finds_some, crate::proofs::Looking::finds_none))]
     pub(crate) fn tell_thread(&self, seat: u32, told: &mut ThreadTold) -> bool
         ensures { InSpace self.now (λ s. Finds (option_map thread_told (thread_in s.threads seat)) told.old told.new result) }
@@ -53,7 +53,7 @@ impl OwnedLive {
         }
     }
 
-    /// The context manager's object.
+    /// Tells the identity of the context manager's object.
     #[tactic(auto, using(crate::proofs::Looking::finds_some, crate::proofs::Looking::finds_none))]
     pub(crate) fn tell_manager(&self, told: &mut IdTold) -> bool
         ensures { InSpace self.now (λ s. Finds (option_map id_told (s.manager)) told.old told.new result) }
@@ -67,7 +67,7 @@ impl OwnedLive {
         }
     }
 
-    /// An object of the space.
+    /// Tells an object of the space, by its identity.
     #[tactic(auto, using(crate::proofs::Looking::finds_some, crate::proofs::Looking::finds_none))]
     pub(crate) fn tell_object(&self, id: ObjectId, told: &mut ObjectTold) -> bool
         ensures { InSpace self.now (λ s. Finds (option_map object_told (object_in s.objects id)) told.old told.new result) }
@@ -95,7 +95,7 @@ impl OwnedLive {
         }
     }
 
-    /// The live buffer made there.
+    /// Tells the live buffer that was made by the step at a place.
     #[tactic(auto, using(crate::proofs::Looking::finds_some, crate::proofs::Looking::finds_none))]
     pub(crate) fn tell_buffer(&self, made: u32, told: &mut BufferTold) -> bool
         ensures { InSpace self.now (λ s. Finds (option_map buffer_told (buffer_in s.buffers made)) told.old told.new result) }
@@ -123,7 +123,7 @@ impl OwnedLive {
         }
     }
 
-    /// The death notification that was asked for there.
+    /// Tells the death notification that was asked for by the step at a place.
     #[tactic(auto, using(crate::proofs::Looking::finds_some, crate::proofs::Looking::finds_none))]
     pub(crate) fn tell_death(&self, made: u32, told: &mut DeathTold) -> bool
         ensures { InSpace self.now (λ s. Finds (option_map death_told (find (is_notification made) s.deaths)) told.old told.new result) }

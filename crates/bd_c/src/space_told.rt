@@ -23,11 +23,11 @@ pub struct IdTold {
 pub struct ProcessTold {
     /// The place of its Open, which is its name.
     pub made: u32,
-    /// Its pid.
+    /// The process's pid, which no other live process has.
     pub pid: u32,
-    /// Its effective user id.
+    /// The process's effective user id, as it was opened with.
     pub euid: u32,
-    /// The size of its window.
+    /// The size of the process's window, in bytes.
     pub window: u32,
     /// Whether it asked for reports of its own one-way flooding.
     pub spam_detection: bool,
@@ -51,9 +51,9 @@ pub struct ThreadTold {
 pub struct ObjectTold {
     /// The process that owns it, live or not.
     pub owner: u32,
-    /// By which its owner knows it.
+    /// The pointer by which its owner knows it.
     pub ptr: u64,
-    /// What its owner gave with it.
+    /// The cookie that its owner gave with it.
     pub cookie: u64,
     /// Whether its owner was told that it is referred to.
     pub told_weak: bool,
@@ -69,13 +69,13 @@ pub struct BufferTold {
     pub receiver: u32,
     /// The process that sent it, live or not.
     pub sender: u32,
-    /// Where it begins in the window.
+    /// Where it begins in the window, in bytes.
     pub start: u32,
-    /// How much of the window it takes.
+    /// How many bytes of the window it takes.
     pub size: u32,
-    /// The code, as written.
+    /// The number of the method that is called, as the sender wrote it.
     pub code: u32,
-    /// The flags, as written.
+    /// The flags, as the sender wrote them.
     pub flags: u32,
     /// The sender's effective user id.
     pub euid: u32,
@@ -87,9 +87,9 @@ pub struct BufferTold {
     pub is_call: bool,
     /// The object that a transaction goes to.
     pub target: IdTold,
-    /// How many bytes of data.
+    /// How many bytes of data the parcel in it has.
     pub bytes: usize,
-    /// How many bytes of offsets.
+    /// How many bytes of offsets the parcel in it has, eight for each object.
     pub offsets: usize,
 }
 
@@ -107,11 +107,11 @@ pub struct FrameTold {
 #[repr(C)]
 #[derive(Clone, Copy)]
 pub struct DeathTold {
-    /// The process that asked for it.
+    /// The process that asked for it, by the place of its Open.
     pub process: u32,
-    /// The object.
+    /// The object whose owner's end is to be told.
     pub object: IdTold,
-    /// What the process gave with it.
+    /// The cookie that the process gave with it.
     pub cookie: u64,
     /// How far it is: 0 the owner lives, 1 it has ended and this is to be read, 2 it was read, 3 it was acknowledged.
     pub phase: u32,
@@ -119,7 +119,7 @@ pub struct DeathTold {
     pub cleared: bool,
 }
 
-/// What is still to be read.
+/// A work item: one thing on a todo list that is still to be read.
 #[repr(C)]
 #[derive(Clone, Copy)]
 pub struct WorkTold {
@@ -130,7 +130,7 @@ pub struct WorkTold {
     /// 1 a notice, 2 a completion, 3 a refusal, 4 a call, 5 a reply, 6 a verdict, 7 a death, 8 a death notification that was
     /// cleared.
     pub kind: u32,
-    /// Of a notice.
+    /// Of a notice, the object that its owner is to be told of.
     pub object: IdTold,
     /// Of a completion: the sender floods the receiver with one-way calls.
     pub spam: bool,
@@ -138,7 +138,7 @@ pub struct WorkTold {
     pub code: u32,
     /// Of a call or a reply the buffer, of a death its notification.
     pub made: u32,
-    /// Of what was cleared.
+    /// Of a death notification that was cleared, its cookie.
     pub cookie: u64,
 }
 
@@ -156,7 +156,7 @@ impl IdTold {
         }
     }
 
-    // Of none.
+    // What is told where there is no object: both numbers are 0, and another field says that there is none.
     fn none() -> IdTold
         ensures { result ≡ no_id }
     {
@@ -220,7 +220,7 @@ impl BufferTold {
     ghost use Rattle.std.specs.Prelude.{◌≡◌};
     ghost use Rattle.bd_c.specs.SpaceTold.{buffer_told, target_told};
 
-    // The object that it goes to, if it goes to one.
+    // The object that a buffer's transaction goes to; of a reply none.
     fn target(target: Option<ObjectId>) -> IdTold
         ensures { result ≡ target_told target }
     {
@@ -292,7 +292,7 @@ impl WorkTold {
         ReturnInC::of(returned, 0).code
     }
 
-    // Of that kind, and nothing else yet.
+    // A work item of this kind and with its identity, and nothing else yet.
     fn bare(work: &Work, kind: u32) -> WorkTold
         ensures { result ≡ bare_work work.now kind }
     {

@@ -12,7 +12,7 @@ pub struct TransactionInC {
     pub target: u64,
     /// The cookie of the receiver's object.
     pub cookie: u64,
-    /// What is asked for.
+    /// The number of the method that is called.
     pub code: u32,
     /// The flags, all 32 bits.
     pub flags: u32,
@@ -20,13 +20,13 @@ pub struct TransactionInC {
     pub sender_pid: i32,
     /// The sender's effective user id, in what is read.
     pub sender_euid: u32,
-    /// How many bytes of data.
+    /// How many bytes of data the parcel has.
     pub data_size: u64,
-    /// How many bytes of offsets.
+    /// How many bytes of offsets the parcel has, eight for each object.
     pub offsets_size: u64,
-    /// Where the data begins.
+    /// Where the data begins: in the sender's area, or the pointer to the buffer in the receiver's window.
     pub buffer: u64,
-    /// Where the offsets begin.
+    /// Where the offsets begin, told as that of the data.
     pub offsets: u64,
 }
 
@@ -34,15 +34,15 @@ pub struct TransactionInC {
 #[repr(C)]
 #[derive(Clone, Copy)]
 pub struct CommandInC {
-    /// Its code.
+    /// The command's code, as the header spells it (`BC_TRANSACTION`, and so on), which says what the other fields are of.
     pub code: u32,
-    /// Of what is about a name, its handle.
+    /// The handle of the name that the command is about.
     pub handle: u32,
-    /// Of BC_FREE_BUFFER the buffer's pointer, of what is acknowledged to an owner its object's ptr.
+    /// Of BC_FREE_BUFFER the buffer's pointer, of what an owner acknowledges its object's ptr.
     pub pointer: u64,
-    /// Of an object or of a death notification.
+    /// The cookie of the object or of the death notification that the command is about.
     pub cookie: u64,
-    /// Of a transaction or reply.
+    /// The record of a transaction or reply.
     pub transaction: TransactionInC,
     /// How many bytes it takes. Not looked at where it is given.
     pub size: usize,
@@ -52,13 +52,13 @@ pub struct CommandInC {
 #[repr(C)]
 #[derive(Clone, Copy)]
 pub struct ReturnInC {
-    /// Its code.
+    /// The return's code, as the header spells it (`BR_TRANSACTION`, and so on), which says what the other fields are of.
     pub code: u32,
-    /// Of what an owner is told, its object's ptr.
+    /// The ptr of the reader's own object that the return is about.
     pub pointer: u64,
-    /// Of an object or of a death notification.
+    /// The cookie of the object or of the death notification that the return is about.
     pub cookie: u64,
-    /// Of a transaction or reply.
+    /// The record of a transaction or reply.
     pub transaction: TransactionInC,
     /// How many bytes it takes. Not looked at where it is given.
     pub size: usize,
@@ -68,7 +68,7 @@ impl TransactionInC {
     ghost use Rattle.std.specs.Prelude.{◌≡◌};
     ghost use Rattle.bd_c.specs.Spelled.{no_transaction, transaction_told, transaction_given};
 
-    // All of it 0.
+    // A record of which every field is 0, for what has none.
     fn none() -> TransactionInC
         ensures { result ≡ no_transaction }
     {
@@ -236,7 +236,7 @@ impl ReturnInC {
     ghost use Rattle.std.specs.Prelude.{◌≡◌};
     ghost use Rattle.bd_c.specs.Spelled.{bare_return, transaction_told, return_told, return_given};
 
-    // The same as of a command.
+    // A code that takes so many bytes with all that belongs to it, and nothing else yet.
     fn bare(code: u32, size: usize) -> ReturnInC
         ensures { result ≡ bare_return code size }
     {
@@ -255,7 +255,7 @@ impl ReturnInC {
         ReturnInC { cookie, ..self }
     }
 
-    // About an object of the reader's.
+    // The return, told to be about this object of the reader's.
     fn with_object(self, pointer: u64, cookie: u64) -> ReturnInC
         ensures { result ≡ record self { pointer = pointer; cookie = cookie } }
     {

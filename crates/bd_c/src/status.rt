@@ -7,7 +7,7 @@ use bd_uapi::Fault;
 /// Whether a call was made, or why nothing was done.
 #[derive(Clone, Copy)]
 pub enum Status {
-    /// It was made.
+    /// The call was made.
     Done,
     /// Memory was refused.
     NoMemory,
@@ -15,19 +15,19 @@ pub enum Status {
     Waiting,
     /// No request of the seat is handed over.
     NotWaiting,
-    /// Another seat has the engine.
+    /// Another seat has the engine, so nothing could be served.
     Taken,
-    /// There is no such request.
+    /// No request is of the kind or has the switch that was given, or no request came back that could be made again.
     NoSuchRequest,
     /// The number of seats is out of its limits.
     SeatCount,
-    /// The driver has no seat left.
+    /// The driver has no seat left that could be taken.
     NoSeat,
-    /// Seats are away.
+    /// The driver can't end, since seats of it are still taken.
     SeatsAway,
     /// The bytes are no journal, or no journal spells the history.
     NoJournal,
-    /// The engine has no such seat.
+    /// The live engine has no seat of the number that was given.
     NoSuchSeat,
     /// The history is full, or a handle past the limit would be needed.
     HistoryFull,

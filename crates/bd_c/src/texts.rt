@@ -14,7 +14,7 @@ use bd_uapi::codes::{
     BR_TRANSACTION_COMPLETE,
 };
 
-// What came of a call.
+// The text of a status, which tells whether a call was made.
 fn status_text(number: u32) -> &'static str
     ensures { result.now ≡ text_in status_texts number }
 {

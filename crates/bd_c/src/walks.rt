@@ -14,9 +14,9 @@ use bd_uapi::{Cause, FlatObject, ObjectKind};
 #[repr(C)]
 #[derive(Clone, Copy)]
 pub struct FlatObjectInC {
-    /// Its type.
+    /// Its type, by the word that begins it (`BINDER_TYPE_BINDER`, and so on).
     pub kind: u32,
-    /// Its flags.
+    /// Its flags, which cross unchanged.
     pub flags: u32,
     /// The ptr of an own object, or a handle in the low 32 bits.
     pub binder: u64,
@@ -89,7 +89,7 @@ impl FlatObjectInC {
         }
     }
 
-    /// Writes the object to its place.
+    /// Writes the object's 24 bytes over those at its place.
     pub(crate) fn put(&self, bytes: &mut [u8]) -> Result<(), WalkFault>
         ensures { MatchResult result
             (λ _. (fault_given bytes.old self.now ≡ None)
@@ -111,7 +111,7 @@ impl FlatObjectInC {
     }
 }
 
-// The fault, of the offset of another index.
+// The same fault, told of the offset of this index.
 fn with_index(fault: WalkFault, index: usize) -> WalkFault
     ensures { result ≡ with_index fault index }
 {
@@ -122,7 +122,7 @@ fn with_index(fault: WalkFault, index: usize) -> WalkFault
     }
 }
 
-// The eight bytes of an offset.
+// The eight bytes of the offset of an index.
 #[tactic(auto, using(crate::proofs::Walking::cut_out))]
 fn offset_of(offsets: &[u8], index: usize) -> &[u8]
     requires { 8 * index + 8 ≤ length offsets.now }

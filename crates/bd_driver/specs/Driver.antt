@@ -24,7 +24,7 @@ pub record LooksOnce (v w : View) (page : Page) : Type 0 where
   pub is_found : (page.stamp ≡ w.looks.found / 4294967296) × (page.ready ≡ w.looks.found / 2 % 2147483648) × (page.taken ≡ (w.looks.found % 2 == 1))
   pub is_page : (page.stamp ≡ length w.seen) × (page.ready ≡ ready_of v.seats w.seen)
 
--- a take, and the engine where it found bit 0 clear
+-- A take was made, and the seat has the engine where that found bit 0 clear.
 pub record Takes (v : View) (xs : List (ℕ × Slot)) (m : Hands) (got : Option History) : Type 0 where
   pub word : ℕ
   pub entries : List Entry
@@ -39,7 +39,7 @@ pub record Follows (v : View) (engine : History) : Type 0 where
   pub grown : engine.entries ≡ v.seen ++ run
   pub by_seat : AllBy v.who run
 
--- a publish, and then a put
+-- A publish was made, and then a put.
 abbrev pub Gives : View → List (ℕ × Slot) → List Entry → Hands → Type 0
 Gives v xs entries m = (first : ℕ) × (second : ℕ) × (m.0 ≡ put_at (published_at v first entries) second ∷ []) × (m.1 ≡ xs)
 
@@ -65,17 +65,17 @@ IsWhy w request NoMemory = (w.takes.found % 2 ≡ 0) × HasPlace (history_of w.s
 IsWhy w request Withdrawn = ⊥
 IsWhy w request HistoryFull = (w.takes.found % 2 ≡ 0) × IsAtLimit (history_of w.seats w.seen) w.who request × HasEntry (history_of w.seats w.seen) w.who request
 
--- it was run, or comes back equal and no own place is new
+-- The request was run, or comes back equal and no own place is new.
 abbrev pub IsOutcome : View → View → Request → Outcome → Type 0
 IsOutcome v w request (Done answer start end) = Stands v w request answer start end
 IsOutcome v w request Handed = ⊥
 IsOutcome v w request (Back back why) = (back ≡ request) × (w.own ≡ v.own) × IsWhy w request why
 
--- one publish and one put more
+-- The seat has made one more publish and one more put.
 abbrev pub GivesOnce : View → View → Type 0
 GivesOnce v w = (w.publishes.count ≡ v.publishes.count + 1) × (w.puts.count ≡ v.puts.count + 1)
 
--- these follow a take that finds the engine, and no other
+-- A publish and a put follow the take exactly where that found the engine.
 abbrev pub PageSteps : View → View → Outcome → Type 0
 PageSteps v w (Back request Taken) = (w.publishes ≡ v.publishes) × (w.puts ≡ v.puts)
 PageSteps v w (Back request NoMemory) = GivesOnce v w

@@ -28,7 +28,7 @@ pub data Mailbox : Type 0 where
   picked : Request → ℕ → ℕ → ℕ → Mailbox
   answered : Request → ℕ → Outcome → Mailbox
 
--- the mailbox's word
+-- The word of a mailbox, by its state.
 abbrev pub mark : Mailbox → ℕ
 mark shut = 0
 mark empty = 0
@@ -85,7 +85,7 @@ IsReason seats entries who r NoMemory = HasPlace (history_of seats entries) × H
 IsReason seats entries who r HistoryFull = IsAtLimit (history_of seats entries) who r × HasEntry (history_of seats entries) who r
 IsReason seats entries who r Withdrawn = ⊥
 
--- so it was of a beginning of the entries that isn't shorter than n
+-- The reason held of a beginning of the entries that isn't shorter than n.
 abbrev pub HadReason : ℕ → List Entry → ℕ → Request → ℕ → Why → Type 0
 HadReason seats entries who r n why = (before : List Entry) × BeginsWith entries before × (n ≤ length before) × IsReason seats before who r why
 

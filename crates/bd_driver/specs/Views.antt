@@ -7,7 +7,7 @@ use Rattle.bd_driver.specs.declared.view.Tally.{Tally}
 use Rattle.bd_driver.specs.declared.view.Handover.TheVariants.{Shut, Open}
 use Rattle.bd_driver.specs.declared.view.Pick.TheVariants.{Nothing}
 
--- its ready seats
+-- The ready seats after a history, bit i for seat i.
 abbrev pub ready_of : ℕ → List Entry → ℕ
 ready_of seats entries = ready_bits (history_of seats entries)
 
@@ -20,7 +20,7 @@ places_from who n (e ∷ es) = cond (e.seat == who) (n ∷ places_from who (n + 
 abbrev pub places_of : ℕ → List Entry → List ℕ
 places_of who entries = places_from who 0 entries
 
--- so many places, from n on
+-- A list of so many places, one after the other from n on.
 abbrev pub places : ℕ → ℕ → List ℕ
 places n zero = []
 places n (suc k) = n ∷ places (n + 1) k
@@ -29,7 +29,7 @@ places n (suc k) = n ∷ places (n + 1) k
 abbrev pub IsPage : ℕ → ℕ → List Entry → Type 0
 IsPage seats word entries = (word / 4294967296 ≡ length entries) × (word / 2 % 2147483648 ≡ ready_of seats entries)
 
--- one more step, which found this word
+-- The tally with one more step, which found this word.
 abbrev pub tick : Tally → ℕ → Tally
 tick t word = record { count = t.count + 1; found = word }
 

@@ -14,7 +14,7 @@ use std::alloc::{AllocError, Global};
 use std::marker::Model;
 use std::mem;
 
-/// The engine in a box, which contracts see as the engine.
+/// The engine behind a pointer, which contracts see as the engine itself.
 #[derive(Drop)]
 pub struct BoxedEngine {
     engine: Box<Engine>,
@@ -29,7 +29,7 @@ impl Model for BoxedEngine {
 }
 
 impl BoxedEngine {
-    /// The engine of an empty history. Errors: memory was refused.
+    /// An engine of so many seats, whose history is empty, in a new box. Errors: memory was refused.
     pub(crate) fn for_seats(alloc: Global, seats: u32) -> Result<BoxedEngine, AllocError>
         requires { IsSeats seats }
         ensures { IfOk result (λ e. e ≡ record { seats = seats; entries = [] }) }
@@ -97,7 +97,7 @@ impl Envelope {
         })
     }
 
-    /// The request, in this box. Takes no memory.
+    /// Puts the request into this box. Takes no memory.
     pub(crate) fn filled(mut self, request: Request) -> BoxedRequest
         ensures { result ≡ request }
     {
@@ -127,7 +127,7 @@ impl BoxedRequest {
         &self.envelope.sheet.request
     }
 
-    /// The request, and the box.
+    /// Takes the request out, and gives the box back beside it.
     pub(crate) fn open(mut self) -> (Request, Envelope)
         ensures { result.0 ≡ self }
     {
@@ -135,7 +135,7 @@ impl BoxedRequest {
         (request, self.envelope)
     }
 
-    /// What came of the request, in the same box. Takes no memory.
+    /// Puts what came of the request into the same box. Takes no memory.
     pub(crate) fn answered(self, ran: Result<Ran, Refused>) -> BoxedOutcome
         ensures { MatchResult ran (λ r. result ≡ Done r.answer r.from r.to) (λ why. result ≡ Back self (reason_of why)) }
     {
@@ -160,7 +160,7 @@ impl Model for BoxedOutcome {
 }
 
 impl BoxedOutcome {
-    /// The outcome, and the box.
+    /// Takes the outcome out, and gives the box back beside it.
     pub(crate) fn open(mut self) -> (Outcome, Envelope)
         ensures { result.0 ≡ self }
     {

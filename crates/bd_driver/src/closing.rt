@@ -10,7 +10,7 @@ use crate::slot::Slot;
 use atomic_table::Closed;
 use std::alloc::Global;
 
-// All views go to the keeper.
+// Hands the views of all seats to the keeper, so that one seat knows what all of them know.
 pub(crate) fn gather(table: &DriverTable, keeper: &mut TableSeat, mut seats: Vec<Seat>)
     requires table { keeper.old.table_id ≡ table.now.shared.table_id }
     requires wide { 0 < table.now.shared.table_id.words }

@@ -54,7 +54,7 @@ impl Driver {
     }
 }
 
-// The page, and an empty mailbox for each seat.
+// The words of the table: the page, and for each seat a mailbox in which nothing lies.
 fn lay_words(alloc: Global, page: u64, seats: usize) -> Result<Vec<u64>, AllocError>
     requires { seats < 32 }
     ensures { IfOk result (λ v. v.items ≡ page ∷ replicate seats 0) }
@@ -67,7 +67,7 @@ fn lay_words(alloc: Global, page: u64, seats: usize) -> Result<Vec<u64>, AllocEr
     Ok(words)
 }
 
-// The engine, and an empty slot for each seat.
+// The slots of the table: the engine's, and an empty one for each seat.
 fn lay_slots(alloc: Global, engine: BoxedEngine, seats: usize) -> Result<Vec<Slot>, AllocError>
     requires { seats < 32 }
     ensures { IfOk result (λ v. v.items ≡ Home engine ∷ replicate seats Empty) }

@@ -5,19 +5,19 @@ use std::collections::LinkedList;
 
 /// The steps of one kind that a seat has made.
 pub struct Tally {
-    /// How many.
+    /// How many such steps the seat has made.
     pub count: u64,
-    /// The word that the latest found.
+    /// The word that the latest of them found on the table.
     pub found: u64,
 }
 
 /// What a seat has handed over.
 pub enum Handover {
-    /// Nothing, and the mailbox's slot is at home: only within `new` and `finish`.
+    /// Nothing is handed over, and the mailbox's slot is with the table: only within `new` and `finish`.
     Shut,
     /// Nothing.
     Open,
-    /// A request, posted when the history that the seat had seen was so long.
+    /// This request is handed over, since the history that the seat had seen was `seen` steps long.
     Waiting { request: Request, seen: u64 },
 }
 
@@ -25,36 +25,36 @@ pub enum Handover {
 pub enum Pick {
     /// Nothing.
     Nothing,
-    /// A request of another seat or its own, and the places that are published for it.
+    /// A request of another seat or its own was picked, and these places are published for it.
     Picked {
-        /// Whose mailbox it was in.
+        /// The seat whose mailbox it was in.
         seat: u32,
-        /// The request.
+        /// The request that was picked.
         request: Request,
         /// How long the history was that its seat had seen when it posted.
         since: u64,
-        /// The first of the places.
+        /// The first place of its entries.
         start: u64,
-        /// How many places.
+        /// How many entries it has.
         count: u64,
     },
 }
 
 /// One answer that a seat has put into a mailbox.
 pub struct Letter {
-    /// Whose mailbox.
+    /// The seat whose mailbox it was put into.
     pub seat: u32,
     /// The request that was picked there.
     pub request: Request,
-    /// The answer.
+    /// What came of that request.
     pub outcome: Outcome,
-    /// How many publishes its seat had then made.
+    /// How many times the seat that answered had published by then.
     pub publishes: u64,
-    /// How long the published history then was.
+    /// How many steps the published history had then.
     pub stamp: u64,
 }
 
-/// The view of a seat.
+/// All that a seat knows: what it has seen of the history, what it holds, and what its steps on the table have found.
 pub struct View {
     /// How many seats the driver has.
     pub seats: u32,
@@ -64,13 +64,13 @@ pub struct View {
     pub seen: LinkedList<Entry>,
     /// The places of its own answered entries.
     pub own: LinkedList<u32>,
-    /// Whether it has the engine.
+    /// Whether it has taken the engine and not yet put it home.
     pub taker: bool,
     /// What it has handed over.
     pub handover: Handover,
     /// What it has picked and not yet answered.
     pub pick: Pick,
-    /// Its steps that took the page.
+    /// Its tries to take the engine, on the page.
     pub takes: Tally,
     /// Its steps that published.
     pub publishes: Tally,
@@ -78,15 +78,15 @@ pub struct View {
     pub puts: Tally,
     /// Its loads of the page.
     pub looks: Tally,
-    /// Its posts.
+    /// Its steps that handed a request over, on its own mailbox.
     pub posts: Tally,
-    /// Its tries to withdraw.
+    /// Its tries to take back what it had handed over, on its own mailbox.
     pub withdraws: Tally,
-    /// Its tries to collect.
+    /// Its tries to fetch the answer to what it had handed over, on its own mailbox.
     pub collects: Tally,
-    /// Its tries to pick, one tally for each mailbox.
+    /// Its tries to pick a request as it served, one tally for each mailbox.
     pub picks: LinkedList<Tally>,
-    /// Its steps that answered.
+    /// Its steps that put an answer into a mailbox as it served.
     pub answered: Tally,
     /// Its loads that opened its own mailbox.
     pub opens: Tally,

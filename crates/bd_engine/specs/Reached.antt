@@ -12,11 +12,11 @@ pub use Rattle.bd_calls.specs.Marks.{is_among, differs}
 abbrev pub has_work : Space → TodoList → Bool
 has_work s list = has_work_in s.todo list
 
--- if this was told of each list, then which lists were filled or emptied since is known still, or that any may have been
+-- If this was told of each list, the engine still knows which lists were filled or emptied since, or that any may have been.
 abbrev pub Recalls : Live → (TodoList → Bool) → Type 0
 Recalls l told = calls.Recalls l.tables.value.calls told
 
--- whatever was told: it is known still
+-- Whatever was told of the lists, the new engine knows as much of it as the old one.
 abbrev pub KeepsTold : Live → Live → Type 0
 KeepsTold old new = (told : TodoList → Bool) → Recalls old told → Recalls new told
 

@@ -6,7 +6,7 @@ use Rattle.bd_space.specs.Histories.{is_ready}
 abbrev pub has_seat : List ℕ → ℕ → Bool
 has_seat seats seat = list_any (λ x. x == seat) seats
 
--- the one is so, and the other isn't
+-- Whether the first is so and the second isn't.
 abbrev pub flipped : Bool → Bool → Bool
 flipped true b = not b
 flipped false b = b

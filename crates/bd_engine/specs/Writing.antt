@@ -35,7 +35,7 @@ ended p going.On = Wrote p.consumed p.notes.items None
 ended p (going.Stops y) = Wrote p.consumed p.notes.items (Some y)
 ended p (going.Refused x) = Refused x
 
--- from here, or not at all, with this answer
+-- How a write goes on: from here, or not at all, with this answer.
 pub data Course : Type 0 where
   GoesOn : Progress → Course
   Ends : Answer → Course
@@ -64,7 +64,7 @@ pub record IsAt (p : Progress) (consumed count : ℕ) (notes : List (ℕ × Note
 abbrev pub stopped : Progress → ℕ → Fault → Answer
 stopped p size x = Wrote (p.consumed + size) p.notes.items (Some (stop.Fault x))
 
--- a step was refused: the first, without a process
+-- The answer to a write whose step at hand was refused: it is refused as a whole if that was its first, and else stops there.
 abbrev pub refused : Progress → ℕ → Fault → Answer
 refused p size x = if p.count == 0 then Refused x else stopped p size x
 
@@ -72,7 +72,7 @@ abbrev pub GoesTo : Course → ℕ → ℕ → List (ℕ × Note) → Type 0
 GoesTo (GoesOn p) consumed count notes = IsAt p consumed count notes
 GoesTo (Ends a) consumed count notes = ⊥
 
--- how it goes on after a command of this size with this answer
+-- How a write goes on after a command of this size, which was answered so.
 abbrev pub IsAfter : Progress → StepAnswer → ℕ → Course → Type 0
 IsAfter p (gave.Stopped x) size r = r ≡ Ends (Wrote (p.consumed + size) p.notes.items (Some (stop.Cause x)))
 IsAfter p (gave.Refused x) size r = r ≡ Ends (refused p size x)
@@ -83,7 +83,7 @@ abbrev pub fault_of : Why → Fault
 fault_of NoMemory = fault.NoMemory
 fault_of HistoryFull = fault.HistoryFull
 
--- how it goes on where a step wasn't taken
+-- How a write goes on whose step wasn't taken, for this reason.
 abbrev pub IsCutAt : Progress → Why → Result Course Why → Type 0
 IsCutAt p why r = r ≡ (if p.count == 0 then Err why else Ok (Ends (stopped p 0 (fault_of why))))
 
@@ -95,11 +95,11 @@ pub record IsTurnedAway (h : History) (seat : ℕ) (request : Request) (why : Wh
 
 -- ---- what was done
 
--- with what was done before
+-- What was written, with what was written before it.
 abbrev pub joined : List Entry → ℕ → List (ℕ × Note) → Written → Written
 joined run consumed notes w = record { entries = run ++ w.entries; consumed = consumed + w.consumed; notes = notes ++ w.notes; stop = w.stop }
 
--- the first of them wasn't refused
+-- The first of these entries, if there is one, wasn't refused.
 abbrev pub IsUnrefused : List Entry → Type 0
 IsUnrefused [] = Unit {0}
 IsUnrefused (e ∷ es) = (w : Written) → wrote w (e ∷ []) ≡ Wrote w.consumed w.notes w.stop

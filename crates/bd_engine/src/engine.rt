@@ -69,7 +69,7 @@ impl Engine {
         }
     }
 
-    /// The same for a number of seats that was tested before. Errors: memory was refused.
+    /// An engine for a number of seats that was tested before. Errors: memory was refused.
     pub fn for_seats(alloc: Global, seats: u32) -> Result<Engine, AllocError>
         requires { IsSeats seats }
         ensures { IfOk result (λ e. e ≡ record { seats = seats; entries = [] }) }
@@ -105,7 +105,7 @@ impl Engine {
         self.wide.seats()
     }
 
-    /// How many steps there were.
+    /// How many steps the history has.
     pub fn len(&self) -> u32
         ensures { result ≡ length self.now.entries }
     {
@@ -129,7 +129,7 @@ impl Engine {
         self.wide.ready()
     }
 
-    /// The history.
+    /// The history of all steps, which the engine gives up.
     pub fn into_record(self) -> Record
         ensures seats { result.seats ≡ self.seats }
         ensures entries { result.entries ≡ self.entries }

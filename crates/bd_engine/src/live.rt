@@ -67,7 +67,7 @@ impl Live {
         self.seats
     }
 
-    /// How many steps there were.
+    /// How many steps were made.
     pub fn len(&self) -> u32
         ensures { (h : History) → Follows self.now h → result ≡ length h.entries }
     {

@@ -5,12 +5,12 @@ ghost use Rattle.bd_step.specs.Stands.{Before};
 
 use bd_step::Tables;
 
-/// Has the tables of a space. No other crate can name it, so none comes to the tables.
+/// What has the tables of a space: an engine, or a live engine. No other crate can name this trait, so none comes to the tables.
 pub trait HasTables {
-    /// It is so of the history: of an engine's own, and of each that a live engine follows.
+    /// A statement about histories holds of the engine's own history, or of each that a live engine follows.
     ghost says: { Self → (History → Type 0) → Type 0 };
 
-    /// What follows for each history is so too.
+    /// What follows from such a statement for each history holds too.
     ghost concludes: { (x : Self) (P Q : History → Type 0) → ((h : History) → P h → Q h) → says x P → says x Q };
 
     /// The tables, which stand for the space after the history.

@@ -18,7 +18,7 @@ use std::alloc::{AllocError, Global};
 use std::marker::Model;
 use std::mem::replace;
 
-/// The most steps that a history has.
+/// The most steps that a history has: places have 32 bits, and one of them is no place.
 const MOST_STEPS: usize = 4294967295;
 
 /// The history of the steps of 1 to 65536 seats, and what it has come to. An `Engine` is one of few seats, which
@@ -86,7 +86,7 @@ impl WideEngine {
         self.live.keep_ready(alloc)
     }
 
-    // What its memory comes from.
+    // The allocator that the engine's memory comes from.
     pub(crate) fn alloc(&self) -> Global {
         *self.entries.allocator()
     }
@@ -100,7 +100,7 @@ impl WideEngine {
         self.live.seats
     }
 
-    /// How many steps there were.
+    /// How many steps the history has.
     pub fn len(&self) -> u32
         ensures { result ≡ length self.now.entries }
     {
@@ -119,7 +119,7 @@ impl WideEngine {
         }
     }
 
-    // No step more has a place. It is asked before any growth is, so that a full history is always told as such.
+    // Whether the history has no place for a further step. It is asked before any growth is, so that a full history is always told as such.
     pub(crate) fn is_full(&self) -> bool
         ensures { result ≡ nat_le most_steps (length self.now.entries) }
     {
@@ -153,7 +153,7 @@ impl WideEngine {
         self.notes = notes;
     }
 
-    /// The history.
+    /// The history of all steps, which the engine gives up.
     pub fn into_record(self) -> Record
         ensures seats { result.seats ≡ self.seats }
         ensures entries { result.entries ≡ self.entries }
@@ -194,8 +194,8 @@ impl WideEngine {
         }
     }
 
-    // The same, with the answer in brief; what was read is written to `again`. The entry stands in the history before the step
-    // is made, so that neither its step nor its answer is moved any more; of a step that is refused it is taken off again.
+    // Makes one step as `step` does, and answers in brief; what was read is written to `again`. The entry stands in the history before
+    // the step is made, so that neither its step nor its answer is moved any more; of a step that is refused it is taken off again.
     pub(crate) fn step_in_place(
         &mut self,
         seat: u32,

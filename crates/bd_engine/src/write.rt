@@ -25,27 +25,27 @@ use std::mem::replace;
 /// How far a write has come.
 #[derive(Drop)]
 pub(crate) struct Progress {
-    /// The bytes of the commands that were run.
+    /// How many bytes of the stream the commands that were run have.
     consumed: u32,
-    /// How many they are.
+    /// How many commands were run.
     count: u32,
-    /// Those that changed nothing, and why.
+    /// The commands that changed nothing, each by its index in the stream, and why.
     notes: Vec<(u32, Note)>,
 }
 
 /// How a write goes on after a command, in a few bytes.
 #[derive(Clone, Copy)]
 pub(crate) enum Going {
-    /// With the next command, if there is one.
+    /// The write goes on with the next command, if there is one.
     On,
-    /// Not at all: it stopped for this reason.
+    /// The write stops here, for this reason; what was run stands.
     Stops(Stop),
-    /// Not at all: it was refused whole.
+    /// The write is refused as a whole, for this reason.
     Refused(Fault),
 }
 
 impl Progress {
-    // Before the first command, with room for notes that has none.
+    // A write before its first command; the notes are empty, and only their room is used.
     fn new(notes: Vec<(u32, Note)>) -> Progress
         requires { notes.items ≡ [] }
         ensures { IsAt result 0 0 [] }

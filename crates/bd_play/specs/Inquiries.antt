@@ -13,7 +13,7 @@ use Rattle.bd_play.specs.Orders.{IsTurns}
 abbrev pub IsNumberAt : Found → List ℕ → ℕ → Type 0
 IsNumberAt found name n = (text : List ℕ) → one_text found name ≡ Some text → IsTurns text → n ≡ digits_value 10 (without_leading_plus text)
 
--- the pid and the handle that were found
+-- The question is the one of a chain, with the pid and the handle that were found.
 abbrev pub AskedBy : Found → Question → Type 0
 AskedBy found (Chain pid handle) = IsNumberAt found (codes "pid") pid × IsNumberAt found (codes "handle") handle
 AskedBy found _ = ⊥
@@ -24,6 +24,6 @@ pub record IsSourceFound (found : Found) (s : Source) : Type 0 where
   pub watched : one_text found (codes "progress") ≡ Some (codes "true") → s.progress ≡ true
   pub unwatched : one_text found (codes "progress") ≡ Some (codes "false") → s.progress ≡ false
 
--- of the journal that was found
+-- The inquiry is about the journal that was found.
 abbrev pub AsksFound : Found → Inquiry → Type 0
 AsksFound found i = IsSourceFound found i.source

@@ -13,7 +13,7 @@ use std::time::Clock;
 /// A journal that is to be mended.
 #[derive(Clone, Copy)]
 pub struct Mend<'a> {
-    /// Its file.
+    /// The name of the journal's file, or the word for standard input.
     pub file: &'a str,
     /// Where the journal of what is whole of it is to stand.
     pub place: &'a str,

@@ -14,10 +14,10 @@ use std::sync::Wait;
 use std::thread::Threads;
 use std::time::Clock;
 
-// Standard input, as a file.
+// The path by which standard input can be compared with other files.
 const INPUT_FILE: &str = "/dev/stdin";
 
-// The file of standard output.
+// The path by which standard output can be compared with other files.
 const OUTPUT_FILE: &str = "/dev/stdout";
 
 // Whether both paths lead to one file, by whatever names.

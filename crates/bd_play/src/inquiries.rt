@@ -14,9 +14,9 @@ use std::alloc::Global;
 /// A question, and the journal that it is about.
 #[derive(Clone, Copy)]
 pub struct Inquiry<'a> {
-    /// The journal.
+    /// The journal that is read for it.
     pub source: Source<'a>,
-    /// What is asked.
+    /// What is asked of its history.
     pub question: Question,
 }
 

@@ -12,7 +12,7 @@ pub struct Output<W: Drop> {
 }
 
 impl<W: Write + Drop> Output<W> {
-    /// Nothing is written yet, and nothing has failed.
+    /// A writer to which nothing was written yet, so that nothing has failed.
     pub fn new(out: W) -> Output<W> {
         Output { out, failed: false }
     }

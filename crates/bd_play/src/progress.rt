@@ -46,7 +46,7 @@ pub struct Progress<'a, H> {
 }
 
 impl<'a, H: Clock + Eprint> Progress<'a, H> {
-    /// Nothing is done yet.
+    /// Progress from now on, with nothing done yet.
     pub fn new(rt: &'a H, what: &'a str) -> Progress<'a, H> {
         Progress {
             rt,

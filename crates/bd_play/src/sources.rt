@@ -34,7 +34,7 @@ pub fn opened<H: Files + Input>(rt: &H, file: &str) -> Result<Either<H::Reader, 
 /// A journal that is to be judged.
 #[derive(Clone, Copy)]
 pub struct Source<'a> {
-    /// Its file.
+    /// The name of the journal's file, or the word for standard input.
     pub file: &'a str,
     /// Whether it is told how far its judgment is.
     pub progress: bool,

@@ -6,7 +6,7 @@ use Rattle.bd_audit.specs.Replies.{call_answered}
 use Rattle.bd_player.specs.declared.questions.Question.{Question}
 use Rattle.bd_player.specs.declared.questions.Question.TheVariants.{Chain, CallOfReply}
 
--- of a chain, whether the process has such a handle; of a reply, whether the reading handed one out
+-- Whether there is what is asked for: of a chain, whether the process has such a handle; of a reply, whether the reading handed one out.
 abbrev pub IsThere : History → Question → Bool → Type 0
 IsThere h (Chain pid handle) b = b ≡ is_some (named_by (space_after h) pid handle)
 IsThere h (CallOfReply place) b = b ≡ is_some (call_answered h place)

@@ -39,11 +39,11 @@ of_cookie c = record nothing { cookie = Some c }
 abbrev pub of_pointer : ℕ → ℕ → Payload
 of_pointer p c = record nothing { ptr = Some p; cookie = Some c }
 
--- what is sent
+-- What a record says of what is sent.
 abbrev pub of_record : TransactionData → Payload
 of_record d = record nothing { code = Some d.code; flags = Some d.flags; data_size = Some d.data_size; offsets_size = Some d.offsets_size }
 
--- and who sent it, and where it lies
+-- What a record says to its receiver: also who sent it, and where it lies.
 abbrev pub of_received : TransactionData → Payload
 of_received d = record (of_record d) { sender_pid = Some d.sender_pid; sender_euid = Some d.sender_euid; buffer = Some d.buffer }
 

@@ -48,11 +48,11 @@ pub record RunsLine {S : Type 0} (seats turns : ℕ) (takes : S → ℕ → Said
   pub told : q.told ≡ p.told ++ (line.number, says) ∷ []
   pub taken : takes p.sink line.number says q.sink
 
--- a line, where a further one may be run; one of no seat is passed over
+-- A line is run, where a further one may be run; a line of a seat that isn't there is passed over.
 abbrev pub Runs : {S : Type 0} → ℕ → ℕ → (S → ℕ → Said → S → Type 0) → (S → Bool) → Play S → Line → Play S → Type 0
 Runs seats turns takes full p line q = GoesOn full p × (((length p.seats ≤ line.seat) × (q ≡ p)) ⊎ RunsLine seats turns takes p line q)
 
--- the same whatever was said before, and whether a further one may be run after it
+-- A line is run so, whatever was said before, and the answer is whether a further one may be run after it.
 abbrev pub RunsOn : {S : Type 0} → ℕ → ℕ → (S → ℕ → Said → S → Type 0) → (S → Bool) → Line → List SeatState → S → List SeatState → S → Bool → Type 0
 RunsOn seats turns takes full line old s new t goes_on =
     (told : List (ℕ × Said)) → GoesOn full (playing old told s)

@@ -25,11 +25,11 @@ abbrev pub IsJudged : Record → Judged → Type 0
 IsJudged r (History h) = (h ≡ r) × IsLiveSeats r.seats × IsHistory (history_in r)
 IsJudged r (judged.Unlawful found at) = (found ≡ r) × IsLiveSeats r.seats × Holds r (Unlawful at)
 
--- that is so of the record that the bytes spell
+-- What is said is of the record that the bytes spell, and holds of it.
 abbrev pub Judges : List ℕ → Judged → Type 0
 Judges bytes j = (r : Record) × Tells bytes r × IsJudged r j
 
--- so it is of the record that the bytes spell, where they are known
+-- Where the bytes are known, what is said is of the record that they spell, and holds of it.
 abbrev pub JudgesKnown : Option (List ℕ) → Judged → Type 0
 JudgesKnown known j = IfSome known (λ bytes. Judges bytes j)
 
@@ -48,7 +48,7 @@ IsUnjudged bytes _ = ⊥
 abbrev pub IsNoJournal : Option (List ℕ) → Type 0
 IsNoJournal known = IfSome known (λ bytes. (r : Record) → Tells bytes r → ⊥)
 
--- where the fault is that they are no journal, that is so
+-- Where the fault is that the bytes are no journal, and they are known, they are none.
 abbrev pub SaysNoJournal : Option (List ℕ) → Fault → Type 0
 SaysNoJournal known f = f ≡ Journal → IsNoJournal known
 
@@ -56,7 +56,7 @@ SaysNoJournal known f = f ≡ Journal → IsNoJournal known
 abbrev pub IsVerdict : List ℕ → Verdict → Type 0
 IsVerdict bytes v = (r : Record) × Tells bytes r × Holds r v
 
--- so it does where the bytes are known
+-- Where the bytes are known, the verdict holds of the record that they spell.
 abbrev pub IsKnownVerdict : Option (List ℕ) → Verdict → Type 0
 IsKnownVerdict known v = IfSome known (λ bytes. IsVerdict bytes v)
 

@@ -26,7 +26,7 @@ pub fn write_journal<W: Write>(history: &Record, out: &mut W) -> bool
     }
 }
 
-// Prints a verdict.
+// Prints a word for the verdict, and the number that belongs to it.
 fn print<W: Write>(verdict: &str, number: usize, out: &mut W, status: u8) -> u8
     ensures { status ≤ result }
 {
@@ -76,7 +76,7 @@ pub fn judged_from<R: Read>(alloc: Global, journal: &mut R) -> Result<Judged, Fa
     judged_watched(alloc, journal, &mut Unwatched)
 }
 
-/// The same, and tells how far it is.
+/// As `judged_from`, and tells how far it is.
 #[tactic(auto, using(crate::proofs::Kept::judges_known, crate::proofs::Unjudged::all_say, crate::proofs::Unjudged::no_journal))]
 pub fn judged_watched<R: Read, P: Watch>(
     alloc: Global,
@@ -122,7 +122,7 @@ fn verdict_from<R: Read, P: Watch>(
     }
 }
 
-/// The same, and tells how far it is.
+/// As `check_journal`, and tells how far it is.
 #[tactic(auto, using(crate::proofs::Kept::judged, crate::proofs::Kept::not_judged))]
 pub fn check_watched<R: Read, P: Watch, W: Write, E: Write>(
     alloc: Global,

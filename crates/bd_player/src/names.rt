@@ -3,7 +3,7 @@
 use bd_space::Step;
 use bd_uapi::{Command, Return};
 
-// A command's name.
+// The name that the header gives the command, as `BC_REPLY`.
 fn command_name(command: &Command) -> &'static str {
     match command {
         Command::Transaction(_) => "BC_TRANSACTION",
@@ -23,7 +23,7 @@ fn command_name(command: &Command) -> &'static str {
     }
 }
 
-/// A return's name.
+/// The name that the header gives the return, as `BR_REPLY`.
 pub(crate) fn return_name(told: &Return) -> &'static str {
     match told {
         Return::Transaction(_) => "BR_TRANSACTION",
@@ -42,7 +42,7 @@ pub(crate) fn return_name(told: &Return) -> &'static str {
     }
 }
 
-/// A step's name.
+/// The name of a step: its command's, or the word by which a script asks for it.
 pub(crate) fn step_name(step: &Step) -> &'static str {
     match step {
         Step::Open { .. } => "open",

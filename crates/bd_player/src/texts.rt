@@ -2,7 +2,7 @@
 
 use std::fmt;
 
-/// A number, or a dash where there is none.
+/// A number, printed as a dash where there is none.
 #[derive(Drop)]
 pub(crate) struct OrDash(pub(crate) Option<u32>);
 

@@ -28,11 +28,11 @@ struct Part {
 /// What a seat's lines said.
 #[derive(Drop)]
 pub struct Told {
-    /// The seat.
+    /// The seat, which its thread gives back.
     pub seat: Seat,
     /// The lines' numbers, each with what it said, in their order.
     pub said: Vec<(u64, Said)>,
-    /// Whether memory was refused to what the last said.
+    /// Whether what the last line said found no memory.
     pub starved: bool,
 }
 

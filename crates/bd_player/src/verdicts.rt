@@ -17,10 +17,10 @@ use std::alloc::Global;
 pub enum Verdict {
     /// Its entries are a history.
     Lawful {
-        /// How many they are.
+        /// How many entries it has.
         entries: usize,
     },
-    /// They aren't.
+    /// Its entries aren't a history.
     Unlawful {
         /// The place of the first entry that doesn't follow from those before, from 0.
         at: u32,
@@ -32,9 +32,9 @@ pub enum Verdict {
 pub enum Judged {
     /// Its entries are a history.
     History(Record),
-    /// They aren't.
+    /// Its entries aren't a history.
     Unlawful {
-        /// The record.
+        /// The record with all entries, also those from that place on.
         record: Record,
         /// The place of the first entry that doesn't follow from those before, from 0.
         at: u32,

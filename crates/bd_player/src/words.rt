@@ -201,7 +201,7 @@ pub(crate) struct Word {
 }
 
 impl Word {
-    /// A step.
+    /// The name of a step, and what it has.
     pub(crate) fn of_step(step: &Step) -> Word
         ensures { result.payload ≡ spec.of_step step.now }
     {
@@ -211,7 +211,7 @@ impl Word {
         }
     }
 
-    /// A return.
+    /// The name of a return, and what it has.
     pub(crate) fn of_return(told: &Return) -> Word
         ensures { result.payload ≡ spec.of_return told.now }
     {
@@ -240,7 +240,7 @@ impl fmt::Display for FlagsText {
     }
 }
 
-// Prints a member, if there is a value for it.
+// Prints a member by its name and value, behind a space; nothing where it has no value.
 fn print_member<T: fmt::Display + Copy, W: fmt::Write>(
     name: &str,
     member: Option<T>,

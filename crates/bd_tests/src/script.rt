@@ -9,7 +9,7 @@ use bitflags::Flags;
 use std::alloc::Global;
 use std::test::Fail;
 
-// The most bytes in hex, and the most offsets.
+// The most bytes that a word of hex spells, and below it the most offsets that a word has.
 const MOST_BYTES: usize = 4_194_304;
 
 const MOST_OFFSETS: usize = 524_288;

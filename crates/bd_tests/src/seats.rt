@@ -112,7 +112,7 @@ fn work_all(
     Ok(parts)
 }
 
-// What each counted.
+// How many requests were run of each seat, as its thread counted them.
 fn counts_of(alloc: Global, parts: &[Part]) -> Result<Vec<u32>, AllocError> {
     let mut counts = Vec::new(alloc);
     for part in parts {
@@ -121,7 +121,7 @@ fn counts_of(alloc: Global, parts: &[Part]) -> Result<Vec<u32>, AllocError> {
     Ok(counts)
 }
 
-// Their seats.
+// The seats, which the threads give back.
 fn seats_of(alloc: Global, driver: &Driver, parts: Vec<Part>) -> Result<Vec<Seat>, AllocError>
     requires { All (λ p. p.seat.table ≡ driver.now.table) parts.items }
     ensures { IfOk result (λ v. All (λ s. s.table ≡ driver.now.table) v.items) }
