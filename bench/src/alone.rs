@@ -5,28 +5,28 @@ use crate::sharing::Hand;
 use crate::steps::Ask;
 use std::ffi::c_void;
 
-/// Whether there is one.
+/// Whether there is an engine beside ours.
 pub const IS_THERE: bool = false;
 
 const NOBODY: &str = "there is no engine beside";
 
-/// Nobody.
+/// Stands for an engine beside that is asked by requests; none of it is ever made.
 pub struct ByRequests;
 
-/// Nobody.
+/// Stands for an engine beside that is asked by steps.
 pub type BySteps = ByRequests;
 
-/// Nobody.
+/// Stands for an engine beside that keeps its answers.
 pub type Kept = ByRequests;
 
-/// Nobody's requests.
+/// The name under which a tool would find the requests of an engine beside.
 pub const ASKS: &str = NOBODY;
 
 pub fn asks() -> *const c_void {
     std::ptr::null()
 }
 
-/// Nobody's seat.
+/// Stands for a seat of an engine beside, behind a mutex.
 pub struct ByMutex;
 
 impl Engine for ByRequests {
@@ -73,7 +73,7 @@ impl Hand for ByMutex {
     }
 }
 
-/// Nobody says otherwise.
+/// What the engine beside says of a journal: there is none that could disagree.
 pub fn is_lawful(_: &[u8]) -> bool {
     true
 }

@@ -13,7 +13,7 @@ use std::marker::PhantomData;
 use std::sync::atomic::{AtomicU32, Ordering};
 use std::sync::{Arc, Mutex};
 
-/// Whether there is one.
+/// Whether there is an engine beside ours.
 pub const IS_THERE: bool = true;
 
 type Inner = engine::Engine<VecHist>;
@@ -28,10 +28,10 @@ pub trait Asking {
     fn ask(engine: &mut Inner, seat: u32, form: &Self::Form, buffer: u64) -> Told;
 }
 
-/// As ours is.
+/// The engine is asked as ours is: by requests, whose bytes it copies.
 pub struct Requests;
 
-/// With steps that were made ahead.
+/// The engine is asked with steps that were made ahead.
 pub struct Steps;
 
 pub type ByRequests = Beside<Requests>;

@@ -13,7 +13,7 @@ pub enum Told {
     Got { size: usize, buffer: Option<u64> },
     /// Another seat has the engine.
     Taken,
-    /// What no workload wants.
+    /// Any other answer, which no workload wants, in words.
     Otherwise(String),
 }
 
@@ -124,13 +124,13 @@ pub struct Library {
 }
 
 impl Library {
-    /// Lends all seats out.
+    /// Lends all seats to the work, which gives them back with the steps that it made and the seconds that it took.
     pub fn in_hands(self, work: impl FnOnce(Vec<Seat>) -> (Vec<Seat>, u64, f64)) -> (Library, u64, f64) {
         let (seats, steps, seconds) = work(self.seats);
         (Library { driver: self.driver, seats }, steps, seconds)
     }
 
-    /// Gives the seats back.
+    /// Gives the seats back to the driver and ends it.
     pub fn finish(self) -> History {
         let Library { mut driver, seats } = self;
         seats.into_iter().for_each(|seat| driver.return_seat(seat).expect("a seat of the driver's"));

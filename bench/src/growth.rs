@@ -6,7 +6,7 @@ use crate::workloads::{
     CALL, COMPLETE, COMPLETE_AND_CALL, LARGE_WINDOW, TWO_NOTICES, TWO_NOTICES_AND_COMPLETE, two_processes,
 };
 
-/// A body.
+/// A list of requests that is played on a grown engine and timed.
 pub struct Body {
     pub name: &'static str,
     /// What is played once before it.
@@ -24,7 +24,7 @@ pub struct Growth {
     pub bodies: Vec<Body>,
 }
 
-/// What grows.
+/// A thing of which there are more and more, and how an engine with n of it is made.
 pub struct Kind {
     /// The name of its journal for ten of it.
     pub journal: &'static str,
@@ -33,7 +33,7 @@ pub struct Kind {
     pub sizes: &'static [u32],
 }
 
-/// All that grows.
+/// All things that the bench lets grow.
 pub const KINDS: [Kind; 4] = [
     Kind { journal: "w5_names_10", make: names, sizes: &[100, 1000, 10_000, 100_000] },
     Kind { journal: "w5_buffers_10", make: buffers, sizes: &[100, 1000, 10_000] },

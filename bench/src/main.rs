@@ -97,7 +97,7 @@ fn measured(settings: &Settings, journals: usize) -> Result<(), String> {
 const CAPTION: &str =
     "Nanoseconds a step against n: Hullpippin (lines) and an ordinary engine of the same rules (dashes)";
 
-/// Each part once.
+/// Measures each part that is wanted once.
 fn once(settings: &Settings, run: usize, table: &mut Table) {
     let steps = settings.steps();
     if settings.wants(WORKLOADS) {

@@ -24,11 +24,11 @@ pub struct Settings {
 /// Whose engine is counted, and how it is asked.
 #[derive(Clone, Copy, PartialEq, Eq)]
 pub enum Counts {
-    /// Ours, by calls.
+    /// Our engine is counted, asked by calls.
     Ours,
-    /// Ours, by requests that are handed over.
+    /// Our engine is counted, asked by requests that are handed over.
     Handed,
-    /// The engine beside.
+    /// The engine beside is counted.
     Beside,
 }
 
@@ -53,7 +53,7 @@ impl Counted {
 }
 
 impl Settings {
-    /// None where a word isn't known.
+    /// What the words of the command line say; None where a word isn't known.
     pub fn read(mut words: impl Iterator<Item = String>) -> Option<Settings> {
         let only = String::new();
         let mut found = Settings { quick: false, runs: 0, only, check: false, picture: None, counted: None };
@@ -95,7 +95,7 @@ pub fn load() -> String {
     text.split(' ').next().unwrap_or("unknown").to_owned()
 }
 
-/// The processor.
+/// How many cores the machine has, and what its processor is called.
 pub fn machine() -> String {
     let cores = thread::available_parallelism().map_or(0, usize::from);
     let text = fs::read_to_string("/proc/cpuinfo").unwrap_or_default();
@@ -103,7 +103,7 @@ pub fn machine() -> String {
     format!("{cores} cores, {}", model.trim_start_matches([' ', '\t', ':']))
 }
 
-/// The day.
+/// The date of today, for the heading of a table.
 pub fn today() -> String {
     let done = Command::new("date").arg("+%F").output();
     done.map_or_else(|_| "?".into(), |it| String::from_utf8_lossy(&it.stdout).trim().to_owned())

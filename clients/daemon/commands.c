@@ -28,7 +28,7 @@ struct free_command {
     binder_uintptr_t buffer;
 } __attribute__((packed));
 
-/* A write that runs. */
+/* A write whose commands are being run, and for whom. */
 struct run {
     struct thread *thread;
     struct engine *engine;

@@ -37,10 +37,10 @@
 /* A handle that nobody has. */
 #define NO_HANDLE UINT32_MAX
 
-/* No seat is lent. */
+/* Stands where a seat would for a thread that no seat is lent to. */
 #define NO_SEAT UINT32_MAX
 
-/* Known further down. */
+/* These are told of below, and pointed at before. */
 struct process;
 struct thread;
 struct device;
@@ -101,7 +101,7 @@ struct user {
 struct client {
     struct queuer queuer;
     struct list in_bucket;
-    struct list watches; /* that want a turn */
+    struct list watches; /* those of it that want a turn */
     struct user *user;
     pid_t pid;
     uint32_t references;
@@ -118,7 +118,7 @@ struct turns {
     uint32_t steps;          /* that were made in this turn */
     uint64_t count;          /* of the turns that were given */
     uint64_t longest_wait;   /* .. of them to others while one client wanted its own */
-    uint32_t longest_turn;   /* in steps */
+    uint32_t longest_turn;   /* how many steps were made in the longest turn of all */
 };
 
 struct watch;
@@ -128,9 +128,9 @@ void turns_end(struct turns *turns);
 /* The client of a user's process, which is the caller's until it is let go of. NULL where there is no memory. */
 struct client *client_hold(struct turns *turns, uid_t uid, pid_t pid);
 void client_release(struct client *client);
-/* The watch gets a turn. */
+/* The watch wants a turn, and comes to have it behind those that wanted one before. */
 void turns_want(struct turns *turns, struct watch *watch);
-/* It gets none. */
+/* The watch wants no turn any more. */
 void turns_want_none(struct watch *watch);
 /* The watch gets its turns among those for ends from now on: however many end at once, others wait for one at a time. */
 void turns_want_end(struct turns *turns, struct watch *watch);
@@ -138,7 +138,7 @@ bool turns_are_ending(const struct turns *turns, const struct watch *watch);
 bool turns_are_wanted(const struct turns *turns);
 /* Gives the next turn; there has to be one that wants it. */
 void turns_give(struct turns *turns);
-/* A step was made in this turn. */
+/* Counts a step that was made in this turn. */
 static inline void turns_count_step(struct turns *turns)
 {
     turns->steps++;
@@ -310,7 +310,7 @@ struct ticket {
 
 /* Those of the parcels that are on their way. */
 struct tickets {
-    struct list lists[TICKET_LISTS]; /* by step */
+    struct list lists[TICKET_LISTS]; /* by the place of the step that sends the parcel */
     uint32_t count;
     uint32_t *ended; /* room for the buffers that a step ends */
 };
@@ -322,7 +322,7 @@ void tickets_end(struct tickets *tickets);
 struct ticket *ticket_new(struct process *process, const int *fds, uint32_t count);
 /* Closes the descriptors. Nothing may be given to it. */
 void ticket_free(struct ticket *ticket);
-/* The step was made. */
+/* Keeps a ticket whose step was made, until its parcel is read or has ended. */
 void ticket_keep(struct tickets *tickets, struct ticket *ticket);
 /* The ticket of a step, which is the caller's from then on, or NULL. */
 struct ticket *ticket_take(struct tickets *tickets, uint32_t step);
@@ -353,10 +353,10 @@ struct ring {
 struct step {
     enum ring_kind kind;
     uint32_t seat;
-    uint32_t pid;             /* open, attach */
-    uint32_t euid, window;    /* open */
-    uint32_t on;              /* set_spam */
-    uint32_t limit;           /* read */
+    uint32_t pid;             /* of an open or attach */
+    uint32_t euid, window;    /* of an open */
+    uint32_t on;              /* of a set_spam: 0 or 1 */
+    uint32_t limit;           /* of a read, in bytes */
     const void *command;
     const uint8_t *data;      /* of a command's parcel */
     size_t data_size;
@@ -370,7 +370,7 @@ void ring_conclude(struct ring *ring);
 void ring_free(struct ring *ring);
 /* So many seats are lent from now on. */
 void ring_count_lent(struct ring *ring, uint32_t lent);
-/* The engine, which has a ring, has made a step. */
+/* Puts a step that the engine has made into its ring, which has to be there. */
 void ring_put(struct engine *engine, const struct step *step, uint64_t time);
 
 /* --- engine.c: the engine of one device name. --- */
@@ -502,7 +502,7 @@ void descriptor_end(int *fd);
 
 /* The main thread of a client's process, as the kernel tells of it. */
 struct caller {
-    int folder;                    /* in /proc */
+    int folder;                    /* a descriptor of the process's folder in /proc */
     uid_t real, effective, saved;  /* when its effective uid was last seen to be another one */
     bool may_be_anybody;
     uint32_t depth;                /* how many pid namespaces it is below the daemon's */
@@ -528,7 +528,7 @@ struct cleared {
 
 struct process {
     struct watch control;
-    struct watch end;      /* a pidfd */
+    struct watch end;      /* a pidfd, which tells that the client's process has ended */
     struct engine *engine; /* NULL: its device isn't known yet */
     struct daemon *daemon;
     struct loop *loop;
@@ -544,12 +544,12 @@ struct process {
     bool is_ending;           /* it has no place in the engine any more, and its threads are let go of */
     uint32_t objects_let_go;  /* how often it has let go of what may have carried objects */
     pid_t pid;
-    uid_t euid;           /* of the opening */
+    uid_t euid;           /* the effective uid that the client had when it opened the device */
     struct caller caller;
     uint32_t engine_pid;  /* 0: it has no window, and so isn't in the engine yet */
     struct window window;
     uint32_t thread_count;
-    uint32_t max_threads, requested, started; /* BR_SPAWN_LOOPER */
+    uint32_t max_threads, requested, started; /* for BR_SPAWN_LOOPER: the most threads, those asked for, those that came */
     struct cleared cleared;
     bool detects_spam;    /* it is told of its own one-way flooding; before its mmap: will be */
     uint64_t *handed;     /* two bits for each 8 bytes of the window: a buffer that the client has begins there; it has objects */
@@ -582,7 +582,8 @@ int process_leave(struct process *process);
 
 /* --- state.c: what a device's processes and threads are at, and what they have. --- */
 
-/* A page of that, from a place on, and within that, that are 0 or what a page has told. */
+/* Fills a page with what a device's processes and threads have. It goes on where the page before ended: `from` and `within` are what
+   that page has told, or 0 for the first. */
 void state_tell(struct engine *engine, uint64_t from, uint64_t within, struct state_page *page);
 
 /* --- threads.c: a thread of a client. --- */
@@ -629,21 +630,21 @@ struct thread {
     uint32_t seat;
     struct name name;          /* while it has a seat: how it was called when that was lent to it */
 
-    bool is_looper;            /* in the loop */
+    bool is_looper;            /* it is in the loop, and reads what comes to the process */
     bool has_looped;           /* .. or was there before */
     uint32_t serving, calling; /* open frames: calls that it has to answer, calls that it waits for */
     struct served served[SERVED_KNOWN]; /* the first of the former */
-    struct writing *writing;   /* NULL: none */
+    struct writing *writing;   /* a write that takes more than one turn; NULL: none */
     uint32_t refusals;         /* refused commands whose BR_FAILED_REPLY or BR_DEAD_REPLY isn't read yet */
     uint32_t completions;      /* two-way calls of which it isn't read yet that they were taken */
 
     enum refusal refusal;      /* until it is handed over, nothing that the thread writes is run */
     uint32_t untold;           /* calls and replies whose BR_TRANSACTION_COMPLETE isn't handed over yet */
 
-    bool is_waiting;           /* in a read */
+    bool is_waiting;           /* it waits in a read for something to come */
     bool has_no_room;          /* .. in which no return finds room, and there is one */
     bool defers;               /* .. after a call, whose completion waits for the reply */
-    uint32_t room;             /* of that read */
+    uint32_t room;             /* how many bytes of returns that read has room for */
     struct page_answer answer; /* what its request has come to so far */
 
     int doorbell, doorbell_end; /* ours and the client's; -1: it has none */
@@ -778,7 +779,7 @@ bool settle_some(struct engine *engine);
 struct thread *settle_waiting_one(struct process *process, const struct thread *but);
 /* Puts a thread's doorbell right. */
 void settle_doorbell(struct thread *thread);
-/* The same for all threads of a process. */
+/* Settles the doorbells of all threads of a process. */
 void settle_doorbells(struct process *process);
 
 /* --- doorbells.c --- */
@@ -811,7 +812,7 @@ bool listener_set_group(struct listener *listener, const char *word);
 int listener_look(const char *path);
 /* Takes the lock of an address, or the socket that whoever has started this daemon listens with. */
 int listener_lock(struct daemon *daemon, const char *path);
-/* Lets clients come. */
+/* Begins to take clients that connect. */
 bool listener_begin(struct daemon *daemon);
 void listener_end(struct daemon *daemon);
 
@@ -826,7 +827,7 @@ int ask_state(const char *path, const char *device);
 
 struct device {
     char name[DEVICE_NAME_ROOM];
-    const char *journal; /* NULL: none */
+    const char *journal; /* the file of its journal; NULL: none is written */
     int files[TRACKS];   /* until its journal has them; with their locks, by which no other daemon writes them; -1: none */
     struct engine *engine; /* NULL: nobody has opened it yet */
 };
@@ -857,7 +858,7 @@ struct daemon {
     uint32_t device_count;
     uint32_t seats;
     struct list strangers; /* processes whose device isn't known yet */
-    _Atomic bool has_failed; /* a device is over */
+    _Atomic bool has_failed; /* a device makes no more steps, which the daemon's status tells in the end */
 };
 
 #endif

@@ -68,7 +68,7 @@ static const char *why_not_open(const char *path)
     return is_pipe ? "nobody reads this pipe" : strerror(error);
 }
 
-/* What is opened already. */
+/* The files that are opened already, so that no file is opened for two devices or purposes. */
 struct opened {
     struct stat files[DEVICES_MAX * TRACKS];
     uint32_t count;

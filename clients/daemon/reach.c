@@ -22,7 +22,7 @@ void reach_process(struct process *process)
         list_append(&process->engine->reached, &process->in_reached);
 }
 
-/* Everybody who waits. */
+/* Has all who wait looked at, since nobody knows whom the steps have made ready. */
 static void reach_all(struct engine *engine)
 {
     engine->resting_left = engine->resting_count;

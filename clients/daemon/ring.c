@@ -50,7 +50,7 @@ static struct ring_slot *slot_of(const struct ring *ring, uint64_t place)
     return (struct ring_slot *)(void *)(ring->memory.at + RING_HEADING + place % RING_SLOTS * RING_SLOT);
 }
 
-/* Whose step it was. */
+/* Writes into the slot whose step it was: the seat, and the client that the seat is lent to. */
 static void put_client(struct engine *engine, struct ring_slot *slot, const struct step *step)
 {
     const struct thread *thread = engine->lent[step->seat];

@@ -28,7 +28,7 @@ uint64_t realtime_offset(void)
     return (uint64_t)now.tv_sec * 1000000000u + (uint64_t)now.tv_nsec - nanoseconds();
 }
 
-/* No user's. */
+/* A user id that no user has. */
 #define NO_UID ((uid_t)-1)
 
 bool turns_begin(struct turns *turns)

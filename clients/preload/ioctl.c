@@ -2,7 +2,7 @@
 /* ioctl.c: the ioctls of a binder file. */
 #include "preload.h"
 
-/* One request without bytes. */
+/* Puts a request that has no bytes to the daemon: 0 or an errno. */
 static int ask(struct link *link, enum page_op op)
 {
     const struct page_request request = {.op = op};

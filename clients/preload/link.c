@@ -42,7 +42,7 @@ static void link_free(struct link *link)
     device_release(device);
 }
 
-/* A thread ends. */
+/* Lets go of all links of a thread that ends. */
 static void thread_ends(void *unused)
 {
     (void)unused;

@@ -307,7 +307,7 @@ EXPORT int faccessat(int folder, const char *path, int mode, int flags)
     return path_is_device(folder, path, name) ? may(name, mode) : real()->faccessat(folder, path, mode, flags);
 }
 
-/* It is no link. */
+/* What readlink answers for a device's name: that it is no link, if it is there at all. */
 static ssize_t read_no_link(const char *name)
 {
     if (is_there(name))

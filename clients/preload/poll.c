@@ -207,7 +207,7 @@ static void forget_closed(struct device *device)
     }
 }
 
-/* With the devices' lock. */
+/* Does what epoll_ctl would do with a binder file, with its doorbell in its place. The caller has the devices' lock. */
 static int control(struct device *device, int epoll, int operation, int doorbell, const struct epoll_event *event)
 {
     struct epoll_event only = event ? *event : (struct epoll_event){0};

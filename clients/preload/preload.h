@@ -101,7 +101,7 @@ bool arrays_keep(struct device *device, const struct page *page, const int *fds,
 void arrays_take(struct device *device, uint64_t buffer, struct array **taken);
 /* Closes what is on the list. errno stays as it is. */
 void arrays_close(struct array *taken);
-/* The device is closed. */
+/* Closes all descriptors that are still kept, as the device is closed. */
 void arrays_end(struct device *device);
 
 /* --- device.c: open binder files. --- */
@@ -109,7 +109,7 @@ void arrays_end(struct device *device);
 #define EPOLLS_MAX 8
 
 struct device {
-    uint32_t references; /* descriptors, links, the window */
+    uint32_t references; /* how many descriptors, links and windows it is in use by */
     uint32_t descriptors;
     int control; /* the socket, whose end is the process's */
     char name[DEVICE_NAME_ROOM];
@@ -121,7 +121,7 @@ struct device {
     struct arrays arrays;
     struct link *links;
     struct {
-        int epoll, doorbell; /* -1: none */
+        int epoll, doorbell; /* an epoll, and the doorbell that stands in it for the device; -1: none */
     } epolls[EPOLLS_MAX];
 };
 
@@ -159,7 +159,7 @@ struct link {
     struct link *next_of_thread, *next_of_device;
     struct page *page;
     int socket, bell;
-    int doorbell; /* -1: none yet */
+    int doorbell; /* our end of the thread's doorbell; -1: none was asked for yet */
     uint64_t used_area, kept_area; /* bytes of the page's area that hold the parcel of a request; memory that large ones have left */
     time_t kept_since;
     _Atomic bool is_to_return; /* its next read comes back at once */
@@ -184,7 +184,7 @@ int link_doorbell(struct link *link);
 void link_return(struct link *link);
 /* Child of a fork: closes a link that was the parent's. */
 void link_forked(struct link *link);
-/* The same for all that this thread has. */
+/* Child of a fork: closes all links that this thread has, which were the parent's. */
 void links_forked(void);
 
 /* --- write_read.c, parcels.c --- */

@@ -8,7 +8,7 @@ use crate::space::{About, Facts, ObjectId};
 use crate::times::Moment;
 use std::collections::HashMap;
 
-/// Who did something, and where.
+/// Who did something, and at which place of the recording.
 #[derive(Clone, Copy, Debug, PartialEq, Eq)]
 pub struct Doing {
     pub place: u64,
@@ -26,7 +26,7 @@ impl Doing {
     }
 }
 
-/// An accepted transaction.
+/// A call: a transaction that was accepted, with what has come of it so far.
 #[derive(Clone, Debug, PartialEq, Eq)]
 pub struct Call {
     pub made: Doing,
@@ -35,7 +35,7 @@ pub struct Call {
     pub code: u32,
     pub one_way: bool,
     pub size: u64,
-    /// Where its BR_TRANSACTION was read.
+    /// Who read its BR_TRANSACTION, and where.
     pub taken: Option<Doing>,
     /// Where its reply was accepted, or refused so that the call closed, and how large it was; None: it was refused.
     pub replied: Option<(Doing, Option<u64>)>,
@@ -47,25 +47,25 @@ pub enum Event {
     Made(Call),
     /// A transaction or reply was refused.
     Refused(Doing, Reason),
-    /// It was handed to a server; a one-way call that nobody waits for ends so.
+    /// The call was handed to a server; a one-way call, for which nobody waits, ends so.
     Taken(Call),
     Replied(Call),
-    /// Its caller has read the reply.
+    /// The caller has read the reply.
     Done(Call, Doing),
-    /// Its caller has read that there will be none.
+    /// The caller has read that there will be no reply.
     Failed(Call, Doing),
     /// The buffer of a one-way call was freed.
     Freed(Call, Doing),
 }
 
-/// The calls that are open.
+/// The calls that have not ended, by the places where they were made.
 #[derive(Debug, Default)]
 pub struct Calls {
     open: HashMap<u64, Call>,
 }
 
 impl Calls {
-    /// What an entry does.
+    /// What an entry does to calls; those that it ends are open no longer.
     pub fn events(&mut self, entry: &Entry<'_>, facts: &Facts) -> Vec<Event> {
         let pid = match facts.pid {
             Some(pid) => pid,

@@ -31,7 +31,7 @@ pub const BR_CLEAR_DEATH_NOTIFICATION_DONE: u32 = 0x8008_7210;
 pub const BR_FAILED_REPLY: u32 = 0x0000_7211;
 pub const BR_ONEWAY_SPAM_SUSPECT: u32 = 0x0000_7213;
 
-/// What stands behind a code.
+/// What the bytes behind a code are.
 #[derive(Clone, Copy, Debug, PartialEq, Eq)]
 pub enum Shape {
     Nothing,
@@ -44,7 +44,7 @@ pub enum Shape {
 }
 
 impl Shape {
-    /// How many bytes it takes.
+    /// How many bytes stand behind the code.
     pub fn size(self) -> usize {
         match self {
             Shape::Nothing => 0,
@@ -137,7 +137,7 @@ impl Payload {
     }
 }
 
-/// A command or a return.
+/// A command or a return: its code, and what stands behind that.
 #[derive(Clone, Copy, Debug, PartialEq, Eq)]
 pub struct Message {
     pub code: &'static Code,
@@ -173,7 +173,7 @@ fn message<'a>(table: &'static [Code], bytes: &'a [u8]) -> Result<(Message, &'a 
     Ok((Message { code, payload: Payload::read(code.shape, payload) }, &bytes[end..]))
 }
 
-/// The one command that bytes are.
+/// The command that these bytes are, all of them.
 pub fn command(bytes: &[u8]) -> Result<Message, Unread> {
     match message(&COMMANDS, bytes)? {
         (command, []) => Ok(command),

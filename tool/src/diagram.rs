@@ -16,7 +16,7 @@ const PAGE: &str = include_str!("diagram.html");
 /// What stands in the page where its data belong.
 const DATA: &str = "/*DATA*/";
 
-/// A thread's life.
+/// The lane of a thread, as long as the thread lives.
 #[derive(Clone, Debug, Serialize)]
 struct Lane {
     pid: u32,
@@ -29,15 +29,15 @@ struct Lane {
     to: Option<u64>,
 }
 
-/// What is drawn, but for lanes.
+/// What is drawn over the lanes.
 #[derive(Debug, Serialize)]
 #[serde(rename_all = "lowercase")]
 enum Mark<'a> {
     /// From a lane at a place to another at a later one; None where nobody has read it.
     Arrow { kind: &'static str, from: (usize, u64), to: Option<(usize, u64)>, text: &'a str },
-    /// Along a lane.
+    /// A bar along a lane, between two places; None where what it stands for goes on.
     Bar { kind: &'static str, lane: usize, from: u64, to: Option<u64>, text: &'a str },
-    /// At one place.
+    /// A dot on a lane, at one place.
     Dot { kind: &'static str, lane: usize, at: u64, text: &'a str },
 }
 

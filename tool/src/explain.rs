@@ -549,11 +549,11 @@ impl Why {
 /// How an entry was judged.
 enum Judged {
     NotAsked,
-    /// Nothing judges: why.
+    /// Nothing can judge, for this reason.
     Not(String),
     Lawful,
     Unlawful,
-    /// Already an earlier entry isn't lawful.
+    /// An earlier entry, at this place, isn't lawful, so that nothing is known of this one.
     Behind(u64),
 }
 

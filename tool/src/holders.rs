@@ -11,7 +11,7 @@ use std::io::{self, Write};
 /// At how many places of a journal one looks whether something grows.
 const LOOKS: u64 = 8;
 
-/// Everything that holds an object.
+/// Prints everything that holds an object.
 pub fn put_holders(to: &mut Vec<u8>, space: &Space, object: ObjectId) -> Result<()> {
     let it = match space.objects.get(&object) {
         Some(it) => it,

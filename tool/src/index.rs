@@ -41,7 +41,7 @@ struct Table {
     known: Vec<u8>,
 }
 
-/// What an index knows.
+/// What an index knows of a place: the byte at which its entry stands, and what the steps before have come to.
 pub struct Found {
     pub place: u64,
     pub at: u64,

@@ -6,9 +6,9 @@ use crate::refusals::{Kind, Reason};
 use std::fmt;
 use std::ops::RangeInclusive;
 
-/// What tells the versions apart.
+/// How many bytes a journal begins with that tell its version.
 pub const MARK_SIZE: usize = 8;
-/// The longest heading of all versions.
+/// How many bytes the longest heading of all versions has.
 pub const MOST_HEADING: usize = 20;
 
 /// A version of the format: what it begins with, and what it can say. A new one is a row here.
@@ -142,14 +142,14 @@ impl Step<'_> {
     }
 }
 
-/// What it was answered.
+/// What a step was answered.
 #[derive(Clone, Copy, Debug, PartialEq)]
 pub enum Answer<'a> {
     Opened,
     Set,
     Exited,
     Accepted,
-    /// Noted, stopped or refused.
+    /// The step changed nothing or was refused, for this reason: a note, a cause or a fault.
     Refused(Reason),
     Got {
         stream: &'a [u8],
@@ -299,9 +299,9 @@ fn answer<'a>(part: &mut Part<'a>) -> Result<Answer<'a>, Fault> {
 /// How much of an entry is there, by the bytes that it begins with.
 #[derive(Clone, Copy, Debug, PartialEq, Eq)]
 pub enum Extent {
-    /// It has so many bytes.
+    /// The whole entry is there, and has so many bytes.
     Whole(usize),
-    /// At least so many are needed, and fewer are there.
+    /// At least so many bytes are needed, and fewer are there.
     Needs(usize),
 }
 

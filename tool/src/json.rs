@@ -150,7 +150,7 @@ struct Returned {
     age: Option<u64>,
 }
 
-/// Who sits on a seat.
+/// The system's thread that sits on a seat, as it is printed.
 #[derive(Serialize)]
 pub struct ToldPerson {
     pid: u32,
@@ -163,7 +163,7 @@ impl ToldPerson {
         ToldPerson { pid: person.pid, tid: person.tid, comm: person.comm.to_string() }
     }
 
-    /// Behind a seat of this process.
+    /// The words for it that stand behind a seat of this process.
     pub fn words(&self, process: u32) -> String {
         person_words(self.pid, self.tid, &self.comm, Some(process))
     }

@@ -10,7 +10,7 @@ fn rows() -> impl Iterator<Item = Vec<String>> {
     RULES.lines().filter(|it| it.starts_with("| ")).map(cells)
 }
 
-/// The reason of one name.
+/// The reason with this name, as `X6`.
 fn reason(name: &str) -> Option<Reason> {
     Reason::all().find(|it| it.name() == name)
 }

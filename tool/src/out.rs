@@ -72,14 +72,14 @@ impl Palette {
     }
 }
 
-/// Where output goes.
+/// Standard output, perhaps by a pager. What is printed is held until there is enough of it.
 pub struct Out {
     pub held: Vec<u8>,
     pager: Option<Child>,
 }
 
 impl Out {
-    /// With a pager where a person looks, unless one doesn't want it.
+    /// Output by a pager where a person looks, unless the person doesn't want it.
     pub fn new(with_pager: bool) -> Out {
         let pager = (with_pager && io::stdout().is_tty()).then(start_pager).flatten();
         Out { held: Vec::with_capacity(2 * ROOM), pager }

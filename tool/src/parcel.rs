@@ -9,7 +9,7 @@ const LONGEST: usize = 4096;
 const SEARCHED: usize = 1 << 16;
 const MOST_TEXTS: usize = 16;
 
-/// A text in a parcel.
+/// A text that was found in a parcel, and between which bytes it stands.
 #[derive(Clone, Debug, PartialEq, Eq)]
 pub struct Text {
     pub text: String,

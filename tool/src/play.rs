@@ -57,7 +57,7 @@ pub struct Bounds {
     until: Option<u64>,
 }
 
-/// Where an entry lies.
+/// Where an entry lies, seen from the range that is wanted.
 #[derive(Clone, Copy, Debug, PartialEq, Eq)]
 pub enum Lies {
     Before,
@@ -103,7 +103,7 @@ pub struct Player {
     pub beside: Beside,
     /// Says of each entry whether it follows, until one doesn't.
     pub judge: Option<Judge>,
-    /// The first entry that doesn't.
+    /// The place of the first entry that doesn't follow, once one was found.
     pub unlawful: Option<u64>,
     progress: Option<Progress>,
     facts: Facts,
@@ -297,7 +297,7 @@ impl Player {
     }
 }
 
-/// What a journal is called.
+/// What a journal is called in messages.
 pub fn name(path: &str) -> String {
     if path == "-" {
         "standard input".into()

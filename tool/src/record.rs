@@ -111,17 +111,17 @@ impl Kind {
         KINDS.iter().find(|it| it.0 == self).map_or("?", |it| it.2)
     }
 
-    /// Whether it holds its object strongly.
+    /// Whether such an entry of a parcel holds its object strongly.
     pub fn is_strong(self) -> bool {
         matches!(self, Kind::Binder | Kind::Handle)
     }
 
-    /// Whether it is by its owner's ptr.
+    /// Whether it names its object by the owner's ptr.
     pub fn is_binder(self) -> bool {
         matches!(self, Kind::Binder | Kind::WeakBinder)
     }
 
-    /// Whether it is by a handle.
+    /// Whether it names its object by a handle.
     pub fn is_handle(self) -> bool {
         matches!(self, Kind::Handle | Kind::WeakHandle)
     }

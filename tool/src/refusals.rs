@@ -1,7 +1,7 @@
 // SPDX-License-Identifier: Apache-2.0 OR MIT
 //! Faults, causes and notes by their names and with their texts, as docs/FORMATS.md lists them.
 
-/// What kind of reason it is.
+/// The kinds of reasons: why a request was refused, why a transaction or reply was, and why another command changed nothing.
 #[derive(Clone, Copy, Debug, PartialEq, Eq, Hash, PartialOrd, Ord)]
 pub enum Kind {
     Fault,
@@ -13,7 +13,7 @@ pub enum Kind {
 #[derive(Clone, Copy, Debug, PartialEq, Eq, Hash, PartialOrd, Ord)]
 pub struct Reason {
     pub kind: Kind,
-    /// From 1.
+    /// Which of its kind it is, from 1: the 6 of `X6`.
     pub number: u8,
 }
 
@@ -88,7 +88,7 @@ impl Kind {
         }
     }
 
-    /// How many there are.
+    /// How many reasons of this kind there are.
     pub fn count(self) -> u8 {
         self.table().len() as u8
     }
@@ -104,12 +104,12 @@ impl Reason {
         self.kind.table()[usize::from(self.number - 1)]
     }
 
-    /// As `X6`.
+    /// The short name, as `X6`.
     pub fn name(self) -> String {
         format!("{}{}", self.kind.letter(), self.number)
     }
 
-    /// As `Unread`.
+    /// The name as a word, as `Unread`.
     pub fn word(self) -> &'static str {
         self.row().0
     }
@@ -118,7 +118,7 @@ impl Reason {
         self.row().1
     }
 
-    /// All of them.
+    /// All reasons of all kinds, by kind and number.
     pub fn all() -> impl Iterator<Item = Reason> {
         Kind::ALL.into_iter().flat_map(|kind| (1..=kind.count()).map(move |number| Reason { kind, number }))
     }

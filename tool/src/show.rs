@@ -22,7 +22,7 @@ pub struct Style {
     pub row: usize,
 }
 
-/// `3.0 "manager" of pid 100`.
+/// The words for an object, as `3.0 "manager" of pid 100`.
 pub fn object_words(space: &Space, object: ObjectId) -> String {
     match space.objects.get(&object) {
         Some(it) => match it.called() {

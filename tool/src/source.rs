@@ -18,9 +18,9 @@ const PAUSE: Duration = Duration::from_millis(50);
 /// How the entries ended.
 #[derive(Clone, Copy, Debug, PartialEq, Eq)]
 pub enum End {
-    /// As the heading says.
+    /// There were as many entries as the heading says.
     Whole,
-    /// Behind so many whole entries; there are so many bytes of one more, from this byte on.
+    /// The journal is cut off behind so many whole entries; there are so many bytes of one more, from this byte on.
     CutOff { entries: u64, at: u64, rest: u64 },
 }
 
@@ -80,7 +80,7 @@ impl Source {
         self.place
     }
 
-    /// The byte at which it stands.
+    /// The byte of the file at which the next entry begins.
     pub fn at(&self) -> u64 {
         self.at
     }

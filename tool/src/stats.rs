@@ -46,7 +46,7 @@ impl Measure {
         }
     }
 
-    /// With its unit.
+    /// The value with its unit, for people.
     fn words(self, took: u64) -> String {
         match self {
             Measure::Entries => format!("{took} entries"),
@@ -92,7 +92,7 @@ impl Sums {
     }
 }
 
-/// All that is counted.
+/// All that is counted of a recording.
 #[derive(Debug, Default)]
 pub struct Stats {
     entries: u64,
@@ -257,7 +257,7 @@ impl Slowest {
         self.keep(call, ended, &format!("{how} at {}", ended.place), space);
     }
 
-    /// The longest first.
+    /// Prints them, the longest first.
     fn put(self, to: &mut Vec<u8>) -> io::Result<()> {
         let mut slowest: Vec<_> = self.kept.into_iter().map(|it| it.0).collect();
         slowest.sort_by(|left, right| right.cmp(left));

@@ -12,7 +12,7 @@ use crate::record::u64_at;
 
 const MARK: &[u8; 8] = b"HPTIMES1";
 const HEAD: u64 = 16;
-/// What one entry has.
+/// How many bytes one entry's time has.
 const SIZE: u64 = 8;
 /// How many entries' times are read together.
 const TOGETHER: u64 = 8192;
@@ -21,9 +21,9 @@ const SECOND: u64 = 1_000_000_000;
 /// When a step was made.
 #[derive(Clone, Copy, Debug, PartialEq, Eq)]
 pub struct Moment {
-    /// By the monotonic clock, in nanoseconds.
+    /// The monotonic clock's time, in nanoseconds.
     pub clock: u64,
-    /// How far the real time's clock was ahead of that.
+    /// How many nanoseconds the clock of real time was ahead of that.
     ahead: u64,
 }
 
@@ -48,7 +48,7 @@ impl Moment {
         self.utc().with_timezone(&Local).format("%H:%M:%S%.6f").to_string()
     }
 
-    /// With the date before it.
+    /// As a clock on the wall shows it, with the date before it.
     pub fn with_date(self) -> String {
         self.utc().with_timezone(&Local).format("%Y-%m-%d %H:%M:%S%.6f").to_string()
     }

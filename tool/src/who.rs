@@ -40,7 +40,7 @@ impl Comms {
         self.0.get(&pid).map(|it| &**it)
     }
 
-    /// `pid 812 "sensors"`.
+    /// The words for a process, as `pid 812 "sensors"`.
     pub fn words(&self, pid: u32) -> String {
         match self.get(pid) {
             Some(comm) => format!("pid {pid} {comm:?}"),
@@ -99,7 +99,7 @@ pub struct Who {
     line: Vec<u8>,
     number: u64,
     next: Option<Change>,
-    /// Where the latest change was.
+    /// The place at which the latest change stands.
     place: u64,
     pub sitting: HashMap<u32, Person>,
     /// Whether there is nothing more to be read, ever.

@@ -33,7 +33,7 @@ pub enum Why {
     NoMemory,
     /// The history can take no more.
     HistoryFull,
-    /// It was taken back.
+    /// The seat took the request back before anybody ran it.
     Withdrawn,
 }
 
@@ -59,16 +59,16 @@ pub enum Answer {
     Set,
     /// The thread or the process has ended.
     Exited,
-    /// Commands were run.
+    /// A write has run commands, perhaps none.
     Wrote {
         /// How many bytes of the stream were run.
         consumed: u32,
         /// The commands that changed nothing, by their places in the stream from 0, and why.
         notes: Vec<(u32, Note)>,
-        /// Why it stopped before the end.
+        /// Why the write stopped before the end of its stream, if it did.
         stop: Option<Stop>,
     },
-    /// What was read.
+    /// A read has got these bytes.
     Got {
         /// The returns: [`Answer::returns`] takes them apart.
         stream: Vec<u8>,
@@ -77,7 +77,7 @@ pub enum Answer {
         /// The offsets of its objects.
         offsets: Vec<u8>,
     },
-    /// It was refused, and changed nothing.
+    /// The request was refused, and changed nothing.
     Refused(Fault),
 }
 
@@ -96,16 +96,16 @@ impl Answer {
 pub enum Outcome {
     /// It was run: its steps stand in the history from `from` up to and without `to`.
     Done {
-        /// What it came to.
+        /// What the request came to.
         answer: Answer,
-        /// The place of its first step.
+        /// The place of the request's first step in the history.
         from: u32,
-        /// The place behind its last.
+        /// The place behind the request's last step.
         to: u32,
     },
-    /// It wasn't run.
+    /// The request wasn't run, for this reason.
     Back(Why),
-    /// It is still handed over.
+    /// The request is still handed over: nobody has run it yet.
     Handed,
 }
 
@@ -124,35 +124,35 @@ impl Outcome {
 pub enum Request<'a> {
     /// As [`Seat::open`](crate::Seat::open).
     Open {
-        /// 1 to 2147483647.
+        /// The process's pid, 1 to 2147483647.
         pid: u32,
-        /// The user.
+        /// The process's effective user id.
         euid: u32,
-        /// A multiple of 4096 up to 4194304.
+        /// The size of the process's window in bytes, a multiple of 4096 up to 4194304.
         window: u32,
     },
     /// As [`Seat::attach`](crate::Seat::attach).
     Attach {
-        /// That of a live process.
+        /// The pid of a live process.
         pid: u32,
     },
     /// As [`Seat::manager`](crate::Seat::manager).
     Manager,
     /// As [`Seat::set_spam`](crate::Seat::set_spam).
     SetSpam {
-        /// Whether it is told from now on.
+        /// Whether the process is told of its flooding from now on.
         on: bool,
     },
     /// As [`Seat::write`](crate::Seat::write).
     Write {
-        /// The commands.
+        /// The bytes of the commands, at most 4096.
         stream: &'a [u8],
-        /// What their records speak of.
+        /// The area that the commands' parcels are cut from: their records say where.
         area: &'a [u8],
     },
     /// As [`Seat::read`](crate::Seat::read).
     Read {
-        /// At least 72.
+        /// How many bytes of returns are read at most, at least 72.
         limit: u32,
     },
     /// As [`Seat::exit_thread`](crate::Seat::exit_thread).
@@ -188,19 +188,19 @@ pub(crate) fn fault(number: u32) -> Fault {
     Fault::from_number(number).unwrap_or_else(|| panic!("the library tells fault {number}"))
 }
 
-/// The cause of a number.
+/// The cause of a number that the library tells, which is one of those that there are.
 pub(crate) fn cause(number: u32) -> Cause {
     Cause::from_number(number).unwrap_or_else(|| panic!("the library tells cause {number}"))
 }
 
-/// The note of a number.
+/// The note of a number that the library tells, which is one of those that there are.
 pub(crate) fn note(number: u32) -> Note {
     Note::from_number(number).unwrap_or_else(|| panic!("the library tells note {number}"))
 }
 
 /// What the library has of an answer besides its numbers.
 pub(crate) trait Fetched {
-    /// A part of what was read, of that size.
+    /// A part of what was read, the returns, the data or the offsets, which has so many bytes.
     fn bytes(&mut self, part: u32, size: usize) -> Vec<u8>;
 
     /// What a request that was run came to; the notes are told apart.

@@ -23,23 +23,23 @@ pub const UPDATE_TXN: u32 = 0x40;
 pub struct TransactionData {
     /// A handle in the low 32 bits, or, as it is read, the ptr of the receiver's object.
     pub target: u64,
-    /// That of the receiver's object, as it is read.
+    /// The cookie of the receiver's object, as it is read.
     pub cookie: u64,
-    /// What is called.
+    /// The number of the method that is called.
     pub code: u32,
-    /// [`ONE_WAY`] and its kind.
+    /// Flags, such as [`ONE_WAY`].
     pub flags: u32,
-    /// Who calls, as it is read.
+    /// The pid of the process that calls, as it is read; 0 of a one-way call and of a reply.
     pub sender_pid: i32,
-    /// Who calls, as it is read.
+    /// The effective user id of the process that sends, as it is read.
     pub sender_euid: u32,
-    /// How many bytes of data.
+    /// How many bytes of data the parcel has.
     pub data_size: u64,
-    /// How many bytes of offsets, 8 for each object.
+    /// How many bytes of offsets the parcel has, 8 for each object.
     pub offsets_size: u64,
     /// Where the data lies: in the area of a write, or in the receiver's window.
     pub buffer: u64,
-    /// Where the offsets lie.
+    /// Where the offsets lie, in the same area or window.
     pub offsets: u64,
 }
 
@@ -47,7 +47,7 @@ impl TransactionData {
     /// How many bytes a record has.
     pub const SIZE: usize = 64;
 
-    /// Its bytes.
+    /// The record as the 64 bytes that the Linux header lays out.
     pub fn to_bytes(&self) -> [u8; TransactionData::SIZE] {
         let mut bytes = [0; TransactionData::SIZE];
         bytes.copy_from_slice(&Command::Transaction(*self).to_bytes()[4..]);
@@ -64,7 +64,7 @@ impl TransactionData {
         }
     }
 
-    /// As the library has it.
+    /// The record in the form in which the library takes it.
     pub(crate) fn given(&self) -> sys::hullpippin_transaction {
         sys::hullpippin_transaction {
             target: self.target,
@@ -80,7 +80,7 @@ impl TransactionData {
         }
     }
 
-    /// What the library tells.
+    /// The record that the library tells.
     pub(crate) fn told(told: &sys::hullpippin_transaction) -> TransactionData {
         TransactionData {
             target: told.target,
@@ -132,14 +132,14 @@ pub enum Command {
     ExitLooper,
     /// Asks to be told of the death of a handle's owner: handle, cookie.
     RequestDeathNotification(u32, u64),
-    /// Asks to be told of it no longer: handle, cookie.
+    /// Asks to be told of that death no longer: handle, cookie.
     ClearDeathNotification(u32, u64),
     /// Acknowledges `BR_DEAD_BINDER`: cookie.
     DeadBinderDone(u64),
 }
 
 impl Command {
-    /// Its name in the Linux header.
+    /// The command's name in the Linux header, as `BC_REPLY`.
     pub fn name(&self) -> &'static str {
         match self {
             Command::Transaction(_) => "BC_TRANSACTION",
@@ -159,7 +159,7 @@ impl Command {
         }
     }
 
-    /// Its code.
+    /// The number that the Linux header gives the command, with which its bytes begin.
     pub fn code(&self) -> u32 {
         match self {
             Command::Transaction(_) => sys::HULLPIPPIN_BC_TRANSACTION,
@@ -179,10 +179,10 @@ impl Command {
         }
     }
 
-    /// The longest has a record.
+    /// How many bytes the longest command has: a code and a record.
     const LONGEST: usize = 4 + TransactionData::SIZE;
 
-    /// As the library has it.
+    /// The command in the form in which the library takes it.
     fn given(&self) -> sys::hullpippin_command {
         let of = sys::hullpippin_command { code: self.code(), ..Default::default() };
         match *self {
@@ -205,7 +205,7 @@ impl Command {
         }
     }
 
-    /// What the library tells.
+    /// The command that the library tells.
     fn told(told: &sys::hullpippin_command) -> Command {
         match told.code {
             sys::HULLPIPPIN_BC_TRANSACTION => Command::Transaction(TransactionData::told(&told.transaction)),
@@ -238,7 +238,7 @@ impl Command {
         }
     }
 
-    /// Its bytes, appended to a stream.
+    /// Appends the command's bytes to a stream.
     pub fn spell(&self, stream: &mut Vec<u8>) {
         let mut bytes = [0; Command::LONGEST];
         // SAFETY: there is room for so many bytes.
@@ -246,7 +246,7 @@ impl Command {
         stream.extend(&bytes[..size]);
     }
 
-    /// Its bytes.
+    /// The command's bytes: its code, and what belongs to it.
     pub fn to_bytes(&self) -> Vec<u8> {
         let mut stream = Vec::with_capacity(Command::LONGEST);
         self.spell(&mut stream);

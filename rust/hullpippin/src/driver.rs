@@ -95,7 +95,7 @@ impl Drop for Driver {
 pub struct History(Driver);
 
 impl History {
-    /// Its journal.
+    /// The history as the bytes of a journal, which [`verdict_on`] judges.
     pub fn journal(&mut self) -> Result<Vec<u8>, Error> {
         let driver = &mut self.0.handle;
         // SAFETY: the driver has ended, and the bytes are so many.
@@ -138,7 +138,7 @@ pub struct Seat {
 unsafe impl Send for Seat {}
 
 impl Seat {
-    /// Its number, by which a page has its bit.
+    /// The seat's number, from 0: its bit in what a page says of ready seats.
     pub fn number(&self) -> u32 {
         self.number
     }

@@ -32,7 +32,7 @@ unsafe impl Send for Live {}
 /// What a step came to, and its place in the history.
 #[derive(Clone, Debug, PartialEq, Eq)]
 pub struct Made {
-    /// As of a seat's request of that name; of a command as of a write of it alone.
+    /// What the step came to: told as of a seat's request of that name, and of a command as of a write of it alone.
     pub answer: Answer,
     /// How many steps there were before.
     pub place: u32,
@@ -205,7 +205,7 @@ impl Live {
         copied(|out, room, size| unsafe { sys::hullpippin_live_heading(live, count, out, room, size) })
     }
 
-    /// For what is called besides.
+    /// The handle of the engine, for calls of other modules.
     pub(crate) fn handle(&mut self) -> *mut sys::hullpippin_live {
         &mut self.handle
     }

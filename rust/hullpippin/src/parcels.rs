@@ -10,16 +10,16 @@ use std::fmt;
 pub enum ObjectKind {
     /// An object of the sender's own.
     Binder,
-    /// The same, of which only a weak reference is handed out.
+    /// An object of the sender's own, of which only a weak reference is handed out.
     WeakBinder,
     /// What the sender has under a handle.
     Handle,
-    /// The same, weakly.
+    /// What the sender has under a handle, of which only a weak reference is handed out.
     WeakHandle,
 }
 
 impl ObjectKind {
-    /// Its number.
+    /// The number with which the bytes of such an object begin, as the Linux header has it.
     pub fn number(self) -> u32 {
         match self {
             ObjectKind::Binder => sys::HULLPIPPIN_TYPE_BINDER,
@@ -29,7 +29,7 @@ impl ObjectKind {
         }
     }
 
-    /// The one of a number.
+    /// The kind with this number, if one has it.
     pub fn from_number(number: u32) -> Option<ObjectKind> {
         [ObjectKind::Binder, ObjectKind::WeakBinder, ObjectKind::Handle, ObjectKind::WeakHandle]
             .into_iter()
@@ -40,18 +40,18 @@ impl ObjectKind {
 /// An object in a parcel, 24 bytes (`struct flat_binder_object`).
 #[derive(Clone, Copy, Debug, PartialEq, Eq, Hash)]
 pub struct FlatObject {
-    /// What it is.
+    /// Whose object it is, and how it is referred to.
     pub kind: ObjectKind,
-    /// Handed on.
+    /// Flags, which are handed on as they are.
     pub flags: u32,
-    /// A ptr, or a handle in its low 32 bits.
+    /// The ptr of an own object, or a handle in its low 32 bits.
     pub binder: u64,
-    /// That of an object of the sender's own.
+    /// The cookie of an own object.
     pub cookie: u64,
 }
 
 impl FlatObject {
-    /// How many bytes it has.
+    /// How many bytes an object has in a parcel.
     pub const SIZE: usize = 24;
 
     /// An object of the sender's own.
@@ -64,7 +64,7 @@ impl FlatObject {
         FlatObject { kind: ObjectKind::Handle, flags: 0, binder: handle.into(), cookie: 0 }
     }
 
-    /// Its bytes.
+    /// The object as the 24 bytes that stand in a parcel.
     pub fn to_bytes(&self) -> [u8; FlatObject::SIZE] {
         let FlatObject { kind, flags, binder, cookie } = *self;
         let object = sys::hullpippin_flat_object { kind: kind.number(), flags, binder, cookie, start: 0 };
@@ -80,7 +80,7 @@ impl FlatObject {
         Objects::of(bytes, &[0; 8]).next()?.ok().map(|(_, object)| object)
     }
 
-    /// What the library tells.
+    /// The object that the library tells.
     fn told(told: &sys::hullpippin_flat_object) -> FlatObject {
         let kind =
             ObjectKind::from_number(told.kind).unwrap_or_else(|| panic!("the library tells type {:#x}", told.kind));
@@ -126,7 +126,7 @@ pub struct Objects<'a> {
 }
 
 impl<'a> Objects<'a> {
-    /// Those of a parcel, such as that of [`Answer::Got`](crate::Answer::Got).
+    /// The objects of a parcel, such as that of [`Answer::Got`](crate::Answer::Got).
     pub fn of(data: &'a [u8], offsets: &'a [u8]) -> Objects<'a> {
         Objects { data, offsets, walk: sys::hullpippin_walk::default() }
     }
@@ -175,17 +175,17 @@ pub struct Parcel {
 }
 
 impl Parcel {
-    /// An empty one.
+    /// An empty parcel.
     pub fn new() -> Parcel {
         Parcel::default()
     }
 
-    /// One of data and offsets as they are, which the engine judges.
+    /// A parcel of data and offsets as they are, which the engine judges.
     pub fn of_parts(data: Vec<u8>, offsets: Vec<u64>) -> Parcel {
         Parcel { data, offsets }
     }
 
-    /// Appends bytes.
+    /// Appends bytes to the data.
     pub fn extend(&mut self, bytes: &[u8]) {
         self.data.extend(bytes);
     }
@@ -203,17 +203,17 @@ impl Parcel {
         }
     }
 
-    /// The data.
+    /// The data, with the bytes of its objects.
     pub fn data(&self) -> &[u8] {
         &self.data
     }
 
-    /// Where objects stand in it.
+    /// Where in the data objects stand, in bytes.
     pub fn offsets(&self) -> &[u64] {
         &self.offsets
     }
 
-    /// The offsets as bytes.
+    /// The offsets as bytes, eight each, the lowest first.
     pub fn offset_bytes(&self) -> Vec<u8> {
         self.offsets.iter().flat_map(|offset| offset.to_le_bytes()).collect()
     }

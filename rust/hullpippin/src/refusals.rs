@@ -16,7 +16,7 @@ macro_rules! numbered {
         }
 
         impl $kind {
-            /// All of them, by their numbers.
+            /// All that there are, in the order of their numbers.
             pub const ALL: &'static [$kind] = &[$($kind::$name),*];
 
             /// The number that the header and a journal have for it.
@@ -24,7 +24,7 @@ macro_rules! numbered {
                 self as u32
             }
 
-            /// The one of that number.
+            /// The one that has this number, if one has.
             pub fn from_number(number: u32) -> Option<$kind> {
                 $kind::ALL.get((number as usize).checked_sub(1)?).copied()
             }

@@ -8,7 +8,7 @@ use std::fmt;
 /// A return. The numbers behind a name are, in their order, those of the record.
 #[derive(Clone, Copy, Debug, PartialEq, Eq, Hash)]
 pub enum Return {
-    /// A call.
+    /// A call of an object of the process that reads.
     Transaction(TransactionData),
     /// The reply to the thread's own call.
     Reply(TransactionData),
@@ -18,17 +18,17 @@ pub enum Return {
     TransactionComplete,
     /// Others have weak references to an object: ptr, cookie.
     Increfs(u64, u64),
-    /// Others have strong references to it: ptr, cookie.
+    /// Others have strong references to an object: ptr, cookie.
     Acquire(u64, u64),
-    /// They have no strong one any more: ptr, cookie.
+    /// Others have no strong reference to an object any more: ptr, cookie.
     Release(u64, u64),
-    /// They have none any more: ptr, cookie.
+    /// Others have no reference to an object any more: ptr, cookie.
     Decrefs(u64, u64),
-    /// Nothing.
+    /// It says nothing; each read begins with one.
     Noop,
     /// The owner of a handle has ended: the cookie that was asked with.
     DeadBinder(u64),
-    /// Its death is told no longer: the cookie.
+    /// The death of a handle's owner is told no longer: the cookie that was asked with.
     ClearDeathNotificationDone(u64),
     /// What the thread wrote was refused.
     FailedReply,
@@ -37,7 +37,7 @@ pub enum Return {
 }
 
 impl Return {
-    /// Its name in the Linux header.
+    /// The return's name in the Linux header, as `BR_REPLY`.
     pub fn name(&self) -> &'static str {
         match self {
             Return::Transaction(_) => "BR_TRANSACTION",
@@ -66,7 +66,7 @@ impl Return {
         }
     }
 
-    /// What the library tells.
+    /// The return that the library tells.
     fn told(told: &sys::hullpippin_return) -> Return {
         match told.code {
             sys::HULLPIPPIN_BR_TRANSACTION => Return::Transaction(TransactionData::told(&told.transaction)),
@@ -121,7 +121,7 @@ pub struct Returns<'a> {
 }
 
 impl<'a> Returns<'a> {
-    /// Those of a stream, such as that of [`Answer::Got`](crate::Answer::Got).
+    /// The returns of a stream, such as that of [`Answer::Got`](crate::Answer::Got).
     pub fn of(stream: &'a [u8]) -> Returns<'a> {
         Returns { rest: stream }
     }

@@ -8,9 +8,9 @@ use std::iter;
 /// The identity of an object: the place of the step that made it, and which of that step's objects it is, from 0.
 #[derive(Clone, Copy, Debug, PartialEq, Eq, Hash, PartialOrd, Ord)]
 pub struct ObjectId {
-    /// The place of the step.
+    /// The place of the step that made the object.
     pub place: u32,
-    /// Which of its objects.
+    /// Which of the objects that this step made it is, from 0.
     pub index: u32,
 }
 
@@ -20,14 +20,14 @@ impl ObjectId {
     }
 }
 
-/// A live process.
+/// A live process, as it was opened.
 #[derive(Clone, Copy, Debug, PartialEq, Eq, Hash)]
 pub struct Process {
     /// The place of its Open.
     pub made: u32,
-    /// Its pid.
+    /// The pid, which no other live process has.
     pub pid: u32,
-    /// Its user.
+    /// The effective user id.
     pub euid: u32,
     /// The size of its window in bytes.
     pub window: u32,
@@ -40,20 +40,20 @@ pub struct Process {
 pub struct Thread {
     /// The place of its Open or Attach.
     pub made: u32,
-    /// Its process.
+    /// The process of the thread, by the place of its Open.
     pub process: u32,
-    /// Whether it has entered the loop.
+    /// Whether the thread has entered the loop, in which it reads its process's list, too.
     pub looping: bool,
 }
 
-/// An object.
+/// An object that a process offers to others (a node).
 #[derive(Clone, Copy, Debug, PartialEq, Eq, Hash)]
 pub struct Object {
     /// The process that owns it, live or not.
     pub owner: u32,
-    /// By which its owner knows it.
+    /// The pointer by which its owner knows it.
     pub ptr: u64,
-    /// What its owner gave with it.
+    /// The cookie that its owner gave with it.
     pub cookie: u64,
     /// Whether its owner was told that it is referred to.
     pub told_weak: bool,
@@ -61,32 +61,32 @@ pub struct Object {
     pub told_strong: bool,
 }
 
-/// A live buffer.
+/// A buffer that lives: the parcel of a transaction or reply, in its receiver's window.
 #[derive(Clone, Copy, Debug, PartialEq, Eq, Hash)]
 pub struct Buffer {
     /// The process whose window it lies in.
     pub receiver: u32,
     /// The process that sent it, live or not.
     pub sender: u32,
-    /// Where it begins in the window.
+    /// Where it begins in the window, in bytes.
     pub start: u32,
-    /// How much of the window it takes.
+    /// How many bytes of the window it takes.
     pub size: u32,
     /// Whether it is a one-way call's.
     pub one_way: bool,
-    /// Whether it was handed out.
+    /// Whether it was handed out, by the reading of its call or reply.
     pub handed: bool,
     /// The object that a transaction goes to; a reply goes to none.
     pub target: Option<ObjectId>,
-    /// As written.
+    /// The number of the method that is called, as the sender wrote it.
     pub code: u32,
-    /// As written.
+    /// The flags, as the sender wrote them.
     pub flags: u32,
-    /// The sender's user.
+    /// The sender's effective user id.
     pub euid: u32,
-    /// How many bytes of data.
+    /// How many bytes of data the parcel has.
     pub data: usize,
-    /// How many bytes of offsets.
+    /// How many bytes of offsets the parcel has, eight for each object.
     pub offsets: usize,
 }
 
@@ -102,26 +102,26 @@ pub struct Frame {
 /// How far a death notification is.
 #[derive(Clone, Copy, Debug, PartialEq, Eq, Hash)]
 pub enum Phase {
-    /// The owner lives.
+    /// The owner of the object lives.
     Armed,
     /// The owner has ended, and that is to be read.
     Queued,
-    /// It was read.
+    /// The process has read that the owner has ended.
     Told,
-    /// And acknowledged.
+    /// The process has acknowledged that it read so.
     Acknowledged,
 }
 
-/// A death notification.
+/// What one process asked to be told about the end of an object's owner.
 #[derive(Clone, Copy, Debug, PartialEq, Eq, Hash)]
 pub struct DeathNotification {
-    /// The process that asked for it.
+    /// The process that asked for it, by the place of its Open.
     pub process: u32,
     /// The object whose owner's death is told.
     pub object: ObjectId,
-    /// What the process gave with it.
+    /// The cookie that the process gave with it.
     pub cookie: u64,
-    /// How far it is.
+    /// What has come of it so far.
     pub phase: Phase,
     /// Whether it was cleared while it was to be read, or read.
     pub cleared: bool,
@@ -130,9 +130,9 @@ pub struct DeathNotification {
 /// Whose list of what is still to be read.
 #[derive(Clone, Copy, Debug, PartialEq, Eq, Hash)]
 pub enum TodoList {
-    /// The thread's of this seat.
+    /// The list of this seat's thread.
     OfThread(u32),
-    /// The process's.
+    /// The list of the process that was opened at this place.
     OfProcess(u32),
 }
 
@@ -143,7 +143,7 @@ pub enum Work {
     Notice(ObjectId),
     /// A transaction or reply was accepted; whether it reports that its sender floods the receiver.
     Complete {
-        /// It is read as `BR_ONEWAY_SPAM_SUSPECT`.
+        /// Whether it is read as `BR_ONEWAY_SPAM_SUSPECT`.
         spam: bool,
     },
     /// What was written was refused: the code of the return.
@@ -282,19 +282,19 @@ impl Live {
         self.each(move |live, from, made| unsafe { sys::hullpippin_live_next_buffer(live, process, from, made) })
     }
 
-    /// The live thread of a seat.
+    /// The live thread of a seat, if it has one.
     pub fn thread(&mut self, seat: u32) -> Option<Thread> {
         let told = self.found(|live, told| unsafe { sys::hullpippin_live_thread(live, seat, told) })?;
         let sys::hullpippin_thread { made, process, looping } = told;
         Some(Thread { made, process, looping })
     }
 
-    /// The context manager's object.
+    /// The identity of the context manager's object, if there is a manager.
     pub fn manager_object(&mut self) -> Option<ObjectId> {
         self.found(|live, told| unsafe { sys::hullpippin_live_manager_object(live, told) }).map(ObjectId::told)
     }
 
-    /// An object.
+    /// The object with this identity, if it is still there.
     pub fn object(&mut self, id: ObjectId) -> Option<Object> {
         let ObjectId { place, index } = id;
         let told = self.found(|live, told| unsafe { sys::hullpippin_live_object(live, place, index, told) })?;

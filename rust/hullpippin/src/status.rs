@@ -19,9 +19,9 @@ pub enum Error {
     SeatCount,
     /// The seat's latest answer gave no request back.
     NothingBack,
-    /// All seats are taken.
+    /// No seat can be taken: the driver has none left.
     NoSeatLeft,
-    /// A seat isn't back.
+    /// The driver can't end, since a seat of it isn't back.
     SeatsAway,
     /// The bytes are no journal, or there is no journal of so many seats.
     NoJournal,
@@ -63,7 +63,7 @@ impl fmt::Display for Error {
 
 impl std::error::Error for Error {}
 
-/// What a status says.
+/// Whether the call was made whose status this is, or why not.
 pub(crate) fn checked(status: u32) -> Result<(), Error> {
     Err(match status {
         sys::HULLPIPPIN_DONE => return Ok(()),

@@ -19,9 +19,9 @@ pub struct Call {
     pub from: Party,
     /// The pid in the history of who is called; None where the call was refused.
     pub to: Option<u32>,
-    /// Who serves it.
+    /// Who serves the call, once its transaction was read.
     pub server: Option<Party>,
-    /// What is called.
+    /// What the object that is called goes by.
     pub what: String,
     pub code: u32,
     pub one_way: bool,
@@ -72,7 +72,7 @@ struct Seat {
     /// The places of two-way calls that it waits for, and of those that it serves, the innermost last.
     waits: Vec<u64>,
     serves: Vec<u64>,
-    /// Refusals that it hasn't read.
+    /// How many refusals stand on its list that it hasn't read.
     refused: u32,
 }
 

@@ -21,7 +21,7 @@ pub enum Did {
     Other,
 }
 
-/// What came of it.
+/// What came of a step.
 #[derive(Clone, Copy, Debug, PartialEq, Eq)]
 pub enum Came {
     Accepted,

@@ -127,7 +127,7 @@ struct Party {
 struct Process {
     pid: u32,
     comm: String,
-    /// Its pid in the history.
+    /// The pid by which the history knows the process.
     process: u32,
     euid: u32,
     window: u32,
@@ -297,7 +297,7 @@ pub struct Window {
     pub comm: String,
     pub size: u64,
     pub buffers: u64,
-    /// The bytes of these.
+    /// How many bytes of the window the buffers take.
     pub taken: u64,
 }
 

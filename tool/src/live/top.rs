@@ -114,7 +114,7 @@ impl Sums {
         pair.most = pair.most.max(ended.took());
     }
 
-    /// Adds what is open now.
+    /// Adds the calls that are open now, which no end has counted.
     fn add_open(&mut self, calls: &Calls) {
         for call in calls.open() {
             let caller = self.processes.entry(process_of(&call.from, calls)).or_default();
@@ -148,7 +148,7 @@ impl Sums {
     }
 }
 
-/// What is seen.
+/// What stands on the screen: a line above, and the rows of two tables.
 struct Screen {
     head: String,
     pairs: Vec<[String; 7]>,
@@ -197,7 +197,7 @@ const PROCESS_EXTRAS: [usize; 3] = [5, 2, 3];
 const PAIR_WORDS: usize = 50;
 const PROCESS_WORDS: usize = 25;
 const ARROW: &str = " -> ";
-/// Between columns.
+/// How many blanks stand between two columns.
 const GAP: usize = 2;
 /// Where there is no terminal nothing is cut.
 const WIDE: usize = 1000;

@@ -39,7 +39,7 @@ pub struct Trace {
     pub program: Vec<String>,
 }
 
-/// `sensors(812/815)`.
+/// The words for a thread, as `sensors(812/815)`: what it is called, its process's pid and its own number.
 fn thread_words(party: &Party) -> String {
     match party.tid {
         Some(tid) => format!("{}({}/{tid})", party.comm.escape_debug(), party.pid),

@@ -6,7 +6,7 @@ use super::words::Kind;
 use crate::parcel::put_hex;
 use crate::record;
 
-/// A part of a parcel.
+/// A part of a parcel, as a script spells it.
 #[derive(Clone, Debug, PartialEq, Eq)]
 pub enum Piece {
     Bytes(Vec<u8>),
@@ -58,7 +58,7 @@ impl Laid {
         Ok(laid)
     }
 
-    /// As a parcel has them.
+    /// The offsets as a parcel has them: eight bytes each, the lowest first.
     pub fn offset_bytes(&self) -> Vec<u8> {
         self.offsets.iter().flat_map(|it| it.to_le_bytes()).collect()
     }

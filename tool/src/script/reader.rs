@@ -31,7 +31,7 @@ pub enum Said {
 
 #[derive(Clone, Debug, PartialEq, Eq)]
 pub struct Line {
-    /// From 1.
+    /// Which line of the script it is, from 1.
     pub number: usize,
     pub said: Said,
 }
@@ -49,7 +49,7 @@ impl Line {
 pub struct Cursor<'a> {
     words: &'a [Word],
     at: usize,
-    /// The column behind the last.
+    /// The column behind the last word, at which a missing word is told.
     end: usize,
     names: &'a HashMap<String, Named>,
 }
@@ -101,7 +101,7 @@ impl Cursor<'_> {
         }
     }
 
-    /// Nothing may follow.
+    /// Sees that no word follows; one that does is told.
     pub fn finish(&self) -> Reads<()> {
         match self.peek() {
             None => Ok(()),
@@ -239,7 +239,7 @@ pub struct Reader {
     count: Option<u32>,
     /// Whether the line `seats` made no sense, so that nobody knows who sits where.
     is_bad: bool,
-    /// The line of the latest step.
+    /// The number of the line with the latest step, to which an `expect` belongs.
     latest: Option<usize>,
 }
 

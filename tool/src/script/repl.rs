@@ -50,7 +50,7 @@ impl Drop for Room {
     }
 }
 
-/// What was typed so far.
+/// The lines that were typed so far, and what they have come to.
 struct Session {
     reader: Reader,
     /// How the reader was before each line.

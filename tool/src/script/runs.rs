@@ -12,7 +12,7 @@ use std::collections::BTreeMap;
 use std::io::Write;
 use std::process::{Command, Stdio};
 
-/// With what scripts are played.
+/// The player by which scripts are played, and how patiently.
 #[derive(Clone, Debug)]
 pub struct Setting {
     pub player: String,
@@ -79,7 +79,7 @@ pub struct Run {
     answers: BTreeMap<usize, Answer>,
     /// What was printed by the latest run.
     printed: String,
-    /// How many lines have been played.
+    /// How many lines of the script were played by then.
     played: usize,
 }
 

@@ -26,7 +26,7 @@ pub enum Number {
     Last { of: Latest, back: usize, column: usize },
 }
 
-/// A part of a line.
+/// A part of a line, once its names are looked up.
 #[derive(Clone, Debug, PartialEq, Eq)]
 pub enum Part {
     Word(String),

@@ -1,14 +1,14 @@
 // SPDX-License-Identifier: Apache-2.0 OR MIT
 //! The words of a line.
 
-/// What a word is.
+/// What kind of word it is, by how it begins.
 #[derive(Clone, Debug, PartialEq, Eq)]
 pub enum Kind {
     /// Letters without quotes: a name, a verb, a number, bytes in hex.
     Bare,
-    /// `"hello"`
+    /// A text in double quotes: `"hello"`.
     Text(String),
-    /// `'_PNG'`
+    /// Four letters in single quotes, as the number that they stand for: `'_PNG'`.
     Letters(u32),
     /// One of `( ) , | =`.
     Sign,
@@ -17,13 +17,13 @@ pub enum Kind {
 #[derive(Clone, Debug, PartialEq, Eq)]
 pub struct Word {
     pub kind: Kind,
-    /// As it stands in the line.
+    /// The word as it stands in the line, quotes among it.
     pub text: String,
-    /// In letters, from 1.
+    /// Where it begins in the line, in letters from 1.
     pub column: usize,
 }
 
-/// What is no word, and where.
+/// Something that is no word: the column where it stands, and what is wrong with it.
 pub type Bad = (usize, String);
 
 const SIGNS: &str = "(),|=";

@@ -56,9 +56,9 @@ pub struct Arrow {
 /// What a thread is doing.
 #[derive(Clone, Copy, Debug, PartialEq, Eq)]
 pub enum Doing {
-    /// There is none.
+    /// There is no thread at the seat.
     Gone,
-    /// It is in no call.
+    /// The thread is in no call.
     Idle,
     Waits,
     Serves,
@@ -88,7 +88,7 @@ pub enum Event {
     SpamSet(bool),
     /// A transaction or reply was accepted, by its arrow.
     Sent(usize),
-    /// It was handed out.
+    /// A transaction or reply was handed out, by its arrow.
     Got(usize),
     /// A death was told, by the notification's cookie.
     Death(u64),

@@ -95,7 +95,7 @@ impl Plot {
         Some(Kind::OneWay { handle, code, turn })
     }
 
-    /// A return was read.
+    /// Draws what it means that this return was read.
     fn tell(&mut self, place: u64, seat: u32, message: &Message, about: &About) {
         let cookie = if let Payload::Cookie(cookie) = message.payload { cookie } else { 0 };
         let event = match (message.code.number, about) {

@@ -109,7 +109,7 @@ impl Tracks {
         }
     }
 
-    /// The same of all seats.
+    /// Follows the threads of all seats so.
     pub fn follow_all(&mut self, space: &Space, sheet: &mut Sheet) {
         let seats: Vec<u32> = self.seats.keys().copied().collect();
         seats.into_iter().for_each(|it| self.follow(space, it, sheet));

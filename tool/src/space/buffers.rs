@@ -7,7 +7,7 @@ use std::collections::{BTreeMap, HashMap};
 /// The pointer of a window's first byte.
 pub const FIRST_POINTER: u64 = 65536;
 
-/// A transaction or reply.
+/// A transaction or reply that was sent: who sent it, and what it says.
 #[derive(Clone, Copy, Debug, PartialEq, Eq, Serialize, Deserialize)]
 pub struct Sent {
     /// The place of its command.
@@ -36,16 +36,16 @@ pub struct Carry {
 #[derive(Clone, Debug, Serialize, Deserialize)]
 pub struct Buffer {
     pub sent: Sent,
-    /// What it takes of the window.
+    /// How many bytes of the window it takes.
     pub needed: u64,
     pub one_way: bool,
-    /// Where it was read.
+    /// The place of the entry that read it; None before that.
     pub read: Option<u64>,
     /// One for each offset of the parcel; None where nothing is known of it.
     pub carries: Vec<Option<Carry>>,
 }
 
-/// A window.
+/// A process's window: the buffers in it, by their pointers, and what is free.
 #[derive(Clone, Debug, Default, Serialize, Deserialize)]
 pub struct Room {
     pub size: u64,
@@ -55,7 +55,7 @@ pub struct Room {
     /// What one-way buffers take, in all and by who sent them.
     one_way: u64,
     senders: HashMap<ProcessId, u64>,
-    /// Where the latest buffer with a pointer was freed.
+    /// By pointer, the place of the entry that freed the latest buffer there.
     freed: HashMap<u64, u64>,
 }
 
@@ -76,7 +76,7 @@ impl Room {
         self.buffers.len()
     }
 
-    /// What all buffers take.
+    /// How many bytes all buffers take.
     pub fn used(&self) -> u64 {
         self.buffers.values().fold(0, |sum, it| sum.saturating_add(it.needed))
     }
@@ -85,7 +85,7 @@ impl Room {
         self.one_way
     }
 
-    /// The largest hole.
+    /// How many bytes the largest hole has, and so the largest buffer that fits in.
     pub fn largest_hole(&self) -> u64 {
         self.holes.values().copied().max().unwrap_or(0)
     }

@@ -49,7 +49,7 @@ impl Space {
         }
     }
 
-    /// A call will not be served.
+    /// Notes that an open call will never be served, since its server has ended.
     fn orphan(&mut self, call: u64) {
         if let Some(frame) = self.frames.get_mut(&call) {
             frame.server = Server::Gone;

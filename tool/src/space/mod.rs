@@ -55,7 +55,7 @@ pub struct Process {
     /// Whether it is told of its own flooding.
     pub spam: bool,
     pub names: Names,
-    /// Its own objects.
+    /// The process's own objects, by their ptrs.
     pub objects: HashMap<u64, ObjectId>,
     pub room: Room,
     pub todo: Todo,
@@ -112,13 +112,13 @@ impl Object {
         self.told != [self.is_held(), self.is_strong()]
     }
 
-    /// What one may call it.
+    /// What people may call the object: the name of its service, or else its interface.
     pub fn called(&self) -> Option<&str> {
         self.service.as_deref().or(self.interface.as_deref())
     }
 }
 
-/// Who serves a call.
+/// Who serves an open call: nobody yet, a seat's thread, or one that has ended.
 #[derive(Clone, Copy, Debug, PartialEq, Eq, Serialize, Deserialize)]
 pub enum Server {
     Pending,
@@ -155,7 +155,7 @@ impl Phase {
     }
 }
 
-/// A death notification.
+/// What one process asked to be told about the end of an object's owner, and what has come of it.
 #[derive(Clone, Debug, Serialize, Deserialize)]
 pub struct Death {
     pub object: ObjectId,
@@ -164,7 +164,7 @@ pub struct Death {
     pub cleared: bool,
 }
 
-/// All of it, after some steps.
+/// All that steps have come to, after so many of them.
 #[derive(Clone, Debug, Default, Serialize, Deserialize)]
 pub struct Space {
     pub steps: u64,
@@ -174,7 +174,7 @@ pub struct Space {
     pub objects: HashMap<ObjectId, Object>,
     pub frames: HashMap<u64, Frame>,
     pids: HashMap<u32, ProcessId>,
-    /// Frames whose server is gone.
+    /// The places of frames whose server is gone.
     orphans: BTreeSet<u64>,
     /// Objects whose references changed in this step.
     #[serde(skip)]

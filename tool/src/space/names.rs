@@ -12,11 +12,11 @@ pub const STRONG: usize = 1;
 #[derive(Clone, Debug, Serialize, Deserialize)]
 pub struct Name {
     pub object: ObjectId,
-    /// Where it came.
+    /// The place of the entry by which the process got the name.
     pub since: u64,
     /// References that the process asked for: weak, strong.
     pub asked: [u32; 2],
-    /// Those of the buffers in its window.
+    /// References that buffers in the process's window carry: weak, strong.
     pub carried: [u32; 2],
 }
 
@@ -30,7 +30,7 @@ impl Name {
     }
 }
 
-/// A name that went.
+/// A name that went, between which places it stood.
 #[derive(Clone, Copy, Debug, PartialEq, Eq, Serialize, Deserialize)]
 pub struct Gone {
     pub object: ObjectId,
