@@ -12,7 +12,7 @@ use crate::plays::{Look, Publish, Put, Take};
 use crate::refusals::outcome_of;
 use crate::seat::{Seat, TableSeat};
 use crate::slot::Slot;
-use crate::words::{PAGE, TAKEN};
+use crate::states::{PAGE, TAKEN};
 use bd_space::Request;
 
 impl Driver {

@@ -7,7 +7,7 @@ use crate::outcome::{Outcome, Why};
 use crate::plays::{Collect, Post, Withdraw};
 use crate::seat::Seat;
 use crate::slot::Slot;
-use crate::words::{ANSWERED, EMPTY, POSTED};
+use crate::states::{ANSWERED, EMPTY, POSTED};
 use bd_space::Request;
 
 impl Driver {

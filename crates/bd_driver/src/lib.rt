@@ -16,10 +16,10 @@ mod refusals;
 mod seat;
 mod serving;
 mod slot;
+mod states;
 #[cfg(test)]
 mod tests;
 mod view;
-mod words;
 
 pub use desk::Desk;
 pub use driver::Driver;

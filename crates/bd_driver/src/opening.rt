@@ -10,7 +10,7 @@ use crate::page::page_while_taken;
 use crate::plays::{Deal, Open};
 use crate::seat::{Seat, TableSeat};
 use crate::slot::Slot;
-use crate::words::TAKEN;
+use crate::states::TAKEN;
 use atomic_table::Table;
 use bd_uapi::{Fault, MOST_SEATS};
 use std::alloc::{AllocError, Global};

@@ -11,7 +11,7 @@ use crate::page::page_while_taken;
 use crate::plays::{AnswerPick, Pick, PublishFor, Put};
 use crate::seat::{Seat, TableSeat};
 use crate::slot::Slot;
-use crate::words::{ANSWERED, PAGE, PICKED, POSTED, TAKEN};
+use crate::states::{ANSWERED, PAGE, PICKED, POSTED, TAKEN};
 
 impl Driver {
     ghost use Rattle.bd_driver.specs.Served.{Serves};

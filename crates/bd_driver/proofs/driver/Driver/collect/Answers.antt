@@ -18,14 +18,14 @@ compare_exchange-found-requires c = (search rules, search rules, collects_at _ _
 
 pub exchange-requires : goal.exchange-requires
 exchange-requires c =
-    let hit = c.compare_exchange-found.ensures.2.1 c.if-found-ne3.false in
+    let hit = c.compare_exchange-found.ensures.2.1 c.if-found-ne-ANSWERED.false in
     (search rules, (Answered hit.3, first_held _ _ (c.seat.inside.number + 1) (Answered hit.3) (ap (λ (m : Hands). m.1) hit.7)))
 
 pub returns-clause-collects : goal.returns-clause-collects
 returns-clause-collects c =
     let me = c.seat.inside.table_seat.me in
     let v = view_of me.0 in
-    let found = c.if-found-ne3.false in
+    let found = c.if-found-ne-ANSWERED.false in
     let hit = c.compare_exchange-found.ensures.2.1 found in
     let slots = ap (λ (m : Hands). m.1) hit.7 in
     let told = sym slots ∙ (c.exchange.ensures.2 ∙ ap (λ (s : Slot). (c.seat.inside.number + 1, s) ∷ rest c.compare_exchange-found.new.seat.me.1) c.in-Answered.is) in

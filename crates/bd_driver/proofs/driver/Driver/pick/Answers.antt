@@ -13,6 +13,6 @@ compare_exchange-requires c =
 
 pub exchange-requires : goal.exchange-requires
 exchange-requires c =
-    let hit = c.compare_exchange.ensures.2.1 c.if-compare_exchange-ne1.false in
+    let hit = c.compare_exchange.ensures.2.1 c.if-compare_exchange-ne-POSTED.false in
     let is = ap (λ (m : Hands). m.1) hit.3 in
     (search rules, (Posted hit.0, first_held _ _ (c.args.number + 1) (Posted hit.0) is))

@@ -8,7 +8,7 @@ use Rattle.bd_driver.proofs.driver.Driver.withdraw.Goals as goal
 
 pub exchange-requires : goal.exchange-requires
 exchange-requires c =
-    let hit = c.compare_exchange-found.ensures.2.1 c.if-found-ne1.false in
+    let hit = c.compare_exchange-found.ensures.2.1 c.if-found-ne-POSTED.false in
     (search rules, (Posted hit.0, first_held _ _ (c.seat.inside.number + 1) (Posted hit.0) (ap (λ (m : Hands). m.1) hit.4)))
 
 pub compare_exchange-found-requires : goal.compare_exchange-found-requires
