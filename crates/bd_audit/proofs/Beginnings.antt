@@ -73,7 +73,7 @@ pub refused : (h : History) (e : Entry) (at : ℕ) (w : Why) (x : Step) (f : Aud
     → IfUnlawful f (λ at. IsHistory (with_entry h e) → ⊥)
 refused h e at w x f is same_step full = search (arith, past_limit)
 
--- the same, and where
+-- An engine refuses an entry's step as unlawful only at the place where the history ends, and the entry doesn't continue it.
 pub refused_here : (h : History) (e : Entry) (at : ℕ) (w : Why) (x : Step) (f : AuditFault) → f ≡ fault_of w at → x ≡ e.step → FullOnly w (is_at_limit h e.seat (Some x) ≡ true) → at ≡ length h.entries
     → IfUnlawful f (λ n. (n ≡ length h.entries) × (IsHistory (with_entry h e) → ⊥))
 refused_here h e at w x f is same_step full so_long = by f is (refused h e at w x f is same_step full)
@@ -98,7 +98,7 @@ front_begun n h es same_es k = subst (λ xs. IsHistory (record { seats = h.seats
 pub one_more : (h : History) (i : ℕ) (e : Entry) → i < length h.entries → e ≡ get_or h.entries i e → with_entry (beginning i h) e ≡ beginning (i + 1) h
 one_more h i e lt is = ap (λ es. let k : History = record { seats = h.seats; entries = es } in k) (ap (λ x. take i h.entries ++ x ∷ []) is ∙ sym (take_more h.entries i e lt))
 
--- the same of the entry as a loop finds it
+-- The beginning up to i, with the entry that is at i among all entries, is the beginning up to i + 1.
 pub one_next : (h g : History) (i : ℕ) (e : Entry) (es : List Entry) → g ≡ beginning i h → es ≡ h.entries → i < length es → e ≡ get_or es i e → with_entry g e ≡ beginning (i + 1) h
 one_next h g i e es at_i same_es below found = search (arith, one_more)
 
@@ -119,7 +119,7 @@ module _ (h : History) (i : ℕ) (e : Entry) (es : List Entry) (same_es : es ≡
 pub next_beginning : (h g k : History) (i : ℕ) (e : Entry) (es : List Entry) → g ≡ beginning i h → es ≡ h.entries → i < length es → e ≡ get_or es i e → k ≡ with_entry g e → k ≡ beginning (i + 1) h
 next_beginning h g k i e es at_i same_es below found is = is ∙ one_next h g i e es at_i same_es below found
 
--- after the last entry
+-- The beginning that is as long as the entries is the history.
 pub all_played : (h g : History) (i : ℕ) (es : List Entry) → g ≡ beginning i h → es ≡ h.entries → length es ≤ i → g ≡ h
 all_played h g i es at_i same_es le =
     let past : length h.entries ≤ i = subst (λ xs. length xs ≤ i) same_es le in

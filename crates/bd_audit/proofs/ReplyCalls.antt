@@ -33,7 +33,7 @@ module _ (g k : History) (e : Entry) (limit : ℕ) (reading : e.step ≡ Read li
   found : now ≡ first_reply (next (space_after g) e) e.seat
   found = then ∙ ap (λ z. first_reply z e.seat) (next_space g k e is)
 
-  -- the first reply is still the first
+  -- Where the first reply on the list is the same before and after the step, the step took none.
   pub still_first : option_eq (λ x y. x == y) now before ≡ true → None ≡ reply_taken (space_after g) e
   still_first h = elim (taken_or_not (space_after g) (always_owed g) e limit reading) [
     | inl n ↦ sym n.0
@@ -48,7 +48,7 @@ module _ (g k : History) (e : Entry) (limit : ℕ) (reading : e.step ≡ Read li
 
 -- ---- the entry at a place
 
--- the same answer by another name
+-- A result that tells x tells y where the two are equal.
 pub by_name : (r : Result (Option ℕ) Fault) (x y : Option ℕ) → x ≡ y → MatchResult r (λ v. v ≡ x) (λ f. f ≡ NoMemory) → MatchResult r (λ v. v ≡ y) (λ f. f ≡ NoMemory)
 by_name r x y e h = subst (λ (z : Option ℕ). MatchResult r (λ v. v ≡ z) (λ f. f ≡ NoMemory)) e h
 

@@ -105,14 +105,14 @@ judges_cut bytes r first last j left begun seen cut stop =
 
 -- ---- what isn't read
 
--- a heading that isn't one
+-- Bytes that spell no record aren't read, and the error says so.
 pub no_heading : (bytes : List ℕ) (e : ReadError) → e ≡ Malformed → ((x : Record) → Tells bytes x → ⊥) → IsUnread bytes e
 no_heading bytes e is none = subst (IsUnread bytes) (sym is) none
 
 pub no_cut_heading : (bytes : List ℕ) (e : ReadError) → e ≡ Malformed → ((x : Record) (left : List ℕ) → IsCut bytes x left → ⊥) → IsUncut bytes e
 no_cut_heading bytes e is none = subst (IsUncut bytes) (sym is) (λ h. none h.0 h.1 h.2)
 
--- or what stands behind one
+-- Behind a heading that was read, want of memory is a true reason.
 module _ (bytes : List ℕ) (r : JournalReader) (e : ReadError) (cut : IsCut bytes (cut_left r).0 (cut_left r).1) where
   heading : HasHeading bytes
   heading = ((cut_left r).0, (cut_left r).1, cut)

@@ -24,7 +24,7 @@ of_none (Some x) P none is = none-some x (sym none)
 pub not_of : {T : Type 0} (kind : Held → Option T) (h : Option Held) (x : Held) (P : T → Type 0) → h ≡ Some x → kind x ≡ None → Of kind h P → ⊥
 not_of kind h x P there none is = of_none (kind x) P none (subst (λ (o : Option Held). IsSomeAnd o (λ v. IsSomeAnd (kind v) P)) there is)
 
--- where nothing is, nothing was
+-- A handle that is as it was, and has nothing, had nothing.
 pub none_there : (h k : Option Held) → k ≡ h → k ≡ None → IsThere h → ⊥
 none_there h k same none there = subst (λ (o : Option Held). IsThere o → ⊥) same (subst (λ (o : Option Held). IsThere o → ⊥) (sym none) (λ (t : IsThere None). none-some t.0 t.1)) there
 

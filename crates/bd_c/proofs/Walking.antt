@@ -61,7 +61,7 @@ of_two : (x : Option WalkFault) → first_of_two x None ≡ x
 of_two None = refl
 of_two (Some fault) = refl
 
--- by itself, with another index
+-- The fault of one offset in a parcel is that of a parcel with this offset alone, told of the other index.
 alone : (bytes xs : List ℕ) (i : ℕ) → length xs ≡ 8 → fault_at bytes 0 i (long_at 0 xs) ≡ again (fault_in bytes (offsets_in xs)) i
 unfolding judge
 alone bytes xs i len =

@@ -40,7 +40,7 @@ record_fits bytes h = record {
   offsets = long_fits 60 bytes h;
 }
 
--- the code, and then the payload
+-- Bytes that begin with a code and then have its payload are the whole spelling.
 whole : (code n : ℕ) (bytes payload : List ℕ) → IsBytes bytes → 4 + n ≤ length bytes → word_at 0 bytes ≡ code → payload ≡ take n (drop 4 bytes) → word code ++ payload ≡ take (4 + n) bytes
 whole code n bytes payload h le is p = glue 0 4 n bytes (word code) payload (ap word (sym is) ∙ word_takes 0 bytes h (omega arith)) p
 

@@ -115,7 +115,7 @@ ends seats id states words slots slot f is idle all =
     let each = each_seat (Fits seats k.entries k.carrier k.taken_by k.mailboxes id) states (k.each id (views_of states) at) in
     (k.entries, same, λ lawful. record { seats_are = refl; lawful = lawful; begins = λ i x e. (each i x e).begins; own = λ i x e. own_of k.entries x.view (entries_are seats k.entries k.carrier k.taken_by k.mailboxes id (closed_view x.view) (each i x e)) })
 
--- the same, at the key and the view that `close_with` tells of
+-- `ends`, for the key and the views that `close_with` tells of.
 pub ends_at : (key seats id : ℕ) (vs : List View) (states : List SeatState) (words : List ℕ) (slots : List Slot) (slot : Slot) → key ≡ seats → vs ≡ views_of states
     → Final (Seen (Kept key) id vs) words slots → get_elem? slots 0 ≡ some slot → Each Idle (views_of states) → AllSeats seats states
     → (entries : List Entry) × (slot ≡ Home (history_of seats entries)) × (IsHistory (history_of seats entries) → IsFinal seats states seats entries)
@@ -139,6 +139,6 @@ final_record seats states e count given h parts lawful =
     engine_is : {x y : History} → Home x ≡ Home y → x ≡ y
     engine_is {x} {y} p = ap (engine_in x) p
 
--- no entry is a history
+-- A record without entries is a history.
 pub no_history : (seats : ℕ) (entries : List Entry) → entries ≡ [] → IsHistory (history_of seats entries)
 no_history seats entries is = subst (λ l. IsHistory (history_of seats l)) (sym is) (record { short = omega arith; seats = refl; follows = tt })

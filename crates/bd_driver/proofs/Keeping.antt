@@ -43,7 +43,7 @@ review seats entries carrier now taken_by taken mailboxes id j v w f same held b
   idle = idle;
 }
 
--- the same view; another of the table's seats may come to carry it
+-- A view fits on, also where another of the table's seats comes to carry it.
 pub reseat : (seats : ℕ) (entries : List Entry) (carrier now : ℕ → ℕ) (taken_by taken : Option ℕ) (mailboxes : List Mailbox) (id j : ℕ) (v : View) → Fits seats entries carrier taken_by mailboxes id v → now v.who ≡ j → (v.taker ≡ true → (taken ≡ some j) × (v.seen ≡ entries)) → Fits seats entries now taken mailboxes j v
 reseat seats entries carrier now taken_by taken mailboxes id j v f held takes = review seats entries carrier now taken_by taken mailboxes id j v v f (refl, refl, refl, refl) held f.begins takes f.picks f.idle
 

@@ -110,7 +110,7 @@ module _ (seats : ℕ) (s : State Slot (List View)) (k : Kept seats s) where
     own_taker : (w : View) (i : ℕ) (new : Mailbox) → (v.taker ≡ true → w.taker ≡ true) → w.pick ≡ v.pick → is_picked new ≡ false → HasTaker (set s.views id (w ∷ [])) (set k.mailboxes i new) k.taken_by
     own_taker w i new stays pick_is off = keeps_taker s.views id v w k.mailboxes (set k.mailboxes i new) k.taken_by (at ∙ ap some one) stays pick_is (λ p. picked_else k.mailboxes i new p off) k.has_taker
 
-    -- the word of a mailbox
+    -- The table's word for mailbox i is the one that its state calls for.
     found_mark : (i : ℕ) (b : Mailbox) → get_elem? k.mailboxes i ≡ some b → get_or s.words (suc i) 0 ≡ mark b
     found_mark i b is = ap (λ ws. get_or ws (suc i) 0) k.words ∙ got (map mark k.mailboxes) i (mark b) (at_map mark k.mailboxes i b is)
       where
@@ -140,7 +140,7 @@ module _ (seats : ℕ) (s : State Slot (List View)) (k : Kept seats s) where
       idle = λ t. g ∙ mine.idle (sym h ∙ t);
     }
 
-    -- and all other views
+    -- All other views fit as before where the own mailbox changes from a state that isn't picked.
     own_others : (new : Mailbox) → is_picked mine.mailbox ≡ false → (j : ℕ) (u : View) → j ≢ id → Fits seats k.entries k.carrier k.taken_by k.mailboxes j u → Fits seats k.entries k.carrier k.taken_by (set k.mailboxes v.who new) j u
     own_others new off j u apart f =
         apart_fits v.who new j u (λ same. apart (sym f.held ∙ (ap k.carrier same ∙ mine.held))) (pick_else k.mailboxes v.who mine.mailbox new u.pick mine.has_mailbox off f.picks) f
@@ -315,7 +315,7 @@ module _ (seats slots id : ℕ) (me : Hands) (one : me.0 ≡ view_of me.0 ∷ []
         (λ (e : u.who ≡ i). passed_fits seats s k i b new j u is (λ h. boxing u.who h e) same p e f)
         (λ (e : u.who ≢ i). apart_fits seats s k i new j u e p f)
 
-    -- the same view with another pick
+    -- A view that differs from x only in what it names as picked fits where that fits the mailboxes.
     repick : (s : State Slot (List View)) (k : Kept seats s) (mailboxes : List Mailbox) (w : View) → Fits seats k.entries k.carrier k.taken_by mailboxes id x → w.seats ≡ x.seats → w.who ≡ x.who → w.seen ≡ x.seen → w.handover ≡ x.handover → w.own ≡ x.own → w.taker ≡ x.taker
         → PickFits mailboxes w.pick → Fits seats k.entries k.carrier k.taken_by mailboxes id w
     repick s k mailboxes w m a b c d e f p =

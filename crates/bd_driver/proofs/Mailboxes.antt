@@ -58,7 +58,7 @@ open_mailbox seats entries who h (posted r n) x e = let y = x.0 in absurd (cc)
 open_mailbox seats entries who h (picked r n start count) x e = let y = x.0 in absurd (cc)
 open_mailbox seats entries who h (answered r n o) x e = let y = x.0 in absurd (cc)
 
--- the same view after the run of another seat
+-- A view fits on after the run of another seat is published.
 pub relog : (seats : ℕ) (entries : List Entry) (carrier : ℕ → ℕ) (taken_by now : Option ℕ) (mailboxes : List Mailbox) (id : ℕ) (v : View) (by : ℕ) (run more : List Entry)
     → more ≡ entries ++ run → AllBy by run → v.who ≢ by → Fits seats entries carrier taken_by mailboxes id v → (v.taker ≡ true → (now ≡ some id) × (v.seen ≡ more)) → Fits seats more carrier now mailboxes id v
 relog seats entries carrier taken_by now mailboxes id v by run more is all apart f t = record {

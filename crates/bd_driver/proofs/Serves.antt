@@ -305,7 +305,7 @@ served_more v xs k m m' d n b a s is =
       slots = s.slots ∙ a.slots;
     }
 
--- what was picked while serving is picked
+-- A pick that finds a request, made by a seat that serves, leaves that request picked.
 pub picks_serving : (m m' : Hands) (i : ℕ) (r : Request) (e : History) → Serving m e → PicksOne m i m' (Some r) → IsPicked m' i r e
 picks_serving m m' i r e s p = subst (λ x. IsPicked x i r e) (sym p.view.1.2) (record {
   one = refl;

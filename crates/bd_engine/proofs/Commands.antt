@@ -171,7 +171,7 @@ module _ (old now : History) (seat : ℕ) (stream area : List ℕ) (consumed cou
   is_short : ltb 4096 (length stream) ≡ false
   is_short = le-ltb _ _ h.short
 
-  -- its entries and answer are all of the write's
+  -- A run whose entries and answer are those of the whole write is the write's run.
   whole : (new : History) (es : List Entry) (answer : Answer) (w : Written)
       → written (space_after old) seat area 0 (commands_of stream).commands (commands_of stream).fault ≡ w
       → new.seats ≡ old.seats → new.entries ≡ old.entries ++ es → AllBy seat es → es ≡ w.entries → answer ≡ wrote w w.entries
@@ -189,7 +189,7 @@ module _ (old now : History) (seat : ℕ) (stream area : List ℕ) (consumed cou
         ends = refl;
       }
 
-  -- no command follows
+  -- Where no command follows, the run so far is the write's run.
   pub finished : (fault : Option Fault) → left ≡ record { commands = []; fault = fault }
       → HasRun old now seat (Write stream area) (Wrote consumed notes (option_map stop.Fault fault)) (length old.entries) (length now.entries)
   finished fault e =
@@ -207,7 +207,7 @@ module _ (old now : History) (seat : ℕ) (stream area : List ℕ) (consumed cou
       → HasRun old now seat (Write stream area) (Wrote consumed notes (Some (stop.Fault x))) (length old.entries) (length now.entries)
   finished_fault x k e = finished (Some x) (ap (λ n. readable n (drop consumed stream)) (fuel_suc k) ∙ readable_next (h.fuel - 1) (drop consumed stream) (Err x) (omega (arith, length-drop consumed stream)) e)
 
-  -- a command follows
+  -- What holds where a command follows.
   module _ (c : Command) (size : ℕ) (is_next : IsNext stream consumed c size) where
     abbrev others : Readable
     others = readable (h.fuel - 1) (drop (consumed + size) stream)
@@ -312,7 +312,7 @@ module _ (old now : History) (seat : ℕ) (stream area : List ℕ) (consumed cou
       said_last [] y answer fine first later = first refl
       said_last (x ∷ run) y answer fine first later = later (omega arith) ∙ sym (fine (last y))
 
-      -- it was the last
+      -- Where the write ends with this command's step, the run up to it is the write's run.
       pub ended : (y : Stop) → ((w : Written) → turned a entry size count w ≡ ends_here entry size y) → (answer : Answer)
           → (length h.run ≡ 0 → answer ≡ wrote (last y) (entry ∷ [])) → (0 < length h.run → answer ≡ Wrote (consumed + size) notes (Some y))
           → HasRun old new seat (Write stream area) answer (length old.entries) (length new.entries)
@@ -323,7 +323,7 @@ module _ (old now : History) (seat : ℕ) (stream area : List ℕ) (consumed cou
           ∙ ap (joined h.run consumed notes) (written_cons (space_after now) seat area count (c, size) others.commands others.fault a is ∙ turns _) ∙ here in
           whole new (h.run ++ entry ∷ []) answer w all new_seats new_entries (AllBy_push seat h.run entry h.by_seat refl) refl (said_last h.run y answer h.unrefused first later)
 
-      -- it wasn't
+      -- Where the write goes on behind this command, its step is part of the run so far.
       pub went_on : (ns : List (ℕ × Note)) → ((w : Written) → turned a entry size count w ≡ goes_on entry size ns w) → IsUnrefused (entry ∷ [])
           → IsProgress old new seat stream area (consumed + size) (count + 1) (notes ++ ns)
       went_on ns turns fine = record {

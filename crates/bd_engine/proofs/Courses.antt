@@ -38,7 +38,7 @@ goes old new seat stream area (GoesOn p) consumed count notes is h = (rw (is.con
 goes old new seat stream area (Ends answer) consumed count notes is h = absurd is
 
 module _ (old now : History) (seat : ℕ) (stream area : List ℕ) (p : Progress) (come : HasCome old now seat stream area p) (c : Command) (size : ℕ) (is_next : IsNext stream p.consumed c size) where
-  -- its step wasn't taken
+  -- Where the command's step wasn't taken, the write is turned away as a whole or ends with what was done so far.
   cut : (why : Why) (r : Result Course Why) → IsCutAt p why r → FullOnly why (is_at_limit now seat (Some (step_of_command area c)) ≡ true) → MemoryOnly why (HasPlace now)
       → MatchResult r (λ course. IsCourse old now seat stream area (p.consumed + size) course) (λ w. (now ≡ old) × IsTurnedAway old seat (Write stream area) w)
   cut why r is full place =
@@ -92,7 +92,7 @@ next_fault stream at x e = ap command_at (sym (rest_is stream at)) ∙ e
 
 -- ---- the same, with room made for a note
 
--- in brief
+-- What holds of the course that a brief result stands for holds of the result.
 cut_in_brief : (p : Progress) (F : Course → Type 0) (G : Why → Type 0) (r : Result Going Why) → MatchResult (course_or p r) F G → MatchResult r (λ g. F (course_of p g)) G
 cut_in_brief p F G (Ok g) m = m
 cut_in_brief p F G (Err why) m = m

@@ -15,7 +15,7 @@ after_buffers : (z : Space) → (counted z).buffers ≡ z.buffers
 unfolding counted
 after_buffers z = refl
 
--- the same of the space after the history with the step more
+-- The buffers that ended, told of the space after the history with this step more.
 pub then_ended : (h : History) (seat : ℕ) (x : Step) (answer : StepAnswer) (places kept : List ℕ) → HasEndings places (space_after h) (change (space_after h) seat x).space
     → kept ≡ filter (is_gone (space_after (extended h seat x answer)).buffers) places → kept ≡ ended_between (space_after h) (space_after (extended h seat x answer))
 unfolding space_after

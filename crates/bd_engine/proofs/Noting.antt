@@ -62,7 +62,7 @@ module _ (s : Space) (before noted : List Bool) (changed done : List ℕ) (x y :
       go true e = record { is = k (eqb-true x y e) ∙ sym (as_seen (among_same done x y (eqb-true x y e))); listed = seen.listed; once = seen.once }
       go false e = record { is = seen.is ∙ as_seen (sym (among_other done x y e)); listed = seen.listed; once = seen.once }
 
-  -- it was noted otherwise
+  -- A seat that was noted otherwise than it is gets noted and listed.
   pub seen_other : (ready : Bool) → x < length noted → (get_or noted x false ≡ ready → ⊥) → (x ≡ y → ready ≡ is_ready s x)
       → IsSeen s before (set noted x ready) (changed ++ x ∷ []) (done ++ x ∷ []) y
   seen_other ready lt differs is_so = go (x == y) refl
@@ -116,11 +116,11 @@ differ a b e f = search arith
 pub agree : (a b : Bool) → not (beq a b) ≡ false → a ≡ b
 agree a b e = search arith
 
--- before the first
+-- Before any seat was looked at nothing is listed.
 pub seen_none : (s : Space) (before : List Bool) (y : ℕ) → IsSeen s before before [] [] y
 seen_none s before y = record { is = refl; listed = sym (flip_none (get_or before y false)); once = omega arith }
 
--- after the last
+-- Once as many seats were looked at as there are, all of them were.
 pub seen_whole : (s : Space) (before noted : List Bool) (changed touched : List ℕ) (i y : ℕ) → length touched ≤ i → IsSeen s before noted changed (take i touched) y
     → IsSeen s before noted changed touched y
 seen_whole s before noted changed touched i y le seen = subst (λ v. IsSeen s before noted changed v y) (take_all i touched le) seen

@@ -85,7 +85,7 @@ module _ {T : Type 0} where
           after [] l ys = refl
           after (z ∷ zs) l ys = ap (λ ws. z ∷ ws) (after zs l ys)
 
-  -- with one link more, at the end
+  -- A new link comes first in the list of links from the last one on.
   pub with_link : (ns : List (Link T)) (l : Link T) → reverse (ns ++ l ∷ []) ≡ l ∷ reverse ns
   with_link ns l = reverse-append ns (l ∷ [])
 

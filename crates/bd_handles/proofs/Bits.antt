@@ -48,7 +48,7 @@ first_clear_at x y t h e is same = subst (λ z. IsFirstClear z t) same (IsFirstC
 
 module _ (f g : ℕ → ℕ → ℕ) (p i y b : ℕ) (words : (q v : ℕ) → g q v ≡ cond (eqb p q && eqb (i / 64) v) y (f q v)) (at : bit_at y (i % 64) ≡ b)
     (other : (j : ℕ) → j < 64 → j ≢ i % 64 → bit_at y j ≡ bit_at (f p (i / 64)) j) where
-  -- another word
+  -- Bits of other words, and of other processes, stay as they were.
   away : (q j : ℕ) → (eqb p q && eqb (i / 64) (j / 64)) ≡ false → bit_of g q j ≡ bit_of f q j
   away q j e = ap (λ x. bit_at x (j % 64)) (words q (j / 64) ∙ ap (λ c. cond c y (f q (j / 64))) e)
 

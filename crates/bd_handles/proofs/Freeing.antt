@@ -32,14 +32,14 @@ module _ (p : ℕ) (names : List Name) where
   used_zero limit rest e zero le lt = used_named 0 ∙ e
   used_zero limit rest e (suc j) le lt = rest (suc j) (omega arith) lt
 
-  -- from 1
+  -- The first place that names nothing is that of the least free number from 1 on.
   pub one_first : (i : ℕ) → is_some (named_in names p (i + 1)) ≡ false → ((j : ℕ) → j < i → is_some (named_in names p (j + 1)) ≡ true) → i + 1 ≡ free_number_from names p 1
   one_first i free before = free_first p names 1 (i + 1) (omega arith) (used_places i before) (used_named (i + 1) ∙ free)
 
   pub one_past : (limit : ℕ) → ((j : ℕ) → j < limit → is_some (named_in names p (j + 1)) ≡ true) → limit + 1 ≤ free_number_from names p 1
   one_past limit before = free_past p names 1 (limit + 1) (used_places limit before)
 
-  -- from 0
+  -- Where 0 names nothing it is the least free number from 0 on.
   pub zero_free : is_some (named_in names p 0) ≡ false → 0 ≡ free_number_from names p 0
   zero_free e = free_first p names 0 0 (omega arith) (λ i le lt. absurd (omega arith)) (used_named 0 ∙ e)
 

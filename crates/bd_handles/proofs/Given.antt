@@ -14,7 +14,7 @@ pub nil_of : {A : Type 0} (xs : List A) → length xs ≤ 0 → xs ≡ []
 nil_of [] h = refl
 nil_of (x ∷ xs) h = absurd (omega arith)
 
--- nothing was given
+-- A list that is itself with the given names behind it had none given.
 none_given : (l given : List Name) → l ≡ l ++ given → given ≡ []
 none_given l given e = let long = ap length e ∙ length-append l given in nil_of given (omega arith)
 
@@ -33,7 +33,7 @@ last_back base all given l m h e k =
     let pass : key m ≡ true = rw (eq-eqb m.process m.process refl, eq-eqb m.object.place m.object.place refl, eq-eqb m.object.index m.object.index refl) refl in
     ap (filter (λ x. not (key x))) is ∙ last_dropped key (base ++ given) m pass (subst (λ xs. count_by key xs ≤ 1) is (h.one_name m.process m.object))
 
--- one more came in
+-- A name that comes in last is the last one given.
 pub one_given : (base given l : List Name) (m : Name) → l ≡ base ++ given → l ++ m ∷ [] ≡ base ++ (given ++ m ∷ [])
 one_given base given l m e = ap (λ xs. xs ++ m ∷ []) e ∙ append_assoc base given (m ∷ [])
 

@@ -19,11 +19,11 @@ none_filter p q (x ∷ xs) h =
 pub fits_filter : (q : Name → Bool) (names : List Name) → has_number_past_limit names ≡ false → has_number_past_limit (filter q names) ≡ false
 fits_filter q names h = none_filter (λ (m : Name). nat_lt 4294967294 m.number) q names h
 
--- those that stood there before
+-- Of names within the limit those that stood there before are within it.
 pub fits_before : (names added : List Name) → has_number_past_limit (names ++ added) ≡ false → has_number_past_limit names ≡ false
 fits_before names added h = (or_parts (has_number_past_limit names) (has_number_past_limit added) (sym (list_any-append (λ (m : Name). nat_lt 4294967294 m.number) names added) ∙ h)).0
 
--- and one more within it
+-- Names within the limit and one more within it are within it.
 pub fits_push : (names : List Name) (m : Name) → has_number_past_limit names ≡ false → nat_lt 4294967294 m.number ≡ false → has_number_past_limit (names ++ m ∷ []) ≡ false
 fits_push names m h e = list_any-append (λ (m : Name). nat_lt 4294967294 m.number) names (m ∷ []) ∙ or_from _ _ h (rw e refl)
 

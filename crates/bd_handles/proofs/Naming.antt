@@ -155,6 +155,6 @@ module _ (names : List Name) (h : Sound names) (p n : ℕ) where
     pub number_of_it : number_in names p o ≡ Some n
     number_of_it = ap (λ x. option_map (λ (k : Name). k.number) x) by_object ∙ ap Some (eqb-true numbered.0.number n tests.1)
 
-    -- it is the name of the object
+    -- Taking out p's name for the object o takes out the one with number n, and nothing else.
     pub same_gone : filter (λ m. not (has_object p o m)) names ≡ filter (λ m. not (has_number p n m)) names
     same_gone = same_dropped (has_object p o) (has_number p n) names numbered.0 (h.one_name p o) (h.one_number p n) by_object numbered.1

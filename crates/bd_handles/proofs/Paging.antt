@@ -105,7 +105,7 @@ module _ (old new : ℕ → ℕ → Option Page) (p i : ℕ) (page : Option Page
   pub place_changed : (q k : ℕ) → place_in (new q (k / 64)) (k % 64) ≡ cond (eqb p q && eqb i k) value (place_in (old q (k / 64)) (k % 64))
   place_changed q k = of_process q k (eqb p q) refl
 
--- another page
+-- Where one page changed, every other page is as it was.
 pub pages_kept : (old new : ℕ → ℕ → Option Page) (p i : ℕ) (page : Option Page) → ((q v : ℕ) → new q v ≡ cond (eqb p q && eqb (i / 64) v) page (old q v))
     → (q v : ℕ) → (eqb p q && eqb (i / 64) v) ≡ false → new q v ≡ old q v
 pages_kept old new p i page pages q v e = pages q v ∙ ap (λ c. cond {A = Option Page} c page (old q v)) e
@@ -142,7 +142,7 @@ none_in (Some x) e j = none_chosen x.used x.objects e j
 
 module _ (old new : ℕ → ℕ → Option Page) (p w : ℕ) (empty : word_in (old p w) ≡ 0)
     (pages : (q v : ℕ) → new q v ≡ cond (eqb p q && eqb w v) None (old q v)) where
-  -- whether it is that page
+  -- What is told alike of an empty page and of none is told of each page as before.
   by_page : {A : Type 0} (f : Option Page → A) → f (old p w) ≡ f None → (q v : ℕ) → f (new q v) ≡ f (old q v)
   by_page f same q v = ap f (pages q v) ∙ at (eqb p q) (eqb w v) refl refl
     where

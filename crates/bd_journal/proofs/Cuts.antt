@@ -81,7 +81,7 @@ passes v seats m (e ∷ es) rest few fits =
     ∙ ap (whole_from v seats (suc (length es + m))) regrouped
     ∙ rw (entry_again v seats e (flat_map entry_bytes es ++ rest) few fits.0, passes v seats m es rest few fits.1) refl
 
--- so many entries have at least as many bytes
+-- Entries have at least as many bytes as there are entries.
 entries_have_bytes : (es : List Entry) (rest : List ℕ) → length es ≤ length (flat_map entry_bytes es ++ rest)
 entries_have_bytes [] rest = omega arith
 entries_have_bytes (e ∷ es) rest =
@@ -148,7 +148,7 @@ heading_read : (v : Version) (seats count : ℕ) (tail : List ℕ) → IsSeatsIn
 unfolding cut_in
 heading_read v seats count tail are fits = ap (λ x. x >>= λ h. Some (whole_behind h)) (heading_again v seats count tail are fits)
 
--- the same of a cut journal, whatever stands behind
+-- A journal that was cut off is read up to its cut, whatever stands behind.
 module _ (v : Version) (count : ℕ) (bytes : List ℕ) (r : Record) (left : List ℕ) (is : IsCutIn v count bytes r left) where
   abbrev few_seats : r.seats < 2 ^ 32
   few_seats = seats_small v r.seats is.seats.1

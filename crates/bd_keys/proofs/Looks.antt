@@ -27,7 +27,7 @@ pub look_none : {V : Type 0} (m : WordMap V) (k : WordKey) → place_of m k ≡ 
 unfolding look
 look_none m k e = ap (value_at m.values.items) e
 
--- the same values at the same keys
+-- Equal values at equal keys give equal looks.
 pub alike_values : {V : Type 0} (vs ws : List (Option V)) (ks js : List WordKey) (l : WordKey) → vs ≡ ws → ks ≡ js
     → value_at vs (place_in ks l) ≡ value_at ws (place_in js l)
 alike_values vs ws ks js l e f = ap (λ o. value_at vs (place_in o l)) f ∙ ap (λ o. value_at o (place_in js l)) e

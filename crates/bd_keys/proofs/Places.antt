@@ -5,7 +5,7 @@ use Rattle.bd_keys.specs.Keys.{same_word, place_in}
 use Rattle.bd_keys.specs.Walk.{blank}
 use Rattle.bd_keys.proofs.Keys.{word_eq, word_self}
 
--- the place has the key
+-- The place that the search finds is one of the list, and has the key.
 pub place_some : (ks : List WordKey) (l : WordKey) (i : ℕ) → place_in ks l ≡ Some i
     → (i < length ks) × (get_or ks i blank ≡ l)
 unfolding place_in

@@ -74,7 +74,7 @@ pub actor_lives : (s : Space) (seat : ℕ) (a : Actor) → actor s seat ≡ Some
 unfolding actor
 actor_lives s seat a h = search arith
 
--- so it is on its seat and in its process
+-- An actor's thread is the live one of its seat, and in the actor's process.
 pub record Acts (s : Space) (n : ℕ) (a : Actor) : Type 0 where
   pub thread : In a.thread s.threads
   pub seat : a.thread.seat ≡ n

@@ -10,7 +10,7 @@ place_earlier o i lt = rw (lt-ltb o.place i.place lt) refl
 pub index_earlier : (o i : ObjectId) → o.place ≡ i.place → o.index < i.index → is_earlier o i ≡ true
 index_earlier o i e lt = search arith
 
--- none is earlier than itself
+-- No object was made before itself.
 pub never_earlier : (o : ObjectId) → is_earlier o o ≡ false
 never_earlier o = search (arith, le-ltb)
 
@@ -28,7 +28,7 @@ is_none_earlier o i le then_index = search (arith, earlier_means)
 pub earlier_order : IsStrictWeakOrder is_earlier
 earlier_order = search arith
 
--- as pairs of numbers compare
+-- Which of two objects is earlier is told as pairs of numbers compare: by the place, and then by the index.
 pub earlier_cmp : (o i : ObjectId) → is_lt (ordering_then (nat_cmp o.place i.place) (nat_cmp o.index i.index)) ≡ is_earlier o i
 earlier_cmp o i = search arith
 

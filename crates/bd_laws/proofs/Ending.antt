@@ -34,7 +34,7 @@ told_more : (y : Space) → KeptOnDeaths (λ z. (w : Work) → In w y.todo → I
 unfolding owe
 told_more y = search (arith, in_left)
 
--- only their phases may differ
+-- The two notifications differ in their phases at most.
 abbrev Same : DeathNotification → DeathNotification → Type 0
 Same x y = (let z : DeathNotification = record y { phase = x.phase } in z) ≡ x
 

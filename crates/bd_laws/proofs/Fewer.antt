@@ -82,7 +82,7 @@ dropped_local s p o strong h = search (arith, completed_local, elsewhere_said, a
 
 -- ---- an acknowledgement: no name, one object
 
--- BC_INCREFS_DONE and BC_ACQUIRE_DONE
+-- What follows BC_INCREFS_DONE and BC_ACQUIRE_DONE is looked for at the acknowledged object alone.
 pub acknowledged_local : (s : Space) (o : ObjectId) (strong : Bool) → IsQuiet s
     → completed (acknowledge s o strong) ≡ follow_of no_name (at_object o) (acknowledge s o strong)
 unfolding acknowledge

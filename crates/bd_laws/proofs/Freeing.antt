@@ -71,7 +71,7 @@ module _ (o : ObjectId) (todo : List Work) where
   same_push : (more less : List Turn) (t : Turn) → SameBut o more less → SameBut o (more ++ t ∷ []) (less ++ t ∷ [])
   same_push more less t h i none = search (arith, any_append)
 
-  -- one on the object more
+  -- A further call on the object o is nothing to calls on other objects.
   same_more : (more less : List Turn) (t : Turn) → same t.target o ≡ true → SameBut o more less → SameBut o (more ++ t ∷ []) less
   same_more more less t on h i none = search (arith, any_append, to_false)
 

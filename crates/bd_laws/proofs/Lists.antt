@@ -24,7 +24,7 @@ module _ {A : Type 0} where
   in_push x y xs h = search (arith, in_append x xs (y ∷ []))
 
   module _ (xs : List A) (x : A) where
-    -- so what holds of the first elements and of the last one, holds of all
+    -- What holds of the first elements and of the last one holds of all.
     pub all_push : (P : A → Type 0) → ((y : A) → In y xs → P y) → P x → (y : A) → In y (xs ++ x ∷ []) → P y
     all_push P old new y l = elim (in_push y x xs l) [ inl i ↦ old y i | inr is ↦ subst P is new ]
 

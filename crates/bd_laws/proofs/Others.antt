@@ -18,7 +18,7 @@ use Rattle.bd_laws.proofs.Pings.{follow_none}
 abbrev pub no_object : ObjectTest
 no_object o = false
 
--- where a change touches nothing
+-- A change that touches no name and no object has nothing that follows it.
 pub nothing_local : (z : Space) → IsFollowed z → NoneRipe z.todo [] (turns_of z.buffers) → IsSettled z.frames → completed z ≡ z
 nothing_local z h unripe settled = completed_local no_name no_object z h unripe settled ∙ follow_none no_object (λ o. refl) z
 
@@ -34,7 +34,7 @@ module _ (s : Space) (p : ℕ) (o : ObjectId) (strong : Bool) (h : IsQuiet s) wh
   abbrev asked : Reference
   asked = reference_of s.steps 0 o strong (Asked p)
 
-  -- its name and object alone are touched
+  -- A reference that p asks for touches p's name for the object, and the object, alone.
   asked_said : SameSaid (at_name p o) (at_object o) s.references (s.references ++ asked ∷ [])
   asked_said = search (arith, said_by, any_none, and_both)
 

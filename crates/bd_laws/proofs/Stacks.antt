@@ -57,7 +57,7 @@ tidy_stacks s h = search (arith, tidy_frames)
 pub always_stacks : (h : History) → AreStacks (space_after h).frames
 always_stacks h = tidy_stacks (space_after h) (always_tidy h)
 
--- so the innermost frame stands last among the thread's
+-- A thread's innermost frame is the last of its frames.
 pub innermost_last : (s : Space) → IsTidy s → (seat : ℕ) → innermost_in s.frames seat ≡ last_of (frames_with s.frames seat)
 innermost_last s h seat = innermost_is_last s.frames seat ((tidy_stacks s h).stacks seat)
 

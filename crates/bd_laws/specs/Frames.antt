@@ -4,15 +4,15 @@ use Rattle.bd_ways.specs.Words.{Frame, Serving, Gone, Buffer, Work, OfThread, Sp
 use Rattle.bd_space.specs.declared.space.WorkKind.TheVariants as work
 use Rattle.bd_laws.specs.Lists.{In, Pairs}
 
--- made before
+-- The first frame was made before the second.
 abbrev pub Older : Frame → Frame → Type 0
 Older f g = f.made < g.made
 
--- no frame has it as its parent
+-- No frame of these has this one as its parent.
 abbrev pub NoChild : List Frame → Frame → Type 0
 NoChild fs f = (g : Frame) → In g fs → g.parent ≡ Some f.made → ⊥
 
--- the thread calls or serves in it
+-- The thread of this seat takes part in the frame: it calls or serves.
 abbrev pub Part : ℕ → Frame → Type 0
 Part t f = (f.caller ≡ Some t) ⊎ (f.server ≡ Serving t)
 
@@ -59,7 +59,7 @@ OnPaths n z = (root : ℕ → ℕ) × Forest n root z.frames z.buffers z.todo
 abbrev pub OfOthers : Space → Type 0
 OfOthers z = (w : Work) (f : Frame) (t : ℕ) → In w z.todo → w.kind ≡ work.Call f.made → w.list ≡ OfThread t → In f z.frames → f.caller ≡ Some t → ⊥
 
--- made at two places
+-- The two frames were made at two places.
 abbrev pub OtherFrame : Frame → Frame → Type 0
 OtherFrame f g = f.made ≡ g.made → ⊥
 

@@ -13,7 +13,7 @@ Distinct todo = (v w : Work) → In v todo → In w todo → is_item v w ≡ tru
 abbrev pub Fresh : ℕ → List Work → Type 0
 Fresh n todo = (w : Work) → In w todo → w.id.place < n
 
--- so it is in the space
+-- The space's work items are told apart so: none is of a step to come, and no two of one list have one identity.
 pub record Told (s : Space) : Type 0 where
   pub fresh : Fresh s.steps s.todo
   pub distinct : Distinct s.todo
@@ -43,7 +43,7 @@ AllInWindows rs bs = (r : Reference) (c : Buffer) (q : ℕ) → In r rs → In c
 abbrev pub IsInWindows : Space → Type 0
 IsInWindows s = AllInWindows s.references s.buffers
 
--- if both are Notices, they are two objects'
+-- Where both items are Notices they are of two objects.
 abbrev pub Apart : Work → Work → Type 0
 Apart v w = (o : ObjectId) → notice_of v.kind ≡ Some o → notice_of w.kind ≡ Some o → ⊥
 
@@ -51,11 +51,11 @@ Apart v w = (o : ObjectId) → notice_of v.kind ≡ Some o → notice_of w.kind 
 abbrev pub Once : List Work → Type 0
 Once todo = Pairs Apart todo
 
--- if both tell of a death, they are two notifications'
+-- Where both items tell of a death they are of two notifications.
 abbrev pub OtherDeath : Work → Work → Type 0
 OtherDeath v w = (n : ℕ) → v.kind ≡ work.Death n → w.kind ≡ work.Death n → ⊥
 
--- made at two places
+-- The two notifications were made at two places.
 abbrev pub OtherNotification : DeathNotification → DeathNotification → Type 0
 OtherNotification x y = x.made ≡ y.made → ⊥
 
@@ -63,11 +63,11 @@ OtherNotification x y = x.made ≡ y.made → ⊥
 abbrev pub AllQueued : List Work → List DeathNotification → Type 0
 AllQueued todo deaths = (w : Work) (n : ℕ) (x : DeathNotification) → In w todo → w.kind ≡ work.Death n → In x deaths → x.made ≡ n → x.phase ≡ Queued
 
--- it stands with the process whose notification it is
+-- Each Death item stands on the list of the process that asked for its notification.
 abbrev pub AllSit : List Work → List DeathNotification → Type 0
 AllSit todo deaths = (w : Work) (n : ℕ) (x : DeathNotification) → In w todo → w.kind ≡ work.Death n → In x deaths → x.made ≡ n → w.list ≡ OfProcess x.process
 
--- each notification has one such item at most
+-- Death items and notifications belong together: of each notification there is one item at most.
 pub record Queues (n : ℕ) (todo : List Work) (deaths : List DeathNotification) : Type 0 where
   pub fresh : (x : DeathNotification) → In x deaths → x.made < n
   pub one : Pairs OtherNotification deaths

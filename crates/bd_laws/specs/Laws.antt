@@ -55,6 +55,6 @@ abbrev pub WhomAStepReaches : Type 0
 WhomAStepReaches = (h : History) (seat : ℕ) (x : Step) (other : ℕ) → (other ≡ seat → ⊥)
     → (let new = (step (space_after h) seat x).space in (is_ready new other ≡ is_ready (space_after h) other) ⊎ IsReached (space_after h) new other)
 
--- where it is told a note or a fault, nothing is another than before, except how many steps were made
+-- Where a step is told a note or a fault nothing is another than before, except how many steps were made.
 abbrev pub NoStepIsNeeded : Type 0
 NoStepIsNeeded = (s : Space) (seat : ℕ) (x : Step) → is_note_or_fault (step s seat x).answer ≡ true → (step s seat x).space ≡ counted s

@@ -3,26 +3,26 @@ use Rattle.std.specs.Prelude.{◌≡◌, List, ℕ, ◌<◌, ◌==◌, Bool, tru
 use Rattle.bd_ways.specs.Words.{ObjectId, Object, Reference, Manager, Name, Space}
 use Rattle.bd_laws.specs.Lists.{In, Pairs}
 
--- an object of this identity is there
+-- One of these objects has this identity.
 abbrev pub Here : List Object → ObjectId → Type 0
 Here objects o = (x : Object) × In x objects × (x.id ≡ o)
 
--- the two have identities of their own
+-- The two objects don't have one identity.
 abbrev pub Differ : Object → Object → Type 0
 Differ x y = x.id ≡ y.id → ⊥
 
--- it was made before the other: by an earlier step, or by the same one
+-- Whether the first object was made before the second: by an earlier step, or before it by the same one.
 abbrev pub is_earlier : ObjectId → ObjectId → Bool
 is_earlier o i = nat_lt o.place i.place || ((o.place == i.place) && nat_lt o.index i.index)
 
 abbrev pub Earlier : Object → Object → Type 0
 Earlier x y = is_earlier x.id y.id ≡ true
 
--- the other wasn't made before it
+-- The second object wasn't made before the first.
 abbrev pub NotLater : ObjectId → ObjectId → Type 0
 NotLater o i = is_earlier i o ≡ false
 
--- there is a reference to it
+-- One of these references is to the object.
 abbrev pub Held : List Reference → ObjectId → Type 0
 Held references o = (r : Reference) × In r references × (r.object ≡ o)
 
@@ -38,7 +38,7 @@ pub record Kept (n : ℕ) (manager : Option ObjectId) (objects : List Object) (r
 abbrev pub Named : List Name → List Reference → Type 0
 Named names references = (m : Name) → In m names → Held references m.object
 
--- so it is where as many steps were made as the space counts
+-- `Kept`, of the space's own objects and references and for as many steps as it counts; and each name's object is held.
 pub record KeptBefore (z : Space) : Type 0 where
   pub kept : Kept z.steps z.manager z.objects z.references
   pub named : Named z.names z.references

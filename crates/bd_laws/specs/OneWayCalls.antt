@@ -13,11 +13,11 @@ On o b = (b.one_way ≡ true) × (b.target ≡ Some o)
 abbrev pub Due : List Work → ℕ → Type 0
 Due todo m = (w : Work) × In w todo × (hands_out w.kind ≡ Some m)
 
--- its turn has come: it was handed out, or an item is to hand it over
+-- The turn of a buffer's call has come: it was handed out, or an item is to hand it over.
 abbrev pub Out : List Work → Buffer → Type 0
 Out todo b = (b.handed ≡ true) ⊎ Due todo b.made
 
--- both are one-way calls, on one object
+-- Both buffers are of one-way calls, on one object.
 abbrev pub Rivals : Buffer → Buffer → Type 0
 Rivals b c = (t : Turn) × (u : Turn) × (turn_of b ≡ Some t) × (turn_of c ≡ Some u) × (same t.target u.target ≡ true)
 

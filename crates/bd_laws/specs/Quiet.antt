@@ -21,7 +21,7 @@ pub record Elsewhere (a : NameTest) (b : ObjectTest) (z : Space) : Type 0 where
   pub tellings : (w : Work) (n : ℕ) → In w z.todo → w.kind ≡ work.Death n → list_any (λ (x : DeathNotification). x.made == n) z.deaths ≡ true
   pub made : (x : Object) → In x z.objects → b x.id ≡ false → wants_notice z.processes z.references x ≡ true → has_notice_in z.todo x.id ≡ true
 
--- so it is of all names and objects
+-- Of no name and of no object is anything left to do, nor of any notification or Notice.
 abbrev pub IsFollowed : Space → Type 0
 IsFollowed z = Elsewhere (λ p o. false) (λ o. false) z
 
@@ -34,7 +34,7 @@ NoneRipe todo older (t ∷ ts) = (is_ripe todo older t ≡ false) × NoneRipe to
 abbrev pub IsSettled : List Frame → Type 0
 IsSettled frames = find (is_abandoned frames) frames ≡ None
 
--- Nothing is pending: what follows a step, ripening and settling would all leave the space as it is
+-- Nothing is pending: what follows a step, ripening and settling would all leave the space as it is.
 pub record IsQuiet (z : Space) : Type 0 where
   pub differ : Pairs Differ z.objects
   pub followed : IsFollowed z

@@ -23,7 +23,7 @@ last_of [] = None
 last_of (f ∷ []) = Some f
 last_of (f ∷ g ∷ fs) = last_of (g ∷ fs)
 
--- those in which the thread takes part
+-- The frames in which the thread of this seat takes part, as caller or server.
 abbrev pub frames_with : List Frame → ℕ → List Frame
 frames_with frames seat = filter (takes_part seat) frames
 

@@ -54,7 +54,7 @@ module _ {A K : Type 0} (key : A → K) (eq : K → K → Bool) (alike : (a b : 
   past : (y : A) (ys : List A) (k : K) → find (on (key y)) ys ≡ None → on k y ≡ true → find (on k) ys ≡ None
   past y ys k h e = subst (λ l. find (on l) ys ≡ None) (alike (key y) k e) h
 
-  -- of a filtered list
+  -- In a filtered list that element of a key is found which passes, if it does.
   pub found_filter : (q : A → Bool) (k : K) (xs : List A) → AreDistinct key eq xs
       → find (on k) (filter q xs) ≡ kept q (find (on k) xs)
   found_filter q k [] d = refl
@@ -83,7 +83,7 @@ module _ {A K : Type 0} (key : A → K) (eq : K → K → Bool) (alike : (a b : 
       let c = cons_none (on k x) x (find (on k) xs) h in none_cons (on k x && q x) x _ (ap (λ b. b && q x) c.0)
       (and_none q k xs c.1)
 
-  -- with one more test
+  -- A search for a key with one more test finds the key's element if it passes.
   pub found_and : (q : A → Bool) (k : K) (xs : List A) → AreDistinct key eq xs
       → find (λ x. on k x && q x) xs ≡ kept q (find (on k) xs)
   found_and q k [] d = refl

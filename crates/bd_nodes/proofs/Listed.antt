@@ -63,7 +63,7 @@ in_among (p ∷ os) o (inr h) = late (same o p) (in_among os o h)
     late true h = refl
     late false h = h
 
--- those of a list that pass
+-- An identity is among those of a list that pass if it passes and is among the list.
 among_filter : (q : ObjectId → Bool) (os : List ObjectId) (o : ObjectId)
     → is_among (filter q os) o ≡ (q o && is_among os o)
 among_filter q os o = any_filter (same o) q os ∙ all os

@@ -19,7 +19,7 @@ Puts {K = K} eq m n k v = (l : K) → n l ≡ cond (eq k l) v (m l)
 
 module _ {A K V : Type 0} (key : A → K) (eq : K → K → Bool) (alike : (a b : K) → eq a b ≡ true → a ≡ b)
     (itself : (a : K) → eq a a ≡ true) (shown : A → V) where
-  -- a new one comes in
+  -- A map that finds a list's elements finds those of the list with a new one, once that was put at its key.
   pub finds_push : (m n : K → Option V) (xs : List A) (x : A) → Finds eq key shown m xs
       → find (λ y. eq (key y) (key x)) xs ≡ None → Puts eq m n (key x) (Some (shown x))
       → Finds eq key shown n (xs ++ x ∷ [])

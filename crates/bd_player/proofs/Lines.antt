@@ -16,12 +16,12 @@ last_done : (told : List (ℕ × Said)) (n : ℕ) (s : Said) → EachDone (told 
 last_done [] n s h = h.0
 last_done (x ∷ xs) n s h = last_done xs n s h.1
 
--- a line of no seat
+-- A line of a seat that isn't there is passed over.
 pub passed : {S : Type 0} (seats turns : ℕ) (takes : S → ℕ → Said → S → Type 0) (full : S → Bool) (line : Line) (old : List SeatState) (s : S)
     → length old ≤ line.seat → RunsOn seats turns takes full line old s old s true
 passed seats turns takes full line old s out = λ told on. (told, (on, inl (out, refl)), (λ h. refl), (λ h. on))
 
--- a line of a seat
+-- A line of a seat that is there is run.
 pub ran : {S : Type 0} (seats turns : ℕ) (takes : S → ℕ → Said → S → Type 0) (full : S → Bool) (line : Line) (old : List SeatState) (s t : S) (before after : SeatState) (says : Said) (goes_on : Bool)
     → line.seat < length old → get_or old line.seat before ≡ before → after.table ≡ before.table
     → Does seats turns before.view after.view line.verb says → takes s line.number says t

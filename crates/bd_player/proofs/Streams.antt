@@ -14,7 +14,7 @@ has_a_byte : (r : Return) (bytes : List ℕ) (len : ℕ) → take len bytes ≡ 
 has_a_byte r bytes zero e = absurd (cc)
 has_a_byte r bytes (suc n) e = omega arith
 
--- the same returns, if those behind whatever is read first are
+-- Two bounds give the same returns of a stream, if they give the same behind whatever is read first.
 same_behind : (n m : ℕ) (bytes : List ℕ) (read : Result (Return × ℕ) Fault) → IsBytes bytes → read ≡ return_at bytes
     → ((len : ℕ) → 1 ≤ len → returns_to n (drop len bytes) ≡ returns_to m (drop len bytes))
     → next_of (λ len. returns_to n (drop len bytes)) read ≡ next_of (λ len. returns_to m (drop len bytes)) read
@@ -44,7 +44,7 @@ one_read (x ∷ xs) r len h e =
     ∙ (ap (λ (rs : List Return). r ∷ rs) (enough (length xs) (length (drop len bytes)) (drop len bytes) (IsBytes_drop len bytes h) (omega (arith, l, some)) (omega arith))
     ∙ ap (λ (bs : List ℕ). r ∷ returns_in bs) (sym (take_rest bytes len)))
 
--- none is
+-- A stream whose first return can't be read gives none.
 pub none_read : (bytes : List ℕ) (f : Fault) → return_at bytes ≡ Err f → returns_in bytes ≡ []
 none_read [] f e = refl
 none_read (x ∷ xs) f e = ap (next_of (λ k. returns_to (length xs) (drop k (x ∷ xs)))) e

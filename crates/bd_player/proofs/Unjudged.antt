@@ -49,7 +49,7 @@ says : (known : Option (List ℕ)) (bytes : List ℕ) (f : Fault) → IfSome kno
 says None bytes f same why = λ is. tt
 says (Some xs) bytes f same why = λ is. subst (λ (ys : List ℕ). (r : Record) → Tells ys r → ⊥) same (subst (IsUnjudged bytes) is why)
 
--- the same, whatever else might have been said
+-- Whatever a result would have said, its fault calls the bytes no journal only where they are none.
 pub all_say : {X : Type 0} (known : Option (List ℕ)) (bytes : List ℕ) (result : Result X Fault) → IfSome known (λ xs. bytes ≡ xs) → IfErr result (IsUnjudged bytes) → IfErr result (SaysNoJournal known)
 all_say known bytes (Ok x) same why = tt
 all_say known bytes (Err f) same why = says known bytes f same why

@@ -42,7 +42,7 @@ none_of : (a : Bool) (d : ℕ) → None ≡ cond (a && false) (Some d) None
 none_of true d = refl
 none_of false d = refl
 
--- with one digit more
+-- If the digits behind are read rightly from m on, they are so behind one digit more; past 64 bits nothing is read.
 longer : (bs : List ℕ) (m : ℕ) → (m < 18446744073709551616 → digits_from m bs ≡ cond (list_all is_digit bs && below64 (decimal m bs)) (Some (decimal m bs)) None) → (a : Bool)
     → then_digits (cond (a && below64 m) (Some m) None) (λ k. digits_from k bs) ≡ cond ((a && list_all is_digit bs) && below64 (decimal m bs)) (Some (decimal m bs)) None
 longer bs m others false = refl
@@ -59,7 +59,7 @@ pub digits_are : (bs : List ℕ) (n : ℕ) → n < 18446744073709551616 → digi
 digits_are [] n lt = rw (lt-ltb n 18446744073709551616 lt) refl
 digits_are (b ∷ bs) n lt = longer bs (10 * n + (b - 48)) (λ h. digits_are bs (10 * n + (b - 48)) h) (is_digit b)
 
--- the last test
+-- The last test of a number: that it is at most this.
 abbrev pub at_most : ℕ → ℕ → Option ℕ
 at_most most v = cond (ltb most v) None (Some v)
 

@@ -43,7 +43,7 @@ module _ (s : Space) (h : OnPaths s.steps s) where
     pub way : (x : Frame) → OnWay w x → (g : Frame) × In g fs × (g.made ≡ x.made) × (g.parent ≡ x.parent)
     pub server : (g : Frame) → In g fs → g.made ≡ w.top.made → g.server ≡ Serving w.seat
 
-  -- that is kept while the thread lives
+  -- In the space z every way of a thread that lives on stands as it did before the step.
   abbrev pub Earlier : Space → Type 0
   Earlier z = (w : Way s) (m : ℕ) → m < s.steps → thread_made z w.seat ≡ Some m → Stood w z.frames
 
@@ -204,7 +204,7 @@ module _ (s : Space) (h : OnPaths s.steps s) where
       served : (p : Frame) → Nested p g → p.server ≡ Serving t
       served p h = search arith
 
-  -- so it stays open
+  -- Of two open calls of a thread that lives on the earlier stays open.
   pub earlier_open : (z : Space) → Earlier z → (t m : ℕ) (f g : Frame) → In f s.frames → In g s.frames → f.caller ≡ Some t → g.caller ≡ Some t → f.made < g.made
       → m < s.steps → thread_made z t ≡ Some m → (x : Frame) × In x z.frames × (x.made ≡ f.made)
   earlier_open z k t m f g l there calls also lt old lives =

@@ -31,7 +31,7 @@ chain_from_more es fs o [] p k q h = h
 chain_from_more es fs o (i ∷ is) p k q h =
     (h.0, h.1, (h.2.0, h.2.1, stands_more es fs i h.2.0 h.2.1 h.2.2, h.2.3), chain_from_more es fs o is h.0 (i + 1) q h.3)
 
--- where a chain begins
+-- A gift that begins a chain still does so with more entries behind.
 pub begins_more : (es fs : List Entry) (i : ℕ) (o : ObjectId) (r : ℕ) → OwnerGives es i o r ⊎ ManagerGives es i o r → OwnerGives (es ++ fs) i o r ⊎ ManagerGives (es ++ fs) i o r
 begins_more es fs i o r (inl g) = inl (g.0, g.1, g.2, stands_more es fs i g.0 g.1 g.3, g.4, g.5)
 begins_more es fs i o r (inr g) = inr (g.0, g.1, stands_more es fs i g.0 g.1 g.2, g.3)

@@ -103,7 +103,7 @@ module _ (es : List Entry) (e : Entry) (o : ObjectId) (gs : List Gift) (h : AreG
     known = λ q now. known_next q (HasGift (gs ++ g ∷ []) q) now (more_gifts gs g q) (λ b. (g, in_last g gs, k.every q b));
   }
 
--- as an engine finds them
+-- The gifts after one entry more, where an engine has made its step.
 module _ (h k : History) (e : Entry) (o : ObjectId) (gs : List Gift) (gift : Option Gift) (at : k ≡ with_entry h e) (are : AreGifts h.entries o gs) (of : IsGiftOf h.entries e o gift) where
   pub gifts_same : gift ≡ None → AreGifts k.entries o gs
   gifts_same is = subst (λ (x : History). AreGifts x.entries o gs) (sym at) (gifts_stay h.entries e o gs are (subst (IsGiftOf h.entries e o) is of))

@@ -78,7 +78,7 @@ module _ (es : List Entry) (e : Entry) where
   unfolding counted
   name_given o q new now = search (arith, change, after_append, number_has, step_naming, has_number, hand_gives, asked_gives)
 
--- as an engine finds it
+-- The gift that an engine finds, by what it knows before and after the step, is that of the definition.
 pub gift_is : (h k : History) (e : Entry) (q : ℕ) (o : ObjectId) (knew now : Bool) (n : ℕ) (giver : Option ℕ) → k ≡ with_entry h e → knew ≡ knows (space_after h) q o
     → now ≡ knows (space_after k) q o → n ≡ length h.entries → giver ≡ giver_in (space_after h) e.seat o
     → when (not knew && now) (let g : Gift = record { receiver = q; place = n; giver = giver } in g) ≡ gift_made h.entries e q o
@@ -142,7 +142,7 @@ module _ (es : List Entry) (e : Entry) where
       ] in
       receives ∙ ap (λ n. Some n) has.2
 
--- as engines find it
+-- The receiver that engines find is the only process whose name for the object can begin with the entry.
 pub one_candidate : (h : History) (e : Entry) (o : ObjectId) (receiver asker candidate : Option ℕ) → receiver ≡ receiver_of h.entries e
     → asker ≡ process_of (space_after h) e.seat → candidate ≡ option_or receiver asker → (q : ℕ) → BeginsAt h.entries e o q → candidate ≡ Some q
 unfolding space_after

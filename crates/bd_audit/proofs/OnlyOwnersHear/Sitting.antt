@@ -20,7 +20,7 @@ use Rattle.bd_audit.proofs.OnlyOwnersHear.SittingSent.{Reaches, Sits, SitsIn, si
 
 -- ---- threads
 
--- the same threads are found, or more
+-- A list that reaches q's threads still does where each thread that was found is found as before, and perhaps more are.
 reaches_more : (threads more : List Thread) (list : TodoList) (q : ℕ) → ((t : ℕ) (x : Thread) → thread_in threads t ≡ Some x → (y : Thread) × (thread_in more t ≡ Some y) × (y.process ≡ x.process))
     → Reaches threads list q → Reaches more list q
 reaches_more threads more list q k h = search arith

@@ -54,7 +54,7 @@ answers ended strong h = absurd (cc)
 waits_true : (b : Bool) (n : ℕ) → suc n ≡ number b → b ≡ true
 waits_true b n h = search arith
 
--- a Handshake has one strength
+-- A Handshake reference of one strength isn't one of the other.
 other_strength : (o : ObjectId) (r : Reference) (b : Bool) → is_shaking o (not b) r ≡ true → is_shaking o b r ≡ false
 other_strength o r b h = search (arith, shaking_parts)
 
@@ -76,7 +76,7 @@ pub record HeardAfter (o : ObjectId) (st : Hearing) (n : ℕ) (events : List Eve
   pub tracks : Tracks ⊥ o now z
   pub fresh : suc n ≤ o.place → now ≡ unheard
 
--- where nothing is heard
+-- A step by which nothing is heard leaves what was heard, if it tracks the object still.
 pub silent_after : (o : ObjectId) (st : Hearing) (s z : Space) → HeardBefore o st s → Tracks ⊥ o st z → HeardAfter o st s.steps [] z
 silent_after o st s z h k = record { now = st; heard = refl; tracks = k; fresh = λ le. h.fresh (omega arith) }
 

@@ -58,11 +58,11 @@ pub record Managed (references : List Reference) (o : ObjectId) (x : Object) (st
 abbrev pub Tells : Type 0 → List Reference → ObjectId → Object → Hearing → Type 0
 Tells E references o x st = Managed references o x st ⊎ Told E references o x st
 
--- so it is with the object as long as its owner lives
+-- What was heard of the object so far tells how it stands, as long as its owner lives.
 abbrev pub Tracks : Type 0 → ObjectId → Hearing → Space → Type 0
 Tracks E o st z = (x : Object) → In x z.objects → x.id ≡ o → lives_in z.processes x.owner ≡ true → Tells E z.references o x st
 
--- what holds before each step
+-- What holds of the hearing before each step: it tracks the object, and nothing was heard before the object was made.
 pub record HeardBefore (o : ObjectId) (st : Hearing) (s : Space) : Type 0 where
   pub tracks : Tracks ⊥ o st s
   pub fresh : s.steps ≤ o.place → st ≡ unheard

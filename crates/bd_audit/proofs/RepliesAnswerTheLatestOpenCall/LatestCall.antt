@@ -113,7 +113,7 @@ module _ (h : History) (s w : ℕ) (taken_is : reply_taken_at h s ≡ Some w) wh
     abbrev first : (j < w) × At h.entries w (λ z e. list_any (is_frame j) z.frames ≡ false)
     first = latest.ended h s w taken_is j later early called
 
-    -- its frame has closed for good
+    -- Behind the step at w no space has a frame of the call made at j any more.
     gone : (i : ℕ) (P : Space → Entry → Type 0) → (x : At h.entries i P) → w < i → NoFrame j (after opening x.0)
     gone i P x lt =
         let o = first.1 in
@@ -131,7 +131,7 @@ module _ (h : History) (s w : ℕ) (taken_is : reply_taken_at h s ≡ Some w) wh
       ]
     ]
 
-    -- it ended at d, and what its thread was told of that was read before
+    -- The call made at j ended by the step at d, and what its thread was told of that was read before the reply.
     ended_at : (d : ℕ) → At p.0 d (λ z e. Closes z e j)
         → ((r : ℕ) × (d < r) × (r < s) × At h.entries r (λ z e. ReadsAnswer z e d answer.caller))
         ⊎ At h.entries s (λ z e. list_any (is_answer_of d) (before_reply (items_taken z e.seat e.step)) ≡ true)

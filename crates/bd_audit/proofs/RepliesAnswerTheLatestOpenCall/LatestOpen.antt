@@ -33,7 +33,7 @@ call_tested : (s : Space) (e : Entry) (d : TransactionData) (parcel : Option Par
 unfolding change command_step transaction_step
 call_tested s e d parcel two_way h = search (arith, actor_made, transaction_may_call)
 
--- it stands on the thread's own list
+-- A work item whose list is that of a thread passes the test for that list.
 pub on_own : (v : Work) (t : ℕ) → v.list ≡ OfThread t → is_on (OfThread t) v ≡ true
 on_own v t on = ap (λ x. same_list (OfThread t) x) on ∙ eq-eqb t t refl
 
@@ -60,7 +60,7 @@ same_place es i P Q p q =
     let b = stood es i q.0 q.1 q.2 in
     (sym a.1 ∙ b.1, (let k : Some p.1 ≡ Some q.1 = sym a.0 ∙ b.0 in cc))
 
--- so what holds at a place holds of the same space and entry
+-- Two statements about the entry at one place are about the same space and entry.
 pub at_same : (es : List Entry) (i : ℕ) (P Q : Space → Entry → Type 0) → At es i P → (q : At es i Q) → P (after opening q.0) q.1
 at_same es i P Q p q = let k = same_place es i P Q p q in subst (P (after opening q.0)) k.1 (subst (λ xs. P (after opening xs) p.1) k.0 p.3)
 

@@ -68,7 +68,7 @@ told_waits y (Some u) kind n a e t c = (_, in_last _ y.todo, ap (λ x. OfThread 
 
 -- ---- a call stays open while its server hasn't gone
 
--- it stands, and its server hasn't gone
+-- The frame made at n stands in the space, and its server hasn't gone.
 abbrev pub Open : Space → ℕ → Type 0
 Open z n = StandsIn z n × ((g : Frame) → In g z.frames → g.made ≡ n → is_gone g.server ≡ false)
 

@@ -60,7 +60,7 @@ pub record Was (n : ℕ) (threads : List Thread) (f g : Frame) : Type 0 where
   pub called : (t : ℕ) → f.caller ≡ Some t → g.caller ≡ Some t
   pub caller : (t m : ℕ) → m < n → made_in threads t ≡ Some m → g.caller ≡ Some t → f.caller ≡ Some t
 
--- so is it of the thread that serves
+-- f's server was g's, as long as that thread lives: threads by their seats, those that were made before n.
 abbrev Serves : ℕ → List Thread → Frame → Frame → Type 0
 Serves n threads f g = (t m : ℕ) → m < n → made_in threads t ≡ Some m → g.server ≡ Serving t → f.server ≡ Serving t
 

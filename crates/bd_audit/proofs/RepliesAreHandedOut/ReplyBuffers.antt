@@ -136,7 +136,7 @@ ends z p h =
 
 -- ---- every step
 
--- one thread more
+-- A thread that attaches takes nothing from the buffers and threads that replies need.
 attached : (z : Space) (seat p : ℕ) → RepliesHeld z → RepliesHeld (with_thread z seat p)
 unfolding with_thread
 attached z seat p h = grown (with_thread z seat p) z (record { due = λ w m l e. l; buffers = λ c l. l; threads = λ t l. (t, in_left t z.threads _ l, refl, refl) }) h

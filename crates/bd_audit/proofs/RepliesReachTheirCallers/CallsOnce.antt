@@ -131,7 +131,7 @@ step_two_way s e c before lt h t =
       | inr n ↦ (let at = n.made in let is = t.3 in absurd (omega arith))
     ]
 
--- the step of a two-way call
+-- An accepted two-way transaction makes no turn, and so its call is a two-way one.
 call_two_way : (s : Space) (e : Entry) (n : ℕ) → Before s → Calls s e n → TwoWay s.steps (next s e)
 unfolding counted
 call_two_way s e n before k t =

@@ -18,7 +18,7 @@ use Rattle.bd_audit.proofs.RepliesReachTheirCallers.Traces.{Answers, answers_mor
 
 -- ---- what is gone never comes again
 
--- no frame made there
+-- The space has no frame of a call made at c.
 abbrev pub NoFrame : ℕ → Space → Type 0
 NoFrame c z = (f : Frame) → In f z.frames → f.made ≡ c → ⊥
 

@@ -66,7 +66,7 @@ handed_later es p c h =
     let steps = always_steps h.0 in
     let at = h.2.at in omega arith
 
--- and its buffer ends later
+-- A call's buffer ends later than the call was made.
 ends_later : (es : List Entry) (p c : ℕ) → At es p (EndsBuffer c) → c < p
 ends_later es p c h =
     let b = live_found (after opening h.0).buffers c h.3.0 in

@@ -54,7 +54,7 @@ module _ (s : Space) (seat : ℕ) (a : Actor) (d : TransactionData) (parcel : Op
       let some = any_in (λ (x : Object). same x.id t.object && (x.owner == a.process.made)) t.owned.object s.objects t.owned.here
       (and_both (same t.owned.object.id t.object) (t.owned.object.owner == a.process.made) (eq_same t.owned.object.id t.object t.owned.id) (eq-eqb t.owned.object.owner a.process.made owner)) in cc
 
-  -- so it isn't read by the caller
+  -- The call doesn't go to the list of the thread that makes it, since that isn't of the owner's process.
   elsewhere : (t : ℕ) → goes_to y a.thread.seat v.receiver.made ≡ OfThread t → a.thread.seat ≡ t → ⊥
   elsewhere t e is =
       let u = goes_home y a.thread.seat v.receiver.made t e in

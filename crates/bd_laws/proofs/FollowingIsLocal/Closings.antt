@@ -57,7 +57,7 @@ times_among (suc n) c z one cov = times_first n z ∙ at (find (is_abandoned z.f
         ∙ rest (or_parent c f) y (subst OneEach (sym frames) (one_filter _ z.frames one)) (subst (Covered (or_parent c f)) (sym frames) (covered_after z.frames f c one l.0 cov))
         ∙ ap go (sym (agree ∙ e))
 
--- so settling may leave all others alone
+-- Settling may look at the chosen frames alone, where they cover all that is abandoned.
 pub settle_among : (c : ℕ → Bool) (z : Space) → OneEach z.frames → Covered c z.frames → settle z ≡ close_among (length z.frames) c z
 unfolding settle
 settle_among c z one cov = times_among (length z.frames) c z one cov

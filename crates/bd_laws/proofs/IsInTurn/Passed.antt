@@ -13,7 +13,7 @@ use Rattle.bd_laws.proofs.Checks.{actor_acts}
 use Rattle.bd_laws.proofs.Machine.Following.{follow_by}
 use Rattle.bd_laws.proofs.Machine.Marks.{marked_in}
 
--- a live process
+-- One of these processes was opened at p.
 abbrev pub Lives : List Process → ℕ → Type 0
 Lives processes p = (q : Process) × In q processes × (q.made ≡ p)
 
@@ -25,13 +25,13 @@ pub record Became (s : Space) (b c : Buffer) : Type 0 where
   pub target : c.target ≡ b.target
   pub handed : (c.handed ≡ b.handed) ⊎ ((c.handed ≡ true) × Due s.todo b.made)
 
--- the step made it; a one-way call is on an object of its receiver
+-- The step made the buffer; if it is a one-way call's, that is on an object of its receiver.
 pub record New (s : Space) (c : Buffer) : Type 0 where
   pub made : c.made ≡ s.steps
   pub handed : c.handed ≡ false
   pub owned : (o : ObjectId) → On o c → (x : Object) × In x s.objects × (x.id ≡ o) × (x.owner ≡ c.receiver) × Lives s.processes x.owner
 
--- its receiver has ended
+-- The process p has ended: it isn't among the live ones, and no buffer is left in its window.
 pub record Ended (z : Space) (p : ℕ) : Type 0 where
   pub process : Lives z.processes p → ⊥
   pub buffers : (c : Buffer) → In c z.buffers → c.receiver ≡ p → ⊥

@@ -23,7 +23,7 @@ pub death_item : (n place made : ℕ) (todo : List Work) (deaths : List DeathNot
     → Queues n (with_work place todo list (work.Death made)) deaths
 death_item n place made todo deaths list silent queued h = search (arith, in_push, pairs_push)
 
--- a notification comes
+-- A new notification, of which no item tells yet, leaves items and notifications together.
 pub death_more : (n : ℕ) (todo : List Work) (deaths : List DeathNotification) (y : DeathNotification) → y.made < n → ((x : DeathNotification) → In x deaths → x.made ≡ y.made → ⊥)
     → Silent y.made todo → Queues n todo deaths → Queues n todo (deaths ++ y ∷ [])
 death_more n todo deaths y below other silent h = search (arith, in_push, pairs_push)

@@ -101,7 +101,7 @@ pub is_silent : (s : Space) (x : DeathNotification) → IsQueued s → In x s.de
 unfolding IsQueued
 is_silent s x h l never w i e = silent s.steps s x h l never w i e
 
--- its list is that of the process whose notification it is
+-- A Death item's list is that of the process whose notification it tells of.
 pub sits_on : (s : Space) → IsQueued s → (w : Work) (x : DeathNotification) → In w s.todo → In x s.deaths → w.kind ≡ work.Death x.made → w.list ≡ OfProcess x.process
 unfolding IsQueued
 sits_on s h w x l i e = h.sits w x.made x l e i refl

@@ -26,7 +26,7 @@ pub record Items (n : ℕ) (D : WorkKind → Type 0) (todo : List Work) : Type 0
   pub numbered : Numbered n todo
   pub due : (w : Work) → In w todo → w.id.place ≡ n → D w.kind
 
--- no new ones
+-- Where all items are of earlier steps, those of step n are numbered, since there are none.
 fresh_items : (n : ℕ) (D : WorkKind → Type 0) (todo : List Work) → Fresh n todo → Distinct todo → Items n D todo
 fresh_items n D todo f d = search (arith, fresh_numbered)
 
@@ -48,7 +48,7 @@ pub record Owing (n : ℕ) (z : Space) : Type 0 where
   pub steps : z.steps ≡ n
   pub todo : Numbered n z.todo
 
--- items go, and none comes
+-- A part of a step in which items go and none comes leaves its items numbered.
 pub fewer_mid : (s z : Space) → Told s → z.steps ≡ s.steps → ((w : Work) → In w z.todo → In w s.todo) → Mid s.steps z
 fewer_mid s z h e less = record { steps = e; items = fresh_items s.steps (Due z) z.todo (λ w l. h.fresh w (less w l)) (λ v w l m. h.distinct v w (less v l) (less w m)) }
 
@@ -64,7 +64,7 @@ pub owe_mid : (n : ℕ) (z : Space) (list : TodoList) (kind : WorkKind) → Due 
 unfolding owe deaths_go objects_go names_go
 owe_mid n z list kind d h = record { steps = h.steps; items = items_push n (Due z) z.steps z.todo list kind h.steps d h.items }
 
--- ripening makes calls
+-- Ripening, which makes Call items, leaves them numbered.
 ripens_mid : (n : ℕ) (z : Space) → Mid n z → Mid n (ripen z)
 unfolding ripen deaths_go objects_go names_go
 ripens_mid n z h = record {

@@ -43,7 +43,7 @@ on_commands s R k = search (arith, on_requested, on_cleared, on_done)
 pub commands_both : (s : Space) (R S : Space → Type 0) → DeathCommands s R → DeathCommands s S → DeathCommands s (λ y. R y × S y)
 commands_both s R S k l = search arith
 
--- the same, kept by each
+-- R is kept by each change of notifications alone, and by each item that tells of one.
 pub record KeptOnDeaths (R : Space → Type 0) : Type 0 where
   pub others : (z : Space) (ds : List DeathNotification) → R z → R (record z { deaths = ds })
   pub dies : (z : Space) (p made : ℕ) → R z → R (owe z (OfProcess p) (work.Death made))

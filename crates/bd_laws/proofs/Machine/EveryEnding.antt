@@ -25,7 +25,7 @@ pub record SetUp (s : Space) (seat : ℕ) (F : Space → Type 0) : Type 0 where
   pub managed : (a : Actor) → actor s seat ≡ Some a → is_manager_busy s a.process.made ≡ false → F (with_manager s a.process.made)
   pub marked : (p : ℕ) (on : Bool) → F (with_spam_detection s p on)
 
--- it touches neither frames nor work
+-- What speaks of neither frames nor work items holds after each step of that kind.
 pub set_up_beside : (s : Space) (seat : ℕ) (F : Space → Type 0)
     → ((qs : List Process) (ts : List Thread) (os : List Object) (rs : List Reference) (m : Option ObjectId) → F (record s { processes = qs; threads = ts; objects = os; references = rs; manager = m }))
     → SetUp s seat F

@@ -13,11 +13,11 @@ marked p on processes = changed (λ (q : Process). q.made == p) (detecting on) p
 mark_made : (on b : Bool) (q : Process) → (cond b (detecting on q) q).made ≡ q.made
 mark_made on b q = search arith
 
--- each was there before
+-- Each process was there before the mark was set or cleared.
 pub marked_in : (p : ℕ) (on : Bool) (processes : List Process) (q : Process) → In q (marked p on processes) → (r : Process) × In r processes × (r.made ≡ q.made)
 marked_in p on processes q l = search (arith, in_changed)
 
--- the same ones live
+-- Setting or clearing a mark leaves the same processes alive.
 pub marked_lives : (p : ℕ) (on : Bool) (processes : List Process) (n : ℕ) → lives_in (marked p on processes) n ≡ lives_in processes n
 marked_lives p on [] n = refl
 marked_lives p on (q ∷ qs) n = search (arith, marked_lives p on qs n)

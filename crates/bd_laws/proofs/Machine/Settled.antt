@@ -11,7 +11,7 @@ module _ {A : Type 0} (p : A → Bool) where
   length_kept [] = omega arith
   length_kept (x ∷ xs) = search (arith, length_kept xs)
 
-  -- an element goes
+  -- A list that loses an element gets shorter.
   length_less : (x : A) (xs : List A) → In x xs → p x ≡ false → length (filter p xs) + 1 ≤ length xs
   length_less x [] h e = absurd h
   length_less x (y ∷ ys) (inl is) e = let n : p y ≡ false = ap p is ∙ e in let k = length_kept ys in rw n (omega arith)

@@ -51,6 +51,6 @@ after_steps s (e ∷ es) =
     let all = after_steps (next s e) es in
     omega (arith, one, all)
 
--- so there were as many as there are entries
+-- A space counts as many steps as the history has entries.
 pub always_steps : (es : List Entry) → (after opening es).steps ≡ length es
 always_steps es = let all = after_steps opening es in omega (arith, all)

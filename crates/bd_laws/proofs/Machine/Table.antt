@@ -17,7 +17,7 @@ use Rattle.bd_laws.proofs.Machine.EveryStep.{Keeps}
 pub record Table (R : Space → Space → Type 0) (T : WorkKind → Type 0) : Type 0 where
   pub same : (z : Space) → R z z
   pub trans : (z y x : Space) → R z y → R y x → R z x
-  -- it speaks of none of these fields
+  -- R speaks of none of these fields.
   pub beside : (z : Space) (qs : List Process) (m : Option ObjectId) (os : List Object) (rs : List Reference) (ns : List Name) (ds : List DeathNotification)
       → R (record z { processes = qs; manager = m; objects = os; references = rs; names = ns; deaths = ds }) z
   pub seats : (z : Space) (seat p : ℕ) → R (with_thread z seat p) z
@@ -34,7 +34,7 @@ pub record Exits (R : Space → Space → Type 0) : Type 0 where
   pub goes : (z : Space) (seat : ℕ) → R (thread_goes z seat) z
   pub rest : (z : Space) (p : ℕ) → R (without_process z p) z
 
--- a frame closes
+-- R relates a space in which a frame has closed to the one before.
 abbrev pub Closing : (Space → Space → Type 0) → Type 0
 Closing R = (z : Space) (made : ℕ) → R (closed z made) z
 

@@ -104,12 +104,12 @@ module _ (s : Space) where
   taken_handed [] left w n l e = absurd l
   taken_handed (x ∷ xs) left w n l e = search (arith, taken_handed xs (left - length (bytes_read s x)) w n)
 
--- frames that are served
+-- Serving frames leaves none abandoned where none was.
 pub served_settled : (p : Frame → Bool) (seat : ℕ) (fs : List Frame) → IsSettled fs → IsSettled (changed p (serve seat) fs)
 served_settled p seat fs h = search (arith, find_none, in_changed, none_found, any_changed)
 
 module _ (todo more : List Work) where
-  -- the same targets
+  -- The two lists of one-way calls are on the same objects.
   abbrev pub SameTargets : List Turn → List Turn → Type 0
   SameTargets older less = (i : ObjectId) → list_any (λ (u : Turn). same u.target i) less ≡ list_any (λ (u : Turn). same u.target i) older
 

@@ -11,7 +11,7 @@ use Rattle.bd_laws.proofs.Machine.EveryEnding.{set_up_beside}
 use Rattle.bd_laws.proofs.Machine.EveryStep.{Keeps}
 use Rattle.bd_laws.proofs.Machine.Following.{threads_keep}
 
--- it tells neither of an object nor of a death
+-- An item of this kind is neither a Notice nor of a death.
 abbrev pub IsPlain : WorkKind → Type 0
 IsPlain kind = (notice_of kind ≡ None) × (death_of kind ≡ None)
 

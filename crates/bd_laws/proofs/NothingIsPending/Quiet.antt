@@ -93,7 +93,7 @@ pub elsewhere_aside : (a : NameTest) (b : ObjectTest) (z : Space) (n : ℕ) (ts 
     → Elsewhere a b (record z { steps = n; threads = ts; frames = fs; buffers = bs })
 elsewhere_aside a b z n ts fs bs h = record { names = h.names; objects = h.objects; deaths = h.deaths; notices = h.notices; tellings = h.tellings; made = h.made }
 
--- it tells neither of an object nor of a death
+-- An item of this kind is neither a Notice nor of a death.
 abbrev pub IsPlainKind : WorkKind → Type 0
 IsPlainKind kind = ((o : ObjectId) → kind ≡ work.Notice o → ⊥) × ((n : ℕ) → kind ≡ work.Death n → ⊥)
 

@@ -18,7 +18,7 @@ use Rattle.bd_laws.proofs.Machine.Fields.{owe_frames}
 
 -- ---- every step
 
--- what touches no frames either
+-- The frames are the same in both spaces, and nothing more is handed over in the one than in the other.
 abbrev Calm : Space → Space → Type 0
 Calm z y = Less z y × SameFrames z y
 

@@ -49,7 +49,7 @@ module _ (t : ℕ) where
       let same : g ≡ f = one g f m l (eqb-true g.made f.made (not_false_true (g.made == f.made) n)) in
       ap (takes_part t) same ∙ e)
 
-  -- another thread leaves its calls
+  -- When another thread ends, the thread at t takes part in the frames that it took part in before.
   left_busy : (u : ℕ) (todo : List Work) → (u == t) ≡ false → (f : Frame) → takes_part t (frame_without todo u f) ≡ takes_part t f
   left_busy u todo e f = search (arith, eqb-true, eq-eqb)
 
@@ -412,6 +412,6 @@ module _ (s : Space) (seat t : ℕ) (other : t ≡ seat → ⊥) where
       abandons = abandons;
     }
 
-    -- whatever the step
+    -- Whatever the step of the other seat is, the thread is left as ready as it was, or reached.
     pub left_of : (x : Step) → Left (change s seat x).space
     left_of x = every_whole_step s seat x Left Left (whole x)
