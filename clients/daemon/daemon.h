@@ -71,7 +71,7 @@ static inline void list_append(struct list *list, struct list *entry)
     list->previous = entry;
 }
 
-/* The entry may be removed again. */
+/* Takes an entry out of its list. It is a list of its own then, so that it may be removed once more. */
 static inline void list_remove(struct list *entry)
 {
     entry->previous->next = entry->next;
@@ -181,13 +181,13 @@ void loop_end(struct loop *loop);
 bool loop_add(struct loop *loop, struct watch *watch, uint32_t events);
 /* The same of a client's, which it stays until it is dropped. */
 bool loop_add_client(struct loop *loop, struct watch *watch, struct client *client, uint32_t events);
-/* It isn't waited for any more, here. */
+/* The watch isn't waited for any more in this loop. */
 void loop_leave(struct loop *loop, struct watch *watch);
-/* It is waited for other events from now on: with 0 for none but errors. */
+/* The watch is waited for with other events from now on: with 0 for none but errors. */
 void loop_change(struct loop *loop, struct watch *watch, uint32_t events);
-/* A client's, at its turn: it is heard again. */
+/* The watch of a client, which has its turn, is heard again. */
 void loop_listen(struct loop *loop, struct watch *watch);
-/* Closes the descriptor. */
+/* Leaves the loop with a watch, and closes its descriptor. */
 void loop_drop(struct loop *loop, struct watch *watch);
 /* Runs until it is stopped, or can't wait: then false. */
 bool loop_run(struct loop *loop);
@@ -365,7 +365,7 @@ struct step {
 struct engine;
 
 bool ring_make(struct ring *ring, const char *device, uint32_t seats);
-/* The device makes no more steps. */
+/* Tells those who look that the device makes no more steps. */
 void ring_conclude(struct ring *ring);
 void ring_free(struct ring *ring);
 /* So many seats are lent from now on. */
@@ -490,9 +490,9 @@ void seat_forget(struct thread *thread);
 
 /* Begins the thread that closes them; signals have to be blocked by now. */
 bool descriptors_begin(void);
-/* Closes one of the daemon's own. */
+/* Closes a descriptor of the daemon's own. */
 void descriptor_close(int *fd);
-/* The same of one whose other end a client has, without waiting for what the client has put into it. */
+/* Closes a descriptor whose other end a client has, without waiting for what the client has put into it. */
 void descriptor_end(int *fd);
 
 /* --- callers.c: whose call it is. --- */

@@ -23,7 +23,7 @@ static bool unwrap(struct engine *engine, struct objects *objects, struct traile
     return true;
 }
 
-/* A parcel on its way. */
+/* A parcel that has come to its receiver's window and whose descriptors are still to land. */
 struct arrival {
     struct objects objects;
     struct landing *landing; /* NULL: it has no descriptors, or there was no memory, and they are closed */

@@ -25,7 +25,7 @@
 #define FIRST_PID (1u << 30)
 #define LAST_PID 2147483647u
 
-/* The daemon's own seat. */
+/* The seat by which the daemon itself makes steps: processes begin and end by it. */
 #define OWN_SEAT 0u
 
 /* How long a connection may open nothing. */
@@ -67,7 +67,7 @@ static uint32_t free_pid(struct engine *engine, pid_t pid)
     return engine->last_pid;
 }
 
-/* Two bits for each 8 bytes. */
+/* How many places, of 8 bytes each, a word of `handed` tells of: it has two bits for each. */
 #define PLACES_OF_WORD 32
 
 void process_note_handed(struct process *process, uint64_t place, unsigned handed)

@@ -28,7 +28,7 @@
 
 /* What is appended in this time, or is more than a piece, is written together. The rest of a second is for the disk. */
 #define GATHER_MILLISECONDS 200
-/* So long one waits for room. */
+/* How long a step waits for room in the rings. */
 #define ROOM_MILLISECONDS 1000
 /* At its end the daemon waits for so long for a disk that takes nothing. */
 #define END_MILLISECONDS 5000
@@ -80,7 +80,7 @@ static bool break_off(struct recorder *recorder)
     return was_whole;
 }
 
-/* How many bytes wait. */
+/* How many bytes wait to be written, of all tracks. */
 static size_t waiting(const struct recorder *recorder)
 {
     size_t count = 0;
@@ -281,7 +281,7 @@ static bool await_room(struct recorder *recorder, const struct span spans[TRACKS
     return has_room(recorder, spans);
 }
 
-/* There is room, and a file. */
+/* Puts bytes into a track's ring, for which there is room, and a file. */
 static void put(struct output *track, struct span span)
 {
     size_t to = (track->from + track->count) % RING_ROOM, left = RING_ROOM - to, behind = span.size < left ? span.size : left;

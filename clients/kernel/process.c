@@ -47,7 +47,7 @@ static void do_manager(struct text *text)
     say(text, failed ? "manager %s" : "set", error == EBUSY ? "EBUSY" : "E");
 }
 
-/* Whether a file's reads wait. */
+/* Has the file's reads wait, or not. */
 static void let_wait(bool wait)
 {
     NEED(!fcntl(device, F_SETFL, O_RDWR | (wait ? 0 : O_NONBLOCK)), "fcntl");

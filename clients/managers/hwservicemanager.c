@@ -154,7 +154,7 @@ static bool last_object(const struct binder_transaction_data *call, uint32_t *ha
     return object.hdr.type == BINDER_TYPE_HANDLE;
 }
 
-/* Whose services are waited for. */
+/* The callers that wait for a service to come, so that none of them and no user takes all threads with waiting. */
 static struct {
     pthread_mutex_t lock;
     struct waiting {

@@ -10,7 +10,7 @@ static int compared(const struct service *service, const void *name, size_t size
     return by_bytes ? by_bytes : (service->size > size) - (service->size < size);
 }
 
-/* Where the name stands, or belongs. */
+/* The index at which a name stands among the names, or at which it belongs. */
 static size_t place(const struct registry *registry, const void *name, size_t size)
 {
     size_t from = 0, to = registry->count;
@@ -30,7 +30,7 @@ const struct service *registry_find(const struct registry *registry, const void 
     return at < registry->count && !compared(&registry->all[at], name, size) ? &registry->all[at] : NULL;
 }
 
-/* Room for one service more. */
+/* Makes room for one more service; false without memory. */
 static bool grow(struct registry *registry)
 {
     if (registry->count < registry->room)

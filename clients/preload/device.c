@@ -13,7 +13,7 @@ pthread_mutex_t devices_lock = PTHREAD_MUTEX_INITIALIZER;
 
 static _Atomic(struct device *) files[FILES];
 
-/* Those that have a window. */
+/* The devices that have a window: a list, whose first is this one. */
 static struct device *_Atomic mapped;
 
 /* What stands for the devices of a forked child's parent. */

@@ -74,7 +74,7 @@ void cancel_again(int before);
 
 /* A line on standard error, where HULLPIPPIN_LOG is set, and isn't 0. */
 void say(const char *format, ...) __attribute__((format(printf, 1, 2)));
-/* The same unless HULLPIPPIN_LOG is 0. */
+/* A line on standard error, unless HULLPIPPIN_LOG is 0. */
 void complain(const char *format, ...) __attribute__((format(printf, 1, 2)));
 
 /* --- memory.c: whether the program's pointers lead anywhere. errno stays as it is. --- */

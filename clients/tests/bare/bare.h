@@ -23,7 +23,7 @@
 #define QUEUE_MAX 256u
 #define DEPTH_MAX 8u
 
-/* What epoll tells of. */
+/* A descriptor, and what is called when epoll tells of it. */
 struct watch {
     int fd;
     void (*ready)(struct watch *watch, uint32_t events);
@@ -84,10 +84,10 @@ void settle(struct process *process);
 void calls_run(struct thread *thread, const uint8_t *stream, uint32_t size);
 /* Whether there is a call that the thread could serve. */
 bool calls_wait(const struct thread *thread);
-/* Takes the oldest of them. */
+/* Takes the oldest of the calls that the thread could serve. */
 void calls_take(struct thread *thread);
 void calls_free(struct process *process, uint64_t pointer);
-/* The process is the context manager. */
+/* Makes the process the context manager. */
 void calls_set_manager(struct process *process);
 
 #endif

@@ -31,7 +31,7 @@ bool hostile_connect(struct hostile *hostile);
 bool hostile_open(struct hostile *hostile, const char *device);
 bool hostile_map(struct hostile *hostile, uint64_t size);
 bool hostile_thread(struct hostile *hostile);
-/* All of these. */
+/* Does all of these, one after the other. */
 bool hostile_begin(struct hostile *hostile, const char *device);
 void hostile_end(struct hostile *hostile);
 

@@ -60,7 +60,7 @@ static uid_t owner_of(pid_t pid)
     return stat.st_uid;
 }
 
-/* Waits for one byte. */
+/* Waits until the other process has sent a byte. */
 static void await(int end)
 {
     char byte;

@@ -55,7 +55,7 @@ static void ask_frees(struct page *page)
     ask_commands(page, &each);
 }
 
-/* What each asks for. */
+/* Writes into a page the request that each client then makes. */
 static void (*prepare)(struct page *page) = ask_loops;
 
 /* Asks wherever there is an answer, from the first that has one; how many these were. */

@@ -27,7 +27,7 @@ enum { ECHO = 1, KEEP, GLANCE, TEXT, COUNT_ON, HAND, BACK, WHO };
 
 #define LARGEST 200000
 
-/* What takes longer hangs. */
+/* What takes longer than so many microseconds counts as hanging. */
 #define HANGS 5e6
 
 #define OWN 0x9000

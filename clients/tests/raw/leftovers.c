@@ -56,7 +56,7 @@ static uint32_t let_go(struct looper *looper, size_t which)
     return is_right;
 }
 
-/* Its buffer isn't given back. */
+/* Serves a call, and keeps its buffer. */
 static void hold(struct looper *looper, const struct binder_transaction_data *call)
 {
     uint32_t all = is_all(&(struct held){raw_data(call), call->data_size}, SECRET);

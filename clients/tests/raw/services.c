@@ -68,7 +68,7 @@ static void own(void *with)
     looper_run(&client.looper);
 }
 
-/* A process for each service. */
+/* The process that owns each service. */
 static pid_t owners[MOST];
 
 static void start_owners(uint32_t from, uint32_t to)
@@ -147,7 +147,7 @@ static void all_are_there(struct client *client, uint32_t many)
     CHECK(!find(client, many), "there is a service that nobody added");
 }
 
-/* The last of them die. */
+/* Ends the owners behind the first ones, and sees that their services go, and no others. */
 static void all_go(struct client *client, uint32_t many, uint32_t left)
 {
     uint32_t there = left + 1;

@@ -64,7 +64,7 @@ static void tell_chain(struct looper *looper, const struct binder_transaction_da
     writer_free(&writer);
 }
 
-/* Tells once that it is asked. */
+/* Serves the question for interfaces by not answering it. */
 static void hang(struct looper *looper, const struct binder_transaction_data *call)
 {
     (void)looper;

@@ -92,7 +92,7 @@ static void *send_first(void *with)
 
 static const struct told taken[] = {{BR_TRANSACTION_COMPLETE, 0}};
 
-/* It reads once the other has. */
+/* Sends an object after the other thread, and reads once that has read. */
 static void *send_after(void *with)
 {
     send_objects(client.binder.fd, TAKE, TF_ONE_WAY, &second, 1);

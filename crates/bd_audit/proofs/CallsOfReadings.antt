@@ -213,7 +213,7 @@ only_call h s c k =
     let caller : k.caller ≡ a.caller = (let j : Some k.caller ≡ Some a.caller = sym r.3.by ∙ by in cc) in
     a.answers ∙ ap (λ n. Some n) (same_call h s k.reply taken c (subst (λ m. Called h.entries c m) caller k.called) k.replied)
 
--- ---- both
+-- ---- the call that is found is the reading's, and no other is
 
 pub answers_call : (h : History) (s : ℕ) (o : Option ℕ) → o ≡ call_answered h s → IsAnswerOf h s o
 answers_call h s o e = record { is = λ c f. is_call h s c (sym e ∙ f); only = λ c k. e ∙ only_call h s c k }

@@ -85,7 +85,7 @@ pub closed_none : (h g : History) (place : ℕ) (e : Entry) → g ≡ beginning 
     → None ≡ innermost_of (space_after g) e.seat → None ≡ call_closed_at h place
 closed_none h g place e is at inner = ap first_part inner ∙ sym (frame_is (space_after g) e) ∙ there_closed h g place e is at
 
--- ---- both
+-- ---- the call that is answered, by the reply that was taken
 
 pub answered_none : (h : History) (place : ℕ) → None ≡ reply_taken_at h place → None ≡ call_answered h place
 unfolding call_answered

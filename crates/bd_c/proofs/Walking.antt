@@ -41,7 +41,7 @@ pub one_offset : (xs : List ℕ) → length xs ≡ 8 → offsets_in xs ≡ long_
 one_offset xs len =
     eight_front xs (omega arith) ∙ ap (λ (os : List ℕ). long_at 0 xs ∷ os) (nothing (offsets_in (drop 8 xs)) (omega (arith, length_offsets_in (drop 8 xs), length-drop 8 xs)))
 
--- ---- its fault
+-- ---- the fault of one offset, in a parcel and by itself
 
 judge : Bool → Bool → Bool → ℕ → Option WalkFault
 judge placed known other i = cond placed (cond known None (Some (cond other (Unsupported i) (Bad i)))) (Some (Bad i))
@@ -105,7 +105,7 @@ sound bytes xs starts objects end i x start len le none starts-are objects-are a
     let same-x : x ≡ object_at (long_at 0 xs) bytes = cc in
     rw (is, same-start, same-x) refl
 
--- ---- the next one of all
+-- ---- the next of all offsets
 
 pub odd : (bytes offsets : List ℕ) (w : WalkInC) → (length offsets % 8 ≡ 0 → ⊥) → Err Size ≡ next_object bytes offsets w
 odd bytes offsets w ne = rw (ne_eqb (length offsets % 8) 0 ne) refl

@@ -60,7 +60,7 @@ Ahead (Err Size) here next = Unit {0}
 Ahead (Err (Bad index)) here next = here ≡ Some (Bad index)
 Ahead (Err (Unsupported index)) here next = here ≡ Some (Unsupported index)
 
--- ---- writing one
+-- ---- writing an object
 
 abbrev pub flat_given : FlatObjectInC → FlatObject
 flat_given g = record { kind = kind_of g.kind; flags = g.flags; binder = g.binder; cookie = g.cookie }

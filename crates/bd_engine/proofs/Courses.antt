@@ -90,7 +90,7 @@ next_read stream at c size within found read =
 pub next_fault : (stream : List ℕ) (at : ℕ) (x : Fault) → command_at (take (length stream - at) (drop at stream)) ≡ Err x → command_at (drop at stream) ≡ Err x
 next_fault stream at x e = ap command_at (sym (rest_is stream at)) ∙ e
 
--- ---- the same, with room made for a note
+-- ---- how a write goes on, with room made for a note
 
 -- What holds of the course that a brief result stands for holds of the result.
 cut_in_brief : (p : Progress) (F : Course → Type 0) (G : Why → Type 0) (r : Result Going Why) → MatchResult (course_or p r) F G → MatchResult r (λ g. F (course_of p g)) G
