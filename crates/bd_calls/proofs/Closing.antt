@@ -1,26 +1,57 @@
--- Closing upwards, step by step.
-use Rattle.std.proofs.Common.{◌≡◌, ℕ, zero, suc, ◌+◌, ◌-◌, ◌<◌, ◌≤◌, not, ◌&&◌, List, length, filter, Option, Some, None, refl, ap, sym, subst, ◌∙◌, find, arith}
+-- Closing step by step: upwards, and among chosen calls.
+use Rattle.std.proofs.Common.{◌≡◌, ℕ, zero, suc, ◌+◌, ◌-◌, ◌<◌, ◌≤◌, ◌==◌, Bool, not, ◌&&◌, ◌||◌, List, length, filter, Option, Some, None, refl, ap, sym, subst, ◌∙◌, find, arith}
 use Rattle.std.proofs.lemmas.Bool.{eq-eqb}
+use Rattle.bd_uapi.specs.declared.command.Return.TheVariants.{DeadReply}
 use Rattle.bd_space.specs.declared.space.Frame.{Frame}
+use Rattle.bd_space.specs.declared.space.TodoList.TheVariants.{OfThread}
+use Rattle.bd_space.specs.declared.space.WorkKind.TheVariants.{Verdict}
+use Rattle.bd_space.specs.Words.{is_some_and}
 use Rattle.bd_space.specs.Space.{Space}
-use Rattle.bd_space.specs.Frames.{is_frame}
-use Rattle.bd_space.specs.Settle.{is_abandoned}
-use Rattle.bd_ways.specs.Local.{close_up}
+use Rattle.bd_space.specs.Frames.{is_frame, closed}
+use Rattle.bd_space.specs.Settle.{is_abandoned, settle_one}
+use Rattle.bd_space.specs.Todo.{owe}
+use Rattle.bd_ways.specs.Local.{close_up, close_among}
 use Rattle.bd_ways.specs.Tables.{Tells, MakesAt}
 use Rattle.bd_frames.specs.Words.{abandoned_in}
 use Rattle.bd_calls.specs.declared.table.CallTable.{CallTable}
 use Rattle.bd_calls.specs.Stands.{StandsFor}
-use Rattle.bd_calls.proofs.Settling.{one_steps}
-use Rattle.bd_calls.proofs.Choosing.{next, next_frames}
 use Rattle.bd_calls.proofs.InList.{In, found_in, found_nowhere, length_in, one_less}
 
 -- ---- one call closes
 
+abbrev pub next : Space → Frame → Space
+next s f = settle_one s (Some f)
+
+-- its frame goes, and no step is counted
+closes : (s : Space) (made : ℕ) (caller : Option ℕ) → let z = elim caller as (λ (o : Option ℕ). Space) [ None ↦ closed s made | Some t ↦ owe (closed s made) (OfThread t) (Verdict DeadReply) ] in
+    (z.frames ≡ filter (λ g. not (is_frame made g)) s.frames) × (z.steps ≡ s.steps)
+unfolding closed owe
+closes s made None = (refl, refl)
+closes s made (Some t) = (refl, refl)
+
+pub next_frames : (s : Space) (f : Frame) → (next s f).frames ≡ filter (λ g. not (is_frame f.made g)) s.frames
+next_frames s f = (closes s f.made f.caller).0
+
+next_steps : (s : Space) (f : Frame) → (next s f).steps ≡ s.steps
+next_steps s f = (closes s f.made f.caller).1
+
 pub next_fewer : (s : Space) (f : Frame) → In f s.frames → length (next s f).frames < length s.frames
 next_fewer s f i =
     let less = one_less (λ g. not (is_frame f.made g)) s.frames f i (ap not (eq-eqb f.made f.made refl)) in
-    let count : length (next s f).frames ≡ length (filter (λ g. not (is_frame f.made g)) s.frames) = ap (λ (fs : List Frame). length fs) (next_frames s f.made f.caller) in
-    omega (arith, less, count)
+    omega (arith, less, ap (λ (fs : List Frame). length fs) (next_frames s f))
+
+-- ---- among chosen calls: where one closes its parent is chosen too
+
+abbrev pub or_parent : (ℕ → Bool) → Option ℕ → ℕ → Bool
+or_parent c parent m = c m || is_some_and parent (λ p. p == m)
+
+pub among_opens : (n : ℕ) (c : ℕ → Bool) (s : Space) (f : Frame) → find (λ g. c g.made && is_abandoned s.frames g) s.frames ≡ Some f
+    → close_among (suc n) c s ≡ close_among n (or_parent c f.parent) (next s f)
+among_opens n c s f found = rw (found, close_among) refl
+
+pub among_stays : (n : ℕ) (c : ℕ → Bool) (s : Space) → find (λ g. c g.made && is_abandoned s.frames g) s.frames ≡ None → close_among n c s ≡ s
+among_stays zero c s none = refl
+among_stays (suc n) c s none = rw (none, close_among) refl
 
 -- ---- upwards
 
@@ -30,19 +61,11 @@ up_none (suc n) s = refl
 
 pub up_opens : (n m : ℕ) (s : Space) (f : Frame) → find (λ g. is_frame m g && is_abandoned s.frames g) s.frames ≡ Some f
     → close_up (suc n) (Some m) s ≡ close_up n f.parent (next s f)
-up_opens n m s f found = ap at found
-  where
-    at : Option Frame → Space
-    at None = s
-    at (Some f) = close_up n f.parent (next s f)
+up_opens n m s f found = rw (found, close_up) refl
 
 pub up_stays : (n m : ℕ) (s : Space) → find (λ g. is_frame m g && is_abandoned s.frames g) s.frames ≡ None → close_up n (Some m) s ≡ s
 up_stays zero m s none = refl
-up_stays (suc n) m s none = ap at none
-  where
-    at : Option Frame → Space
-    at None = s
-    at (Some f) = close_up n f.parent (next s f)
+up_stays (suc n) m s none = rw (none, close_up) refl
 
 -- the table stands for a space from which closing goes on from here upwards, so many calls at most, to the whole; at least as
 -- many frames are gone as there are fewer calls left
@@ -52,10 +75,6 @@ pub record IsUpAt (t : CallTable) (place : ℕ) (next : Option ℕ) (left all be
   pub at : mid.steps ≡ place
   pub goes_on : close_up left next mid ≡ whole
   pub fewer : length mid.frames + all ≤ begun + left
-
-pub up_begins : (t : CallTable) (place : ℕ) (made : Option ℕ) (left : ℕ) (s : Space) → StandsFor t s → s.steps ≡ place
-    → IsUpAt t place made left left (length s.frames) (close_up left made s)
-up_begins t place made left s stands at = record { mid = s; stands = stands; at = at; goes_on = refl; fewer = omega arith }
 
 -- the call made here has closed
 pub up_more : (t u : CallTable) (place made left k all begun : ℕ) (f : Frame) (whole : Space) → left ≡ suc k → IsUpAt t place (Some made) left all begun whole
@@ -68,7 +87,7 @@ up_more t u place made left k all begun f whole is h makes tells =
     record {
       mid = next h.mid f;
       stands = subst (StandsFor u) (up_opens 0 made h.mid f found) (makes h.mid h.stands h.at);
-      at = one_steps h.mid (Some f) ∙ h.at;
+      at = next_steps h.mid f ∙ h.at;
       goes_on = sym (up_opens k made h.mid f found) ∙ sym (ap (λ n. close_up n (Some made) h.mid) is) ∙ h.goes_on;
       fewer = omega (arith, gone, before, is);
     }
@@ -103,7 +122,7 @@ up_steps (suc n) (Some m) s = at (find (λ g. is_frame m g && is_abandoned s.fra
     at : (o : Option Frame) → find (λ g. is_frame m g && is_abandoned s.frames g) s.frames ≡ o → ((f : Frame) → (close_up n f.parent (next s f)).steps ≡ (next s f).steps)
         → (close_up (suc n) (Some m) s).steps ≡ s.steps
     at None none rest = ap (λ (z : Space). z.steps) (up_stays (suc n) m s none)
-    at (Some f) found rest = ap (λ (z : Space). z.steps) (up_opens n m s f found) ∙ rest f ∙ one_steps s (Some f)
+    at (Some f) found rest = ap (λ (z : Space). z.steps) (up_opens n m s f found) ∙ rest f ∙ next_steps s f
 
 -- more turns than frames change nothing
 pub up_enough : (n k : ℕ) (m : Option ℕ) (s : Space) → length s.frames ≤ n → length s.frames ≤ k → close_up n m s ≡ close_up k m s

@@ -1,11 +1,12 @@
 -- Closing among chosen calls where frames are in order: the chosen ones in turn from the oldest on, each upwards.
-use Rattle.std.proofs.Common.{◌≡◌, ℕ, zero, suc, ◌+◌, ◌-◌, ◌==◌, ◌<◌, ◌≤◌, Bool, true, false, cond, not, ◌&&◌, ◌||◌, List, [], ◌∷◌, Option, Some, None, ◌⊎◌, inl, inr, refl, ap, sym, subst, ◌∙◌, length, filter, find, get_or, arith}
+use Rattle.std.proofs.Common.{◌≡◌, ℕ, zero, suc, ◌+◌, ◌-◌, ◌==◌, ◌<◌, ◌≤◌, Bool, true, false, not, ◌&&◌, ◌||◌, List, [], ◌∷◌, Option, Some, None, ◌⊎◌, inl, inr, refl, ap, sym, subst, ◌∙◌, length, filter, find, get_or, arith}
 use Rattle.std.specs.Prelude.{fold}
 use Rattle.std.specs.List.{list_any}
 use Rattle.std.specs.List.Sorted.{IsNonDecreasing, IsPermutation}
 use Rattle.std.proofs.Math.Path.{fun_ext}
 use Rattle.std.proofs.lemmas.List.Sorted.{list_any-IsPermutation}
 use Rattle.std.proofs.lemmas.Bool.{eqb-true, eq-eqb}
+use Rattle.bd_keys.proofs.Found.{found_passes}
 use Rattle.bd_space.specs.declared.space.Frame.{Frame}
 use Rattle.bd_space.specs.Words.{is_some_and}
 use Rattle.bd_space.specs.Space.{Space}
@@ -16,27 +17,21 @@ use Rattle.bd_ways.specs.Tables.{MakesAt}
 use Rattle.bd_frames.specs.Places.{IsRising}
 use Rattle.bd_calls.specs.declared.table.CallTable.{CallTable}
 use Rattle.bd_calls.specs.Stands.{StandsFor}
-use Rattle.bd_calls.specs.Closing.{is_place_among}
+use Rattle.bd_frames.specs.Words.{is_place_among}
 use Rattle.bd_frames.specs.InOrder.{IsBefore, ParentsOlder, IsInOrder}
-use Rattle.bd_calls.proofs.Choosing.{or_parent, next, next_frames, among_opens, among_stays, found_passes, first_true}
-use Rattle.bd_calls.proofs.InList.{In, second_true, either_true, both_true, not_true, found_in, none_found, found_nowhere, any_in, in_any, length_in, in_filter, filter_in, rising_filter, older_filter}
-use Rattle.bd_calls.proofs.Closing.{next_fewer, up_none, up_opens, up_stays, up_steps, up_enough}
+use Rattle.bd_calls.proofs.InList.{In, first_true, second_true, either_true, both_true, not_true, found_in, none_found, found_nowhere, any_in, in_any, length_in, in_filter, filter_in, rising_filter, older_filter}
+use Rattle.bd_calls.proofs.Closing.{next, next_frames, next_fewer, or_parent, among_opens, among_stays, up_none, up_opens, up_stays, up_steps, up_enough}
 
 -- ---- the frames in order
 
 above_in : (n : ℕ) (fs : List Frame) (f : Frame) → IsRising n fs → In f fs → n ≤ f.made
 above_in n [] f r i = absurd i
-above_in n (g ∷ fs) f r (inl is) = subst (λ x. n ≤ x.made) (sym is) r.0
-above_in n (g ∷ fs) f r (inr j) = let k = above_in (suc g.made) fs f r.1 j in let low = r.0 in omega (arith, k, low)
+above_in n (g ∷ fs) f r i = grind (arith, r, i, above_in (suc g.made) fs f r.1)
 
 only_one : (n : ℕ) (fs : List Frame) (f g : Frame) → IsRising n fs → In f fs → In g fs → f.made ≡ g.made → f ≡ g
 only_one n [] f g r i j e = absurd i
-only_one n (h ∷ fs) f g r (inl i) (inl j) e = i ∙ sym j
-only_one n (h ∷ fs) f g r (inl i) (inr j) e =
-    let k = above_in (suc h.made) fs g r.1 j in let same : f.made ≡ h.made = ap (λ x. x.made) i in absurd (omega (arith, k, same, e))
-only_one n (h ∷ fs) f g r (inr i) (inl j) e =
-    let k = above_in (suc h.made) fs f r.1 i in let same : g.made ≡ h.made = ap (λ x. x.made) j in absurd (omega (arith, k, same, e))
-only_one n (h ∷ fs) f g r (inr i) (inr j) e = only_one (suc h.made) fs f g r.1 i j e
+only_one n (h ∷ fs) f g r i j e =
+    grind (arith, i, j, e, above_in (suc h.made) fs f r.1, above_in (suc h.made) fs g r.1, only_one (suc h.made) fs f g r.1)
 
 older_in : (fs : List Frame) (f : Frame) → ParentsOlder fs → In f fs → IsBefore f.parent f.made
 older_in [] f r i = absurd i
@@ -47,13 +42,9 @@ older_in (g ∷ fs) f r (inr j) = older_in fs f r.1 j
 found_first : (p q : Frame → Bool) (n : ℕ) (fs : List Frame) (f : Frame) → IsRising n fs → find p fs ≡ Some f → q f ≡ true
     → ((g : Frame) → In g fs → q g ≡ true → f.made ≤ g.made) → find q fs ≡ Some f
 found_first p q n [] f r h e low = absurd (cc)
-found_first p q n (g ∷ fs) f r h e low = at (p g) h (q g) refl (λ k. found_first p q (suc g.made) fs f r.1 k e (λ x i. low x (inr i)))
-  where
-    at : (b : Bool) → cond b (Some g) (find p fs) ≡ Some f → (c : Bool) → q g ≡ c → (find p fs ≡ Some f → find q fs ≡ Some f) → cond c (Some g) (find q fs) ≡ Some f
-    at true k c x rest = let is : g ≡ f = cc in ap (λ b. cond b (Some g) (find q fs)) (sym x ∙ ap q is ∙ e) ∙ ap Some is
-    at false k true x rest =
-        let above = above_in (suc g.made) fs f r.1 (found_in p fs f k) in let below = low g (inl refl) x in absurd (omega (arith, above, below))
-    at false k false x rest = rest k
+found_first p q n (g ∷ fs) f r h e low =
+    let rest : find p fs ≡ Some f → find q fs ≡ Some f = λ k. found_first p q (suc g.made) fs f r.1 k e (λ x i. low x (inr i)) in
+    grind (arith, h, e, low g, above_in (suc g.made) fs f r.1, found_in p fs f, rest)
 
 -- where a frame has closed, none is abandoned that was not before but its parent
 module _ (fs : List Frame) (f g : Frame) (rising : IsRising 0 fs) (i : In f fs) where
@@ -86,11 +77,7 @@ sorted_down m n (c ∷ cs) h r = (omega (arith, h, r.0), r.1)
 
 sorted_above : (from : ℕ) (cs : List ℕ) (k : ℕ) → IsSortedFrom from cs → is_place_among cs k ≡ true → from ≤ k
 sorted_above from [] k r h = absurd (cc)
-sorted_above from (c ∷ cs) k r h = at (c == k) refl h (sorted_above c cs k r.1)
-  where
-    at : (b : Bool) → (c == k) ≡ b → (b || is_place_among cs k) ≡ true → (is_place_among cs k ≡ true → c ≤ k) → from ≤ k
-    at true e h rest = let is = eqb-true c k e in let low = r.0 in omega (arith, is, low)
-    at false e h rest = let above = rest h in let low = r.0 in omega (arith, above, low)
+sorted_above from (c ∷ cs) k r h = grind (arith, h, r.0, sorted_above c cs k r.1)
 
 -- ---- both ways at once
 
@@ -129,16 +116,8 @@ ready_stays c x xs fs none r = record {
   older = r.older;
   order = sorted_down 0 x xs (omega arith) r.order;
   chosen = λ k h. r.chosen k (either_true (x == k) (is_place_among xs k) h);
-  others = λ g i h a. at g i a (x == g.made) refl (r.others g i h a);
+  others = λ g i h a. grind (arith, none_found _ fs g none i, a, r.others g i h a);
 }
-  where
-    at : (g : Frame) → In g fs → is_abandoned fs g ≡ true → (b : Bool) → (x == g.made) ≡ b → (b || is_place_among xs g.made) ≡ true → is_place_among xs g.made ≡ true
-    at g i a true e h =
-        let here : is_frame x g ≡ true = eq-eqb g.made x (sym (eqb-true x g.made e)) in
-        let found = both_true (is_frame x g) (is_abandoned fs g) here a in
-        let lost = none_found _ fs g none i in
-        absurd (cc)
-    at g i a false e h = h
 
 -- the call made at x is abandoned, and closes
 module _ (c : ℕ → Bool) (x : ℕ) (xs : List ℕ) (fs : List Frame) (f : Frame) (found : find (λ g. is_frame x g && is_abandoned fs g) fs ≡ Some f) (r : IsReady c (Some x) xs fs) where
@@ -155,11 +134,7 @@ module _ (c : ℕ → Bool) (x : ℕ) (xs : List ℕ) (fs : List Frame) (f : Fra
   chosen_too =
       found_first _ _ 0 fs f r.rising found
       (both_true (c f.made) (is_abandoned fs f) (r.chosen f.made (ap (λ b. b || is_place_among xs f.made) (eq-eqb x f.made (sym made_here)))) (second_true (is_frame x f) (is_abandoned fs f) passes))
-      (λ g i h. at g (x == g.made) refl (r.others g i (first_true (c g.made) (is_abandoned fs g) h) (second_true (c g.made) (is_abandoned fs g) h)))
-    where
-      at : (g : Frame) (b : Bool) → (x == g.made) ≡ b → (b || is_place_among xs g.made) ≡ true → f.made ≤ g.made
-      at g true e h = let same = eqb-true x g.made e in let here = made_here in omega (arith, same, here)
-      at g false e h = let above = sorted_above x xs g.made r.order h in let here = made_here in omega (arith, above, here)
+      (λ g i h. grind (arith, made_here, r.others g i (first_true (c g.made) (is_abandoned fs g) h) (second_true (c g.made) (is_abandoned fs g) h), sorted_above x xs g.made r.order))
 
   ready_next : IsReady (or_parent c f.parent) f.parent xs (filter (λ h. not (is_frame f.made h)) fs)
   ready_next = record {
@@ -178,22 +153,11 @@ module _ (c : ℕ → Bool) (x : ℕ) (xs : List ℕ) (fs : List Frame) (f : Fra
       kept true k h = either_true (c k) true refl
       kept false k h = ap (λ b. b || false) (r.chosen k (either_true (x == k) (is_place_among xs k) h))
 
-      -- chosen before, and not made here: it was due
-      due : (g : Frame) → In g fs → is_frame f.made g ≡ false → c g.made ≡ true → is_abandoned fs g ≡ true → is_place_among xs g.made ≡ true
-      due g i other h a = later (x == g.made) refl (r.others g i h a)
-        where
-          later : (b : Bool) → (x == g.made) ≡ b → (b || is_place_among xs g.made) ≡ true → is_place_among xs g.made ≡ true
-          later true e k = let same = eq-eqb g.made f.made (sym (made_here ∙ eqb-true x g.made e)) in absurd (cc)
-          later false e k = k
-
       one : (g : Frame) → In g fs → is_frame f.made g ≡ false → (c g.made || is_some_and f.parent (λ p. p == g.made)) ≡ true
           → (is_abandoned fs g ≡ true) ⊎ (is_child_of g f ≡ true) → is_due f.parent xs g.made ≡ true
       one g i other h (inr child) = ap (λ b. b || is_place_among xs g.made) child
-      one g i other h (inl a) = by (c g.made) refl h
-        where
-          by : (b : Bool) → c g.made ≡ b → (b || is_some_and f.parent (λ p. p == g.made)) ≡ true → is_due f.parent xs g.made ≡ true
-          by true e k = either_true (is_some_and f.parent (λ p. p == g.made)) (is_place_among xs g.made) (due g i other e a)
-          by false e k = ap (λ b. b || is_place_among xs g.made) k
+      -- chosen before, and not made here: it was due
+      one g i other h (inl a) = let due : c g.made ≡ true → is_due (Some x) xs g.made ≡ true = λ e. r.others g i e a in grind (arith, other, h, made_here, due)
 
 -- ---- both come to the same
 
@@ -216,20 +180,14 @@ module _ (n : ℕ) (less : (j : ℕ) → n ≡ suc j → (m : Option ℕ) (cs : 
           ap (λ i. close_among i c s) turns
           ∙ among_opens (n - 1) c s f (chosen_too c x xs s.frames f found ready)
           ∙ less (n - 1) turns f.parent xs (k - 1) (or_parent c f.parent) (next s f) enough_left fuel_left
-          (subst (IsReady (or_parent c f.parent) f.parent xs) (sym (next_frames s f.made f.caller)) (ready_next c x xs s.frames f found ready))
+          (subst (IsReady (or_parent c f.parent) f.parent xs) (sym (next_frames s f)) (ready_next c x xs s.frames f found ready))
           ∙ ap (each_up xs) (sym (up_opens (k - 1) x s f found) ∙ sym (ap (λ i. close_up i (Some x) s) ups))
 
   none_meets : (cs : List ℕ) → Meets n None cs
-  none_meets [] = λ k c s enough fuel ready. among_stays n c s (found_nowhere _ s.frames (λ g i. nobody c s ready g i)) ∙ sym (up_none k s)
+  none_meets [] = λ k c s enough fuel ready. among_stays n c s (found_nowhere _ s.frames (λ g i. nobody (c g.made) (is_abandoned s.frames g) (ready.others g i))) ∙ sym (up_none k s)
     where
-      nobody : (c : ℕ → Bool) (s : Space) → IsReady c None [] s.frames → (g : Frame) → In g s.frames → (c g.made && is_abandoned s.frames g) ≡ false
-      nobody c s ready g i = at (c g.made && is_abandoned s.frames g) refl
-        where
-          at : (b : Bool) → (c g.made && is_abandoned s.frames g) ≡ b → b ≡ false
-          at true e =
-              let due = ready.others g i (first_true (c g.made) (is_abandoned s.frames g) e) (second_true (c g.made) (is_abandoned s.frames g) e) in
-              absurd (cc)
-          at false e = refl
+      nobody : (a b : Bool) → (a ≡ true → b ≡ true → false ≡ true) → (a && b) ≡ false
+      nobody a b never = grind (arith, never)
   none_meets (x ∷ xs) = λ k c s enough fuel ready.
       some_meets x xs (none_meets xs) (length s.frames) c s enough (omega arith) (ready_head c x xs s.frames ready) ∙ ap (each_up (x ∷ xs)) (sym (up_none k s))
 
@@ -269,10 +227,6 @@ pub record IsEachAt (t : CallTable) (place left : ℕ) (due : List ℕ) (whole :
   pub at : mid.steps ≡ place
   pub enough : length mid.frames ≤ left
   pub goes_on : each_up due mid ≡ whole
-
-pub each_begins : (t : CallTable) (place left : ℕ) (due : List ℕ) (s : Space) → StandsFor t s → s.steps ≡ place → left ≡ length s.frames
-    → IsEachAt t place left due (each_up due s)
-each_begins t place left due s stands at count = record { mid = s; stands = stands; at = at; enough = omega (arith, count); goes_on = refl }
 
 pub each_next : (t u : CallTable) (place left more c : ℕ) (cs : List ℕ) (whole : Space) → IsEachAt t place left (c ∷ cs) whole
     → MakesAt place (StandsFor t) (StandsFor u) (close_up left (Some c))

@@ -1,4 +1,3 @@
-pub mod Choosing
 pub mod Closing
 pub mod Few
 pub mod InCalls
@@ -11,6 +10,5 @@ pub mod OneWay
 pub mod Plain
 pub mod Rooms
 pub mod Seats
-pub mod Settling
 pub mod Threads
 pub mod Works

@@ -1,5 +1,5 @@
 -- One-way calls that go one after the other, by the work items that would have handed them out.
-use Rattle.std.proofs.Common.{◌≡◌, ◌==◌, ◌∙◌, ℕ, Bool, true, false, cond, not, ◌||◌, ◌&&◌, List, [], ◌∷◌, Option, Some, None, refl, ap, sym, subst, filter, rules, tests}
+use Rattle.std.proofs.Common.{◌≡◌, ◌==◌, ◌∙◌, ℕ, Bool, true, cond, not, ◌||◌, ◌&&◌, List, [], ◌∷◌, Option, Some, None, refl, ap, sym, subst, filter, arith}
 use Rattle.std.specs.List.{list_any}
 use Rattle.bd_space.specs.declared.space.TodoList.{TodoList}
 use Rattle.bd_space.specs.declared.space.Turn.{Turn}
@@ -31,24 +31,13 @@ keeps_all (t ∷ ts) = ap (λ us. t ∷ us) (keeps_all ts)
 module _ (p q r : Turn → Bool) (same : (t : Turn) → p t ≡ (q t && r t)) where
   twice : (ts : List Turn) → filter p ts ≡ filter r (filter q ts)
   twice [] = refl
-  twice (t ∷ ts) = rw (same t) (at (q t) (twice ts))
-    where
-      at : (b : Bool) → filter p ts ≡ filter r (filter q ts) → cond (b && r t) (t ∷ filter p ts) (filter p ts) ≡ filter r (cond b (t ∷ filter q ts) (filter q ts))
-      at true k = ap (λ us. cond (r t) (t ∷ us) us) k
-      at false k = k
+  twice (t ∷ ts) = grind (arith, same t, twice ts)
 
 -- ---- tests
 
-swap : (m n : ℕ) → (m == n) ≡ (n == m)
-swap m n = search (rules, tests)
-
-neither : (b c : Bool) → not (b || c) ≡ (not b && not c)
-neither true c = refl
-neither false c = refl
-
 apart : (o : Option ℕ) (n : ℕ) (b : Bool) → not (is_some_and o (λ m. m == n) || b) ≡ (not (is_some_and o (λ m. n == m)) && not b)
 apart None n b = refl
-apart (Some m) n b = ap (λ c. not (c || b)) (swap m n) ∙ neither (n == m) b
+apart (Some m) n b = grind arith
 
 -- ---- one after the other
 

@@ -1,7 +1,6 @@
 -- Frames that are changed one by one, along the calls among work items.
-use Rattle.std.proofs.Common.{◌≡◌, ◌==◌, ◌<◌, ◌+◌, ℕ, Bool, true, false, cond, ◌||◌, List, [], ◌∷◌, Some, refl, ap, sym, subst, ◌∙◌, map, get_or, drop, length}
+use Rattle.std.proofs.Common.{◌≡◌, ◌==◌, ◌<◌, ◌+◌, ℕ, Bool, true, false, cond, ◌||◌, List, [], ◌∷◌, Some, refl, ap, sym, subst, ◌∙◌, map, get_or, drop, length, arith}
 use Rattle.std.specs.List.{list_any}
-use Rattle.std.proofs.lemmas.Bool.{eqb-true}
 use Rattle.std.proofs.lemmas.List.{drop_more}
 use Rattle.bd_space.specs.declared.space.Frame.{Frame}
 use Rattle.bd_space.specs.declared.space.Work.{Work}
@@ -33,13 +32,7 @@ changed_none g [] = refl
 changed_none g (f ∷ fs) = ap (λ l. f ∷ l) (changed_none g fs)
 
 equal_back : (m n : ℕ) → (m == n) ≡ (n == m)
-equal_back m n = at (m == n) refl (n == m) refl
-  where
-    at : (a : Bool) → (m == n) ≡ a → (b : Bool) → (n == m) ≡ b → a ≡ b
-    at true e true k = refl
-    at false e false k = refl
-    at true e false k = sym (ap (λ x. x == m) (sym (eqb-true m n e)) ∙ ap (λ x. m == x) (eqb-true m n e) ∙ e) ∙ k
-    at false e true k = sym e ∙ ap (λ x. m == x) (eqb-true n m k) ∙ ap (λ x. x == m) (sym (eqb-true n m k)) ∙ k
+equal_back m n = grind arith
 
 -- ---- a work item
 
@@ -70,18 +63,9 @@ module _ (g : Frame → Frame) (once : (f : Frame) → g (g f) ≡ g f) where
   abbrev along : List Work → List Frame → List Frame
   along ws fs = changed (λ f. list_any (λ w. is_call f.made w.kind) ws) g fs
 
-  again : (b : Bool) (f : Frame) → cond b (g (g f)) (g f) ≡ g f
-  again true f = once f
-  again false f = refl
-
   changed_twice : (p q : Frame → Bool) (fs : List Frame) → changed q g (changed p g fs) ≡ changed (λ f. p f || q f) g fs
   changed_twice p q [] = refl
-  changed_twice p q (f ∷ fs) = at (p f) (changed_twice p q fs)
-    where
-      at : (b : Bool) → changed q g (changed p g fs) ≡ changed (λ f. p f || q f) g fs
-          → cond (q (cond b (g f) f)) (g (cond b (g f) f)) (cond b (g f) f) ∷ changed q g (changed p g fs) ≡ cond (b || q f) (g f) f ∷ changed (λ f. p f || q f) g fs
-      at true e = ap (λ x. x ∷ changed q g (changed p g fs)) (again (q (g f)) f) ∙ ap (λ l. g f ∷ l) e
-      at false e = ap (λ l. cond (q f) (g f) f ∷ l) e
+  changed_twice p q (f ∷ fs) = grind (arith, once f, changed_twice p q fs)
 
   -- the first call's frame changes, and then those of the rest
   pub along_next : (t u v : FrameTable) (w : Work) (ws : List Work) → Makes t u (λ fs. changed (λ f. is_call f.made w.kind) g fs)

@@ -1,8 +1,11 @@
 -- The one-way calls of changed buffers.
-use Rattle.std.proofs.Common.{◌≡◌, ◌==◌, ◌<◌, ℕ, All, ne_eqb, Bool, true, false, cond, not, List, [], ◌∷◌, ◌++◌, Option, Some, None, refl, ap, sym, ◌∙◌, filter, find, arith}
-use Rattle.std.specs.Option.{option_map, option_to_list, option_and_then}
+use Rattle.std.proofs.Common.{◌≡◌, ◌==◌, ◌<◌, ℕ, All, ne_eqb, Bool, true, false, cond, not, List, [], ◌∷◌, ◌++◌, Option, Some, None, refl, ap, sym, ◌∙◌, filter, arith}
+use Rattle.std.specs.Option.{is_some, option_map, option_to_list, option_and_then}
 use Rattle.std.specs.List.{cons_option, list_any}
-use Rattle.std.proofs.lemmas.List.Elements.{All-head, All-tail}
+use Rattle.std.proofs.lemmas.Bool.{eqb-true}
+use Rattle.std.proofs.lemmas.List.Elements.{All-head, All-tail, filter_map-append}
+use Rattle.bd_keys.proofs.Found.{any_some, found_passes}
+use Rattle.bd_ways.proofs.Ranges.{changed_none}
 use Rattle.bd_space.specs.declared.step.ObjectId.{ObjectId}
 use Rattle.bd_space.specs.declared.space.Buffer.{Buffer}
 use Rattle.bd_space.specs.declared.space.Turn.{Turn}
@@ -16,17 +19,12 @@ use Rattle.bd_calls.specs.Turn.{handed_turns}
 
 -- ---- one more
 
-cons_append : (o : Option Turn) (ts us : List Turn) → cons_option o (ts ++ us) ≡ cons_option o ts ++ us
-cons_append None ts us = refl
-cons_append (Some t) ts us = refl
-
 pub turns_add : (bs : List Buffer) (b : Buffer) → turns_of (bs ++ b ∷ []) ≡ turns_of bs ++ option_to_list (turn_of b)
-turns_add [] b = single (turn_of b)
+turns_add bs b = filter_map-append turn_of bs (b ∷ []) ∙ ap (λ ts. turns_of bs ++ ts) (single (turn_of b))
   where
     single : (o : Option Turn) → cons_option o [] ≡ option_to_list o
     single None = refl
     single (Some t) = refl
-turns_add (x ∷ bs) b = ap (cons_option (turn_of x)) (turns_add bs b) ∙ cons_append (turn_of x) (turns_of bs) (option_to_list (turn_of b))
 
 -- ---- some go
 
@@ -123,25 +121,9 @@ turns_lost lost bs = turns_filter (λ b. not (lost b.made)) (λ t. not (lost t.m
 
 -- ---- the buffer that is handed out
 
-changed_none : (p : Buffer → Bool) (f : Buffer → Buffer) (bs : List Buffer) → find p bs ≡ None → bs ≡ changed p f bs
-changed_none p f [] h = refl
-changed_none p f (b ∷ bs) h = first (p b) (changed_none p f bs) h
-  where
-    first : (is : Bool) → (find p bs ≡ None → bs ≡ changed p f bs) → cond is (Some b) (find p bs) ≡ None → b ∷ bs ≡ cond is (f b) b ∷ changed p f bs
-    first true k e = cc
-    first false k e = ap (λ cs. b ∷ cs) (k e)
-
-found_made : (made : ℕ) (bs : List Buffer) (b : Buffer) → buffer_in bs made ≡ Some b → b.made ≡ made
-found_made made [] b h = cc
-found_made made (x ∷ bs) b h = first (x.made == made) refl (found_made made bs b) h
-  where
-    first : (is : Bool) → (x.made == made) ≡ is → (buffer_in bs made ≡ Some b → b.made ≡ made) → cond is (Some x) (buffer_in bs made) ≡ Some b → b.made ≡ made
-    first true t k e = grind (arith, e, t)
-    first false t k e = k e
-
 handed_in : (bs : List Buffer) (made : ℕ) (o : Option Buffer) → buffer_in bs made ≡ o → handed_buffers bs o ≡ changed (is_made_at made) hand_out bs
-handed_in bs made None h = changed_none (is_made_at made) hand_out bs h
-handed_in bs made (Some b) h = ap (λ m. changed (is_made_at m) hand_out bs) (found_made made bs b h)
+handed_in bs made None h = sym (changed_none (is_made_at made) hand_out bs (any_some (is_made_at made) bs ∙ ap is_some h))
+handed_in bs made (Some b) h = ap (λ m. changed (is_made_at m) hand_out bs) (eqb-true b.made made (found_passes (is_made_at made) bs b h))
 
 pub turns_handed : (bs : List Buffer) (made : Option ℕ) → turns_of (handed_buffers bs (option_and_then (buffer_in bs) made)) ≡ handed_turns made (turns_of bs)
 turns_handed bs None = refl

@@ -1,5 +1,5 @@
 -- What a thread has to read.
-use Rattle.std.proofs.Common.{◌≡◌, refl, sym, ◌∙◌, Bool, true, false, cond, not, ◌||◌, ◌&&◌, List, Some, None}
+use Rattle.std.proofs.Common.{◌≡◌, Bool, cond, not, ◌||◌, ◌&&◌, List, Some, None, arith}
 use Rattle.bd_space.specs.declared.space.TodoList.{TodoList}
 use Rattle.bd_space.specs.declared.space.Work.{Work}
 use Rattle.bd_space.specs.Todo.{has_work_in, is_on, work_on}
@@ -9,17 +9,4 @@ use Rattle.bd_todo.proofs.OnList.{any_left}
 -- whether there is anything to read is told by the lists alone where they are empty
 pub anything_to_read : (todo : List Work) (own shared : TodoList) (idle : Bool)
     → (has_work_in todo own || (has_work_in todo shared && idle)) ≡ not (none_due (work_on todo (cond (has_work_in todo own) (Some own) (cond idle (Some shared) None))))
-anything_to_read todo own shared idle = at (has_work_in todo own) refl idle
-  where
-    last : (b : Bool) → (b && true) ≡ b
-    last true = refl
-    last false = refl
-
-    never : (b : Bool) → (b && false) ≡ false
-    never true = refl
-    never false = refl
-
-    at : (a : Bool) → has_work_in todo own ≡ a → (i : Bool) → (a || (has_work_in todo shared && i)) ≡ not (none_due (work_on todo (cond a (Some own) (cond i (Some shared) None))))
-    at true e i = sym e ∙ any_left (is_on own) todo
-    at false e true = last (has_work_in todo shared) ∙ any_left (is_on shared) todo
-    at false e false = never (has_work_in todo shared)
+anything_to_read todo own shared idle = grind (arith, any_left (is_on own) todo, any_left (is_on shared) todo)

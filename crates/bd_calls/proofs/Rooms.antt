@@ -1,11 +1,8 @@
 -- What two changes take one after the other, and what there is no room for.
-use Rattle.std.proofs.Common.{ℕ, ◌+◌, ◌≤◌, ◌^◌, arith, rules}
+use Rattle.std.proofs.Common.{ℕ, ◌+◌, ◌≤◌, ◌^◌, arith}
 use Rattle.bd_todo.proofs.Fits.{room_fits}
 use Rattle.bd_calls.specs.declared.table.CallTable.{CallTable}
 use Rattle.bd_calls.specs.Room.{Uses, HasRoom, frame_count, nothing, rooms}
-
-pub uses_none : (t : CallTable) (n : ℕ) → Uses t t (record nothing { works = n })
-uses_none t n = search (rules, arith)
 
 pub uses_both : (a b c : CallTable) (m n k : ℕ) → m + n ≤ k → Uses a b (record nothing { works = m }) → Uses b c (record nothing { works = n })
     → Uses a c (record nothing { works = k })

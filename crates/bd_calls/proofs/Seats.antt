@@ -3,11 +3,9 @@ use Rattle.std.proofs.Common.{◌≡◌, ℕ, ◌<◌, ◌+◌, ◌==◌, arith,
 use Rattle.std.specs.Prelude.{Option, option_map}
 use Rattle.std.specs.Option.{is_none}
 use Rattle.std.specs.List.{list_any}
-use Rattle.std.proofs.lemmas.Bool.{eq-eqb, or_parts}
+use Rattle.std.proofs.lemmas.Bool.{eq-eqb}
 use Rattle.std.proofs.lemmas.List.Folds.{list_any-append}
 use Rattle.std.proofs.lemmas.List.{get_or-set_same, get_or-set_other, take_more}
-use Rattle.std.proofs.lemmas.Map.Views.{any-filter_same}
-use Rattle.std.proofs.Math.Bool.{and-false}
 use Rattle.bd_keys.proofs.Found.{found_passes}
 use Rattle.bd_space.specs.declared.step.ObjectId.{ObjectId}
 use Rattle.bd_space.specs.declared.space.Frame.{Frame}
@@ -16,16 +14,17 @@ use Rattle.bd_space.specs.declared.space.Work.{Work}
 use Rattle.bd_space.specs.declared.space.WorkKind.{WorkKind}
 use Rattle.bd_space.specs.declared.space.TodoList.{TodoList}
 use Rattle.bd_space.specs.declared.space.TodoList.TheVariants.{OfThread, OfProcess}
-use Rattle.bd_space.specs.Words.{is_some_and, same_identity}
+use Rattle.bd_space.specs.Words.{is_some_and}
 use Rattle.bd_space.specs.Seats.{thread_in}
 use Rattle.bd_space.specs.Frames.{innermost_in}
 use Rattle.bd_space.specs.ReadItems.{none_due}
-use Rattle.bd_space.specs.Todo.{has_work_in, is_on, same_list, work_on, reads_in, with_work, is_item, without_taken, is_notice}
+use Rattle.bd_space.specs.Todo.{has_work_in, same_list, work_on, reads_in, with_work, without_taken, is_notice}
 use Rattle.bd_space.specs.Notices.{has_notice_in}
 use Rattle.bd_calls.specs.declared.ready.Seen.{Seen}
 use Rattle.bd_calls.specs.declared.ready.ReadySeats.{ReadySeats}
 use Rattle.bd_calls.specs.Ready.{seen_at, is_of, with_own, with_shared, told_then, told_after, IsSeen, AreSeen}
-use Rattle.bd_todo.proofs.ListKeys.{same_list_eq}
+use Rattle.bd_todo.proofs.ListKeys.{same_list_eq, same_list_refl}
+use Rattle.bd_calls.proofs.Marking.{pushed_on, gone_beside}
 use Rattle.bd_calls.proofs.Plain.{anything_to_read}
 
 -- ---- a seat that was seen
@@ -68,14 +67,6 @@ look_seen xs i y ts told lt is before seat x at = by (seat == i) refl
 some_is : {x y : Seen} → Some y ≡ Some x → y ≡ x
 some_is e = cc
 
-or_true : (b : Bool) → (b || (true || false)) ≡ true
-or_true true = refl
-or_true false = refl
-
-or_false : (b : Bool) → (b || (false || false)) ≡ b
-or_false true = refl
-or_false false = refl
-
 -- ---- something is on a list from now on, or nothing is
 
 module _ (old new : ReadySeats) (ts : List Thread) (told : TodoList → Bool) (has : Bool) (before : AreSeen old ts told) where
@@ -86,11 +77,8 @@ module _ (old new : ReadySeats) (ts : List Thread) (told : TodoList → Bool) (h
     where
       by : (seat : ℕ) (x : Seen) (b : Bool) → (t == seat) ≡ b → (o : Option Seen) → seen_at old seat ≡ o → cond b (option_map (with_own has) o) o ≡ Some x
           → IsSeen ts (told_then (OfThread t) has told) seat x
-      by seat x b e None was at = absurd (none b at)
-        where
-          none : (b : Bool) → cond b None None ≡ Some x → ⊥
-          none true k = cc
-          none false k = cc
+      by seat x true e None was at = absurd cc
+      by seat x false e None was at = absurd cc
       by seat x true e (Some y) was at =
           let seen = before seat y was in
           subst (IsSeen ts (told_then (OfThread t) has told) seat) (some_is at)
@@ -103,17 +91,10 @@ module _ (old new : ReadySeats) (ts : List Thread) (told : TodoList → Bool) (h
   pub shared_noted : (p : ℕ) → ((seat : ℕ) → seen_at new seat ≡ with_shared p has (seen_at old seat)) → AreSeen new ts (told_then (OfProcess p) has told)
   shared_noted p now = λ seat x is. by seat x (seen_at old seat) refl (sym (now seat) ∙ is)
     where
-      shared : (o : Option Thread) (b now : Bool) → is_some_and o (λ t. t.process == p) ≡ b → IfSome o (λ t. now ≡ told (OfProcess t.process))
-          → IfSome o (λ t. cond b has now ≡ told_then (OfProcess p) has told (OfProcess t.process))
-      shared None b now e h = tt
-      shared (Some t) b now e h = of b (turned t.process p ∙ e)
-        where
-          turned : (m n : ℕ) → (n == m) ≡ (m == n)
-          turned m n = grind arith
-
-          of : (b : Bool) → (p == t.process) ≡ b → cond b has now ≡ told_then (OfProcess p) has told (OfProcess t.process)
-          of true k = sym (ap (λ c. cond c has (told (OfProcess t.process))) k)
-          of false k = h ∙ sym (ap (λ c. cond c has (told (OfProcess t.process))) k)
+      shared : (o : Option Thread) (now : Bool) → IfSome o (λ t. now ≡ told (OfProcess t.process))
+          → IfSome o (λ t. cond (is_some_and o (λ u. u.process == p)) has now ≡ told_then (OfProcess p) has told (OfProcess t.process))
+      shared None now h = tt
+      shared (Some t) now h = grind (arith, h)
 
       by : (seat : ℕ) (x : Seen) (o : Option Seen) → seen_at old seat ≡ o → with_shared p has o ≡ Some x → IsSeen ts (told_then (OfProcess p) has told) seat x
       by seat x None was at = absurd cc
@@ -122,13 +103,12 @@ module _ (old new : ReadySeats) (ts : List Thread) (told : TodoList → Bool) (h
           seen : IsSeen ts told seat y
           seen = before seat y was
 
+          kept : (b : Bool) → is_of p y ≡ b → IsSeen ts (told_then (OfProcess p) has told) seat (record y { shared = cond b has y.shared })
+          kept b e = record { thread = seen.thread; own = seen.own; shared = subst (λ c. IfSome y.thread (λ t. cond c has y.shared ≡ told_then (OfProcess p) has told (OfProcess t.process))) e (shared y.thread y.shared seen.shared) }
+
           of : (b : Bool) → is_of p y ≡ b → cond b (Some (record y { shared = has })) (Some y) ≡ Some x → IsSeen ts (told_then (OfProcess p) has told) seat x
-          of true e k =
-              subst (IsSeen ts (told_then (OfProcess p) has told) seat) (some_is k)
-              (record { thread = seen.thread; own = seen.own; shared = shared y.thread true y.shared e seen.shared })
-          of false e k =
-              subst (IsSeen ts (told_then (OfProcess p) has told) seat) (some_is k)
-              (record { thread = seen.thread; own = seen.own; shared = shared y.thread false y.shared e seen.shared })
+          of true e k = subst (IsSeen ts (told_then (OfProcess p) has told) seat) (some_is k) (kept true e)
+          of false e k = subst (IsSeen ts (told_then (OfProcess p) has told) seat) (some_is k) (kept false e)
 
 -- what is told of each list may be said otherwise
 pub told_same : (r : ReadySeats) (ts : List Thread) (a b : TodoList → Bool) → ((list : TodoList) → a list ≡ b list) → AreSeen r ts a → AreSeen r ts b
@@ -138,34 +118,15 @@ told_same r ts a b same = subst (AreSeen r ts) (λ i list. same list i)
 
 -- a work item comes onto a list
 pub pushed_told : (place : ℕ) (ws : List Work) (to : TodoList) (kind : WorkKind) (list : TodoList) → told_then to true (has_work_in ws) list ≡ has_work_in (with_work place ws to kind) list
-pushed_told place ws to kind list =
-    by (same_list to list) refl ∙ sym (list_any-append (is_on list) ws _ ∙ ap (λ b. has_work_in ws list || (b || false)) (turned list to))
-  where
-    turned : (a b : TodoList) → same_list a b ≡ same_list b a
-    turned (OfThread t) (OfThread u) = grind arith
-    turned (OfThread t) (OfProcess q) = refl
-    turned (OfProcess p) (OfThread u) = refl
-    turned (OfProcess p) (OfProcess q) = grind arith
-
-    by : (b : Bool) → same_list to list ≡ b → cond b true (has_work_in ws list) ≡ (has_work_in ws list || (same_list to list || false))
-    by true e = rw e (sym (or_true (has_work_in ws list)))
-    by false e = rw e (sym (or_false (has_work_in ws list)))
+pushed_told place ws to kind list = grind (arith, pushed_on place ws to kind list, same_list_eq to list, same_list_eq list to, same_list_refl to)
 
 -- work items of other lists go
 pub taken_told : (taken ws : List Work) (list : TodoList) → told_after (without_taken taken ws) taken (has_work_in ws) list ≡ has_work_in (without_taken taken ws) list
 taken_told taken ws list = by (list_any (λ d. same_list d.list list) taken) refl
   where
-    none_taken : (w : Work) (ds : List Work) → list_any (λ d. same_list d.list list) ds ≡ false → same_list list w.list ≡ true → list_any (λ d. is_item w d) ds ≡ false
-    none_taken w [] gone on = refl
-    none_taken w (d ∷ ds) gone on =
-        let both = or_parts (same_list d.list list) _ gone in
-        let here : same_list d.list w.list ≡ false = ap (same_list d.list) (sym (same_list_eq list w.list on)) ∙ both.0 in
-        ap (λ b. (same_identity w.id d.id && b) || list_any (λ e. is_item w e) ds) here ∙ ap (λ b. b || list_any (λ e. is_item w e) ds) (and-false (same_identity w.id d.id))
-        ∙ none_taken w ds both.1 on
-
     by : (b : Bool) → list_any (λ d. same_list d.list list) taken ≡ b → cond b (has_work_in (without_taken taken ws) list) (has_work_in ws list) ≡ has_work_in (without_taken taken ws) list
     by true e = refl
-    by false e = sym (any-filter_same (is_on list) (λ w. not (list_any (λ d. is_item w d) taken)) true (λ w on. ap not (none_taken w taken e on)) ws)
+    by false e = sym (gone_beside taken ws list e)
 
 -- one work item more was taken
 pub told_more : (todo taken : List Work) (i : ℕ) (d : Work) (told : TodoList → Bool) (list : TodoList) → i < length taken
@@ -174,17 +135,10 @@ told_more todo taken i d told list lt = rw (take_more taken i d lt, list_any-app
     (by (same_list (get_or taken i d).list list) refl (list_any (λ e. same_list e.list list) (take i taken)))
   where
     by : (b : Bool) → same_list (get_or taken i d).list list ≡ b → (c : Bool) → cond b (has_work_in todo (get_or taken i d).list) (cond c (has_work_in todo list) (told list)) ≡ cond (c || (b || false)) (has_work_in todo list) (told list)
-    by true e true = ap (has_work_in todo) (same_list_eq (get_or taken i d).list list e)
-    by true e false = ap (has_work_in todo) (same_list_eq (get_or taken i d).list list e)
-    by false e true = refl
-    by false e false = refl
+    by true e c = grind (arith, same_list_eq (get_or taken i d).list list e)
+    by false e c = grind arith
 
 -- nothing goes where there is no such notice
 pub no_notice : (o : ObjectId) (ws : List Work) → has_notice_in ws o ≡ false → filter (λ w. not (is_notice o w.kind)) ws ≡ ws
 no_notice o [] e = refl
-no_notice o (w ∷ ws) e = by (is_notice o w.kind) e (no_notice o ws)
-  where
-    by : (b : Bool) → (b || has_notice_in ws o) ≡ false → (has_notice_in ws o ≡ false → filter (λ v. not (is_notice o v.kind)) ws ≡ ws)
-        → cond (not b) (w ∷ filter (λ v. not (is_notice o v.kind)) ws) (filter (λ v. not (is_notice o v.kind)) ws) ≡ w ∷ ws
-    by true e rest = absurd (cc)
-    by false e rest = ap (λ vs. w ∷ vs) (rest e)
+no_notice o (w ∷ ws) e = grind (arith, e, no_notice o ws)

@@ -1,7 +1,7 @@
 -- What is kept of the seats, where the thread of one changes.
-use Rattle.std.proofs.Common.{◌≡◌, ℕ, ◌==◌, Bool, true, false, cond, List, [], ◌∷◌, ◌++◌, Some, None, refl, ap, sym, ◌∙◌, ne_eqb}
+use Rattle.std.proofs.Common.{◌≡◌, ℕ, ◌==◌, Bool, cond, List, [], ◌∷◌, ◌++◌, Some, None, refl, ap, sym, ◌∙◌, ne_eqb, arith}
 use Rattle.std.specs.Option.{option_or}
-use Rattle.std.proofs.lemmas.Bool.{eqb-true, eqb-false}
+use Rattle.std.proofs.lemmas.Bool.{eqb-false}
 use Rattle.std.proofs.lemmas.List.Folds.{find-append}
 use Rattle.bd_keys.proofs.Options.{or_none}
 use Rattle.bd_space.specs.declared.space.Thread.{Thread}
@@ -29,15 +29,4 @@ pushed_beside ts t at other =
 pub turned_beside : (looping : Bool) (ts : List Thread) (seat at : ℕ) → (seat ≡ at → ⊥)
     → thread_in (changed (λ t. t.seat == seat) (λ t. record t { looping = looping }) ts) at ≡ thread_in ts at
 turned_beside looping [] seat at other = refl
-turned_beside looping (t ∷ ts) seat at other = by (t.seat == seat) refl (turned_beside looping ts seat at other)
-  where
-    f : Thread → Thread
-    f u = record u { looping = looping }
-
-    by : (b : Bool) → (t.seat == seat) ≡ b → thread_in (changed (λ u. u.seat == seat) f ts) at ≡ thread_in ts at
-        → thread_in (cond b (f t) t ∷ changed (λ u. u.seat == seat) f ts) at ≡ thread_in (t ∷ ts) at
-    by true e rest =
-        let differs = ne_eqb t.seat at (λ same. other (sym (eqb-true t.seat seat e) ∙ same)) in
-        ap (λ b. cond b (Some (f t)) (thread_in (changed (λ u. u.seat == seat) f ts) at)) differs ∙ rest
-        ∙ sym (ap (λ b. cond b (Some t) (thread_in ts at)) differs)
-    by false e rest = ap (λ o. cond (t.seat == at) (Some t) o) rest
+turned_beside looping (t ∷ ts) seat at other = grind (arith, other, turned_beside looping ts seat at other)

@@ -1,7 +1,7 @@
 -- How many things a call table holds and has room for, for what reserves and commits.
 use Rattle.std.specs.Prelude.{ℕ, ◌+◌, ◌≤◌}
 use Rattle.bd_frames.specs.Room as frames
-use Rattle.bd_todo.specs.Stands as links
+use Rattle.bd_todo.specs.Stands as todo_table
 use Rattle.bd_turns.specs.Room as turns
 use Rattle.bd_threads.specs.Room as threads
 use Rattle.bd_calls.specs.declared.table.CallTable.{CallTable}
@@ -25,7 +25,7 @@ rooms t = record {
     threads = threads.thread_room t.threads;
     frames = frames.frame_room t.frames;
     turns = turns.turn_room t.turns;
-    works = links.work_room t.todo;
+    works = todo_table.work_room t.todo;
   };
   frame_count = frames.frame_count t.frames;
   turn_count = turns.turn_count t.turns;

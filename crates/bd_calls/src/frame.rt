@@ -11,7 +11,7 @@ ghost use Rattle.bd_ways.specs.Local as local;
 ghost use Rattle.bd_space.specs.ThreadExits as exits;
 ghost use Rattle.bd_space.specs.ReadItems as reading;
 ghost use Rattle.bd_space.specs.Todo as works;
-ghost use Rattle.bd_todo.specs.Stands as links;
+ghost use Rattle.bd_todo.specs.Stands as todo_table;
 ghost use Rattle.bd_frames.specs.Stands as frame_table;
 ghost use Rattle.bd_frames.specs.Room as frame_rooms;
 ghost use Rattle.bd_frames.specs.Words.{newest_in, is_place_among, abandoned_in, lost_frame};
@@ -25,13 +25,6 @@ use bd_threads::ThreadTable;
 use bd_todo::{WorkTable, Works};
 use bd_uapi::Return;
 use std::alloc::AllocError;
-
-/// The thread takes part in no frame.
-pub(crate) fn is_in_no_call(frames: &FrameTable, seat: u32) -> bool
-    ensures { frame_table.Tells frames.now result (λ l. is_none (spec.innermost_in l seat)) }
-{
-    !frames.is_in_call(seat)
-}
 
 // The frame's caller is a thread of the process.
 fn waits(threads: &ThreadTable, process: u32, frame: &Frame) -> bool
@@ -49,29 +42,8 @@ fn newest_made(frames: &FrameTable, seat: u32) -> Option<u32>
     frames.newest_of(seat).map(|f| f.made)
 }
 
-// The first frame on the way whose caller is a thread of the process.
-fn first_waiting(
-    threads: &ThreadTable,
-    frames: &FrameTable,
-    from: Option<u32>,
-    process: u32,
-) -> Option<Frame>
-    ensures { frame_table.Tells frames.now result
-        (λ l. find (spec.waits_in (listed threads.now) process) (spec.ancestry from (reverse l))) }
-{
-    frames.first_on_way(from, |f| waits(threads, process, &f))
-}
-
-fn list_of_caller(process: u32, frame: Option<Frame>) -> TodoList
-    ensures { result ≡ spec.list_of_caller process frame }
-{
-    match frame.and_then(|f| f.caller) {
-        Some(seat) => TodoList::OfThread(seat),
-        None => TodoList::OfProcess(process),
-    }
-}
-
-// Where a call to the process is read whose caller's innermost frame was made there.
+// Where a call to the process is read whose caller's innermost frame was made there: by the first thread of the process that
+// waits on the way from that frame by parents, else by the process.
 fn list_from(
     threads: &ThreadTable,
     frames: &FrameTable,
@@ -81,7 +53,11 @@ fn list_from(
     ensures { frame_table.Tells frames.now result (λ l. spec.list_of_caller process
         (find (spec.waits_in (listed threads.now) process) (spec.ancestry from (reverse l)))) }
 {
-    list_of_caller(process, first_waiting(threads, frames, from, process))
+    let first = frames.first_on_way(from, |f| waits(threads, process, &f));
+    match first.and_then(|f| f.caller) {
+        Some(seat) => TodoList::OfThread(seat),
+        None => TodoList::OfProcess(process),
+    }
 }
 
 fn serve_call(frames: &mut FrameTable, seat: u32, kind: WorkKind)
@@ -115,27 +91,20 @@ fn lose_call(frames: &mut FrameTable, kind: WorkKind)
     }
 }
 
-fn lose_calls(frames: &mut FrameTable, works: Works<'_>)
-    ensures frames { frame_table.Makes frames.old frames.new (λ l. lost_frames works.entry l) }
+/// The calls that stand unread on the list have lost their server.
+pub(crate) fn lose_unread(frames: &mut FrameTable, todo: &WorkTable, list: TodoList)
+    ensures frames { (items : List declared.Work) → todo_table.WorksAre todo.now items
+        → frame_table.Makes frames.old frames.new (λ l. map (exits.unread_frame items list) l) }
     ensures uses { frame_rooms.Uses frames.old frames.new 0 }
 {
-    for work in works {
+    for work in todo.works_on(list) {
         lose_call(frames, work.kind);
     }
 }
 
-/// The calls that stand unread on the list have lost their server.
-pub(crate) fn lose_unread(frames: &mut FrameTable, todo: &WorkTable, list: TodoList)
-    ensures frames { (items : List declared.Work) → links.WorksAre todo.now items
-        → frame_table.Makes frames.old frames.new (λ l. map (exits.unread_frame items list) l) }
-    ensures uses { frame_rooms.Uses frames.old frames.new 0 }
-{
-    lose_calls(frames, todo.works_on(list));
-}
-
 /// The thread is gone from its frames, and the calls on its list have lost their server.
 pub(crate) fn leave_frames(frames: &mut FrameTable, todo: &WorkTable, seat: u32)
-    ensures frames { (items : List declared.Work) → links.WorksAre todo.now items
+    ensures frames { (items : List declared.Work) → todo_table.WorksAre todo.now items
         → frame_table.Makes frames.old frames.new (λ l. map (exits.frame_without items seat) l) }
     ensures uses { frame_rooms.Uses frames.old frames.new 0 }
 {
@@ -172,16 +141,8 @@ impl CallTable {
             .filter(|f| serves(seat, f.server))
     }
 
-    /// Where a two-way call of a thread to a process is read: by the first thread of the process that waits on the way
-    /// from the caller's innermost frame by parents, else by the process.
-    pub fn goes_to(&self, seat: u32, process: u32) -> TodoList
-        ensures { TellsOfStacked self.now result (λ s. spec.goes_to s seat process) }
-    {
-        let from = newest_made(&self.frames, seat);
-        list_from(&self.threads, &self.frames, from, process)
-    }
-
-    /// A thread calls a process, and waits: a frame comes in, and the call is due at once, both made at this place.
+    /// A thread calls a process, and waits: a frame comes in, and the call is due at once, both made at this place. There is
+    /// room for both, each thread's frames are a stack, and all frames were made before.
     pub fn call_out(&mut self, place: u32, seat: u32, process: u32)
         requires frames { 1 ≤ frame_room self.old }
         requires works { 1 ≤ work_room self.old }
@@ -192,17 +153,16 @@ impl CallTable {
     {
         let parent = newest_made(&self.frames, seat);
         let list = list_from(&self.threads, &self.frames, parent, process);
-        self.sure_room = self.sure_room.saturating_sub(1);
-        self.marks.mark(&self.todo, list);
-        self.todo.push(place, list, WorkKind::Call(place));
-        self.ready.note(list, true);
-        let frame = Frame {
+        // The frame and its call use the same of it, each in its own list.
+        let sure_room = self.sure_room.saturating_sub(1);
+        self.owe(place, list, WorkKind::Call(place));
+        self.frames.push(Frame {
             made: place,
             caller: Some(seat),
             server: Server::Pending,
             parent,
-        };
-        self.frames.push(frame);
+        });
+        self.sure_room = sure_room;
     }
 
     /// A call's frame closes.
@@ -215,35 +175,7 @@ impl CallTable {
         self.frames.close(made);
     }
 
-    fn count_frames(&self) -> usize
-        ensures count { result ≡ frame_count self.now }
-        ensures frames { Tells (StandsFor self.now) result (λ s. length s.frames) }
-    {
-        self.frames.count()
-    }
-
-    // A call closes, and its caller is told, if it lives.
-    #[tactic(auto)]
-    fn abandon(&mut self, place: u32, frame: Frame)
-        requires { 1 ≤ work_room self.old }
-        ensures stands { MakesAt place (StandsFor self.old) (StandsFor self.new)
-            (λ s. settling.settle_one s (Some frame)) }
-        ensures uses { Uses self.old self.new (record nothing { works = 1 }) }
-        ensures told { KeepsTold self.old self.new }
-        ensures few { ReachesFew 1 self.old self.new }
-    {
-        self.close(frame.made);
-        self.tell_caller(place, frame, WorkKind::Verdict(Return::DeadReply));
-    }
-
-    fn abandoned_at(&self, made: u32) -> Option<Frame>
-        ensures { Tells (StandsFor self.now) result
-            (λ s. find (λ f. spec.is_frame made f && settling.is_abandoned s.frames f) s.frames) }
-    {
-        self.frames.abandoned_at(made)
-    }
-
-    // The call made there closes if it is abandoned; its frame, if it was.
+    // The call made there closes if it is abandoned, and its caller is told, if it lives; its frame, if it was.
     #[tactic(auto)]
     fn close_if_abandoned(&mut self, place: u32, made: u32) -> Option<Frame>
         requires { 1 ≤ work_room self.old }
@@ -254,8 +186,9 @@ impl CallTable {
         ensures told { KeepsTold self.old self.new }
         ensures few { ReachesFew 1 self.old self.new }
     {
-        let frame = self.abandoned_at(made)?;
-        self.abandon(place, frame);
+        let frame = self.frames.abandoned_at(made)?;
+        self.close(frame.made);
+        self.tell_caller(place, frame, WorkKind::Verdict(Return::DeadReply));
         Some(frame)
     }
 
@@ -288,7 +221,7 @@ impl CallTable {
 
     /// The call made there closes if it is abandoned, then the one in which it was made, and so on while one closes;
     /// each caller that lives is told, by a work item made at this place.
-    #[tactic(auto)]
+    #[tactic(auto, unfolding(crate::specs::Room::rooms))]
     pub fn close_up(&mut self, place: u32, made: Option<u32>)
         requires { frame_count self.old ≤ work_room self.old }
         ensures stands { MakesAt place (StandsFor self.old) (StandsFor self.new)
@@ -297,7 +230,7 @@ impl CallTable {
         ensures told { KeepsTold self.old self.new }
         ensures few { ReachesFew (frame_count self.old) self.old self.new }
     {
-        let count = self.count_frames();
+        let count = self.frames.count();
         let _ = self.close_up_within(place, made, count);
     }
 
@@ -314,7 +247,7 @@ impl CallTable {
     {
         // A parent is older than its child, so what is chosen for one comes before all that are chosen after it.
         chosen.sort_unstable();
-        let mut left = self.count_frames();
+        let mut left = self.frames.count();
         for made in chosen.iter() {
             left = self.close_up_within(place, Some(*made), left);
         }

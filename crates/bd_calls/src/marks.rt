@@ -6,7 +6,7 @@ ghost use Rattle.std.specs.List.{list_all};
 ghost use Rattle.bd_space.specs.declared.space.TodoList as lists;
 ghost use Rattle.bd_space.specs.declared.space.Work as works;
 ghost use Rattle.bd_space.specs.Todo.{same_list, has_work_in};
-ghost use Rattle.bd_todo.specs.Stands as links;
+ghost use Rattle.bd_todo.specs.Stands as todo_table;
 ghost use Rattle.bd_calls.specs.Marks as spec;
 
 use bd_space::{TodoList, Work};
@@ -30,21 +30,15 @@ pub(crate) struct Marks {
     pub(crate) all: bool,
 }
 
-fn is_of(mark: &Mark, list: TodoList) -> bool
-    ensures { result ≡ same_list list mark.now.list }
-{
-    mark.list == list
-}
-
 fn is_marked_in(marks: &[Mark], list: TodoList) -> bool
     ensures { result ≡ spec.is_marked_in marks.now list }
 {
-    marks.iter().any(|m| is_of(m, list))
+    marks.iter().any(|m| m.list == list)
 }
 
 // The list was filled or emptied.
 fn is_changed(mark: &Mark, todo: &WorkTable) -> bool
-    ensures { links.Tells todo.now result (λ l. spec.is_changed l mark.now) }
+    ensures { todo_table.Tells todo.now result (λ l. spec.is_changed l mark.now) }
 {
     let has = todo.has_any(mark.list);
     mark.had != has
@@ -52,7 +46,7 @@ fn is_changed(mark: &Mark, todo: &WorkTable) -> bool
 
 fn push_changed(mark: &Mark, todo: &WorkTable, reached: &mut Vec<TodoList>)
     requires { vec_len reached.old < vec_capacity reached.old }
-    ensures listed { links.Tells todo.now reached.new.items
+    ensures listed { todo_table.Tells todo.now reached.new.items
         (λ l. reached.old.items ++ (if spec.is_changed l mark.now then mark.now.list ∷ [] else [])) }
     ensures len { vec_len reached.new ≤ vec_len reached.old + 1 }
     ensures capacity { vec_capacity reached.new ≡ vec_capacity reached.old }
@@ -66,7 +60,7 @@ fn push_changed(mark: &Mark, todo: &WorkTable, reached: &mut Vec<TodoList>)
 fn list_changed(marks: &[Mark], todo: &WorkTable, reached: &mut Vec<TodoList>)
     requires none { reached.old.items ≡ [] }
     requires room { vec_len reached.old + length marks.now ≤ vec_capacity reached.old }
-    ensures { links.Tells todo.now reached.new.items (λ l. spec.changed_lists l marks.now) }
+    ensures { todo_table.Tells todo.now reached.new.items (λ l. spec.changed_lists l marks.now) }
 {
     for mark in marks {
         push_changed(mark, todo, reached);
@@ -101,32 +95,21 @@ impl Marks {
         self.all || is_marked_in(&self.marks, list)
     }
 
-    // Marks a list that isn't marked, with what is on it.
-    fn add(&mut self, todo: &WorkTable, list: TodoList)
-        requires { spec.is_marked self.old list ≡ false }
-        ensures marked { spec.is_marked self.new list ≡ true }
-        ensures stay { spec.Stay self.old self.new }
-        ensures recalls { spec.Goes self.old self.new todo.now }
-        // Others are marked with it only where there is no room.
-        ensures few { spec.MarksFew 1 self.old self.new }
-    {
-        if self.marks.len() < self.marks.capacity() {
-            let had = todo.has_any(list);
-            self.marks.push_reserved(Mark { list, had });
-        } else {
-            self.all = true;
-        }
-    }
-
-    /// The list may be filled or emptied from now on. Takes no memory.
+    /// The list may be filled or emptied from now on. Takes no memory: others are marked with it only where there is no room.
     pub(crate) fn mark(&mut self, todo: &WorkTable, list: TodoList)
         ensures marked { spec.is_marked self.new list ≡ true }
         ensures stay { spec.Stay self.old self.new }
         ensures recalls { spec.Goes self.old self.new todo.now }
         ensures few { spec.MarksFew 1 self.old self.new }
     {
-        if !self.has(list) {
-            self.add(todo, list);
+        if self.has(list) {
+            return;
+        }
+        if self.marks.len() < self.marks.capacity() {
+            let had = todo.has_any(list);
+            self.marks.push_reserved(Mark { list, had });
+        } else {
+            self.all = true;
         }
     }
 
@@ -157,9 +140,9 @@ impl Marks {
     ) -> Result<bool, AllocError>
         ensures listed { IfOk result (λ whole. whole ≡ not self.old.all) }
         ensures exact { IfOk result (λ whole. whole ≡ true → (told : lists.TodoList → Bool) (l : List works.Work)
-            → spec.RecallsIn self.old todo.now told → links.WorksAre todo.now l
+            → spec.RecallsIn self.old todo.now told → todo_table.WorksAre todo.now l
             → (list : lists.TodoList) → spec.is_among reached.new.items list ≡ spec.differs (told list) (has_work_in l list)) }
-        ensures told { OnOk result ((l : List works.Work) → links.WorksAre todo.now l
+        ensures told { OnOk result ((l : List works.Work) → todo_table.WorksAre todo.now l
             → spec.RecallsIn self.new todo.now (λ list. has_work_in l list)) }
         ensures knows { OnOk result (self.new.all ≡ false) }
         ensures room { OnOk result (spec.HasMarkRoom (vec_capacity self.old.marks) self.new) }

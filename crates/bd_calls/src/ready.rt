@@ -9,7 +9,7 @@ ghost use Rattle.bd_space.specs.declared.space.Work as works;
 ghost use Rattle.bd_space.specs.{Seats.{thread_in}, Words.{is_some_and}};
 ghost use Rattle.bd_space.specs.Todo as todos;
 ghost use Rattle.bd_space.specs.ReadItems as reading;
-ghost use Rattle.bd_todo.specs.Stands as links;
+ghost use Rattle.bd_todo.specs.Stands as todo_table;
 ghost use Rattle.bd_frames.specs.Stands as frame_table;
 ghost use Rattle.bd_threads.specs.Listed.{listed};
 ghost use Rattle.bd_calls.specs.Ready as spec;
@@ -39,29 +39,15 @@ pub(crate) struct ReadySeats {
     pub(crate) whole: bool,
 }
 
-fn is_of(seen: &Seen, process: u32) -> bool
-    ensures { result ≡ spec.is_of process seen.now }
-{
-    match seen.thread {
-        Some(thread) => thread.process == process,
-        None => false,
-    }
-}
-
 // What is kept of a seat, once something is on the process's list or nothing is.
 fn with_shared(seen: Option<Seen>, process: u32, has: bool) -> Option<Seen>
     ensures { result ≡ spec.with_shared process has seen }
 {
-    match seen {
-        Some(x) => {
-            if is_of(&x, process) {
-                Some(Seen { shared: has, ..x })
-            } else {
-                Some(x)
-            }
-        }
-        None => None,
+    let mut seen = seen?;
+    if seen.thread.is_some_and(|t| t.process == process) {
+        seen.shared = has;
     }
+    Some(seen)
 }
 
 fn note_members(seats: &mut Vec<Option<Seen>>, process: u32, has: bool)
@@ -72,17 +58,9 @@ fn note_members(seats: &mut Vec<Option<Seen>>, process: u32, has: bool)
     }
 }
 
-fn forget_each(seats: &mut Vec<Option<Seen>>)
-    ensures { seats.new.items ≡ map (λ _. None) seats.old.items }
-{
-    for seen in seats.iter_mut() {
-        *seen = None;
-    }
-}
-
 /// Looks at a seat.
 pub(crate) fn look_at(threads: &ThreadTable, todo: &WorkTable, seat: u32) -> Seen
-    ensures { (ws : List works.Work) → links.WorksAre todo.now ws → spec.IsSeen (listed threads.now) (todos.has_work_in ws) seat result }
+    ensures { (ws : List works.Work) → todo_table.WorksAre todo.now ws → spec.IsSeen (listed threads.now) (todos.has_work_in ws) seat result }
 {
     let own = todo.has_any(TodoList::OfThread(seat));
     let thread = threads.thread(seat);
@@ -178,7 +156,7 @@ impl ReadySeats {
 
     /// These work items went from their lists, as the table now has them.
     pub(crate) fn note_lists_of(&mut self, todo: &WorkTable, taken: &[Work])
-        ensures { (ts : List threads.Thread) (told : lists.TodoList → Bool) (ws : List works.Work) → links.WorksAre todo.now ws
+        ensures { (ts : List threads.Thread) (told : lists.TodoList → Bool) (ws : List works.Work) → todo_table.WorksAre todo.now ws
             → spec.AreSeen self.old ts told → spec.AreSeen self.new ts (spec.told_after ws taken.now told) }
     {
         for work in taken {
@@ -191,12 +169,12 @@ impl ReadySeats {
         ensures { (seat : ℕ) → spec.seen_at self.new seat ≡ None }
     {
         self.whole = false;
-        forget_each(&mut self.seats);
+        self.seats.fill(None);
     }
 
     // Looks at a seat of which nothing is kept.
     fn look(&mut self, threads: &ThreadTable, todo: &WorkTable, seat: u32)
-        ensures { (ws : List works.Work) → links.WorksAre todo.now ws → spec.AreSeen self.old (listed threads.now) (todos.has_work_in ws)
+        ensures { (ws : List works.Work) → todo_table.WorksAre todo.now ws → spec.AreSeen self.old (listed threads.now) (todos.has_work_in ws)
             → spec.AreSeen self.new (listed threads.now) (todos.has_work_in ws) }
     {
         let at = seat as usize;
@@ -207,7 +185,7 @@ impl ReadySeats {
 
     /// Looks at those seats of which nothing is kept.
     pub(crate) fn refresh(&mut self, threads: &ThreadTable, todo: &WorkTable)
-        ensures { (ws : List works.Work) → links.WorksAre todo.now ws → spec.AreSeen self.old (listed threads.now) (todos.has_work_in ws)
+        ensures { (ws : List works.Work) → todo_table.WorksAre todo.now ws → spec.AreSeen self.old (listed threads.now) (todos.has_work_in ws)
             → spec.AreSeen self.new (listed threads.now) (todos.has_work_in ws) }
     {
         if self.whole {

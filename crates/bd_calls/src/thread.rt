@@ -31,7 +31,7 @@ impl CallTable {
         self.threads.seats_of(alloc, process)
     }
 
-    /// A thread comes in, made at this place, for a seat that has none.
+    /// A thread comes in, made at the place of the step, for a seat that has none. There is room for it.
     pub fn add_thread(&mut self, place: u32, seat: u32, process: u32)
         requires { 1 ≤ thread_room self.old }
         ensures stands { MakesWhere (StandsFor self.old) (λ s. IsAt place s × (thread_in s.threads seat ≡ None))

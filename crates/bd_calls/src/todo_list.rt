@@ -9,10 +9,9 @@ ghost use Rattle.bd_space.specs.Todo as spec;
 ghost use Rattle.bd_space.specs.Notices as notices;
 ghost use Rattle.bd_space.specs.declared.space.Frame as declared;
 ghost use Rattle.bd_frames.specs.Stands as frame_table;
-ghost use Rattle.bd_todo.specs.Stands as links;
+ghost use Rattle.bd_todo.specs.Stands as todo_table;
 ghost use Rattle.bd_todo.specs.TodoList as replies;
 
-use crate::frame::is_in_no_call;
 use crate::ready::{Seen, has_seen, look_at};
 use crate::table::CallTable;
 use bd_frames::FrameTable;
@@ -24,21 +23,8 @@ pub(crate) fn is_idle(frames: &FrameTable, thread: &Thread) -> bool
     ensures { frame_table.Tells frames.now result
         (λ l. thread.now.looping && is_none (innermost_in l thread.now.seat)) }
 {
-    thread.looping && is_in_no_call(frames, thread.seat)
-}
-
-fn reads_in(frames: &FrameTable, todo: &WorkTable, thread: &Thread) -> Option<TodoList>
-    ensures { (fs : List declared.Frame) → frame_table.FramesAre frames.now fs
-        → links.Tells todo.now result (λ l. spec.reads_in fs l thread.now) }
-{
-    let own = TodoList::OfThread(thread.seat);
-    if todo.has_any(own) {
-        Some(own)
-    } else if is_idle(frames, thread) {
-        Some(TodoList::OfProcess(thread.process))
-    } else {
-        None
-    }
+    // Where no call is open nobody has to be looked up.
+    thread.looping && (frames.count() == 0 || !frames.is_in_call(thread.seat))
 }
 
 impl CallTable {
@@ -59,7 +45,14 @@ impl CallTable {
     pub fn reads(&self, thread: &Thread) -> Option<TodoList>
         ensures { Tells (StandsFor self.now) result (λ s. spec.reads_in s.frames s.todo thread.now) }
     {
-        reads_in(&self.frames, &self.todo, thread)
+        let own = TodoList::OfThread(thread.seat);
+        if self.todo.has_any(own) {
+            Some(own)
+        } else if is_idle(&self.frames, thread) {
+            Some(TodoList::OfProcess(thread.process))
+        } else {
+            None
+        }
     }
 
     /// The work items on a list, oldest first.

@@ -10,7 +10,7 @@ ghost use Rattle.bd_space.specs.Turns as spec;
 ghost use Rattle.bd_ways.specs.Local as local;
 ghost use Rattle.bd_space.specs.declared.space.Work as declared;
 ghost use Rattle.bd_space.specs.declared.space.Turn as one_way;
-ghost use Rattle.bd_todo.specs.Stands as links;
+ghost use Rattle.bd_todo.specs.Stands as todo_table;
 ghost use Rattle.bd_turns.specs.Stands as turn_table;
 ghost use Rattle.bd_turns.specs.Room as turn_rooms;
 ghost use Rattle.bd_calls.specs.Turn.{handed_turns, is_other_than};
@@ -23,7 +23,7 @@ use bd_turns::TurnTable;
 
 // Nobody was told of it yet.
 fn is_untold(todo: &WorkTable, turn: Turn) -> bool
-    ensures { links.Tells todo.now result
+    ensures { todo_table.Tells todo.now result
         (λ l. not turn.handed && not (list_any (λ w. works.is_call turn.made w.kind) l)) }
 {
     !turn.handed && !todo.has_call(turn.made)
@@ -62,7 +62,7 @@ fn remove_turn_of(turns: &mut TurnTable, kind: WorkKind)
 }
 
 pub(crate) fn remove_turns_on(turns: &mut TurnTable, todo: &WorkTable, list: TodoList)
-    ensures turns { (works : List declared.Work) → links.WorksAre todo.now works → turn_table.Makes turns.old turns.new
+    ensures turns { (works : List declared.Work) → todo_table.WorksAre todo.now works → turn_table.Makes turns.old turns.new
         (λ l. filter (λ t. not (exits.is_lost_with works list t.made)) l) }
     ensures uses { turn_rooms.Uses turns.old turns.new 0 }
 {

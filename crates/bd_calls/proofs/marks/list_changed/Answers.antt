@@ -1,5 +1,5 @@
 use Rattle.std.proofs.Common.{◌∙◌, arith}
-use Rattle.bd_calls.proofs.Marking.{listing_more, listing_all}
+use Rattle.bd_calls.proofs.Marking.{listing_more}
 use Rattle.bd_calls.proofs.marks.list_changed.Goals as goal
 
 pub loop-mark-preserved : goal.loop-mark-preserved
@@ -9,6 +9,3 @@ loop-mark-preserved c = record {
   len = let before = c.loop-mark.invariant.len in let more = c.push_changed.ensures.len in omega (arith, before, more);
   capacity = c.push_changed.ensures.capacity ∙ c.loop-mark.invariant.capacity;
 }
-
-pub returns : goal.returns
-returns c = λ ws are. listing_all ws c.args.marks.now c.loop-mark.mark-index _ (omega arith) (c.loop-mark.invariant.listed ws are)

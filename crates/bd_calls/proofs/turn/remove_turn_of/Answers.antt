@@ -5,11 +5,6 @@ use Rattle.bd_turns.specs.Stands.{TurnsAre}
 use Rattle.bd_calls.proofs.Losing.{keeps_all}
 use Rattle.bd_calls.proofs.turn.remove_turn_of.Goals as goal
 
-pub returns-in-Some-clause-turns : goal.returns-in-Some-clause-turns
-returns-in-Some-clause-turns c = λ l are.
-    subst (λ (o : Option ℕ). TurnsAre c.remove.new.self (filter (λ (t : Turn). not (is_some_and o (λ m. t.made == m))) l)) (sym c.in-Some.is ∙ c.hands_out.ensures)
-    (c.remove.ensures.stands l are)
-
 pub returns-in_default-clause-turns : goal.returns-in_default-clause-turns
 returns-in_default-clause-turns c = λ l are.
     subst (λ (o : Option ℕ). TurnsAre c.args.turns.now (filter (λ (t : Turn). not (is_some_and o (λ m. t.made == m))) l)) (sym c.in_default.is ∙ c.hands_out.ensures)

@@ -1,5 +1,5 @@
 use Rattle.std.proofs.Common.{arith, ◌+◌}
-use Rattle.bd_calls.proofs.Marking.{each_more, each_all}
+use Rattle.bd_calls.proofs.Marking.{each_more}
 use Rattle.bd_calls.proofs.marks.Marks.mark_lists_of.Goals as goal
 
 pub loop-work-preserved : goal.loop-work-preserved
@@ -8,9 +8,6 @@ loop-work-preserved c = record {
   recalls = λ told k. c.mark.ensures.recalls told (c.loop-work.invariant.recalls told k);
   few = λ more room. c.mark.ensures.few more (c.loop-work.invariant.few (1 + more) (room.0, (let fits = room.1 in omega (arith, fits))));
 }
-
-pub returns-clause-marked : goal.returns-clause-marked
-returns-clause-marked c = each_all c.loop-work.self c.args.taken.now c.loop-work.work-index (omega arith) c.loop-work.invariant.marked
 
 pub returns-clause-few : goal.returns-clause-few
 returns-clause-few c = λ more room. c.loop-work.invariant.few more (room.0, (let fits = room.1 in omega (arith, fits)))

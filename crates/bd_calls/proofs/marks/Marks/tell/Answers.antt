@@ -1,12 +1,9 @@
 use Rattle.std.proofs.Common.{◌∙◌, ap}
 use Rattle.bd_calls.specs.Marks.{changed_lists}
-use Rattle.bd_calls.proofs.Marking.{off, told_exact, told_now}
+use Rattle.bd_calls.proofs.Marking.{off, told_exact}
 use Rattle.bd_calls.proofs.marks.Marks.tell.Goals as goal
 
 pub returns-clause-exact : goal.returns-clause-exact
 returns-clause-exact c = λ whole told ws recalls are list.
     told_exact c.args.self.now.marks.items c.args.todo.now told ws c.list_changed.new.reached.items (recalls (off c.args.self.now.all whole)) are
     (c.list_changed.ensures ws are ∙ ap (changed_lists ws) c.deref.ensures.value) list
-
-pub returns-clause-told : goal.returns-clause-told
-returns-clause-told c = λ ws are one. told_now _ c.args.todo.now ws c.clear-2.ensures.items are

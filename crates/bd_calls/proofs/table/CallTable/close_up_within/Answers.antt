@@ -1,19 +1,11 @@
-use Rattle.std.proofs.Common.{◌≡◌, ◌-◌, ◌+◌, suc, subst, sym, arith, rules}
+use Rattle.std.proofs.Common.{◌≡◌, ◌-◌, ◌+◌, suc, subst, sym, arith}
 use Rattle.bd_ways.specs.Local.{close_up}
 use Rattle.bd_calls.specs.declared.table.CallTable.{CallTable}
 use Rattle.bd_calls.specs.Stands.{StandsFor}
-use Rattle.bd_calls.proofs.Few.{few_same, few_both}
+use Rattle.bd_calls.proofs.Few.{few_both}
 use Rattle.bd_calls.proofs.Rooms.{uses_both}
-use Rattle.bd_calls.proofs.Closing.{up_begins, up_more, up_done, up_all, up_stopped}
+use Rattle.bd_calls.proofs.Closing.{up_more, up_done, up_all, up_stopped}
 use Rattle.bd_calls.proofs.table.CallTable.close_up_within.Goals as goal
-
-pub loop-closed-init : goal.loop-closed-init
-loop-closed-init c = record {
-  goes_up = λ s stands at. let all : c.args.most - 0 ≡ c.args.most = omega arith in rw all (up_begins _ _ c.args.made c.args.most s stands at);
-  uses = search rules;
-  told = λ told k. k;
-  few = few_same _ _;
-}
 
 pub loop-closed-preserved : goal.loop-closed-preserved
 loop-closed-preserved c = record {

@@ -1,5 +1,5 @@
 use Rattle.std.proofs.Common.{sym, subst}
-use Rattle.bd_calls.specs.Told.{Recalls, ReachesFew}
+use Rattle.bd_calls.specs.Told.{ReachesFew}
 use Rattle.bd_calls.proofs.Few.{few_same}
 use Rattle.bd_calls.proofs.table.CallTable.reserve_ahead.Goals as goal
 use Rattle.bd_calls.proofs.table.CallTable.reserve_ahead.Goals.{then-works-via-then-works, then-works-via-else-works+then-is_err}
@@ -8,10 +8,6 @@ pub returns-clause-stands : goal.returns-clause-stands
 returns-clause-stands c = λ s stands.
     let now = c.reserve_each.ensures.stands s stands in
     record { threads_are = now.threads_are; frames_are = now.frames_are; todo_are = now.todo_are; turns_are = now.turns_are; ready_are = now.ready_are }
-
-pub returns-clause-told : goal.returns-clause-told
-unfolding Recalls
-returns-clause-told c = c.reserve_each.ensures.told
 
 pub returns-then-works-clause-few : goal.returns-then-works-clause-few
 returns-then-works-clause-few c = elim c.then-works.branch [

@@ -2,7 +2,7 @@ use Rattle.bd_frames.specs.declared.table.FrameTable.{FrameTable}
 use Rattle.bd_frames.specs.Stands.{Makes}
 use Rattle.bd_frames.specs.Room.{Uses}
 use Rattle.bd_calls.specs.Losing.{lost_frames}
-use Rattle.bd_calls.proofs.frame.lose_calls.Given as goal
+use Rattle.bd_calls.proofs.frame.lose_unread.Given as goal
 
 -- what is still to be lost makes of these frames what the whole makes of the first
 abbrev pub invariant-loop-work : goal.invariant-loop-work

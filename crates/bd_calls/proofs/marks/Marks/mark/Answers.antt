@@ -1,0 +1,10 @@
+use Rattle.std.proofs.Common.{subst, sym, ◌∙◌}
+use Rattle.std.proofs.lemmas.Bool.{or_parts}
+use Rattle.bd_calls.specs.Marks.{IsRecalled}
+use Rattle.bd_calls.proofs.Marking.{recalled_more}
+use Rattle.bd_calls.proofs.marks.Marks.mark.Goals as goal
+
+pub returns-then-len-capacity-clause-recalls : goal.returns-then-len-capacity-clause-recalls
+returns-then-len-capacity-clause-recalls c = λ told k one.
+    subst (λ ms. IsRecalled ms c.args.todo.now told) (sym c.push_reserved.ensures.items)
+    (recalled_more c.args.self.now.marks.items (record { list = c.args.list; had = c.has_any-had.result }) c.args.todo.now told c.has_any-had.ensures (or_parts _ _ (sym c.has.ensures ∙ c.if-has.false)).1 (k one))
