@@ -7,8 +7,6 @@ pub mod Losing
 pub mod Marking
 pub mod OneByOne
 pub mod OneWay
-pub mod Plain
 pub mod Rooms
 pub mod Seats
 pub mod Threads
-pub mod Works

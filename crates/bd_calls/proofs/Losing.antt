@@ -4,6 +4,7 @@ use Rattle.std.specs.List.{list_any}
 use Rattle.bd_space.specs.declared.space.TodoList.{TodoList}
 use Rattle.bd_space.specs.declared.space.Turn.{Turn}
 use Rattle.bd_space.specs.declared.space.Work.{Work}
+use Rattle.bd_space.specs.declared.space.WorkKind.{WorkKind}
 use Rattle.bd_space.specs.Words.{is_some_and}
 use Rattle.bd_space.specs.Todo.{hands_out, work_on, is_on}
 use Rattle.bd_space.specs.ThreadExits.{is_lost_with}
@@ -40,6 +41,16 @@ apart None n b = refl
 apart (Some m) n b = grind arith
 
 -- ---- one after the other
+
+-- a work item goes, and the one-way call with it that it would have handed out
+pub one_goes : (old new : TurnTable) (kind : WorkKind) (made : ℕ) → hands_out kind ≡ Some made
+    → ((ts : List Turn) → TurnsAre old ts → TurnsAre new (filter (λ t. not (t.made == made)) ts)) → (ts : List Turn) → TurnsAre old ts → TurnsAre new (filter (is_other_than kind) ts)
+one_goes old new kind made is goes = λ ts are.
+    subst (λ (o : Option ℕ). TurnsAre new (filter (λ (t : Turn). not (is_some_and o (λ m. t.made == m))) ts)) (sym is) (goes ts are)
+
+pub none_goes : (t : TurnTable) (kind : WorkKind) → hands_out kind ≡ None → (ts : List Turn) → TurnsAre t ts → TurnsAre t (filter (is_other_than kind) ts)
+none_goes t kind is = λ ts are.
+    subst (λ (o : Option ℕ). TurnsAre t (filter (λ (t : Turn). not (is_some_and o (λ m. t.made == m))) ts)) (sym is) (subst (TurnsAre t) (sym (keeps_all ts)) are)
 
 pub losing_begins : (t : TurnTable) (ts : List Turn) (ws rest : List Work) → rest ≡ ws → TurnsAre t ts → Losing t rest (filter (stays ws) ts)
 losing_begins t ts ws rest e are = record { left = ts; stands = are; goes_on = ap (λ (us : List Work). filter (stays us) ts) e }

@@ -18,16 +18,21 @@ use Rattle.bd_space.specs.Words.{is_some_and}
 use Rattle.bd_space.specs.Seats.{thread_in}
 use Rattle.bd_space.specs.Frames.{innermost_in}
 use Rattle.bd_space.specs.ReadItems.{none_due}
-use Rattle.bd_space.specs.Todo.{has_work_in, same_list, work_on, reads_in, with_work, without_taken, is_notice}
+use Rattle.bd_space.specs.Todo.{has_work_in, is_on, same_list, work_on, reads_in, with_work, without_taken, is_notice}
 use Rattle.bd_space.specs.Notices.{has_notice_in}
 use Rattle.bd_calls.specs.declared.ready.Seen.{Seen}
 use Rattle.bd_calls.specs.declared.ready.ReadySeats.{ReadySeats}
 use Rattle.bd_calls.specs.Ready.{seen_at, is_of, with_own, with_shared, told_then, told_after, IsSeen, AreSeen}
+use Rattle.bd_todo.proofs.OnList.{any_left}
 use Rattle.bd_todo.proofs.ListKeys.{same_list_eq, same_list_refl}
 use Rattle.bd_calls.proofs.Marking.{pushed_on, gone_beside}
-use Rattle.bd_calls.proofs.Plain.{anything_to_read}
 
 -- ---- a seat that was seen
+
+-- whether there is anything to read is told by the lists alone where they are empty
+pub anything_to_read : (todo : List Work) (own shared : TodoList) (idle : Bool)
+    → (has_work_in todo own || (has_work_in todo shared && idle)) ≡ not (none_due (work_on todo (cond (has_work_in todo own) (Some own) (cond idle (Some shared) None))))
+anything_to_read todo own shared idle = grind (arith, any_left (is_on own) todo, any_left (is_on shared) todo)
 
 -- what was seen tells whether the thread has anything to read
 pub seen_ready : (fs : List Frame) (ts : List Thread) (ws : List Work) (seat : ℕ) (x : Seen) (t : Thread) → x.thread ≡ Some t → IsSeen ts (has_work_in ws) seat x

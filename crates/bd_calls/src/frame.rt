@@ -60,16 +60,6 @@ fn list_from(
     }
 }
 
-fn serve_call(frames: &mut FrameTable, seat: u32, kind: WorkKind)
-    ensures frames { frame_table.Makes frames.old frames.new
-        (λ l. changed (λ f. works.is_call f.made kind) (reading.serve seat) l) }
-    ensures uses { frame_rooms.Uses frames.old frames.new 0 }
-{
-    if let WorkKind::Call(made) = kind {
-        frames.serve(made, seat);
-    }
-}
-
 /// Whoever read the call of a frame is its server.
 pub(crate) fn serve(frames: &mut FrameTable, seat: u32, taken: &[Work])
     ensures frames { frame_table.Makes frames.old frames.new
@@ -77,17 +67,9 @@ pub(crate) fn serve(frames: &mut FrameTable, seat: u32, taken: &[Work])
     ensures uses { frame_rooms.Uses frames.old frames.new 0 }
 {
     for work in taken {
-        serve_call(frames, seat, work.kind);
-    }
-}
-
-fn lose_call(frames: &mut FrameTable, kind: WorkKind)
-    ensures frames { frame_table.Makes frames.old frames.new
-        (λ l. changed (λ f. works.is_call f.made kind) lost_frame l) }
-    ensures uses { frame_rooms.Uses frames.old frames.new 0 }
-{
-    if let WorkKind::Call(made) = kind {
-        frames.lose(made);
+        if let WorkKind::Call(made) = work.kind {
+            frames.serve(made, seat);
+        }
     }
 }
 
@@ -98,7 +80,9 @@ pub(crate) fn lose_unread(frames: &mut FrameTable, todo: &WorkTable, list: TodoL
     ensures uses { frame_rooms.Uses frames.old frames.new 0 }
 {
     for work in todo.works_on(list) {
-        lose_call(frames, work.kind);
+        if let WorkKind::Call(made) = work.kind {
+            frames.lose(made);
+        }
     }
 }
 

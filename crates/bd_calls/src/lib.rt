@@ -9,7 +9,6 @@ mod table;
 mod thread;
 mod todo_list;
 mod turn;
-mod work;
 
 pub use bd_frames::serves;
 pub use table::CallTable;

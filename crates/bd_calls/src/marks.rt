@@ -36,14 +36,7 @@ fn is_marked_in(marks: &[Mark], list: TodoList) -> bool
     marks.iter().any(|m| m.list == list)
 }
 
-// The list was filled or emptied.
-fn is_changed(mark: &Mark, todo: &WorkTable) -> bool
-    ensures { todo_table.Tells todo.now result (λ l. spec.is_changed l mark.now) }
-{
-    let has = todo.has_any(mark.list);
-    mark.had != has
-}
-
+// The list is put there if it was filled or emptied.
 fn push_changed(mark: &Mark, todo: &WorkTable, reached: &mut Vec<TodoList>)
     requires { vec_len reached.old < vec_capacity reached.old }
     ensures listed { todo_table.Tells todo.now reached.new.items
@@ -51,7 +44,8 @@ fn push_changed(mark: &Mark, todo: &WorkTable, reached: &mut Vec<TodoList>)
     ensures len { vec_len reached.new ≤ vec_len reached.old + 1 }
     ensures capacity { vec_capacity reached.new ≡ vec_capacity reached.old }
 {
-    if is_changed(mark, todo) {
+    let has = todo.has_any(mark.list);
+    if mark.had != has {
         reached.push_reserved(mark.list);
     }
 }
@@ -122,13 +116,6 @@ impl Marks {
         for work in taken {
             self.mark(todo, work.list);
         }
-    }
-
-    /// Any list may be filled or emptied from now on.
-    pub(crate) fn mark_all(&mut self)
-        ensures { self.new.all ≡ true }
-    {
-        self.all = true;
     }
 
     /// Lists the marked lists that were filled or emptied, and marks none from now on. Whether no others may have been.

@@ -1,21 +1,15 @@
 //! What is kept of the seats from step to step: whether there is anything on the lists that each may read.
 #![tactic(auto)]
 
-ghost use Rattle.std.specs.Prelude.{ℕ, ◌≡◌, ◌==◌, Bool, true, false, ◌||◌, ◌&&◌, not, List, map, if◌then◌else◌, Option, Some, None, IfOk, option_map};
-ghost use Rattle.bd_space.specs.declared.space.Frame as declared;
+ghost use Rattle.std.specs.Prelude.{ℕ, ◌≡◌, ◌==◌, Bool, List, map, if◌then◌else◌, Option, None, IfOk, option_map};
 ghost use Rattle.bd_space.specs.declared.space.Thread as threads;
 ghost use Rattle.bd_space.specs.declared.space.TodoList as lists;
 ghost use Rattle.bd_space.specs.declared.space.Work as works;
-ghost use Rattle.bd_space.specs.{Seats.{thread_in}, Words.{is_some_and}};
 ghost use Rattle.bd_space.specs.Todo as todos;
-ghost use Rattle.bd_space.specs.ReadItems as reading;
 ghost use Rattle.bd_todo.specs.Stands as todo_table;
-ghost use Rattle.bd_frames.specs.Stands as frame_table;
 ghost use Rattle.bd_threads.specs.Listed.{listed};
 ghost use Rattle.bd_calls.specs.Ready as spec;
 
-use crate::todo_list::is_idle;
-use bd_frames::FrameTable;
 use bd_space::{Thread, TodoList, Work};
 use bd_threads::ThreadTable;
 use bd_todo::WorkTable;
@@ -72,18 +66,6 @@ pub(crate) fn look_at(threads: &ThreadTable, todo: &WorkTable, seat: u32) -> See
         thread,
         own,
         shared,
-    }
-}
-
-/// Whether the thread that was seen has anything to read.
-pub(crate) fn has_seen(frames: &FrameTable, seen: &Seen) -> bool
-    ensures { (seat : ℕ) (ts : List threads.Thread) (ws : List works.Work) (fs : List declared.Frame)
-        → frame_table.FramesAre frames.now fs → spec.IsSeen ts (todos.has_work_in ws) seat seen.now
-        → result ≡ is_some_and (thread_in ts seat) (λ t. not (reading.none_due (todos.work_on ws (todos.reads_in fs ws t)))) }
-{
-    match seen.thread {
-        Some(thread) => seen.own || (seen.shared && is_idle(frames, &thread)),
-        None => false,
     }
 }
 

@@ -12,7 +12,7 @@ ghost use Rattle.bd_frames.specs.Stands as frame_table;
 ghost use Rattle.bd_todo.specs.Stands as todo_table;
 ghost use Rattle.bd_todo.specs.TodoList as replies;
 
-use crate::ready::{Seen, has_seen, look_at};
+use crate::ready::{Seen, look_at};
 use crate::table::CallTable;
 use bd_frames::FrameTable;
 use bd_space::{Frame, ObjectId, Thread, TodoList, Work, WorkKind};
@@ -90,7 +90,11 @@ impl CallTable {
     pub fn is_ready(&self, seat: u32) -> bool
         ensures { Tells (StandsFor self.now) result (λ s. is_ready s seat) }
     {
-        has_seen(&self.frames, &self.seen_at(seat))
+        let seen = self.seen_at(seat);
+        match seen.thread {
+            Some(thread) => seen.own || (seen.shared && is_idle(&self.frames, &thread)),
+            None => false,
+        }
     }
 
     /// A work item comes onto a list, made at this place.
@@ -134,7 +138,7 @@ impl CallTable {
         ensures told { KeepsTold self.old self.new }
     {
         self.ready.forget_all();
-        self.marks.mark_all();
+        self.marks.all = true;
         self.todo.retain_kinds(f);
     }
 
@@ -164,7 +168,7 @@ impl CallTable {
     {
         if self.todo.has_notice(object) {
             self.ready.forget_all();
-            self.marks.mark_all();
+            self.marks.all = true;
             self.todo.withdraw_notice(object);
         }
     }
@@ -177,7 +181,7 @@ impl CallTable {
         ensures told { KeepsTold self.old self.new }
     {
         self.ready.forget_all();
-        self.marks.mark_all();
+        self.marks.all = true;
         self.todo.withdraw_death(made);
     }
 }

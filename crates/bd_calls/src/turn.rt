@@ -16,7 +16,6 @@ ghost use Rattle.bd_turns.specs.Room as turn_rooms;
 ghost use Rattle.bd_calls.specs.Turn.{handed_turns, is_other_than};
 
 use crate::table::CallTable;
-use crate::work::handed_by;
 use bd_space::{ObjectId, TodoList, Turn, Work, WorkKind};
 use bd_todo::{WorkTable, hands_out};
 use bd_turns::TurnTable;
@@ -41,6 +40,19 @@ fn push_turn(turns: &mut TurnTable, turn: Option<Turn>)
     }
 }
 
+// The buffer that is handed over by reading these.
+fn handed_by(taken: &[Work]) -> Option<u32>
+    ensures { result ≡ first_of (map (λ w. works.hands_out w.kind) taken.now) }
+{
+    for work in taken {
+        let buffer = hands_out(work.kind);
+        if buffer.is_some() {
+            return buffer;
+        }
+    }
+    None
+}
+
 pub(crate) fn hand_out_taken(turns: &mut TurnTable, taken: &[Work])
     ensures turns { turn_table.Makes turns.old turns.new
         (λ l. handed_turns (first_of (map (λ w. works.hands_out w.kind) taken.now)) l) }
@@ -51,23 +63,15 @@ pub(crate) fn hand_out_taken(turns: &mut TurnTable, taken: &[Work])
     }
 }
 
-// The one-way call goes whose buffer a work item of this kind hands over.
-fn remove_turn_of(turns: &mut TurnTable, kind: WorkKind)
-    ensures turns { turn_table.Makes turns.old turns.new (λ l. filter (is_other_than kind) l) }
-    ensures uses { turn_rooms.Uses turns.old turns.new 0 }
-{
-    if let Some(made) = hands_out(kind) {
-        turns.remove(made);
-    }
-}
-
 pub(crate) fn remove_turns_on(turns: &mut TurnTable, todo: &WorkTable, list: TodoList)
     ensures turns { (works : List declared.Work) → todo_table.WorksAre todo.now works → turn_table.Makes turns.old turns.new
         (λ l. filter (λ t. not (exits.is_lost_with works list t.made)) l) }
     ensures uses { turn_rooms.Uses turns.old turns.new 0 }
 {
     for work in todo.works_on(list) {
-        remove_turn_of(turns, work.kind);
+        if let Some(made) = hands_out(work.kind) {
+            turns.remove(made);
+        }
     }
 }
 

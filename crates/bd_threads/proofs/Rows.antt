@@ -104,6 +104,12 @@ module _ (t : ThreadTable) (seat : ℕ) where
       at None e = refl
       at (Some i) e = absurd (filled i e (sym (row_found i e).found ∙ none))
 
+  -- the thread in a row is its seat's
+  pub seated : (i : ℕ) (u : Thread) → get_or t.rows.items i None ≡ Some u → u.seat ≡ seat → thread_in (listed t) seat ≡ Some u
+  seated i u is same =
+      let place = t.found.back i seat (ap (option_map seat_of) is ∙ ap (λ s. Some s) same) in
+      (row_found i (sym place)).found ∙ is
+
 -- ---- whose seat a row is
 
 pub seat_set : (rows : List (Option Thread)) (i : ℕ) (o : Option Thread) → i < length rows → (j : ℕ)

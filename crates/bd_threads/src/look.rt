@@ -2,23 +2,10 @@
 
 ghost use Rattle.std.specs.Prelude.{◌≡◌, ◌≤◌, ◌==◌, map, filter, IfOk, OnErr, length};
 ghost use Rattle.bd_space.specs.{ProcessExits.{seat_of}, Seats.{thread_in}};
-ghost use Rattle.bd_threads.specs.Rows.{live};
 
 use crate::table::ThreadTable;
 use bd_space::Thread;
 use std::alloc::{AllocError, Global};
-
-// Along so many rows at most a walk takes less time than a look into the map.
-const FEW: usize = 8;
-
-// The thread of a seat, along the rows.
-fn thread_along(rows: &[Option<Thread>], seat: u32) -> Option<Thread>
-    ensures { result ≡ thread_in (live rows.now) seat }
-{
-    rows.iter()
-        .filter_map(|row| *row)
-        .find(|thread| thread.seat == seat)
-}
 
 impl ThreadTable {
     ghost use Rattle.bd_threads.specs.Listed.{listed};
@@ -27,8 +14,11 @@ impl ThreadTable {
     pub fn thread(&self, seat: u32) -> Option<Thread>
         ensures { result ≡ thread_in (listed self.now) seat }
     {
-        if self.rows.len() <= FEW {
-            return thread_along(&self.rows, seat);
+        // Where threads come in by their seats each is in the row of its seat's number, and the map isn't asked.
+        if let Some(Some(thread)) = self.rows.get(seat as usize) {
+            if thread.seat == seat {
+                return Some(*thread);
+            }
         }
         let row = self.places.get(&seat)?;
         self.rows[*row]

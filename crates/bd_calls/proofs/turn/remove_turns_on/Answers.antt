@@ -1,6 +1,6 @@
-use Rattle.std.proofs.Common.{◌∙◌, Some, rules, subst}
+use Rattle.std.proofs.Common.{◌∙◌, Some, rules, sym, subst}
 use Rattle.bd_space.specs.Todo.{work_on}
-use Rattle.bd_calls.proofs.Losing.{Losing, losing_begins, losing_next, losing_ends, lost_on}
+use Rattle.bd_calls.proofs.Losing.{Losing, one_goes, none_goes, losing_begins, losing_next, losing_ends, lost_on}
 use Rattle.bd_calls.proofs.turn.remove_turns_on.Goals as goal
 
 pub loop-work-init : goal.loop-work-init
@@ -11,9 +11,17 @@ loop-work-init c = record {
   uses = search rules;
 }
 
+pub loop-work-preserved-in-Some-hands_out : goal.loop-work-preserved-in-Some-hands_out
+loop-work-preserved-in-Some-hands_out c = record {
+  losing = λ works are ts stands. losing_next _ _ c.in-Some.work _ _ _ c.in-Some.ensures.steps
+      (one_goes _ c.remove.new.self _ c.in-Some-hands_out.made (sym c.hands_out.ensures ∙ c.in-Some-hands_out.is) c.remove.ensures.stands) (c.loop-work.invariant.losing works are ts stands);
+  uses = search rules;
+}
+
 pub loop-work-preserved : goal.loop-work-preserved
 loop-work-preserved c = record {
-  losing = λ works are ts stands. losing_next _ _ c.in-Some.work _ _ _ c.in-Some.ensures.steps c.remove_turn_of.ensures.turns (c.loop-work.invariant.losing works are ts stands);
+  losing = λ works are ts stands. losing_next _ _ c.in-Some.work _ _ _ c.in-Some.ensures.steps
+      (none_goes c.loop-work.turns _ (sym c.hands_out.ensures ∙ c.in_default.is)) (c.loop-work.invariant.losing works are ts stands);
   uses = search rules;
 }
 

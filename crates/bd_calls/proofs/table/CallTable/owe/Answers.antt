@@ -1,7 +1,6 @@
-use Rattle.std.proofs.Common.{sym, subst, refl}
+use Rattle.std.proofs.Common.{sym, subst}
 use Rattle.bd_space.specs.Todo.{owe, with_work}
 use Rattle.bd_todo.specs.Stands.{WorksAre}
-use Rattle.bd_calls.proofs.Works.{works_stand}
 use Rattle.bd_calls.proofs.Seats.{told_same, pushed_told}
 use Rattle.bd_calls.proofs.Marking.{told_on, pushed_beside}
 use Rattle.bd_calls.specs.Told.{Recalls}
@@ -9,9 +8,13 @@ use Rattle.bd_calls.proofs.table.CallTable.owe.Goals as goal
 
 pub returns-clause-stands : goal.returns-clause-stands
 unfolding owe
-returns-clause-stands c = λ s h at. works_stand _ _ s _ h refl refl refl
-    (subst (λ n. WorksAre c.push.new.self (with_work n s.todo c.args.list c.args.kind)) (sym at) (c.push.ensures.stands s.todo h.todo_are))
-    (told_same c.note.new.self s.threads _ _ (pushed_told s.steps s.todo c.args.list c.args.kind) (c.note.ensures s.threads _ h.ready_are))
+returns-clause-stands c = λ s h at. record {
+  threads_are = h.threads_are;
+  frames_are = h.frames_are;
+  todo_are = subst (λ n. WorksAre c.push.new.self (with_work n s.todo c.args.list c.args.kind)) (sym at) (c.push.ensures.stands s.todo h.todo_are);
+  turns_are = h.turns_are;
+  ready_are = told_same c.note.new.self s.threads _ _ (pushed_told s.steps s.todo c.args.list c.args.kind) (c.note.ensures s.threads _ h.ready_are);
+}
 
 pub returns-clause-told : goal.returns-clause-told
 unfolding Recalls

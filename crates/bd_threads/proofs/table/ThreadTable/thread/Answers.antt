@@ -1,7 +1,7 @@
-use Rattle.std.proofs.Common.{refl, sym, ◌∙◌, arith}
+use Rattle.std.proofs.Common.{None, refl, ap, sym, ◌∙◌, arith, get_or}
 use Rattle.bd_keys.proofs.Rising.{find_none}
 use Rattle.bd_threads.specs.Listed.{listed}
-use Rattle.bd_threads.proofs.Rows.{seat_of, inside, read, row_found, none_found}
+use Rattle.bd_threads.proofs.Rows.{seat_of, inside, read, row_found, none_found, seated}
 use Rattle.bd_threads.proofs.table.ThreadTable.thread.Goals as goal
 
 pub index-requires : goal.index-requires
@@ -17,3 +17,10 @@ pub returns-in_err-row : goal.returns-in_err-row
 returns-in_err-row c =
     let t = c.args.self.now in
     c.from_residual.ensures ∙ sym (find_none seat_of c.args.seat (listed t) (none_found t c.args.seat c.in_err-row.ensures.value))
+
+pub returns-then-thread-seat : goal.returns-then-thread-seat
+returns-then-thread-seat c =
+    let t = c.args.self.now in
+    let item = c.in-Some-Some.ensures in
+    let row = ap (λ rows. get_or rows c.args.seat None) (sym c.deref.ensures.value) ∙ sym (item.lookup.3.1 None) ∙ c.in-Some-Some.field-0-is in
+    sym (seated t c.args.seat c.args.seat c.in-Some-Some.thread row c.if-thread-seat.true)

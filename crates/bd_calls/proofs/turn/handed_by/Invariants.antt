@@ -2,7 +2,7 @@ use Rattle.std.proofs.Common.{◌≡◌, map, drop}
 use Rattle.bd_space.specs.declared.space.Work.{Work}
 use Rattle.bd_space.specs.Words.{first_of}
 use Rattle.bd_space.specs.Todo.{hands_out}
-use Rattle.bd_calls.proofs.work.handed_by.Given as goal
+use Rattle.bd_calls.proofs.turn.handed_by.Given as goal
 
 abbrev pub invariant-loop-work : goal.invariant-loop-work
 invariant-loop-work l = first_of (map (λ (w : Work). hands_out w.kind) l.taken) ≡ first_of (map (λ (w : Work). hands_out w.kind) (drop l.work-index l.taken))
