@@ -1,15 +1,18 @@
 -- Threads take part in a frame as before, or fewer do.
-use Rattle.std.proofs.Common.{◌≡◌, ℕ, ◌==◌, ◌||◌, Bool, true, false, cond, List, [], ◌∷◌, map, Option, Some, None, refl, ap, sym, ◌∙◌, eqb-true}
+use Rattle.std.proofs.Common.{◌≡◌, ℕ, ◌==◌, ◌||◌, Bool, true, false, cond, List, [], ◌∷◌, Option, Some, None, refl, ap, sym, ◌∙◌, eqb-true}
 use Rattle.std.proofs.lemmas.Bool.{or_parts}
 use Rattle.std.proofs.Math.Bool.{or-false}
 use Rattle.bd_space.specs.declared.space.Frame.{Frame}
 use Rattle.bd_space.specs.declared.space.Server.{Server}
 use Rattle.bd_space.specs.declared.space.Server.TheVariants.{Pending, Serving, Gone}
-use Rattle.bd_space.specs.Words.{is_some_and, changed}
+use Rattle.bd_space.specs.Words.{is_some_and}
 use Rattle.bd_space.specs.Frames.{calls, serves, takes_part}
 use Rattle.bd_space.specs.ThreadExits.{gone_caller, gone_server}
 use Rattle.bd_space.specs.ReadItems.{serve}
-use Rattle.bd_frames.specs.Words.{lost, lost_frame, left_frame, is_pending}
+use Rattle.bd_frames.specs.declared.frame.Row.{Row}
+use Rattle.bd_frames.specs.Words.{lost, lost_frame, left_frame, left_row, is_pending}
+use Rattle.bd_frames.specs.Children.{Each, IsSameButCounts}
+use Rattle.bd_frames.specs.Linked.{below_of}
 
 pub or_left : (a b : Bool) → a ≡ true → (a || b) ≡ true
 or_left a b e = ap (λ x. x || b) e
@@ -87,6 +90,9 @@ left_other seat f e =
     ap (λ (o : Option ℕ). record f { caller = o; server = gone_server seat f.server }) (no_caller seat f.caller g.0)
     ∙ ap (λ (v : Server). record f { server = v }) (no_server seat f.server g.1)
 
+pub row_other : (seat : ℕ) (r : Row) → takes_part seat r.frame ≡ false → left_row seat r ≡ r
+row_other seat r e = ap (λ (f : Frame). record r { frame = f }) (left_other seat r.frame e)
+
 -- ---- nobody has read its call
 
 pub pending_takes : (s : ℕ) (f : Frame) → is_pending f.server ≡ true → takes_part s f ≡ calls s f
@@ -99,31 +105,45 @@ pending_takes s f e = ap (λ b. calls s f || b) (by f.server e) ∙ or-false (ca
 
 -- ---- no thread more
 
-pub record IsFewer (f g : Frame) : Type 0 where
-  pub made : g.made ≡ f.made
-  pub parts : (s : ℕ) → takes_part s g ≡ true → takes_part s f ≡ true
-  pub callers : (s : ℕ) → takes_part s g ≡ true → calls s g ≡ calls s f
+pub record IsFewer (r s : Row) : Type 0 where
+  pub made : s.frame.made ≡ r.frame.made
+  pub parts : (t : ℕ) → takes_part t s.frame ≡ true → takes_part t r.frame ≡ true
+  pub below : (t : ℕ) → takes_part t s.frame ≡ true → below_of t s ≡ below_of t r
 
-pub same_fewer : (f : Frame) → IsFewer f f
-same_fewer f = record { made = refl; parts = λ s e. e; callers = λ s e. refl }
+pub same_fewer : (r : Row) → IsFewer r r
+same_fewer r = record { made = refl; parts = λ t e. e; below = λ t e. refl }
 
-pub lost_fewer : (f : Frame) → IsFewer f (lost_frame f)
-lost_fewer f = record { made = refl; parts = λ s e. sym (lost_takes s f) ∙ e; callers = λ s e. refl }
+pub count_fewer : (rs ss : List Row) → IsSameButCounts rs ss → Each IsFewer rs ss
+count_fewer [] [] e = tt
+count_fewer [] (s ∷ ss) e = absurd e
+count_fewer (r ∷ rs) [] e = absurd e
+count_fewer (r ∷ rs) (s ∷ ss) e = (
+  record {
+    made = ap (λ (f : Frame). f.made) e.0.frame;
+    parts = λ t p. sym (ap (takes_part t) e.0.frame) ∙ p;
+    below = λ t p. ap (λ (f : Frame). cond (calls t f) s.caller s.server) e.0.frame ∙ ap (λ (o : Option ℕ). cond (calls t r.frame) o s.server) e.0.caller
+        ∙ ap (λ (o : Option ℕ). cond (calls t r.frame) r.caller o) e.0.server;
+  },
+  count_fewer rs ss e.1,
+)
 
-pub left_fewer : (seat : ℕ) (f : Frame) → IsFewer f (left_frame seat f)
-left_fewer seat f = record { made = refl; parts = λ s e. (by s e (seat == s) refl).0; callers = λ s e. (by s e (seat == s) refl).1 }
+pub lost_fewer : (r : Row) → IsFewer r (record r { frame = lost_frame r.frame })
+lost_fewer r = record { made = refl; parts = λ t e. sym (lost_takes t r.frame) ∙ e; below = λ t e. refl }
+
+pub left_fewer : (seat : ℕ) (r : Row) → IsFewer r (left_row seat r)
+left_fewer seat r = record { made = refl; parts = λ t e. (by t e (seat == t) refl).0; below = λ t e. (by t e (seat == t) refl).1 }
   where
-    by : (s : ℕ) → takes_part s (left_frame seat f) ≡ true → (b : Bool) → (seat == s) ≡ b → (takes_part s f ≡ true) × (calls s (left_frame seat f) ≡ calls s f)
-    by s e true g = let no = sym e ∙ ap (λ n. takes_part n (left_frame seat f)) (sym (eqb-true seat s g)) ∙ left_gone seat f in absurd (cc no)
-    by s e false g = (sym (left_takes seat s f g) ∙ e, left_calls seat s f g)
+    by : (t : ℕ) → takes_part t (left_frame seat r.frame) ≡ true → (b : Bool) → (seat == t) ≡ b → (takes_part t r.frame ≡ true) × (below_of t (left_row seat r) ≡ below_of t r)
+    by t e true g = let no = sym e ∙ ap (λ n. takes_part n (left_frame seat r.frame)) (sym (eqb-true seat t g)) ∙ left_gone seat r.frame in absurd (cc no)
+    by t e false g = (sym (left_takes seat t r.frame g) ∙ e, ap (λ b. cond b r.caller r.server) (left_calls seat t r.frame g))
 
 -- who serves it called it
-pub own_fewer : (seat : ℕ) (f : Frame) → calls seat f ≡ true → IsFewer f (serve seat f)
-own_fewer seat f own = record { made = refl; parts = λ s e. by s (calls s f) refl e; callers = λ s e. refl }
+pub own_fewer : (seat : ℕ) (r : Row) → calls seat r.frame ≡ true → IsFewer r (record r { frame = serve seat r.frame })
+own_fewer seat r own = record { made = refl; parts = λ t e. by t (calls t r.frame) refl e; below = λ t e. refl }
   where
-    by : (s : ℕ) (b : Bool) → calls s f ≡ b → (b || (seat == s)) ≡ true → takes_part s f ≡ true
-    by s true g e = or_left (calls s f) _ g
-    by s false g e = or_left (calls s f) _ (ap (λ n. calls n f) (sym (eqb-true seat s e)) ∙ own)
+    by : (t : ℕ) (b : Bool) → calls t r.frame ≡ b → (b || (seat == t)) ≡ true → takes_part t r.frame ≡ true
+    by t true g e = or_left (calls t r.frame) _ g
+    by t false g e = or_left (calls t r.frame) _ (ap (λ n. calls n r.frame) (sym (eqb-true seat t e)) ∙ own)
 
 -- but who serves it from now on
 pub serve_takes : (seat s : ℕ) (f : Frame) → (seat == s) ≡ false → takes_part s (serve seat f) ≡ true → takes_part s f ≡ true
@@ -132,25 +152,3 @@ serve_takes seat s f n e = by (calls s f) refl e
     by : (b : Bool) → calls s f ≡ b → (b || (seat == s)) ≡ true → takes_part s f ≡ true
     by true g e = or_left (calls s f) _ g
     by false g e = absurd (cc)
-
-abbrev pub AreFewer : List Frame → List Frame → Type 0
-AreFewer [] [] = Unit {0}
-AreFewer [] (g ∷ gs) = ⊥
-AreFewer (f ∷ fs) [] = ⊥
-AreFewer (f ∷ fs) (g ∷ gs) = IsFewer f g × AreFewer fs gs
-
-pub all_same : (fs : List Frame) → AreFewer fs fs
-all_same [] = tt
-all_same (f ∷ fs) = (same_fewer f, all_same fs)
-
-pub map_fewer : (g : Frame → Frame) → ((f : Frame) → IsFewer f (g f)) → (fs : List Frame) → AreFewer fs (map g fs)
-map_fewer g h [] = tt
-map_fewer g h (f ∷ fs) = (h f, map_fewer g h fs)
-
-pub changed_fewer : (q : Frame → Bool) (g : Frame → Frame) → ((f : Frame) → IsFewer f (g f)) → (fs : List Frame) → AreFewer fs (changed q g fs)
-changed_fewer q g h [] = tt
-changed_fewer q g h (f ∷ fs) = (at (q f), changed_fewer q g h fs)
-  where
-    at : (b : Bool) → IsFewer f (cond b (g f) f)
-    at true = h f
-    at false = same_fewer f

@@ -1,9 +1,9 @@
 pub mod Places
 pub mod InOrder
 pub mod Counting
-pub mod Ways
-pub mod Newest
 pub mod Alike
 pub mod Linking
-pub mod Down
 pub mod Stacking
+pub mod Standing
+pub mod Ways
+pub mod Down

@@ -1,14 +1,20 @@
 -- From the newest frame on: the way by parents, and the first that passes.
-use Rattle.std.proofs.Common.{◌≡◌, ℕ, zero, suc, ◌<◌, ◌||◌, Bool, true, false, cond, List, [], ◌∷◌, ◌++◌, Option, Some, None, find, reverse, take, drop, length, get_or, refl, ap, sym, subst, ◌∙◌, arith}
+use Rattle.std.proofs.Common.{◌≡◌, ℕ, zero, suc, ◌<◌, ◌||◌, Bool, true, false, cond, List, [], ◌∷◌, ◌++◌, Option, Some, None, is_some, find, reverse, take, drop, length, get_or, refl, ap, sym, subst, ◌∙◌, arith}
 use Rattle.std.specs.List.{list_any}
 use Rattle.std.proofs.lemmas.List.{reverse-append, append-nil}
 use Rattle.std.proofs.lemmas.List.{get_or-take, length-take}
+use Rattle.std.proofs.lemmas.List.Folds.{list_any_at}
 use Rattle.std.proofs.lemmas.Grind.{reverse_onto}
 use Rattle.bd_space.specs.declared.space.Frame.{Frame}
-use Rattle.bd_space.specs.Frames.{ancestry, is_frame}
+use Rattle.bd_space.specs.Frames.{ancestry, is_frame, takes_part}
 use Rattle.bd_ways.proofs.Ranges.{no_head, find_none}
-use Rattle.bd_frames.specs.Places.{IsRising, IsOnlyAt}
-use Rattle.bd_frames.proofs.Places.{next_drop, take_take, rising_take}
+use Rattle.bd_frames.specs.declared.frame.Row.{Row}
+use Rattle.bd_frames.specs.declared.table.FrameTable.{FrameTable}
+use Rattle.bd_frames.specs.Places.{frames_of, IsRising, IsLast, IsOnlyAt, IsNewestAt}
+use Rattle.bd_frames.specs.Stands.{FramesAre}
+use Rattle.bd_frames.specs.Linked.{kept_at, Reaches, Bounds}
+use Rattle.bd_frames.proofs.Places.{no_row, any_frames, take_take, rising_take}
+use Rattle.bd_frames.proofs.Standing.{own_rising}
 
 -- those that don't fit are passed over
 passed_over : (made : ℕ) (fs gs : List Frame) → list_any (is_frame made) fs ≡ false → ancestry (Some made) (fs ++ gs) ≡ ancestry (Some made) gs
@@ -27,10 +33,10 @@ none_reversed q (f ∷ fs) h =
     let n = no_head (q f) _ h in
     ap (list_any q) (reverse_onto fs f []) ∙ any_end q (reverse fs) f n.0 (none_reversed q fs n.1)
 
-split : (fs : List Frame) (i : ℕ) (d : Frame) → i < length fs → fs ≡ take i fs ++ get_or fs i d ∷ drop (suc i) fs
+split : (rs : List Row) (i : ℕ) (d : Row) → i < length rs → frames_of rs ≡ frames_of (take i rs) ++ (get_or rs i d).frame ∷ frames_of (drop (suc i) rs)
 split [] i d h = absurd (omega arith)
-split (f ∷ fs) zero d h = refl
-split (f ∷ fs) (suc i) d h = ap (λ gs. f ∷ gs) (split fs i d (omega arith))
+split (r ∷ rs) zero d h = refl
+split (r ∷ rs) (suc i) d h = ap (λ gs. r.frame ∷ gs) (split rs i d (omega arith))
 
 after : (fs : List Frame) (f : Frame) (gs : List Frame) → (fs ++ f ∷ []) ++ gs ≡ fs ++ f ∷ gs
 after [] f gs = refl
@@ -41,19 +47,22 @@ way_none made fs h =
     ap (ancestry (Some made)) (sym (append-nil (reverse fs)))
     ∙ passed_over made (reverse fs) [] (none_reversed (is_frame made) fs h)
 
-newest_first : (fs : List Frame) (i : ℕ) (d : Frame) → i < length fs → reverse fs ≡ reverse (drop (suc i) fs) ++ get_or fs i d ∷ reverse (take i fs)
-newest_first fs i d lt =
-    let f = get_or fs i d in
-    ap reverse (split fs i d lt) ∙ reverse-append (take i fs) (f ∷ drop (suc i) fs)
-    ∙ ap (λ gs. gs ++ reverse (take i fs)) (reverse_onto (drop (suc i) fs) f []) ∙ after (reverse (drop (suc i) fs)) f (reverse (take i fs))
+newest_first : (rs : List Row) (i : ℕ) (d : Row) → i < length rs → reverse (frames_of rs) ≡ reverse (frames_of (drop (suc i) rs)) ++ (get_or rs i d).frame ∷ reverse (frames_of (take i rs))
+newest_first rs i d lt =
+    let f = (get_or rs i d).frame in
+    let newer = frames_of (drop (suc i) rs) in
+    let older = frames_of (take i rs) in
+    ap reverse (split rs i d lt) ∙ reverse-append older (f ∷ newer)
+    ∙ ap (λ gs. gs ++ reverse older) (reverse_onto newer f []) ∙ after (reverse newer) f (reverse older)
 
-way_found : (made : ℕ) (fs : List Frame) (i : ℕ) (d : Frame) → i < length fs → is_frame made (get_or fs i d) ≡ true → list_any (is_frame made) (drop (suc i) fs) ≡ false
-    → ancestry (Some made) (reverse fs) ≡ get_or fs i d ∷ ancestry (get_or fs i d).parent (reverse (take i fs))
-way_found made fs i d lt here none =
-    let f = get_or fs i d in
-    let older = reverse (take i fs) in
-    ap (ancestry (Some made)) (newest_first fs i d lt)
-    ∙ passed_over made (reverse (drop (suc i) fs)) (f ∷ older) (none_reversed (is_frame made) (drop (suc i) fs) none)
+way_found : (made : ℕ) (rs : List Row) (i : ℕ) (d : Row) → i < length rs → is_frame made (get_or rs i d).frame ≡ true → list_any (is_frame made) (frames_of (drop (suc i) rs)) ≡ false
+    → ancestry (Some made) (reverse (frames_of rs)) ≡ (get_or rs i d).frame ∷ ancestry (get_or rs i d).frame.parent (reverse (frames_of (take i rs)))
+way_found made rs i d lt here none =
+    let f = (get_or rs i d).frame in
+    let older = reverse (frames_of (take i rs)) in
+    let newer = frames_of (drop (suc i) rs) in
+    ap (ancestry (Some made)) (newest_first rs i d lt)
+    ∙ passed_over made (reverse newer) (f ∷ older) (none_reversed (is_frame made) newer none)
     ∙ ap (λ b. cond b (f ∷ ancestry f.parent older) (ancestry (Some made) older)) here
 
 pub way_ended : (fs : List Frame) → ancestry None fs ≡ []
@@ -61,26 +70,25 @@ way_ended [] = refl
 way_ended (f ∷ fs) = way_ended fs
 
 -- of those up to n
-pub goes_on : (q : Frame → Bool) (from : Option ℕ) (made n : ℕ) (xs ys : List Frame) (i : ℕ) (d : Frame) → from ≡ Some made → IsRising 0 xs → ys ≡ xs → i < length (take n ys)
-    → (IsRising 0 (take n ys) → IsOnlyAt (is_frame made) (Some i) (take n ys)) → d ≡ get_or xs i d
-    → find q (ancestry from (reverse (take n xs))) ≡ cond (q d) (Some d) (find q (ancestry d.parent (reverse (take i xs))))
+pub goes_on : (q : Frame → Bool) (from : Option ℕ) (made n : ℕ) (xs ys : List Row) (i : ℕ) (d : Row) → from ≡ Some made → IsRising 0 (frames_of xs) → ys ≡ xs → i < length (take n ys)
+    → (IsRising 0 (frames_of (take n ys)) → IsOnlyAt (is_frame made) (Some i) (take n ys)) → d ≡ get_or xs i d
+    → find q (ancestry from (reverse (frames_of (take n xs)))) ≡ cond (q d.frame) (Some d.frame) (find q (ancestry d.frame.parent (reverse (frames_of (take i xs)))))
 goes_on q from made n xs ys i d e rising same lt only is =
-    let fs = take n xs in
-    let f = get_or fs i d in
-    let h : i < length fs = subst (λ zs. i < length (take n zs)) same lt in
+    let rs = take n xs in
+    let h : i < length rs = subst (λ zs. i < length (take n zs)) same lt in
     let low : i < n = omega (arith, h, length-take n xs) in
-    let here = subst (λ zs. IsRising 0 (take n zs) → IsOnlyAt (is_frame made) (Some i) (take n zs)) same only (rising_take 0 n xs rising) in
-    let one : f ≡ d = get_or-take n xs i d low ∙ sym is in
-    ap (λ (o : Option ℕ). find q (ancestry o (reverse fs))) e ∙ ap (find q) (way_found made fs i d h (here.0 d) (ap (list_any (is_frame made)) (sym (next_drop i fs)) ∙ here.1.after))
-    ∙ ap (λ (x : Frame). cond (q x) (Some x) (find q (ancestry x.parent (reverse (take i fs))))) one
-    ∙ ap (λ (zs : List Frame). cond (q d) (Some d) (find q (ancestry d.parent (reverse zs)))) (take_take i n xs (omega (arith, low)))
+    let here = (subst (λ zs. IsRising 0 (frames_of (take n zs)) → IsOnlyAt (is_frame made) (Some i) (take n zs)) same only (rising_take 0 n xs rising)).0 in
+    let one : get_or rs i d ≡ d = get_or-take n xs i d low ∙ sym is in
+    ap (λ (o : Option ℕ). find q (ancestry o (reverse (frames_of rs)))) e ∙ ap (find q) (way_found made rs i d h (here.here d) here.after)
+    ∙ ap (λ (x : Row). cond (q x.frame) (Some x.frame) (find q (ancestry x.frame.parent (reverse (frames_of (take i rs)))))) one
+    ∙ ap (λ (zs : List Row). cond (q d.frame) (Some d.frame) (find q (ancestry d.frame.parent (reverse (frames_of zs))))) (take_take i n xs (omega (arith, low)))
 
 -- no further
-pub goes_nowhere : (q : Frame → Bool) (from : Option ℕ) (made n : ℕ) (xs ys : List Frame) → from ≡ Some made → IsRising 0 xs → ys ≡ xs
-    → (IsRising 0 (take n ys) → IsOnlyAt (is_frame made) None (take n ys)) → find q (ancestry from (reverse (take n xs))) ≡ None
+pub goes_nowhere : (q : Frame → Bool) (from : Option ℕ) (made n : ℕ) (xs ys : List Row) → from ≡ Some made → IsRising 0 (frames_of xs) → ys ≡ xs
+    → (IsRising 0 (frames_of (take n ys)) → IsOnlyAt (is_frame made) None (take n ys)) → find q (ancestry from (reverse (frames_of (take n xs)))) ≡ None
 goes_nowhere q from made n xs ys e rising same only =
-    let none = subst (λ zs. IsRising 0 (take n zs) → IsOnlyAt (is_frame made) None (take n zs)) same only (rising_take 0 n xs rising) in
-    ap (λ (o : Option ℕ). find q (ancestry o (reverse (take n xs)))) e ∙ ap (find q) (way_none made (take n xs) none)
+    let none = subst (λ zs. IsRising 0 (frames_of (take n zs)) → IsOnlyAt (is_frame made) None (take n zs)) same only (rising_take 0 n xs rising) in
+    ap (λ (o : Option ℕ). find q (ancestry o (reverse (frames_of (take n xs))))) e ∙ ap (find q) (way_none made (frames_of (take n xs)) none)
 
 -- ---- the newest one that passes
 
@@ -92,7 +100,20 @@ module _ (q : Frame → Bool) where
   pub newest_none : (fs : List Frame) → list_any q fs ≡ false → find q (reverse fs) ≡ None
   newest_none fs e = find_none q (reverse fs) (none_reversed q fs e)
 
-  pub newest_some : (fs : List Frame) (i : ℕ) (d : Frame) → i < length fs → q (get_or fs i d) ≡ true → list_any q (drop (suc i) fs) ≡ false → find q (reverse fs) ≡ Some (get_or fs i d)
-  newest_some fs i d lt here none =
-      ap (find q) (newest_first fs i d lt) ∙ find_over (reverse (drop (suc i) fs)) _ (none_reversed q (drop (suc i) fs) none)
-      ∙ ap (λ b. cond b (Some (get_or fs i d)) (find q (reverse (take i fs)))) here
+  pub newest_some : (rs : List Row) (i : ℕ) (d : Row) → i < length rs → IsLast q i rs → find q (reverse (frames_of rs)) ≡ Some (get_or rs i d).frame
+  newest_some rs i d lt e =
+      let newer = frames_of (drop (suc i) rs) in
+      ap (find q) (newest_first rs i d lt) ∙ find_over (reverse newer) _ (none_reversed q newer e.after)
+      ∙ ap (λ b. cond b (Some (get_or rs i d).frame) (find q (reverse (frames_of (take i rs))))) (e.here d)
+
+  -- whether there is one
+  pub newest_any : (rs : List Row) (o : Option ℕ) → ((i : ℕ) → o ≡ Some i → i < length rs) → IsNewestAt q o rs → is_some o ≡ list_any q (frames_of rs)
+  newest_any rs None h e = sym e
+  newest_any rs (Some i) h e = sym (any_frames q rs ∙ list_any_at (λ r. q r.frame) rs i no_row (h i refl) (e.here no_row))
+
+-- found from its thread's top
+pub newest_in : (t : FrameTable) (l : List Frame) (seat : ℕ) (rs : List Row) (top o : Option ℕ) → FramesAre t l → rs ≡ t.rows.items → top ≡ kept_at t.stacks.tops seat
+    → (IsRising 0 (frames_of rs) → Bounds (Reaches t.stacks.floor) seat top rs → IsNewestAt (takes_part seat) o rs) → IsNewestAt (takes_part seat) o t.rows.items
+newest_in t l seat rs top o h is at found =
+    subst (λ ys. IsRising 0 (frames_of ys) → Bounds (Reaches t.stacks.floor) seat top ys → IsNewestAt (takes_part seat) o ys) is found (own_rising t l h)
+    (subst (λ (p : Option ℕ). Bounds (Reaches t.stacks.floor) seat p t.rows.items) (sym at) (h.stacks_are.tops_are seat))

@@ -1,31 +1,33 @@
--- How many children the calls have, kept by where these were made.
-use Rattle.std.specs.Prelude.{ℕ, zero, suc, ◌≡◌, ◌==◌, ◌&&◌, Bool, List, Option, Some, None, unwrap_or}
+-- How many children the frames have, counted in their rows.
+use Rattle.std.specs.Prelude.{ℕ, ◌≡◌, ◌==◌, Bool, List, [], ◌∷◌}
 use Rattle.bd_ways.specs.Words.{Frame, is_some_and}
 use Rattle.std.specs.List.{count_by}
-use Rattle.std.specs.HashMap.{HashMap, get_by}
-use Rattle.bd_space.specs.Frames.{is_gone}
-
--- what is kept at a place
-abbrev pub kept_at : {S : Type 0} → HashMap ℕ ℕ S → ℕ → Option ℕ
-kept_at children made = get_by (λ k. made == k) children
-
--- what isn't there is 0
-abbrev pub child_count : {S : Type 0} → HashMap ℕ ℕ S → ℕ → ℕ
-child_count children made = unwrap_or (kept_at children made) 0
+use Rattle.bd_frames.specs.declared.frame.Row.{Row}
 
 -- the frame's parent was made there
 abbrev pub is_child_at : ℕ → Frame → Bool
 is_child_at made f = is_some_and f.parent (λ m. m == made)
 
--- a number that isn't 0
-abbrev pub if_any : ℕ → Option ℕ
-if_any zero = None
-if_any (suc n) = Some (suc n)
+-- each row counts what n says of the place where it was made
+abbrev pub AreCounts : (ℕ → ℕ) → List Row → Type 0
+AreCounts n [] = Unit {0}
+AreCounts n (r ∷ rs) = (r.children ≡ n r.frame.made) × AreCounts n rs
 
--- at each place stands how many frames have their parent there. Where there are none, nothing stands
-abbrev pub AreChildren : {S : Type 0} → HashMap ℕ ℕ S → List Frame → Type 0
-AreChildren children l = (made : ℕ) → kept_at children made ≡ if_any (count_by (is_child_at made) l)
+-- each row counts how many of the frames have it as their parent
+abbrev pub AreChildren : List Frame → List Row → Type 0
+AreChildren l = AreCounts (λ made. count_by (is_child_at made) l)
 
--- its server has gone, and no child is counted
-abbrev pub is_left_alone : {S : Type 0} → HashMap ℕ ℕ S → Frame → Bool
-is_left_alone children f = is_gone f.server && (child_count children f.made == 0)
+-- P of each row and the one at the same index
+abbrev pub Each : (Row → Row → Type 0) → List Row → List Row → Type 0
+Each P [] [] = Unit {0}
+Each P [] (s ∷ ss) = ⊥
+Each P (r ∷ rs) [] = ⊥
+Each P (r ∷ rs) (s ∷ ss) = P r s × Each P rs ss
+
+pub record IsSameButCount (r s : Row) : Type 0 where
+  pub frame : s.frame ≡ r.frame
+  pub caller : s.caller ≡ r.caller
+  pub server : s.server ≡ r.server
+
+abbrev pub IsSameButCounts : List Row → List Row → Type 0
+IsSameButCounts = Each IsSameButCount

@@ -3,15 +3,16 @@ use Rattle.std.specs.Prelude.{◌≡◌, List}
 use Rattle.bd_ways.specs.Words.{Frame}
 use Rattle.bd_keys.specs.Tables as tables
 use Rattle.bd_frames.specs.declared.table.FrameTable.{FrameTable}
+use Rattle.bd_frames.specs.Places.{frames_of}
 use Rattle.bd_frames.specs.InOrder.{IsInOrder}
 use Rattle.bd_frames.specs.Children.{AreChildren}
 use Rattle.bd_frames.specs.Linked.{AreStacks}
 
 pub record FramesAre (t : FrameTable) (l : List Frame) : Type 0 where
-  pub items_are : t.frames.items ≡ l
+  pub items_are : frames_of t.rows.items ≡ l
   pub in_order : IsInOrder l
-  pub children_are : AreChildren t.children l
-  pub stacks_are : AreStacks t.stacks l
+  pub children_are : AreChildren l t.rows.items
+  pub stacks_are : AreStacks t.stacks t.rows.items
 
 -- of every list that the table stands for x is what f says
 abbrev pub Tells : {A : Type 0} → FrameTable → A → (List Frame → A) → Type 0

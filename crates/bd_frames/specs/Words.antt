@@ -1,7 +1,8 @@
 -- Words on frames in the order in which they came in.
-use Rattle.std.specs.Prelude.{ℕ, ◌==◌, ◌&&◌, Bool, true, false, List, Option, Some, None, find, reverse}
+use Rattle.std.specs.Prelude.{ℕ, ◌==◌, ◌&&◌, Bool, true, false, List, Option, find, reverse}
 use Rattle.bd_ways.specs.Words.{list_any, Frame, Server, Pending, Serving, Gone}
 use Rattle.bd_space.specs.Frames.{takes_part, is_frame}
+use Rattle.bd_frames.specs.declared.frame.Row.{Row}
 use Rattle.bd_space.specs.Settle.{is_abandoned}
 use Rattle.bd_space.specs.ThreadExits.{gone_caller, gone_server}
 
@@ -22,11 +23,6 @@ is_pending Pending = true
 is_pending (Serving t) = false
 is_pending Gone = false
 
-abbrev pub server_of : Server → Option ℕ
-server_of Pending = None
-server_of (Serving t) = Some t
-server_of Gone = None
-
 -- who would have served it has gone
 abbrev pub lost : Server → Server
 lost Pending = Gone
@@ -39,3 +35,7 @@ lost_frame f = record f { server = lost f.server }
 -- the thread is gone as caller and as server
 abbrev pub left_frame : ℕ → Frame → Frame
 left_frame seat f = record f { caller = gone_caller seat f.caller; server = gone_server seat f.server }
+
+-- and so its row
+abbrev pub left_row : ℕ → Row → Row
+left_row seat r = record r { frame = left_frame seat r.frame }

@@ -1,45 +1,94 @@
-//! What is asked of a frame.
+//! A frame, and what a table keeps beside it.
 
-ghost use Rattle.std.specs.Prelude.{◌≡◌, ◌==◌, ◌&&◌, ◌≤◌, ◌++◌, ◌∷◌, [], map, filter, vec_len, OnOk};
+ghost use Rattle.std.specs.Prelude.{◌≡◌, ◌==◌, ◌&&◌, true, false, IfSome};
 ghost use Rattle.bd_space.specs.Frames as spec;
-ghost use Rattle.bd_frames.specs.Children.{is_left_alone};
+ghost use Rattle.bd_frames.specs.Linked as linked;
+ghost use Rattle.bd_frames.specs.Words.{lost_frame, left_frame};
 
-use crate::children::child_count;
-use crate::server::{is_gone, serves};
-use bd_space::Frame;
-use std::alloc::AllocError;
-use std::collections::HashMap;
+use bd_space::{Frame, Server};
 
-pub(crate) fn calls(frame: &Frame, seat: u32) -> bool
-    ensures { result ≡ spec.calls seat frame.now }
+/// A frame; up to where the next older frames were made of its caller and of its server; how many have it as their parent.
+#[derive(Clone, Copy, Debug)]
+pub struct Row {
+    pub frame: Frame,
+    pub caller: Option<u32>,
+    pub server: Option<u32>,
+    pub children: u64,
+}
+
+/// A call is served by the thread of this seat.
+pub fn serves(seat: u32, server: Server) -> bool
+    ensures { result ≡ spec.serves seat server }
 {
-    frame.caller == Some(seat)
+    matches!(server, Server::Serving(t) if t == seat)
 }
 
 pub(crate) fn takes_part(frame: &Frame, seat: u32) -> bool
     ensures { result ≡ spec.takes_part seat frame.now }
 {
-    calls(frame, seat) || serves(seat, frame.server)
+    frame.caller == Some(seat) || serves(seat, frame.server)
 }
 
-pub(crate) fn is_abandoned(children: &HashMap<u32, u64>, frame: &Frame) -> bool
-    ensures { result ≡ is_left_alone children.now frame.now }
+/// Its server has gone, and no child is counted.
+pub(crate) fn is_abandoned(row: &Row) -> bool
+    ensures { result ≡ (spec.is_gone row.now.frame.server && (row.now.children == 0)) }
 {
-    is_gone(frame.server) && child_count(children, frame.made) == 0
+    matches!(row.frame.server, Server::Gone) && row.children == 0
 }
 
-/// Where the frame's call was made, put after what is there, if the thread serves it.
-pub(crate) fn push_if_served(
-    frame: &Frame,
-    seat: u32,
-    served: &mut Vec<u32>,
-) -> Result<(), AllocError>
-    ensures served { OnOk result (served.new.items
-        ≡ served.old.items ++ map spec.made_of (filter (λ f. spec.serves seat f.server) (frame.now ∷ []))) }
-    ensures longer { vec_len served.old ≤ vec_len served.new }
+/// Below the frame is this one for the thread, which takes part in it.
+pub(crate) fn below_of(seat: u32, row: &Row) -> Option<u32>
+    ensures { result ≡ linked.below_of seat row.now }
 {
-    if serves(seat, frame.server) {
-        served.push(frame.made)?;
+    if row.frame.caller == Some(seat) {
+        row.caller
+    } else {
+        row.server
     }
-    Ok(())
+}
+
+/// The thread that serves the frame, unless it is also its caller.
+pub(crate) fn other_server(frame: Frame) -> Option<u32>
+    ensures serves { IfSome result (λ s. spec.serves s frame.server ≡ true) }
+    ensures apart { IfSome result (λ s. spec.calls s frame ≡ false) }
+{
+    match frame.server {
+        Server::Serving(seat) => {
+            if frame.caller == Some(seat) {
+                None
+            } else {
+                Some(seat)
+            }
+        }
+        _ => None,
+    }
+}
+
+/// The frame's call has lost who would have served it.
+pub(crate) fn frame_lost(frame: Frame) -> Frame
+    ensures { result ≡ lost_frame frame }
+{
+    match frame.server {
+        Server::Pending => Frame {
+            server: Server::Gone,
+            ..frame
+        },
+        _ => frame,
+    }
+}
+
+/// The frame, once the thread is gone from it, as caller and as server.
+pub(crate) fn frame_without(seat: u32, frame: Frame) -> Frame
+    ensures { result ≡ left_frame seat frame }
+{
+    let caller = frame.caller.filter(|c| *c != seat);
+    if serves(seat, frame.server) {
+        Frame {
+            caller,
+            server: Server::Gone,
+            ..frame
+        }
+    } else {
+        Frame { caller, ..frame }
+    }
 }

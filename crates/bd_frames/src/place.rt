@@ -1,59 +1,48 @@
 //! Where the frames stand that are looked for.
 
-ghost use Rattle.std.specs.Prelude.{◌≡◌, ◌||◌, ◌<◌, IfSome, length};
+ghost use Rattle.std.specs.Prelude.{◌≡◌, ◌<◌, IfSome, length};
 ghost use Rattle.bd_space.specs.Frames as spec;
 ghost use Rattle.bd_frames.specs.Places as places;
-ghost use Rattle.bd_frames.specs.Places.{IsRising, IsOnlyAt, IsNewestAt};
+ghost use Rattle.bd_frames.specs.Places.{IsRising, IsOnlyAt, IsNewestAt, frames_of};
 ghost use Rattle.bd_frames.specs.Linked.{Bounds, Reaches};
 
-use crate::frame::takes_part;
-use bd_space::Frame;
+use crate::frame::{Row, takes_part};
 
 /// The index of the frame that was made there: found by halves.
-pub(crate) fn index_of(frames: &[Frame], made: u32) -> Option<usize>
-    ensures within { IfSome result (λ i. i < length frames.now) }
-    ensures only { IsRising 0 frames.now → IsOnlyAt (spec.is_frame made) result frames.now }
+pub(crate) fn index_of(rows: &[Row], made: u32) -> Option<usize>
+    ensures within { IfSome result (λ i. i < length rows.now) }
+    ensures only { IsRising 0 (frames_of rows.now) → IsOnlyAt (spec.is_frame made) result rows.now }
 {
-    let i = frames.partition_point(|f| f.made < made);
-    if i < frames.len() && frames[i].made == made {
+    let i = rows.partition_point(|r| r.frame.made < made);
+    if i < rows.len() && rows[i].frame.made == made {
         Some(i)
     } else {
         None
     }
 }
 
-// It was made up to here.
-fn is_up_to(made: u32, bound: Option<u32>) -> bool
-    ensures { result ≡ places.is_up_to made bound }
-{
-    match bound {
-        Some(bound) => made <= bound,
-        None => false,
-    }
-}
-
 /// It was made up to one of the two.
-pub(crate) fn is_reached(floor: Option<u32>, bound: Option<u32>, made: u32) -> bool
+fn is_reached(floor: Option<u32>, bound: Option<u32>, made: u32) -> bool
     ensures { result ≡ places.is_reached floor bound made }
 {
-    is_up_to(made, bound) || is_up_to(made, floor)
+    bound.is_some_and(|b| made <= b) || floor.is_some_and(|b| made <= b)
 }
 
 /// The index of the newest frame in which the thread takes part, of those made up to its bound or to the floor.
 pub(crate) fn newest_part(
-    frames: &[Frame],
+    rows: &[Row],
     seat: u32,
     floor: Option<u32>,
     bound: Option<u32>,
 ) -> Option<usize>
-    ensures within { IfSome result (λ i. i < length frames.now) }
-    ensures newest { IsRising 0 frames.now → Bounds (Reaches floor) seat bound frames.now
-        → IsNewestAt (spec.takes_part seat) result frames.now }
+    ensures within { IfSome result (λ i. i < length rows.now) }
+    ensures newest { IsRising 0 (frames_of rows.now) → Bounds (Reaches floor) seat bound rows.now
+        → IsNewestAt (spec.takes_part seat) result rows.now }
 {
-    let mut from = frames.partition_point(|f| is_reached(floor, bound, f.made));
+    let mut from = rows.partition_point(|r| is_reached(floor, bound, r.frame.made));
     while from > 0 {
         from -= 1;
-        if takes_part(&frames[from], seat) {
+        if takes_part(&rows[from].frame, seat) {
             return Some(from);
         }
     }

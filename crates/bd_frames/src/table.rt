@@ -12,23 +12,18 @@ ghost use Rattle.bd_keys.specs.Tables.{AnswersBy};
 ghost use Rattle.bd_frames.specs.InOrder.{IsNextOf};
 ghost use Rattle.bd_frames.specs.Words.{newest_in, abandoned_in, lost_frame, left_frame};
 
-use crate::change::{frame_lost, frame_served};
 use crate::children::{add_child, remove_child};
-use crate::frame::is_abandoned;
+use crate::frame::{Row, frame_lost, is_abandoned, other_server};
 use crate::place::{index_of, newest_part};
 use crate::stacks::Stacks;
-use crate::tops::top_of;
 use crate::walk::{leave_down, push_served_down, reverse_from};
-use bd_space::Frame;
+use bd_space::{Frame, Server};
 use std::alloc::{AllocError, Global};
-use std::collections::HashMap;
 
 /// The frames of a driver, in the order in which they came in.
 #[derive(Debug, Drop)]
 pub struct FrameTable {
-    pub(crate) frames: Vec<Frame>,
-    // How many frames name each place as their parent.
-    pub(crate) children: HashMap<u32, u64>,
+    pub(crate) rows: Vec<Row>,
     // The frames of each thread.
     pub(crate) stacks: Stacks,
 }
@@ -41,8 +36,7 @@ impl FrameTable {
         ensures { FramesAre result [] }
     {
         FrameTable {
-            frames: Vec::new(alloc),
-            children: HashMap::new(alloc),
+            rows: Vec::new(alloc),
             stacks: Stacks::new(alloc),
         }
     }
@@ -55,9 +49,17 @@ impl FrameTable {
         // Memory was asked for: there was no room.
         ensures grown { OnErr result (frame_room self.old < more) }
     {
-        self.frames.reserve(more as usize)?;
-        self.children.reserve(more as usize)?;
-        self.stacks.reserve(more)
+        let more = more as usize;
+        let count = self.rows.len();
+        if self.rows.capacity() - count >= more {
+            return Ok(());
+        }
+        // For each frame that there will be room for two threads can have it as their innermost one.
+        let all = count.saturating_add(more);
+        self.stacks
+            .tops
+            .reserve(all.saturating_mul(4).saturating_add(4))?;
+        self.rows.reserve(all)
     }
 
     /// How many there are.
@@ -65,32 +67,24 @@ impl FrameTable {
         ensures count { result ≡ frame_count self.now }
         ensures frames { Tells self.now result (λ l. length l) }
     {
-        self.frames.len()
+        self.rows.len()
     }
 
-    /// A frame comes in. Takes no memory.
+    /// A frame comes in: nobody has read its call, and it was made after all others, its parent among them. Takes no memory.
     pub fn push(&mut self, frame: Frame)
         requires { 1 ≤ frame_room self.old }
         ensures stands { (l : List declared.Frame) → FramesAre self.old l → IsNextOf frame l
             → FramesAre self.new (l ++ frame ∷ []) }
         ensures uses { Uses self.old self.new 1 }
     {
-        add_child(&mut self.children, frame);
-        self.stacks.push(frame);
-        self.frames.push_reserved(frame);
-        // A length is a usize: so no count of children wraps.
-        let _ = self.frames.len();
-    }
-
-    // The frame of this index closes.
-    fn remove_at(&mut self, i: usize)
-        requires { i < vec_len self.old.frames }
-        ensures stands { tables.Makes (FramesAre self.old) (FramesAre self.new) (λ l. list_remove l i) }
-        ensures uses { Uses self.old self.new 0 }
-    {
-        let frame = self.frames.remove(i);
-        remove_child(&mut self.children, frame);
-        self.stacks.remove(frame, i);
+        add_child(&mut self.rows, frame.parent);
+        let caller = self.stacks.put(frame.caller, frame.made);
+        self.rows.push_reserved(Row {
+            frame,
+            caller,
+            server: None,
+            children: 0,
+        });
     }
 
     /// The frame of the call made at this place closes.
@@ -98,8 +92,13 @@ impl FrameTable {
         ensures stands { Makes self.old self.new (λ l. filter (λ f. not (spec.is_frame made f)) l) }
         ensures uses { Uses self.old self.new 0 }
     {
-        if let Some(i) = index_of(&self.frames, made) {
-            self.remove_at(i);
+        if let Some(i) = index_of(&self.rows, made) {
+            let parent = self.rows[i].frame.parent;
+            remove_child(&mut self.rows, parent);
+            let row = self.rows.remove(i);
+            let frame = row.frame;
+            self.stacks.pop(frame.caller, frame.made, row.caller);
+            self.stacks.pop(other_server(frame), frame.made, row.server);
         }
     }
 
@@ -107,32 +106,32 @@ impl FrameTable {
     pub fn frame(&self, made: u32) -> Option<Frame>
         ensures { Tells self.now result (λ l. find (spec.is_frame made) l) }
     {
-        Some(self.frames[index_of(&self.frames, made)?])
+        Some(self.rows[index_of(&self.rows, made)?].frame)
     }
 
     /// The newest frame in which the thread takes part.
     pub fn newest_of(&self, seat: u32) -> Option<Frame>
         ensures { Tells self.now result (λ l. newest_in l seat) }
     {
-        let top = top_of(&self.stacks.tops, seat);
-        Some(self.frames[newest_part(&self.frames, seat, self.stacks.floor, top)?])
+        let top = self.stacks.top_of(seat);
+        Some(self.rows[newest_part(&self.rows, seat, self.stacks.floor, top)?].frame)
     }
 
     /// Whether the thread takes part in a frame.
     pub fn is_in_call(&self, seat: u32) -> bool
         ensures { Tells self.now result (λ l. list_any (spec.takes_part seat) l) }
     {
-        let top = top_of(&self.stacks.tops, seat);
-        newest_part(&self.frames, seat, self.stacks.floor, top).is_some()
+        let top = self.stacks.top_of(seat);
+        newest_part(&self.rows, seat, self.stacks.floor, top).is_some()
     }
 
     /// The frame of the call made at this place, if it is abandoned.
     pub fn abandoned_at(&self, made: u32) -> Option<Frame>
         ensures { Tells self.now result (λ l. abandoned_in l made) }
     {
-        let frame = self.frame(made)?;
-        if is_abandoned(&self.children, &frame) {
-            Some(frame)
+        let row = self.rows[index_of(&self.rows, made)?];
+        if is_abandoned(&row) {
+            Some(row.frame)
         } else {
             None
         }
@@ -145,10 +144,10 @@ impl FrameTable {
             → Tells self.now result (λ l. find q (spec.ancestry from (reverse l))) }
     {
         let mut next = from;
-        let mut end = self.frames.len();
+        let mut end = self.rows.len();
         while let Some(made) = next {
-            let i = index_of(&self.frames[..end], made)?;
-            let frame = self.frames[i];
+            let i = index_of(&self.rows[..end], made)?;
+            let frame = self.rows[i].frame;
             if f(frame) {
                 return Some(frame);
             }
@@ -163,10 +162,23 @@ impl FrameTable {
         ensures stands { Makes self.old self.new (λ l. changed (spec.is_frame made) (reading.serve seat) l) }
         ensures uses { Uses self.old self.new 0 }
     {
-        if let Some(i) = index_of(&self.frames, made) {
-            let frame = self.frames[i];
-            self.stacks.hand_out(frame, i, seat);
-            self.frames[i] = frame_served(seat, frame);
+        if let Some(i) = index_of(&self.rows, made) {
+            let row = self.rows[i];
+            let frame = Frame {
+                server: Server::Serving(seat),
+                ..row.frame
+            };
+            if row.frame.caller == Some(seat) {
+                // Who serves a call of its own is led on as its caller.
+                self.rows[i] = Row { frame, ..row };
+            } else {
+                let server = self.stacks.put(Some(seat), frame.made);
+                self.rows[i] = Row {
+                    frame,
+                    server,
+                    ..row
+                };
+            }
         }
     }
 
@@ -175,10 +187,12 @@ impl FrameTable {
         ensures stands { Makes self.old self.new (λ l. changed (spec.is_frame made) lost_frame l) }
         ensures uses { Uses self.old self.new 0 }
     {
-        if let Some(i) = index_of(&self.frames, made) {
-            let frame = self.frames[i];
-            self.stacks.forget_unread(frame.server);
-            self.frames[i] = frame_lost(frame);
+        if let Some(i) = index_of(&self.rows, made) {
+            let row = self.rows[i];
+            self.rows[i] = Row {
+                frame: frame_lost(row.frame),
+                ..row
+            };
         }
     }
 
@@ -187,7 +201,7 @@ impl FrameTable {
         ensures stands { Makes self.old self.new (λ l. map (left_frame seat) l) }
         ensures uses { Uses self.old self.new 0 }
     {
-        leave_down(&mut self.frames, &self.stacks, seat);
+        leave_down(&mut self.rows, &self.stacks, seat);
         self.stacks.forget(seat);
     }
 
@@ -197,7 +211,7 @@ impl FrameTable {
             (λ l. served.old.items ++ map spec.made_of (filter (λ f. spec.serves seat f.server) l))) }
     {
         let from = served.len();
-        push_served_down(&self.frames, &self.stacks, seat, served)?;
+        push_served_down(&self.rows, &self.stacks, seat, served)?;
         reverse_from(served, from);
         Ok(())
     }

@@ -1,62 +1,62 @@
-use Rattle.std.proofs.Common.{◌≡◌, ◌≤◌, ◌<◌, None, Some, map, take, drop, length, get_or, set, refl, ap, sym, ◌∙◌, arith}
+use Rattle.std.proofs.Common.{◌≡◌, ◌≤◌, ◌<◌, None, Some, map, take, drop, length, get_or, set, refl, ap, ◌∙◌, arith}
+use Rattle.std.proofs.lemmas.List.{length-take}
+use Rattle.bd_space.specs.declared.space.Frame.{Frame}
 use Rattle.bd_space.specs.Frames.{takes_part}
-use Rattle.bd_frames.specs.Words.{left_frame}
-use Rattle.bd_frames.specs.Places.{IsRising}
-use Rattle.bd_frames.specs.Linked.{AreStacks}
-use Rattle.bd_frames.proofs.Alike.{left_other}
-use Rattle.bd_frames.proofs.Down.{way_begins, way_on, step_same, begun_same, got_begun, none_yet, map_left, map_next}
+use Rattle.bd_frames.specs.Words.{left_row}
+use Rattle.bd_frames.specs.Places.{frames_of, IsRising}
+use Rattle.bd_frames.specs.Linked.{below_of, AreStacks}
+use Rattle.bd_frames.proofs.Alike.{row_other}
+use Rattle.bd_frames.proofs.Down.{way_begins, way_on, found, begun_same, got_begun, none_yet, map_left, map_next}
 use Rattle.bd_frames.proofs.walk.leave_down.Goals as goal
 
-pub loop-older-init : goal.loop-older-init
-loop-older-init c =
-    let xs = c.args.frames.now.items in
-    let long : c.len.result ≡ length xs = omega (arith, c.len.ensures) in
+pub loop-i-init : goal.loop-i-init
+loop-i-init c =
+    let rs = c.args.rows.now.items in
+    let long : c.len-end.result ≡ length rs = omega (arith, c.len-end.ensures) in
     record {
-      within = omega (arith, c.len.ensures);
-      way = λ k r. way_begins c.args.stacks.now xs c.args.seat c.len.result c.top_of.result k r long c.top_of.ensures;
-      so_far = λ k r. none_yet (left_frame c.args.seat) c.len.result xs long;
+      within = omega (arith, c.len-end.ensures);
+      way = λ k r. way_begins c.args.stacks.now c.args.seat rs k r c.len-end.result c.top_of-next.result c.top_of-next.ensures;
+      so_far = λ k r. none_yet (left_row c.args.seat) c.len-end.result rs long;
       len = refl;
       capacity = refl;
     }
 
-pub loop-older-preserved : goal.loop-older-preserved
-loop-older-preserved c =
-    let inv = c.loop-older.invariant in
+pub loop-i-preserved : goal.loop-i-preserved
+loop-i-preserved c =
+    let inv = c.loop-i.invariant in
     let seat = c.args.seat in
     let st = c.args.stacks.now in
-    let g = left_frame seat in
-    let xs = c.args.frames.now.items in
-    let w = c.loop-older.way in
-    let v = c.in-Some.older in
-    let low : v.end < w.end = c.in-Some.ensures.lower in
-    let few : w.end ≤ length xs = omega (arith, inv.within) in
-    let rest = map g (drop w.end xs) in
-    let stepped = λ (k : AreStacks st xs) (r : IsRising 0 xs). step_same st seat xs c.deref.result.now w (Some v)
-    (sym (begun_same w.end xs rest few) ∙ sym (ap (take w.end) (c.deref.ensures.value ∙ inv.so_far k r))) c.in-Some.ensures.steps (inv.way k r) in
+    let g = left_row seat in
+    let rs = c.args.rows.now.items in
+    let ys = c.loop-i.rows.items in
+    let n = c.loop-i.end in
+    let i = c.in-Some.i in
+    let d = c.index.result.now in
+    let low : i < n = omega (arith, c.in-Some.ensures.within, length-take n c.deref.result.now) in
+    let few : n ≤ length rs = omega (arith, inv.within) in
+    let rest = map g (drop n rs) in
+    let last = λ (k : AreStacks st rs) (r : IsRising 0 (frames_of rs)). found st seat rs k r n c.loop-i.next _
+    (ap (take n) (c.deref.ensures.value ∙ inv.so_far k r) ∙ begun_same n rs rest few) (inv.way k r) (Some i) c.in-Some.ensures.newest in
+    let at = λ (k : AreStacks st rs) (r : IsRising 0 (frames_of rs)). c.index.ensures ∙ ap (λ zs. get_or zs i d) (inv.so_far k r) ∙ got_begun n i rs rest d low few in
     record {
       within = omega (arith, low, inv.within);
-      way = λ k r. way_on st seat xs w v (inv.way k r) low (stepped k r);
+      way = λ k r. way_on st seat rs k r n i d c.below_of-next.result low (omega (arith, low, few)) (last k r) (c.below_of-next.ensures ∙ ap (below_of seat) (at k r));
       so_far = λ k r.
-          let f = c.index-frame.result.now in
-          let ys = c.loop-older.frames.items in
-          let so = inv.so_far k r in
-          let at = c.index-frame.ensures ∙ ap (λ zs. get_or zs v.end f) so ∙ got_begun w.end v.end xs rest f low few in
-          ap (set ys v.end) c.frame_without.ensures
-          ∙ ap (λ x. set ys v.end (g x)) at ∙ ap (λ zs. set zs v.end (g (get_or xs v.end f))) so
-          ∙ map_next (takes_part seat) g (left_other seat) w.end v.end xs f low (omega (arith, low, few)) (stepped k r).newest;
+          ap (λ (f : Frame). set ys i (record d { frame = f })) c.frame_without.ensures
+          ∙ ap (λ x. set ys i (g x)) (at k r) ∙ ap (λ zs. set zs i (g (get_or rs i d))) (inv.so_far k r)
+          ∙ map_next (takes_part seat) g (row_other seat) n i rs d low (omega (arith, low, few)) (last k r).after;
       len = inv.len;
       capacity = inv.capacity;
     }
 
-pub returns-clause-frames : goal.returns-clause-frames
-returns-clause-frames c = λ k r.
-    let inv = c.loop-older.invariant in
+pub returns-clause-rows : goal.returns-clause-rows
+returns-clause-rows c = λ k r.
+    let inv = c.loop-i.invariant in
     let seat = c.args.seat in
-    let st = c.args.stacks.now in
-    let g = left_frame seat in
-    let xs = c.args.frames.now.items in
-    let w = c.loop-older.way in
-    let few : w.end ≤ length xs = omega (arith, inv.within) in
-    let none = step_same st seat xs c.deref.result.now w None
-    (sym (begun_same w.end xs (map g (drop w.end xs)) few) ∙ sym (ap (take w.end) (c.deref.ensures.value ∙ inv.so_far k r))) c.in_default.ensures.steps (inv.way k r) in
-    inv.so_far k r ∙ map_left (takes_part seat) g (left_other seat) w.end xs none
+    let g = left_row seat in
+    let rs = c.args.rows.now.items in
+    let n = c.loop-i.end in
+    let few : n ≤ length rs = omega (arith, inv.within) in
+    let none = found c.args.stacks.now seat rs k r n c.loop-i.next _
+    (ap (take n) (c.deref.ensures.value ∙ inv.so_far k r) ∙ begun_same n rs (map g (drop n rs)) few) (inv.way k r) None c.in_default.ensures.newest in
+    inv.so_far k r ∙ map_left (takes_part seat) g (row_other seat) n rs none

@@ -1,18 +1,18 @@
-use Rattle.std.proofs.Common.{◌≡◌, ◌≤◌, ◌++◌, length, map, filter, reverse, drop, vec_len}
+use Rattle.std.proofs.Common.{◌≡◌, ◌≤◌, ◌++◌, length, map, filter, reverse, take, drop, vec_len}
 use Rattle.bd_space.specs.declared.space.Frame.{Frame}
 use Rattle.bd_space.specs.Frames.{serves, made_of}
-use Rattle.bd_frames.specs.Places.{IsRising}
-use Rattle.bd_frames.specs.Linked.{AreStacks, IsWay}
+use Rattle.bd_frames.specs.Places.{frames_of, IsRising}
+use Rattle.bd_frames.specs.Linked.{AreStacks, Bounds, Reaches}
 use Rattle.bd_frames.proofs.walk.push_served_down.Given as goal
 
-abbrev pub invariant-loop-older : goal.invariant-loop-older
-invariant-loop-older l = record {
-  within : l.way.end ≤ length l.frames;
-  way : AreStacks l.stacks l.frames → IsRising 0 l.frames → IsWay l.stacks l.seat l.frames l.way;
-  so_far : AreStacks l.stacks l.frames → IsRising 0 l.frames
-      → l.served.items ≡ l.fn.served.items ++ reverse (map made_of (filter (λ (f : Frame). serves l.seat f.server) (drop l.way.end l.frames)));
+abbrev pub invariant-loop-i : goal.invariant-loop-i
+invariant-loop-i l = record {
+  within : l.end ≤ length l.rows;
+  way : AreStacks l.stacks l.rows → IsRising 0 (frames_of l.rows) → Bounds (Reaches l.stacks.floor) l.seat l.next (take l.end l.rows);
+  so_far : AreStacks l.stacks l.rows → IsRising 0 (frames_of l.rows)
+      → l.served.items ≡ l.fn.served.items ++ reverse (map made_of (filter (λ (f : Frame). serves l.seat f.server) (frames_of (drop l.end l.rows))));
   longer : vec_len l.fn.served ≤ vec_len l.served;
 }
 
-abbrev pub decreases-loop-older : goal.decreases-loop-older
-decreases-loop-older l = l.way.end
+abbrev pub decreases-loop-i : goal.decreases-loop-i
+decreases-loop-i l = l.end

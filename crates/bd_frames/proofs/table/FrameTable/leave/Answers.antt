@@ -1,19 +1,19 @@
-use Rattle.std.proofs.Common.{ap, refl, sym, subst, ◌∙◌, map}
-use Rattle.bd_frames.specs.Words.{left_frame}
-use Rattle.bd_frames.specs.Places.{IsRising}
+use Rattle.std.proofs.Common.{refl, ap, sym, subst, ◌∙◌, map}
+use Rattle.bd_frames.specs.Words.{left_frame, left_row}
+use Rattle.bd_frames.specs.Places.{frames_of}
+use Rattle.bd_frames.specs.Children.{Each}
 use Rattle.bd_frames.specs.Linked.{AreStacks}
-use Rattle.bd_frames.proofs.Places.{rising_map}
-use Rattle.bd_frames.proofs.InOrder.{older_map}
-use Rattle.bd_frames.proofs.Counting.{children_map}
+use Rattle.bd_frames.proofs.Counting.{IsAlike, each_map}
+use Rattle.bd_frames.proofs.Stacking.{forgets}
+use Rattle.bd_frames.proofs.Standing.{own_rising, all_change, frames_left}
 use Rattle.bd_frames.proofs.table.FrameTable.leave.Goals as goal
 
 pub returns-clause-stands : goal.returns-clause-stands
 returns-clause-stands c = λ l h.
-    let own = sym h.items_are in
-    let g = left_frame c.args.seat in
-    record {
-      items_are = c.leave_down.ensures.frames (subst (AreStacks c.args.self.now.stacks) own h.stacks_are) (subst (IsRising 0) own h.in_order.rising) ∙ ap (map g) h.items_are;
-      in_order = record { rising = rising_map g (λ x. refl) 0 l h.in_order.rising; older = older_map g (λ x. (refl, refl)) l h.in_order.older };
-      children_are = children_map c.args.self.now.children l h.children_are g (λ x. refl);
-      stacks_are = c.forget.ensures.stands l h.stacks_are;
-    }
+    let t = c.args.self.now in
+    let rs = t.rows.items in
+    let seat = c.args.seat in
+    let left = c.leave_down.ensures.rows h.stacks_are (own_rising t l h) in
+    all_change t _ l h (left_frame seat) (λ x. (refl, refl)) (ap frames_of left ∙ frames_left seat rs ∙ ap (map (left_frame seat)) h.items_are)
+    (subst (Each IsAlike rs) (sym left) (each_map IsAlike (left_row seat) (λ r. record { made = refl; children = refl }) rs))
+    (subst (AreStacks c.forget.new.self) (sym left) (forgets t.stacks c.forget.new.self rs seat h.stacks_are c.forget.ensures.floor c.forget.ensures.tops))

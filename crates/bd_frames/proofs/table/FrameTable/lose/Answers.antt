@@ -1,36 +1,30 @@
-use Rattle.std.proofs.Common.{◌≡◌, ◌<◌, Some, None, length, get_or, set, refl, subst, ap, sym, ◌∙◌}
+use Rattle.std.proofs.Common.{Some, set, refl, subst, ap, sym, ◌∙◌}
+use Rattle.bd_space.specs.declared.space.Frame.{Frame}
 use Rattle.bd_space.specs.Frames.{is_frame}
-use Rattle.bd_frames.specs.Words.{lost_frame}
-use Rattle.bd_frames.specs.Children.{kept_at}
-use Rattle.bd_frames.proofs.Stacking.{loses}
 use Rattle.bd_ways.proofs.Ranges.{changed_none}
+use Rattle.bd_frames.specs.declared.frame.Row.{Row}
+use Rattle.bd_frames.specs.Words.{lost_frame}
 use Rattle.bd_frames.specs.Stands.{FramesAre}
-use Rattle.bd_frames.specs.Places.{IsRising, IsOnlyAt}
-use Rattle.bd_frames.proofs.Places.{only_changed, rising_changed}
-use Rattle.bd_frames.proofs.InOrder.{older_changed}
-use Rattle.bd_frames.proofs.Counting.{children_changed}
+use Rattle.bd_frames.proofs.Counting.{each_set}
+use Rattle.bd_frames.proofs.Alike.{IsFewer, same_fewer, lost_fewer}
+use Rattle.bd_frames.proofs.Stacking.{fewer}
+use Rattle.bd_frames.proofs.Standing.{sought, nowhere, somewhere, one_changes}
 use Rattle.bd_frames.proofs.table.FrameTable.lose.Goals as goal
 
 pub returns-in-Some-clause-stands : goal.returns-in-Some-clause-stands
 returns-in-Some-clause-stands c = λ l h.
-    let is = c.deref.ensures.value ∙ h.items_are in
+    let t = c.args.self.now in
+    let rs = t.rows.items in
     let i = c.in-Some.i in
-    let q = is_frame c.args.made in
-    let g = lost_frame in
-    let d = c.index-frame.result.now in
-    let here = subst (λ xs. IsRising 0 xs → IsOnlyAt q (Some i) xs) is c.in-Some.ensures.only h.in_order.rising in
-    let within : i < length l = subst (λ xs. i < length xs) is c.in-Some.ensures.within in
-    let at : d ≡ get_or l i d = c.index-frame.ensures ∙ ap (λ xs. get_or xs i d) h.items_are in
-    let left = c.forget_unread.ensures in
-    record {
-      items_are = ap (λ xs. set xs i c.frame_lost.result) h.items_are ∙ ap (set l i) (c.frame_lost.ensures ∙ ap g at) ∙ only_changed q l i within here g d;
-      in_order = record { rising = rising_changed q g (λ x. refl) 0 l h.in_order.rising; older = older_changed q g (λ x. (refl, refl)) l h.in_order.older };
-      children_are = children_changed c.args.self.now.children l h.children_are q g (λ x. refl);
-      stacks_are = loses c.args.self.now.stacks _ l q h.stacks_are left.floor (ap (λ v. v.items) left.below) (λ s. ap (λ m. kept_at m s) left.tops);
-    }
+    let d = c.index-row.result.now in
+    let r : Row = record d { frame = c.frame_lost.result } in
+    let at = c.index-row.ensures in
+    one_changes t _ l (is_frame c.args.made) lost_frame i d r h (λ x. (refl, refl)) (somewhere t l h c.args.made _ c.deref.ensures.value i c.in-Some.ensures.within)
+    (sought t l h c.args.made _ c.deref.ensures.value (Some i) c.in-Some.ensures.only) refl (c.frame_lost.ensures ∙ ap (λ (x : Row). lost_frame x.frame) at) (ap (λ (x : Row). x.children) at)
+    (fewer t.stacks rs (set rs i r)
+    (each_set IsFewer same_fewer rs i d r (subst (λ x. IsFewer x r) at (subst (λ (f : Frame). IsFewer d (record d { frame = f })) (sym c.frame_lost.ensures) (lost_fewer d)))) h.stacks_are)
 
 pub returns-in_default-clause-stands : goal.returns-in_default-clause-stands
 returns-in_default-clause-stands c = λ l h.
-    let is = c.deref.ensures.value ∙ h.items_are in
-    let q = is_frame c.args.made in
-    subst (FramesAre c.args.self.now) (sym (changed_none q (lost_frame) l (subst (λ xs. IsRising 0 xs → IsOnlyAt q None xs) is c.in_default.ensures.only h.in_order.rising))) h
+    let t = c.args.self.now in
+    subst (FramesAre t) (sym (changed_none (is_frame c.args.made) lost_frame l (nowhere t l h c.args.made _ c.deref.ensures.value c.in_default.ensures.only))) h

@@ -1,35 +1,44 @@
-use Rattle.std.proofs.Common.{◌≡◌, ◌<◌, Some, None, length, get_or, set, refl, subst, ap, sym, ◌∙◌, eqb-true}
-use Rattle.bd_space.specs.Words.{changed}
-use Rattle.bd_space.specs.Frames.{is_frame}
+use Rattle.std.proofs.Common.{rules, ◌≡◌, true, Some, set, refl, subst, ap, sym}
+use Rattle.bd_space.specs.Frames.{is_frame, calls}
 use Rattle.bd_space.specs.ReadItems.{serve}
-use Rattle.bd_frames.specs.Linked.{AreStacks}
 use Rattle.bd_ways.proofs.Ranges.{changed_none}
+use Rattle.bd_frames.specs.declared.frame.Row.{Row}
 use Rattle.bd_frames.specs.Stands.{FramesAre}
-use Rattle.bd_frames.specs.Places.{IsRising, IsOnlyAt}
-use Rattle.bd_frames.proofs.Places.{only_changed, rising_changed}
-use Rattle.bd_frames.proofs.InOrder.{older_changed}
-use Rattle.bd_frames.proofs.Counting.{children_changed}
+use Rattle.bd_frames.specs.Linked.{AreStacks}
+use Rattle.bd_frames.proofs.Counting.{each_set}
+use Rattle.bd_frames.proofs.Alike.{IsFewer, same_fewer, own_fewer}
+use Rattle.bd_frames.proofs.Linking.{served_row}
+use Rattle.bd_frames.proofs.Stacking.{fewer, serves_other}
+use Rattle.bd_frames.proofs.Standing.{own_rising, sought, nowhere, somewhere, one_changes}
 use Rattle.bd_frames.proofs.table.FrameTable.serve.Goals as goal
 
-pub returns-in-Some-clause-stands : goal.returns-in-Some-clause-stands
-returns-in-Some-clause-stands c = λ l h.
-    let is = c.deref.ensures.value ∙ h.items_are in
+pub returns-then-eq-clause-stands : goal.returns-then-eq-clause-stands
+returns-then-eq-clause-stands c = λ l h.
+    let t = c.args.self.now in
+    let rs = t.rows.items in
     let i = c.in-Some.i in
-    let q = is_frame c.args.made in
-    let g = serve c.args.seat in
-    let d = c.index-frame.result.now in
-    let here = subst (λ xs. IsRising 0 xs → IsOnlyAt q (Some i) xs) is c.in-Some.ensures.only h.in_order.rising in
-    let within : i < length l = subst (λ xs. i < length xs) is c.in-Some.ensures.within in
-    let at : d ≡ get_or l i d = c.index-frame.ensures ∙ ap (λ xs. get_or xs i d) h.items_are in
-    record {
-      items_are = ap (λ xs. set xs i c.frame_served.result) h.items_are ∙ ap (set l i) (c.frame_served.ensures ∙ ap g at) ∙ only_changed q l i within here g d;
-      in_order = record { rising = rising_changed q g (λ x. refl) 0 l h.in_order.rising; older = older_changed q g (λ x. (refl, refl)) l h.in_order.older };
-      children_are = children_changed c.args.self.now.children l h.children_are q g (λ x. refl);
-      stacks_are = subst (λ n. AreStacks c.hand_out.new.self (changed (is_frame n) g l)) (ap (λ x. x.made) at ∙ eqb-true _ c.args.made (here.0 d)) (c.hand_out.ensures.stands l h.stacks_are h.in_order.rising within (sym at));
-    }
+    let d = c.index.result.now in
+    let r : Row = record d { frame = serve c.args.seat d.frame } in
+    let at = c.index.ensures in
+    let own : calls c.args.seat d.frame ≡ true = search rules in
+    one_changes t _ l (is_frame c.args.made) (serve c.args.seat) i d r h (λ x. (refl, refl)) (somewhere t l h c.args.made _ c.deref.ensures.value i c.in-Some.ensures.within)
+    (sought t l h c.args.made _ c.deref.ensures.value (Some i) c.in-Some.ensures.only) refl (ap (λ (x : Row). serve c.args.seat x.frame) at) (ap (λ (x : Row). x.children) at)
+    (fewer t.stacks rs (set rs i r) (each_set IsFewer same_fewer rs i d r (subst (λ x. IsFewer x r) at (own_fewer c.args.seat d own))) h.stacks_are)
+
+pub returns-else-eq-clause-stands : goal.returns-else-eq-clause-stands
+returns-else-eq-clause-stands c = λ l h.
+    let t = c.args.self.now in
+    let rs = t.rows.items in
+    let i = c.in-Some.i in
+    let d = c.index.result.now in
+    let at = c.index.ensures in
+    let lt = somewhere t l h c.args.made _ c.deref.ensures.value i c.in-Some.ensures.within in
+    one_changes t _ l (is_frame c.args.made) (serve c.args.seat) i d (served_row c.args.seat c.put-server.result d) h (λ x. (refl, refl)) lt
+    (sought t l h c.args.made _ c.deref.ensures.value (Some i) c.in-Some.ensures.only) refl (ap (λ (x : Row). serve c.args.seat x.frame) at) (ap (λ (x : Row). x.children) at)
+    (subst (λ x. AreStacks c.put-server.new.self (set rs i (served_row c.args.seat c.put-server.result x))) (sym at)
+    (serves_other t.stacks c.put-server.new.self c.put-server.result rs i d c.args.seat d.frame.made c.put-server.ensures.put h.stacks_are (own_rising t l h) lt (ap (λ (x : Row). x.frame.made) (sym at))))
 
 pub returns-in_default-clause-stands : goal.returns-in_default-clause-stands
 returns-in_default-clause-stands c = λ l h.
-    let is = c.deref.ensures.value ∙ h.items_are in
-    let q = is_frame c.args.made in
-    subst (FramesAre c.args.self.now) (sym (changed_none q (serve c.args.seat) l (subst (λ xs. IsRising 0 xs → IsOnlyAt q None xs) is c.in_default.ensures.only h.in_order.rising))) h
+    let t = c.args.self.now in
+    subst (FramesAre t) (sym (changed_none (is_frame c.args.made) (serve c.args.seat) l (nowhere t l h c.args.made _ c.deref.ensures.value c.in_default.ensures.only))) h
