@@ -9,7 +9,7 @@ use Rattle.bd_chains.specs.declared.chains.Chains.{Chains}
 use Rattle.bd_chains.specs.Chain.{next_from, prev_from, Apart}
 use Rattle.bd_chains.specs.Rows.{Row, keys, ring, row_at, counted_on, is_end}
 use Rattle.bd_chains.specs.Setting.{set_held, set_row, with_value}
-use Rattle.bd_chains.specs.Columns.{next_at, prev_at, shown, count_of, is_open, Holds}
+use Rattle.bd_chains.specs.Columns.{next_at, prev_at, shown, ends_of, is_open, Holds}
 
 module _ {T : Type 0} (x : ℕ) (v : T) where
   -- a row keeps its slot and its list
@@ -65,7 +65,7 @@ module _ {T : Type 0} (x : ℕ) (v : T) where
       shown = λ k. shows k ∙ ap (λ s. cond (x == k) (option_map (set_held v) s) s) (h.stands.shown k) ∙ sym (at_set k rs);
       nexts = λ l o on. nexts l o ∙ h.stands.nexts l o (subst (λ ks. is_end o ks ≡ true) (ring_set l rs) on) ∙ sym (ap (λ ks. next_from None ks o) (ring_set l rs));
       prevs = λ l o on. prevs l o ∙ h.stands.prevs l o (subst (λ ks. is_end o ks ≡ true) (ring_set l rs) on) ∙ sym (ap (λ ks. prev_from None ks o) (ring_set l rs));
-      counts = λ l. ap (λ (s : Slab Ends). count_of (get s l)) ends ∙ h.stands.counts l ∙ sym (counted_set l rs);
+      counts = λ l. ap (λ (s : Slab Ends). (ends_of (get s l)).counted) ends ∙ h.stands.counts l ∙ sym (counted_set l rs);
     };
     within = λ k l w is. ap (λ (s : Slab Ends). is_some (get s l)) ends ∙ listed k l w (x == k) (shown t k) refl (sym (shows k) ∙ is);
     len = len ∙ h.len ∙ sym (length_set rs);

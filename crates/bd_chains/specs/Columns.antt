@@ -7,17 +7,10 @@ use Rattle.bd_chains.specs.declared.links.Ends.{Ends}
 use Rattle.bd_chains.specs.declared.chains.Chains.{Chains}
 use Rattle.bd_chains.specs.Rows.{Row, Stands}
 
-abbrev pub first_of : Option Ends → Option ℕ
-first_of None = None
-first_of (Some e) = e.first
-
-abbrev pub end_of : Option Ends → Option ℕ
-end_of None = None
-end_of (Some e) = e.last
-
-abbrev pub count_of : Option Ends → ℕ
-count_of None = 0
-count_of (Some e) = e.counted
+-- a list's record: of a list that isn't there it is that of one on which nothing is
+abbrev pub ends_of : Option Ends → Ends
+ends_of None = record { first = None; last = None; counted = 0 }
+ends_of (Some e) = e
 
 module _ {T : Type 0} where
   abbrev pub next_of : Option (Item T) → Option ℕ
@@ -28,14 +21,17 @@ module _ {T : Type 0} where
   prev_of None = None
   prev_of (Some i) = i.prev
 
+  abbrev pub ends_at : Chains T → ℕ → Ends
+  ends_at t l = ends_of (get t.ends l)
+
   -- what comes after a key on a list, or first on it
   abbrev pub next_at : Chains T → ℕ → Option ℕ → Option ℕ
-  next_at t l None = first_of (get t.ends l)
+  next_at t l None = (ends_at t l).first
   next_at t l (Some y) = next_of (get t.items y)
 
   -- what comes before a key on a list, or last on it
   abbrev pub prev_at : Chains T → ℕ → Option ℕ → Option ℕ
-  prev_at t l None = end_of (get t.ends l)
+  prev_at t l None = (ends_at t l).last
   prev_at t l (Some y) = prev_of (get t.items y)
 
   abbrev pub shown : Chains T → ℕ → Option (ℕ × Held T)
@@ -45,7 +41,7 @@ module _ {T : Type 0} where
   value_at t k = option_map (λ (p : ℕ × Held T). p.1.value) (shown t k)
 
   abbrev pub count_at : Chains T → ℕ → ℕ
-  count_at t l = count_of (get t.ends l)
+  count_at t l = (ends_at t l).counted
 
   abbrev pub is_open : Chains T → ℕ → Bool
   is_open t l = is_some (get t.ends l)

@@ -31,6 +31,10 @@ module _ {T : Type 0} where
   ring l [] = []
   ring l (r ∷ rs) = if r.list == l then r.key ∷ ring l rs else ring l rs
 
+  abbrev pub values : List (Row T) → List T
+  values [] = []
+  values (r ∷ rs) = r.held.value ∷ values rs
+
   -- the values of one list
   abbrev pub values_on : ℕ → List (Row T) → List T
   values_on l [] = []

@@ -1,9 +1,10 @@
 //! The table: its lists, what comes and what goes.
 
+ghost use Rattle.bd_chains.specs.Chain.{end_or};
 ghost use Rattle.std.specs.Prelude.{ℕ, ◌≡◌, ◌<◌, ◌≤◌, ◌==◌, ◌+◌, ◌-◌, ◌++◌, ◌∷◌, [], true, false, List, length, Option, Some, None, OnSome, IfNone, OnOk, OnErr, if◌then◌else◌, nat_lt};
 
 use crate::items::Items;
-use crate::links::{Ends, Held, Item};
+use crate::links::{Ends, Gap, Held, Item};
 use slab::Slab;
 use std::alloc::{AllocError, Global};
 
@@ -14,6 +15,13 @@ pub struct Chains<T> {
     // By the numbers of the lists.
     pub(crate) ends: Slab<Ends>,
 }
+
+// Of a list on which nothing is.
+const EMPTY: Ends = Ends {
+    first: None,
+    last: None,
+    counted: 0,
+};
 
 // Counts one more, if it counts.
 fn raised(count: u64, is_so: bool) -> u64
@@ -37,11 +45,22 @@ fn lowered(count: u64, is_so: bool) -> u64
     }
 }
 
+// The same end of a list, where a key stands there, else another.
+fn end_or(at: Option<usize>, to: Option<usize>, was: Option<usize>) -> Option<usize>
+    ensures { result ≡ end_or at to was }
+{
+    match at {
+        Some(_) => was,
+        None => to,
+    }
+}
+
 impl<T: Copy> Chains<T> {
     ghost use Rattle.slab.specs.Slab.{get, slab_len};
-    ghost use Rattle.bd_chains.specs.Chain.{is_at, next_from};
+    ghost use Rattle.bd_keys.specs.Tables.{Makes, Tells};
+    ghost use Rattle.bd_chains.specs.Chain.{is_at, are_at, next_from};
     ghost use Rattle.bd_chains.specs.Rows.{Row, ring, values_on, counted_on, hits, drop_key};
-    ghost use Rattle.bd_chains.specs.Columns.{next_at, prev_at, shown, value_at, count_at, is_open, is_there, Holds, item_room, list_room, room_of};
+    ghost use Rattle.bd_chains.specs.Columns.{next_at, prev_at, shown, value_at, ends_at, count_at, is_open, is_there, Holds, item_room, list_room, room_of};
 
     /// No lists. Takes no memory.
     pub fn new(alloc: Global) -> Chains<T>
@@ -65,7 +84,7 @@ impl<T: Copy> Chains<T> {
 
     /// Makes room for so many values more, and for as many lists. What stands on them is the same after it, also on an `Err`.
     pub fn reserve(&mut self, more: usize) -> Result<(), AllocError>
-        ensures stands { (rs : List (Row T)) → Holds self.old rs → Holds self.new rs }
+        ensures stands { Makes (Holds self.old) (Holds self.new) (λ rs. rs) }
         ensures open { (l : ℕ) → is_open self.new l ≡ is_open self.old l }
         ensures room { OnOk result (more ≤ room_of self.new) }
         ensures uses { room_of self.old ≤ room_of self.new }
@@ -78,70 +97,81 @@ impl<T: Copy> Chains<T> {
         self.ends.reserve(more)
     }
 
-    // Writes what comes after `at` on a list.
-    fn set_next(&mut self, list: usize, at: Option<usize>, to: Option<usize>)
-        ensures nexts { is_open self.old list ≡ true → is_there self.old at ≡ true → (m : ℕ) (o : Option ℕ) → next_at self.new m o
-            ≡ (if hits list at m o then to else next_at self.old m o) }
+    // Writes what comes after a key, if there is one.
+    fn set_next(&mut self, at: Option<usize>, to: Option<usize>)
+        ensures nexts { is_there self.old at ≡ true → (m : ℕ) (o : Option ℕ) → next_at self.new m o
+            ≡ (if are_at at o then to else next_at self.old m o) }
         ensures prevs { (m : ℕ) (o : Option ℕ) → prev_at self.new m o ≡ prev_at self.old m o }
         ensures shown { (k : ℕ) → shown self.new k ≡ shown self.old k }
-        ensures counts { (m : ℕ) → count_at self.new m ≡ count_at self.old m }
-        ensures open { (m : ℕ) → is_open self.new m ≡ is_open self.old m }
+        ensures ends { self.new.ends ≡ self.old.ends }
         ensures len { slab_len self.new.items ≡ slab_len self.old.items }
         ensures items { item_room self.new ≡ item_room self.old }
-        ensures lists { list_room self.new ≡ list_room self.old }
     {
-        match at {
-            None => {
-                if let Some(ends) = self.ends.get_mut(list) {
-                    ends.first = to;
-                }
-            }
-            Some(x) => {
-                if let Some(item) = self.items.get_mut(x) {
-                    item.next = to;
-                }
+        if let Some(x) = at {
+            if let Some(item) = self.items.get_mut(x) {
+                item.next = to;
             }
         }
     }
 
-    // Writes what comes before `at` on a list.
-    fn set_prev(&mut self, list: usize, at: Option<usize>, to: Option<usize>)
-        ensures prevs { is_open self.old list ≡ true → is_there self.old at ≡ true → (m : ℕ) (o : Option ℕ) → prev_at self.new m o
-            ≡ (if hits list at m o then to else prev_at self.old m o) }
+    // Writes what comes before a key, if there is one.
+    fn set_prev(&mut self, at: Option<usize>, to: Option<usize>)
+        ensures prevs { is_there self.old at ≡ true → (m : ℕ) (o : Option ℕ) → prev_at self.new m o
+            ≡ (if are_at at o then to else prev_at self.old m o) }
         ensures nexts { (m : ℕ) (o : Option ℕ) → next_at self.new m o ≡ next_at self.old m o }
         ensures shown { (k : ℕ) → shown self.new k ≡ shown self.old k }
-        ensures counts { (m : ℕ) → count_at self.new m ≡ count_at self.old m }
-        ensures open { (m : ℕ) → is_open self.new m ≡ is_open self.old m }
+        ensures ends { self.new.ends ≡ self.old.ends }
         ensures len { slab_len self.new.items ≡ slab_len self.old.items }
         ensures items { item_room self.new ≡ item_room self.old }
-        ensures lists { list_room self.new ≡ list_room self.old }
     {
-        match at {
-            None => {
-                if let Some(ends) = self.ends.get_mut(list) {
-                    ends.last = to;
-                }
-            }
-            Some(x) => {
-                if let Some(item) = self.items.get_mut(x) {
-                    item.prev = to;
-                }
+        if let Some(x) = at {
+            if let Some(item) = self.items.get_mut(x) {
+                item.prev = to;
             }
         }
     }
 
-    // Writes how many on a list are counted.
-    fn set_count(&mut self, list: usize, count: u64)
-        ensures nexts { (m : ℕ) (o : Option ℕ) → next_at self.new m o ≡ next_at self.old m o }
-        ensures prevs { (m : ℕ) (o : Option ℕ) → prev_at self.new m o ≡ prev_at self.old m o }
-        ensures counts { is_open self.old list ≡ true → (m : ℕ) → count_at self.new m ≡ (if list == m then count else count_at self.old m) }
+    // Writes a list's record.
+    fn set_ends(&mut self, list: usize, to: Ends)
+        ensures ends { is_open self.old list ≡ true → (m : ℕ) → ends_at self.new m ≡ (if list == m then to else ends_at self.old m) }
+        ensures open { (m : ℕ) → is_open self.new m ≡ is_open self.old m }
         ensures items { self.new.items ≡ self.old.items }
-        ensures open { (m : ℕ) → is_open self.new m ≡ is_open self.old m }
         ensures lists { list_room self.new ≡ list_room self.old }
     {
         if let Some(ends) = self.ends.get_mut(list) {
-            ends.counted = count;
+            *ends = to;
         }
+    }
+
+    // What stands before a place on a list and what stands after it are told who comes next there, and who before. Where
+    // nothing stands, the list's record is told, of which nothing but the count has changed so far.
+    fn join(&mut self, list: usize, at: Gap, to: Gap, ends: Ends)
+        requires first { ends.first ≡ next_at self.old list None }
+        requires last { ends.last ≡ prev_at self.old list None }
+        ensures nexts { is_open self.old list ≡ true → is_there self.old at.prev ≡ true
+            → (m : ℕ) (o : Option ℕ) → next_at self.new m o ≡ (if hits list at.prev m o then to.next else next_at self.old m o) }
+        ensures prevs { is_open self.old list ≡ true → is_there self.old at.next ≡ true
+            → (m : ℕ) (o : Option ℕ) → prev_at self.new m o ≡ (if hits list at.next m o then to.prev else prev_at self.old m o) }
+        ensures counts { is_open self.old list ≡ true → (m : ℕ) → count_at self.new m
+            ≡ (if list == m then ends.counted else count_at self.old m) }
+        ensures shown { (k : ℕ) → shown self.new k ≡ shown self.old k }
+        ensures open { (m : ℕ) → is_open self.new m ≡ is_open self.old m }
+        ensures len { slab_len self.new.items ≡ slab_len self.old.items }
+        ensures items { item_room self.new ≡ item_room self.old }
+        ensures lists { list_room self.new ≡ list_room self.old }
+    {
+        self.set_next(at.prev, to.next);
+        self.set_prev(at.next, to.prev);
+        let first = end_or(at.prev, to.next, ends.first);
+        let last = end_or(at.next, to.prev, ends.last);
+        self.set_ends(
+            list,
+            Ends {
+                first,
+                last,
+                counted: ends.counted,
+            },
+        );
     }
 
     // A value comes into a slot, whose neighbours aren't told.
@@ -176,39 +206,27 @@ impl<T: Copy> Chains<T> {
         self.items.try_remove(x)
     }
 
-    fn count(&self, list: usize) -> u64
-        ensures { result ≡ count_at self.now list }
+    fn ends_at(&self, list: usize) -> Ends
+        ensures { result ≡ ends_at self.now list }
     {
         match self.ends.get(list) {
-            Some(ends) => ends.counted,
-            None => 0,
-        }
-    }
-
-    fn last(&self, list: usize) -> Option<usize>
-        ensures { result ≡ prev_at self.now list None }
-    {
-        match self.ends.get(list) {
-            Some(ends) => ends.last,
-            None => None,
+            Some(ends) => *ends,
+            None => EMPTY,
         }
     }
 
     /// The slot of the first value on a list.
     pub fn first(&self, list: usize) -> Option<usize>
-        ensures { (rs : List (Row T)) → Holds self.now rs → result ≡ next_from None (ring list rs) None }
+        ensures { Tells (Holds self.now) result (λ rs. next_from None (ring list rs) None) }
     {
-        match self.ends.get(list) {
-            Some(ends) => ends.first,
-            None => None,
-        }
+        self.ends_at(list).first
     }
 
     /// Whether any value on a list is counted.
     pub fn has_counted(&self, list: usize) -> bool
-        ensures { (rs : List (Row T)) → Holds self.now rs → result ≡ nat_lt 0 (counted_on list rs) }
+        ensures { Tells (Holds self.now) result (λ rs. nat_lt 0 (counted_on list rs)) }
     {
-        self.count(list) > 0
+        self.ends_at(list).counted > 0
     }
 
     /// The value in a slot.
@@ -223,7 +241,7 @@ impl<T: Copy> Chains<T> {
 
     /// The values on a list, in the order in which they came.
     pub fn items_on(&self, list: usize) -> Items<'_, T>
-        ensures { (rs : List (Row T)) → Holds self.now rs → result ≡ values_on list rs }
+        ensures { Tells (Holds self.now) result (values_on list) }
     {
         Items {
             items: &self.items,
@@ -245,7 +263,7 @@ impl<T: Copy> Chains<T> {
 
     /// How many values there are on all lists.
     pub fn len(&self) -> usize
-        ensures { (rs : List (Row T)) → Holds self.now rs → result ≡ length rs }
+        ensures { Tells (Holds self.now) result length }
     {
         self.items.len()
     }
@@ -260,17 +278,13 @@ impl<T: Copy> Chains<T> {
     /// A list more, on which nothing is. Takes no memory.
     pub fn open(&mut self) -> usize
         requires { 1 ≤ list_room self.old }
-        ensures stands { (rs : List (Row T)) → Holds self.old rs → Holds self.new rs }
+        ensures stands { Makes (Holds self.old) (Holds self.new) (λ rs. rs) }
         ensures fresh { is_open self.old result ≡ false }
         ensures open { (m : ℕ) → is_open self.new m ≡ (if result == m then true else is_open self.old m) }
         ensures items { item_room self.new ≡ item_room self.old }
         ensures lists { list_room self.new + 1 ≡ list_room self.old }
     {
-        self.ends.insert_reserved(Ends {
-            first: None,
-            last: None,
-            counted: 0,
-        })
+        self.ends.insert_reserved(EMPTY)
     }
 
     /// A list on which nothing is goes: its number may be another's from now on.
@@ -293,34 +307,42 @@ impl<T: Copy> Chains<T> {
         ensures items { item_room self.new + 1 ≡ item_room self.old }
         ensures lists { list_room self.new ≡ list_room self.old }
     {
-        let held = Held { value, counted };
-        let last = self.last(list);
-        let count = raised(self.count(list), counted);
+        let ends = self.ends_at(list);
         let x = self.insert(Item {
-            held,
+            held: Held { value, counted },
             list,
-            prev: last,
+            prev: ends.last,
             next: None,
         });
-        self.set_next(list, last, Some(x));
-        self.set_prev(list, None, Some(x));
-        self.set_count(list, count);
+        let at = Gap {
+            prev: ends.last,
+            next: None,
+        };
+        let to = Gap {
+            prev: Some(x),
+            next: Some(x),
+        };
+        let counted = raised(ends.counted, counted);
+        self.join(list, at, to, Ends { counted, ..ends });
         x
     }
 
     /// The value in a slot goes, if there is one.
     pub fn remove(&mut self, x: usize) -> Option<T>
         ensures gone { result ≡ value_at self.old x }
-        ensures stands { (rs : List (Row T)) → Holds self.old rs → Holds self.new (drop_key x rs) }
+        ensures stands { Makes (Holds self.old) (Holds self.new) (drop_key x) }
         ensures open { (m : ℕ) → is_open self.new m ≡ is_open self.old m }
         ensures items { item_room self.old ≤ item_room self.new }
         ensures lists { list_room self.new ≡ list_room self.old }
     {
         let item = self.vacate(x)?;
-        let count = lowered(self.count(item.list), item.held.counted);
-        self.set_next(item.list, item.prev, item.next);
-        self.set_prev(item.list, item.next, item.prev);
-        self.set_count(item.list, count);
+        let ends = self.ends_at(item.list);
+        let gap = Gap {
+            prev: item.prev,
+            next: item.next,
+        };
+        let counted = lowered(ends.counted, item.held.counted);
+        self.join(item.list, gap, gap, Ends { counted, ..ends });
         Some(item.held.value)
     }
 }

@@ -4,7 +4,11 @@
 mod chains;
 mod items;
 mod links;
+mod lists;
+mod numbers;
 mod set;
 
 pub use chains::Chains;
 pub use items::Items;
+pub use lists::Lists;
+pub use numbers::Numbers;

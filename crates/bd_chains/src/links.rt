@@ -18,6 +18,13 @@ pub struct Item<T> {
     pub next: Option<usize>,
 }
 
+/// Who stands before a place on a list and who after it, if any.
+#[derive(Clone, Copy)]
+pub struct Gap {
+    pub prev: Option<usize>,
+    pub next: Option<usize>,
+}
+
 /// A list's record: its two ends, and a count.
 #[derive(Clone, Copy)]
 pub struct Ends {

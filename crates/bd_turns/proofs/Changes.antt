@@ -12,22 +12,20 @@ use Rattle.bd_keys.proofs.Rising.{has, without, filter_none}
 use Rattle.bd_keys.proofs.Found.{none_found, apart_from, tags_more}
 use Rattle.bd_chains.specs.declared.links.Held.{Held}
 use Rattle.bd_chains.specs.declared.chains.Chains.{Chains}
-use Rattle.bd_chains.specs.Rows.{Row, drop_key}
+use Rattle.bd_chains.specs.Rows.{Row, values, drop_key}
 use Rattle.bd_chains.specs.Setting.{with_value}
 use Rattle.bd_chains.specs.Columns.{value_at, is_open, Holds}
-use Rattle.bd_turns.specs.declared.key.ListKey.TheVariants.{Window}
+use Rattle.bd_chains.specs.Lists.{AreListed}
 use Rattle.bd_turns.specs.declared.spot.Mark.{Mark}
 use Rattle.bd_turns.specs.declared.spot.Spot.{Spot}
 use Rattle.bd_turns.specs.declared.table.TurnTable.{TurnTable}
 use Rattle.bd_turns.specs.Turn.{hand_turn}
-use Rattle.bd_turns.specs.Keys.{same_key, by_object, by_window}
-use Rattle.bd_turns.specs.Lists.{number_at, AreListed, Shows}
 use Rattle.bd_turns.specs.Spots.{spot_at, mark_of}
-use Rattle.bd_turns.specs.Entries.{Entry, made_of, call_row, mark_row, hand_entry, EntriesAre}
+use Rattle.bd_turns.specs.Entries.{by_object, by_window, same_object, object_number, CallsShow, MarksShow, Entry, made_of, call_row, mark_row, hand_entry, EntriesAre}
 use Rattle.bd_turns.specs.Stands.{TurnsAre}
-use Rattle.bd_turns.proofs.Listing.{kept_shows}
+use Rattle.bd_chains.proofs.Listing.{kept_shows}
 use Rattle.bd_turns.proofs.Entries.{turn_of, row_went, row_found, row_handed, none_made, spots_went, none_in, first_went}
-use Rattle.bd_turns.proofs.Mapped.{map_map, filter_map, find_map, changed_map, kept_map}
+use Rattle.bd_turns.proofs.Mapped.{filter_map, find_map, changed_map, kept_map}
 
 -- ---- room
 
@@ -57,11 +55,25 @@ absent t es made h at = of (find (has made_of made) es) (sym (h.spots_are made) 
     of None k = refl
     of (Some x) k = absurd cc
 
+-- what stands on the lists stays, and is found where it was
+pub turns_kept : (t u : TurnTable) (l : List Turn) → ((rs : List (Row Turn)) → CallsShow t rs → CallsShow u rs) → ((rs : List (Row Mark)) → MarksShow t rs → MarksShow u rs)
+    → ((m : ℕ) → spot_at u.spots m ≡ spot_at t.spots m) → TurnsAre t l → TurnsAre u l
+turns_kept t u l calls marks spots h = record {
+  entries = h.entries;
+  are = record {
+    on_objects = calls (map call_row h.entries) h.are.on_objects;
+    in_windows = marks (map mark_row h.entries) h.are.in_windows;
+    distinct = h.are.distinct;
+    spots_are = λ m. spots m ∙ h.are.spots_are m;
+  };
+  turns_are = h.turns_are;
+}
+
 -- ---- one comes
 
 pub turns_pushed : (t u : TurnTable) (turn : Turn) (spot : Spot) (l : List Turn) → list_any (λ t. t.made == turn.made) l ≡ false → TurnsAre t l
-    → ((rs : List (Row Turn)) → Shows by_object t.objects rs → (n : ℕ) × Shows by_object u.objects (rs ++ record { key = spot.call; list = n; held = record { value = turn; counted = false } } ∷ []))
-    → ((rs : List (Row Mark)) → Shows by_window t.windows rs → (n : ℕ) × Shows by_window u.windows (rs ++ record { key = spot.mark; list = n; held = record { value = mark_of turn; counted = false } } ∷ []))
+    → ((rs : List (Row Turn)) → CallsShow t rs → (n : ℕ) × CallsShow u (rs ++ record { key = spot.call; list = n; held = record { value = turn; counted = false } } ∷ []))
+    → ((rs : List (Row Mark)) → MarksShow t rs → (n : ℕ) × MarksShow u (rs ++ record { key = spot.mark; list = n; held = record { value = mark_of turn; counted = false } } ∷ []))
     → ((m : ℕ) → spot_at u.spots m ≡ cond (turn.made == m) (Some spot) (spot_at t.spots m)) → TurnsAre u (l ++ turn ∷ [])
 turns_pushed t u turn spot l new h calls marks spots =
     let es = h.entries in
@@ -72,8 +84,8 @@ turns_pushed t u turn spot l new h calls marks spots =
     record {
       entries = es ++ e ∷ [];
       are = record {
-        on_objects = subst (Shows by_object u.objects) (sym (map-append call_row es (e ∷ []))) c.1;
-        in_windows = subst (Shows by_window u.windows) (sym (map-append mark_row es (e ∷ []))) w.1;
+        on_objects = subst (CallsShow u) (sym (map-append call_row es (e ∷ []))) c.1;
+        in_windows = subst (MarksShow u) (sym (map-append mark_row es (e ∷ []))) w.1;
         distinct = all_pairs_push (λ a b. made_of a ≡ made_of b → ⊥) es e h.are.distinct (apart_from made_of es e none);
         spots_are = λ m. spots m ∙ ap (λ o. cond (turn.made == m) (Some spot) o) (h.are.spots_are m) ∙ tags_more made_of (λ (d : Entry). d.spot) es e m none;
       };
@@ -83,8 +95,8 @@ turns_pushed t u turn spot l new h calls marks spots =
 -- ---- one goes
 
 pub turns_removed : (t u : TurnTable) (made : ℕ) (s : Spot) (l : List Turn) → TurnsAre t l → spot_at t.spots made ≡ Some s
-    → ((rs : List (Row Turn)) → Shows by_object t.objects rs → Shows by_object u.objects (drop_key s.call rs))
-    → ((rs : List (Row Mark)) → Shows by_window t.windows rs → Shows by_window u.windows (drop_key s.mark rs))
+    → ((rs : List (Row Turn)) → CallsShow t rs → CallsShow u (drop_key s.call rs))
+    → ((rs : List (Row Mark)) → MarksShow t rs → MarksShow u (drop_key s.mark rs))
     → ((m : ℕ) → spot_at u.spots m ≡ cond (made == m) None (spot_at t.spots m)) → TurnsAre u (filter (λ t. not (t.made == made)) l)
 turns_removed t u made s l h at calls marks spots =
     let es = h.entries in
@@ -92,10 +104,10 @@ turns_removed t u made s l h at calls marks spots =
     record {
       entries = without made_of made es;
       are = record {
-        on_objects = subst (Shows by_object u.objects)
+        on_objects = subst (CallsShow u)
             (ap (λ (p : Spot). drop_key p.call (map call_row es)) (sym f.spot) ∙ row_went call_row made es f.entry None h.are.distinct h.are.on_objects.holds.stands.apart f.is)
             (calls (map call_row es) h.are.on_objects);
-        in_windows = subst (Shows by_window u.windows)
+        in_windows = subst (MarksShow u)
             (ap (λ (p : Spot). drop_key p.mark (map mark_row es)) (sym f.spot) ∙ row_went mark_row made es f.entry None h.are.distinct h.are.in_windows.holds.stands.apart f.is)
             (marks (map mark_row es) h.are.in_windows);
         distinct = AllPairs-filter (λ a b. made_of a ≡ made_of b → ⊥) (λ e. not (has made_of made e)) es h.are.distinct;
@@ -105,7 +117,7 @@ turns_removed t u made s l h at calls marks spots =
     }
 
 -- there was none
-pub turns_absent : (t u : TurnTable) (made : ℕ) (l : List Turn) → TurnsAre t l → spot_at t.spots made ≡ None → u.objects ≡ t.objects → u.windows ≡ t.windows
+pub turns_absent : (t u : TurnTable) (made : ℕ) (l : List Turn) → TurnsAre t l → spot_at t.spots made ≡ None → ((rs : List (Row Turn)) → CallsShow t rs → CallsShow u rs) → ((rs : List (Row Mark)) → MarksShow t rs → MarksShow u rs)
     → ((m : ℕ) → spot_at u.spots m ≡ cond (made == m) None (spot_at t.spots m)) → TurnsAre u (filter (λ t. not (t.made == made)) l)
 turns_absent t u made l h at objects windows spots =
     let es = h.entries in
@@ -113,8 +125,8 @@ turns_absent t u made l h at objects windows spots =
     record {
       entries = es;
       are = record {
-        on_objects = subst (λ x. Shows by_object x (map call_row es)) (sym objects) h.are.on_objects;
-        in_windows = subst (λ x. Shows by_window x (map mark_row es)) (sym windows) h.are.in_windows;
+        on_objects = objects (map call_row es) h.are.on_objects;
+        in_windows = windows (map mark_row es) h.are.in_windows;
         distinct = h.are.distinct;
         spots_are = λ m. spots m ∙ ap (λ o. cond (made == m) None o) (h.are.spots_are m) ∙ spots_went made m es ∙ ap (λ ds. option_map (λ (e : Entry). e.spot) (find (has made_of m) ds)) stay;
       };
@@ -123,11 +135,11 @@ turns_absent t u made l h at objects windows spots =
 
 -- ---- one is handed out
 
-listed_handed : (N : _ → Option ℕ) (m : ℕ) (es : List Entry) → AreListed by_object N (map call_row es) → AreListed by_object N (map call_row (changed (has made_of m) hand_entry es))
+listed_handed : (N : _ → Option ℕ) (m : ℕ) (es : List Entry) → AreListed by_object (λ _. false) N (map call_row es) → AreListed by_object (λ _. false) N (map call_row (changed (has made_of m) hand_entry es))
 listed_handed N m [] h = tt
 listed_handed N m (x ∷ es) h = at (made_of x == m) (listed_handed N m es h.1)
   where
-    at : (b : Bool) → AreListed by_object N (map call_row (changed (has made_of m) hand_entry es)) → AreListed by_object N (call_row (cond b (hand_entry x) x) ∷ map call_row (changed (has made_of m) hand_entry es))
+    at : (b : Bool) → AreListed by_object (λ _. false) N (map call_row (changed (has made_of m) hand_entry es)) → AreListed by_object (λ _. false) N (call_row (cond b (hand_entry x) x) ∷ map call_row (changed (has made_of m) hand_entry es))
     at true k = (h.0, k)
     at false k = (h.0, k)
 
@@ -154,10 +166,10 @@ turns_handed_out t chains made s v l h at was holds opens =
     record {
       entries = changed (has made_of made) hand_entry es;
       are = record {
-        on_objects = kept_shows by_object t.objects _ (map call_row es) (map call_row (changed (has made_of made) hand_entry es)) h.are.on_objects
+        on_objects = kept_shows by_object (λ _. false) same_object (object_number t) (object_number t) t.objects.chains chains (map call_row es) (map call_row (changed (has made_of made) hand_entry es)) h.are.on_objects
             (subst (Holds chains) rows (holds (map call_row es) h.are.on_objects.holds))
-            (listed_handed (number_at t.objects.numbers) made es h.are.on_objects.listed) opens (λ k. refl);
-        in_windows = subst (Shows by_window t.windows) (sym (kept_map mark_row (has made_of made) hand_entry (λ e. refl) es)) h.are.in_windows;
+            (listed_handed (object_number t) made es h.are.on_objects.listed) opens (λ k. refl);
+        in_windows = subst (MarksShow t) (sym (kept_map mark_row (has made_of made) hand_entry (λ e. refl) es)) h.are.in_windows;
         distinct = pairs_changed (has made_of made) hand_entry made_of (λ e. refl) (λ a b. a ≡ b → ⊥) es h.are.distinct;
         spots_are = λ m. h.are.spots_are m ∙ sym (tags_changed (has made_of made) hand_entry made_of (λ e. refl) (λ (e : Entry). e.spot) (λ e. refl) m es);
       };
@@ -173,17 +185,29 @@ nothing_handed t made l h at =
     let stay = changed_none made_of hand_entry made es (none_found (has made_of made) es (absent t es made h.are at)) in
     record { entries = es; are = h.are; turns_are = ap (map turn_of) (sym stay) ∙ changed_map turn_of (λ t. t.made == made) hand_entry hand_turn (λ e. refl) es ∙ ap (changed (λ t. t.made == made) hand_turn) h.turns_are }
 
+-- ---- the values of the rows
+
+values_of : {A T : Type 0} (row : A → Row T) (xs : List A) → values (map row xs) ≡ map (λ x. (row x).held.value) xs
+values_of row [] = refl
+values_of row (x ∷ xs) = ap (λ vs. (row x).held.value ∷ vs) (values_of row xs)
+
+pub calls_are : (es : List Entry) → values (map call_row es) ≡ map turn_of es
+calls_are = values_of call_row
+
+pub marks_are : (es : List Entry) → values (map mark_row es) ≡ map (λ e. mark_of e.turn) es
+marks_are = values_of mark_row
+
 -- ---- those in a window go
 
 module _ (t : TurnTable) (p : ℕ) (l : List Turn) (h : TurnsAre t l) where
   -- the first mark in the window is the first call's
-  mark_found : find (λ v. same_key (by_window v) (Window p)) (map (λ r. r.held.value) (map mark_row h.entries)) ≡ option_map (λ (e : Entry). mark_of e.turn) (find (λ e. e.turn.receiver == p) h.entries)
-  mark_found = ap (find (λ v. same_key (by_window v) (Window p))) (map_map (λ (r : Row Mark). r.held.value) mark_row h.entries) ∙ find_map (λ (e : Entry). mark_of e.turn) (λ v. same_key (by_window v) (Window p)) h.entries
+  mark_found : find (λ v. by_window v == p) (values (map mark_row h.entries)) ≡ option_map (λ (e : Entry). mark_of e.turn) (find (λ e. e.turn.receiver == p) h.entries)
+  mark_found = ap (find (λ v. by_window v == p)) (marks_are h.entries) ∙ find_map (λ (e : Entry). mark_of e.turn) (λ v. by_window v == p) h.entries
 
   abbrev left : List Turn → List Turn
   left ts = filter (λ t. not (t.receiver == p)) ts
 
-  pub popped : (mark : Mark) → find (λ v. same_key (by_window v) (Window p)) (map (λ r. r.held.value) (map mark_row h.entries)) ≡ Some mark
+  pub popped : (mark : Mark) → find (λ v. by_window v == p) (values (map mark_row h.entries)) ≡ Some mark
       → (left (filter (λ t. not (t.made == mark.made)) l) ≡ left l) × (length (filter (λ t. not (t.made == mark.made)) l) + 1 ≡ length l)
   popped mark is = of (find (λ e. e.turn.receiver == p) h.entries) refl (sym (mark_found) ∙ is)
     where
@@ -205,7 +229,7 @@ module _ (t : TurnTable) (p : ℕ) (l : List Turn) (h : TurnsAre t l) where
             omega (arith, n, a, b, c, d),
           )
 
-  pub emptied : find (λ v. same_key (by_window v) (Window p)) (map (λ r. r.held.value) (map mark_row h.entries)) ≡ None → left l ≡ l
+  pub emptied : find (λ v. by_window v == p) (values (map mark_row h.entries)) ≡ None → left l ≡ l
   emptied is = ap left (sym h.turns_are) ∙ sym (filter_map turn_of (λ t. not (t.receiver == p)) h.entries) ∙ ap (map turn_of) (none_in p h.entries (of (find (λ e. e.turn.receiver == p) h.entries) (sym (mark_found) ∙ is))) ∙ h.turns_are
     where
       of : (o : Option Entry) → option_map (λ (e : Entry). mark_of e.turn) o ≡ None → o ≡ None

@@ -1,12 +1,13 @@
 -- The calls of a table with their slots and the numbers of their lists.
-use Rattle.std.specs.Prelude.{ℕ, ◌≡◌, ◌==◌, false, List, map, find, AllPairs, option_map}
-use Rattle.bd_ways.specs.Words.{Turn}
+use Rattle.std.specs.Prelude.{ℕ, ◌≡◌, ◌==◌, Bool, false, List, Option, map, find, AllPairs, option_map}
+use Rattle.std.specs.HashMap.{get}
+use Rattle.bd_ways.specs.Words.{Turn, ObjectId}
+use Rattle.bd_space.specs.contracts.step.ObjectIdPartialEq.TheImpl as objects
 use Rattle.bd_chains.specs.Rows.{Row}
+use Rattle.bd_chains.specs.Lists.{Shows}
 use Rattle.bd_turns.specs.declared.spot.Mark.{Mark}
 use Rattle.bd_turns.specs.declared.spot.Spot.{Spot}
 use Rattle.bd_turns.specs.declared.table.TurnTable.{TurnTable}
-use Rattle.bd_turns.specs.Keys.{by_object, by_window}
-use Rattle.bd_turns.specs.Lists.{Shows}
 use Rattle.bd_turns.specs.Spots.{spot_at, mark_of}
 use Rattle.bd_turns.specs.Turn.{hand_turn}
 
@@ -30,9 +31,34 @@ mark_row e = record { key = e.spot.mark; list = e.lists.mark; held = record { va
 abbrev pub hand_entry : Entry → Entry
 hand_entry e = record e { turn = hand_turn e.turn }
 
+-- the calls of an object are one list, and those in a process's window
+abbrev pub by_object : Turn → ObjectId
+by_object t = t.target
+
+abbrev pub by_window : Mark → ℕ
+by_window m = m.receiver
+
+abbrev pub same_object : ObjectId → ObjectId → Bool
+same_object = (objects.ghosts).eq
+
+abbrev pub same_window : ℕ → ℕ → Bool
+same_window p q = p == q
+
+abbrev pub object_number : TurnTable → ObjectId → Option ℕ
+object_number t = get same_object t.objects.numbers.all
+
+abbrev pub window_number : TurnTable → ℕ → Option ℕ
+window_number t = get same_window t.windows.numbers.all
+
+abbrev pub CallsShow : TurnTable → List (Row Turn) → Type 0
+CallsShow t = Shows by_object (λ _. false) same_object (object_number t) t.objects.chains
+
+abbrev pub MarksShow : TurnTable → List (Row Mark) → Type 0
+MarksShow t = Shows by_window (λ _. false) same_window (window_number t) t.windows.chains
+
 -- no two were made at one place, and by that place each is found
 pub record EntriesAre (t : TurnTable) (es : List Entry) : Type 0 where
-  pub on_objects : Shows by_object t.objects (map call_row es)
-  pub in_windows : Shows by_window t.windows (map mark_row es)
+  pub on_objects : CallsShow t (map call_row es)
+  pub in_windows : MarksShow t (map mark_row es)
   pub distinct : AllPairs (λ d e. made_of d ≡ made_of e → ⊥) es
   pub spots_are : (m : ℕ) → spot_at t.spots m ≡ option_map (λ e. e.spot) (find (λ e. made_of e == m) es)

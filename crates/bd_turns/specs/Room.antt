@@ -3,10 +3,10 @@ use Rattle.std.specs.Prelude.{ℕ, min}
 use Rattle.std.specs.HashMap.{spare, hash_map_len}
 use Rattle.bd_keys.specs.Tables as tables
 use Rattle.bd_turns.specs.declared.table.TurnTable.{TurnTable}
-use Rattle.bd_turns.specs.Lists.{lists_room}
+use Rattle.bd_chains.specs.Lists.{lists_room}
 
 unfoldable pub turn_room : TurnTable → ℕ
-turn_room t = min (min (lists_room t.objects) (lists_room t.windows)) (spare t.spots)
+turn_room t = min (min (lists_room t.objects.chains t.objects.numbers.all) (lists_room t.windows.chains t.windows.numbers.all)) (spare t.spots)
 
 -- each by its own place
 unfoldable pub turn_count : TurnTable → ℕ

@@ -1,8 +1,6 @@
 //! The table of one-way calls: of one object's, the oldest comes first.
 #![tactic(auto)]
 
-mod key;
-mod lists;
 mod spot;
 mod table;
 

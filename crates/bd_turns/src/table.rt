@@ -8,9 +8,9 @@ ghost use Rattle.bd_space.specs.declared.space.Turn as declared;
 ghost use Rattle.bd_space.specs.Words.{changed, same};
 ghost use Rattle.bd_turns.specs.{Turn.{hand_turn}, Room.{Uses, turn_room}};
 
-use crate::key::ListKey;
-use crate::lists::Lists;
-use crate::spot::{Mark, Spot, mark_of, put_spot, spot_at};
+use crate::spot::{Mark, Spot, spot_at};
+use bd_chains::Lists;
+use bd_keys::insert_reserved;
 use bd_space::{ObjectId, Turn};
 use std::alloc::{AllocError, Global};
 use std::collections::HashMap;
@@ -18,9 +18,9 @@ use std::collections::HashMap;
 /// The one-way calls of a driver whose buffers live.
 pub struct TurnTable {
     // Of each object, the oldest first.
-    pub(crate) objects: Lists<Turn>,
+    pub(crate) objects: Lists<ObjectId, Turn>,
     // In each process's window.
-    pub(crate) windows: Lists<Mark>,
+    pub(crate) windows: Lists<u32, Mark>,
     // By where they were made.
     pub(crate) spots: HashMap<u32, Spot>,
     // The object whose call went last: of all objects' lists this one alone may be open with nothing on it.
@@ -39,7 +39,8 @@ impl Drop for TurnTable {
 }
 
 impl TurnTable {
-    ghost use Rattle.bd_turns.specs.{Keys.{by_object}, Lists.{Shows, lists_room}};
+    ghost use Rattle.bd_chains.specs.Lists.{lists_room};
+    ghost use Rattle.bd_turns.specs.Entries.{CallsShow};
     ghost use Rattle.bd_turns.specs.Stands.{TurnsAre, Tells, Makes};
 
     /// An empty table. Takes no memory.
@@ -74,18 +75,20 @@ impl TurnTable {
             → TurnsAre self.old l → TurnsAre self.new (l ++ turn ∷ []) }
         ensures uses { Uses self.old self.new 1 }
     {
-        let call = self.objects.push(ListKey::Object(turn.target), turn);
-        let mark = self
-            .windows
-            .push(ListKey::Window(turn.receiver), mark_of(turn));
-        put_spot(&mut self.spots, turn.made, Spot { call, mark });
+        let call = self.objects.push(turn.target, turn, false);
+        let mark = Mark {
+            made: turn.made,
+            receiver: turn.receiver,
+        };
+        let mark = self.windows.push(turn.receiver, mark, false);
+        insert_reserved(&mut self.spots, turn.made, Spot { call, mark });
     }
 
     /// The oldest one-way call on an object.
     pub fn oldest_on(&self, object: ObjectId) -> Option<Turn>
         ensures { Tells self.now result (λ l. find (λ t. same t.target object) l) }
     {
-        self.objects.front(ListKey::Object(object))
+        self.objects.front(object)
     }
 
     /// The one-way call made at this place is handed out, if there is one.
@@ -107,13 +110,14 @@ impl TurnTable {
     // A call of this object went. If nothing is on its list now, that is closed when another object's call goes: mostly
     // the next to come is the same object's, and finds it open.
     fn leave(&mut self, object: ObjectId)
-        ensures objects { tables.Makes (Shows by_object self.old.objects) (Shows by_object self.new.objects) (λ rs. rs) }
+        ensures objects { tables.Makes (CallsShow self.old) (CallsShow self.new) (λ rs. rs) }
         ensures windows { self.new.windows ≡ self.old.windows }
         ensures spots { self.new.spots ≡ self.old.spots }
-        ensures room { lists_room self.old.objects ≤ lists_room self.new.objects }
+        ensures room { lists_room self.old.objects.chains self.old.objects.numbers.all
+            ≤ lists_room self.new.objects.chains self.new.objects.numbers.all }
     {
         if self.last != object {
-            self.objects.give_back(ListKey::Object(self.last));
+            self.objects.give_back(self.last);
             self.last = object;
         }
     }
@@ -137,7 +141,7 @@ impl TurnTable {
         ensures uses { Uses self.old self.new 0 }
     {
         for _ in 0..self.windows.chains.len() {
-            match self.windows.front(ListKey::Window(process)) {
+            match self.windows.front(process) {
                 Some(mark) => self.remove(mark.made),
                 None => return,
             }
@@ -150,6 +154,6 @@ impl TurnTable {
         ensures uses { Uses self.old self.new 0 }
     {
         self.pop_received(process);
-        self.windows.give_back(ListKey::Window(process));
+        self.windows.give_back(process);
     }
 }

@@ -1,7 +1,6 @@
-use Rattle.std.proofs.Common.{◌∙◌, sym, ap, map, length, subst, arith}
+use Rattle.std.proofs.Common.{false, ◌∙◌, sym, ap, map, length, subst, arith}
 use Rattle.std.proofs.lemmas.List.{length-map}
-use Rattle.bd_turns.specs.Keys.{by_window}
-use Rattle.bd_turns.specs.Entries.{mark_row}
+use Rattle.bd_turns.specs.Entries.{by_window, mark_row}
 use Rattle.bd_turns.specs.Stands.{TurnsAre}
 use Rattle.bd_turns.proofs.Entries.{turn_of}
 use Rattle.bd_turns.proofs.Changes.{popped, emptied, none_left}
@@ -12,7 +11,7 @@ loop-preserved c = record {
   uses = let u = c.loop.invariant.uses in let v = c.remove.ensures.uses in record { room = (let a = u.room in let b = v.room in omega (arith, a, b)); count = (let a = u.count in let b = v.count in omega (arith, a, b)) };
   left = λ l h.
       let m = c.loop.invariant.left l h in
-      let w = popped c.loop.self c.args.process m.0 m.1 c.in-Some.mark (sym (c.front.ensures by_window (map mark_row m.1.entries) m.1.are.in_windows) ∙ c.in-Some.is) in
+      let w = popped c.loop.self c.args.process m.0 m.1 c.in-Some.mark (sym (c.front.ensures by_window (λ _. false) (map mark_row m.1.entries) m.1.are.in_windows) ∙ c.in-Some.is) in
       let few = m.3 in
       let less = w.1 in
       (_, c.remove.ensures.stands m.0 m.1, w.0 ∙ m.2, omega (arith, less, few));
@@ -21,7 +20,7 @@ loop-preserved c = record {
 pub returns-in-None-clause-stands : goal.returns-in-None-clause-stands
 returns-in-None-clause-stands c = λ l h.
     let m = c.loop.invariant.left l h in
-    subst (TurnsAre c.loop.self) (sym (emptied c.loop.self c.args.process m.0 m.1 (sym (c.front.ensures by_window (map mark_row m.1.entries) m.1.are.in_windows) ∙ c.in-None.is)) ∙ m.2) m.1
+    subst (TurnsAre c.loop.self) (sym (emptied c.loop.self c.args.process m.0 m.1 (sym (c.front.ensures by_window (λ _. false) (map mark_row m.1.entries) m.1.are.in_windows) ∙ c.in-None.is)) ∙ m.2) m.1
 
 pub returns-clause-stands : goal.returns-clause-stands
 returns-clause-stands c = λ l h.
