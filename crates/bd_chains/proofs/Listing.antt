@@ -1,6 +1,5 @@
 -- Lists after a change, and what stands on one.
 use Rattle.std.proofs.Common.{◌≡◌, ℕ, ◌==◌, nat_lt, Bool, true, false, ◌&&◌, ◌||◌, cond, List, [], ◌∷◌, ◌++◌, ◌+◌, filter, find, Option, Some, None, refl, sym, ap, ◌∙◌, eqb-true, eq-eqb, arith}
-use Rattle.std.specs.Cmp.{IsEquivalence}
 use Rattle.std.specs.List.{list_any, slice_get}
 use Rattle.std.specs.Option.{is_some}
 use Rattle.std.specs.Iterator.{YieldsFirst}
@@ -73,7 +72,7 @@ module _ {K T : Type 0} (key : T → K) (counts : T → Bool) (E : K → K → B
         → (rs : List (Row T)) → Shows key counts E N t rs → Shows key counts E M u (drop_key x rs)
     dropped_shows x holds opens numbers rs h = kept_shows rs (drop_key x rs) h (holds rs h.holds) (listed_less N x rs h.listed) opens numbers
 
-    module _ (laws : IsEquivalence E) (alike : (k l : K) → E k l ≡ true → N k ≡ N l) (rs : List (Row T)) (h : Shows key counts E N t rs) (own : K) (n : ℕ) where
+    module _ (congr : (x y z : K) → E x y ≡ true → E x z ≡ E y z) (alike : (k l : K) → E k l ≡ true → N k ≡ N l) (rs : List (Row T)) (h : Shows key counts E N t rs) (own : K) (n : ℕ) where
       -- a list that wasn't open has a number from now on, which was no other's
       pub opened_shows : N own ≡ None → Holds u rs → is_open t n ≡ false
           → ((m : ℕ) → is_open u m ≡ cond (n == m) true (is_open t m)) → ((k : K) → M k ≡ cond (E own k) (Some n) (N k)) → Shows key counts E M u rs
@@ -97,7 +96,7 @@ module _ {K T : Type 0} (key : T → K) (counts : T → Bool) (E : K → K → B
           is_opened g false e k = k e
 
           one : (k l : K) (g : ℕ) (b c : Bool) → E own k ≡ b → E own l ≡ c → cond b (Some n) (N k) ≡ Some g → cond c (Some n) (N l) ≡ Some g → E k l ≡ true
-          one k l g true true e f a b = sym (laws.congr own k l e) ∙ f
+          one k l g true true e f a b = sym (congr own k l e) ∙ f
           one k l g true false e f a b = absurd (clash (h.opened l n (b ∙ sym a)) fresh)
           one k l g false true e f a b = absurd (clash (h.opened k n (a ∙ sym b)) fresh)
           one k l g false false e f a b = h.one_list k l g a b
@@ -136,7 +135,7 @@ module _ {K T : Type 0} (key : T → K) (counts : T → Bool) (E : K → K → B
 
   module _ (N : K → Option ℕ) (t : Chains T) (alike : (k l : K) → E k l ≡ true → N k ≡ N l) (rs : List (Row T)) (h : Shows key counts E N t rs) (own : K) where
     -- a value is on a list exactly where its key has that one's number
-    same_number : (n : ℕ) (v : T) (list : ℕ) → N own ≡ Some n → N (key v) ≡ Some list → E own (key v) ≡ (list == n)
+    pub same_number : (n : ℕ) (v : T) (list : ℕ) → N own ≡ Some n → N (key v) ≡ Some list → E own (key v) ≡ (list == n)
     same_number n v list is on = at (list == n) refl (E own (key v)) refl
       where
         at : (b : Bool) → (list == n) ≡ b → (c : Bool) → E own (key v) ≡ c → c ≡ b

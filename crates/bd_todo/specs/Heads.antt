@@ -17,4 +17,4 @@ head_by threads others l None = get_by (same_key (list_key l)) others
 head_by threads others l (Some i) = get_or threads i None
 
 unfoldable pub head_at : Heads → TodoList → Option ℕ
-head_at h l = head_by h.threads h.others l (row_of (length h.threads) l)
+head_at h l = head_by h.threads h.others.all l (row_of (length h.threads) l)

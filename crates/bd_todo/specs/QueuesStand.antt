@@ -1,22 +1,24 @@
 -- What the queues stand for: the work items of the space, in its order.
-use Rattle.std.specs.Prelude.{◌≡◌, ℕ, true, List, Option, Some, min}
-use Rattle.std.specs.HashMap.{spare}
+use Rattle.std.specs.Prelude.{◌≡◌, ℕ, Bool, List, Option, Some}
 use Rattle.std.specs.List.{slice_get}
 use Rattle.bd_ways.specs.Words.{Work, TodoList, without_first}
-use Rattle.bd_space.specs.Todo.{is_on, work_on}
+use Rattle.bd_space.specs.Todo.{same_list, is_on, work_on, keeps_from_calling}
 use Rattle.bd_chains.specs.Rows.{Row, drop_key}
-use Rattle.bd_chains.specs.Columns.{value_at, is_open, Holds, room_of}
-use Rattle.bd_todo.specs.Each.{Each}
+use Rattle.bd_chains.specs.Columns.{value_at}
+use Rattle.bd_chains.specs.Lists as lists
 use Rattle.bd_todo.specs.Heads.{head_at}
-use Rattle.bd_todo.specs.Rows.{works, IsListed}
+use Rattle.bd_todo.specs.Rows.{works}
 use Rattle.bd_todo.specs.declared.queues.Queues.{Queues}
 
--- the rows are those of the queues, and a number is of one list alone
-pub record Shows (t : Queues) (rs : List (Row Work)) : Type 0 where
-  pub holds : Holds t.chains rs
-  pub listed : Each (IsListed (head_at t.lists)) rs
-  pub opened : (l : TodoList) (h : ℕ) → head_at t.lists l ≡ Some h → is_open t.chains h ≡ true
-  pub one_list : (l m : TodoList) (h : ℕ) → head_at t.lists l ≡ Some h → head_at t.lists m ≡ Some h → l ≡ m
+abbrev pub list_of : Work → TodoList
+list_of w = w.list
+
+abbrev pub keeps : Work → Bool
+keeps w = keeps_from_calling w.kind
+
+-- the rows are those of the queues, each on the list that its item names, which counts it if it keeps from calling
+abbrev pub Shows : Queues → List (Row Work) → Type 0
+Shows t = lists.Shows list_of keeps same_list (head_at t.lists) t.chains
 
 pub record Stands (t : Queues) (todo : List Work) : Type 0 where
   pub rows : List (Row Work)
@@ -29,7 +31,7 @@ work_at t x = value_at t.chains x
 
 -- so many work items more take no memory, each maybe the first of its list
 abbrev pub queue_room : Queues → ℕ
-queue_room t = min (room_of t.chains) (spare t.lists.others)
+queue_room t = lists.lists_room t.chains t.lists.others.all
 
 -- in the slot is the first work item on the list
 pub record FrontIn (t : Queues) (todo : List Work) (list : TodoList) (x : ℕ) : Type 0 where

@@ -1,16 +1,10 @@
--- Rows that hold work items: their lists' numbers, and what a walk over all slots has come to.
+-- Rows that hold work items, and what a walk over all slots has come to.
 use Rattle.std.specs.Prelude.{◌≡◌, ℕ, ◌+◌, nat_lt, Bool, not, ◌||◌, ◌&&◌, List, [], ◌∷◌, Option, Some, if◌then◌else◌}
 use Rattle.bd_ways.specs.Words.{Work, TodoList}
-use Rattle.bd_space.specs.Todo.{keeps_from_calling}
-use Rattle.bd_chains.specs.Rows.{Row}
+use Rattle.bd_chains.specs.Rows.{Row, values}
 
 abbrev pub works : List (Row Work) → List Work
-works [] = []
-works (r ∷ rs) = r.held.value ∷ works rs
-
--- the number of its list is that of the list that the item names, which counts it if it keeps from calling
-abbrev pub IsListed : (TodoList → Option ℕ) → Row Work → Type 0
-IsListed H r = (H r.held.value.list ≡ Some r.list) × (r.held.counted ≡ keeps_from_calling r.held.value.kind)
+works = values
 
 -- a walk over the slots hasn't come to its slot, or the item stays
 abbrev pub stays : (Work → Bool) → ℕ → Row Work → Bool

@@ -1,25 +1,13 @@
 //! What is found among the work items on a list, one after the other.
 
-ghost use Rattle.std.specs.{Prelude.{◌≡◌, true, Some}, List.{list_any, slice_get}};
+ghost use Rattle.std.specs.{Prelude.{◌≡◌, Some}, List.{slice_get}};
 ghost use Rattle.bd_space.specs.Todo as spec;
-ghost use Rattle.bd_space.specs.ThreadExits as exits;
 ghost use Rattle.bd_todo.specs.TodoList as replies;
 
 use crate::queues::Works;
 use crate::table::WorkTable;
-use crate::work::{is_call, reply_of};
+use crate::work::reply_of;
 use bd_space::{TodoList, Work};
-
-fn any_is_call(works: Works<'_>, buffer: u32) -> bool
-    ensures { result ≡ list_any (λ w. spec.is_call buffer w.kind) works.entry }
-{
-    for work in works {
-        if is_call(buffer, work.kind) {
-            return true;
-        }
-    }
-    false
-}
 
 fn first_reply_among(works: Works<'_>) -> Option<u32>
     ensures { result ≡ replies.first_reply_in works.entry }
@@ -62,12 +50,5 @@ impl WorkTable {
         ensures { Tells self.now result (λ l. replies.first_reply_in (spec.work_on l (Some list))) }
     {
         first_reply_among(self.works_on(list))
-    }
-
-    /// Whether the call made there stands unread on a list.
-    pub fn is_unread_on(&self, list: TodoList, made: u32) -> bool
-        ensures { Tells self.now result (λ l. exits.is_unread_on l list made) }
-    {
-        any_is_call(self.works_on(list), made)
     }
 }

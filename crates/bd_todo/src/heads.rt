@@ -2,17 +2,16 @@
 
 ghost use Rattle.std.specs.{Prelude.{◌≡◌, ◌≤◌, ◌<◌, ◌+◌, length, Some, None, OnOk, OnErr, if◌then◌else◌}, Cmp.Rules.{hashing}};
 ghost use Rattle.std.specs.Hash as fed;
-ghost use Rattle.std.{specs.HashMap.{spare, get_by}, proofs.Common.{rules}};
+ghost use Rattle.std.{specs.HashMap.{spare}, proofs.Common.{rules}};
 ghost use Rattle.bd_space.specs.declared.space.TodoList as declared;
 ghost use Rattle.bd_space.specs.Todo.{same_list};
 ghost use Rattle.bd_todo.specs.Keys as keys;
-ghost use Rattle.bd_todo.specs.declared.heads.Recent as noting;
 
-use bd_keys::{insert_reserved, pair};
+use bd_chains::Numbers;
+use bd_keys::pair;
 use bd_space::TodoList;
 use bd_uapi::MOST_SEATS;
 use std::alloc::{AllocError, Global};
-use std::collections::HashMap;
 use std::hash::{Hash, Hasher};
 
 /// Whose list it is.
@@ -58,23 +57,13 @@ pub fn list_key(list: TodoList) -> ListKey
 // As many seats as a driver has.
 const SEATS: usize = MOST_SEATS as usize;
 
-/// A list that was filled, and its number.
-#[derive(Clone, Copy)]
-pub struct Recent {
-    pub key: ListKey,
-    pub number: usize,
-}
-
 /// The number of each list that has one.
 #[derive(Drop)]
 pub struct Heads {
     // Of the lists of threads, by seat: most looks are at these, and take no hash.
     pub(crate) threads: [Option<usize>; SEATS],
     // Of all other lists.
-    pub(crate) others: HashMap<ListKey, usize>,
-    // Of these the one that was filled last, if it is known: mostly it is the next that is asked for, and then takes no hash.
-    pub(crate) recent: Option<Recent>,
-    ghost noted: { (r : noting.Recent) → recent ≡ Some r → get_by (keys.same_key r.key) others ≡ Some r.number },
+    pub(crate) others: Numbers<ListKey>,
 }
 
 impl Heads {
@@ -86,8 +75,7 @@ impl Heads {
     {
         Heads {
             threads: [None; SEATS],
-            others: HashMap::new(alloc),
-            recent: None,
+            others: Numbers::new(alloc),
         }
     }
 
@@ -108,20 +96,8 @@ impl Heads {
     {
         match self.row(list) {
             Some(at) => self.threads[at],
-            None => self.number_of(list_key(list)),
+            None => self.others.of(list_key(list)),
         }
-    }
-
-    // The number of a list that has no row.
-    fn number_of(&self, key: ListKey) -> Option<usize>
-        ensures { result ≡ get_by (keys.same_key key) self.now.others }
-    {
-        if let Some(recent) = self.recent {
-            if recent.key == key {
-                return Some(recent.number);
-            }
-        }
-        self.others.get(&key).copied()
     }
 
     /// The number of a list that is about to be filled.
@@ -129,43 +105,24 @@ impl Heads {
     pub fn find(&mut self, list: TodoList) -> Option<usize>
         ensures found { result ≡ heads.head_at self.old list }
         ensures heads { (l : declared.TodoList) → heads.head_at self.new l ≡ heads.head_at self.old l }
-        ensures others { self.new.others ≡ self.old.others }
+        ensures others { self.new.others.all ≡ self.old.others.all }
     {
         match self.row(list) {
             Some(at) => self.threads[at],
-            None => {
-                let key = list_key(list);
-                let number = self.number_of(key);
-                self.note(key, number);
-                number
-            }
-        }
-    }
-
-    // The number is looked for first from now on.
-    fn note(&mut self, key: ListKey, number: Option<usize>)
-        requires { number ≡ get_by (keys.same_key key) self.old.others }
-        ensures threads { self.new.threads ≡ self.old.threads }
-        ensures others { self.new.others ≡ self.old.others }
-    {
-        if let Some(number) = number {
-            self.recent = Some(Recent { key, number });
+            None => self.others.find(list_key(list)),
         }
     }
 
     /// A list has this number from now on.
     pub fn insert(&mut self, list: TodoList, head: usize)
-        requires { 0 < spare self.old.others }
+        requires { 0 < spare self.old.others.all }
         ensures heads { (l : declared.TodoList) → heads.head_at self.new l
             ≡ (if same_list list l then Some head else heads.head_at self.old l) }
-        ensures spare { spare self.old.others ≤ spare self.new.others + 1 }
+        ensures spare { spare self.old.others.all ≤ spare self.new.others.all + 1 }
     {
         match self.row(list) {
             Some(at) => self.threads[at] = Some(head),
-            None => {
-                self.recent = None;
-                insert_reserved(&mut self.others, list_key(list), head);
-            }
+            None => self.others.insert(list_key(list), head),
         }
     }
 
@@ -173,23 +130,20 @@ impl Heads {
     pub fn remove(&mut self, list: TodoList)
         ensures heads { (l : declared.TodoList) → heads.head_at self.new l
             ≡ (if same_list list l then None else heads.head_at self.old l) }
-        ensures spare { spare self.old.others ≤ spare self.new.others }
+        ensures spare { spare self.old.others.all ≤ spare self.new.others.all }
     {
         match self.row(list) {
             Some(at) => self.threads[at] = None,
-            None => {
-                self.recent = None;
-                let _gone = self.others.remove(&list_key(list));
-            }
+            None => self.others.remove(list_key(list)),
         }
     }
 
     /// Room for so many lists more.
     pub fn reserve(&mut self, more: usize) -> Result<(), AllocError>
         ensures heads { (l : declared.TodoList) → heads.head_at self.new l ≡ heads.head_at self.old l }
-        ensures uses { spare self.old.others ≤ spare self.new.others }
-        ensures room { OnOk result (more ≤ spare self.new.others) }
-        ensures grown { OnErr result (more ≤ spare self.old.others → ⊥) }
+        ensures uses { spare self.old.others.all ≤ spare self.new.others.all }
+        ensures room { OnOk result (more ≤ spare self.new.others.all) }
+        ensures grown { OnErr result (more ≤ spare self.old.others.all → ⊥) }
     {
         self.others.reserve(more)
     }

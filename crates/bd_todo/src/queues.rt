@@ -54,12 +54,12 @@ impl Queues {
     // The number of a list, which is opened where it has none.
     fn head_for(&mut self, list: TodoList) -> usize
         requires open { 1 ≤ list_room self.old.chains }
-        requires room { 0 < spare self.old.lists.others }
+        requires room { 0 < spare self.old.lists.others.all }
         ensures stands { Makes (Stands self.old) (Stands self.new) (λ todo. todo) }
         ensures head { head_at self.new.lists list ≡ Some result }
         ensures items { item_room self.new.chains ≡ item_room self.old.chains }
         ensures open { list_room self.old.chains ≤ list_room self.new.chains + 1 }
-        ensures lists { spare self.old.lists.others ≤ spare self.new.lists.others + 1 }
+        ensures lists { spare self.old.lists.others.all ≤ spare self.new.lists.others.all + 1 }
     {
         if let Some(head) = self.lists.find(list) {
             return head;

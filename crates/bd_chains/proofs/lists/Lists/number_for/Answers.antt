@@ -12,7 +12,7 @@ returns-in-Some-clause-stands g c = λ f k rs h.
 pub returns-clause-stands : goal.returns-clause-stands
 returns-clause-stands g c = λ f k rs h.
     let E = g.K.PartialEq.eq in let m = c.args.self.now.numbers.all in
-    opened_shows f k E (get E m) (get E c.insert.new.self.all) c.args.self.now.chains c.open-number.new.self g.met.K.Eq.laws (lookup_congr E g.met.K.Eq.laws.congr m.entries) rs h c.args.key c.open-number.result
+    opened_shows f k E (get E m) (get E c.insert.new.self.all) c.args.self.now.chains c.open-number.new.self g.met.K.Eq.laws.congr (lookup_congr E g.met.K.Eq.laws.congr m.entries) rs h c.args.key c.open-number.result
     (sym c.find.ensures.found ∙ c.in_default.is) (c.open-number.ensures.stands rs h.holds) c.open-number.ensures.fresh c.open-number.ensures.open
     (λ l. c.insert.ensures.numbers l ∙ ap (λ n. cond (E c.args.key l) (Some c.open-number.result) (get E n l)) c.find.ensures.same)
 

@@ -10,12 +10,12 @@ pub returns-in-Some-clause-heads : goal.returns-in-Some-clause-heads
 unfolding head_at
 returns-in-Some-clause-heads c =
     let t = c.args.self.now in
-    row_put t.threads t.others c.args.list c.in-Some.at None (sym c.row.ensures ∙ c.in-Some.is)
+    row_put t.threads t.others.all c.args.list c.in-Some.at None (sym c.row.ensures ∙ c.in-Some.is)
 
 pub returns-in-None-clause-heads : goal.returns-in-None-clause-heads
 unfolding head_at
 returns-in-None-clause-heads c =
     let t = c.args.self.now in
-    key_put t.threads t.others c.remove-gone.new.self c.args.list None (sym c.row.ensures ∙ c.in-None.is)
-    (λ k. c.remove-gone.ensures.updates.0 k
-    ∙ ap (λ (q : ListKey). cond {A = Option ℕ} (same_key q k) None (get_by (same_key k) t.others)) c.list_key.ensures)
+    key_put t.threads t.others.all c.remove.new.self.all c.args.list None (sym c.row.ensures ∙ c.in-None.is)
+    (λ k. c.remove.ensures.numbers k
+    ∙ ap (λ (q : ListKey). cond {A = Option ℕ} (same_key q k) None (get_by (same_key k) t.others.all)) c.list_key.ensures)

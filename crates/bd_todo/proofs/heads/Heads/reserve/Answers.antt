@@ -7,4 +7,4 @@ pub returns-clause-heads : goal.returns-clause-heads
 unfolding head_at
 returns-clause-heads c =
     let t = c.args.self.now in
-    same_numbers t.threads t.others c.reserve.new.self (λ l. c.reserve.ensures.entries.2 (list_key l))
+    same_numbers t.threads t.others.all c.reserve.new.self.all (λ l. c.reserve.ensures.numbers (list_key l))

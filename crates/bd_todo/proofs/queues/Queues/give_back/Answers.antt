@@ -1,13 +1,21 @@
 use Rattle.std.proofs.Common.{sym, ap, ◌∙◌}
 use Rattle.std.specs.List.{list_any}
-use Rattle.bd_space.specs.Todo.{is_on}
-use Rattle.bd_todo.proofs.Queueing.{closed_shows}
+use Rattle.bd_space.specs.Todo.{same_list, is_on}
+use Rattle.bd_chains.proofs.Listing.{closed_shows, ring_there}
+use Rattle.bd_todo.specs.Heads.{head_at}
+use Rattle.bd_todo.specs.QueuesStand.{list_of, keeps}
+use Rattle.bd_todo.proofs.ListKeys.{same_list_eq}
+use Rattle.bd_todo.proofs.Queueing.{alike}
 use Rattle.bd_todo.proofs.queues.Queues.give_back.Goals as goal
 
 pub returns-in-Some-clause-stands : goal.returns-in-Some-clause-stands
-returns-in-Some-clause-stands c = λ todo s none. record {
-  rows = s.rows;
-  shows = closed_shows c.args.self.now _ s.rows c.args.list c.in-Some.head s.shows (sym c.of.ensures ∙ c.in-Some.is) (ap (list_any (is_on c.args.list)) s.works_are ∙ none)
-      c.close.ensures.stands c.close.ensures.open c.remove.ensures.heads;
-  works_are = s.works_are;
-}
+returns-in-Some-clause-stands c = λ todo s none.
+    let t = c.args.self.now in
+    let is = sym c.of.ensures ∙ c.in-Some.is in
+    let empty = ring_there list_of keeps same_list (head_at t.lists) t.chains (alike t) s.rows s.shows c.args.list c.in-Some.head is s.rows s.shows.listed (ap (list_any (is_on c.args.list)) s.works_are ∙ none) in
+    record {
+      rows = s.rows;
+      shows = closed_shows list_of keeps same_list (head_at t.lists) (head_at c.remove.new.self) t.chains c.close.new.self (λ x y z e. ap (λ k. same_list k z) (same_list_eq x y e)) (alike t) s.rows s.shows c.args.list c.in-Some.head
+          is empty (c.close.ensures.stands s.rows s.shows.holds empty) c.close.ensures.open c.remove.ensures.heads;
+      works_are = s.works_are;
+    }

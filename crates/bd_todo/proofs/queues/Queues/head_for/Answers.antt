@@ -1,8 +1,11 @@
 use Rattle.std.proofs.Common.{refl, sym, ap, ◌∙◌, cond, Some}
 use Rattle.bd_todo.specs.Heads.{head_at}
 use Rattle.bd_todo.specs.declared.queues.Queues.{Queues}
-use Rattle.bd_todo.proofs.ListKeys.{same_list_refl}
-use Rattle.bd_todo.proofs.Queueing.{kept_stands, opened_shows}
+use Rattle.bd_space.specs.Todo.{same_list}
+use Rattle.bd_chains.proofs.Listing.{opened_shows}
+use Rattle.bd_todo.specs.QueuesStand.{list_of, keeps}
+use Rattle.bd_todo.proofs.ListKeys.{same_list_eq, same_list_refl}
+use Rattle.bd_todo.proofs.Queueing.{alike, kept_stands}
 use Rattle.bd_todo.proofs.queues.Queues.head_for.Goals as goal
 
 pub returns-in-Some-clause-stands : goal.returns-in-Some-clause-stands
@@ -17,7 +20,8 @@ returns-clause-stands c = λ todo stands.
     let s = kept_stands c.args.self.now t todo stands (λ rs k. k) (λ m. refl) c.find.ensures.heads in
     record {
       rows = s.rows;
-      shows = opened_shows t _ s.rows c.args.list c.open-head.result s.shows (c.find.ensures.heads c.args.list ∙ sym c.find.ensures.found ∙ c.in_default.is)
+      shows = opened_shows list_of keeps same_list (head_at t.lists) (head_at c.insert.new.self) t.chains c.open-head.new.self (λ x y z e. ap (λ k. same_list k z) (same_list_eq x y e)) (alike t) s.rows s.shows
+          c.args.list c.open-head.result (c.find.ensures.heads c.args.list ∙ sym c.find.ensures.found ∙ c.in_default.is)
           (c.open-head.ensures.stands s.rows s.shows.holds) c.open-head.ensures.fresh c.open-head.ensures.open c.insert.ensures.heads;
       works_are = s.works_are;
     }
