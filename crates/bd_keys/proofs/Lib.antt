@@ -3,6 +3,7 @@ pub mod Places
 pub mod Walks
 pub mod Hanging
 pub mod Looks
+pub mod Latest
 pub mod Tables
 pub mod Rising
 pub mod Found

@@ -1,5 +1,5 @@
 -- Lists without one of their elements, and tests that agree.
-use Rattle.std.proofs.Common.{◌≡◌, ℕ, zero, suc, ◌<◌, ◌==◌, Bool, true, false, cond, List, [], ◌∷◌, filter, length, get_or, refl, ap, sym, arith, All}
+use Rattle.std.proofs.Common.{◌≡◌, ℕ, zero, suc, ◌<◌, ◌==◌, Bool, false, cond, List, [], ◌∷◌, filter, length, get_or, refl, ap, sym, arith, All}
 use Rattle.std.specs.Prelude.{remove}
 use Rattle.std.specs.List.{list_any}
 use Rattle.std.specs.Cmp.{both_ways}

@@ -1,14 +1,15 @@
 -- What is at a key, when the values change.
-use Rattle.std.proofs.Common.{◌≡◌, ℕ, ◌<◌, ◌≤◌, ◌+◌, ◌⊎◌, Bool, true, false, cond, ltb, List, [], ◌∷◌, ◌++◌, length, get_or, set, Option, Some, None, IfSome, is_some, option_map, refl, ap, sym, subst, ◌∙◌, arith, inl, inr, zero-le}
+use Rattle.std.proofs.Common.{◌≡◌, ℕ, zero, suc, filter, ◌<◌, ◌≤◌, ◌+◌, ◌⊎◌, Bool, true, false, cond, ltb, List, [], ◌∷◌, ◌++◌, length, get_or, set, Option, Some, None, IfSome, is_some, option_map, refl, ap, sym, subst, ◌∙◌, arith, inl, inr, zero-le}
 use Rattle.std.proofs.lemmas.Bool.{cases_order, lt-ltb, le-ltb}
 use Rattle.std.proofs.lemmas.List.{get_or_push, get_or_append_left, get_or-set_same, get_or-set_other}
+use Rattle.std.proofs.lemmas.List.Sums.{length-filter}
 use Rattle.bd_keys.specs.declared.key.WordKey.{WordKey}
 use Rattle.bd_keys.specs.declared.node.Node.{Node}
-use Rattle.bd_keys.specs.declared.map.WordMap.{WordMap}
+use Rattle.bd_keys.specs.declared.treed.TreeMap.{TreeMap}
 use Rattle.bd_keys.specs.Keys.{same_word, place_in}
 use Rattle.bd_keys.specs.Walk.{blank, keys}
 use Rattle.bd_keys.specs.Tree.{IsTree}
-use Rattle.bd_keys.specs.Look.{value_at, place_of, look}
+use Rattle.bd_keys.specs.Treed.{value_at, place_of, tree_look}
 use Rattle.bd_keys.proofs.Keys.{word_eq, word_self}
 use Rattle.bd_keys.proofs.Places.{place_some, place_push}
 use Rattle.bd_keys.proofs.Walks.{keys_length, find_own}
@@ -18,14 +19,29 @@ pub inside : {V : Type 0} (ns : List Node) (vs : List (Option V)) (k : WordKey) 
     → place_in (keys ns) k ≡ Some i → i < length vs
 inside ns vs k i alike here = omega (arith, alike, (place_some (keys ns) k i here).0, keys_length ns)
 
-pub within : {V : Type 0} (m : WordMap V) (k : WordKey) (o : Option ℕ) → o ≡ place_of m k
+pub within : {V : Type 0} (m : TreeMap V) (k : WordKey) (o : Option ℕ) → o ≡ place_of m k
     → IfSome o (λ i. i < length m.values.items)
 within m k None e = tt
 within m k (Some i) e = inside m.tree.nodes.items m.values.items k i m.alike (sym e)
 
-pub look_none : {V : Type 0} (m : WordMap V) (k : WordKey) → place_of m k ≡ None → look m k ≡ None
-unfolding look
+pub look_none : {V : Type 0} (m : TreeMap V) (k : WordKey) → place_of m k ≡ None → tree_look m k ≡ None
+unfolding tree_look
 look_none m k e = ap (value_at m.values.items) e
+
+none_live : {V : Type 0} (vs : List (Option V)) (i : ℕ) → length (filter is_some vs) ≡ 0 → get_or vs i None ≡ None
+none_live [] i e = refl
+none_live (None ∷ vs) zero e = refl
+none_live (None ∷ vs) (suc i) e = none_live vs i e
+none_live (Some x ∷ vs) i e = absurd (omega (arith, e))
+
+-- where no key has a value, none is found
+pub nothing_there : {V : Type 0} (m : TreeMap V) (k : WordKey) → m.live ≡ 0 → tree_look m k ≡ None
+unfolding tree_look
+nothing_there m k e = at (place_of m k)
+  where
+    at : (o : Option ℕ) → value_at m.values.items o ≡ None
+    at None = refl
+    at (Some i) = none_live m.values.items i (length-filter is_some m.values.items ∙ sym m.counted ∙ e)
 
 -- Equal values at equal keys give equal looks.
 pub alike_values : {V : Type 0} (vs ws : List (Option V)) (ks js : List WordKey) (l : WordKey) → vs ≡ ws → ks ≡ js

@@ -1,29 +1,31 @@
 -- What is at a key, and how many new keys may still come without memory.
-use Rattle.std.specs.Prelude.{ℕ, ◌-◌, min, List, get_or, Option, Some, None, is_some, count_by, vec_len, vec_capacity}
+use Rattle.std.specs.Prelude.{ℕ, ◌+◌, ◌-◌, cond, Option, Some, None}
+use Rattle.std.specs.Option.{option_or}
 use Rattle.bd_keys.specs.declared.key.WordKey.{WordKey}
+use Rattle.bd_keys.specs.declared.map.Latest.{Latest}
 use Rattle.bd_keys.specs.declared.map.WordMap.{WordMap}
-use Rattle.bd_keys.specs.Keys.{place_in}
-use Rattle.bd_keys.specs.Walk.{keys}
-use Rattle.bd_keys.specs.Room.{tree_room}
+use Rattle.bd_keys.specs.Keys.{same_word}
+use Rattle.bd_keys.specs.Treed.{tree_look, map_room, tree_count, live_count}
 
--- what is at a place, if there is one
-abbrev pub value_at : {V : Type 0} → List (Option V) → Option ℕ → Option V
-value_at vs None = None
-value_at vs (Some i) = get_or vs i None
-
--- the place of a key
-abbrev pub place_of : {V : Type 0} → WordMap V → WordKey → Option ℕ
-place_of m k = place_in (keys m.tree.nodes.items) k
+-- the value that came last, if this is its key
+abbrev pub latest_at : {V : Type 0} → Option (Latest V) → WordKey → Option V
+latest_at None k = None
+latest_at (Some x) k = cond (same_word x.key k) (Some x.value) None
 
 unfoldable pub look : {V : Type 0} → WordMap V → WordKey → Option V
-look m k = value_at m.values.items (place_of m k)
+look m k = option_or (latest_at m.latest k) (tree_look m.others k)
 
+-- one place in the tree is kept for the value that came last
 unfoldable pub word_room : {V : Type 0} → WordMap V → ℕ
-word_room m = min (tree_room m.tree) (vec_capacity m.values - vec_len m.values)
+word_room m = map_room m.others - 1
+
+abbrev latest_count : {V : Type 0} → Option (Latest V) → ℕ
+latest_count None = 0
+latest_count (Some x) = 1
 
 -- how many keys there are, and how many of them have a value
 abbrev pub key_count : {V : Type 0} → WordMap V → ℕ
-key_count m = vec_len m.values
+key_count m = tree_count m.others + latest_count m.latest
 
 abbrev pub value_count : {V : Type 0} → WordMap V → ℕ
-value_count m = count_by is_some m.values.items
+value_count m = live_count m.others + latest_count m.latest

@@ -9,6 +9,7 @@ mod numbers;
 mod reserved;
 mod room;
 mod tree;
+mod treed;
 
 pub use key::WordKey;
 pub use map::WordMap;

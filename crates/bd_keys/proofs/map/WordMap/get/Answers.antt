@@ -1,10 +1,17 @@
-use Rattle.std.proofs.Common.{sym, ◌∙◌}
-use Rattle.bd_keys.proofs.Looks.{look_none}
+use Rattle.std.proofs.Common.{Some, None, ◌∙◌}
+use Rattle.bd_keys.specs.Treed.{tree_look}
+use Rattle.bd_keys.specs.Look.{look}
+use Rattle.bd_keys.proofs.Latest.{here_first}
 use Rattle.bd_keys.proofs.map.WordMap.get.Goals as goal
 
-pub returns-in_err-at : goal.returns-in_err-at
-returns-in_err-at g c =
-    c.from_residual.ensures ∙ sym (look_none c.args.self.now c.args.k (sym c.index_of.ensures.place ∙ c.in_err-at.was))
+pub returns-in-Some : goal.returns-in-Some
+unfolding look
+returns-in-Some g c =
+    let m = c.args.self.now in
+    here_first (tree_look m.others) m.latest c.args.k (Some c.in-Some.v) _ c.in-Some.is c.latest_value.ensures
 
-pub returns : goal.returns
-returns g c = c.value.ensures c.args.k (sym c.index_of.ensures.place ∙ c.in_ok-at.was)
+pub returns-in-None : goal.returns-in-None
+unfolding look
+returns-in-None g c =
+    let m = c.args.self.now in
+    c.get.ensures ∙ here_first (tree_look m.others) m.latest c.args.k None _ c.in-None.is c.latest_value.ensures

@@ -1,29 +1,18 @@
-use Rattle.std.proofs.Common.{Some, sym, ◌∙◌, arith}
-use Rattle.bd_keys.specs.Walk.{keys}
-use Rattle.bd_keys.specs.Look.{look, word_room}
-use Rattle.bd_keys.proofs.Looks.{alike_values, value_push}
-use Rattle.bd_keys.proofs.Walks.{keys_length}
+use Rattle.std.proofs.Common.{ap, sym, ◌∙◌}
+use Rattle.std.specs.Prelude.{is_some}
+use Rattle.bd_keys.specs.Keys.{same_word}
+use Rattle.bd_keys.specs.Treed.{tree_look}
+use Rattle.bd_keys.specs.Look.{look}
+use Rattle.bd_keys.proofs.Latest.{put_again, comes_first}
 use Rattle.bd_keys.proofs.map.WordMap.insert.Goals as goal
 
-pub push-requires-clause-room : goal.push-requires-clause-room
-unfolding word_room
-push-requires-clause-room g c = omega (arith, c.requires)
-
-pub push_reserved-requires : goal.push_reserved-requires
-unfolding word_room
-push_reserved-requires g c = omega (arith, c.requires)
-
-pub returns-in-Some-clause-put : goal.returns-in-Some-clause-put
-returns-in-Some-clause-put g c = λ l. c.set_at.ensures.put c.args.k l (sym c.index_of.ensures.place ∙ c.in-Some.is)
-
-pub returns-in-None-clause-put : goal.returns-in-None-clause-put
+pub returns-then-is_some-clause-put : goal.returns-then-is_some-clause-put
 unfolding look
-returns-in-None-clause-put g c = λ l.
+returns-then-is_some-clause-put g c = λ l.
     let m = c.args.self.now in
-    alike_values c.push_reserved.new.self.items _ _ _ l c.push_reserved.ensures.items c.push.ensures.keys
-    ∙ value_push (keys m.tree.nodes.items) m.values.items c.args.k l (Some c.args.v)
-    (sym c.index_of.ensures.place ∙ c.in-None.is) (m.alike ∙ sym (keys_length m.tree.nodes.items))
+    put_again (tree_look m.others) m.latest c.args.k l c.args.v
+    (ap is_some (sym c.latest_value.ensures) ∙ sym c.is_some.ensures ∙ c.if-is_some.true)
 
-pub returns-in-None-clause-room : goal.returns-in-None-clause-room
-unfolding word_room
-returns-in-None-clause-room g c = omega (arith, c.push.ensures.uses)
+pub returns-clause-put : goal.returns-clause-put
+unfolding look
+returns-clause-put g c = λ l. comes_first (same_word c.args.k l) c.args.v _ _ _ (c.remove-gone.ensures.gone l) (c.settle.ensures.kept l)

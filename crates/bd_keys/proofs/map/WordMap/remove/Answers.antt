@@ -1,20 +1,30 @@
-use Rattle.std.proofs.Common.{None, refl, sym, ◌∙◌}
+use Rattle.std.proofs.Common.{Some, None, ap, sym, ◌∙◌}
+use Rattle.std.specs.Prelude.{is_some}
+use Rattle.bd_keys.specs.Treed.{tree_look}
 use Rattle.bd_keys.specs.Look.{look}
-use Rattle.bd_keys.proofs.Looks.{look_none, hidden}
+use Rattle.bd_keys.proofs.Latest.{here_first, goes_first, shows_behind}
 use Rattle.bd_keys.proofs.map.WordMap.remove.Goals as goal
 
-pub returns-in_err-at-clause-taken : goal.returns-in_err-at-clause-taken
-returns-in_err-at-clause-taken g c =
-    c.from_residual.ensures ∙ sym (look_none c.args.self.now c.args.k (sym c.index_of.ensures.place ∙ c.in_err-at.was))
-
-pub returns-in_err-at-clause-gone : goal.returns-in_err-at-clause-gone
-returns-in_err-at-clause-gone g c = λ l.
+pub returns-in-Some-clause-taken : goal.returns-in-Some-clause-taken
+unfolding look
+returns-in-Some-clause-taken g c =
     let m = c.args.self.now in
-    hidden (look m) c.args.k l (λ o. None)
-    (look_none m c.args.k (sym c.index_of.ensures.place ∙ c.in_err-at.was)) refl
+    here_first (tree_look m.others) m.latest c.args.k (Some c.in-Some.v) _ c.in-Some.is c.latest_value.ensures
 
-pub returns-clause-taken : goal.returns-clause-taken
-returns-clause-taken g c = c.value-value.ensures c.args.k (sym c.index_of.ensures.place ∙ c.in_ok-at.was)
+pub returns-in-Some-clause-gone : goal.returns-in-Some-clause-gone
+unfolding look
+returns-in-Some-clause-gone g c = λ l.
+    let m = c.args.self.now in
+    goes_first (tree_look m.others) m.latest c.args.k l (ap is_some (sym c.latest_value.ensures ∙ c.in-Some.is)) m.apart
 
-pub returns-clause-gone : goal.returns-clause-gone
-returns-clause-gone g c = λ l. c.set_at.ensures.put c.args.k l (sym c.index_of.ensures.place ∙ c.in_ok-at.was)
+pub returns-in-None-clause-taken : goal.returns-in-None-clause-taken
+unfolding look
+returns-in-None-clause-taken g c =
+    let m = c.args.self.now in
+    c.remove.ensures.taken ∙ here_first (tree_look m.others) m.latest c.args.k None _ c.in-None.is c.latest_value.ensures
+
+pub returns-in-None-clause-gone : goal.returns-in-None-clause-gone
+unfolding look
+returns-in-None-clause-gone g c = λ l.
+    let m = c.args.self.now in
+    shows_behind (tree_look m.others) m.latest (λ o. None) c.args.k l _ (sym c.latest_value.ensures ∙ c.in-None.is) (c.remove.ensures.gone l)

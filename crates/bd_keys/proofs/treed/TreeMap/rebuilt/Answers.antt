@@ -3,10 +3,10 @@ use Rattle.std.proofs.lemmas.List.{get_or_read}
 use Rattle.std.proofs.lemmas.List.Sums.{sum_by-drop_more}
 use Rattle.bd_keys.specs.Keys.{place_in}
 use Rattle.bd_keys.specs.Walk.{keys}
-use Rattle.bd_keys.specs.Look.{look}
+use Rattle.bd_keys.specs.Treed.{tree_look}
 use Rattle.bd_keys.proofs.Looks.{below_all, below_insert, below_skip}
-use Rattle.bd_keys.proofs.map.WordMap.rebuilt.Goals as goal
-use Rattle.bd_keys.proofs.map.WordMap.rebuilt.Goals.{in-Some, in_default}
+use Rattle.bd_keys.proofs.treed.TreeMap.rebuilt.Goals as goal
+use Rattle.bd_keys.proofs.treed.TreeMap.rebuilt.Goals.{in-Some, in_default}
 
 pub loop-at-preserved : goal.loop-at-preserved
 loop-at-preserved g c =
@@ -27,7 +27,7 @@ loop-at-preserved g c =
           record {
             shown = λ k.
                 w.insert.ensures.put k
-                ∙ below_insert ns m.tree.stands vs i w.key.result k w.in-Some.v (look c.loop-at.fresh k)
+                ∙ below_insert ns m.tree.stands vs i w.key.result k w.in-Some.v (tree_look c.loop-at.fresh k)
                 (omega (arith, less, m.alike)) w.key.ensures here (inv.shown k);
             room = omega (arith, inv.room, w.insert.ensures.room, counts, one);
             keys = omega (arith, inv.keys, w.insert.ensures.keys, counts, one);
@@ -43,7 +43,7 @@ loop-at-preserved g c =
     ]
 
 pub returns-clause-kept : goal.returns-clause-kept
-unfolding look
+unfolding tree_look
 returns-clause-kept g c = λ k.
     let m = c.args.self.now in
     c.loop-at.invariant.shown k ∙ below_all m.tree.nodes.items m.values.items c.loop-at.at k m.alike (omega arith)
