@@ -1,12 +1,13 @@
 -- What the bounds of the holes let a search go past, and what stays bounded.
-use Rattle.std.proofs.Common.{◌≡◌, ℕ, zero, suc, ◌+◌, ◌-◌, ◌*◌, ◌/◌, ◌<◌, ◌≤◌, Bool, true, false, cond, List, [], ◌∷◌, length, get_or, drop, refl, ap, ◌∙◌, subst, arith, All, inl, inr, ◌⊎◌, leb}
+use Rattle.std.proofs.Common.{◌≡◌, ℕ, zero, suc, ◌+◌, ◌-◌, ◌*◌, ◌/◌, ◌<◌, ◌≤◌, Bool, true, false, cond, List, [], ◌∷◌, length, get_or, drop, refl, ap, sym, ◌∙◌, subst, arith, All, inl, inr, ◌⊎◌, leb}
 use Rattle.std.specs.Prelude.{find, min, vec_len, vec_capacity}
 use Rattle.std.specs.List.{between}
 use Rattle.std.specs.List.Sorted.{IsNonDecreasingBy, IsPartitionedBy, IsPartitionPoint}
 use Rattle.std.proofs.lemmas.List.Sorted.{IsPartitionedBy-leb}
-use Rattle.std.proofs.lemmas.Bool.{cases_lt, lt-leb, leb-true, leb-false, and_parts}
+use Rattle.std.proofs.lemmas.Bool.{cases_lt, eq-eqb, lt-leb, leb-true, leb-false, and_parts}
 use Rattle.std.proofs.lemmas.List.Edits.{length-between, get_or-between}
-use Rattle.std.proofs.lemmas.List.Elements.{All-weaker}
+use Rattle.std.proofs.lemmas.List.Elements.{All-head, All-tail, All-weaker}
+use Rattle.bd_keys.proofs.Rising.{Rising}
 use Rattle.bd_buffers.specs.declared.hole.Hole.{Hole}
 use Rattle.bd_buffers.specs.declared.bounds.Bounds.{Bounds}
 use Rattle.bd_buffers.specs.declared.ground.Ground.{Ground}
@@ -14,9 +15,9 @@ use Rattle.bd_buffers.specs.declared.rows.Rows.{Rows}
 use Rattle.bd_keys.specs.Look.{word_room}
 use Rattle.bd_buffers.specs.Rows.{live}
 use Rattle.bd_buffers.specs.Window.{room_left}
-use Rattle.bd_buffers.specs.Holes.{Free, Spaced, has_room, taken, released}
+use Rattle.bd_buffers.specs.Holes.{Free, after, Spaced, has_room, taken, released}
 use Rattle.bd_buffers.specs.Bounds.{IsBounded, reaches, IsAsLong, AreBoundedBut, AreWithin}
-use Rattle.bd_buffers.proofs.Split.{in_order, no_hole}
+use Rattle.bd_buffers.proofs.Split.{in_order, no_hole, taken_past, released_past}
 use Rattle.bd_buffers.proofs.EachHole.{taken_each, released_each}
 
 -- ---- holes in order
@@ -43,6 +44,31 @@ before_tail : (tail low : ℕ) (holes : List Hole) (k : ℕ) (d : Hole) → Spac
 before_tail tail low [] k d sp lt = absurd (omega arith)
 before_tail tail low (h ∷ hs) zero d sp lt = let up = low_tail tail (h.end + 1) hs sp.4 in (sp.1, omega (arith, up))
 before_tail tail low (h ∷ hs) (suc k) d sp lt = before_tail tail (h.end + 1) hs k d sp.4 (omega arith)
+
+pub ends_rise : (tail : ℕ) (xs holes : List Hole) → xs ≡ holes → Spaced tail 0 holes → Rising (λ h. h.end) xs
+ends_rise tail xs holes e sp i j d lt within =
+    let own = subst (Spaced tail 0) (sym e) sp in
+    let up = ends_first tail 0 xs i j d own lt within in
+    let full = before_tail tail 0 xs j d own within in
+    omega (arith, up, full.0)
+
+-- ---- at the tail
+
+-- what is taken there changes no hole
+pub taken_at_tail : (p n tail low : ℕ) (holes : List Hole) → p ≡ tail → Spaced tail low holes → taken p n tail holes ≡ record { holes = holes; tail = tail + n }
+unfolding taken
+taken_at_tail p n tail low [] e sp = refl
+taken_at_tail p n tail low (h ∷ hs) e sp =
+    let up = low_tail tail (h.end + 1) hs sp.4 in
+    taken_past p n tail h hs (omega (arith, sp.1, up, e)) ∙ ap (after h) (taken_at_tail p n tail (h.end + 1) hs e sp.4)
+
+-- nor what is given back there, where none touches it
+pub released_at_tail : (s e tail : ℕ) (holes : List Hole) → e ≡ tail → All (λ h. h.end < s) holes → released s e tail holes ≡ record { holes = holes; tail = s }
+unfolding released
+released_at_tail s e tail [] same before = rw (eq-eqb e tail same) refl
+released_at_tail s e tail (h ∷ hs) same before =
+    released_past s e tail h hs (All-head (λ x. x.end < s) h hs before)
+    ∙ ap (after h) (released_at_tail s e tail hs same (All-tail (λ x. x.end < s) h hs before))
 
 no_later : (a b : ℕ) → a ≤ b → a / 4096 ≤ b / 4096
 no_later a b le = omega arith

@@ -37,7 +37,7 @@ EndBefore p i holes = (k : ℕ) (d : Hole) → k < i → (get_or holes k d).end 
 pub before_of : (xs holes : List Hole) (p i : ℕ) → xs ≡ holes → ((k : ℕ) (d : Hole) → 0 ≤ k → k < i → (get_or xs k d).end < p) → EndBefore p i holes
 before_of xs holes p i e point = λ k d lt. rw e at (point k d (omega arith) lt)
 
-released_past : (s e tail : ℕ) (h : Hole) (hs : List Hole) → h.end < s → released s e tail (h ∷ hs) ≡ after h (released s e tail hs)
+pub released_past : (s e tail : ℕ) (h : Hole) (hs : List Hole) → h.end < s → released s e tail (h ∷ hs) ≡ after h (released s e tail hs)
 unfolding released
 released_past s e tail h hs past = rw (le-ltb s h.end (omega arith), ne_eqb h.end s (λ eq. absurd (omega (arith, eq)))) refl
 
@@ -48,7 +48,7 @@ released_behind s e tail (suc i) (h ∷ hs) le before =
     released_past s e tail h hs (before zero h (omega arith))
     ∙ ap (after h) (released_behind s e tail i hs (omega arith) (λ k d lt. before (suc k) d (omega arith)))
 
-taken_past : (p n tail : ℕ) (h : Hole) (hs : List Hole) → h.start < p → taken p n tail (h ∷ hs) ≡ after h (taken p n tail hs)
+pub taken_past : (p n tail : ℕ) (h : Hole) (hs : List Hole) → h.start < p → taken p n tail (h ∷ hs) ≡ after h (taken p n tail hs)
 unfolding taken
 taken_past p n tail h hs past = rw (ne_eqb h.start p (λ eq. absurd (omega (arith, eq)))) refl
 

@@ -10,7 +10,7 @@ ghost use Rattle.bd_buffers.specs.{Bounds.{AreBounded, AreWithin, reaches}, Wind
 
 use crate::bounds::Bounds;
 use crate::buffer::{one_way_share, pointer_of};
-use crate::hole::{Hole, begin_of, cut_hole, give_back};
+use crate::hole::{Hole, begin_of, cut_hole, end_before, give_back};
 use crate::rows::Rows;
 use crate::senders::lower;
 use bd_keys::{WordKey, WordMap};
@@ -62,6 +62,11 @@ impl Ground {
         ensures len { vec_len self.new.holes ≤ vec_len self.old.holes }
         ensures capacity { vec_capacity self.new.holes ≡ vec_capacity self.old.holes }
     {
+        // No hole changes.
+        if place == self.tail {
+            self.tail += n;
+            return;
+        }
         self.tail = cut_hole(&mut self.holes, self.tail, place, n);
         self.bounds.refresh(&self.holes, place + n);
         self.bounds.refresh(&self.holes, place);
@@ -83,6 +88,11 @@ impl Ground {
         ensures len { vec_len self.new.holes ≤ vec_len self.old.holes + 1 }
         ensures capacity { vec_capacity self.new.holes ≡ vec_capacity self.old.holes }
     {
+        // No hole changes.
+        if end == self.tail && end_before(&self.holes, start) {
+            self.tail = start;
+            return;
+        }
         self.tail = give_back(&mut self.holes, self.tail, start, end);
         let begin = begin_of(&self.holes, self.tail, start);
         self.bounds.refresh(&self.holes, begin);

@@ -1,6 +1,6 @@
 //! The free space of a window: holes between its buffers, and the tail past the last of them.
 
-ghost use Rattle.std.specs.Prelude.{◌++◌, ◌≡◌, ◌+◌, ◌-◌, ◌/◌, All, ◌<◌, ◌≤◌, ◌^◌, length, take, drop, find, option_copied, vec_len, vec_capacity};
+ghost use Rattle.std.specs.Prelude.{◌++◌, ◌≡◌, ◌+◌, ◌-◌, ◌/◌, ◌↔◌, IsTrue, All, AllPairs, ◌<◌, ◌≤◌, ◌^◌, length, take, drop, find, option_copied, vec_len, vec_capacity};
 ghost use Rattle.std.specs.List.Sorted.{IsNonDecreasingBy, IsPartitionPoint};
 ghost use Rattle.bd_buffers.specs.Holes as free;
 ghost use Rattle.bd_buffers.specs.Bounds.{IsBounded};
@@ -76,6 +76,17 @@ fn index_from(holes: &[Hole], place: u32) -> usize
     ensures point { IsPartitionPoint (λ h. h.end < place) (λ h. place ≤ h.end) holes.now result }
 {
     holes.partition_point(|h| h.end < place)
+}
+
+/// Whether all holes end before a place.
+pub(crate) fn end_before(holes: &[Hole], place: u32) -> bool
+    requires order { AllPairs (λ a b. a.end < b.end) holes.now }
+    ensures { IsTrue result ↔ All (λ h. h.end < place) holes.now }
+{
+    match holes.last() {
+        None => true,
+        Some(h) => h.end < place,
+    }
 }
 
 /// Where the hole that spans a place begins. Where none does, where the tail begins.

@@ -168,6 +168,9 @@ impl Rows {
         // Memory was asked for: there was no room.
         ensures grown { OnErr result (self.old.room < more) }
     {
+        if more <= self.rows.capacity() - self.rows.len() {
+            return Ok(());
+        }
         pack(&mut self.rows, self.count);
         self.rows.reserve(more)
     }

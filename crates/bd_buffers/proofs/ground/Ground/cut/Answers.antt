@@ -1,7 +1,7 @@
 use Rattle.std.proofs.Common.{◌≡◌, ◌+◌, ◌⊎◌, All, subst}
 use Rattle.bd_buffers.specs.Holes.{Free}
 use Rattle.bd_buffers.specs.Bounds.{IsBounded, AreWithin}
-use Rattle.bd_buffers.proofs.Bounded.{taken_kept, but_one, but_none_more}
+use Rattle.bd_buffers.proofs.Bounded.{taken_at_tail, taken_kept, but_one, but_none_more}
 use Rattle.bd_buffers.proofs.ground.Ground.cut.Goals as goal
 
 pub refresh-requires : goal.refresh-requires
@@ -20,3 +20,8 @@ refresh-requires-2 c =
     rw c.deref-2.ensures.value
     (but_none_more g.size c.args.place g.bounds c.refresh.new.self _ _ (subst (AreWithin g.size) c.cut_hole-self.ensures.left c.requires.later) c.requires.bounds.ready c.refresh.ensures.len c.deref.ensures.value
     c.refresh.ensures.bounded)
+
+pub returns-then-place-self-clause-left : goal.returns-then-place-self-clause-left
+returns-then-place-self-clause-left c =
+    let g = c.args.self.now in
+    taken_at_tail c.args.place c.args.n g.tail 0 g.holes.items c.if-place-self.true c.requires.spaced
