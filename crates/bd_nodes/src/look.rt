@@ -2,18 +2,24 @@
 
 ghost use Rattle.std.specs.Prelude.{◌≡◌, ◌==◌, ◌&&◌, find};
 ghost use Rattle.bd_keys.specs.Tables.{Tells};
+ghost use Rattle.std.specs.HashMap.{get};
 ghost use Rattle.bd_space.specs.Words as words;
+ghost use Rattle.bd_ways.specs.Identities.{same_id};
 ghost use Rattle.bd_nodes.specs.Keys as keys;
 
 use crate::table::NodeTable;
 use bd_keys::WordKey;
 use bd_space::{Object, ObjectId};
+use std::collections::HashMap;
 
-/// What was found, if the process owns it.
-fn owned(found: Option<Object>, p: u32) -> Option<Object>
-    ensures { result ≡ keys.kept (λ x. x.owner == p) found }
+/// The object with this identity, if the process owns it. Nothing else is copied.
+fn owned(objects: &HashMap<ObjectId, Object>, p: u32, o: ObjectId) -> Option<Object>
+    ensures { result ≡ keys.kept (λ x. x.owner == p) (get same_id objects.now o) }
 {
-    found.filter(|x| x.owner == p)
+    match objects.get(&o) {
+        Some(x) if x.owner == p => Some(*x),
+        _ => None,
+    }
 }
 
 /// What was found, if it has this cookie.
@@ -58,7 +64,7 @@ impl NodeTable {
         ensures { Tells (NodesAre self.now) result
             (λ objects. find (λ x. words.same x.id o && (x.owner == p)) objects) }
     {
-        owned(self.object(o), p)
+        owned(&self.objects, p, o)
     }
 
     /// As `own_with_ptr`, where the object has this cookie, too.
