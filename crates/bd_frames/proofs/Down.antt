@@ -1,7 +1,7 @@
 -- The way down a thread's stack.
 use Rattle.std.proofs.Common.{◌≡◌, ℕ, zero, suc, ◌≤◌, ◌<◌, Bool, true, false, cond, List, [], ◌∷◌, ◌++◌, Option, map, filter, reverse, take, drop, length, get_or, set, refl, ap, sym, subst, ◌∙◌, arith, append-nil, append_assoc}
 use Rattle.std.specs.List.{list_any}
-use Rattle.std.proofs.lemmas.List.{reverse-reverse, get_or-take}
+use Rattle.std.proofs.lemmas.List.{reverse-reverse, get_or-take, take_all, drop_all, take_at, drop_at, get_or_append_left, length-take-le}
 use Rattle.std.proofs.lemmas.Grind.{reverse_onto}
 use Rattle.bd_space.specs.declared.space.Frame.{Frame}
 use Rattle.bd_space.specs.Frames.{takes_part, calls, serves, made_of}
@@ -48,54 +48,20 @@ map_next q g h (suc n) zero (f ∷ fs) d lt k e = ap (λ (xs : List Row). g f �
 map_next q g h (suc n) (suc i) (f ∷ fs) d lt k e = ap (λ (xs : List Row). f ∷ xs) (map_next q g h n i fs d (omega arith) (omega arith) e)
 
 pub begun_same : {A : Type 0} (n : ℕ) (xs ys : List A) → n ≤ length xs → take n (take n xs ++ ys) ≡ take n xs
-begun_same zero [] ys h = refl
-begun_same zero (x ∷ xs) ys h = refl
-begun_same (suc n) [] ys h = absurd (omega arith)
-begun_same (suc n) (x ∷ xs) ys h = ap (λ zs. x ∷ zs) (begun_same n xs ys (omega arith))
+begun_same n xs ys h = take_at (take n xs) ys n (length-take-le n xs h)
 
 pub got_begun : {A : Type 0} (n i : ℕ) (xs ys : List A) (d : A) → i < n → n ≤ length xs → get_or (take n xs ++ ys) i d ≡ get_or xs i d
-got_begun zero i xs ys d h k = absurd (omega arith)
-got_begun (suc n) i [] ys d h k = absurd (omega arith)
-got_begun (suc n) zero (x ∷ xs) ys d h k = refl
-got_begun (suc n) (suc i) (x ∷ xs) ys d h k = got_begun n i xs ys d (omega arith) (omega arith)
+got_begun n i xs ys d h k = get_or_append_left (take n xs) ys d i (omega (arith, h, length-take-le n xs k)) ∙ get_or-take n xs i d h
 
-pub none_yet : (g : Row → Row) (n : ℕ) (fs : List Row) → n ≡ length fs → fs ≡ take n fs ++ map g (drop n fs)
-none_yet g zero [] h = refl
-none_yet g (suc n) [] h = absurd (omega (arith, h))
-none_yet g zero (f ∷ fs) h = absurd (omega (arith, h))
-none_yet g (suc n) (f ∷ fs) h = ap (λ (xs : List Row). f ∷ xs) (none_yet g n fs (omega (arith, h)))
-
-pub take_whole : {A : Type 0} (n : ℕ) (xs : List A) → n ≡ length xs → take n xs ≡ xs
-take_whole zero [] h = refl
-take_whole (suc n) [] h = refl
-take_whole zero (x ∷ xs) h = absurd (omega (arith, h))
-take_whole (suc n) (x ∷ xs) h = ap (λ ys. x ∷ ys) (take_whole n xs (omega (arith, h)))
-
-pub drop_whole : {A : Type 0} (n : ℕ) (xs : List A) → n ≡ length xs → drop n xs ≡ []
-drop_whole zero [] h = refl
-drop_whole (suc n) [] h = refl
-drop_whole zero (x ∷ xs) h = absurd (omega (arith, h))
-drop_whole (suc n) (x ∷ xs) h = drop_whole n xs (omega (arith, h))
+pub none_yet : (g : Row → Row) (n : ℕ) (rs : List Row) → n ≡ length rs → rs ≡ take n rs ++ map g (drop n rs)
+none_yet g n rs h =
+    sym (ap (λ xs. take n rs ++ map g xs) (drop_all n rs (omega (arith, h))) ∙ append-nil (take n rs) ∙ take_all n rs (omega (arith, h)))
 
 -- what came last comes first
-pub turned : {A : Type 0} (n : ℕ) (xs ys zs : List A) → n ≡ length xs → zs ≡ xs ++ reverse ys → take n zs ++ reverse (drop n zs) ≡ xs ++ ys
+pub turned : {A : Type 0} (n : ℕ) (xs ys zs : List A) → length xs ≡ n → zs ≡ xs ++ reverse ys → take n zs ++ reverse (drop n zs) ≡ xs ++ ys
 turned n xs ys zs h e =
-    ap (λ vs. take n vs ++ reverse (drop n vs)) e ∙ ap (λ v. v ++ reverse (drop n (xs ++ reverse ys))) (front n xs (reverse ys) h)
-    ∙ ap (λ v. xs ++ reverse v) (back n xs (reverse ys) h) ∙ ap (λ v. xs ++ v) (reverse-reverse ys)
-  where
-    front : {A : Type 0} (n : ℕ) (xs ys : List A) → n ≡ length xs → take n (xs ++ ys) ≡ xs
-    front zero [] [] h = refl
-    front zero [] (y ∷ ys) h = refl
-    front (suc n) [] ys h = absurd (omega (arith, h))
-    front zero (x ∷ xs) ys h = absurd (omega (arith, h))
-    front (suc n) (x ∷ xs) ys h = ap (λ zs. x ∷ zs) (front n xs ys (omega (arith, h)))
-
-    back : {A : Type 0} (n : ℕ) (xs ys : List A) → n ≡ length xs → drop n (xs ++ ys) ≡ ys
-    back zero [] [] h = refl
-    back zero [] (y ∷ ys) h = refl
-    back (suc n) [] ys h = absurd (omega (arith, h))
-    back zero (x ∷ xs) ys h = absurd (omega (arith, h))
-    back (suc n) (x ∷ xs) ys h = back n xs ys (omega (arith, h))
+    ap (λ vs. take n vs ++ reverse (drop n vs)) e ∙ ap (λ v. v ++ reverse (drop n (xs ++ reverse ys))) (take_at xs (reverse ys) n h)
+    ∙ ap (λ v. xs ++ reverse v) (drop_at xs (reverse ys) n h) ∙ ap (λ v. xs ++ v) (reverse-reverse ys)
 
 -- one more is served, or none
 pub served_next : (q : Frame → Bool) (xs : List ℕ) (ys : List Frame) (f : Frame)

@@ -179,13 +179,3 @@ module _ (q : Frame → Bool) where
       at (x ∷ xs) (suc i) h e b a is =
           let g = no_head (q x.frame) _ b in
           ap (λ ys. x.frame ∷ ys) (at xs i (omega arith) e g.1 a is) ∙ sym (ap (λ c. cond c (f x.frame) x.frame ∷ changed q f (frames_of xs)) g.0)
-
-pub take_take : {A : Type 0} (i n : ℕ) (xs : List A) → i ≤ n → take i (take n xs) ≡ take i xs
-take_take zero zero [] h = refl
-take_take zero (suc n) [] h = refl
-take_take (suc i) zero [] h = refl
-take_take (suc i) (suc n) [] h = refl
-take_take zero zero (x ∷ xs) h = refl
-take_take zero (suc n) (x ∷ xs) h = refl
-take_take (suc i) zero (x ∷ xs) h = absurd (omega arith)
-take_take (suc i) (suc n) (x ∷ xs) h = ap (λ ys. x ∷ ys) (take_take i n xs (omega arith))

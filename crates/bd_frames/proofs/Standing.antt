@@ -1,5 +1,5 @@
 -- What a table's rows stand for, as they come, go and change.
-use Rattle.std.proofs.Common.{◌≡◌, ℕ, suc, ◌<◌, ◌==◌, ◌&&◌, Bool, true, false, List, [], ◌∷◌, Option, Some, None, find, take, drop, length, get_or, set, map, refl, sym, ap, ◌∙◌, subst}
+use Rattle.std.proofs.Common.{◌≡◌, ℕ, suc, ◌<◌, ◌==◌, ◌&&◌, Bool, true, false, cond, List, [], ◌∷◌, Option, Some, None, find, take, drop, length, get_or, set, map, refl, sym, ap, ◌∙◌, subst}
 use Rattle.bd_space.specs.declared.space.Frame.{Frame}
 use Rattle.std.specs.List.{list_any, count_by}
 use Rattle.bd_space.specs.Words.{changed}
@@ -9,16 +9,28 @@ use Rattle.bd_ways.proofs.Ranges.{find_none}
 use Rattle.bd_frames.specs.declared.frame.Row.{Row}
 use Rattle.bd_frames.specs.declared.table.FrameTable.{FrameTable}
 use Rattle.bd_frames.specs.Places.{frames_of, IsRising, IsOnlyAt}
-use Rattle.bd_frames.specs.Children.{Each, is_child_at}
-use Rattle.bd_frames.specs.Linked.{AreStacks}
+use Rattle.bd_frames.specs.Children.{AreChildren, Each, is_child_at}
+use Rattle.bd_frames.specs.Linked.{kept_at, Bounds, Reaches, AreStacks}
 use Rattle.bd_frames.specs.Words.{left_frame, left_row}
 use Rattle.bd_frames.specs.Stands.{FramesAre}
 use Rattle.bd_frames.proofs.Places.{only_changed, find_at, none_at, any_both}
 use Rattle.bd_frames.proofs.InOrder.{KeepsPlaces, in_order_map, changed_map, if_passes, some_keep}
+use Rattle.bd_frames.proofs.Stacking.{with_tops}
 use Rattle.bd_frames.proofs.Counting.{IsAlike, alike_same, each_set, children_map, counts_at, count_none}
 
 pub own_rising : (t : FrameTable) (l : List Frame) → FramesAre t l → IsRising 0 (frames_of t.rows.items)
 own_rising t l h = subst (IsRising 0) (sym h.items_are) h.in_order.rising
+
+-- the same rows and tops stand for the same
+pub same_stand : (t u : FrameTable) (l : List Frame) → FramesAre t l → u.rows.items ≡ t.rows.items → u.stacks.floor ≡ t.stacks.floor
+    → ((s : ℕ) → kept_at u.stacks.tops s ≡ kept_at t.stacks.tops s) → FramesAre u l
+same_stand t u l h rows floor tops = record {
+  items_are = ap frames_of rows ∙ h.items_are;
+  in_order = h.in_order;
+  children_are = subst (AreChildren l) (sym rows) h.children_are;
+  stacks_are = subst (AreStacks u.stacks) (sym rows) (with_tops t.stacks u.stacks t.rows.items floor h.stacks_are
+      (λ s. subst (λ (o : Option ℕ). Bounds (Reaches t.stacks.floor) s o t.rows.items) (sym (tops s)) (h.stacks_are.tops_are s)));
+}
 
 module _ (t u : FrameTable) (l : List Frame) (h : FramesAre t l) (g : Frame → Frame) (keeps : KeepsPlaces g) where
   -- each frame changes
@@ -72,25 +84,21 @@ module _ (t : FrameTable) (l : List Frame) (h : FramesAre t l) (made : ℕ) (xs 
         ap (λ b. is_gone d.frame.server && b)
         (ap (λ n. n == 0) (subst (λ (x : Row). x.children ≡ count_by (is_child_at x.frame.made) l) (sym is) counted) ∙ count_none (is_child_at d.frame.made) l)
 
-    pub abandoned_found : (is_gone d.frame.server && (d.children == 0)) ≡ true → find (λ f. is_frame made f && is_abandoned l f) l ≡ Some d.frame
-    abandoned_found e =
-        let q = is_frame made in
-        let p = is_abandoned l in
-        let here : (q (get_or t.rows.items i d).frame && p (get_or t.rows.items i d).frame) ≡ true =
-        ap (λ b. b && p (get_or t.rows.items i d).frame) (there.0.here d) ∙ ap (λ (x : Row). p x.frame) (sym is) ∙ sym left_alone ∙ e in
-        ap (find (λ f. q f && p f)) (sym h.items_are)
-        ∙ find_at (λ f. q f && p f) t.rows.items i d (somewhere t l h made xs same i lt) here (any_both q p (frames_of (take i t.rows.items)) there.1)
-        ∙ ap (λ (x : Row). Some x.frame) (sym is)
+    abbrev both : Frame → Bool
+    both f = is_frame made f && is_abandoned l f
 
-    pub abandoned_not : (is_gone d.frame.server && (d.children == 0)) ≡ false → find (λ f. is_frame made f && is_abandoned l f) l ≡ None
-    abandoned_not e =
-        let q = is_frame made in
-        let p = is_abandoned l in
-        let here : (q (get_or t.rows.items i d).frame && p (get_or t.rows.items i d).frame) ≡ false =
-        ap (λ b. b && p (get_or t.rows.items i d).frame) (there.0.here d) ∙ ap (λ (x : Row). p x.frame) (sym is) ∙ sym left_alone ∙ e in
-        ap (find (λ f. q f && p f)) (sym h.items_are)
-        ∙ find_none (λ f. q f && p f) (frames_of t.rows.items) (none_at (λ f. q f && p f) t.rows.items i d here (any_both q p (frames_of (take i t.rows.items)) there.1)
-        (any_both q p (frames_of (drop (suc i) t.rows.items)) there.0.after))
+    -- it is found if it is abandoned
+    pub abandoned : (b : Bool) → (is_gone d.frame.server && (d.children == 0)) ≡ b → find (λ f. is_frame made f && is_abandoned l f) l ≡ cond b (Some d.frame) None
+    abandoned b e = ap (find both) (sym h.items_are) ∙ at b (ap (λ c. c && is_abandoned l (get_or t.rows.items i d).frame) (there.0.here d) ∙ ap (λ (x : Row). is_abandoned l x.frame) (sym is) ∙ sym left_alone ∙ e)
+      where
+        none : list_any both (frames_of (take i t.rows.items)) ≡ false
+        none = any_both (is_frame made) (is_abandoned l) (frames_of (take i t.rows.items)) there.1
+
+        at : (b : Bool) → both (get_or t.rows.items i d).frame ≡ b → find both (frames_of t.rows.items) ≡ cond b (Some d.frame) None
+        at true g = find_at both t.rows.items i d (somewhere t l h made xs same i lt) g none ∙ ap (λ (x : Row). Some x.frame) (sym is)
+        at false g =
+            find_none both (frames_of t.rows.items)
+            (none_at both t.rows.items i d g none (any_both (is_frame made) (is_abandoned l) (frames_of (drop (suc i) t.rows.items)) there.0.after))
 
 pub frames_left : (seat : ℕ) (rs : List Row) → frames_of (map (left_row seat) rs) ≡ map (left_frame seat) (frames_of rs)
 frames_left seat [] = refl

@@ -1,8 +1,8 @@
 -- From the newest frame on: the way by parents, and the first that passes.
-use Rattle.std.proofs.Common.{◌≡◌, ℕ, zero, suc, ◌<◌, ◌||◌, Bool, true, false, cond, List, [], ◌∷◌, ◌++◌, Option, Some, None, is_some, find, reverse, take, drop, length, get_or, refl, ap, sym, subst, ◌∙◌, arith}
+use Rattle.std.proofs.Common.{◌≡◌, ℕ, zero, suc, ◌<◌, ◌||◌, Bool, true, false, cond, List, [], ◌∷◌, ◌++◌, Option, Some, None, is_some, find, reverse, take, drop, length, get_or, refl, ap, sym, subst, ◌∙◌, arith, append_assoc}
 use Rattle.std.specs.List.{list_any}
 use Rattle.std.proofs.lemmas.List.{reverse-append, append-nil}
-use Rattle.std.proofs.lemmas.List.{get_or-take, length-take}
+use Rattle.std.proofs.lemmas.List.{get_or-take, length-take, take-take}
 use Rattle.std.proofs.lemmas.List.Folds.{list_any_at}
 use Rattle.std.proofs.lemmas.Grind.{reverse_onto}
 use Rattle.bd_space.specs.declared.space.Frame.{Frame}
@@ -13,7 +13,7 @@ use Rattle.bd_frames.specs.declared.table.FrameTable.{FrameTable}
 use Rattle.bd_frames.specs.Places.{frames_of, IsRising, IsLast, IsOnlyAt, IsNewestAt}
 use Rattle.bd_frames.specs.Stands.{FramesAre}
 use Rattle.bd_frames.specs.Linked.{kept_at, Reaches, Bounds}
-use Rattle.bd_frames.proofs.Places.{no_row, any_frames, take_take, rising_take}
+use Rattle.bd_frames.proofs.Places.{no_row, any_frames, rising_take}
 use Rattle.bd_frames.proofs.Standing.{own_rising}
 
 -- those that don't fit are passed over
@@ -38,10 +38,6 @@ split [] i d h = absurd (omega arith)
 split (r ∷ rs) zero d h = refl
 split (r ∷ rs) (suc i) d h = ap (λ gs. r.frame ∷ gs) (split rs i d (omega arith))
 
-after : (fs : List Frame) (f : Frame) (gs : List Frame) → (fs ++ f ∷ []) ++ gs ≡ fs ++ f ∷ gs
-after [] f gs = refl
-after (g ∷ fs) f gs = ap (λ hs. g ∷ hs) (after fs f gs)
-
 way_none : (made : ℕ) (fs : List Frame) → list_any (is_frame made) fs ≡ false → ancestry (Some made) (reverse fs) ≡ []
 way_none made fs h =
     ap (ancestry (Some made)) (sym (append-nil (reverse fs)))
@@ -53,7 +49,7 @@ newest_first rs i d lt =
     let newer = frames_of (drop (suc i) rs) in
     let older = frames_of (take i rs) in
     ap reverse (split rs i d lt) ∙ reverse-append older (f ∷ newer)
-    ∙ ap (λ gs. gs ++ reverse older) (reverse_onto newer f []) ∙ after (reverse newer) f (reverse older)
+    ∙ ap (λ gs. gs ++ reverse older) (reverse_onto newer f []) ∙ append_assoc (reverse newer) (f ∷ []) (reverse older)
 
 way_found : (made : ℕ) (rs : List Row) (i : ℕ) (d : Row) → i < length rs → is_frame made (get_or rs i d).frame ≡ true → list_any (is_frame made) (frames_of (drop (suc i) rs)) ≡ false
     → ancestry (Some made) (reverse (frames_of rs)) ≡ (get_or rs i d).frame ∷ ancestry (get_or rs i d).frame.parent (reverse (frames_of (take i rs)))
@@ -81,7 +77,7 @@ goes_on q from made n xs ys i d e rising same lt only is =
     let one : get_or rs i d ≡ d = get_or-take n xs i d low ∙ sym is in
     ap (λ (o : Option ℕ). find q (ancestry o (reverse (frames_of rs)))) e ∙ ap (find q) (way_found made rs i d h (here.here d) here.after)
     ∙ ap (λ (x : Row). cond (q x.frame) (Some x.frame) (find q (ancestry x.frame.parent (reverse (frames_of (take i rs)))))) one
-    ∙ ap (λ (zs : List Row). cond (q d.frame) (Some d.frame) (find q (ancestry d.frame.parent (reverse (frames_of zs))))) (take_take i n xs (omega (arith, low)))
+    ∙ ap (λ (zs : List Row). cond (q d.frame) (Some d.frame) (find q (ancestry d.frame.parent (reverse (frames_of zs))))) (take-take i n xs (omega (arith, low)))
 
 -- no further
 pub goes_nowhere : (q : Frame → Bool) (from : Option ℕ) (made n : ℕ) (xs ys : List Row) → from ≡ Some made → IsRising 0 (frames_of xs) → ys ≡ xs

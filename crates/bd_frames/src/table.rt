@@ -51,15 +51,14 @@ impl FrameTable {
     {
         let more = more as usize;
         let count = self.rows.len();
+        // Each that is there may be read, and each that comes has a caller and may be read: then `put` finds room.
+        let reserved = self.stacks.tops.reserve(count.saturating_add(2 * more));
         if self.rows.capacity() - count >= more {
+            // Where that was refused, time alone is lost.
             return Ok(());
         }
-        // For each frame that there will be room for two threads can have it as their innermost one.
-        let all = count.saturating_add(more);
-        self.stacks
-            .tops
-            .reserve(all.saturating_mul(4).saturating_add(4))?;
-        self.rows.reserve(all)
+        reserved?;
+        self.rows.reserve(more)
     }
 
     /// How many there are.

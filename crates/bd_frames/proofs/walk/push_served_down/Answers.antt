@@ -1,12 +1,12 @@
 use Rattle.std.proofs.Common.{ℕ, List, Some, None, append-nil, ◌≤◌, ◌<◌, ◌++◌, ◌∷◌, [], map, filter, reverse, drop, length, get_or, refl, ap, sym, ◌∙◌, arith}
-use Rattle.std.proofs.lemmas.List.{length-take}
+use Rattle.std.proofs.lemmas.List.{length-take, drop_all}
 use Rattle.bd_space.specs.declared.space.Frame.{Frame}
 use Rattle.bd_space.specs.Frames.{takes_part, serves, made_of}
 use Rattle.bd_frames.specs.declared.frame.Row.{Row}
 use Rattle.bd_frames.specs.Places.{frames_of, IsRising}
 use Rattle.bd_frames.specs.Linked.{AreStacks}
 use Rattle.bd_frames.proofs.Places.{no_row}
-use Rattle.bd_frames.proofs.Down.{way_begins, way_on, found, drop_whole, kept_next, kept_left, takes_serves, served_next}
+use Rattle.bd_frames.proofs.Down.{way_begins, way_on, found, kept_next, kept_left, takes_serves, served_next}
 use Rattle.bd_frames.proofs.walk.push_served_down.Goals as goal
 
 pub loop-i-init : goal.loop-i-init
@@ -15,7 +15,7 @@ loop-i-init c = record {
   way = λ k r. way_begins c.args.stacks.now c.args.seat c.args.rows.now k r (length c.args.rows.now) c.top_of-next.result c.top_of-next.ensures;
   so_far = λ k r.
       let xs = c.args.served.now.items in
-      sym (ap (λ (rs : List Row). xs ++ reverse (map made_of (filter (λ (f : Frame). serves c.args.seat f.server) (frames_of rs)))) (drop_whole (length c.args.rows.now) c.args.rows.now refl) ∙ append-nil xs);
+      sym (ap (λ (rs : List Row). xs ++ reverse (map made_of (filter (λ (f : Frame). serves c.args.seat f.server) (frames_of rs)))) (drop_all (length c.args.rows.now) c.args.rows.now (omega arith)) ∙ append-nil xs);
   longer = omega arith;
 }
 

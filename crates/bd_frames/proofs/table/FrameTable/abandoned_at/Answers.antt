@@ -1,9 +1,9 @@
-use Rattle.std.proofs.Common.{rules, ◌≡◌, ◌&&◌, None, sym, ◌∙◌}
+use Rattle.std.proofs.Common.{rules, true, false, ◌≡◌, ◌&&◌, None, sym, ◌∙◌}
 use Rattle.bd_space.specs.Frames.{is_frame}
 use Rattle.bd_space.specs.Settle.{is_abandoned}
 use Rattle.bd_ways.proofs.Ranges.{find_none}
 use Rattle.bd_frames.proofs.Places.{any_both}
-use Rattle.bd_frames.proofs.Standing.{nowhere, abandoned_found, abandoned_not}
+use Rattle.bd_frames.proofs.Standing.{nowhere, abandoned}
 use Rattle.bd_frames.proofs.table.FrameTable.abandoned_at.Goals as goal
 
 pub returns-in_err-index_of : goal.returns-in_err-index_of
@@ -14,10 +14,10 @@ returns-in_err-index_of c = λ l h.
 
 pub returns-then-is_abandoned : goal.returns-then-is_abandoned
 returns-then-is_abandoned c = λ l h.
-    sym (abandoned_found c.args.self.now l h c.args.made _ c.deref.ensures.value c.in_ok-index_of.field-0 c.index.result.now c.in_ok-index_of.ensures.within c.in_ok-index_of.ensures.only
-    c.index.ensures (sym c.is_abandoned.ensures ∙ c.if-is_abandoned.true))
+    sym (abandoned c.args.self.now l h c.args.made _ c.deref.ensures.value c.in_ok-index_of.field-0 c.index.result.now c.in_ok-index_of.ensures.within c.in_ok-index_of.ensures.only
+    c.index.ensures true (sym c.is_abandoned.ensures ∙ c.if-is_abandoned.true))
 
 pub returns-else-is_abandoned : goal.returns-else-is_abandoned
 returns-else-is_abandoned c = λ l h.
-    sym (abandoned_not c.args.self.now l h c.args.made _ c.deref.ensures.value c.in_ok-index_of.field-0 c.index.result.now c.in_ok-index_of.ensures.within c.in_ok-index_of.ensures.only
-    c.index.ensures (sym c.is_abandoned.ensures ∙ c.if-is_abandoned.false))
+    sym (abandoned c.args.self.now l h c.args.made _ c.deref.ensures.value c.in_ok-index_of.field-0 c.index.result.now c.in_ok-index_of.ensures.within c.in_ok-index_of.ensures.only
+    c.index.ensures false (sym c.is_abandoned.ensures ∙ c.if-is_abandoned.false))

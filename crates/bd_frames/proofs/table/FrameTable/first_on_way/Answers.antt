@@ -1,12 +1,11 @@
-use Rattle.std.proofs.Common.{rules, ◌≡◌, Bool, true, false, cond, None, Some, Option, ℕ, List, find, reverse, take, length, refl, sym, ap, ◌∙◌, arith}
-use Rattle.std.proofs.lemmas.List.{length-take}
+use Rattle.std.proofs.Common.{rules, ◌≡◌, ◌≤◌, Bool, true, false, cond, None, Some, Option, ℕ, List, find, reverse, take, length, refl, sym, ap, ◌∙◌, arith}
+use Rattle.std.proofs.lemmas.List.{length-take, take_all}
 use Rattle.bd_space.specs.declared.space.Frame.{Frame}
 use Rattle.bd_space.specs.Frames.{ancestry}
 use Rattle.bd_frames.specs.declared.table.FrameTable.{FrameTable}
 use Rattle.bd_frames.specs.Stands.{FramesAre}
 use Rattle.bd_frames.specs.Places.{frames_of}
 use Rattle.bd_frames.proofs.Ways.{way_ended, goes_on, goes_nowhere}
-use Rattle.bd_frames.proofs.Down.{take_whole}
 use Rattle.bd_frames.proofs.Standing.{own_rising}
 use Rattle.bd_frames.proofs.table.FrameTable.first_on_way.Goals as goal
 
@@ -20,8 +19,8 @@ loop-next-init g c = record {
   same = refl;
   within = omega (arith, c.len-end.ensures);
   rest = λ q by r.
-      let long : c.len-end.result ≡ length c.args.self.now.rows.items = omega (arith, c.len-end.ensures) in
-      ap (λ ys. find q (ancestry c.args.from (reverse (frames_of ys)))) (sym (take_whole c.len-end.result c.args.self.now.rows.items long));
+      let long : length c.args.self.now.rows.items ≤ c.len-end.result = omega (arith, c.len-end.ensures) in
+      ap (λ ys. find q (ancestry c.args.from (reverse (frames_of ys)))) (sym (take_all c.len-end.result c.args.self.now.rows.items long));
 }
 
 pub loop-next-preserved : goal.loop-next-preserved

@@ -13,7 +13,7 @@ returns c = λ l h.
     let seat = c.args.seat in
     let is = sym c.deref.ensures.value in
     let found = c.in_ok-push_served_down.ensures.served (subst (AreStacks t.stacks) is h.stacks_are) (subst (λ rs. IsRising 0 (frames_of rs)) is (own_rising t l h)) in
-    let from : c.len-from.result ≡ length c.args.served.now.items = omega (arith, c.len-from.ensures) in
+    let from : length c.args.served.now.items ≡ c.len-from.result = omega (arith, c.len-from.ensures) in
     c.reverse_from.ensures
     ∙ turned c.len-from.result c.args.served.now.items (map made_of (filter (λ (f : Frame). serves seat f.server) (frames_of c.deref.result.now))) _ from found
     ∙ ap (λ (xs : List Frame). c.args.served.now.items ++ map made_of (filter (λ f. serves seat f.server) xs)) (ap frames_of c.deref.ensures.value ∙ h.items_are)
