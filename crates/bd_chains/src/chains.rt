@@ -131,29 +131,34 @@ impl<T: Copy> Chains<T> {
         }
     }
 
-    // Writes a list's record.
-    fn set_ends(&mut self, list: usize, to: Ends)
-        ensures ends { is_open self.old list ≡ true → (m : ℕ) → ends_at self.new m ≡ (if list == m then to else ends_at self.old m) }
+    // Writes a list's record: its ends, where no key stands there, and its count.
+    fn set_ends(&mut self, list: usize, at: Gap, to: Gap, counted: u64)
+        ensures ends { is_open self.old list ≡ true → (m : ℕ) → ends_at self.new m
+            ≡ (if list == m then record {
+              first = end_or at.prev to.next (ends_at self.old list).first;
+              last = end_or at.next to.prev (ends_at self.old list).last;
+              counted = counted;
+            } else ends_at self.old m) }
         ensures open { (m : ℕ) → is_open self.new m ≡ is_open self.old m }
         ensures items { self.new.items ≡ self.old.items }
         ensures lists { list_room self.new ≡ list_room self.old }
     {
         if let Some(ends) = self.ends.get_mut(list) {
-            *ends = to;
+            ends.first = end_or(at.prev, to.next, ends.first);
+            ends.last = end_or(at.next, to.prev, ends.last);
+            ends.counted = counted;
         }
     }
 
     // What stands before a place on a list and what stands after it are told who comes next there, and who before. Where
-    // nothing stands, the list's record is told, of which nothing but the count has changed so far.
-    fn join(&mut self, list: usize, at: Gap, to: Gap, ends: Ends)
-        requires first { ends.first ≡ next_at self.old list None }
-        requires last { ends.last ≡ prev_at self.old list None }
+    // nothing stands, the list's record is told.
+    fn join(&mut self, list: usize, at: Gap, to: Gap, counted: u64)
         ensures nexts { is_open self.old list ≡ true → is_there self.old at.prev ≡ true
             → (m : ℕ) (o : Option ℕ) → next_at self.new m o ≡ (if hits list at.prev m o then to.next else next_at self.old m o) }
         ensures prevs { is_open self.old list ≡ true → is_there self.old at.next ≡ true
             → (m : ℕ) (o : Option ℕ) → prev_at self.new m o ≡ (if hits list at.next m o then to.prev else prev_at self.old m o) }
         ensures counts { is_open self.old list ≡ true → (m : ℕ) → count_at self.new m
-            ≡ (if list == m then ends.counted else count_at self.old m) }
+            ≡ (if list == m then counted else count_at self.old m) }
         ensures shown { (k : ℕ) → shown self.new k ≡ shown self.old k }
         ensures open { (m : ℕ) → is_open self.new m ≡ is_open self.old m }
         ensures len { slab_len self.new.items ≡ slab_len self.old.items }
@@ -162,16 +167,7 @@ impl<T: Copy> Chains<T> {
     {
         self.set_next(at.prev, to.next);
         self.set_prev(at.next, to.prev);
-        let first = end_or(at.prev, to.next, ends.first);
-        let last = end_or(at.next, to.prev, ends.last);
-        self.set_ends(
-            list,
-            Ends {
-                first,
-                last,
-                counted: ends.counted,
-            },
-        );
+        self.set_ends(list, at, to, counted);
     }
 
     // A value comes into a slot, whose neighbours aren't told.
@@ -323,7 +319,7 @@ impl<T: Copy> Chains<T> {
             next: Some(x),
         };
         let counted = raised(ends.counted, counted);
-        self.join(list, at, to, Ends { counted, ..ends });
+        self.join(list, at, to, counted);
         x
     }
 
@@ -342,7 +338,7 @@ impl<T: Copy> Chains<T> {
             next: item.next,
         };
         let counted = lowered(ends.counted, item.held.counted);
-        self.join(item.list, gap, gap, Ends { counted, ..ends });
+        self.join(item.list, gap, gap, counted);
         Some(item.held.value)
     }
 }

@@ -122,20 +122,14 @@ impl Spots {
         self.spots.get(&key).copied()
     }
 
-    fn count(&self, key: Sought) -> u64
-        ensures { result ≡ count_at self.now key }
-    {
-        match self.spot(key) {
-            Some(spot) => spot.count,
-            None => 0,
-        }
-    }
-
     /// Whether any is looked up so.
     pub fn has(&self, key: Sought) -> bool
         ensures { result ≡ nat_lt 0 (count_at self.now key) }
     {
-        self.count(key) > 0
+        match self.spot(key) {
+            Some(spot) => spot.count > 0,
+            None => false,
+        }
     }
 
     // One more that is looked up so.
