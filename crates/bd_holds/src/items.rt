@@ -159,9 +159,8 @@ impl Items {
         ensures ends { (c : ℕ) → end_at self.new c ≤ end_at self.old c }
         ensures uses { item_room self.old ≤ item_room self.new }
     {
-        let end = end_of(&self.ends, b);
+        let end = self.ends.remove(&b).unwrap_or(0);
         clear_to(&mut self.held, b, end);
-        let _gone = self.ends.remove(&b);
     }
 
     /// What lies in the window goes from all buffers.
