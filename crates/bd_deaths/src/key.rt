@@ -84,33 +84,33 @@ pub(crate) fn cookie_of(x: &DeathNotification) -> WordKey
 }
 
 /// With one more, of this place.
-pub(crate) fn with_one(group: Option<Sharers>, made: u32) -> Sharers
-    ensures { result ≡ keys.with_one made group }
+pub(crate) fn with_one(sharers: Option<Sharers>, made: u32) -> Sharers
+    ensures { result ≡ keys.with_one made sharers }
 {
-    match group {
+    match sharers {
         None => Sharers {
             count: 1,
             sum: made,
         },
-        Some(group) => Sharers {
-            count: group.count.wrapping_add(1),
-            sum: group.sum.wrapping_add(made),
+        Some(sharers) => Sharers {
+            count: sharers.count.wrapping_add(1),
+            sum: sharers.sum.wrapping_add(made),
         },
     }
 }
 
 /// Without one, of this place: nothing where it was the last.
-pub(crate) fn without_one(group: Option<Sharers>, made: u32) -> Option<Sharers>
-    ensures { result ≡ keys.without_one made group }
+pub(crate) fn without_one(sharers: Option<Sharers>, made: u32) -> Option<Sharers>
+    ensures { result ≡ keys.without_one made sharers }
 {
-    match group {
-        Some(group) => {
-            if group.count <= 1 {
+    match sharers {
+        Some(sharers) => {
+            if sharers.count <= 1 {
                 None
             } else {
                 Some(Sharers {
-                    count: group.count - 1,
-                    sum: group.sum.wrapping_sub(made),
+                    count: sharers.count - 1,
+                    sum: sharers.sum.wrapping_sub(made),
                 })
             }
         }

@@ -52,6 +52,10 @@ impl DeathList {
     pub(crate) fn has_key(&self, key: Key) -> bool
         ensures { Tells (AreIn self.now) result (λ l. list_any (keys.has key) l) }
     {
+        // Mostly there is none at all.
+        if self.slots.is_empty() {
+            return false;
+        }
         self.sharing.at(key).is_some()
     }
 

@@ -110,8 +110,7 @@ impl Counts {
                 *count = before.one_more(k.strong);
                 before
             }
-            // It doesn't come: there is room.
-            Err(_) => Count::none(),
+            Err(_) => unreachable!(),
         }
     }
 

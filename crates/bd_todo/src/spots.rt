@@ -145,8 +145,7 @@ impl Spots {
                 let count = spot.count.saturating_add(1);
                 *spot = Spot { count, slot };
             }
-            // It doesn't come: there is room.
-            Err(_) => {}
+            Err(_) => unreachable!(),
         }
     }
 

@@ -9,9 +9,9 @@ use Rattle.bd_holds.specs.Counted.{both_at, count_at}
 use Rattle.bd_holds.proofs.Keyed.{both_updated, set_more}
 use Rattle.bd_holds.proofs.counts.Counts.add.Goals as goal
 
-pub returns-in-Ok-clause-counts : goal.returns-in-Ok-clause-counts
+pub returns-clause-counts : goal.returns-clause-counts
 unfolding same_use same_key
-returns-in-Ok-clause-counts c = λ q few.
+returns-clause-counts c = λ q few.
     let k = c.args.k in
     let old = c.args.self.now in
     let u = c.use_of.result in

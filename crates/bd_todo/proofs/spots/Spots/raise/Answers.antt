@@ -6,8 +6,8 @@ use Rattle.bd_todo.specs.Spots.{same_sought, count_at}
 use Rattle.bd_todo.proofs.SoughtCounts.{count_updated, count_or, at_key}
 use Rattle.bd_todo.proofs.spots.Spots.raise.Goals as goal
 
-pub returns-in-Ok-clause-counts : goal.returns-in-Ok-clause-counts
-returns-in-Ok-clause-counts c = λ k.
+pub returns-clause-counts : goal.returns-clause-counts
+returns-clause-counts c = λ k.
     let old = c.args.self.now in
     let more = λ (n : ℕ). min (n + 1) 18446744073709551615 in
     let none : Spot = record { count = 0; slot = c.args.slot } in
