@@ -1,7 +1,7 @@
 //! What is kept of the seats from step to step: whether there is anything on the lists that each may read.
 #![tactic(auto)]
 
-ghost use Rattle.std.specs.Prelude.{ℕ, ◌≡◌, ◌==◌, Bool, List, map, if◌then◌else◌, Option, None, IfOk, option_map};
+ghost use Rattle.std.specs.Prelude.{ℕ, ◌≡◌, ◌==◌, Bool, List, map, if◌then◌else◌, Option, None, option_map};
 ghost use Rattle.bd_space.specs.declared.space.Thread as threads;
 ghost use Rattle.bd_space.specs.declared.space.TodoList as lists;
 ghost use Rattle.bd_space.specs.declared.space.Work as works;
@@ -14,7 +14,7 @@ use bd_space::{Thread, TodoList, Work};
 use bd_threads::ThreadTable;
 use bd_todo::WorkTable;
 use bd_uapi::MOST_SEATS;
-use std::alloc::{AllocError, Global};
+use std::alloc::Global;
 
 /// What was seen of a seat.
 #[derive(Clone, Copy)]
@@ -77,27 +77,6 @@ impl ReadySeats {
         ReadySeats {
             seats: Vec::new(alloc),
             whole: true,
-        }
-    }
-
-    /// Nothing is kept yet, of so many seats.
-    pub(crate) fn for_seats(alloc: Global, seats: u32) -> Result<ReadySeats, AllocError>
-        ensures { IfOk result (λ r. (seat : ℕ) → spec.seen_at r seat ≡ None) }
-    {
-        let seats = vec![in alloc; None; seats as usize]?;
-        Ok(ReadySeats {
-            seats,
-            whole: false,
-        })
-    }
-
-    /// What was seen of the seat, and is so still.
-    pub(crate) fn seen(&self, seat: u32) -> Option<Seen>
-        ensures { result ≡ spec.seen_at self.now seat }
-    {
-        match self.seats.get(seat as usize) {
-            Some(seen) => *seen,
-            None => None,
         }
     }
 

@@ -129,7 +129,11 @@ impl CallTable {
         ensures told { KeepsTold self.old self.new }
         ensures few { ReachesFew 0 self.old self.new }
     {
-        self.ready = ReadySeats::for_seats(alloc, seats)?;
+        let seats = vec![in alloc; None; seats as usize]?;
+        self.ready = ReadySeats {
+            seats,
+            whole: false,
+        };
         Ok(())
     }
 

@@ -80,9 +80,9 @@ impl CallTable {
     fn seen_at(&self, seat: u32) -> Seen
         ensures { (s : Space) → StandsFor self.now s → IsSeen s.threads (spec.has_work_in s.todo) seat result }
     {
-        match self.ready.seen(seat) {
-            Some(seen) => seen,
-            None => look_at(&self.threads, &self.todo, seat),
+        match self.ready.seats.get(seat as usize) {
+            Some(Some(seen)) => *seen,
+            _ => look_at(&self.threads, &self.todo, seat),
         }
     }
 

@@ -1,5 +1,7 @@
-use Rattle.std.proofs.Common.{sym, ◌∙◌}
+use Rattle.std.proofs.Common.{None, ap, sym, ◌∙◌, get_or}
 use Rattle.bd_calls.proofs.table.CallTable.seen_at.Goals as goal
 
-pub returns-in-Some : goal.returns-in-Some
-returns-in-Some c = λ s stands. stands.ready_are c.args.seat c.in-Some.seen (sym c.seen.ensures ∙ c.in-Some.is)
+pub returns-in-Some-Some : goal.returns-in-Some-Some
+returns-in-Some-Some c = λ s stands.
+    let item = c.in-Some-Some.ensures in
+    stands.ready_are c.args.seat c.in-Some-Some.seen (ap (λ xs. get_or xs c.args.seat None) (sym c.deref.ensures.value) ∙ sym (item.lookup.3.1 None) ∙ c.in-Some-Some.field-0-is)
