@@ -12,7 +12,7 @@ ghost use Rattle.bd_buffers.specs.WindowsStand.{made_of_buffer};
 ghost use Rattle.bd_objects.specs.Room.{reference_room};
 ghost use Rattle.bd_calls.specs.Room.{work_room};
 ghost use Rattle.bd_step.specs.Stands.{Before, Within, TellsBefore, TellsWithin, UsesNothing, KeepsTold};
-ghost use Rattle.bd_step.specs.{Meets.{Meets, IsBy, IsKept, IsStepWritten}, Plain.{IsGot}, Taking.{AreTaken, IsReading}};
+ghost use Rattle.bd_step.specs.{Meets.{Meets, IsBy, IsKept, IsStepWritten}, Plain.{IsGot}, Taking.{AreTaken, IsReading, works_in}};
 
 use crate::answer::{Brief, Plain, written};
 use crate::tables::{NOTHING, Tables};
@@ -23,12 +23,60 @@ use bd_objects::Room;
 use bd_space::{Actor, Buffer, Bytes, ObjectId, StepAnswer, Thread, TodoList, Work, WorkKind};
 use bd_uapi::{Fault, Return};
 use std::alloc::{AllocError, Global};
+use std::slice::from_ref;
+
+// Work items, in order. A read mostly takes one, for which no memory is asked.
+#[derive(Drop)]
+enum Taken {
+    Nothing,
+    One(Work),
+    Many(Vec<Work>),
+}
 
 // What a read takes: the work items, and the bytes of their returns after those of a BR_NOOP.
 #[derive(Drop)]
 struct Taking {
-    works: Vec<Work>,
+    works: Taken,
     stream: Vec<u8>,
+}
+
+// Both, one after the other.
+fn pair_of(alloc: Global, first: Work, second: Work) -> Result<Vec<Work>, AllocError>
+    ensures { IfOk result (λ works. works.items ≡ first ∷ second ∷ []) }
+{
+    let mut works = Vec::with_capacity(alloc, 2)?;
+    works.push(first)?;
+    works.push(second)?;
+    Ok(works)
+}
+
+impl Taken {
+    fn as_slice(&self) -> &[Work]
+        ensures value { result.now ≡ works_in self.now }
+    {
+        match self {
+            Taken::Nothing => &[],
+            Taken::One(work) => from_ref(work),
+            Taken::Many(works) => works.as_slice(),
+        }
+    }
+
+    fn len(&self) -> usize
+        ensures { result ≡ length (works_in self.now) }
+    {
+        self.as_slice().len()
+    }
+
+    fn push(&mut self, alloc: Global, work: Work) -> Result<(), AllocError>
+        ensures { OnOk result (works_in self.new ≡ works_in self.old ++ work ∷ []) }
+    {
+        match self {
+            Taken::Nothing => *self = Taken::One(work),
+            Taken::One(first) => *self = Taken::Many(pair_of(alloc, *first, work)?),
+            Taken::Many(works) => works.push(work)?,
+        }
+        Ok(())
+    }
 }
 
 // Nothing is read after it.
@@ -126,7 +174,7 @@ const LONGEST_OF_ONE: usize = 4 + 68;
 
 // Nothing is taken yet.
 fn begin(alloc: Global) -> Result<Taking, AllocError>
-    ensures works { IfOk result (λ t. t.works.items ≡ []) }
+    ensures works { IfOk result (λ t. works_in t.works ≡ []) }
     ensures stream { IfOk result (λ t. t.stream.items ≡ return_bytes Noop) }
 {
     let mut stream = Vec::with_capacity(alloc, LONGEST_OF_ONE)?;
@@ -134,7 +182,7 @@ fn begin(alloc: Global) -> Result<Taking, AllocError>
         return Err(AllocError);
     }
     Ok(Taking {
-        works: Vec::new(alloc),
+        works: Taken::Nothing,
         stream,
     })
 }
@@ -169,20 +217,19 @@ impl Tables {
 
     // One work item more is taken.
     fn select_one(&self, work: Work, taking: &mut Taking) -> Result<(), AllocError>
-        ensures works { OnOk result (taking.new.works.items ≡ taking.old.works.items ++ work ∷ []) }
+        ensures works { OnOk result (works_in taking.new.works ≡ works_in taking.old.works ++ work ∷ []) }
         ensures stream { OnOk result
             (TellsBefore self.now taking.new.stream.items (λ s. taking.old.stream.items ++ returns.bytes_read s work)) }
     {
         self.append_work(work.kind, &mut taking.stream)?;
-        taking.works.push(work)?;
-        Ok(())
+        taking.works.push(self.alloc, work)
     }
 
     // What a read takes off a list: item after item, while at least 68 bytes are left and none ends the read.
     fn select(&self, list: TodoList, limit: u32) -> Result<Taking, AllocError>
         ensures { IfOk result
             (λ t. (s : Space) → Before self.now s
-            → AreTaken s limit (todo.work_on s.todo (Some list)) t.works.items t.stream.items) }
+            → AreTaken s limit (todo.work_on s.todo (Some list)) (works_in t.works) t.stream.items) }
     {
         let mut taking = begin(self.alloc)?;
         for work in self.calls.works_on(list) {

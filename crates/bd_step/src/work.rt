@@ -19,13 +19,6 @@ use bd_space::{Actor, Buffer, Object, WorkKind};
 use bd_uapi::{Return, TransactionData};
 use std::alloc::AllocError;
 
-// One return, if there is one.
-fn alone(r: Option<Return>) -> [Option<Return>; 4]
-    ensures { flat_map option_to_list result ≡ option_to_list r }
-{
-    [r, None, None, None]
-}
-
 // What is read of a transaction or reply that was accepted.
 fn completion(spam: bool) -> Return
     ensures { result ≡ (if spam then br.OnewaySpamSuspect else br.TransactionComplete) }
@@ -50,8 +43,8 @@ fn append_one(r: &Option<Return>, out: &mut Vec<u8>) -> Result<(), AllocError>
     }
 }
 
-/// Appends the spelling of returns.
-pub(crate) fn append_returns(rs: &[Option<Return>], out: &mut Vec<u8>) -> Result<(), AllocError>
+// One after the other, those that are there.
+fn append_returns(rs: &[Option<Return>], out: &mut Vec<u8>) -> Result<(), AllocError>
     ensures { OnOk result (out.new.items ≡ out.old.items ++ concat (map return_bytes (flat_map option_to_list rs.now))) }
 {
     for r in rs {
@@ -101,7 +94,7 @@ impl Tables {
         }
     }
 
-    // The object that a call is on, if it is one.
+    // None where it is a reply, or where its object is gone.
     fn called_object(&self, b: &Buffer) -> Option<Object>
         ensures { TellsBefore self.now result (λ s. option_and_then (object_in s.objects) b.now.target) }
     {
@@ -155,31 +148,28 @@ impl Tables {
         }
     }
 
-    // The returns that a work item gives.
+    /// Appends the bytes of the returns that a work item gives: up to four for a notice, else one at most.
     #[tactic(auto, unfolding(bd_space::specs::Returns::returns_of))]
-    fn returns_of(&self, kind: WorkKind) -> [Option<Return>; 4]
-        ensures { TellsBefore self.now (flat_map option_to_list result) (λ s. spec.returns_of s kind) }
-    {
-        match kind {
-            WorkKind::Notice(o) => self.objects.notice_returns(o),
-            WorkKind::Complete { spam } => alone(Some(completion(spam))),
-            WorkKind::Refusal(r) => alone(Some(r)),
-            WorkKind::Verdict(r) => alone(Some(r)),
-            WorkKind::Call(b) => alone(self.record_at(b).map(Return::Transaction)),
-            WorkKind::Reply(b) => alone(self.record_at(b).map(Return::Reply)),
-            WorkKind::Death(n) => alone(
-                self.objects.death(n).map(|x| Return::DeadBinder(x.cookie)),
-            ),
-            WorkKind::Cleared(cookie) => alone(Some(Return::ClearDeathNotificationDone(cookie))),
-        }
-    }
-
-    /// Appends the bytes of the returns that a work item gives.
     pub(crate) fn append_work(&self, kind: WorkKind, out: &mut Vec<u8>) -> Result<(), AllocError>
         ensures { OnOk result
             (TellsBefore self.now out.new.items
             (λ s. out.old.items ++ concat (map return_bytes (spec.returns_of s kind)))) }
     {
-        append_returns(&self.returns_of(kind), out)
+        match kind {
+            WorkKind::Notice(o) => append_returns(&self.objects.notice_returns(o), out),
+            WorkKind::Complete { spam } => append_one(&Some(completion(spam)), out),
+            WorkKind::Refusal(r) => append_one(&Some(r), out),
+            WorkKind::Verdict(r) => append_one(&Some(r), out),
+            WorkKind::Call(b) => append_one(&self.record_at(b).map(Return::Transaction), out),
+            WorkKind::Reply(b) => append_one(&self.record_at(b).map(Return::Reply), out),
+            WorkKind::Death(n) => {
+                let death = self.objects.death(n);
+                append_one(&death.map(|x| Return::DeadBinder(x.cookie)), out)
+            }
+            WorkKind::Cleared(cookie) => append_one(
+                &Some(Return::ClearDeathNotificationDone(cookie)),
+                out,
+            ),
+        }
     }
 }
