@@ -3,8 +3,8 @@
 use Rattle.bd_laws.proofs.words.Logic.{◌≡◌, ◌≤◌, ◌<◌, ◌+◌, ℕ, Bool, true, false, ◌||◌, List, [], ◌∷◌, ◌++◌, length, take, drop, get_or, Some, refl, ap, sym, ◌∙◌, subst, arith, length-append, nat_lt, nat_le, list_all, lt-leb, take-append-drop, take_all, take_more}
 use Rattle.bd_laws.proofs.words.Types.{Entry, StepAnswer, Step}
 use Rattle.bd_laws.proofs.words.Space.{Space, opening, step, History, IsHistory, EntryFollows, Follows, after, next, space_after, is_at_limit}
-use Rattle.bd_engine.specs.Why.{Why}
-use Rattle.bd_engine.specs.Why.TheVariants as why
+use Rattle.bd_engine.specs.StepError.{StepError}
+use Rattle.bd_engine.specs.StepError.TheVariants as why
 use Rattle.bd_engine.specs.Refusals.{FullOnly}
 use Rattle.bd_audit.specs.declared.judging.AuditFault.{AuditFault}
 use Rattle.bd_audit.specs.declared.judging.AuditFault.TheVariants.{Unlawful, NoMemory}
@@ -69,16 +69,16 @@ past_limit h e limit k =
     absurd (cc)
 
 -- an engine refuses a step for want of memory, or it is past the limit
-pub refused : (h : History) (e : Entry) (at : ℕ) (w : Why) (x : Step) (f : AuditFault) → f ≡ fault_of w at → x ≡ e.step → FullOnly w (is_at_limit h e.seat (Some x) ≡ true)
+pub refused : (h : History) (e : Entry) (at : ℕ) (w : StepError) (x : Step) (f : AuditFault) → f ≡ fault_of w at → x ≡ e.step → FullOnly w (is_at_limit h e.seat (Some x) ≡ true)
     → IfUnlawful f (λ at. IsHistory (with_entry h e) → ⊥)
 refused h e at w x f is same_step full = search (arith, past_limit)
 
 -- An engine refuses an entry's step as unlawful only at the place where the history ends, and the entry doesn't continue it.
-pub refused_here : (h : History) (e : Entry) (at : ℕ) (w : Why) (x : Step) (f : AuditFault) → f ≡ fault_of w at → x ≡ e.step → FullOnly w (is_at_limit h e.seat (Some x) ≡ true) → at ≡ length h.entries
+pub refused_here : (h : History) (e : Entry) (at : ℕ) (w : StepError) (x : Step) (f : AuditFault) → f ≡ fault_of w at → x ≡ e.step → FullOnly w (is_at_limit h e.seat (Some x) ≡ true) → at ≡ length h.entries
     → IfUnlawful f (λ n. (n ≡ length h.entries) × (IsHistory (with_entry h e) → ⊥))
 refused_here h e at w x f is same_step full so_long = by f is (refused h e at w x f is same_step full)
   where
-    named : (n : ℕ) (w : Why) → Unlawful n ≡ fault_of w at → n ≡ at
+    named : (n : ℕ) (w : StepError) → Unlawful n ≡ fault_of w at → n ≡ at
     named n why.HistoryFull is = cc
     named n why.NoMemory is = absurd cc
 

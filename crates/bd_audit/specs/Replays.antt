@@ -3,8 +3,8 @@ use Rattle.std.specs.Prelude.{ℕ, ◌+◌, ◌<◌, ◌≡◌, [], ◌∷◌, �
 use Rattle.bd_ways.specs.Words.{Entry}
 use Rattle.std.specs.List.{slice_get}
 use Rattle.bd_space.specs.Histories.{History, IsHistory, history_of, BeginsWith}
-use Rattle.bd_engine.specs.Why.{Why}
-use Rattle.bd_engine.specs.Why.TheVariants as why
+use Rattle.bd_engine.specs.StepError.{StepError}
+use Rattle.bd_engine.specs.StepError.TheVariants as why
 use Rattle.bd_audit.specs.declared.judging.AuditFault.{AuditFault}
 use Rattle.bd_audit.specs.declared.judging.AuditFault.TheVariants.{Unlawful, NoMemory}
 
@@ -32,7 +32,7 @@ IfNoMemory (Unlawful at) P = Unit {0}
 IfNoMemory NoMemory P = P
 
 -- what an engine's refusal says of the entry at this place: one that no history has a place for isn't lawful
-abbrev pub fault_of : Why → ℕ → AuditFault
+abbrev pub fault_of : StepError → ℕ → AuditFault
 fault_of why.HistoryFull at = Unlawful at
 fault_of why.NoMemory at = NoMemory
 

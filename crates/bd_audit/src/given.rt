@@ -8,7 +8,7 @@ ghost use Rattle.bd_audit.specs.Given as spec;
 ghost use Rattle.bd_audit.specs.Replays.{beginning};
 
 use crate::playing::entry_at;
-use bd_engine::{Why, WideEngine};
+use bd_engine::{StepError, WideEngine};
 use bd_space::{Entry, Record, StepAnswer};
 use bd_uapi::Fault;
 use std::alloc::Global;
@@ -35,8 +35,8 @@ fn given_to(mut engine: WideEngine, entry: &Entry) -> Result<Given, Fault>
     };
     match engine.step(entry.seat, step) {
         Ok(answer) => Ok(Given::Answer(answer)),
-        Err(Why::HistoryFull) => Ok(Given::NoStep),
-        Err(Why::NoMemory) => Err(Fault::NoMemory),
+        Err(StepError::HistoryFull) => Ok(Given::NoStep),
+        Err(StepError::NoMemory) => Err(Fault::NoMemory),
     }
 }
 

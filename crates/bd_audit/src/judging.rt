@@ -8,7 +8,7 @@ ghost use Rattle.bd_audit.specs.Replays.{with_entry, Begins, IfUnlawful, IfNoMem
 
 use crate::answers::is_same_answer;
 use crate::judge::Judge;
-use bd_engine::{Live, Why, WideEngine};
+use bd_engine::{Live, StepError, WideEngine};
 use bd_space::{Entry, Record};
 use std::alloc::Global;
 
@@ -25,12 +25,12 @@ pub enum AuditFault {
 }
 
 // What the engine's refusal of the entry at this place means for the record.
-fn fault_of(why: Why, at: u32) -> AuditFault
+fn fault_of(why: StepError, at: u32) -> AuditFault
     ensures { result ≡ spec.fault_of why at }
 {
     match why {
-        Why::HistoryFull => AuditFault::Unlawful { at },
-        Why::NoMemory => AuditFault::NoMemory,
+        StepError::HistoryFull => AuditFault::Unlawful { at },
+        StepError::NoMemory => AuditFault::NoMemory,
     }
 }
 

@@ -5,7 +5,7 @@ ghost use Rattle.bd_c.specs.Lives.{Begins, IsLiveRefusal, Steps};
 
 use crate::answers::Told;
 use crate::status::Status;
-use bd_engine::{Live, Why};
+use bd_engine::{Live, StepError};
 use bd_space::{Entry, Step, TodoList};
 use std::alloc::Global;
 
@@ -66,8 +66,8 @@ impl OwnedLive {
                 std::mem::swap(&mut self.ended, &mut self.spare);
                 Status::Done
             }
-            Err(Why::NoMemory) => Status::NoMemory,
-            Err(Why::HistoryFull) => Status::HistoryFull,
+            Err(StepError::NoMemory) => Status::NoMemory,
+            Err(StepError::HistoryFull) => Status::HistoryFull,
         }
     }
 

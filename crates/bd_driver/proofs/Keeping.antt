@@ -12,7 +12,7 @@ use Rattle.bd_driver.specs.Rule.{bit_of, home_of, HasTaker, Fits, Kept}
 use Rattle.bd_driver.specs.Steps.{Hands}
 use Rattle.bd_driver.specs.declared.view.View.{View}
 use Rattle.bd_driver.specs.declared.view.Handover.{Handover}
-use Rattle.bd_driver.specs.declared.view.Pick.TheVariants.{Nothing}
+use Rattle.bd_driver.specs.declared.view.Picking.TheVariants.{Nothing}
 use Rattle.bd_driver.specs.declared.slot.Slot.{Slot}
 use Rattle.bd_driver.specs.Mailboxes.{Mailbox, mark, inside_of, pending, since_of, MailboxFits, PickFits}
 use Rattle.bd_driver.proofs.Views.{each_map, each_set}

@@ -19,8 +19,8 @@ use Rattle.bd_driver.specs.Rule.{bit_of, home_of, HasTaker, Fits, Kept}
 use Rattle.bd_driver.specs.declared.view.View.{View}
 use Rattle.bd_driver.specs.declared.view.Handover.{Handover}
 use Rattle.bd_driver.specs.declared.view.Handover.TheVariants.{Shut, Open, Waiting}
-use Rattle.bd_driver.specs.declared.view.Pick.{Pick}
-use Rattle.bd_driver.specs.declared.view.Pick.TheVariants.{Nothing, Picked}
+use Rattle.bd_driver.specs.declared.view.Picking.{Picking}
+use Rattle.bd_driver.specs.declared.view.Picking.TheVariants.{Nothing, Picked}
 use Rattle.bd_driver.specs.declared.outcome.Outcome.{Outcome}
 use Rattle.bd_driver.specs.declared.slot.Slot.{Slot}
 use Rattle.bd_driver.specs.declared.slot.Slot.TheVariants.{Posted, Answered, Empty}
@@ -34,7 +34,7 @@ use Rattle.bd_driver.proofs.Looks.{of_one}
 use Rattle.bd_driver.proofs.Keeping.{Granted, review, restate}
 
 -- what is picked stays so where another mailbox changes
-pick_else : (mailboxes : List Mailbox) (i : ℕ) (b new : Mailbox) (p : Pick) → get_elem? mailboxes i ≡ some b → is_picked b ≡ false → PickFits mailboxes p → PickFits (set mailboxes i new) p
+pick_else : (mailboxes : List Mailbox) (i : ℕ) (b new : Mailbox) (p : Picking) → get_elem? mailboxes i ≡ some b → is_picked b ≡ false → PickFits mailboxes p → PickFits (set mailboxes i new) p
 pick_else mailboxes i b new Nothing at off h = tt
 pick_else mailboxes i b new (Picked j r since start count) at off h =
     set_else mailboxes i j new (λ (e : j ≡ i). let same : b ≡ picked r since start count = some-injective _ _ (sym at ∙ (ap (get_elem? mailboxes) (sym e) ∙ h)) in true≢false (sym (ap is_picked same) ∙ off)) ∙ h

@@ -10,7 +10,7 @@ use Rattle.bd_driver.specs.Words.{page_word}
 use Rattle.bd_driver.specs.Rule.{Kept}
 use Rattle.bd_driver.specs.declared.view.View.{View}
 use Rattle.bd_driver.specs.declared.view.Handover.TheVariants.{Open}
-use Rattle.bd_driver.specs.declared.view.Pick.TheVariants.{Nothing}
+use Rattle.bd_driver.specs.declared.view.Picking.TheVariants.{Nothing}
 use Rattle.bd_driver.specs.declared.slot.Slot.{Slot}
 use Rattle.bd_driver.specs.declared.slot.Slot.TheVariants.{Home}
 use Rattle.bd_driver.specs.Steps.{Hands, entries_in, published_at, published, put_at, put}

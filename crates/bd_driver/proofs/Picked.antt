@@ -4,8 +4,8 @@ use mathlib.Core.Option.{some}
 use lib.ListN.{get_elem?}
 use Rattle.atomic_table.proofs.Lists.{at_set}
 use Rattle.bd_space.specs.declared.step.Request.{Request}
-use Rattle.bd_driver.specs.declared.view.Pick.{Pick}
-use Rattle.bd_driver.specs.declared.view.Pick.TheVariants.{Nothing, Picked}
+use Rattle.bd_driver.specs.declared.view.Picking.{Picking}
+use Rattle.bd_driver.specs.declared.view.Picking.TheVariants.{Nothing, Picked}
 use Rattle.bd_driver.specs.Mailboxes.{Mailbox, shut, empty, posted, picked, answered, PickedAs}
 
 abbrev pub is_picked : Mailbox → Bool
@@ -16,18 +16,18 @@ is_picked (picked r n start count) = true
 is_picked (answered r n o) = false
 
 -- what was picked at a mailbox of this number
-abbrev as_pick : ℕ → Mailbox → Pick
+abbrev as_pick : ℕ → Mailbox → Picking
 as_pick i shut = Nothing
 as_pick i empty = Nothing
 as_pick i (posted r n) = Nothing
 as_pick i (picked r n start count) = Picked i r n start count
 as_pick i (answered r n o) = Nothing
 
-abbrev is_some_pick : Pick → Bool
+abbrev is_some_pick : Picking → Bool
 is_some_pick Nothing = false
 is_some_pick (Picked i r since start count) = true
 
-abbrev seat_in : Pick → ℕ
+abbrev seat_in : Picking → ℕ
 seat_in Nothing = 0
 seat_in (Picked i r since start count) = i
 
@@ -42,21 +42,21 @@ pub one_else : (mailboxes : List Mailbox) (i : ℕ) (r : Request) (since start c
 one_else mailboxes i r since start count h = λ j q n b m apart e. apart (sym (ap seat_in (h j q n b m e)))
 
 -- a mailbox changes to one that isn't picked
-pub picked_else : (mailboxes : List Mailbox) (i : ℕ) (new : Mailbox) (p : Pick) → is_picked new ≡ false → PickedAs mailboxes p → PickedAs (set mailboxes i new) p
+pub picked_else : (mailboxes : List Mailbox) (i : ℕ) (new : Mailbox) (p : Picking) → is_picked new ≡ false → PickedAs mailboxes p → PickedAs (set mailboxes i new) p
 picked_else mailboxes i new p off h = λ j r since start count e.
     ⊎_elim (λ (y : (j ≡ i) × (new ≡ picked r since start count)). absurd (true≢false (sym (ap is_picked y.1) ∙ off)))
     (λ (y : (j ≢ i) × (get_elem? mailboxes j ≡ some (picked r since start count))). h j r since start count y.1)
     (at_set mailboxes i j new (picked r since start count) e)
 
 -- the one picked mailbox is no longer picked
-pub picked_gone : (mailboxes : List Mailbox) (i : ℕ) (new : Mailbox) (p : Pick) → is_picked new ≡ false → NoneElse mailboxes i → PickedAs (set mailboxes i new) p
+pub picked_gone : (mailboxes : List Mailbox) (i : ℕ) (new : Mailbox) (p : Picking) → is_picked new ≡ false → NoneElse mailboxes i → PickedAs (set mailboxes i new) p
 picked_gone mailboxes i new p off else = λ j r since start count e.
     ⊎_elim (λ (y : (j ≡ i) × (new ≡ picked r since start count)). absurd (true≢false (sym (ap is_picked y.1) ∙ off)))
     (λ (y : (j ≢ i) × (get_elem? mailboxes j ≡ some (picked r since start count))). absurd (else j r since start count y.0 y.1))
     (at_set mailboxes i j new (picked r since start count) e)
 
 -- a mailbox is picked, or its places are published
-pub picked_set : (mailboxes : List Mailbox) (i : ℕ) (r : Request) (since start count : ℕ) (p : Pick) → NoneElse mailboxes i → p ≡ Picked i r since start count → PickedAs (set mailboxes i (picked r since start count)) p
+pub picked_set : (mailboxes : List Mailbox) (i : ℕ) (r : Request) (since start count : ℕ) (p : Picking) → NoneElse mailboxes i → p ≡ Picked i r since start count → PickedAs (set mailboxes i (picked r since start count)) p
 picked_set mailboxes i r since start count p else is = λ j q n b m e.
     ⊎_elim (λ (y : (j ≡ i) × (picked r since start count ≡ picked q n b m)). is ∙ (ap (as_pick i) y.1 ∙ ap (λ (z : ℕ). Picked z q n b m) (sym y.0)))
     (λ (y : (j ≢ i) × (get_elem? mailboxes j ≡ some (picked q n b m))). absurd (else j q n b m y.0 y.1))

@@ -11,15 +11,15 @@ use Rattle.bd_space.specs.Runs.{IsAtLimit, HasEntry, HasRun, IsRun}
 use Rattle.bd_driver.specs.Views.{ready_of, places, tick, view_of}
 use Rattle.bd_driver.specs.Words.{page_word}
 use Rattle.bd_driver.specs.Rule.{Kept}
-use Rattle.bd_engine.specs.Why.{Why as Refused}
-use Rattle.bd_engine.specs.Why.TheVariants.{NoMemory as Memory, HistoryFull as Full}
+use Rattle.bd_engine.specs.StepError.{StepError}
+use Rattle.bd_engine.specs.StepError.TheVariants.{NoMemory as Memory, HistoryFull as Full}
 use Rattle.bd_engine.specs.Refusals.{FullOnly, MemoryOnly}
 use Rattle.bd_engine.specs.declared.run.Ran.{Ran as HasRan}
 use Rattle.bd_driver.specs.declared.outcome.Outcome.TheVariants.{Done, Back, Handed}
 use Rattle.bd_driver.specs.Reasons.{reason_of}
 use Rattle.bd_driver.specs.declared.view.View.{View}
-use Rattle.bd_driver.specs.declared.view.Pick.{Pick}
-use Rattle.bd_driver.specs.declared.view.Pick.TheVariants.{Nothing, Picked}
+use Rattle.bd_driver.specs.declared.view.Picking.{Picking}
+use Rattle.bd_driver.specs.declared.view.Picking.TheVariants.{Nothing, Picked}
 use Rattle.bd_driver.specs.declared.slot.Slot.{Slot}
 use Rattle.bd_driver.specs.declared.slot.Slot.TheVariants.{Home, Answered, Empty}
 use Rattle.bd_driver.specs.declared.outcome.Outcome.{Outcome}
@@ -80,7 +80,7 @@ module _ (m : Hands) (i : ℕ) (r : Request) (e0 : History) (p : IsPicked m i r 
   }
 
   -- the engine has run what was picked, or refused it and is as it was
-  pub follows_for : (e1 : History) (ran : Result HasRan Refused) → IfOk ran (λ x. HasRun e0 e1 i r x.answer x.from x.to) → OnErr ran (e1 ≡ e0) → FollowsFor v i e1
+  pub follows_for : (e1 : History) (ran : Result HasRan StepError) → IfOk ran (λ x. HasRun e0 e1 i r x.answer x.from x.to) → OnErr ran (e1 ≡ e0) → FollowsFor v i e1
   follows_for e1 (Ok x) h same =
       let st : x.from ≡ length v.seen = h.starts ∙ ap length entries_are in
       let en : x.to ≡ length v.seen + length h.run = let a = ap (length {A = Entry}) h.grown in let b = length-append e0.entries h.run in let c = h.ends in let d : length e0.entries ≡ length v.seen = ap length entries_are in omega arith in
@@ -105,12 +105,12 @@ module _ (m : Hands) (i : ℕ) (r : Request) (e0 : History) (p : IsPicked m i r 
     runs = inl refl;
   }
 
-  reason_is : (why : Refused) → FullOnly why (IsAtLimit e0 i r) → MemoryOnly why (HasPlace e0) → HasEntry e0 i r → IsReason v.seats v.seen i r (reason_of why)
+  reason_is : (why : StepError) → FullOnly why (IsAtLimit e0 i r) → MemoryOnly why (HasPlace e0) → HasEntry e0 i r → IsReason v.seats v.seen i r (reason_of why)
   reason_is Memory full place some = (subst HasPlace p.stands place, subst (λ z. HasEntry z i r) p.stands some)
   reason_is Full full place some = (subst (λ z. IsAtLimit z i r) p.stands full, subst (λ z. HasEntry z i r) p.stands some)
 
   -- what came of it, and what is then published
-  pub runs_as : (e1 : History) (ran : Result HasRan Refused) (o : Outcome) → MatchResult ran (λ x. o ≡ Done x.answer x.from x.to) (λ why. o ≡ Back r (reason_of why)) → IfOk ran (λ x. HasRun e0 e1 i r x.answer x.from x.to)
+  pub runs_as : (e1 : History) (ran : Result HasRan StepError) (o : Outcome) → MatchResult ran (λ x. o ≡ Done x.answer x.from x.to) (λ why. o ≡ Back r (reason_of why)) → IfOk ran (λ x. HasRun e0 e1 i r x.answer x.from x.to)
       → OnErr ran (e1 ≡ e0) → IfErr ran (λ why. FullOnly why (IsAtLimit e0 i r)) → IfErr ran (λ why. MemoryOnly why (HasPlace e0)) → IfErr ran (λ _. HasEntry e0 i r) → RunsAs v.seats i r o v.seen e1.entries
   runs_as e1 (Ok x) o is h same full place some =
       let now : e1 ≡ history_of v.seats e1.entries = λ j. history_of ((h.seats ∙ ap (λ (e : History). e.seats) p.stands) j) e1.entries in
@@ -131,12 +131,12 @@ module _ (m : Hands) (i : ℕ) (r : Request) (e0 : History) (p : IsPicked m i r 
   }
 
   -- once it is published, the outcome answers what was picked
-  pub answers_ran : (e1 : History) (ran : Result HasRan Refused) (o : Outcome) (n : ℕ) (m' : Hands) → MatchResult ran (λ x. o ≡ Done x.answer x.from x.to) (λ why. o ≡ Back r (reason_of why)) → IfOk ran (λ x. HasRun e0 e1 i r x.answer x.from x.to)
+  pub answers_ran : (e1 : History) (ran : Result HasRan StepError) (o : Outcome) (n : ℕ) (m' : Hands) → MatchResult ran (λ x. o ≡ Done x.answer x.from x.to) (λ why. o ≡ Back r (reason_of why)) → IfOk ran (λ x. HasRun e0 e1 i r x.answer x.from x.to)
       → OnErr ran (e1 ≡ e0) → IfErr ran (λ why. FullOnly why (IsAtLimit e0 i r)) → IfErr ran (λ why. MemoryOnly why (HasPlace e0)) → IfErr ran (λ _. HasEntry e0 i r) → m' ≡ (served_at v n e1.entries ∷ [], (i + 1, Empty) ∷ rest m.1) → AnswersPick (view_of m'.0) i o
   answers_ran e1 ran o n m' is h same full place some after =
       subst (λ x. AnswersPick x i o) (sym (ap (λ (x : Hands). view_of x.0) after)) (subst (AnswersPick (served_at v n e1.entries) i) refl (go ran is h same full place some))
     where
-      go : (ran : Result HasRan Refused) → MatchResult ran (λ x. o ≡ Done x.answer x.from x.to) (λ why. o ≡ Back r (reason_of why)) → IfOk ran (λ x. HasRun e0 e1 i r x.answer x.from x.to)
+      go : (ran : Result HasRan StepError) → MatchResult ran (λ x. o ≡ Done x.answer x.from x.to) (λ why. o ≡ Back r (reason_of why)) → IfOk ran (λ x. HasRun e0 e1 i r x.answer x.from x.to)
           → OnErr ran (e1 ≡ e0) → IfErr ran (λ why. FullOnly why (IsAtLimit e0 i r)) → IfErr ran (λ why. MemoryOnly why (HasPlace e0)) → IfErr ran (λ _. HasEntry e0 i r) → AnswersPick (served_at v n e1.entries) i o
       go (Ok x) is h same full place some =
           let st : length v.seen ≡ x.from = sym (h.starts ∙ ap length entries_are) in
@@ -149,12 +149,12 @@ module _ (m : Hands) (i : ℕ) (r : Request) (e0 : History) (p : IsPicked m i r 
           (ap (places (length v.seen)) none_more))
 
   -- the whole of it, once answered
-  seats_after : (e1 : History) (ran : Result HasRan Refused) → IfOk ran (λ x. HasRun e0 e1 i r x.answer x.from x.to) → OnErr ran (e1 ≡ e0) → e1.seats ≡ e0.seats
+  seats_after : (e1 : History) (ran : Result HasRan StepError) → IfOk ran (λ x. HasRun e0 e1 i r x.answer x.from x.to) → OnErr ran (e1 ≡ e0) → e1.seats ≡ e0.seats
   seats_after e1 (Ok x) h same = h.seats
   seats_after e1 (Err why) h same = ap (λ (e : History). e.seats) same
 
   -- once that is answered the taker serves on
-  pub serves_on : (e1 : History) (ran : Result HasRan Refused) → IfOk ran (λ x. HasRun e0 e1 i r x.answer x.from x.to) → OnErr ran (e1 ≡ e0) → (o : Outcome) (n : ℕ) (m' m'' : Hands)
+  pub serves_on : (e1 : History) (ran : Result HasRan StepError) → IfOk ran (λ x. HasRun e0 e1 i r x.answer x.from x.to) → OnErr ran (e1 ≡ e0) → (o : Outcome) (n : ℕ) (m' m'' : Hands)
       → m' ≡ (served_at v n e1.entries ∷ [], (i + 1, Empty) ∷ rest m.1) → m'' ≡ (answered_at (view_of m'.0) 2 o ∷ [], rest m'.1) → Serving m'' e1 × (e1.seats ≡ e0.seats)
   serves_on e1 ran h same o n m' m'' after last =
       let seats = seats_after e1 ran h same in (
@@ -174,7 +174,7 @@ module _ (m : Hands) (i : ℕ) (r : Request) (e0 : History) (p : IsPicked m i r 
       subst (RanPicked m i r) (sym (last ∙ ap (λ (x : Hands). (answered_at (view_of x.0) 2 o ∷ [], rest x.1)) after)) (record {
         outcome = o;
         runs = runs;
-        answers = ap (λ (q : Pick). v.answers ++ letter_to (served_at v n e1.entries) q o) pick;
+        answers = ap (λ (q : Picking). v.answers ++ letter_to (served_at v n e1.entries) q o) pick;
         answer_step = refl;
         publishes = refl;
         picks = refl;

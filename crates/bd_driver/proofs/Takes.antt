@@ -19,7 +19,7 @@ use Rattle.bd_driver.proofs.Places.{own_grow}
 use Rattle.bd_driver.proofs.Keeping.{Granted, review, reseat, restate, repage}
 use Rattle.bd_driver.proofs.Views.{inside, keeps_taker, taker_has, starts_all}
 use Rattle.bd_driver.specs.declared.view.Handover.TheVariants.{Open}
-use Rattle.bd_driver.specs.declared.view.Pick.TheVariants.{Nothing}
+use Rattle.bd_driver.specs.declared.view.Picking.TheVariants.{Nothing}
 use Rattle.bd_driver.specs.Mailboxes.{PickedAs, mark, inside_of, pending, since_of, MailboxFits}
 use Rattle.bd_driver.proofs.Mailboxes.{longer, fits_longer, open_mailbox, relog}
 use Rattle.bd_driver.proofs.Looks.{found_word, found_page, of_one}

@@ -7,8 +7,8 @@ use lib.ListN.{get_elem?}
 use Rattle.atomic_table.proofs.Lists.{at_set, set_here, set_else}
 use Rattle.bd_space.specs.declared.step.Entry.{Entry}
 use Rattle.bd_driver.specs.declared.view.View.{View}
-use Rattle.bd_driver.specs.declared.view.Pick.{Pick}
-use Rattle.bd_driver.specs.declared.view.Pick.TheVariants.{Nothing}
+use Rattle.bd_driver.specs.declared.view.Picking.{Picking}
+use Rattle.bd_driver.specs.declared.view.Picking.TheVariants.{Nothing}
 use Rattle.bd_driver.specs.Mailboxes.{Mailbox, PickedAs}
 use Rattle.bd_space.specs.Histories.{BeginsWith}
 use Rattle.bd_driver.specs.Views.{Each}
@@ -43,7 +43,7 @@ each_set P views id new others mine j vs e =
 
 -- the taker stays one where its next view is a taker's too, with the same pick, and what is picked stays so
 pub keeps_taker : (views : List (List View)) (id : ℕ) (v w : View) (mailboxes now : List Mailbox) (taken_by : Option ℕ) → get_elem? views id ≡ some (v ∷ []) → (v.taker ≡ true → w.taker ≡ true) → w.pick ≡ v.pick
-    → ((p : Pick) → PickedAs mailboxes p → PickedAs now p) → HasTaker views mailboxes taken_by → HasTaker (set views id (w ∷ [])) now taken_by
+    → ((p : Picking) → PickedAs mailboxes p → PickedAs now p) → HasTaker views mailboxes taken_by → HasTaker (set views id (w ∷ [])) now taken_by
 keeps_taker views id v w mailboxes now none at same pick_is picks h = picks Nothing h
 keeps_taker views id v w mailboxes now (some t) at same pick_is picks h =
     dite (ℕ_discrete t id)
@@ -64,7 +64,7 @@ taker_has views id v mailboxes at h =
     let both : v ∷ [] ≡ h.0 ∷ [] = some-injective _ _ (sym at ∙ h.1) in
     subst (PickedAs mailboxes) (sym (ap (λ (l : List View). pick_or v.pick l) both)) h.3
   where
-    pick_or : Pick → List View → Pick
+    pick_or : Picking → List View → Picking
     pick_or p [] = p
     pick_or p (x ∷ xs) = x.pick
 

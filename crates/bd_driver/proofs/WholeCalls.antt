@@ -8,8 +8,8 @@ use Rattle.bd_space.specs.Runs.{AllBy, HasRun, IsRun, HasEntry, IsAtLimit}
 use Rattle.bd_driver.specs.Views.{places, view_of}
 use Rattle.std.specs.Prelude.{Result, Ok, Err, MatchResult, IfOk, IfErr, OnErr}
 use Rattle.bd_engine.specs.declared.run.Ran.{Ran}
-use Rattle.bd_engine.specs.Why.{Why as Refused}
-use Rattle.bd_engine.specs.Why.TheVariants.{NoMemory as Memory, HistoryFull as Full}
+use Rattle.bd_engine.specs.StepError.{StepError}
+use Rattle.bd_engine.specs.StepError.TheVariants.{NoMemory as Memory, HistoryFull as Full}
 use Rattle.bd_engine.specs.Refusals.{FullOnly, MemoryOnly}
 use Rattle.bd_driver.specs.declared.view.View.{View}
 use Rattle.bd_driver.specs.declared.outcome.Outcome.{Outcome}
@@ -22,7 +22,7 @@ use Rattle.bd_driver.proofs.Views.{starts_longer}
 
 -- what an engine has run that was taken is of this seat, and comes after what the seat has then seen
 pub run_follows : (v : View) (number : ℕ) (me : number ≡ v.who) (xs : List (ℕ × Slot)) (m : Hands) (e0 e1 : History) (request : Request) → Takes v xs m (Some e0)
-    → (ran : Result Ran Refused) → IfOk ran (λ x. HasRun e0 e1 number request x.answer x.from x.to) → OnErr ran (e1 ≡ e0) → Follows (view_of m.0) e1
+    → (ran : Result Ran StepError) → IfOk ran (λ x. HasRun e0 e1 number request x.answer x.from x.to) → OnErr ran (e1 ≡ e0) → Follows (view_of m.0) e1
 run_follows v number me xs m e0 e1 request t (Ok x) h same = subst (λ w. Follows w e1) (sym (ap view_of t.view)) (record {
   seats = h.seats ∙ ap (λ (e : History). e.seats) t.engine.1;
   run = h.run;
@@ -81,11 +81,11 @@ module _ (v : View) (number : ℕ) (me : number ≡ v.who) (m m' : Hands) (e0 e1
         };
       })
 
-  page : (why : Refused) → PageSteps v w (Back request (reason_of why))
+  page : (why : StepError) → PageSteps v w (Back request (reason_of why))
   page Memory = (refl, refl)
   page Full = (refl, refl)
 
-  back_calls : (why : Refused) → e1 ≡ e0 → IsWhy w request (reason_of why) → Calls v (view_of m'.0) request (Back request (reason_of why))
+  back_calls : (why : StepError) → e1 ≡ e0 → IsWhy w request (reason_of why) → Calls v (view_of m'.0) request (Back request (reason_of why))
   back_calls why same is =
       let entries : e1.entries ≡ t.entries = ap (λ (e : History). e.entries) same ∙ entries_are in
       let none_more : length e1.entries - length t.entries ≡ 0 = let a = ap (length {A = Entry}) entries in omega arith in
@@ -105,12 +105,12 @@ module _ (v : View) (number : ℕ) (me : number ≡ v.who) (m m' : Hands) (e0 e1
   then_seen : (P : History → ℕ → Type 0) → e1 ≡ e0 → P e0 number → P (history_of v.seats e1.entries) v.who
   then_seen P same = subst (λ (z : History × ℕ). P z.0 z.1) (λ i. ((history_is ∙ ap (history_of v.seats) (sym entries_are ∙ ap (λ (e : History). e.entries) (sym same))) i, me i))
 
-  is_why : (why : Refused) → e1 ≡ e0 → FullOnly why (IsAtLimit e0 number request) → MemoryOnly why (HasPlace e0) → HasEntry e0 number request → IsWhy w request (reason_of why)
+  is_why : (why : StepError) → e1 ≡ e0 → FullOnly why (IsAtLimit e0 number request) → MemoryOnly why (HasPlace e0) → HasEntry e0 number request → IsWhy w request (reason_of why)
   is_why Memory same full place some = (t.engine.0, then_seen (λ h _. HasPlace h) same place, then_seen (λ h n. HasEntry h n request) same some)
   is_why Full same full place some = (t.engine.0, then_seen (λ h n. IsAtLimit h n request) same full, then_seen (λ h n. HasEntry h n request) same some)
 
   -- a call that ran, or was refused
-  pub call_ends : (ran : Result Ran Refused) (o : Outcome) → MatchResult ran (λ r. o ≡ Done r.answer r.from r.to) (λ why. o ≡ Back request (reason_of why)) → IfOk ran (λ r. HasRun e0 e1 number request r.answer r.from r.to)
+  pub call_ends : (ran : Result Ran StepError) (o : Outcome) → MatchResult ran (λ r. o ≡ Done r.answer r.from r.to) (λ why. o ≡ Back request (reason_of why)) → IfOk ran (λ r. HasRun e0 e1 number request r.answer r.from r.to)
       → OnErr ran (e1 ≡ e0) → IfErr ran (λ why. FullOnly why (IsAtLimit e0 number request)) → IfErr ran (λ why. MemoryOnly why (HasPlace e0)) → IfErr ran (λ _. HasEntry e0 number request) → Calls v (view_of m'.0) request o
   call_ends (Ok r) o is run same full place some = subst (Calls v (view_of m'.0) request) (sym is) (done_calls r.answer r.from r.to run)
   call_ends (Err why) o is run same full place some = subst (Calls v (view_of m'.0) request) (sym is) (back_calls why same (is_why why same full place some))

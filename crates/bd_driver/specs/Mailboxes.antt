@@ -10,8 +10,8 @@ use Rattle.bd_space.specs.Runs.{AllBy, IsRun, HasEntry, IsAtLimit}
 use Rattle.bd_driver.specs.Views.{places}
 use Rattle.bd_driver.specs.declared.view.Handover.{Handover}
 use Rattle.bd_driver.specs.declared.view.Handover.TheVariants.{Shut, Open, Waiting}
-use Rattle.bd_driver.specs.declared.view.Pick.{Pick}
-use Rattle.bd_driver.specs.declared.view.Pick.TheVariants.{Nothing, Picked}
+use Rattle.bd_driver.specs.declared.view.Picking.{Picking}
+use Rattle.bd_driver.specs.declared.view.Picking.TheVariants.{Nothing, Picked}
 use Rattle.bd_driver.specs.declared.outcome.Why.{Why}
 use Rattle.bd_driver.specs.declared.outcome.Why.TheVariants.{Taken, NoMemory, HistoryFull, Withdrawn}
 use Rattle.bd_driver.specs.declared.outcome.Outcome.{Outcome}
@@ -103,10 +103,10 @@ MailboxFits seats entries who h (picked r n start count) = (h ≡ Waiting r n) �
 MailboxFits seats entries who h (answered r n o) = (h ≡ Waiting r n) × IsTold seats entries who r n o
 
 -- the mailbox that a view names as picked is in this state
-abbrev pub PickFits : List Mailbox → Pick → Type 0
+abbrev pub PickFits : List Mailbox → Picking → Type 0
 PickFits mailboxes Nothing = Unit {0}
 PickFits mailboxes (Picked seat r since start count) = get_elem? mailboxes seat ≡ some (picked r since start count)
 
 -- no mailbox is picked but what this names
-abbrev pub PickedAs : List Mailbox → Pick → Type 0
+abbrev pub PickedAs : List Mailbox → Picking → Type 0
 PickedAs mailboxes p = (i : ℕ) (r : Request) (since start count : ℕ) → get_elem? mailboxes i ≡ some (picked r since start count) → p ≡ Picked i r since start count

@@ -2,7 +2,7 @@
 use Rattle.std.specs.Prelude.{◌≡◌, ℕ, suc, ◌<◌, Bool, true, false, List, [], ◌∷◌}
 use Rattle.bd_driver.specs.declared.view.Handover.{Handover}
 use Rattle.bd_driver.specs.declared.view.Handover.TheVariants.{Shut, Open, Waiting}
-use Rattle.bd_driver.specs.declared.view.Pick.TheVariants.{Nothing}
+use Rattle.bd_driver.specs.declared.view.Picking.TheVariants.{Nothing}
 use Rattle.bd_driver.specs.declared.slot.Slot.{Slot}
 use Rattle.bd_driver.specs.declared.slot.Slot.TheVariants.{Empty}
 use Rattle.bd_driver.specs.Views.{view_of}

@@ -10,7 +10,7 @@ use Rattle.bd_driver.specs.Views.{ready_of, places_of, Each}
 use Rattle.bd_driver.specs.declared.view.View.{View}
 use Rattle.bd_driver.specs.declared.slot.Slot.{Slot}
 use Rattle.bd_driver.specs.declared.slot.Slot.TheVariants.{Home}
-use Rattle.bd_driver.specs.declared.view.Pick.TheVariants.{Nothing}
+use Rattle.bd_driver.specs.declared.view.Picking.TheVariants.{Nothing}
 use Rattle.bd_driver.specs.Mailboxes.{Mailbox, mark, inside_of, pending, since_of, MailboxFits, PickFits, PickedAs}
 
 abbrev pub bit_of : Option ℕ → ℕ

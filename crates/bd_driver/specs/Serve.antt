@@ -12,7 +12,7 @@ use Rattle.bd_driver.specs.declared.view.View.{View}
 use Rattle.bd_driver.specs.declared.view.Tally.{Tally}
 use Rattle.bd_driver.specs.declared.view.Letter.{Letter}
 use Rattle.bd_driver.specs.declared.outcome.Outcome.TheVariants.{Done, Back, Handed}
-use Rattle.bd_driver.specs.declared.view.Pick.TheVariants.{Nothing, Picked}
+use Rattle.bd_driver.specs.declared.view.Picking.TheVariants.{Nothing, Picked}
 use Rattle.bd_driver.specs.declared.slot.Slot.{Slot}
 use Rattle.bd_driver.specs.declared.slot.Slot.TheVariants.{Empty}
 use Rattle.bd_driver.specs.Steps.{Hands, tally_at, tried_at, picked_at}

@@ -12,8 +12,8 @@ use Rattle.bd_driver.specs.declared.view.Letter.{Letter}
 use Rattle.bd_driver.specs.declared.outcome.Outcome.TheVariants.{Handed}
 use Rattle.bd_driver.specs.declared.outcome.Outcome.{Outcome}
 use Rattle.bd_driver.specs.declared.view.Handover.TheVariants.{Shut, Open, Waiting}
-use Rattle.bd_driver.specs.declared.view.Pick.{Pick}
-use Rattle.bd_driver.specs.declared.view.Pick.TheVariants.{Nothing, Picked}
+use Rattle.bd_driver.specs.declared.view.Picking.{Picking}
+use Rattle.bd_driver.specs.declared.view.Picking.TheVariants.{Nothing, Picked}
 use Rattle.bd_driver.specs.Mailboxes.{answer_places, IsTold}
 use Rattle.bd_driver.specs.Words.{page_word}
 use Rattle.bd_space.specs.Histories.{BeginsWith, history_of}
@@ -130,7 +130,7 @@ picked_as st m n m' =
     × (n ≡ 1 → (r : Request) × (since : ℕ) × (since ≤ length (view_of m.0).seen) × (m' ≡ (picked_at (view_of m.0) (st.word - 1) n r since ∷ [], (st.word, Posted r) ∷ m.1)))
     × (n ≢ 1 → m' ≡ (tried_at (view_of m.0) (st.word - 1) n ∷ [], m.1))
 
-abbrev pub with_places : Pick → ℕ → ℕ → Pick
+abbrev pub with_places : Picking → ℕ → ℕ → Picking
 with_places Nothing start count = Nothing
 with_places (Picked i r since s k) start count = Picked i r since start count
 
@@ -153,12 +153,12 @@ outcome_in (x ∷ xs) = outcome_of x.1
     outcome_of Empty = Handed
 
 -- the word of the mailbox that was picked
-abbrev pub picked_word : Pick → ℕ
+abbrev pub picked_word : Picking → ℕ
 picked_word Nothing = 0
 picked_word (Picked i r since start count) = suc i
 
 -- the letter in which a request that was picked is answered
-abbrev pub letter_to : View → Pick → Outcome → List Letter
+abbrev pub letter_to : View → Picking → Outcome → List Letter
 letter_to v Nothing o = []
 letter_to v (Picked i r since start count) o = record { seat = i; request = r; outcome = o; publishes = v.publishes.count; stamp = length v.seen } ∷ []
 

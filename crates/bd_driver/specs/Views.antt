@@ -5,7 +5,7 @@ use Rattle.bd_space.specs.Histories.{ready_bits, history_of}
 use Rattle.bd_driver.specs.declared.view.View.{View}
 use Rattle.bd_driver.specs.declared.view.Tally.{Tally}
 use Rattle.bd_driver.specs.declared.view.Handover.TheVariants.{Shut, Open}
-use Rattle.bd_driver.specs.declared.view.Pick.TheVariants.{Nothing}
+use Rattle.bd_driver.specs.declared.view.Picking.TheVariants.{Nothing}
 
 -- The ready seats after a history, bit i for seat i.
 abbrev pub ready_of : ℕ → List Entry → ℕ

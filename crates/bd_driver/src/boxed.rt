@@ -8,7 +8,7 @@ ghost use Rattle.bd_driver.specs.{Reasons.{reason_of}, declared.outcome.Outcome.
 
 use crate::outcome::Outcome;
 use crate::refusals::outcome_of;
-use bd_engine::{Engine, Ran, Why as Refused};
+use bd_engine::{Engine, Ran, StepError};
 use bd_space::Request;
 use std::alloc::{AllocError, Global};
 use std::marker::Model;
@@ -47,7 +47,7 @@ impl BoxedEngine {
     }
 
     /// The engine's run of a request.
-    pub(crate) fn run(&mut self, seat: u32, request: &Request) -> Result<Ran, Refused>
+    pub(crate) fn run(&mut self, seat: u32, request: &Request) -> Result<Ran, StepError>
         requires { seat < self.old.seats }
         ensures ok { IfOk result (λ r. HasRun self.old self.new seat request.now r.answer r.from r.to) }
         ensures err { OnErr result (self.new ≡ self.old) }
@@ -136,7 +136,7 @@ impl BoxedRequest {
     }
 
     /// Puts what came of the request into the same box. Takes no memory.
-    pub(crate) fn answered(self, ran: Result<Ran, Refused>) -> BoxedOutcome
+    pub(crate) fn answered(self, ran: Result<Ran, StepError>) -> BoxedOutcome
         ensures { MatchResult ran (λ r. result ≡ Done r.answer r.from r.to) (λ why. result ≡ Back self (reason_of why)) }
     {
         let (request, mut envelope) = self.open();

@@ -2,7 +2,7 @@
 ghost use Rattle.std.specs.Prelude.{◌≡◌, ◌<◌, [], ◌∷◌, true, false};
 ghost use Rattle.atomic_table.specs.Table.{rest};
 ghost use Rattle.bd_driver.specs.{Views.{view_of}, Rest.{is_waiting}, declared.view.Handover.TheVariants.{Open}};
-ghost use Rattle.bd_driver.specs.{declared.view.Pick.TheVariants.{Nothing}, declared.slot.Slot.TheVariants.{Empty}};
+ghost use Rattle.bd_driver.specs.{declared.view.Picking.TheVariants.{Nothing}, declared.slot.Slot.TheVariants.{Empty}};
 
 use crate::boxed::BoxedEngine;
 use crate::driver::Driver;

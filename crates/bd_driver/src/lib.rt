@@ -26,4 +26,4 @@ pub use driver::Driver;
 pub use outcome::{Outcome, Served, Why};
 pub use page::Page;
 pub use seat::Seat;
-pub use view::{Handover, Letter, Pick, Tally, View};
+pub use view::{Handover, Letter, Picking, Tally, View};

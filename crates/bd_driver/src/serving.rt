@@ -1,7 +1,7 @@
 //! Serving: a seat takes the engine once, and runs what the others have handed over.
 ghost use Rattle.std.specs.Prelude.{◌≡◌, ◌+◌, ◌<◌, ℕ, suc, [], ◌∷◌, true, MatchBool};
 ghost use Rattle.atomic_table.specs.Table.{rest};
-ghost use Rattle.bd_driver.specs.{Views.{view_of}, declared.view.Pick.TheVariants.{Nothing}};
+ghost use Rattle.bd_driver.specs.{Views.{view_of}, declared.view.Picking.TheVariants.{Nothing}};
 ghost use Rattle.bd_driver.specs.declared.slot.Slot.TheVariants.{Empty};
 
 use crate::boxed::{BoxedEngine, BoxedOutcome, BoxedRequest};

@@ -22,7 +22,7 @@ pub enum Handover {
 }
 
 /// What a seat that serves has picked and not yet answered.
-pub enum Pick {
+pub enum Picking {
     /// Nothing.
     Nothing,
     /// A request of another seat or its own was picked, and these places are published for it.
@@ -69,7 +69,7 @@ pub struct View {
     /// What it has handed over.
     pub handover: Handover,
     /// What it has picked and not yet answered.
-    pub pick: Pick,
+    pub pick: Picking,
     /// Its tries to take the engine, on the page.
     pub takes: Tally,
     /// Its steps that published.

@@ -22,8 +22,8 @@ use Rattle.bd_space.specs.Steps.{step}
 use Rattle.bd_space.specs.Histories.{History, next, after, space_after, extended, HasPlace, is_at_limit}
 use Rattle.bd_space.specs.Writes.{Readable, readable, commands_of, step_of_command, Written, written, goes_on, wrote, run_of_written, Run, write}
 use Rattle.bd_space.specs.Runs.{run, IsRun, AllBy, HasRun, write_first, step_after, MayStop}
-use Rattle.bd_step.specs.declared.why.Why.{Why}
-use Rattle.bd_step.specs.declared.why.Why.TheVariants.{NoMemory, HistoryFull}
+use Rattle.bd_step.specs.declared.step_error.StepError.{StepError}
+use Rattle.bd_step.specs.declared.step_error.StepError.TheVariants.{NoMemory, HistoryFull}
 use Rattle.bd_engine.specs.Refusals.{FullOnly, MemoryOnly}
 use Rattle.bd_engine.specs.Writing.{IsProgress, IsNext, IsUnrefused, IsTurnedAway, joined, fault_of}
 
@@ -126,7 +126,7 @@ same_history h k seats entries =
     let f : ℕ → List Entry → History = λ n es. record { seats = n; entries = es } in
     ap (λ n. f n h.entries) seats ∙ ap (f k.seats) entries
 
-may_stop : (why : Why) (h : History) (seat : ℕ) (x : Option Step) → FullOnly why (is_at_limit h seat x ≡ true) → MemoryOnly why (HasPlace h) → MayStop (fault_of why) h seat x
+may_stop : (why : StepError) (h : History) (seat : ℕ) (x : Option Step) → FullOnly why (is_at_limit h seat x ≡ true) → MemoryOnly why (HasPlace h) → MayStop (fault_of why) h seat x
 may_stop NoMemory h seat x full place = place
 may_stop HistoryFull h seat x full place = full
 
@@ -250,7 +250,7 @@ module _ (old now : History) (seat : ℕ) (stream area : List ℕ) (consumed cou
         omega (arith, n, some, h.entries_counted)
 
     -- the first command's step wasn't taken
-    pub turned_away : count ≡ 0 → (why : Why) → FullOnly why (is_at_limit now seat (Some (step_of_command area c)) ≡ true) → MemoryOnly why (HasPlace now)
+    pub turned_away : count ≡ 0 → (why : StepError) → FullOnly why (is_at_limit now seat (Some (step_of_command area c)) ≡ true) → MemoryOnly why (HasPlace now)
         → (now ≡ old) × IsTurnedAway old seat (Write stream area) why
     unfolding run
     turned_away none why full place =
@@ -267,7 +267,7 @@ module _ (old now : History) (seat : ℕ) (stream area : List ℕ) (consumed cou
         )
 
     -- a later one's wasn't
-    pub cut_short : 0 < count → (why : Why) → FullOnly why (is_at_limit now seat (Some (step_of_command area c)) ≡ true) → MemoryOnly why (HasPlace now)
+    pub cut_short : 0 < count → (why : StepError) → FullOnly why (is_at_limit now seat (Some (step_of_command area c)) ≡ true) → MemoryOnly why (HasPlace now)
         → HasRun old now seat (Write stream area) (Wrote consumed notes (Some (stop.Fault (fault_of why)))) (length old.entries) (length now.entries)
     unfolding IsRun cut_here
     cut_short some why full place =

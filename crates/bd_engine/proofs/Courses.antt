@@ -18,7 +18,7 @@ use Rattle.bd_space.specs.Steps.{step}
 use Rattle.bd_space.specs.Histories.{History, space_after, extended, HasPlace, is_at_limit}
 use Rattle.bd_space.specs.Writes.{step_of_command}
 use Rattle.bd_space.specs.Runs.{HasRun}
-use Rattle.bd_step.specs.declared.why.Why.{Why}
+use Rattle.bd_step.specs.declared.step_error.StepError.{StepError}
 use Rattle.bd_engine.specs.declared.write.Progress.{Progress}
 use Rattle.bd_engine.specs.declared.write.Going.{Going}
 use Rattle.bd_engine.specs.Refusals.{FullOnly, MemoryOnly}
@@ -39,10 +39,10 @@ goes old new seat stream area (Ends answer) consumed count notes is h = absurd i
 
 module _ (old now : History) (seat : ℕ) (stream area : List ℕ) (p : Progress) (come : HasCome old now seat stream area p) (c : Command) (size : ℕ) (is_next : IsNext stream p.consumed c size) where
   -- Where the command's step wasn't taken, the write is turned away as a whole or ends with what was done so far.
-  cut : (why : Why) (r : Result Course Why) → IsCutAt p why r → FullOnly why (is_at_limit now seat (Some (step_of_command area c)) ≡ true) → MemoryOnly why (HasPlace now)
+  cut : (why : StepError) (r : Result Course StepError) → IsCutAt p why r → FullOnly why (is_at_limit now seat (Some (step_of_command area c)) ≡ true) → MemoryOnly why (HasPlace now)
       → MatchResult r (λ course. IsCourse old now seat stream area (p.consumed + size) course) (λ w. (now ≡ old) × IsTurnedAway old seat (Write stream area) w)
   cut why r is full place =
-      let P : Result Course Why → Type 0 = λ r. MatchResult r (λ course. IsCourse old now seat stream area (p.consumed + size) course) (λ w. (now ≡ old) × IsTurnedAway old seat (Write stream area) w) in
+      let P : Result Course StepError → Type 0 = λ r. MatchResult r (λ course. IsCourse old now seat stream area (p.consumed + size) course) (λ w. (now ≡ old) × IsTurnedAway old seat (Write stream area) w) in
       subst P (sym is) (by_count P p.count (Err why) (Ok (Ends (stopped p 0 (fault_of why))))
       (λ none. turned_away old now seat stream area p.consumed p.count p.notes.items come c size is_next none why full place)
       (λ some. rw add-zero (cut_short old now seat stream area p.consumed p.count p.notes.items come c size is_next some why full place)))
@@ -93,18 +93,18 @@ next_fault stream at x e = ap command_at (sym (rest_is stream at)) ∙ e
 -- ---- how a write goes on, with room made for a note
 
 -- What holds of the course that a brief result stands for holds of the result.
-cut_in_brief : (p : Progress) (F : Course → Type 0) (G : Why → Type 0) (r : Result Going Why) → MatchResult (course_or p r) F G → MatchResult r (λ g. F (course_of p g)) G
+cut_in_brief : (p : Progress) (F : Course → Type 0) (G : StepError → Type 0) (r : Result Going StepError) → MatchResult (course_or p r) F G → MatchResult r (λ g. F (course_of p g)) G
 cut_in_brief p F G (Ok g) m = m
 cut_in_brief p F G (Err why) m = m
 
-pub course_cut : (old now new : History) (seat : ℕ) (stream area : List ℕ) (p q : Progress) (c : Command) (size : ℕ) (why : Why) (r : Result Going Why)
+pub course_cut : (old now new : History) (seat : ℕ) (stream area : List ℕ) (p q : Progress) (c : Command) (size : ℕ) (why : StepError) (r : Result Going StepError)
     → HasCome old now seat stream area p → IsNext stream p.consumed c size → IsSame p q → new ≡ now → IsCutAt q why (course_or q r)
     → FullOnly why (is_at_limit now seat (Some (step_of_command area c)) ≡ true) → MemoryOnly why (HasPlace now)
     → MatchResult r (λ g. IsCourse old new seat stream area (p.consumed + size) (course_of q g)) (λ w. (new ≡ old) × IsTurnedAway old seat (Write stream area) w)
 course_cut old now new seat stream area p q c size why r come is_next same kept is full place =
     let next : IsNext stream q.consumed c size = rw same.consumed is_next in
     let F : Course → Type 0 = λ course. IsCourse old new seat stream area (p.consumed + size) course in
-    let G : Why → Type 0 = λ w. (new ≡ old) × IsTurnedAway old seat (Write stream area) w in
+    let G : StepError → Type 0 = λ w. (new ≡ old) × IsTurnedAway old seat (Write stream area) w in
     let whole : MatchResult (course_or q r) F G =
     rw (kept, ← same.consumed) (cut old now seat stream area q (HasCome_same old now seat stream area p q same come) c size next why (course_or q r) is full place) in
     cut_in_brief q F G r whole

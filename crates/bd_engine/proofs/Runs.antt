@@ -15,7 +15,7 @@ use Rattle.bd_space.specs.Steps.{step}
 use Rattle.bd_space.specs.Histories.{History, space_after, extended, is_at_limit}
 use Rattle.bd_space.specs.Writes.{Run, write}
 use Rattle.bd_space.specs.Runs.{run, single, answered, IsRun, HasRun, HasEntry, IsAtLimit}
-use Rattle.bd_step.specs.declared.why.Why.{Why}
+use Rattle.bd_step.specs.declared.step_error.StepError.{StepError}
 use Rattle.bd_engine.specs.declared.run.Ran.{Ran}
 use Rattle.bd_engine.specs.Refusals.{FullOnly}
 use Rattle.bd_engine.specs.Writing.{IsOneStep}
@@ -56,7 +56,7 @@ too_long_has_run h seat stream area at long here =
     }
 
 -- no run changes how many seats there are
-pub run_seats : (old new : History) (seat : ℕ) (request : Request) (r : Result Ran Why) → IfOk r (λ x. HasRun old new seat request x.answer x.from x.to) → OnErr r (new ≡ old)
+pub run_seats : (old new : History) (seat : ℕ) (request : Request) (r : Result Ran StepError) → IfOk r (λ x. HasRun old new seat request x.answer x.from x.to) → OnErr r (new ≡ old)
     → new.seats ≡ old.seats
 run_seats old new seat request (Ok x) ran kept = ran.seats
 run_seats old new seat request (Err why) ran kept = ap (λ (h : History). h.seats) kept
@@ -67,9 +67,9 @@ module _ (h : History) (seat : ℕ) (request : Request) (x : Step) (is : IsOneSt
   one_entry : HasEntry h seat request
   one_entry e = absurd (omega (arith, ap length (sym (ap (λ (r : Run). r.entries) (is.runs (space_after h) seat)) ∙ e)))
 
-  pub one_some : {A : Type 0} (r : Result A Why) → IfErr r (λ w. HasEntry h seat request)
+  pub one_some : {A : Type 0} (r : Result A StepError) → IfErr r (λ w. HasEntry h seat request)
   one_some (Ok y) = tt
   one_some (Err why) = one_entry
 
-  pub one_full : {A : Type 0} (r : Result A Why) → IfErr r (λ why. FullOnly why (is_at_limit h seat (Some x) ≡ true)) → IfErr r (λ why. FullOnly why (IsAtLimit h seat request))
+  pub one_full : {A : Type 0} (r : Result A StepError) → IfErr r (λ why. FullOnly why (is_at_limit h seat (Some x) ≡ true)) → IfErr r (λ why. FullOnly why (IsAtLimit h seat request))
   one_full r full = subst (λ o. IfErr r (λ why. FullOnly why (is_at_limit h seat o ≡ true))) (sym is.first) full

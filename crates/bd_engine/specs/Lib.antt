@@ -5,4 +5,4 @@ pub mod Reached
 pub mod Writing
 pub mod Looks
 pub use Rattle.bd_step.specs.Ending
-pub use Rattle.bd_step.specs.declared.why.Why
+pub use Rattle.bd_step.specs.declared.step_error.StepError

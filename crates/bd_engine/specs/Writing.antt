@@ -10,8 +10,8 @@ use Rattle.bd_space.specs.declared.step.Request.TheVariants.{Write}
 use Rattle.bd_space.specs.Histories.{History, space_after, HasPlace}
 use Rattle.bd_space.specs.Writes.{readable, commands_of, Written, written, wrote}
 use Rattle.bd_space.specs.Runs.{run, single, first_step, AllBy, HasRun, HasEntry, IsAtLimit}
-use Rattle.bd_step.specs.declared.why.Why.{Why}
-use Rattle.bd_step.specs.declared.why.Why.TheVariants.{NoMemory, HistoryFull}
+use Rattle.bd_step.specs.declared.step_error.StepError.{StepError}
+use Rattle.bd_step.specs.declared.step_error.StepError.TheVariants.{NoMemory, HistoryFull}
 use Rattle.bd_engine.specs.Refusals.{FullOnly, MemoryOnly}
 use Rattle.bd_engine.specs.declared.write.Progress.{Progress}
 use Rattle.bd_engine.specs.declared.write.Going.{Going}
@@ -45,7 +45,7 @@ course_of p going.On = GoesOn p
 course_of p (going.Stops y) = Ends (ended p (going.Stops y))
 course_of p (going.Refused x) = Ends (ended p (going.Refused x))
 
-abbrev pub course_or : Progress → Result Going Why → Result Course Why
+abbrev pub course_or : Progress → Result Going StepError → Result Course StepError
 course_or p (Ok g) = Ok (course_of p g)
 course_or p (Err why) = Err why
 
@@ -79,16 +79,16 @@ IsAfter p (gave.Refused x) size r = r ≡ Ends (refused p size x)
 IsAfter p (gave.Noted n) size r = GoesTo r (p.consumed + size) (p.count + 1) (p.notes.items ++ (p.count, n) ∷ [])
 IsAfter p _ size r = GoesTo r (p.consumed + size) (p.count + 1) p.notes.items
 
-abbrev pub fault_of : Why → Fault
+abbrev pub fault_of : StepError → Fault
 fault_of NoMemory = fault.NoMemory
 fault_of HistoryFull = fault.HistoryFull
 
 -- How a write goes on whose step wasn't taken, for this reason.
-abbrev pub IsCutAt : Progress → Why → Result Course Why → Type 0
+abbrev pub IsCutAt : Progress → StepError → Result Course StepError → Type 0
 IsCutAt p why r = r ≡ (if p.count == 0 then Err why else Ok (Ends (stopped p 0 (fault_of why))))
 
 -- a write was refused before its first step: only one that has an entry is, and want of memory isn't said of a full history
-pub record IsTurnedAway (h : History) (seat : ℕ) (request : Request) (why : Why) : Type 0 where
+pub record IsTurnedAway (h : History) (seat : ℕ) (request : Request) (why : StepError) : Type 0 where
   pub full : FullOnly why (IsAtLimit h seat request)
   pub memory : MemoryOnly why (HasPlace h)
   pub some : HasEntry h seat request

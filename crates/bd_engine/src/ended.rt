@@ -10,12 +10,12 @@ use crate::live::Live;
 use crate::looks::Looks;
 use crate::tables::HasTables;
 use bd_space::{Entry, Step};
-use bd_step::Why;
+use bd_step::StepError;
 
 impl Live {
     // Where buffers were made among which are all that the step of the seat ends. A full history is found before any memory
     // is asked for.
-    fn list_endings(&self, seat: u32, step: &Step, places: &mut Vec<u32>) -> Result<(), Why>
+    fn list_endings(&self, seat: u32, step: &Step, places: &mut Vec<u32>) -> Result<(), StepError>
         requires none { places.old.items ≡ [] }
         ensures listed { OnOk result ((h : History) → Follows self.now h
             → HasEndings places.new.items (space_after h) (steps.change (space_after h) seat step.now).space) }
@@ -24,11 +24,11 @@ impl Live {
         ensures memory { IfErr result (λ why. (h : History) → Follows self.now h → MemoryOnly why (HasPlace h)) }
     {
         if self.tables().steps == u32::MAX {
-            return Err(Why::HistoryFull);
+            return Err(StepError::HistoryFull);
         }
         match self.tables().list_endings(seat, step, places) {
             Ok(()) => Ok(()),
-            Err(_) => Err(Why::NoMemory),
+            Err(_) => Err(StepError::NoMemory),
         }
     }
 
@@ -59,7 +59,7 @@ impl Live {
         seat: u32,
         step: Step,
         ended: &mut Vec<u32>,
-    ) -> Result<Entry, Why>
+    ) -> Result<Entry, StepError>
         requires { seat < self.old.seats }
         // The entry is of this step.
         ensures seat { IfOk result (λ e. e.seat ≡ seat) }

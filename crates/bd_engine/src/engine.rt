@@ -7,13 +7,13 @@ ghost use Rattle.bd_space.specs.Histories.{HasPlace};
 ghost use Rattle.bd_space.specs.Steps as steps;
 ghost use Rattle.bd_space.specs.Runs.{HasRun, HasEntry, IsAtLimit};
 ghost use Rattle.bd_engine.specs.Refusals.{FullOnly, MemoryOnly, IsSeatFault};
-ghost use Rattle.bd_step.specs.declared.why.Why.TheVariants.{NoMemory};
+ghost use Rattle.bd_step.specs.declared.step_error.StepError.TheVariants.{NoMemory};
 
 use crate::run::Ran;
 use crate::tables::HasTables;
 use crate::wide::WideEngine;
 use bd_space::{Record, Request, Step, StepAnswer};
-use bd_step::{Tables, Why};
+use bd_step::{StepError, Tables};
 use bd_uapi::{Fault, MOST_SEATS};
 use std::alloc::{AllocError, Global};
 use std::marker::Model;
@@ -114,7 +114,7 @@ impl Engine {
 
     /// Makes room for the entries of so many steps more, and changes nothing else. That these entries then ask for no memory
     /// no clause says, since room is no part of an engine's value, its history. Errors: memory was refused.
-    pub fn reserve(&mut self, steps: usize) -> Result<(), Why>
+    pub fn reserve(&mut self, steps: usize) -> Result<(), StepError>
         ensures stands { self.new ≡ self.old }
         ensures memory { IfErr result (λ why. why ≡ NoMemory) }
     {
@@ -141,7 +141,7 @@ impl Engine {
 
     /// Makes one step, and answers it. Errors: the history is full, which is found before any memory is asked for;
     /// memory was refused; or a name would have to be numbered above 4294967294.
-    pub fn step(&mut self, seat: u32, step: Step) -> Result<StepAnswer, Why>
+    pub fn step(&mut self, seat: u32, step: Step) -> Result<StepAnswer, StepError>
         requires { seat < self.old.seats }
         // The answer is the space's.
         ensures answer { IfOk result (λ a. a ≡ (steps.step (histories.space_after self.old) seat step).answer) }
@@ -160,7 +160,7 @@ impl Engine {
     /// Runs a request: makes its steps, and says what they answer it and where they stand. A write that memory or the
     /// full history stops after some of its commands answers those; refused before its first step, the engine is as it
     /// was. A write that makes no step is never refused.
-    pub fn run(&mut self, seat: u32, request: &Request) -> Result<Ran, Why>
+    pub fn run(&mut self, seat: u32, request: &Request) -> Result<Ran, StepError>
         requires { seat < self.old.seats }
         ensures ok { IfOk result (λ r. HasRun self.old self.new seat request.now r.answer r.from r.to) }
         ensures err { OnErr result (self.new ≡ self.old) }

@@ -14,7 +14,7 @@ mod wide;
 mod write;
 
 pub use bd_objects::CarriedObjects;
-pub use bd_step::Why;
+pub use bd_step::StepError;
 pub use bd_todo::Works;
 pub use engine::Engine;
 pub use live::Live;

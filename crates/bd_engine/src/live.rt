@@ -10,7 +10,7 @@ ghost use Rattle.bd_engine.specs.Refusals.{FullOnly, MemoryOnly, IsLiveSeats, Is
 
 use crate::tables::HasTables;
 use bd_space::{Entry, Step, StepAnswer};
-use bd_step::{Brief, Tables, Why};
+use bd_step::{Brief, StepError, Tables};
 use bd_uapi::Fault;
 use std::alloc::{AllocError, Global};
 
@@ -100,7 +100,7 @@ impl Live {
         entry: &mut Entry,
         again: &mut StepAnswer,
         both: bool,
-    ) -> Result<Brief, Why>
+    ) -> Result<Brief, StepError>
         requires { entry.old.seat < self.old.seats }
         ensures brief { IfOk result (λ x. IsBrief x entry.new.answer) }
         ensures copied { IsTrue both → result ≡ Ok Got → again.new ≡ entry.new.answer }
@@ -118,7 +118,7 @@ impl Live {
         ensures told { KeepsTold self.old self.new }
     {
         let Some(steps) = self.tables().steps.checked_add(1) else {
-            return Err(Why::HistoryFull);
+            return Err(StepError::HistoryFull);
         };
         let tables = &mut *self.tables;
         match tables.change(entry.seat, &entry.step, both, &mut entry.answer, again) {
@@ -133,7 +133,7 @@ impl Live {
     /// Makes one step, and hands out its entry, which has the answer. It is the only copy: drop it, and nothing tells that
     /// the step was made. Errors: 4294967295 steps were made, which is found before any memory is asked for; memory was
     /// refused; or a name would have to be numbered above 4294967294.
-    pub fn step(&mut self, seat: u32, step: Step) -> Result<Entry, Why>
+    pub fn step(&mut self, seat: u32, step: Step) -> Result<Entry, StepError>
         requires { seat < self.old.seats }
         // The entry is of this step.
         ensures seat { IfOk result (λ e. e.seat ≡ seat) }

@@ -11,7 +11,7 @@ ghost use Rattle.bd_engine.specs.{Refusals.{FullOnly, MemoryOnly}, Writing.{IsTu
 
 use crate::wide::WideEngine;
 use bd_space::{Answer, Request, Step, StepAnswer};
-use bd_step::{Brief, Plain, Why};
+use bd_step::{Brief, Plain, StepError};
 use bd_uapi::Fault;
 
 /// What a run answered, and the places of its steps: from `from` up to and without `to`.
@@ -82,7 +82,7 @@ fn step_of(request: &Request) -> Option<Step>
 
 impl WideEngine {
     // A request that is one step.
-    fn single(&mut self, seat: u32, step: Step) -> Result<Ran, Why>
+    fn single(&mut self, seat: u32, step: Step) -> Result<Ran, StepError>
         requires { seat < self.old.seats }
         ensures ok { (request : Request) → ((s : Space) → runs.run s seat request ≡ runs.single s seat step)
             → IfOk result (λ r. HasRun self.old self.new seat request r.answer r.from r.to) }
@@ -103,7 +103,7 @@ impl WideEngine {
     }
 
     // A write: its commands, each one step.
-    fn write(&mut self, seat: u32, stream: &[u8], area: &[u8]) -> Result<Ran, Why>
+    fn write(&mut self, seat: u32, stream: &[u8], area: &[u8]) -> Result<Ran, StepError>
         requires { seat < self.old.seats }
         ensures ok { IfOk result (λ r. HasRun self.old self.new seat (Write stream.now area.now) r.answer r.from r.to) }
         ensures err { OnErr result (self.new ≡ self.old) }
@@ -130,7 +130,7 @@ impl WideEngine {
     /// Runs a request: makes its steps, and says what they answer it and where they stand. A write that memory or the
     /// full history stops after some of its commands answers those; refused before its first step, the engine is as it
     /// was. A write that makes no step is never refused.
-    pub fn run(&mut self, seat: u32, request: &Request) -> Result<Ran, Why>
+    pub fn run(&mut self, seat: u32, request: &Request) -> Result<Ran, StepError>
         requires { seat < self.old.seats }
         ensures ok { IfOk result (λ r. HasRun self.old self.new seat request.now r.answer r.from r.to) }
         ensures err { OnErr result (self.new ≡ self.old) }

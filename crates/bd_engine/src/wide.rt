@@ -7,12 +7,12 @@ ghost use Rattle.bd_space.specs.Histories.{most_steps};
 ghost use Rattle.bd_space.specs.Steps as steps;
 ghost use Rattle.bd_step.specs.{Plain.{IsBrief}, declared.answer.Brief.TheVariants.{Got}};
 ghost use Rattle.bd_engine.specs.Refusals.{FullOnly, MemoryOnly, IsLiveSeats, IsLiveSeatFault};
-ghost use Rattle.bd_step.specs.declared.why.Why.TheVariants.{NoMemory};
+ghost use Rattle.bd_step.specs.declared.step_error.StepError.TheVariants.{NoMemory};
 
 use crate::live::Live;
 use crate::tables::HasTables;
 use bd_space::{Entries, Entry, Record, Step, StepAnswer};
-use bd_step::{Brief, Tables, Why};
+use bd_step::{Brief, StepError, Tables};
 use bd_uapi::{Fault, Note};
 use std::alloc::{AllocError, Global};
 use std::marker::Model;
@@ -109,13 +109,13 @@ impl WideEngine {
 
     /// Makes room for the entries of so many steps more, and changes nothing else. That these entries then ask for no memory
     /// no clause says, since room is no part of an engine's value, its history. Errors: memory was refused.
-    pub fn reserve(&mut self, steps: usize) -> Result<(), Why>
+    pub fn reserve(&mut self, steps: usize) -> Result<(), StepError>
         ensures stands { self.new ≡ self.old }
         ensures memory { IfErr result (λ why. why ≡ NoMemory) }
     {
         match self.entries.reserve(steps) {
             Ok(()) => Ok(()),
-            Err(_) => Err(Why::NoMemory),
+            Err(_) => Err(StepError::NoMemory),
         }
     }
 
@@ -172,7 +172,7 @@ impl WideEngine {
 
     /// Makes one step, and answers it. Errors: the history is full, which is found before any memory is asked for;
     /// memory was refused; or a name would have to be numbered above 4294967294.
-    pub fn step(&mut self, seat: u32, step: Step) -> Result<StepAnswer, Why>
+    pub fn step(&mut self, seat: u32, step: Step) -> Result<StepAnswer, StepError>
         requires { seat < self.old.seats }
         // The answer is the space's.
         ensures answer { IfOk result (λ a. a ≡ (steps.step (histories.space_after self.old) seat step).answer) }
@@ -201,7 +201,7 @@ impl WideEngine {
         seat: u32,
         step: Step,
         again: &mut StepAnswer,
-    ) -> Result<Brief, Why>
+    ) -> Result<Brief, StepError>
         requires { seat < self.old.seats }
         ensures brief { IfOk result (λ x. IsBrief x (steps.step (histories.space_after self.old) seat step).answer) }
         ensures copied { result ≡ Ok Got → again.new ≡ (steps.step (histories.space_after self.old) seat step).answer }
@@ -212,10 +212,10 @@ impl WideEngine {
         ensures memory { IfErr result (λ why. MemoryOnly why (histories.HasPlace self.old)) }
     {
         if self.is_full() {
-            return Err(Why::HistoryFull);
+            return Err(StepError::HistoryFull);
         }
         if self.entries.reserve(1).is_err() {
-            return Err(Why::NoMemory);
+            return Err(StepError::NoMemory);
         }
         let at = self.entries.len();
         let answer = StepAnswer::Exited;

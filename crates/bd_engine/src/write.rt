@@ -17,7 +17,7 @@ use crate::parcel::parcel_for;
 use crate::wide::WideEngine;
 use bd_codec::read_command;
 use bd_space::{Answer, Notes, Step, StepAnswer, Stop};
-use bd_step::{Brief, Plain, Why};
+use bd_step::{Brief, Plain, StepError};
 use bd_uapi::{Command, Fault, Note};
 use std::alloc::AllocError;
 use std::mem::replace;
@@ -100,15 +100,15 @@ impl Progress {
     }
 
     // What a write does whose step at hand wasn't taken: it is refused whole, or stops after those that were.
-    fn cut_short(&self, why: Why) -> Result<Going, Why>
+    fn cut_short(&self, why: StepError) -> Result<Going, StepError>
         ensures { IsCutAt self.now why (course_or self.now result) }
     {
         if self.count == 0 {
             return Err(why);
         }
         let fault = match why {
-            Why::NoMemory => Fault::NoMemory,
-            Why::HistoryFull => Fault::HistoryFull,
+            StepError::NoMemory => Fault::NoMemory,
+            StepError::HistoryFull => Fault::HistoryFull,
         };
         Ok(Going::Stops(Stop::Fault(fault)))
     }
@@ -169,7 +169,7 @@ impl WideEngine {
         area: &[u8],
         command: Command,
         progress: &mut Progress,
-    ) -> Result<Brief, Why>
+    ) -> Result<Brief, StepError>
         requires { seat < self.old.seats }
         ensures same { IsSame progress.old progress.new }
         ensures room { OnOk result (vec_len progress.new.notes < vec_capacity progress.new.notes) }
@@ -183,13 +183,13 @@ impl WideEngine {
         ensures memory { IfErr result (λ why. MemoryOnly why (HasPlace self.old)) }
     {
         if self.is_full() {
-            return Err(Why::HistoryFull);
+            return Err(StepError::HistoryFull);
         }
         if progress.reserve().is_err() {
-            return Err(Why::NoMemory);
+            return Err(StepError::NoMemory);
         }
         let Ok(parcel) = parcel_for(self.alloc(), area, &command) else {
-            return Err(Why::NoMemory);
+            return Err(StepError::NoMemory);
         };
         // A command reads nothing, so nothing is written here.
         let mut again = StepAnswer::Exited;
@@ -204,7 +204,7 @@ impl WideEngine {
         command: Command,
         size: u32,
         progress: &mut Progress,
-    ) -> Result<Going, Why>
+    ) -> Result<Going, StepError>
         requires seat { seat < self.old.seats }
         requires fits { progress.old.consumed + size ≤ 4096 }
         requires few { progress.old.count ≤ progress.old.consumed }
@@ -227,7 +227,7 @@ impl WideEngine {
         stream: &[u8],
         area: &[u8],
         progress: &mut Progress,
-    ) -> Result<Going, Why>
+    ) -> Result<Going, StepError>
         requires seat { seat < self.old.seats }
         requires short { length stream.now ≤ 4096 }
         requires begun { IsAt progress.old 0 0 [] }
@@ -258,7 +258,7 @@ impl WideEngine {
         seat: u32,
         stream: &[u8],
         area: &[u8],
-    ) -> Result<Answer, Why>
+    ) -> Result<Answer, StepError>
         requires seat { seat < self.old.seats }
         requires short { length stream.now ≤ 4096 }
         ensures ok { IfOk result (λ a. HasRun self.old self.new seat (Write stream.now area.now) a

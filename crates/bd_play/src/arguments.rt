@@ -9,7 +9,7 @@ use crate::cuts::Mend;
 use crate::inquiries::{Inquiry, inquiry_in, progress_arg, source_in, with_inquiries};
 use crate::script_help::SCRIPT_HELP;
 use crate::sources::Source;
-use bd_player::{Fault, Manner};
+use bd_player::{Manner, ProgramFault};
 use clap::error::ErrorKind;
 use clap::{Arg, ArgAction, ArgMatches, Error, value_parser};
 use std::alloc::{AllocError, Global};
@@ -112,14 +112,14 @@ pub enum Order<'a> {
 #[derive(Drop)]
 pub enum Refused {
     /// The words make no sense, or memory was refused.
-    Fault(Fault),
+    Fault(ProgramFault),
     /// Help or the version was asked for.
     Help(Error),
 }
 
 impl From<AllocError> for Refused {
     fn from(_e: AllocError) -> Refused {
-        Refused::Fault(Fault::Memory)
+        Refused::Fault(ProgramFault::Memory)
     }
 }
 
@@ -253,8 +253,8 @@ fn order_in<'a>(matches: &ArgMatches<'a>) -> Option<Order<'a>> {
 fn refusal(error: Error) -> Refused {
     match error.kind() {
         ErrorKind::DisplayHelp | ErrorKind::DisplayVersion => Refused::Help(error),
-        ErrorKind::OutOfMemory => Refused::Fault(Fault::Memory),
-        _ => Refused::Fault(Fault::Arguments),
+        ErrorKind::OutOfMemory => Refused::Fault(ProgramFault::Memory),
+        _ => Refused::Fault(ProgramFault::Arguments),
     }
 }
 
@@ -275,7 +275,7 @@ pub fn order_of<'a>(alloc: Global, words: &'a [String]) -> Result<Order<'a>, Ref
         }));
     }
     match matches_of(alloc, words) {
-        Ok(matches) => order_in(&matches).ok_or(Refused::Fault(Fault::Arguments)),
+        Ok(matches) => order_in(&matches).ok_or(Refused::Fault(ProgramFault::Arguments)),
         Err(error) => Err(refusal(error)),
     }
 }

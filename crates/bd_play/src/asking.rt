@@ -2,7 +2,7 @@
 
 use crate::inquiries::Inquiry;
 use crate::sources::judged_in;
-use bd_player::{DONE, FAULT, Fault, Judged, Untold, answer, print_unlawful, tell};
+use bd_player::{DONE, FAULT, Judged, ProgramFault, Untold, answer, print_unlawful, tell};
 use std::io::{Eprint, Write};
 use std::rt::Files;
 use std::time::Clock;
@@ -12,8 +12,8 @@ fn status_of<E: Write>(came: Result<bool, Untold>, err: &mut E) -> u8 {
     match came {
         Ok(true) => DONE,
         Ok(false) | Err(Untold::Output) => FAULT,
-        Err(Untold::OutOfRange) => tell(Fault::Arguments, err),
-        Err(Untold::Memory) => tell(Fault::Memory, err),
+        Err(Untold::OutOfRange) => tell(ProgramFault::Arguments, err),
+        Err(Untold::Memory) => tell(ProgramFault::Memory, err),
     }
 }
 

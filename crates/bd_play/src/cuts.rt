@@ -5,7 +5,7 @@ use crate::files::is_kept_apart;
 use crate::progress::Progress;
 use crate::sources::{BYTES, Source, opened};
 use bd_audit::Unwatched;
-use bd_player::{Fault, Whole, check_cut, print_whole, tell, whole_from};
+use bd_player::{ProgramFault, Whole, check_cut, print_whole, tell, whole_from};
 use std::io::{Eprint, Write};
 use std::rt::Files;
 use std::time::Clock;
@@ -39,9 +39,9 @@ pub fn check_cut_file<H: AllocGlobal + Files + Input + Clock + Eprint, W: Write,
 }
 
 // Writes the journal of what is whole of another, which is handed out.
-fn mended<H: AllocGlobal + Files + Input>(rt: &H, mend: Mend<'_>) -> Result<Whole, Fault> {
+fn mended<H: AllocGlobal + Files + Input>(rt: &H, mend: Mend<'_>) -> Result<Whole, ProgramFault> {
     if !is_kept_apart(rt, mend.place, mend.file) {
-        return Err(Fault::Arguments);
+        return Err(ProgramFault::Arguments);
     }
     let mut journal = opened(rt, mend.file)?;
     let whole = whole_from(rt.alloc(), &mut journal)?;

@@ -1,6 +1,6 @@
 //! The journal of a run, on its way to its file.
 
-use bd_player::{Fault, write_journal};
+use bd_player::{ProgramFault, write_journal};
 use bd_space::Record;
 use std::fs::{OpenFile, OpenOptions, Permissions};
 use std::io::{BufWriter, ErrorKind};
@@ -77,7 +77,7 @@ fn write_file<H: AllocGlobal, F: OpenFile + io::Write + Drop>(
     file: F,
     history: &Record,
     permissions: Option<Permissions>,
-) -> Result<(), Fault> {
+) -> Result<(), ProgramFault> {
     if let Some(permissions) = permissions {
         file.set_permissions(permissions)?;
     }
@@ -85,13 +85,17 @@ fn write_file<H: AllocGlobal, F: OpenFile + io::Write + Drop>(
     if write_journal(history, &mut out) {
         Ok(())
     } else {
-        Err(Fault::File)
+        Err(ProgramFault::File)
     }
 }
 
 impl<F: OpenFile + io::Write + Drop> Draft<F> {
     /// Writes the journal and puts it in its place. Where that fails, what stands there stays.
-    pub fn finish<H: AllocGlobal + Files>(self, rt: &H, history: &Record) -> Result<(), Fault> {
+    pub fn finish<H: AllocGlobal + Files>(
+        self,
+        rt: &H,
+        history: &Record,
+    ) -> Result<(), ProgramFault> {
         let Draft { file, beside } = self;
         let Some(beside) = beside else {
             return write_file(rt, file, history, None);
@@ -102,7 +106,7 @@ impl<F: OpenFile + io::Write + Drop> Draft<F> {
             permissions,
         } = beside;
         let finished = match write_file(rt, file, history, permissions) {
-            Ok(()) => fs::rename(rt, part.as_str(), place.as_str()).map_err(Fault::from),
+            Ok(()) => fs::rename(rt, part.as_str(), place.as_str()).map_err(ProgramFault::from),
             Err(fault) => Err(fault),
         };
         if finished.is_err() {

@@ -4,7 +4,7 @@ use crate::arguments::Run;
 use crate::draft::{Draft, draft_for};
 use crate::progress::{Counted, Progress, lines_in};
 use crate::sources::{ENTRIES, INPUT, Source, opened};
-use bd_player::{Fault, Played, check_journal, check_watched, play_from, tell};
+use bd_player::{Played, ProgramFault, check_journal, check_watched, play_from, tell};
 use bd_space::Record;
 use std::fs;
 use std::io::{Eprint, Read, Write};
@@ -40,12 +40,15 @@ pub fn is_kept_apart<H: Files>(rt: &H, place: &str, file: &str) -> bool {
 }
 
 // A draft of the run's journal, where one is to be written: not of a file that the run reads or prints to.
-fn draft_of<H: AllocGlobal + Files>(rt: &H, run: Run<'_>) -> Result<Option<Draft<H::File>>, Fault> {
+fn draft_of<H: AllocGlobal + Files>(
+    rt: &H,
+    run: Run<'_>,
+) -> Result<Option<Draft<H::File>>, ProgramFault> {
     let Some(journal) = run.journal else {
         return Ok(None);
     };
     if !is_kept_apart(rt, journal, run.file) {
-        return Err(Fault::Arguments);
+        return Err(ProgramFault::Arguments);
     }
     Ok(Some(draft_for(rt, journal)?))
 }
@@ -55,7 +58,7 @@ fn settle<H: AllocGlobal + Files>(
     rt: &H,
     draft: Option<Draft<H::File>>,
     history: &Option<Record>,
-) -> Result<(), Fault> {
+) -> Result<(), ProgramFault> {
     match (draft, history) {
         (Some(draft), Some(history)) => draft.finish(rt, history),
         (Some(draft), None) => {
@@ -87,7 +90,7 @@ where
 {
     let mut bytes = Vec::new(rt.alloc());
     if let Err(error) = script.read_to_end(&mut bytes) {
-        return Played::fault(Fault::from(error), err);
+        return Played::fault(ProgramFault::from(error), err);
     }
     let progress = Progress::new(rt, "lines");
     let all = lines_of(&bytes);

@@ -16,7 +16,7 @@ mod sources;
 
 use arguments::{Order, Refused, order_of};
 use asking::ask;
-use bd_player::{DONE, Fault, after_writing, tell};
+use bd_player::{DONE, ProgramFault, after_writing, tell};
 use cuts::{check_cut_file, mend_file};
 use files::{check_file, run_file};
 use hints::print_hint;
@@ -32,7 +32,7 @@ use std::time::Clock;
 use std::{env, io};
 
 // The status where this came of it, which is told.
-fn ended<E: Write>(came: Result<(), Fault>, err: &mut E) -> u8 {
+fn ended<E: Write>(came: Result<(), ProgramFault>, err: &mut E) -> u8 {
     match came {
         Ok(()) => DONE,
         Err(fault) => tell(fault, err),
@@ -61,12 +61,12 @@ where
 }
 
 // The words that the program was started with. That there is no memory for them is another fault than that they can't be had.
-fn words<H: Runtime<A = Global>>(rt: &H) -> Result<Vec<String>, Fault> {
+fn words<H: Runtime<A = Global>>(rt: &H) -> Result<Vec<String>, ProgramFault> {
     match env::args(rt) {
         Ok(args) => args
             .collect::<Vec<String>>(rt.alloc())
-            .map_err(|_| Fault::Memory),
-        Err(error) => Err(Fault::Arguments.or_memory(&error)),
+            .map_err(|_| ProgramFault::Memory),
+        Err(error) => Err(ProgramFault::Arguments.or_memory(&error)),
     }
 }
 
@@ -83,7 +83,7 @@ fn refuse<H: Runtime<A = Global>, E: Write>(
             print_hint(words, err);
             status
         }
-        Refused::Help(help) => ended(help.print(rt).map_err(|_| Fault::Output), err),
+        Refused::Help(help) => ended(help.print(rt).map_err(|_| ProgramFault::Output), err),
     }
 }
 
@@ -95,7 +95,7 @@ fn print<H: Runtime<A = Global> + Threads + Wait + Sync, E: Write>(
 ) -> u8 {
     match BufWriter::new(rt.alloc(), io::writer(rt)) {
         Ok(out) => obey(rt, order, &mut Output::new(out), err),
-        Err(_) => tell(Fault::Memory, err),
+        Err(_) => tell(ProgramFault::Memory, err),
     }
 }
 

@@ -1,6 +1,6 @@
 //! Standard output.
 
-use bd_player::Fault;
+use bd_player::ProgramFault;
 use std::io;
 use std::io::{ErrorKind, Write};
 
@@ -18,9 +18,9 @@ impl<W: Write + Drop> Output<W> {
     }
 
     /// Writes what is kept back. Whether everything could be written.
-    pub fn end(&mut self) -> Result<(), Fault> {
+    pub fn end(&mut self) -> Result<(), ProgramFault> {
         if self.out.flush().is_err() || self.failed {
-            return Err(Fault::Output);
+            return Err(ProgramFault::Output);
         }
         Ok(())
     }

@@ -4,7 +4,7 @@ ghost use Rattle.std.specs.Prelude.{IfOk};
 ghost use Rattle.bd_player.specs.Verdicts.{IsAsSaid};
 
 use crate::progress::Progress;
-use bd_player::{Fault, Judged, judged_from, judged_watched};
+use bd_player::{Judged, ProgramFault, judged_from, judged_watched};
 use either::Either;
 use std::fs::File;
 use std::io::Eprint;
@@ -21,13 +21,16 @@ pub const ENTRIES: &str = "entries";
 pub const BYTES: &str = "bytes";
 
 /// A reader of what is in the file of this name, or of standard input.
-pub fn opened<H: Files + Input>(rt: &H, file: &str) -> Result<Either<H::Reader, H::File>, Fault> {
+pub fn opened<H: Files + Input>(
+    rt: &H,
+    file: &str,
+) -> Result<Either<H::Reader, H::File>, ProgramFault> {
     if file == INPUT {
         return Ok(Either::Left(rt.reader()));
     }
     match File::open(rt, file) {
         Ok(file) => Ok(Either::Right(file)),
-        Err(error) => Err(Fault::from(error)),
+        Err(error) => Err(ProgramFault::from(error)),
     }
 }
 
@@ -44,7 +47,7 @@ pub struct Source<'a> {
 pub fn judged_in<H: AllocGlobal + Files + Input + Clock + Eprint>(
     rt: &H,
     source: Source<'_>,
-) -> Result<Judged, Fault>
+) -> Result<Judged, ProgramFault>
     ensures { IfOk result IsAsSaid }
 {
     let mut journal = match opened(rt, source.file) {

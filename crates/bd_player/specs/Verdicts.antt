@@ -8,8 +8,8 @@ use Rattle.bd_journal.specs.declared.fault.ReadError.{ReadError}
 use Rattle.bd_journal.specs.declared.fault.ReadError.TheVariants.{Malformed}
 use Rattle.bd_journal.specs.declared.fault.ReadError.TheVariants as read
 use Rattle.bd_audit.specs.Replays.{StopsAt}
-use Rattle.bd_player.specs.declared.faults.Fault.{Fault}
-use Rattle.bd_player.specs.declared.faults.Fault.TheVariants.{Journal, Memory}
+use Rattle.bd_player.specs.declared.faults.ProgramFault.{ProgramFault}
+use Rattle.bd_player.specs.declared.faults.ProgramFault.TheVariants.{Journal, Memory}
 use Rattle.bd_player.specs.declared.verdicts.Verdict.{Verdict}
 use Rattle.bd_player.specs.declared.verdicts.Verdict.TheVariants.{Lawful, Unlawful}
 use Rattle.bd_player.specs.declared.verdicts.Judged.{Judged}
@@ -34,12 +34,12 @@ abbrev pub JudgesKnown : Option (List ℕ) → Judged → Type 0
 JudgesKnown known j = IfSome known (λ bytes. Judges bytes j)
 
 -- how it is told why a journal isn't read
-abbrev pub fault_told : ReadError → Fault
+abbrev pub fault_told : ReadError → ProgramFault
 fault_told Malformed = Journal
 fault_told read.Memory = Memory
 
 -- why nothing is said of the bytes: they spell no record, or memory was refused, which nobody asks for before a heading was read
-abbrev pub IsUnjudged : List ℕ → Fault → Type 0
+abbrev pub IsUnjudged : List ℕ → ProgramFault → Type 0
 IsUnjudged bytes Journal = (r : Record) → Tells bytes r → ⊥
 IsUnjudged bytes Memory = HasHeading bytes
 IsUnjudged bytes _ = ⊥
@@ -49,7 +49,7 @@ abbrev pub IsNoJournal : Option (List ℕ) → Type 0
 IsNoJournal known = IfSome known (λ bytes. (r : Record) → Tells bytes r → ⊥)
 
 -- Where the fault is that the bytes are no journal, and they are known, they are none.
-abbrev pub SaysNoJournal : Option (List ℕ) → Fault → Type 0
+abbrev pub SaysNoJournal : Option (List ℕ) → ProgramFault → Type 0
 SaysNoJournal known f = f ≡ Journal → IsNoJournal known
 
 -- the verdict holds of the record that the bytes spell

@@ -15,8 +15,8 @@ use Rattle.bd_script.specs.declared.script.Verb.{Verb}
 use Rattle.bd_script.specs.declared.script.Verb.TheVariants as verb
 use Rattle.bd_player.specs.declared.said.Said.{Said}
 use Rattle.bd_player.specs.declared.said.Said.TheVariants as said
-use Rattle.bd_player.specs.declared.faults.Fault.{Fault}
-use Rattle.bd_player.specs.declared.faults.Fault.TheVariants as fault
+use Rattle.bd_player.specs.declared.faults.ProgramFault.{ProgramFault}
+use Rattle.bd_player.specs.declared.faults.ProgramFault.TheVariants as fault
 
 -- what an outcome has its line say
 abbrev pub said_of : Outcome → Said
@@ -100,7 +100,7 @@ said_status said.Turns = 2
 said_status said.Idle = 0
 
 -- the status of a fault
-abbrev pub fault_status : Fault → ℕ
+abbrev pub fault_status : ProgramFault → ℕ
 fault_status fault.Arguments = 1
 fault_status fault.File = 1
 fault_status (fault.Line number why) = 1

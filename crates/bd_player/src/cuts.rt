@@ -4,7 +4,7 @@ ghost use Rattle.std.specs.Prelude.{IfOk, IfErr, IfSome};
 ghost use Rattle.bd_engine.specs.Refusals.{IsLiveSeats};
 ghost use Rattle.bd_player.specs.Cuts.{IsCutVerdict, IsLawfulCutAt0, IsWhole, SaysNoHeading};
 
-use crate::faults::{DONE, Fault, after_writing, tell};
+use crate::faults::{DONE, ProgramFault, after_writing, tell};
 use crate::journals::{journal_from, print_unlawful};
 use crate::judging::{cut_verdict, fault_of};
 use crate::verdicts::Verdict;
@@ -31,7 +31,7 @@ pub struct Whole {
 /// # Errors
 /// `Journal` where it doesn't begin with a heading, `Memory` where memory was refused, `File` where it can't be read.
 #[tactic(auto, using(crate::proofs::Kept::whole_known, crate::proofs::Unjudged::cut_unjudged, crate::proofs::Unjudged::says_cut))]
-pub fn whole_from<R: Read>(alloc: Global, journal: &mut R) -> Result<Whole, Fault>
+pub fn whole_from<R: Read>(alloc: Global, journal: &mut R) -> Result<Whole, ProgramFault>
     ensures whole { IfOk result (λ w. IfSome (R.remaining journal.old) (λ bytes. IsWhole bytes w)) }
     ensures seats { IfOk result (λ w. IsLiveSeats w.record.seats) }
     // What is called no journal begins with no heading.
@@ -72,7 +72,7 @@ fn cut_verdict_from<R: Read, P: Watch>(
     alloc: Global,
     journal: &mut R,
     watch: &mut P,
-) -> Result<(Verdict, usize), Fault>
+) -> Result<(Verdict, usize), ProgramFault>
     ensures verdict { IfOk result (λ x. IfSome (R.remaining journal.old) (λ bytes. IsCutVerdict bytes x.0 x.1)) }
     ensures journal { IfErr result (SaysNoHeading (R.remaining journal.old)) }
 {

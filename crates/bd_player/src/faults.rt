@@ -1,7 +1,7 @@
 //! What the program ends with.
 
 ghost use Rattle.std.specs.Prelude.{◌≡◌, ◌≤◌, ◌⊎◌, MatchResult, max};
-ghost use Rattle.bd_player.specs.{Workers.{fault_status}, declared.faults.Fault.TheVariants.{Memory}};
+ghost use Rattle.bd_player.specs.{Workers.{fault_status}, declared.faults.ProgramFault.TheVariants.{Memory}};
 
 use bd_script::Reason;
 use std::io;
@@ -19,7 +19,7 @@ pub const MEMORY: u8 = 3;
 
 /// A fault that is told on standard error.
 #[derive(Clone, Copy, Debug, PartialEq, Eq, Error)]
-pub enum Fault {
+pub enum ProgramFault {
     /// The program's words make no sense.
     #[error("fault: arguments")]
     Arguments,
@@ -43,37 +43,37 @@ pub enum Fault {
     Output,
 }
 
-impl From<io::Error> for Fault {
-    fn from(error: io::Error) -> Fault {
-        Fault::File.or_memory(&error)
+impl From<io::Error> for ProgramFault {
+    fn from(error: io::Error) -> ProgramFault {
+        ProgramFault::File.or_memory(&error)
     }
 }
 
-impl Fault {
+impl ProgramFault {
     /// The status that the program ends with.
     pub fn status(self) -> u8
         ensures status { result ≡ fault_status self }
         ensures fails { 1 ≤ result }
     {
         match self {
-            Fault::Memory => MEMORY,
+            ProgramFault::Memory => MEMORY,
             _ => FAULT,
         }
     }
 
     /// This fault, or want of memory, if that is what the error says.
-    pub fn or_memory(self, error: &io::Error) -> Fault
+    pub fn or_memory(self, error: &io::Error) -> ProgramFault
         ensures { (result ≡ self) ⊎ (result ≡ Memory) }
     {
         match error.kind() {
-            ErrorKind::OutOfMemory => Fault::Memory,
+            ErrorKind::OutOfMemory => ProgramFault::Memory,
             _ => self,
         }
     }
 }
 
 /// Tells a fault, and answers its status.
-pub fn tell<E: Write>(fault: Fault, err: &mut E) -> u8
+pub fn tell<E: Write>(fault: ProgramFault, err: &mut E) -> u8
     ensures status { result ≡ fault_status fault }
     ensures fails { 1 ≤ result }
 {

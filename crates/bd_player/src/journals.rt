@@ -3,7 +3,7 @@
 ghost use Rattle.std.specs.Prelude.{◌≡◌, ◌≤◌, IfOk, IfErr, IfSome};
 ghost use Rattle.bd_player.specs.{Cuts.{SaysNoHeading}, Journals.{Wrote}, Verdicts.{IsAsSaid, IsKnownVerdict, IsLawfulAt0, JudgesKnown, SaysNoJournal}};
 
-use crate::faults::{DONE, FAULT, Fault, after_writing, tell};
+use crate::faults::{DONE, FAULT, ProgramFault, after_writing, tell};
 use crate::fronts::read_front;
 use crate::judging::verdict_watched;
 use crate::playing::read_on;
@@ -47,7 +47,7 @@ pub fn print_unlawful<W: Write>(at: u32, out: &mut W) -> u8
 
 // What the reader has, if it begins as each journal does. Of what doesn't, no more than these first bytes is read.
 #[tactic(auto, using(crate::proofs::Unread::no_heading, crate::proofs::Unread::front_on))]
-pub fn journal_from<R: Read>(alloc: Global, journal: &mut R) -> Result<Vec<u8>, Fault>
+pub fn journal_from<R: Read>(alloc: Global, journal: &mut R) -> Result<Vec<u8>, ProgramFault>
     ensures bytes { IfOk result (λ v. IfSome (R.remaining journal.old) (λ bytes. v.items ≡ bytes)) }
     // What is called no journal has no heading.
     ensures journal { IfErr result (SaysNoHeading (R.remaining journal.old)) }
@@ -55,18 +55,18 @@ pub fn journal_from<R: Read>(alloc: Global, journal: &mut R) -> Result<Vec<u8>, 
     let mut first = [0; 8];
     let have = match read_front(journal, &mut first) {
         Ok(have) => have,
-        Err(error) => return Err(Fault::File.or_memory(&error)),
+        Err(error) => return Err(ProgramFault::File.or_memory(&error)),
     };
     let front = &first[..have];
     if behind_magic(front).is_none() {
-        return Err(Fault::Journal);
+        return Err(ProgramFault::Journal);
     }
     read_on(alloc, front, journal)
 }
 
 /// The record of a journal, and whether its entries are a history, or else which is the first that doesn't follow from
 /// those before.
-pub fn judged_from<R: Read>(alloc: Global, journal: &mut R) -> Result<Judged, Fault>
+pub fn judged_from<R: Read>(alloc: Global, journal: &mut R) -> Result<Judged, ProgramFault>
     ensures said { IfOk result IsAsSaid }
     // It is said of the record that the journal spells.
     ensures spelled { IfOk result (JudgesKnown (R.remaining journal.old)) }
@@ -82,7 +82,7 @@ pub fn judged_watched<R: Read, P: Watch>(
     alloc: Global,
     journal: &mut R,
     watch: &mut P,
-) -> Result<Judged, Fault>
+) -> Result<Judged, ProgramFault>
     ensures said { IfOk result IsAsSaid }
     ensures spelled { IfOk result (JudgesKnown (R.remaining journal.old)) }
     ensures journal { IfErr result (SaysNoJournal (R.remaining journal.old)) }
@@ -112,7 +112,7 @@ fn verdict_from<R: Read, P: Watch>(
     alloc: Global,
     journal: &mut R,
     watch: &mut P,
-) -> Result<Verdict, Fault>
+) -> Result<Verdict, ProgramFault>
     ensures verdict { IfOk result (IsKnownVerdict (R.remaining journal.old)) }
     ensures journal { IfErr result (SaysNoJournal (R.remaining journal.old)) }
 {

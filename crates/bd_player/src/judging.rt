@@ -5,19 +5,19 @@ ghost use Rattle.bd_space.specs.declared.record.Record.{Record};
 ghost use Rattle.bd_audit.specs.Journals.{IsJudgment};
 ghost use Rattle.bd_player.specs.{Cuts.{IsCutUnjudged, IsCutVerdict}, Verdicts.{Holds, IsUnjudged, IsVerdict, fault_told}};
 
-use crate::faults::Fault;
+use crate::faults::ProgramFault;
 use crate::verdicts::Verdict;
 use bd_audit::{Judgment, Watch, judge_cut, judge_journal};
 use bd_journal::ReadError;
 use std::alloc::Global;
 
 // Why a journal can't be read.
-pub fn fault_of(error: ReadError) -> Fault
+pub fn fault_of(error: ReadError) -> ProgramFault
     ensures { result ≡ fault_told error }
 {
     match error {
-        ReadError::Malformed => Fault::Journal,
-        ReadError::Memory => Fault::Memory,
+        ReadError::Malformed => ProgramFault::Journal,
+        ReadError::Memory => ProgramFault::Memory,
     }
 }
 
@@ -43,7 +43,7 @@ pub fn verdict_watched<P: Watch>(
     alloc: Global,
     bytes: &[u8],
     watch: &mut P,
-) -> Result<Verdict, Fault>
+) -> Result<Verdict, ProgramFault>
     // What is said is so of the record that the bytes spell.
     ensures verdict { IfOk result (IsVerdict bytes.now) }
     // No journal is called unreadable, and memory is wanted for none without a heading.
@@ -65,7 +65,7 @@ pub fn cut_verdict<P: Watch>(
     alloc: Global,
     bytes: &[u8],
     watch: &mut P,
-) -> Result<(Verdict, usize), Fault>
+) -> Result<(Verdict, usize), ProgramFault>
     ensures verdict { IfOk result (λ x. IsCutVerdict bytes.now x.0 x.1) }
     ensures journal { IfErr result (IsCutUnjudged bytes.now) }
 {

@@ -28,7 +28,7 @@ mod words;
 mod worker;
 
 pub use cuts::{Whole, check_cut, print_whole, whole_from};
-pub use faults::{DONE, FAULT, Fault, MEMORY, TURNS, after_writing, tell};
+pub use faults::{DONE, FAULT, MEMORY, ProgramFault, TURNS, after_writing, tell};
 pub use journals::{
     check_journal, check_watched, judged_from, judged_watched, print_lawful, print_unlawful,
     write_journal,

@@ -5,9 +5,9 @@ ghost use Rattle.bd_uapi.specs.Limits.{IsSeats};
 ghost use Rattle.bd_space.specs.Histories.{IsHistory, history_in};
 ghost use Rattle.bd_driver.specs.Together.{new_seats};
 ghost use Rattle.bd_player.specs.{Playing.{Plays, RunsOn}, Workers.{fault_status}};
-ghost use Rattle.bd_player.specs.declared.faults.Fault.TheVariants.{Journal};
+ghost use Rattle.bd_player.specs.declared.faults.ProgramFault.TheVariants.{Journal};
 
-use crate::faults::{DONE, Fault, tell};
+use crate::faults::{DONE, ProgramFault, tell};
 use crate::printing::Printer;
 use crate::sink::Sink;
 use crate::worker::act;
@@ -28,7 +28,7 @@ pub struct Played {
 
 impl Played {
     /// Nothing was run, because of this fault.
-    pub fn fault<E: Write>(fault: Fault, err: &mut E) -> Played
+    pub fn fault<E: Write>(fault: ProgramFault, err: &mut E) -> Played
         ensures status { result.status ≡ fault_status fault }
         ensures nothing { result.history ≡ None }
     {
@@ -39,7 +39,7 @@ impl Played {
     }
 
     /// What ended with this status, or wasn't run.
-    pub fn of<E: Write>(ran: Result<Record, Fault>, status: u8, err: &mut E) -> Played
+    pub fn of<E: Write>(ran: Result<Record, ProgramFault>, status: u8, err: &mut E) -> Played
         ensures { MatchResult ran (λ r. (result.status ≡ status) × (result.history ≡ Some r))
             (λ fault. (result.status ≡ fault_status fault) × (result.history ≡ None)) }
     {
@@ -54,40 +54,47 @@ impl Played {
 }
 
 // These bytes, and behind them all that a reader has.
-pub fn read_on<R: Read>(alloc: Global, first: &[u8], reader: &mut R) -> Result<Vec<u8>, Fault>
+pub fn read_on<R: Read>(
+    alloc: Global,
+    first: &[u8],
+    reader: &mut R,
+) -> Result<Vec<u8>, ProgramFault>
     ensures bytes { IfOk result (λ v. IfSome (R.remaining reader.old) (λ bytes. v.items ≡ first.now ++ bytes)) }
     ensures fault { IfErr result (λ f. f ≡ Journal → ⊥) }
 {
     let Ok(mut bytes) = Vec::from_slice(alloc, first) else {
-        return Err(Fault::Memory);
+        return Err(ProgramFault::Memory);
     };
     match reader.read_to_end(&mut bytes) {
         Ok(_) => Ok(bytes),
-        Err(error) => Err(Fault::File.or_memory(&error)),
+        Err(error) => Err(ProgramFault::File.or_memory(&error)),
     }
 }
 
 /// The script that a reader has.
-pub fn script_from<R: Read>(alloc: Global, reader: &mut R) -> Result<Script, Fault>
+pub fn script_from<R: Read>(alloc: Global, reader: &mut R) -> Result<Script, ProgramFault>
     ensures seats { IfOk result (λ s. IsSeats s.seats) }
 {
     let bytes = read_on(alloc, &[], reader)?;
     match read_script(alloc, &bytes) {
         Ok(script) => Ok(script),
-        Err(ScriptError::Line(number)) => Err(Fault::Line(number, explain(&bytes, number))),
-        Err(ScriptError::Memory) => Err(Fault::Memory),
+        Err(ScriptError::Line(number)) => Err(ProgramFault::Line(number, explain(&bytes, number))),
+        Err(ScriptError::Memory) => Err(ProgramFault::Memory),
     }
 }
 
 /// A driver with its seats, and the script that a reader has.
-pub fn laid<R: Read>(alloc: Global, script: &mut R) -> Result<(Driver, Vec<Seat>, Script), Fault>
+pub fn laid<R: Read>(
+    alloc: Global,
+    script: &mut R,
+) -> Result<(Driver, Vec<Seat>, Script), ProgramFault>
     ensures table { IfOk result (λ r. All (λ s. s.table ≡ r.0.table) r.1.items) }
     ensures dealt { IfOk result (λ r. (r.0.seats ≡ r.2.seats) × (r.1.items ≡ new_seats r.0.table r.0.seats 0 r.0.seats)) }
 {
     let script = script_from(alloc, script)?;
     match Driver::new(alloc, script.seats) {
         Ok((driver, seats)) => Ok((driver, seats, script)),
-        Err(bd_uapi::Fault::NoMemory) => Err(Fault::Memory),
+        Err(bd_uapi::Fault::NoMemory) => Err(ProgramFault::Memory),
         // A script has a number of seats that a driver can have.
         Err(_) => unreachable!(),
     }
@@ -149,7 +156,7 @@ pub fn play_into<R: Read, S: Sink>(
     script: &mut R,
     turns: u32,
     sink: &mut S,
-) -> Result<Record, Fault>
+) -> Result<Record, ProgramFault>
     // What is handed on as the history of the run is one.
     ensures history { S.is_full sink.old ≡ false → IfOk result (λ r. IsHistory (history_in r)) }
 {

@@ -4,7 +4,7 @@ ghost use Rattle.std.specs.Prelude.{◌≡◌, ◌≤◌, ◌⊎◌, ◌++◌, [
 ghost use Rattle.atomic_table.specs.Seated.{TableId};
 ghost use Rattle.bd_space.specs.Histories.{IsHistory, history_in};
 
-use crate::faults::{DONE, Fault, tell};
+use crate::faults::{DONE, ProgramFault, tell};
 use crate::playing::{Played, laid, play_lines};
 use crate::printing::print;
 use crate::said::Said;
@@ -127,7 +127,7 @@ pub fn print_told<W: Write, E: Write>(told: &Told, out: &mut W, err: &mut E, sta
         greatest = print(*number, said, out, greatest);
     }
     if told.starved {
-        greatest = greatest.max(tell(Fault::Memory, err));
+        greatest = greatest.max(tell(ProgramFault::Memory, err));
     }
     greatest
 }
@@ -229,7 +229,7 @@ pub fn gather<H: Threads, W: Write, E: Write>(
                 status = print_told(&told, out, err, status);
                 add_seat(seats, told.seat);
             }
-            None => status = status.max(tell(Fault::Thread, err)),
+            None => status = status.max(tell(ProgramFault::Thread, err)),
         }
     }
     status
@@ -279,6 +279,6 @@ pub fn play_threads<H: Threads + Wait + Sync, R: Read, W: Write, E: Write>(
             status,
             history: Some(driver.finish(seats)),
         },
-        Err(_) => Played::fault(Fault::Memory, err),
+        Err(_) => Played::fault(ProgramFault::Memory, err),
     }
 }

@@ -3,9 +3,9 @@
 ghost use Rattle.std.specs.Prelude.{◌≡◌, IfOk, IfErr};
 ghost use Rattle.bd_engine.specs.Refusals.{IsLiveSeats};
 ghost use Rattle.bd_space.specs.{declared.record.Record.{Record}};
-ghost use Rattle.bd_player.specs.{Verdicts.{IsUnjudged, IsVerdict, IsJudged, Judges}, declared.faults.Fault.TheVariants.{Memory}};
+ghost use Rattle.bd_player.specs.{Verdicts.{IsUnjudged, IsVerdict, IsJudged, Judges}, declared.faults.ProgramFault.TheVariants.{Memory}};
 
-use crate::faults::Fault;
+use crate::faults::ProgramFault;
 use crate::judging::{fault_of, verdict_watched};
 use bd_audit::{AuditFault, Unwatched, Watch, replay_watched};
 use bd_journal::read_journal;
@@ -42,7 +42,7 @@ pub enum Judged {
 }
 
 // What the replay of a record tells of it.
-pub fn judge<P: Watch>(alloc: Global, found: Record, watch: &mut P) -> Result<Judged, Fault>
+pub fn judge<P: Watch>(alloc: Global, found: Record, watch: &mut P) -> Result<Judged, ProgramFault>
     requires seats { IsLiveSeats found.seats }
     ensures judged { IfOk result (IsJudged found) }
     ensures fault { IfErr result (λ f. f ≡ Memory) }
@@ -50,7 +50,7 @@ pub fn judge<P: Watch>(alloc: Global, found: Record, watch: &mut P) -> Result<Ju
     match replay_watched(alloc, &found, watch) {
         Ok(()) => Ok(Judged::History(found)),
         Err(AuditFault::Unlawful { at }) => Ok(Judged::Unlawful { record: found, at }),
-        Err(AuditFault::NoMemory) => Err(Fault::Memory),
+        Err(AuditFault::NoMemory) => Err(ProgramFault::Memory),
     }
 }
 
@@ -64,7 +64,7 @@ pub(crate) fn judgment_on<P: Watch>(
     alloc: Global,
     bytes: &[u8],
     watch: &mut P,
-) -> Result<Judged, Fault>
+) -> Result<Judged, ProgramFault>
     ensures judged { IfOk result (Judges bytes.now) }
     // No journal is called unreadable, and memory is wanted for none without a heading.
     ensures journal { IfErr result (IsUnjudged bytes.now) }
@@ -80,7 +80,7 @@ pub(crate) fn judgment_on<P: Watch>(
 ///
 /// # Errors
 /// `Journal` where no record is spelled so, `Memory` where memory was refused.
-pub fn verdict_on(alloc: Global, bytes: &[u8]) -> Result<Verdict, Fault>
+pub fn verdict_on(alloc: Global, bytes: &[u8]) -> Result<Verdict, ProgramFault>
     // What is said is so of the record that the bytes spell.
     ensures verdict { IfOk result (IsVerdict bytes.now) }
     // No journal is called unreadable, and memory is wanted for none without a heading.

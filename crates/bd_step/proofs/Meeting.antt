@@ -15,7 +15,7 @@ use Rattle.bd_step.specs.declared.answer.Plain.{Plain}
 use Rattle.bd_step.specs.declared.answer.Brief.{Brief}
 use Rattle.bd_step.specs.Plain.{answer_of, IsWritten}
 use Rattle.bd_step.specs.Stands.{Before, Within}
-use Rattle.bd_step.specs.declared.why.Why.{Why}
+use Rattle.bd_step.specs.declared.step_error.StepError.{StepError}
 use Rattle.bd_step.specs.Refusals.{FullOnly}
 use Rattle.bd_step.specs.Meets.{Meets, IsRefused, IsAny, IsBy, IsStep, IsStepWritten}
 use Rattle.bd_step.proofs.Standing.{within}
@@ -53,22 +53,22 @@ module _ (old : Tables) (P Q : Space → Type 0) (f g : Space → Outcome) (same
     stands = λ s h q. let k = same s h q in subst (λ (o : Outcome). Within new o.space) (sym k.1) (m.stands s h k.0);
   }
 
-  as_refused : (why : Why) → IsRefused old P f why → IsRefused old Q g why
+  as_refused : (why : StepError) → IsRefused old P f why → IsRefused old Q g why
   as_refused why m = λ s h q. let k = same s h q in subst (λ (o : Outcome). FullOnly why (has_number_past_limit o.space.names ≡ true)) (sym k.1) (m s h k.0)
 
-  pub as_step : (new : Tables) (r : Result Plain Why) → IsStep old new P f r → IsStep old new Q g r
+  pub as_step : (new : Tables) (r : Result Plain StepError) → IsStep old new P f r → IsStep old new Q g r
   as_step new (Ok x) m = record { ok = as_meets new (answer_of x) m.ok; err = tt; full = tt }
   as_step new (Err why) m = record { ok = tt; err = m.err; full = as_refused why m.full }
 
   module _ (new : Tables) (both : Bool) (answer again : StepAnswer) where
-    pub as_step_written : (r : Result Brief Why) → IsStepWritten old new both P f answer again r → IsStepWritten old new both Q g answer again r
+    pub as_step_written : (r : Result Brief StepError) → IsStepWritten old new both P f answer again r → IsStepWritten old new both Q g answer again r
     as_step_written (Ok x) m = record { ok = as_meets new answer m.ok; brief = m.brief; copied = m.copied; err = tt; full = tt }
     as_step_written (Err why) m = record { ok = tt; brief = tt; copied = m.copied; err = m.err; full = as_refused why m.full }
 
 -- ---- answers that take no memory, written
 
 module _ (old new : Tables) (both : Bool) (P : Space → Type 0) (f : Space → Outcome) (answer again : StepAnswer) where
-  pub written_step : (r : Result Plain Why) (t : Result Brief Why) → IsWritten r t answer → IsStep old new P f r → IsStepWritten old new both P f answer again t
+  pub written_step : (r : Result Plain StepError) (t : Result Brief StepError) → IsWritten r t answer → IsStep old new P f r → IsStepWritten old new both P f answer again t
   written_step (Ok x) t is m =
       subst (IsStepWritten old new both P f answer again) (sym is.0) (record { ok = subst (Meets old new P f) (sym is.1) m.ok; brief = is.1; copied = λ asked got. absurd (cc); err = tt; full = tt })
   written_step (Err why) t is m = subst (IsStepWritten old new both P f answer again) (sym is) (record { ok = tt; brief = tt; copied = λ asked got. absurd (cc); err = m.err; full = m.full })
@@ -78,7 +78,7 @@ module _ (old new : Tables) (both : Bool) (P : Space → Type 0) (f : Space → 
 module _ (old : Tables) (a : Actor) (f : Space → Outcome) where
   -- where the definition asks for no live thread
   module _ (g : Space → Outcome) (same : (s : Space) → f s ≡ g s) where
-    pub any_step : (new : Tables) (both : Bool) (answer again : StepAnswer) (r : Result Plain Why) (t : Result Brief Why) → IsWritten r t answer → IsStep old new IsAny g r
+    pub any_step : (new : Tables) (both : Bool) (answer again : StepAnswer) (r : Result Plain StepError) (t : Result Brief StepError) → IsWritten r t answer → IsStep old new IsAny g r
         → IsStepWritten old new both (IsBy a) f answer again t
     any_step new both answer again r t is m =
         written_step old new both (IsBy a) f answer again r t is (as_step old IsAny (IsBy a) g f (λ s h by. (by.tidy, same s)) new r m)
@@ -87,7 +87,7 @@ module _ (old : Tables) (a : Actor) (f : Space → Outcome) where
     pub by_same : (s : Space) → Before old s → IsBy a s → IsBy a s × (f s ≡ g s a)
     by_same s h by = (by, same s ∙ ap (λ o. by_actor s o (g s)) by.acts)
 
-    pub by_step : (new : Tables) (both : Bool) (answer again : StepAnswer) (r : Result Plain Why) (t : Result Brief Why) → IsWritten r t answer → IsStep old new (IsBy a) (λ s. g s a) r
+    pub by_step : (new : Tables) (both : Bool) (answer again : StepAnswer) (r : Result Plain StepError) (t : Result Brief StepError) → IsWritten r t answer → IsStep old new (IsBy a) (λ s. g s a) r
         → IsStepWritten old new both (IsBy a) f answer again t
     by_step new both answer again r t is m =
         written_step old new both (IsBy a) f answer again r t is (as_step old (IsBy a) (IsBy a) (λ s. g s a) f by_same new r m)

@@ -10,7 +10,7 @@ use Rattle.bd_space.specs.Transactions.{transaction_check}
 use Rattle.bd_space.specs.Replies.{reply_check}
 use Rattle.bd_laws.specs.Tidy.{IsTidy}
 use Rattle.bd_step.specs.declared.tables.Tables.{Tables}
-use Rattle.bd_step.specs.declared.why.Why.{Why}
+use Rattle.bd_step.specs.declared.step_error.StepError.{StepError}
 use Rattle.bd_step.specs.declared.answer.Plain.{Plain}
 use Rattle.bd_step.specs.declared.answer.Brief.{Brief}
 use Rattle.bd_step.specs.declared.answer.Brief.TheVariants.{Got}
@@ -57,7 +57,7 @@ pub record Meets (old new : Tables) (P : Space → Type 0) (f : Space → Outcom
   pub stands : (s : Space) → Before old s → P s → Within new (f s).space
 
 -- the step was not taken: a full history is the reason only where it would need a number past the limit
-abbrev pub IsRefused : Tables → (Space → Type 0) → (Space → Outcome) → Why → Type 0
+abbrev pub IsRefused : Tables → (Space → Type 0) → (Space → Outcome) → StepError → Type 0
 IsRefused old P f why = (s : Space) → Before old s → P s → FullOnly why (has_number_past_limit (f s).space.names ≡ true)
 
 -- it left all as it was
@@ -65,13 +65,13 @@ abbrev pub IsKept : Tables → Tables → Type 0
 IsKept old new = (s : Space) → Before old s → Before new s
 
 -- how a step of the definition f ends for such a maker: taken; or not taken, and then all is as it was
-pub record IsStep (old new : Tables) (P : Space → Type 0) (f : Space → Outcome) (r : Result Plain Why) : Type 0 where
+pub record IsStep (old new : Tables) (P : Space → Type 0) (f : Space → Outcome) (r : Result Plain StepError) : Type 0 where
   pub ok : IfOk r (λ x. Meets old new P f (answer_of x))
   pub err : OnErr r (IsKept old new)
   pub full : IfErr r (IsRefused old P f)
 
 -- the same, with its answer written, and once more where both are asked for and it has read
-pub record IsStepWritten (old new : Tables) (both : Bool) (P : Space → Type 0) (f : Space → Outcome) (answer again : StepAnswer) (r : Result Brief Why) : Type 0 where
+pub record IsStepWritten (old new : Tables) (both : Bool) (P : Space → Type 0) (f : Space → Outcome) (answer again : StepAnswer) (r : Result Brief StepError) : Type 0 where
   pub ok : OnOk r (Meets old new P f answer)
   pub brief : IfOk r (λ x. IsBrief x answer)
   pub copied : IsTrue both → r ≡ Ok Got → again ≡ answer

@@ -5,7 +5,7 @@ use Rattle.bd_space.specs.declared.step.StepAnswer.TheVariants as gave
 use Rattle.bd_step.specs.declared.answer.Plain.{Plain}
 use Rattle.bd_step.specs.declared.answer.Brief.{Brief}
 use Rattle.bd_step.specs.declared.answer.Brief.TheVariants as brief
-use Rattle.bd_step.specs.declared.why.Why.{Why}
+use Rattle.bd_step.specs.declared.step_error.StepError.{StepError}
 use Rattle.bd_step.specs.declared.answer.Plain.TheVariants.{Opened, Set, Exited, Accepted, Noted, Stopped, Refused}
 
 abbrev pub answer_of : Plain → StepAnswer
@@ -28,6 +28,6 @@ IsBrief (brief.Plain x) answer = answer ≡ answer_of x
 IsBrief brief.Got answer = IsGot answer
 
 -- an answer that takes no memory was written, and is had in brief; or the refusal is
-abbrev pub IsWritten : Result Plain Why → Result Brief Why → StepAnswer → Type 0
+abbrev pub IsWritten : Result Plain StepError → Result Brief StepError → StepAnswer → Type 0
 IsWritten (Ok x) r answer = (r ≡ Ok (brief.Plain x)) × (answer ≡ answer_of x)
 IsWritten (Err why) r answer = r ≡ Err why

@@ -3,7 +3,7 @@
 ghost use Rattle.std.specs.Prelude.{◌≡◌};
 ghost use Rattle.bd_step.specs.Plain.{IsWritten};
 
-use crate::why::Why;
+use crate::step_error::StepError;
 use bd_space::StepAnswer;
 use bd_uapi::{Cause, Fault, Note};
 
@@ -71,7 +71,10 @@ impl Brief {
 }
 
 /// Writes an answer that takes no memory, and has it in brief, or the refusal.
-pub(crate) fn written(taken: Result<Plain, Why>, answer: &mut StepAnswer) -> Result<Brief, Why>
+pub(crate) fn written(
+    taken: Result<Plain, StepError>,
+    answer: &mut StepAnswer,
+) -> Result<Brief, StepError>
     ensures { IsWritten taken result answer.new }
 {
     match taken {

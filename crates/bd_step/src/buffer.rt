@@ -18,9 +18,9 @@ ghost use Rattle.bd_step.specs.Stands.{Before, Within, Tells, TellsWithin, CanFo
 ghost use Rattle.bd_step.specs.{Following.{AreTouched}, Meets.{IsBy, IsKept, IsStep}, Deliveries.{IsInside, Spends}};
 
 use crate::answer::Plain;
+use crate::step_error::StepError;
 use crate::tables::{NOTHING, Tables};
 use crate::touched::in_order;
-use crate::why::Why;
 use bd_parcel::put_object;
 use bd_space::{Actor, Buffer, Bytes, Item, ObjectId, Process, Turn};
 use bd_uapi::Note;
@@ -157,7 +157,7 @@ impl Tables {
     }
 
     /// The step by which a process frees a buffer that was handed out to it.
-    pub(crate) fn free(&mut self, a: Actor, pointer: u64) -> Result<Plain, Why>
+    pub(crate) fn free(&mut self, a: Actor, pointer: u64) -> Result<Plain, StepError>
         ensures step { IsStep self.old self.new (IsBy a) (λ s. freeing.free_step s a.process.made pointer) result }
         ensures told { KeepsTold self.old self.new }
     {
@@ -166,7 +166,7 @@ impl Tables {
             Err(note) => return Ok(Plain::Noted(note)),
         };
         let Ok(touched) = self.ready_to_free(made) else {
-            return Err(Why::NoMemory);
+            return Err(StepError::NoMemory);
         };
         self.release_buffer(a.process.made, made, touched.as_slice());
         Ok(Plain::Accepted)

@@ -19,8 +19,8 @@ ghost use Rattle.bd_step.specs.{Stands.{Uses, Within, MakesWithin, UsesNothing, 
 ghost use Rattle.bd_step.specs.Telling.{owed};
 
 use crate::answer::Plain;
+use crate::step_error::StepError;
 use crate::tables::{NOTHING, Tables};
-use crate::why::Why;
 use bd_objects::Room;
 use bd_space::{Actor, DeathNotification, ObjectId, Phase, TodoList, WorkKind};
 use bd_uapi::Note;
@@ -75,7 +75,12 @@ impl Tables {
     }
 
     /// The step by which a process asks to be told of an owner's end. Nothing follows from it.
-    pub(crate) fn request_death(&mut self, a: Actor, n: u32, cookie: u64) -> Result<Plain, Why>
+    pub(crate) fn request_death(
+        &mut self,
+        a: Actor,
+        n: u32,
+        cookie: u64,
+    ) -> Result<Plain, StepError>
         ensures step { IsStep self.old self.new (IsBy a)
             (λ s. by_check s (λ o. deaths.requested s a.process.made o cookie) (deaths.request_check s a.process.made n)) result }
         ensures told { KeepsTold self.old self.new }
@@ -89,7 +94,7 @@ impl Tables {
             ..NOTHING
         };
         if self.reserve(room, 1).is_err() {
-            return Err(Why::NoMemory);
+            return Err(StepError::NoMemory);
         }
         self.add_request(a.process.made, o, cookie);
         Ok(Plain::Accepted)
@@ -119,7 +124,7 @@ impl Tables {
     }
 
     /// The step by which a process takes back that it asked to be told of an owner's end. Nothing follows from it.
-    pub(crate) fn clear_death(&mut self, a: Actor, n: u32, cookie: u64) -> Result<Plain, Why>
+    pub(crate) fn clear_death(&mut self, a: Actor, n: u32, cookie: u64) -> Result<Plain, StepError>
         ensures step { IsStep self.old self.new (IsBy a)
             (λ s. by_check s (deaths.cleared s a.thread.seat) (deaths.clear_check s a.process.made n cookie)) result }
         ensures told { KeepsTold self.old self.new }
@@ -129,7 +134,7 @@ impl Tables {
             Err(note) => return Ok(Plain::Noted(note)),
         };
         if self.reserve(NOTHING, 1).is_err() {
-            return Err(Why::NoMemory);
+            return Err(StepError::NoMemory);
         }
         self.clear_request(a.thread.seat, x);
         Ok(Plain::Accepted)
@@ -149,7 +154,7 @@ impl Tables {
     }
 
     /// The step by which a process acknowledges that it was told of an owner's end. Nothing follows from it.
-    pub(crate) fn death_done(&mut self, a: Actor, cookie: u64) -> Result<Plain, Why>
+    pub(crate) fn death_done(&mut self, a: Actor, cookie: u64) -> Result<Plain, StepError>
         ensures step { IsStep self.old self.new (IsBy a)
             (λ s. by_check s (deaths.death_done s a.thread.seat) (ok_or (deaths.told_death s a.process.made cookie) NoneTold)) result }
         ensures told { KeepsTold self.old self.new }
@@ -159,7 +164,7 @@ impl Tables {
             None => return Ok(Plain::Noted(Note::NoneTold)),
         };
         if self.reserve(NOTHING, 1).is_err() {
-            return Err(Why::NoMemory);
+            return Err(StepError::NoMemory);
         }
         self.acknowledge_death(a.thread.seat, x);
         Ok(Plain::Accepted)

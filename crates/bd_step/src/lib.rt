@@ -17,14 +17,14 @@ mod reply;
 mod sending;
 mod spam;
 mod step;
+mod step_error;
 mod tables;
 mod thread;
 mod todo_list;
 mod touched;
 mod transaction;
-mod why;
 mod work;
 
 pub use answer::{Brief, Plain};
+pub use step_error::StepError;
 pub use tables::Tables;
-pub use why::Why;

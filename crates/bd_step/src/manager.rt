@@ -7,8 +7,8 @@ ghost use Rattle.bd_objects.specs.{Room.{object_room, reference_room}, New.{IsNe
 ghost use Rattle.bd_step.specs.{Stands.{TellsBefore, Within, KeepsTold}, Meets.{IsBy, IsStep}};
 
 use crate::answer::Plain;
+use crate::step_error::StepError;
 use crate::tables::{NOTHING, Tables};
-use crate::why::Why;
 use bd_objects::Room;
 use bd_space::{Actor, ObjectId};
 use bd_uapi::Fault;
@@ -37,7 +37,7 @@ impl Tables {
     }
 
     /// The step that makes the process the context manager.
-    pub(crate) fn set_manager(&mut self, a: Actor) -> Result<Plain, Why>
+    pub(crate) fn set_manager(&mut self, a: Actor) -> Result<Plain, StepError>
         ensures step { IsStep self.old self.new (IsBy a) (λ s. steps.manager_step s a) result }
         ensures told { KeepsTold self.old self.new }
     {
@@ -50,7 +50,7 @@ impl Tables {
             ..NOTHING
         };
         if self.reserve(room, 0).is_err() {
-            return Err(Why::NoMemory);
+            return Err(StepError::NoMemory);
         }
         self.with_manager(a.process.made);
         Ok(Plain::Set)

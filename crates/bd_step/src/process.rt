@@ -17,8 +17,8 @@ ghost use Rattle.bd_step.specs.{Exits.{HasProcess}, Meets.{IsAny, IsBy, IsKept, 
 
 use crate::answer::Plain;
 use crate::exit::Exit;
+use crate::step_error::StepError;
 use crate::tables::{NOTHING, Tables};
-use crate::why::Why;
 use bd_buffers::Window;
 use bd_space::{Actor, DeathNotification, Process};
 use bd_uapi::Fault;
@@ -109,7 +109,13 @@ impl Tables {
     }
 
     /// The step that opens a process with one thread.
-    pub(crate) fn open(&mut self, seat: u32, pid: u32, euid: u32, size: u32) -> Result<Plain, Why>
+    pub(crate) fn open(
+        &mut self,
+        seat: u32,
+        pid: u32,
+        euid: u32,
+        size: u32,
+    ) -> Result<Plain, StepError>
         ensures step { IsStep self.old self.new IsAny (λ s. steps.open_step s seat pid euid size) result }
         ensures told { KeepsTold self.old self.new }
     {
@@ -117,7 +123,7 @@ impl Tables {
             return Ok(Plain::Refused(fault));
         }
         let Ok(window) = self.reserve_process(size) else {
-            return Err(Why::NoMemory);
+            return Err(StepError::NoMemory);
         };
         self.with_process(pid, euid, size, window);
         self.with_thread(seat, self.steps);
@@ -180,13 +186,13 @@ impl Tables {
     }
 
     /// The step that ends a process with all its threads. What it touches is gathered before anything changes.
-    pub(crate) fn exit_process(&mut self, a: Actor) -> Result<Plain, Why>
+    pub(crate) fn exit_process(&mut self, a: Actor) -> Result<Plain, StepError>
         ensures step { IsStep self.old self.new (IsBy a) (λ s. exits.exit_process_step s a) result }
         ensures told { KeepsTold self.old self.new }
     {
         let p = a.process.made;
         let Ok((seats, exit)) = self.begin_exit(p) else {
-            return Err(Why::NoMemory);
+            return Err(StepError::NoMemory);
         };
         self.end_process(seats.as_slice(), exit.deaths(), p);
         self.follow_objects(exit.objects());

@@ -15,9 +15,9 @@ ghost use Rattle.bd_step.specs.Stands.{Before, Within, TellsBefore, TellsWithin,
 ghost use Rattle.bd_step.specs.{Meets.{Meets, IsBy, IsKept, IsStepWritten}, Plain.{IsGot}, Taking.{AreTaken, IsReading, works_in}};
 
 use crate::answer::{Brief, Plain, written};
+use crate::step_error::StepError;
 use crate::tables::{NOTHING, Tables};
 use crate::touched::in_order;
-use crate::why::Why;
 use bd_codec::write_return;
 use bd_objects::Room;
 use bd_space::{Actor, Buffer, Bytes, ObjectId, StepAnswer, Thread, TodoList, Work, WorkKind};
@@ -323,7 +323,7 @@ impl Tables {
         both: bool,
         answer: &mut StepAnswer,
         again: &mut StepAnswer,
-    ) -> Result<Brief, Why>
+    ) -> Result<Brief, StepError>
         ensures step { IsStepWritten self.old self.new both (IsBy a) (λ s. spec.read_step s a limit) answer.new again.new result }
         ensures told { KeepsTold self.old self.new }
     {
@@ -335,7 +335,7 @@ impl Tables {
         };
         match self.read_list(&a.thread, list, limit, both, answer, again) {
             Ok(()) => Ok(Brief::Got),
-            Err(AllocError) => Err(Why::NoMemory),
+            Err(AllocError) => Err(StepError::NoMemory),
         }
     }
 }

@@ -9,15 +9,15 @@ ghost use Rattle.bd_calls.specs.Room.{work_room};
 ghost use Rattle.bd_step.specs.{Stands.{MakesOfTidy, PassesLimit, KeepsTold}, Meets.{IsBy, IsKept, IsStep}};
 
 use crate::answer::Plain;
+use crate::step_error::StepError;
 use crate::tables::{NOTHING, Tables};
-use crate::why::Why;
 use bd_objects::{NumbersFull, Room};
 use bd_space::{Actor, ObjectId};
 
 impl Tables {
     // The reference comes in that the process asks for, and a name with it, and what follows at the object; or nothing,
     // where a number past the limit would be needed.
-    fn add_asked(&mut self, p: u32, n: u32, o: ObjectId, strong: bool) -> Result<(), Why>
+    fn add_asked(&mut self, p: u32, n: u32, o: ObjectId, strong: bool) -> Result<(), StepError>
         requires references { 1 ≤ reference_room self.old.objects }
         requires names { 1 ≤ name_room self.old.objects }
         requires works { 1 ≤ work_room self.old.calls }
@@ -25,7 +25,7 @@ impl Tables {
         ensures kept { OnErr result (IsKept self.old self.new) }
         ensures full { OnErr result (PassesLimit self.old (λ s. completed (asking.ask s p o strong))) }
         // There is room by then, so that nothing else is a reason.
-        ensures limit { IfErr result (λ why. why ≡ Why.HistoryFull) }
+        ensures limit { IfErr result (λ why. why ≡ StepError.HistoryFull) }
         ensures told { KeepsTold self.old self.new }
     {
         match self.objects.ask(self.steps, self.manager, p, n, o, strong) {
@@ -33,12 +33,12 @@ impl Tables {
                 self.follow_objects(&[o]);
                 Ok(())
             }
-            Err(NumbersFull) => Err(Why::HistoryFull),
+            Err(NumbersFull) => Err(StepError::HistoryFull),
         }
     }
 
     /// The step by which a process asks for an object, weakly or strongly.
-    pub(crate) fn ask(&mut self, a: Actor, n: u32, strong: bool) -> Result<Plain, Why>
+    pub(crate) fn ask(&mut self, a: Actor, n: u32, strong: bool) -> Result<Plain, StepError>
         ensures step { IsStep self.old self.new (IsBy a)
             (λ s. by_check s (λ o. asking.ask s a.process.made o strong) (asking.ask_check s a.process.made n strong)) result }
         ensures told { KeepsTold self.old self.new }
@@ -56,7 +56,7 @@ impl Tables {
             ..NOTHING
         };
         if self.reserve(room, 0).is_err() {
-            return Err(Why::NoMemory);
+            return Err(StepError::NoMemory);
         }
         match self.add_asked(a.process.made, n, o, strong) {
             Ok(()) => Ok(Plain::Accepted),
@@ -75,7 +75,7 @@ impl Tables {
     }
 
     /// The step by which a process drops a reference that it asked for.
-    pub(crate) fn drop_asked(&mut self, a: Actor, n: u32, strong: bool) -> Result<Plain, Why>
+    pub(crate) fn drop_asked(&mut self, a: Actor, n: u32, strong: bool) -> Result<Plain, StepError>
         ensures step { IsStep self.old self.new (IsBy a)
             (λ s. by_check s (λ o. asking.drop_asked s a.process.made o strong)
             (asking.drop_check s a.process.made n strong)) result }
@@ -86,7 +86,7 @@ impl Tables {
             Err(note) => return Ok(Plain::Noted(note)),
         };
         if self.reserve(NOTHING, 0).is_err() {
-            return Err(Why::NoMemory);
+            return Err(StepError::NoMemory);
         }
         self.release_asked(a.process.made, o, strong);
         Ok(Plain::Accepted)
@@ -109,7 +109,7 @@ impl Tables {
         ptr: u64,
         cookie: u64,
         strong: bool,
-    ) -> Result<Plain, Why>
+    ) -> Result<Plain, StepError>
         ensures step { IsStep self.old self.new (IsBy a)
             (λ s. by_check s (λ x. asking.acknowledge s x.id strong)
             (asking.done_check s a.process.made ptr cookie strong)) result }
@@ -120,7 +120,7 @@ impl Tables {
             Err(note) => return Ok(Plain::Noted(note)),
         };
         if self.reserve(NOTHING, 0).is_err() {
-            return Err(Why::NoMemory);
+            return Err(StepError::NoMemory);
         }
         self.release_handshake(x.id, strong);
         Ok(Plain::Accepted)

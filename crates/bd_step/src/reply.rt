@@ -15,8 +15,8 @@ ghost use Rattle.bd_step.specs.Deliveries.{IsDeliverable, IsReady, Delivers, Spe
 
 use crate::answer::Plain;
 use crate::delivery::Delivery;
+use crate::step_error::StepError;
 use crate::tables::{NOTHING, Tables};
-use crate::why::Why;
 use bd_objects::NumbersFull;
 use bd_space::{Actor, Frame, Parcel, WorkKind};
 use bd_uapi::{Cause, Return, TransactionData};
@@ -56,7 +56,13 @@ impl Tables {
     }
 
     // All that changes.
-    fn replied(&mut self, a: Actor, d: &TransactionData, f: Frame, v: Delivery) -> Result<(), Why>
+    fn replied(
+        &mut self,
+        a: Actor,
+        d: &TransactionData,
+        f: Frame,
+        v: Delivery,
+    ) -> Result<(), StepError>
         requires deliverable { IsDeliverable self.old d.now v }
         requires ready { IsReady self.old v }
         ensures ok { OnOk result (Delivers self.old self.new v (λ s. spec.replied s a d.now f v)) }
@@ -64,11 +70,11 @@ impl Tables {
         ensures full { OnErr result (PassesLimit self.old (λ s. names_go (spec.replied s a d.now f v))) }
         ensures follow { OnOk result (CanFollow self.new (length v.sending.items)) }
         // There is room by then, so that nothing else is a reason.
-        ensures limit { IfErr result (λ why. why ≡ Why.HistoryFull) }
+        ensures limit { IfErr result (λ why. why ≡ StepError.HistoryFull) }
         ensures told { KeepsTold self.old self.new }
     {
         match self.delivered(a, d, v) {
-            Err(NumbersFull) => Err(Why::HistoryFull),
+            Err(NumbersFull) => Err(StepError::HistoryFull),
             Ok(()) => {
                 self.answered(a.thread.seat, f);
                 Ok(())
@@ -84,7 +90,7 @@ impl Tables {
         d: &TransactionData,
         f: Frame,
         v: Delivery,
-    ) -> Result<Plain, Why>
+    ) -> Result<Plain, StepError>
         requires { IsDeliverable self.old d.now v }
         ensures step { IsStep self.old self.new (IsReplying a d.now f v)
             (λ s. outcomes.accepted (spec.replied s a d.now f v)) result }
@@ -92,7 +98,7 @@ impl Tables {
     {
         let parent = f.parent;
         let Ok(touched) = self.make_ready(&v) else {
-            return Err(Why::NoMemory);
+            return Err(StepError::NoMemory);
         };
         match self.replied(a, d, f, v) {
             Err(why) => Err(why),
@@ -117,14 +123,14 @@ impl Tables {
     }
 
     // The step of a reply that this cause stands against.
-    fn stop_reply(&mut self, seat: u32, cause: Cause, f: Frame) -> Result<Plain, Why>
+    fn stop_reply(&mut self, seat: u32, cause: Cause, f: Frame) -> Result<Plain, StepError>
         ensures step { IsStep self.old self.new (IsServing seat f)
             (λ s. outcomes.stopped cause (spec.reply_refused s seat f)) result }
-        ensures memory { IfErr result (λ why. why ≡ Why.NoMemory) }
+        ensures memory { IfErr result (λ why. why ≡ StepError.NoMemory) }
         ensures told { KeepsTold self.old self.new }
     {
         if self.reserve(NOTHING, 2).is_err() {
-            return Err(Why::NoMemory);
+            return Err(StepError::NoMemory);
         }
         self.refuse_reply(seat, f);
         self.close_up(f.parent);
@@ -138,13 +144,13 @@ impl Tables {
         d: &TransactionData,
         parcel: &Option<Parcel>,
         f: Frame,
-    ) -> Result<Plain, Why>
+    ) -> Result<Plain, StepError>
         ensures step { IsStep self.old self.new (IsServing a.thread.seat f)
             (λ s. spec.reply_to s a d.now parcel.now (Some f)) result }
         ensures told { KeepsTold self.old self.new }
     {
         match self.reply_check(a, d, parcel, &f) {
-            Err(_) => Err(Why::NoMemory),
+            Err(_) => Err(StepError::NoMemory),
             Ok(Err(cause)) => self.stop_reply(a.thread.seat, cause, f),
             Ok(Ok(v)) => self.answer(a, d, f, v),
         }
@@ -156,7 +162,7 @@ impl Tables {
         a: Actor,
         d: &TransactionData,
         parcel: &Option<Parcel>,
-    ) -> Result<Plain, Why>
+    ) -> Result<Plain, StepError>
         ensures step { IsStep self.old self.new (IsBy a) (λ s. spec.reply_step s a d.now parcel.now) result }
         ensures told { KeepsTold self.old self.new }
     {

@@ -4,8 +4,8 @@ ghost use Rattle.bd_space.specs.{Steps.{change, command_step}};
 ghost use Rattle.bd_step.specs.{Stands.{KeepsTold}, Meets.{IsAny, IsBy, IsNobody, IsStep, IsStepWritten}};
 
 use crate::answer::{Brief, Plain, written};
+use crate::step_error::StepError;
 use crate::tables::Tables;
-use crate::why::Why;
 use bd_space::{Actor, Parcel, Step, StepAnswer};
 use bd_uapi::{Command, Fault};
 
@@ -17,7 +17,7 @@ impl Tables {
         a: Actor,
         command: &Command,
         parcel: &Option<Parcel>,
-    ) -> Result<Plain, Why>
+    ) -> Result<Plain, StepError>
         ensures step { IsStep self.old self.new (IsBy a) (λ s. command_step s a command.now parcel.now) result }
         ensures told { KeepsTold self.old self.new }
     {
@@ -47,7 +47,7 @@ impl Tables {
         both: bool,
         answer: &mut StepAnswer,
         again: &mut StepAnswer,
-    ) -> Result<Brief, Why>
+    ) -> Result<Brief, StepError>
         ensures step { IsStepWritten self.old self.new both (IsBy a) (λ s. change s a.thread.seat step.now)
             answer.new again.new result }
         ensures told { KeepsTold self.old self.new }
@@ -68,7 +68,7 @@ impl Tables {
     }
 
     // The step of a seat without a live thread.
-    fn change_alone(&mut self, seat: u32, step: &Step) -> Result<Plain, Why>
+    fn change_alone(&mut self, seat: u32, step: &Step) -> Result<Plain, StepError>
         ensures step { IsStep self.old self.new (IsNobody seat) (λ s. change s seat step.now) result }
         ensures told { KeepsTold self.old self.new }
     {
@@ -89,7 +89,7 @@ impl Tables {
         both: bool,
         answer: &mut StepAnswer,
         again: &mut StepAnswer,
-    ) -> Result<Brief, Why>
+    ) -> Result<Brief, StepError>
         ensures step { IsStepWritten self.old self.new both IsAny (λ s. change s seat step.now) answer.new again.new result }
         ensures told { KeepsTold self.old self.new }
     {

@@ -16,8 +16,8 @@ ghost use Rattle.bd_step.specs.{Stands.{StandsAt, Tells, MakesWithin, UsesNothin
 ghost use Rattle.bd_step.specs.Handed.{without_handed, without_all_handed};
 
 use crate::answer::Plain;
+use crate::step_error::StepError;
 use crate::tables::{NOTHING, Tables};
-use crate::why::Why;
 use bd_buffers::Windows;
 use bd_objects::ObjectTable;
 use bd_space::{Actor, Thread, TodoList, WorkKind};
@@ -105,7 +105,7 @@ impl Tables {
     }
 
     /// The step that makes the seat a further thread of a live process.
-    pub(crate) fn attach(&mut self, seat: u32, pid: u32) -> Result<Plain, Why>
+    pub(crate) fn attach(&mut self, seat: u32, pid: u32) -> Result<Plain, StepError>
         ensures step { IsStep self.old self.new IsAny (λ s. steps.attach_step s seat pid) result }
         ensures told { KeepsTold self.old self.new }
     {
@@ -116,7 +116,7 @@ impl Tables {
             return Ok(Plain::Refused(Fault::NoSuchPid));
         };
         if self.reserve(NOTHING, 0).is_err() {
-            return Err(Why::NoMemory);
+            return Err(StepError::NoMemory);
         }
         self.with_thread(seat, process.made);
         Ok(Plain::Opened)
@@ -145,13 +145,13 @@ impl Tables {
     }
 
     /// The step that ends a thread. What it touches is gathered before anything changes.
-    pub(crate) fn exit_thread(&mut self, a: Actor) -> Result<Plain, Why>
+    pub(crate) fn exit_thread(&mut self, a: Actor) -> Result<Plain, StepError>
         ensures step { IsStep self.old self.new (IsBy a) (λ s. exits.exit_thread_step s a) result }
         ensures told { KeepsTold self.old self.new }
     {
         let seat = a.thread.seat;
         let Ok(exit) = self.begin_thread_exit(seat) else {
-            return Err(Why::NoMemory);
+            return Err(StepError::NoMemory);
         };
         self.thread_goes(seat);
         self.follow_among(a.thread.process, exit.objects());

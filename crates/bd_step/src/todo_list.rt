@@ -9,8 +9,8 @@ ghost use Rattle.bd_calls.specs.Room.{work_room};
 ghost use Rattle.bd_step.specs.{Stands.{Makes, MakesWithin, KeepsTold}, Meets.{IsAny, IsStep}, Deliveries.{Spends}};
 
 use crate::answer::Plain;
+use crate::step_error::StepError;
 use crate::tables::{NOTHING, Tables};
-use crate::why::Why;
 use bd_space::{Frame, TodoList, WorkKind};
 use bd_uapi::{Cause, Return};
 
@@ -36,14 +36,14 @@ impl Tables {
     }
 
     /// A command is refused, and its writer has this to read. Nothing follows from it.
-    pub(crate) fn stop(&mut self, seat: u32, cause: Cause, told: Return) -> Result<Plain, Why>
+    pub(crate) fn stop(&mut self, seat: u32, cause: Cause, told: Return) -> Result<Plain, StepError>
         ensures step { IsStep self.old self.new IsAny
             (λ s. outcomes.stopped cause (todo.owe s (OfThread seat) (kinds.Refusal told))) result }
-        ensures memory { IfErr result (λ why. why ≡ Why.NoMemory) }
+        ensures memory { IfErr result (λ why. why ≡ StepError.NoMemory) }
         ensures told { KeepsTold self.old self.new }
     {
         if self.reserve(NOTHING, 1).is_err() {
-            return Err(Why::NoMemory);
+            return Err(StepError::NoMemory);
         }
         self.owe(seat, WorkKind::Refusal(told));
         Ok(Plain::Stopped(cause))

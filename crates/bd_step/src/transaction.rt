@@ -16,8 +16,8 @@ ghost use Rattle.bd_step.specs.Deliveries.{IsDeliverable, IsReady, DeliversCall,
 
 use crate::answer::Plain;
 use crate::delivery::Delivery;
+use crate::step_error::StepError;
 use crate::tables::Tables;
-use crate::why::Why;
 use bd_calls::serves;
 use bd_objects::NumbersFull;
 use bd_space::{Actor, Callee, Frame, ObjectId, Parcel, Process, WorkKind};
@@ -178,7 +178,7 @@ impl Tables {
     }
 
     // All that changes.
-    fn transacted(&mut self, a: Actor, d: &TransactionData, v: Delivery) -> Result<(), Why>
+    fn transacted(&mut self, a: Actor, d: &TransactionData, v: Delivery) -> Result<(), StepError>
         requires deliverable { IsDeliverable self.old d.now v }
         requires ready { IsReady self.old v }
         ensures ok { OnOk result (DeliversCall self.old self.new v (λ s. spec.transacted s a d.now v)) }
@@ -186,13 +186,13 @@ impl Tables {
         ensures full { OnErr result (PassesLimit self.old (λ s. names_go (spec.transacted s a d.now v))) }
         ensures follow { OnOk result (CanFollow self.new (length v.sending.items + 1)) }
         // There is room by then, so that nothing else is a reason.
-        ensures limit { IfErr result (λ why. why ≡ Why.HistoryFull) }
+        ensures limit { IfErr result (λ why. why ≡ StepError.HistoryFull) }
         ensures told { KeepsTold self.old self.new }
     {
         let receiver = v.receiver();
         let one_way = v.is_one_way();
         match self.delivered(a, d, v) {
-            Err(NumbersFull) => Err(Why::HistoryFull),
+            Err(NumbersFull) => Err(StepError::HistoryFull),
             Ok(()) => {
                 let spam = self.is_spam(a, receiver, one_way);
                 self.called(a.thread.seat, receiver, one_way, spam);
@@ -203,7 +203,7 @@ impl Tables {
 
     // The step of a transaction that nothing stands against. All that may follow is that a one-way call ripens on its target,
     // and what follows at the objects of its parcel.
-    fn transact(&mut self, a: Actor, d: &TransactionData, v: Delivery) -> Result<Plain, Why>
+    fn transact(&mut self, a: Actor, d: &TransactionData, v: Delivery) -> Result<Plain, StepError>
         requires { IsDeliverable self.old d.now v }
         ensures step { IsStep self.old self.new (IsSending a d.now v)
             (λ s. outcomes.accepted (spec.transacted s a d.now v)) result }
@@ -211,7 +211,7 @@ impl Tables {
     {
         let target = v.one_way_target();
         let Ok(touched) = self.make_ready(&v) else {
-            return Err(Why::NoMemory);
+            return Err(StepError::NoMemory);
         };
         match self.transacted(a, d, v) {
             Err(why) => Err(why),
@@ -229,12 +229,12 @@ impl Tables {
         a: Actor,
         d: &TransactionData,
         parcel: &Option<Parcel>,
-    ) -> Result<Plain, Why>
+    ) -> Result<Plain, StepError>
         ensures step { IsStep self.old self.new (IsBy a) (λ s. spec.transaction_step s a d.now parcel.now) result }
         ensures told { KeepsTold self.old self.new }
     {
         match self.transaction_check(a, d, parcel) {
-            Err(_) => Err(Why::NoMemory),
+            Err(_) => Err(StepError::NoMemory),
             Ok(Err(cause)) => self.stop(a.thread.seat, cause, refusal(cause)),
             Ok(Ok(v)) => self.transact(a, d, v),
         }

@@ -4,8 +4,8 @@ use super::playing::{Printed, checked, history_of, written};
 use crate::same::{holds, same};
 use bd_driver::Why;
 use bd_player::{
-    DONE, FAULT, Fault, MEMORY, Manner, Said, TURNS, check_journal, play, play_from, print, tell,
-    write_journal,
+    DONE, FAULT, MEMORY, Manner, ProgramFault, Said, TURNS, check_journal, play, play_from, print,
+    tell, write_journal,
 };
 use bd_script::Reason;
 use bd_space::Record;
@@ -200,11 +200,11 @@ fn keeps_it_where_a_line_is_lost(rt: HostRuntime) {
 }
 
 // The faults with their texts and statuses.
-static FAULTS: [(Fault, &str, u8); 7] = [
-    (Fault::Arguments, "fault: arguments\n", 1),
-    (Fault::File, "fault: file\n", 1),
+static FAULTS: [(ProgramFault, &str, u8); 7] = [
+    (ProgramFault::Arguments, "fault: arguments\n", 1),
+    (ProgramFault::File, "fault: file\n", 1),
     (
-        Fault::Line(
+        ProgramFault::Line(
             7,
             Reason {
                 column: 3,
@@ -216,10 +216,10 @@ static FAULTS: [(Fault, &str, u8); 7] = [
         "fault: line 7\ncolumn 3, word 2: expected a verb, found this\n",
         1,
     ),
-    (Fault::Journal, "fault: journal\n", 1),
-    (Fault::Memory, "fault: memory\n", 3),
-    (Fault::Thread, "fault: thread\n", 1),
-    (Fault::Output, "fault: output\n", 1),
+    (ProgramFault::Journal, "fault: journal\n", 1),
+    (ProgramFault::Memory, "fault: memory\n", 3),
+    (ProgramFault::Thread, "fault: thread\n", 1),
+    (ProgramFault::Output, "fault: output\n", 1),
 ];
 
 #[test]
