@@ -11,7 +11,7 @@
 
 #define OWN_SEAT 0u
 
-/* So much of what a thread has unread is looked at for one that it has taken back. */
+/* So much of what a thread has unread is looked at for a death notification that it has taken back. */
 #define UNREAD_MOST 16u
 
 /* A process that reads of no death notification that it has taken back can't take back more than these. */
@@ -223,7 +223,7 @@ static bool is_clearing_unread(const struct run *run)
     return true;
 }
 
-/* Where the thread is told, that doesn't wait for a reply. */
+/* Takes a death notification back; a thread that is told of it is told at once, and not with a reply. */
 static int run_clearing(struct run *run, const uint8_t *command, uint32_t size)
 {
     if (!run->thread->has_looped)

@@ -403,7 +403,7 @@ struct engine {
     bool is_over;             /* it makes no step any more: its history is full, or it can't go on without memory */
     uint32_t warnings;        /* of a history that gets full, how many were told */
 
-    /* Whom the steps since then may have made ready (reach.c). */
+    /* Whom the steps since that was last settled may have made ready (reach.c). */
     struct list reached;      /* processes that are to be looked at .. */
     struct list reached_threads; /* .. and threads */
     struct list resting;      /* all processes with threads that wait for whatever comes to the process */

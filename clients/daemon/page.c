@@ -19,7 +19,7 @@ void page_copy(void *to, const void *from, size_t size)
     __asm__ volatile("" ::: "memory");
 }
 
-/* Where the link is full of what its client hasn't taken, that wakes it as well. */
+/* Where the socket is full nothing can be sent; then what lies in it unread wakes the client. */
 static void wake(struct thread *thread)
 {
     const uint32_t none = 0;
@@ -136,6 +136,7 @@ static int write_on(struct thread *thread, struct writing *writing)
     if (!error && request->room) {
         thread->is_waiting = true;
         thread->room = request->room;
+        /* it has made a call, and may be told of its completion together with the reply */
         thread->defers = thread->calling > writing->calling && !thread->answer.refused && !thread->pending_size
                          && !thread->is_prompt && !(request->flags & PAGE_NONBLOCK) && !is_to_return(thread);
     }

@@ -6,7 +6,7 @@
  * known, or there was no memory, all who wait are. That this file does so isn't proved.
  *
  * A list that has something and gets more isn't named. Therefore nothing is left on the list of a thread that waits: what its call has
- * left there, which it is to be told together with the reply, is read at once and waits here (settle.c).
+ * left there, which it is to be told together with the reply, is read at once and waits in the daemon (settle.c).
  */
 #include "daemon.h"
 

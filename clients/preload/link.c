@@ -148,7 +148,7 @@ static void ring(struct link *link)
         ;
 }
 
-/* What less than this leaves is little. */
+/* An area smaller than this isn't worth giving back. */
 #define LARGE_AREA (256u << 10)
 
 static time_t seconds(void)

@@ -23,7 +23,7 @@ static bool pack_call(struct packing *packing, uint8_t *payload, uint32_t size)
     return true;
 }
 
-/* Before the daemon knows of it: then the buffer's place may soon be another's. */
+/* Takes the arrays of a buffer out before the daemon hears that it is freed, since its place may soon be another's then. */
 static void take_arrays(struct device *device, const uint8_t *free_command, struct array **taken)
 {
     uint64_t buffer;

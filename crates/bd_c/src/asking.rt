@@ -29,8 +29,12 @@ impl OwnedSeat {
         ensures kept { self.new ≡ record self.old { latest = Some outcome } }
         ensures told { told.new ≡ told_of outcome }
     {
-        *told = Told::of(&outcome);
+        // Told from where it is kept: else it is read in pieces before it is moved there.
         self.latest = Some(outcome);
+        let Some(latest) = &self.latest else {
+            unreachable!()
+        };
+        *told = Told::of(latest);
     }
 
     /// Has the driver run a request, and keeps and tells the outcome. Nothing is done while a request is handed over.

@@ -137,7 +137,7 @@ impl CallTable {
     {
         let parent = newest_made(&self.frames, seat);
         let list = list_from(&self.threads, &self.frames, parent, process);
-        // The frame and its call use the same of it, each in its own list.
+        // One of it serves both: the frame and its call have room of their own, for so many each.
         let sure_room = self.sure_room.saturating_sub(1);
         self.owe(place, list, WorkKind::Call(place));
         self.frames.push(Frame {

@@ -62,7 +62,7 @@ impl CallTable {
         }
     }
 
-    // As many as settling may make, the one of a call that ripens, and what the steps themselves do.
+    // Beside those asked for: as many as settling may make, one of a call that ripens, and eight that a step itself may make.
     fn works_to_reserve(&self, works: usize) -> Result<usize, AllocError>
         ensures sum { IfOk result (λ n. n ≡ works + frame_count self.now + 9) }
         ensures past { OnErr result (2 ^ 64 ≤ works + frame_count self.now + 9) }

@@ -20,7 +20,7 @@ use bd_space::{ObjectId, TodoList, Turn, Work, WorkKind};
 use bd_todo::{WorkTable, hands_out};
 use bd_turns::TurnTable;
 
-// Nobody was told of it yet.
+// Whether nobody was told of it yet.
 fn is_untold(todo: &WorkTable, turn: Turn) -> bool
     ensures { todo_table.Tells todo.now result
         (λ l. not turn.handed && not (list_any (λ w. works.is_call turn.made w.kind) l)) }

@@ -94,7 +94,8 @@ impl Live {
         tables.calls.refresh_ready();
     }
 
-    // The step of an entry, whose answer is written into it; what was read also to `again`, where both are asked for.
+    // The step of an entry, whose answer is written into it; what was read also to `again`, where both are asked for: an engine with a
+    // history keeps one and hands the other out.
     pub(crate) fn make(
         &mut self,
         entry: &mut Entry,

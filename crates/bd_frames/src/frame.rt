@@ -7,12 +7,15 @@ ghost use Rattle.bd_frames.specs.Words.{lost_frame, left_frame};
 
 use bd_space::{Frame, Server};
 
-/// A frame; up to where the next older frames were made of its caller and of its server; how many have it as their parent.
+/// A frame, and what is linked to it.
 #[derive(Clone, Copy, Debug)]
 pub struct Row {
     pub frame: Frame,
+    /// Up to where the next older frame of its caller was made: no seat.
     pub caller: Option<u32>,
+    /// The same of its server.
     pub server: Option<u32>,
+    /// How many frames have it as their parent.
     pub children: u64,
 }
 
@@ -36,7 +39,7 @@ pub(crate) fn is_abandoned(row: &Row) -> bool
     matches!(row.frame.server, Server::Gone) && row.children == 0
 }
 
-/// Below the frame is this one for the thread, which takes part in it.
+/// Up to where the next older frame was made of the thread, which takes part in this one.
 pub(crate) fn below_of(seat: u32, row: &Row) -> Option<u32>
     ensures { result ≡ linked.below_of seat row.now }
 {

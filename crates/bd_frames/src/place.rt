@@ -21,7 +21,7 @@ pub(crate) fn index_of(rows: &[Row], made: u32) -> Option<usize>
     }
 }
 
-/// It was made up to one of the two.
+/// Whether it was made no later than the floor or the bound.
 fn is_reached(floor: Option<u32>, bound: Option<u32>, made: u32) -> bool
     ensures { result ≡ places.is_reached floor bound made }
 {

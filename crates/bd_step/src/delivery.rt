@@ -298,7 +298,7 @@ impl Tables {
         self.add_notices(seat, items);
     }
 
-    // The objects, the references and the names.
+    // Takes in the objects, the references and the names.
     fn known_by(&mut self, v: &Delivery) -> Result<(), NumbersFull>
         requires { object_rooms.HasRoom self.old.objects
             (object_rooms.delivery_room v.now.sending.made v.now.sending.items) }
@@ -319,7 +319,7 @@ impl Tables {
         )
     }
 
-    // The notices and the buffer, where the names are known.
+    // Puts the notices and the buffer in, where the names are known.
     fn fill(&mut self, a: Actor, d: &TransactionData, v: Delivery)
         requires deliverable { IsDeliverable self.old d.now v }
         requires turns { 1 ≤ call_rooms.turn_room self.old.calls }

@@ -55,7 +55,7 @@ fn cause_of_walk(fault: WalkFault) -> Cause
     }
 }
 
-// The parcel has the sizes that its record says.
+// Whether the parcel was cut from its area with the sizes that its record says.
 fn is_cut(d: &TransactionData, q: &Parcel) -> bool
     ensures { result ≡ parcels.is_cut d.now q.now }
 {

@@ -14,7 +14,7 @@ use std::alloc::{AllocError, Global};
 pub struct Register {
     // Notices, calls and deaths, whatever their lists.
     pub(crate) spots: Spots,
-    // None was made at a later place than the last, and so many were made at its.
+    // No work item was made at a later place than the last one, and so many were made at its place.
     pub(crate) last: Identity,
     pub(crate) count: u64,
     // Their identities rise, up to the last at most: then no two are called the same.

@@ -79,7 +79,7 @@ impl WorkTable {
         }
     }
 
-    // A work item that is called so is in the slot.
+    // Whether a work item that is called so is in the slot.
     fn is_called_at(&self, x: usize, id: Identity) -> bool
         ensures { result ≡ words.is_some_and (work_at self.now.queues x) (λ w. words.same_identity w.id id) }
     {
