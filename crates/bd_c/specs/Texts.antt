@@ -63,7 +63,7 @@ cause_texts =
     ∷ (11, codes "the cookie differs")
     ∷ (12, codes "a sent handle is not held")
     ∷ (13, codes "the window has no room")
-    ∷ (14, codes "the one_way buffers take over half of the window")
+    ∷ (14, codes "the one-way buffers take over half of the window")
     ∷ (15, codes "there is no call to reply to")
     ∷ (16, codes "the caller has ended")
     ∷ []

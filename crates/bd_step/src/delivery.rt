@@ -161,7 +161,7 @@ impl Tables {
 
     /// Makes room for a delivery and for what follows from it, and tells at which objects, in the order in which they were
     /// made. Changes nothing else, also where memory is refused.
-    pub(crate) fn make_ready(&mut self, v: &Delivery) -> Result<Vec<ObjectId>, AllocError>
+    pub(crate) fn reserve_delivery(&mut self, v: &Delivery) -> Result<Vec<ObjectId>, AllocError>
         ensures stands { IsKept self.old self.new }
         ensures deliverable { (d : TransactionData) → IsDeliverable self.old d v.now → IsDeliverable self.new d v.now }
         ensures ready { OnOk result (IsReady self.new v.now) }

@@ -97,7 +97,7 @@ impl Tables {
         ensures told { KeepsTold self.old self.new }
     {
         let parent = f.parent;
-        let Ok(touched) = self.make_ready(&v) else {
+        let Ok(touched) = self.reserve_delivery(&v) else {
             return Err(StepError::NoMemory);
         };
         match self.replied(a, d, f, v) {

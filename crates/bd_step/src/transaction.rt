@@ -210,7 +210,7 @@ impl Tables {
         ensures told { KeepsTold self.old self.new }
     {
         let target = v.one_way_target();
-        let Ok(touched) = self.make_ready(&v) else {
+        let Ok(touched) = self.reserve_delivery(&v) else {
             return Err(StepError::NoMemory);
         };
         match self.transacted(a, d, v) {

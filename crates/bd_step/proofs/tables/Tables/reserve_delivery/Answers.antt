@@ -1,7 +1,7 @@
 use Rattle.std.proofs.Common.{ap, ◌∙◌}
 use Rattle.bd_ways.specs.Local.{is_among, objects_of_items}
 use Rattle.bd_step.proofs.FollowingObjects.{among_items}
-use Rattle.bd_step.proofs.tables.Tables.make_ready.Goals as goal
+use Rattle.bd_step.proofs.tables.Tables.reserve_delivery.Goals as goal
 
 pub returns-clause-touched : goal.returns-clause-touched
 returns-clause-touched c = record {
