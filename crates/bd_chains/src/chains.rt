@@ -14,6 +14,10 @@ pub struct Chains<T> {
     pub(crate) items: Slab<Item<T>>,
     // By the numbers of the lists.
     pub(crate) ends: Slab<Ends>,
+    // So many values fit in the memory that there is. Kept, since each call of `reserve` asks.
+    pub(crate) most: usize,
+    ghost most_is: { most ≡ items.capacity },
+    ghost fits: { most < 18446744073709551616 },
 }
 
 // Of a list on which nothing is.
@@ -70,6 +74,7 @@ impl<T: Copy> Chains<T> {
         Chains {
             items: Slab::new(alloc),
             ends: Slab::new(alloc),
+            most: 0,
         }
     }
 
@@ -77,7 +82,7 @@ impl<T: Copy> Chains<T> {
     pub fn room(&self) -> usize
         ensures { result ≡ room_of self.now }
     {
-        let items = self.items.capacity() - self.items.len();
+        let items = self.most.saturating_sub(self.items.len());
         let lists = self.ends.capacity() - self.ends.len();
         items.min(lists)
     }
@@ -93,7 +98,9 @@ impl<T: Copy> Chains<T> {
         if more <= self.room() {
             return Ok(());
         }
-        self.items.reserve(more)?;
+        let made = self.items.reserve(more);
+        self.most = self.items.capacity();
+        made?;
         self.ends.reserve(more)
     }
 
@@ -179,13 +186,9 @@ impl<T: Copy> Chains<T> {
         ensures prevs { (m : ℕ) (o : Option ℕ) → prev_at self.new m o ≡ (if is_at result o then item.prev else prev_at self.old m o) }
         ensures ends { self.new.ends ≡ self.old.ends }
         ensures len { slab_len self.new.items ≡ slab_len self.old.items + 1 }
-        ensures few { slab_len self.new.items < 18446744073709551616 }
         ensures items { item_room self.new + 1 ≡ item_room self.old }
     {
-        let x = self.items.insert_reserved(item);
-        // Only so that it is known to be a number of the machine.
-        let _len = self.items.len();
-        x
+        self.items.insert_reserved(item)
     }
 
     // A value leaves its slot, whose neighbours aren't told.

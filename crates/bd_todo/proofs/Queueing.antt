@@ -1,8 +1,7 @@
 -- The queues after a change.
-use Rattle.std.proofs.Common.{◌≡◌, ℕ, ◌==◌, Bool, true, false, cond, List, [], ◌∷◌, filter, Option, Some, None, IfSome, is_some, refl, sym, ap, ◌∙◌, eqb-true, eq-eqb}
+use Rattle.std.proofs.Common.{◌≡◌, ℕ, true, false, List, [], filter, Option, Some, None, IfSome, is_some, refl, sym, ap, ◌∙◌}
 use Rattle.std.specs.Prelude.{option_map, nat_lt, ◌&&◌}
 use Rattle.std.specs.List.{list_any, slice_get}
-use Rattle.std.proofs.lemmas.Bool.{or_parts}
 use Rattle.bd_space.specs.declared.space.Work.{Work}
 use Rattle.bd_space.specs.declared.space.TodoList.{TodoList}
 use Rattle.bd_space.specs.Words.{without_first}
@@ -14,8 +13,7 @@ use Rattle.bd_chains.specs.Columns.{is_open, Holds}
 use Rattle.bd_chains.proofs.Rowing.{first_some, first_value}
 use Rattle.bd_chains.proofs.Walking.{values_walked}
 use Rattle.bd_todo.specs.Heads.{head_at}
-use Rattle.bd_todo.specs.Rows.{works}
-use Rattle.bd_todo.specs.QueuesStand.{list_of, keeps, Shows, Stands, FrontIn}
+use Rattle.bd_todo.specs.QueuesStand.{list_of, keeps, Stands, FrontIn}
 use Rattle.bd_todo.specs.declared.queues.Queues.{Queues}
 use Rattle.bd_todo.proofs.ListKeys.{same_list_eq}
 use Rattle.bd_todo.proofs.OnList.{any_first}

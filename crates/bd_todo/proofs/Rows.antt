@@ -1,13 +1,12 @@
 -- Rows and the work items that they hold: what stands on a list, and what goes.
-use Rattle.std.proofs.Common.{◌≡◌, ℕ, ◌+◌, ◌==◌, nat_lt, Bool, true, false, ◌&&◌, ◌||◌, cond, List, [], ◌∷◌, ◌++◌, length, filter, Option, Some, None, refl, sym, ap, ◌∙◌, arith, eqb-true, eq-eqb}
-use Rattle.std.specs.List.{list_any}
+use Rattle.std.proofs.Common.{◌≡◌, ℕ, ◌==◌, Bool, true, false, cond, List, [], ◌∷◌, ◌++◌, length, Option, Some, None, refl, ap, ◌∙◌, arith}
 use Rattle.bd_space.specs.declared.space.Work.{Work}
 use Rattle.bd_space.specs.declared.space.TodoList.{TodoList}
 use Rattle.bd_space.specs.Words.{without_first}
 use Rattle.bd_space.specs.Todo.{same_list, is_on}
 use Rattle.bd_chains.specs.declared.links.Held.{Held}
 use Rattle.bd_chains.specs.Chain.{has, Apart, next_from}
-use Rattle.bd_chains.specs.Rows.{Row, keys, ring, values_on, row_at, counted_on, drop_key}
+use Rattle.bd_chains.specs.Rows.{Row, keys, ring, row_at, drop_key}
 use Rattle.bd_chains.proofs.Order.{restart}
 use Rattle.bd_chains.proofs.Rowing.{drop_none, first_in}
 use Rattle.bd_chains.specs.Lists.{AreListed}

@@ -1,6 +1,6 @@
 -- Rows that hold work items, and what a walk over all slots has come to.
-use Rattle.std.specs.Prelude.{◌≡◌, ℕ, ◌+◌, nat_lt, Bool, not, ◌||◌, ◌&&◌, List, [], ◌∷◌, Option, Some, if◌then◌else◌}
-use Rattle.bd_ways.specs.Words.{Work, TodoList}
+use Rattle.std.specs.Prelude.{ℕ, ◌+◌, nat_lt, Bool, not, ◌||◌, ◌&&◌, List, [], ◌∷◌, if◌then◌else◌}
+use Rattle.bd_ways.specs.Words.{Work}
 use Rattle.bd_chains.specs.Rows.{Row, values}
 
 abbrev pub works : List (Row Work) → List Work

@@ -35,7 +35,10 @@ impl WorkTable {
     pub fn works_on(&self, list: TodoList) -> Works<'_>
         ensures { Tells self.now result (λ l. spec.work_on l (Some list)) }
     {
-        self.queues.works_on(list)
+        match self.queues.lists.of(list) {
+            Some(head) => self.queues.chains.items_on(head),
+            None => self.queues.chains.no_items(),
+        }
     }
 
     /// The `k`-th work item on a list, oldest first.

@@ -1,6 +1,6 @@
 //! Work items in queues: each on the list that it names, whose number stands by seat or by process.
 
-ghost use Rattle.std.specs.Prelude.{◌≡◌, ◌+◌, ◌<◌, ◌≤◌, ◌==◌, ◌&&◌, ◌++◌, ◌∷◌, [], false, List, length, count_by, is_some, Some, IfSome, OnOk, OnErr};
+ghost use Rattle.std.specs.Prelude.{◌≡◌, ◌+◌, ◌<◌, ◌≤◌, ◌==◌, ◌++◌, ◌∷◌, [], List, length, count_by, is_some, Some, IfSome, OnOk, OnErr};
 ghost use Rattle.std.specs.{List.{list_any}, HashMap.{spare}};
 ghost use Rattle.bd_keys.specs.Tables.{Makes, Tells};
 ghost use Rattle.bd_space.specs.declared.space.Work.{Work};
@@ -26,9 +26,8 @@ pub struct Queues {
 }
 
 impl Queues {
-    ghost use Rattle.bd_chains.specs.Rows.{drop_key};
     ghost use Rattle.bd_chains.specs.Columns.{item_room, list_room};
-    ghost use Rattle.bd_todo.specs.QueuesStand.{Shows, Stands, FrontIn, work_at, queue_room};
+    ghost use Rattle.bd_todo.specs.QueuesStand.{Stands, FrontIn, work_at, queue_room};
 
     /// No queues. Takes no memory.
     pub fn new(alloc: Global) -> Queues
@@ -80,33 +79,6 @@ impl Queues {
         self.chains.push(head, work, keeps_from_calling(work.kind))
     }
 
-    /// The work item in a slot goes, if there is one.
-    pub fn remove_at(&mut self, x: usize) -> Option<Work>
-        ensures gone { result ≡ work_at self.old x }
-        ensures shows { Makes (Shows self.old) (Shows self.new) (λ rs. drop_key x rs) }
-        ensures uses { queue_room self.old ≤ queue_room self.new }
-    {
-        self.chains.remove(x)
-    }
-
-    /// A list on which nothing is needs no number.
-    pub fn give_back(&mut self, list: TodoList)
-        ensures stands { (todo : List Work) → Stands self.old todo → list_any (spec.is_on list) todo ≡ false → Stands self.new todo }
-        ensures uses { queue_room self.old ≤ queue_room self.new }
-    {
-        if let Some(head) = self.lists.of(list) {
-            self.lists.remove(list);
-            self.chains.close(head);
-        }
-    }
-
-    /// The work item in a slot.
-    pub fn work_in(&self, x: usize) -> Option<Work>
-        ensures { result ≡ work_at self.now x }
-    {
-        self.chains.get(x)
-    }
-
     /// The slot of the first work item on a list.
     pub fn front(&self, list: TodoList) -> Option<usize>
         ensures any { Tells (Stands self.now) (is_some result) (λ todo. list_any (spec.is_on list) todo) }
@@ -118,32 +90,11 @@ impl Queues {
         }
     }
 
-    /// Whether a call, a reply or a verdict is on a list.
-    pub fn has_unread(&self, list: TodoList) -> bool
-        ensures { Tells (Stands self.now) result
-            (λ todo. list_any (λ w. spec.is_on list w && spec.keeps_from_calling w.kind) todo) }
-    {
-        match self.lists.of(list) {
-            Some(head) => self.chains.has_counted(head),
-            None => false,
-        }
-    }
-
-    /// The work items on a list, oldest first.
-    pub fn works_on(&self, list: TodoList) -> Works<'_>
-        ensures { Tells (Stands self.now) result (λ todo. spec.work_on todo (Some list)) }
-    {
-        match self.lists.of(list) {
-            Some(head) => self.chains.items_on(head),
-            None => self.chains.no_items(),
-        }
-    }
-
     // A work item that was made at this place is in the slot.
     fn is_made_at(&self, x: usize, place: u32) -> bool
         ensures { result ≡ is_some_and (work_at self.now x) (λ w. w.id.place == place) }
     {
-        match self.work_in(x) {
+        match self.chains.get(x) {
             Some(work) => work.id.place == place,
             None => false,
         }

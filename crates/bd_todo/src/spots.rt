@@ -1,6 +1,6 @@
 //! Work items, counted by what they are looked up by.
 
-ghost use Rattle.std.specs.Prelude.{◌≡◌, ◌≤◌, ◌<◌, ◌+◌, ◌-◌, ◌∷◌, ◌++◌, [], List, length, Option, Some, None, if◌then◌else◌, min, nat_lt, OnOk, OnErr};
+ghost use Rattle.std.specs.Prelude.{◌≡◌, ◌≤◌, ◌<◌, ◌+◌, ◌-◌, ◌∷◌, ◌++◌, [], List, length, Option, Some, None, if◌then◌else◌, nat_lt, OnOk, OnErr};
 ghost use Rattle.std.specs.Cmp.Rules.{hashing};
 ghost use Rattle.std.specs.Hash as fed;
 ghost use Rattle.std.{specs.HashMap.{spare, get_by}, proofs.Common.{rules}};
@@ -132,23 +132,6 @@ impl Spots {
         }
     }
 
-    // One more that is looked up so.
-    fn raise(&mut self, key: Sought, slot: usize)
-        requires { 0 < spare self.old.spots }
-        ensures counts { (k : declared.Sought) → count_at self.new k
-            ≡ (if same_sought key k then min (count_at self.old k + 1) 18446744073709551615 else count_at self.old k) }
-        ensures uses { spare self.old.spots ≤ spare self.new.spots + 1 }
-    {
-        match self.spots.entry(key) {
-            Ok(entry) => {
-                let spot = entry.or_insert(Spot { count: 0, slot });
-                let count = spot.count.saturating_add(1);
-                *spot = Spot { count, slot };
-            }
-            Err(_) => unreachable!(),
-        }
-    }
-
     // One less is looked up so: how many are left. The spot stays, even if none is.
     fn count_down(&mut self, key: Sought) -> u64
         ensures left { result ≡ count_at self.new key }
@@ -165,25 +148,6 @@ impl Spots {
         }
     }
 
-    // None is looked up so.
-    fn forget(&mut self, key: Sought)
-        ensures counts { (k : declared.Sought) → count_at self.new k ≡ (if same_sought key k then 0 else count_at self.old k) }
-        ensures uses { spare self.old.spots ≤ spare self.new.spots }
-    {
-        let _gone = self.spots.remove(&key);
-    }
-
-    // One less is looked up so.
-    fn lower(&mut self, key: Sought)
-        ensures counts { (k : declared.Sought) → count_at self.new k
-            ≡ (if same_sought key k then count_at self.old k - 1 else count_at self.old k) }
-        ensures uses { spare self.old.spots ≤ spare self.new.spots }
-    {
-        if self.count_down(key) == 0 {
-            self.forget(key);
-        }
-    }
-
     /// A work item came last, into this slot, that is looked up so, or not at all.
     pub fn add(&mut self, key: Option<Sought>, slot: usize)
         requires { 0 < spare self.old.spots }
@@ -192,7 +156,14 @@ impl Spots {
         ensures uses { spare self.old.spots ≤ spare self.new.spots + 1 }
     {
         if let Some(key) = key {
-            self.raise(key, slot);
+            match self.spots.entry(key) {
+                Ok(entry) => {
+                    let spot = entry.or_insert(Spot { count: 0, slot });
+                    let count = spot.count.saturating_add(1);
+                    *spot = Spot { count, slot };
+                }
+                Err(_) => unreachable!(),
+            }
         }
     }
 
@@ -203,7 +174,9 @@ impl Spots {
         ensures uses { spare self.old.spots ≤ spare self.new.spots }
     {
         if let Some(key) = key {
-            self.lower(key);
+            if self.count_down(key) == 0 {
+                let _gone = self.spots.remove(&key);
+            }
         }
     }
 }

@@ -83,7 +83,7 @@ impl WorkTable {
     fn is_called_at(&self, x: usize, id: Identity) -> bool
         ensures { result ≡ words.is_some_and (work_at self.now.queues x) (λ w. words.same_identity w.id id) }
     {
-        match self.queues.work_in(x) {
+        match self.queues.chains.get(x) {
             Some(work) => work.id == id,
             None => false,
         }
@@ -94,7 +94,7 @@ impl WorkTable {
         ensures rows { tables.Makes (RowsAre self.old) (RowsAre self.new) (λ rs. drop_key x rs) }
         ensures uses { work_room self.old ≤ work_room self.new }
     {
-        if let Some(work) = self.queues.remove_at(x) {
+        if let Some(work) = self.queues.chains.remove(x) {
             self.register.remove(work);
         }
     }
@@ -106,7 +106,7 @@ impl WorkTable {
         ensures uses { work_room self.old ≤ work_room self.new }
     {
         for x in 0..self.queues.chains.slots() {
-            if let Some(work) = self.queues.work_in(x) {
+            if let Some(work) = self.queues.chains.get(x) {
                 if !f(work) {
                     self.remove_at(x);
                 }
@@ -145,7 +145,10 @@ impl WorkTable {
     pub fn keeps_from_calling(&self, list: TodoList) -> bool
         ensures { Tells self.now result (λ l. list_any (λ w. spec.is_on list w && spec.keeps_from_calling w.kind) l) }
     {
-        self.queues.has_unread(list)
+        match self.queues.lists.of(list) {
+            Some(head) => self.queues.chains.has_counted(head),
+            None => false,
+        }
     }
 
     /// Whether the notice of an object is on any list.
@@ -176,7 +179,7 @@ impl WorkTable {
     fn is_sought_at(&self, x: usize, key: Sought) -> bool
         ensures { result ≡ words.is_some_and (work_at self.now.queues x) (λ w. spots.is_sought key w.kind) }
     {
-        match self.queues.work_in(x) {
+        match self.queues.chains.get(x) {
             Some(work) => is_sought(key, work.kind),
             None => false,
         }
@@ -251,6 +254,10 @@ impl WorkTable {
         ensures uses { work_room self.old ≤ work_room self.new }
     {
         self.pop_all(list);
-        self.queues.give_back(list);
+        // A list on which nothing is needs no number.
+        if let Some(head) = self.queues.lists.of(list) {
+            self.queues.lists.remove(list);
+            self.queues.chains.close(head);
+        }
     }
 }

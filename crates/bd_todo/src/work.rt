@@ -4,13 +4,7 @@ ghost use Rattle.std.specs.Prelude.{◌≡◌};
 ghost use Rattle.bd_space.specs.Todo as spec;
 ghost use Rattle.bd_todo.specs.TodoList as replies;
 
-use bd_space::{TodoList, Work, WorkKind};
-
-pub(crate) fn is_on(list: TodoList, work: &Work) -> bool
-    ensures { result ≡ spec.is_on list work.now }
-{
-    work.list == list
-}
+use bd_space::{Work, WorkKind};
 
 // A call, a reply or a verdict.
 pub(crate) fn keeps_from_calling(kind: WorkKind) -> bool
@@ -53,5 +47,5 @@ pub(crate) fn reply_of(kind: WorkKind) -> Option<u32>
 pub(crate) fn is_item(item: &Work, work: &Work) -> bool
     ensures { result ≡ spec.is_item work.now item.now }
 {
-    work.id == item.id && is_on(item.list, work)
+    work.id == item.id && work.list == item.list
 }

@@ -1,4 +1,4 @@
-use Rattle.std.proofs.Common.{sym, ap}
+use Rattle.std.proofs.Common.{sym, ap, arith}
 use Rattle.bd_chains.proofs.Tables.{push_holds}
 use Rattle.bd_chains.proofs.chains.Chains.push.Goals as goal
 
@@ -10,5 +10,5 @@ returns-clause-stands g c = λ rs h within.
     c.insert-x.ensures.ends c.join.ensures.open c.join.ensures.len c.join.ensures.shown c.join.ensures.counts
     c.ends_at-ends.result.last within (ap (λ e. e.last) was) c.insert-x.ensures.fresh
     (λ few. rw (sym (ap (λ e. e.counted) was)) (c.raised-counted.ensures (rw (ap (λ e. e.counted) was) few)))
-    c.insert-x.ensures.len c.insert-x.ensures.few c.insert-x.ensures.shown c.insert-x.ensures.nexts c.insert-x.ensures.prevs
+    c.insert-x.ensures.len (let s = c.args.self.now.most_is in let f = c.args.self.now.fits in let n = c.insert-x.ensures.len in omega (arith, s, f, n)) c.insert-x.ensures.shown c.insert-x.ensures.nexts c.insert-x.ensures.prevs
     c.join.ensures.nexts c.join.ensures.prevs

@@ -1,4 +1,4 @@
-use Rattle.std.proofs.Common.{None, replicate, arith}
+use Rattle.std.proofs.Common.{None, replicate}
 use Rattle.bd_todo.specs.Keys.{list_key}
 use Rattle.bd_todo.specs.Heads.{head_at}
 use Rattle.bd_todo.proofs.HeadRows.{none_has, no_heads}

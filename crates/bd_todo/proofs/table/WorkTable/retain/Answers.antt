@@ -22,7 +22,7 @@ loop-x-init g c = record {
 
 pub loop-x-preserved : goal.loop-x-preserved
 loop-x-preserved g c = record {
-  uses = elim c.match-work_in.branch as (λ _. work_room c.args.self.now ≤ work_room c.match-work_in.self) [
+  uses = elim c.match-get.branch as (λ _. work_room c.args.self.now ≤ work_room c.match-get.self) [
     | in-Some+then-not-f w ↦ rw w.self-is (let u = w.remove_at.ensures.uses in omega arith)
     | in-Some+else-not-f w ↦ rw w.self-is c.loop-x.invariant.uses
     | in_default w ↦ rw w.self-is c.loop-x.invariant.uses
@@ -31,16 +31,16 @@ loop-x-preserved g c = record {
   swept = λ p h rs s.
       let now : RowsAre c.loop-x.self (filter (stays p c.loop-x.x) rs) = c.loop-x.invariant.swept p h rs s in
       let apart = s.shows.holds.stands.apart in
-      elim c.match-work_in.branch as (λ _. RowsAre c.match-work_in.self (filter (stays p (c.loop-x.x + 1)) rs)) [
+      elim c.match-get.branch as (λ _. RowsAre c.match-get.self (filter (stays p (c.loop-x.x + 1)) rs)) [
         | in-Some+then-not-f w ↦
             subst (λ u. RowsAre u (filter (stays p (c.loop-x.x + 1)) rs)) (sym w.self-is)
-            (swept_cut p c.loop-x.x c.loop-x.self rs apart now w.remove_at.new.self w.in-Some.work (sym c.work_in.ensures ∙ w.in-Some.is) (sym (h _ _ w.f.ensures) ∙ w.if-not-f.true) w.remove_at.ensures.rows)
+            (swept_cut p c.loop-x.x c.loop-x.self rs apart now w.remove_at.new.self w.in-Some.work (sym c.get.ensures ∙ w.in-Some.is) (sym (h _ _ w.f.ensures) ∙ w.if-not-f.true) w.remove_at.ensures.rows)
         | in-Some+else-not-f w ↦
             subst (λ u. RowsAre u (filter (stays p (c.loop-x.x + 1)) rs)) (sym w.self-is)
-            (swept_kept p c.loop-x.x c.loop-x.self rs apart now (λ v is. ap p (some_is (sym is ∙ sym c.work_in.ensures ∙ w.in-Some.is)) ∙ sym (h _ _ w.f.ensures) ∙ w.if-not-f.false))
+            (swept_kept p c.loop-x.x c.loop-x.self rs apart now (λ v is. ap p (some_is (sym is ∙ sym c.get.ensures ∙ w.in-Some.is)) ∙ sym (h _ _ w.f.ensures) ∙ w.if-not-f.false))
         | in_default w ↦
             subst (λ u. RowsAre u (filter (stays p (c.loop-x.x + 1)) rs)) (sym w.self-is)
-            (swept_kept p c.loop-x.x c.loop-x.self rs apart now (λ v is. absurd (none_is (sym w.in_default.is ∙ c.work_in.ensures ∙ is))))
+            (swept_kept p c.loop-x.x c.loop-x.self rs apart now (λ v is. absurd (none_is (sym w.in_default.is ∙ c.get.ensures ∙ is))))
       ];
 }
 

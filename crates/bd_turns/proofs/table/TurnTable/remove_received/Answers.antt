@@ -1,8 +1,26 @@
-use Rattle.std.proofs.Common.{false, refl}
+use Rattle.std.proofs.Common.{ℕ, ◌≤◌, ◌+◌, false, refl, arith}
+use Rattle.std.specs.Prelude.{min}
+use Rattle.std.specs.HashMap.{spare}
+use Rattle.bd_chains.specs.Lists.{lists_room}
 use Rattle.bd_turns.specs.Entries.{by_window}
+use Rattle.bd_turns.specs.Room.{turn_room, turn_count}
 use Rattle.bd_turns.proofs.Changes.{turns_kept}
 use Rattle.bd_turns.proofs.table.TurnTable.remove_received.Goals as goal
+
+wider : (r a b d s : ℕ) → r ≤ min (min a b) s + 0 → b ≤ d → r ≤ min (min a d) s + 0
+wider r a b d s h k = omega arith
 
 pub returns-clause-stands : goal.returns-clause-stands
 returns-clause-stands c = λ l h.
     turns_kept c.pop_received.new.self _ _ (λ rs s. s) (c.give_back.ensures.stands by_window (λ _. false)) (λ m. refl) (c.pop_received.ensures.stands l h)
+
+pub returns-clause-uses : goal.returns-clause-uses
+unfolding turn_room turn_count
+returns-clause-uses c =
+    let m = c.pop_received.new.self in
+    let w = c.give_back.new.self in
+    let u = c.pop_received.ensures.uses in
+    record {
+      room = wider (turn_room c.args.self.now) (lists_room m.objects.chains m.objects.numbers.all) (lists_room m.windows.chains m.windows.numbers.all) (lists_room w.chains w.numbers.all) (spare m.spots) u.room c.give_back.ensures.uses;
+      count = u.count;
+    }

@@ -1,9 +1,0 @@
-use Rattle.std.proofs.Common.{sym, ◌∙◌}
-use Rattle.bd_todo.proofs.Queueing.{works_are, none_are}
-use Rattle.bd_todo.proofs.queues.Queues.works_on.Goals as goal
-
-pub returns-in-Some : goal.returns-in-Some
-returns-in-Some c = λ todo s. c.items_on.ensures s.rows s.shows.holds ∙ works_are c.args.self.now todo s c.args.list c.in-Some.head (sym c.of.ensures ∙ c.in-Some.is)
-
-pub returns-in-None : goal.returns-in-None
-returns-in-None c = λ todo s. c.no_items.ensures ∙ none_are c.args.self.now todo s c.args.list (sym c.of.ensures ∙ c.in-None.is)
