@@ -137,6 +137,14 @@ impl Tables {
         ensures offsets { IfOk result (λ r. IfOk r (λ x. x.offsets ≡ parcel.now.offsets)) }
         ensures inside { IfOk result (λ r. IfOk r (λ x. All (IsInside x.bytes) x.items)) }
     {
+        // Most parcels carry no object.
+        if parcel.offsets.len() == 0 {
+            return Ok(Ok(Sending {
+                parcel,
+                made: Vec::new(self.alloc),
+                items: Vec::new(self.alloc),
+            }));
+        }
         match walk(parcel.bytes.as_slice(), parcel.offsets.as_slice()) {
             Err(fault) => Ok(Err(cause_of_walk(fault))),
             Ok(objects) => self.resolve_all(p, parcel, &objects),
