@@ -52,24 +52,24 @@ below (m ∷ ms) (suc k) n d r h e = elim (or_cases (m == n) (has_place (take k 
 
 -- all that pass the one test lie before all that pass the other
 module _ (q r : DeathNotification → Bool) (before : (x y : DeathNotification) → x.made ≤ y.made → r x ≡ true → q y ≡ true → ⊥) where
-  none_later : (x : DeathNotification) (m end : ℕ) (xs : List DeathNotification) → r x ≡ true → x.made ≤ m → IsRising m end xs → filter q xs ≡ []
-  none_later x m end [] e h s = refl
-  none_later x m end (y ∷ ys) e h s = by (q y) refl (none_later x (suc y.made) end ys e (omega (arith, h, s.0)) s.1)
+  none_later : (x : DeathNotification) (m : ℕ) (xs : List DeathNotification) → r x ≡ true → x.made ≤ m → IsRising m xs → filter q xs ≡ []
+  none_later x m [] e h s = refl
+  none_later x m (y ∷ ys) e h s = by (q y) refl (none_later x (suc y.made) ys e (omega (arith, h, s.0)) s.1)
     where
       by : (b : Bool) → q y ≡ b → filter q ys ≡ [] → cond b (y ∷ filter q ys) (filter q ys) ≡ []
       by true f rest = absurd (before x y (omega (arith, h, s.0)) e f)
       by false f rest = rest
 
-  joined : (m end : ℕ) (xs : List DeathNotification) → IsRising m end xs → filter q xs ++ filter r xs ≡ filter (λ x. q x || r x) xs
-  joined m end [] s = refl
-  joined m end (x ∷ xs) s = by (q x) refl (r x) refl (joined (suc x.made) end xs s.1)
+  joined : (m : ℕ) (xs : List DeathNotification) → IsRising m xs → filter q xs ++ filter r xs ≡ filter (λ x. q x || r x) xs
+  joined m [] s = refl
+  joined m (x ∷ xs) s = by (q x) refl (r x) refl (joined (suc x.made) xs s.1)
     where
       by : (b : Bool) → q x ≡ b → (c : Bool) → r x ≡ c → filter q xs ++ filter r xs ≡ filter (λ y. q y || r y) xs
           → cond b (x ∷ filter q xs) (filter q xs) ++ cond c (x ∷ filter r xs) (filter r xs) ≡ cond (b || c) (x ∷ filter (λ y. q y || r y) xs) (filter (λ y. q y || r y) xs)
       by true e true f rest = absurd (before x x (omega arith) f e)
       by true e false f rest = ap (λ ys. x ∷ ys) rest
       by false e true f rest =
-          let n = none_later x (suc x.made) end xs f (omega arith) s.1 in
+          let n = none_later x (suc x.made) xs f (omega arith) s.1 in
           ap (λ ys. ys ++ x ∷ filter r xs) n ∙ ap (λ ys. x ∷ ys) (sym (ap (λ ys. ys ++ filter r xs) n) ∙ rest)
       by false e false f rest = rest
 
@@ -112,16 +112,16 @@ module _ (objects : List Object) (p : ℕ) where
   no_place (x ∷ xs) = no_place xs
 
   -- one place more, in the order of the places
-  pub place_next : (ms : List ℕ) (k d end : ℕ) (l : List DeathNotification) → IsRising 0 end l → IsStrictlyIncreasing ms → k < length ms
+  pub place_next : (ms : List ℕ) (k d : ℕ) (l : List DeathNotification) → IsRising 0 l → IsStrictlyIncreasing ms → k < length ms
       → due_of (has_place (take k ms)) objects p l ++ due_of (λ n. get_or ms k d == n) objects p l ≡ due_of (has_place (take (k + 1) ms)) objects p l
-  place_next ms k d end l s rising h =
+  place_next ms k d l s rising h =
       let m = get_or ms k d in
       joined (λ x. has_place (take k ms) x.made && is_told x) (λ x. (m == x.made) && is_told x)
       (λ x y g e f.
       let at = eqb-true m x.made (and_parts (m == x.made) (is_told x) e).0 in
       let under = below ms k y.made d (AllPairs-from_increasing ms rising) h (and_parts (has_place (take k ms) y.made) (is_told y) f).0 in
       omega (arith, at, under, g))
-      0 end l s
+      0 l s
       ∙ same_filter (λ x. (has_place (take k ms) x.made && is_told x) || ((m == x.made) && is_told x)) (λ x. has_place (take (k + 1) ms) x.made && is_told x)
       (λ x. shared (has_place (take k ms) x.made) (m == x.made) (is_told x) ∙ ap (λ b. b && is_told x) (sym (list_any_more (λ n. n == x.made) ms k d h))) l
 

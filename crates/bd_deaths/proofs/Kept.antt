@@ -28,13 +28,12 @@ has_alike (Cookie k) x y a = rw (a.process, a.cookie) refl
 pub kept : (t u : DeathList) (q : DeathNotification → Bool) (f : DeathNotification → DeathNotification)
     → ((x : DeathNotification) → Alike x (f x))
     → (l : List DeathNotification) → AreIn t l → u.slots.items ≡ changed (of q) (with f) t.slots.items
-    → u.in_order ≡ t.in_order → u.end ≡ t.end → u.sharing ≡ t.sharing → NoneTold u.told_from u.slots.items
+    → u.in_order ≡ t.in_order → u.sharing ≡ t.sharing → NoneTold u.told_from u.slots.items
     → AreIn u (changed q f l)
-kept t u q f alike l h items order end same told = record {
+kept t u q f alike l h items order same told = record {
   lives_are = ap lives items ∙ lives_changed q f t.slots.items ∙ ap (changed q f) h.lives_are;
-  rising = λ e. subst (λ ss. IsRising 0 u.end (deaths_in ss)) (sym items)
-      (subst (λ n. IsRising 0 n (deaths_in (changed (of q) (with f) t.slots.items))) (sym end)
-      (rising_changed (of q) f (λ x. (alike x).made) 0 t.end t.slots.items (h.rising (sym order ∙ e))));
+  rising = λ e. subst (λ ss. IsRising 0 (deaths_in ss)) (sym items)
+      (rising_changed (of q) f (λ x. (alike x).made) 0 t.slots.items (h.rising (sym order ∙ e)));
   keyed = record {
     groups = λ k. ap (λ s. group_at s k) same ∙ h.keyed.groups k
         ∙ sym (group_stays q f (λ x. (alike x).made) (has k) (λ x. has_alike k x (f x) (alike x)) l);

@@ -19,51 +19,61 @@ use Rattle.bd_deaths.proofs.Keys.{sum_of_one}
 
 -- ---- in the order of their places
 
-pub rising_from : (m n end : ℕ) (xs : List DeathNotification) → m ≤ n → IsRising n end xs → IsRising m end xs
-rising_from m n end [] h r = omega (arith, h, r)
-rising_from m n end (x ∷ xs) h r = (omega (arith, h, r.0), r.1)
+pub rising_from : (m n : ℕ) (xs : List DeathNotification) → m ≤ n → IsRising n xs → IsRising m xs
+rising_from m n [] h r = tt
+rising_from m n (x ∷ xs) h r = (omega (arith, h, r.0), r.1)
 
-pub rising_push : (m end : ℕ) (ss : List Slot) (s : Slot) → IsRising m end (deaths_in ss) → end ≤ s.death.made → IsRising m (s.death.made + 1) (deaths_in (ss ++ s ∷ []))
-rising_push m end [] s r h = (omega (arith, h, r), omega arith)
-rising_push m end (t ∷ ts) s r h = (r.0, rising_push (suc t.death.made) end ts s r.1 h)
+-- the first
+pub rising_first : (ss : List Slot) (s : Slot) → length ss ≡ 0 → IsRising 0 (deaths_in (ss ++ s ∷ []))
+rising_first [] s e = (omega arith, tt)
+rising_first (t ∷ ts) s e = absurd (omega (arith, e))
+
+-- one more, made after the one before it
+pub rising_push : (m : ℕ) (ss : List Slot) (s d : Slot) (i : ℕ) → length ss ≡ suc i → IsRising m (deaths_in ss)
+    → (get_or (ss ++ s ∷ []) i d).death.made < s.death.made → IsRising m (deaths_in (ss ++ s ∷ []))
+rising_push m [] s d i e r h = absurd (omega (arith, e))
+rising_push m (t ∷ []) s d zero e r h = (r.0, (omega (arith, h), tt))
+rising_push m (t ∷ []) s d (suc i) e r h = absurd (omega (arith, e))
+rising_push m (t ∷ u ∷ us) s d zero e r h = absurd (omega (arith, e))
+rising_push m (t ∷ u ∷ us) s d (suc i) e r h = (r.0, rising_push (suc t.death.made) (u ∷ us) s d i (omega (arith, e)) r.1 h)
 
 -- of those that haven't gone
-pub rising_lives : (m end : ℕ) (ss : List Slot) → IsRising m end (deaths_in ss) → IsRising m end (lives ss)
-rising_lives m end [] r = r
-rising_lives m end (s ∷ ss) r = by s.live (rising_lives (suc s.death.made) end ss r.1)
+pub rising_lives : (m : ℕ) (ss : List Slot) → IsRising m (deaths_in ss) → IsRising m (lives ss)
+rising_lives m [] r = r
+rising_lives m (s ∷ ss) r = by s.live (rising_lives (suc s.death.made) ss r.1)
   where
-    by : (b : Bool) → IsRising (suc s.death.made) end (lives ss) → IsRising m end (cond b (s.death ∷ lives ss) (lives ss))
+    by : (b : Bool) → IsRising (suc s.death.made) (lives ss) → IsRising m (cond b (s.death ∷ lives ss) (lives ss))
     by true h = (r.0, h)
-    by false h = let a = r.0 in rising_from m (suc s.death.made) end (lives ss) (omega (arith, a)) h
+    by false h = let a = r.0 in rising_from m (suc s.death.made) (lives ss) (omega (arith, a)) h
 
 pub rising_changed : (p : Slot → Bool) (f : DeathNotification → DeathNotification) → ((x : DeathNotification) → (f x).made ≡ x.made)
-    → (m end : ℕ) (ss : List Slot) → IsRising m end (deaths_in ss) → IsRising m end (deaths_in (changed p (with f) ss))
-rising_changed p f made m end [] r = r
-rising_changed p f made m end (s ∷ ss) r = by (p s) (rising_changed p f made (suc s.death.made) end ss r.1)
+    → (m : ℕ) (ss : List Slot) → IsRising m (deaths_in ss) → IsRising m (deaths_in (changed p (with f) ss))
+rising_changed p f made m [] r = r
+rising_changed p f made m (s ∷ ss) r = by (p s) (rising_changed p f made (suc s.death.made) ss r.1)
   where
-    by : (b : Bool) → IsRising (suc s.death.made) end (deaths_in (changed p (with f) ss))
-        → IsRising m end ((cond b (with f s) s).death ∷ deaths_in (changed p (with f) ss))
-    by true h = subst (λ n. (m ≤ n) × IsRising (suc n) end (deaths_in (changed p (with f) ss))) (sym (made s.death)) (r.0, h)
+    by : (b : Bool) → IsRising (suc s.death.made) (deaths_in (changed p (with f) ss))
+        → IsRising m ((cond b (with f s) s).death ∷ deaths_in (changed p (with f) ss))
+    by true h = subst (λ n. (m ≤ n) × IsRising (suc n) (deaths_in (changed p (with f) ss))) (sym (made s.death)) (r.0, h)
     by false h = (r.0, h)
 
-pub rising_filter : (p : Slot → Bool) (m end : ℕ) (ss : List Slot) → IsRising m end (deaths_in ss) → IsRising m end (deaths_in (filter p ss))
-rising_filter p m end [] r = r
-rising_filter p m end (s ∷ ss) r = by (p s) (rising_filter p (suc s.death.made) end ss r.1)
+pub rising_filter : (p : Slot → Bool) (m : ℕ) (ss : List Slot) → IsRising m (deaths_in ss) → IsRising m (deaths_in (filter p ss))
+rising_filter p m [] r = r
+rising_filter p m (s ∷ ss) r = by (p s) (rising_filter p (suc s.death.made) ss r.1)
   where
-    by : (b : Bool) → IsRising (suc s.death.made) end (deaths_in (filter p ss)) → IsRising m end (deaths_in (cond b (s ∷ filter p ss) (filter p ss)))
+    by : (b : Bool) → IsRising (suc s.death.made) (deaths_in (filter p ss)) → IsRising m (deaths_in (cond b (s ∷ filter p ss) (filter p ss)))
     by true h = (r.0, h)
-    by false h = let a = r.0 in rising_from m (suc s.death.made) end (deaths_in (filter p ss)) (omega (arith, a)) h
+    by false h = let a = r.0 in rising_from m (suc s.death.made) (deaths_in (filter p ss)) (omega (arith, a)) h
 
-rising_above : (m end : ℕ) (ss : List Slot) (i : ℕ) (d : Slot) → IsRising m end (deaths_in ss) → i < length ss → m ≤ (get_or ss i d).death.made
-rising_above m end [] i d r h = absurd (omega arith)
-rising_above m end (s ∷ ss) zero d r h = r.0
-rising_above m end (s ∷ ss) (suc i) d r h = let a = rising_above (suc s.death.made) end ss i d r.1 (omega arith) in let b = r.0 in omega (arith, a, b)
+rising_above : (m : ℕ) (ss : List Slot) (i : ℕ) (d : Slot) → IsRising m (deaths_in ss) → i < length ss → m ≤ (get_or ss i d).death.made
+rising_above m [] i d r h = absurd (omega arith)
+rising_above m (s ∷ ss) zero d r h = r.0
+rising_above m (s ∷ ss) (suc i) d r h = let a = rising_above (suc s.death.made) ss i d r.1 (omega arith) in let b = r.0 in omega (arith, a, b)
 
-rising_at : (m end : ℕ) (ss : List Slot) (i j : ℕ) (d : Slot) → IsRising m end (deaths_in ss) → i < j → j < length ss → (get_or ss i d).death.made < (get_or ss j d).death.made
-rising_at m end [] i j d r h k = absurd (omega arith)
-rising_at m end (s ∷ ss) i zero d r h k = absurd (omega arith)
-rising_at m end (s ∷ ss) zero (suc j) d r h k = let a = rising_above (suc s.death.made) end ss j d r.1 (omega arith) in omega (arith, a)
-rising_at m end (s ∷ ss) (suc i) (suc j) d r h k = rising_at (suc s.death.made) end ss i j d r.1 (omega arith) (omega arith)
+rising_at : (m : ℕ) (ss : List Slot) (i j : ℕ) (d : Slot) → IsRising m (deaths_in ss) → i < j → j < length ss → (get_or ss i d).death.made < (get_or ss j d).death.made
+rising_at m [] i j d r h k = absurd (omega arith)
+rising_at m (s ∷ ss) i zero d r h k = absurd (omega arith)
+rising_at m (s ∷ ss) zero (suc j) d r h k = let a = rising_above (suc s.death.made) ss j d r.1 (omega arith) in omega (arith, a)
+rising_at m (s ∷ ss) (suc i) (suc j) d r h k = rising_at (suc s.death.made) ss i j d r.1 (omega arith) (omega arith)
 
 -- ---- of those with a key
 
@@ -118,12 +128,12 @@ within_one q g one i j xs fit h w = within_fewer q (is_notification g.sum) xs i 
 
 -- ---- by halves
 
-pub partitioned : (m end : ℕ) (ss : List Slot) (made : ℕ) → IsRising m end (deaths_in ss) → IsPartitionedBy (λ s. ltb s.death.made made) ss
-partitioned m end ss made r = λ i j d h k e. by i j d h k e (ltb i j) refl
+pub partitioned : (m : ℕ) (ss : List Slot) (made : ℕ) → IsRising m (deaths_in ss) → IsPartitionedBy (λ s. ltb s.death.made made) ss
+partitioned m ss made r = λ i j d h k e. by i j d h k e (ltb i j) refl
   where
     by : (i j : ℕ) (d : Slot) → i ≤ j → j < length ss → ltb (get_or ss j d).death.made made ≡ true → (b : Bool) → ltb i j ≡ b → ltb (get_or ss i d).death.made made ≡ true
     by i j d h k e true g =
-        let a = rising_at m end ss i j d r (ltb-true i j g) k in
+        let a = rising_at m ss i j d r (ltb-true i j g) k in
         let b = ltb-true (get_or ss j d).death.made made e in
         lt-ltb (get_or ss i d).death.made made (omega (arith, a, b))
     by i j d h k e false g =
@@ -131,7 +141,7 @@ partitioned m end ss made r = λ i j d h k e. by i j d h k e (ltb i j) refl
         let same : i ≡ j = omega (arith, h, n) in
         subst (λ n. ltb (get_or ss n d).death.made made ≡ true) (sym same) e
 
-module _ (end : ℕ) (ss : List Slot) (made i : ℕ) (r : IsRising 0 end (deaths_in ss))
+module _ (ss : List Slot) (made i : ℕ) (r : IsRising 0 (deaths_in ss))
     (p : IsPartitionPoint (λ s. ltb s.death.made made ≡ true) (λ s. ltb s.death.made made ≡ false) ss i) where
   before_point : list_any (of (is_notification made)) (take i ss) ≡ false
   before_point = none_before (of (is_notification made)) ss i (λ k d a b. let e = ltb-true (get_or ss k d).death.made made (p.0 k d (omega arith) a) in ne_eqb (get_or ss k d).death.made made (λ same. omega (arith, e, same)))
@@ -141,7 +151,7 @@ module _ (end : ℕ) (ss : List Slot) (made i : ℕ) (r : IsRising 0 end (deaths
     before = before_point;
     after = none_after (of (is_notification made)) ss (i + 1) (λ k d a b.
         let here = ltb-false (get_or ss i d).death.made made (p.1 i d (omega arith) h) in
-        let there = rising_at 0 end ss i k d r (omega (arith, a)) b in
+        let there = rising_at 0 ss i k d r (omega (arith, a)) b in
         ne_eqb (get_or ss k d).death.made made (λ same. omega (arith, here, there, same)));
   }
 

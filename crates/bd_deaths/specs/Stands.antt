@@ -7,15 +7,15 @@ use Rattle.bd_deaths.specs.SharedAt.{AreShared}
 use Rattle.bd_deaths.specs.Listed.{IsListed}
 use Rattle.bd_deaths.specs.Slots.{deaths_in, lives, NoneTold}
 
--- each was made after the one before, from one place on and before another
-abbrev pub IsRising : ℕ → ℕ → List DeathNotification → Type 0
-IsRising from end [] = from ≤ end
-IsRising from end (x ∷ xs) = (from ≤ x.made) × IsRising (suc x.made) end xs
+-- each was made after the one before, from one place on
+abbrev pub IsRising : ℕ → List DeathNotification → Type 0
+IsRising from [] = Unit {0}
+IsRising from (x ∷ xs) = (from ≤ x.made) × IsRising (suc x.made) xs
 
 pub record AreIn (t : DeathList) (l : List DeathNotification) : Type 0 where
   pub lives_are : lives t.slots.items ≡ l
   -- those that went are in order too
-  pub rising : t.in_order ≡ true → IsRising 0 t.end (deaths_in t.slots.items)
+  pub rising : t.in_order ≡ true → IsRising 0 (deaths_in t.slots.items)
   pub keyed : AreShared t.sharing l
   pub none_told : NoneTold t.told_from t.slots.items
 

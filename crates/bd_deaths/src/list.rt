@@ -22,8 +22,6 @@ pub(crate) struct DeathList {
     pub(crate) told_from: usize,
     // Whether each was made after the one before, so that a place is found by halves.
     pub(crate) in_order: bool,
-    // The place after the latest, while they are in order.
-    pub(crate) end: u64,
     pub(crate) sharing: Sharing,
 }
 
@@ -34,7 +32,6 @@ impl Drop for DeathList {
             gone: _,
             told_from: _,
             in_order: _,
-            end: _,
             sharing: _,
         } = self;
     }
@@ -52,7 +49,6 @@ impl DeathList {
             gone: 0,
             told_from: 0,
             in_order: true,
-            end: 0,
             sharing: Sharing::new(alloc),
         }
     }
@@ -76,15 +72,14 @@ impl DeathList {
         ensures stands { Makes (AreIn self.old) (AreIn self.new) (λ l. l ++ x ∷ []) }
         ensures uses { ListUses self.old self.new 1 }
     {
-        self.in_order = self.in_order && self.end <= x.made as u64;
-        self.end = x.made as u64 + 1;
         self.sharing.add(&x);
         self.slots.push_reserved(Slot {
             death: x,
             live: true,
         });
-        // A length is a usize: so no group's count wraps.
-        let _ = self.slots.len();
+        let before = self.slots.len() - 1;
+        self.in_order = self.in_order
+            && (before == 0 || self.slots[before - 1].death.made < x.made);
     }
 
     // The notification of this slot goes.

@@ -1,6 +1,6 @@
 //! Where the notifications lie that are looked for.
 
-ghost use Rattle.std.specs.Prelude.{◌≡◌, ◌==◌, ◌≤◌, ◌+◌, ℕ, not, length, vec_len, List, IfSome};
+ghost use Rattle.std.specs.Prelude.{◌≡◌, ◌==◌, ◌≤◌, ◌+◌, not, length, vec_len, List, IfSome};
 ghost use Rattle.std.specs.List.{list_any};
 ghost use Rattle.bd_keys.specs.Tables.{Tells};
 ghost use Rattle.bd_space.specs.Deaths as deaths_of;
@@ -22,7 +22,7 @@ use std::ops::Range;
 fn range_in(slots: &[Slot], made: u32) -> Range<usize>
     ensures from { result.start ≤ result.end }
     ensures to { result.end ≤ length slots.now }
-    ensures within { (end : ℕ) → IsRising 0 end (spec.deaths_in slots.now)
+    ensures within { IsRising 0 (spec.deaths_in slots.now)
         → IsWithin (spec.of (deaths_of.is_notification made)) result.start result.end slots.now }
 {
     let from = slots.partition_point(|s| s.death.made < made);

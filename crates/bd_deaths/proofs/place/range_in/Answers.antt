@@ -5,13 +5,13 @@ use Rattle.bd_deaths.proofs.Places.{partitioned, within_point, within_end}
 use Rattle.bd_deaths.proofs.place.range_in.Goals as goal
 
 pub returns-then-from-slots-clause-within : goal.returns-then-from-slots-clause-within
-returns-then-from-slots-clause-within c = λ end h.
+returns-then-from-slots-clause-within c = λ h.
     let ss = c.args.slots.now in
-    within_point end ss c.args.made _ h (IsPartitionPoint-from_clause (λ (s : Slot). ltb s.death.made c.args.made) ss _ c.partition_point-from.ensures.partitioned (partitioned 0 end ss c.args.made h)
+    within_point ss c.args.made _ h (IsPartitionPoint-from_clause (λ (s : Slot). ltb s.death.made c.args.made) ss _ c.partition_point-from.ensures.partitioned (partitioned 0 ss c.args.made h)
     (λ a b f k. search (rules, tests))) c.if-from-slots.true
 
 pub returns-else-from-slots-clause-within : goal.returns-else-from-slots-clause-within
-returns-else-from-slots-clause-within c = λ end h.
+returns-else-from-slots-clause-within c = λ h.
     let ss = c.args.slots.now in
-    within_end end ss c.args.made _ h (IsPartitionPoint-from_clause (λ (s : Slot). ltb s.death.made c.args.made) ss _ c.partition_point-from.ensures.partitioned (partitioned 0 end ss c.args.made h)
+    within_end ss c.args.made _ h (IsPartitionPoint-from_clause (λ (s : Slot). ltb s.death.made c.args.made) ss _ c.partition_point-from.ensures.partitioned (partitioned 0 ss c.args.made h)
     (λ a b f k. search (rules, tests))) c.if-from-slots.false

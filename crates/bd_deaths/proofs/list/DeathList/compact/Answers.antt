@@ -14,7 +14,7 @@ returns-then-self-len-clause-stands c = λ l h.
     let kept : c.retain.new.self.items ≡ filter live ss = filter_same _ live _ (λ x b f k. search rules) _ _ c.retain.ensures.filtered in
     record {
       lives_are = ap lives kept ∙ lives_closed ss ∙ h.lives_are;
-      rising = λ e. rw kept (rising_filter live 0 c.args.self.now.end ss (h.rising e));
+      rising = λ e. rw kept (rising_filter live 0 ss (h.rising e));
       keyed = h.keyed;
       none_told = told_none c.retain.new.self.items;
     }

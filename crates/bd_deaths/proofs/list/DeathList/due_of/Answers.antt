@@ -28,7 +28,7 @@ loop-made-preserved c = λ objects xs ns h.
     c.in_ok-push_due.ensures.put objects ns
     ∙ ap (λ ys. ys ++ due_of (λ n. m == n) objects p (lives c.made_part.result.now)) (c.loop-made.invariant objects xs ns h)
     ∙ ap (λ ys. due_of (has_place (take k places)) objects p xs ++ ys) (place_part objects p m (lives c.made_part.result.now) xs (c.made_part.ensures xs h))
-    ∙ place_next objects p places k 0 c.args.self.now.end xs (subst (IsRising 0 c.args.self.now.end) h.lives_are (rising_lives 0 c.args.self.now.end c.args.self.now.slots.items (h.rising c.requires.order))) c.requires.rising c.loop-made-test.true
+    ∙ place_next objects p places k 0 xs (subst (IsRising 0) h.lives_are (rising_lives 0 c.args.self.now.slots.items (h.rising c.requires.order))) c.requires.rising c.loop-made-test.true
 
 pub returns-clause-due : goal.returns-clause-due
 returns-clause-due c = λ objects xs ns h.

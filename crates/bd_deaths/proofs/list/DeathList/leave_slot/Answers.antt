@@ -19,7 +19,7 @@ returns-clause-stands c = λ l h.
     let left = ap (λ (r : Slot). lives (set ss i (gone r))) c.index_mut.ensures.value ∙ lives_gone ss i d within (c.requires.live d) in
     record {
       lives_are = refl;
-      rising = λ e. subst (IsRising 0 c.args.self.now.end) (sym (map-set_same (λ (r : Slot). r.death) ss i (gone d) d (ap (λ (r : Slot). r.death) c.index_mut.ensures.value))) (h.rising e);
+      rising = λ e. subst (IsRising 0) (sym (map-set_same (λ (r : Slot). r.death) ss i (gone d) d (ap (λ (r : Slot). r.death) c.index_mut.ensures.value))) (h.rising e);
       keyed = subst (AreShared c.remove.new.self) (sym left)
           (c.remove.ensures.stands (lives ss) (rank i ss) (subst (AreShared c.args.self.now.sharing) (sym h.lives_are) h.keyed)
           (rank_within ss i s within (c.requires.live s)) there);

@@ -12,4 +12,4 @@ returns-clause-stands c = λ l h.
     let f = λ (x : DeathNotification). record x { cleared = true } in
     let items = c.change_in.ensures.items f (λ x y k. search (rules, tests)) (c.made_range-range.ensures.within l h) in
     kept c.args.self.now _ q f (λ x. record { made = refl; process = refl; object = refl; cookie = refl }) l h items
-    refl refl refl (rw items (told_kept (of q) (with f) _ _ h.none_told (λ s e. e)))
+    refl refl (rw items (told_kept (of q) (with f) _ _ h.none_told (λ s e. e)))

@@ -13,5 +13,5 @@ returns-clause-stands c = λ l h.
     let within = c.made_range-range.ensures.within l h in
     let items = c.change_in.ensures.items f (λ x y k. search (rules, tests)) within in
     kept c.args.self.now _ q f (λ x. record { made = refl; process = refl; object = refl; cookie = refl }) l h items
-    refl refl refl
+    refl refl
     (rw items (told_phase c.args.phase (of q) _ _ _ _ h.none_told c.told_before-self.ensures.less c.told_before-self.ensures.before within.before))
