@@ -1,6 +1,7 @@
 //! Buffers that end by a step: where they were made.
 
 ghost use Rattle.std.specs.Prelude.{◌≡◌, ◌<◌, [], true, Some, IfOk, IfErr, OnOk, OnErr, filter};
+ghost use Rattle.bd_keys.specs.Tables.{Makes, Tells};
 ghost use Rattle.bd_space.specs.Histories.{History, HasPlace, space_after, extended, is_at_limit};
 ghost use Rattle.bd_space.specs.Steps as steps;
 ghost use Rattle.bd_step.specs.{Refusals.{FullOnly, MemoryOnly}, Ending.{is_gone, ended_between, HasEndings}};
@@ -34,7 +35,7 @@ impl Live {
 
     // Whether no live buffer was made there.
     fn is_gone(&self, made: u32) -> bool
-        ensures { (h : History) → Follows self.now h → result ≡ is_gone (space_after h).buffers made }
+        ensures { Tells (Follows self.now) result (λ h. is_gone (space_after h).buffers made) }
     {
         match self.buffer(made) {
             None => true,
@@ -44,8 +45,7 @@ impl Live {
 
     // Only those of these places stay at which no live buffer was made.
     fn keep_gone(&self, places: &mut Vec<u32>)
-        ensures { (h : History) → Follows self.now h
-            → places.new.items ≡ filter (is_gone (space_after h).buffers) places.old.items }
+        ensures { Tells (Follows self.now) places.new.items (λ h. filter (is_gone (space_after h).buffers) places.old.items) }
     {
         places.retain(|made| self.is_gone(*made));
     }
@@ -65,16 +65,14 @@ impl Live {
         ensures seat { IfOk result (λ e. e.seat ≡ seat) }
         ensures step { IfOk result (λ e. e.step ≡ step) }
         // The answer is the space's, after each history that it followed.
-        ensures answer { IfOk result (λ e. (h : History) → Follows self.old h
-            → e.answer ≡ (steps.step (space_after h) seat step).answer) }
+        ensures answer { IfOk result (λ e. Tells (Follows self.old) e.answer (λ h. (steps.step (space_after h) seat step).answer)) }
         // It then follows that history with this step more.
-        ensures follows { IfOk result (λ e. (h : History) → Follows self.old h
-            → Follows self.new (extended h seat step e.answer)) }
+        ensures follows { IfOk result (λ e. Makes (Follows self.old) (Follows self.new) (λ h. extended h seat step e.answer)) }
         // Exactly those are listed that lived in the space before and don't in the space after.
-        ensures ended { IfOk result (λ e. (h : History) → Follows self.old h
-            → ended.new.items ≡ ended_between (space_after h) (space_after (extended h seat step e.answer))) }
+        ensures ended { IfOk result (λ e. Tells (Follows self.old) ended.new.items
+            (λ h. ended_between (space_after h) (space_after (extended h seat step e.answer)))) }
         // A step refused leaves it following what it followed.
-        ensures err { OnErr result ((h : History) → Follows self.old h → Follows self.new h) }
+        ensures err { OnErr result (Makes (Follows self.old) (Follows self.new) (λ h. h)) }
         ensures none { OnErr result (ended.new.items ≡ []) }
         // When a full history is the reason.
         ensures full { IfErr result (λ why. (h : History) → Follows self.old h

@@ -1,6 +1,7 @@
 //! The live engine: the tables alone. It keeps no history, and hands each entry out.
 
 ghost use Rattle.std.specs.Prelude.{◌≡◌, ◌<◌, true, [], length, IfOk, IfErr, IsTrue, OnOk, OnErr, MatchResult, Ok, Some};
+ghost use Rattle.bd_keys.specs.Tables.{Makes, Tells};
 ghost use Rattle.bd_space.specs.Histories as histories;
 ghost use Rattle.bd_space.specs.Histories.{History, HasPlace, history_of};
 ghost use Rattle.bd_space.specs.Steps as steps;
@@ -62,21 +63,21 @@ impl Live {
     /// How many seats there are, 1 to 65536.
     pub fn seats(&self) -> u32
         ensures field { result ≡ self.now.seats }
-        ensures count { (h : History) → Follows self.now h → result ≡ h.seats }
+        ensures count { Tells (Follows self.now) result (λ h. h.seats) }
     {
         self.seats
     }
 
     /// How many steps were made.
     pub fn len(&self) -> u32
-        ensures { (h : History) → Follows self.now h → result ≡ length h.entries }
+        ensures { Tells (Follows self.now) result (λ h. length h.entries) }
     {
         self.tables().steps
     }
 
     // From now on it is kept which seats are ready. Errors: memory was refused.
     pub(crate) fn keep_ready(&mut self, alloc: Global) -> Result<(), AllocError>
-        ensures follows { (h : History) → Follows self.old h → Follows self.new h }
+        ensures follows { Makes (Follows self.old) (Follows self.new) (λ h. h) }
         ensures seats { self.new.seats ≡ self.old.seats }
         ensures told { KeepsTold self.old self.new }
     {
@@ -86,7 +87,7 @@ impl Live {
 
     // Looks anew at the seats that a step may have made ready or unready.
     pub(crate) fn refresh_ready(&mut self)
-        ensures follows { (h : History) → Follows self.old h → Follows self.new h }
+        ensures follows { Makes (Follows self.old) (Follows self.new) (λ h. h) }
         ensures seats { self.new.seats ≡ self.old.seats }
         ensures told { KeepsTold self.old self.new }
     {
@@ -107,11 +108,11 @@ impl Live {
         ensures copied { IsTrue both → result ≡ Ok Got → again.new ≡ entry.new.answer }
         ensures seat { entry.new.seat ≡ entry.old.seat }
         ensures step { entry.new.step ≡ entry.old.step }
-        ensures answer { OnOk result ((h : History) → Follows self.old h
-            → entry.new.answer ≡ (steps.step (histories.space_after h) entry.old.seat entry.old.step).answer) }
-        ensures follows { OnOk result ((h : History) → Follows self.old h
-            → Follows self.new (histories.extended h entry.old.seat entry.old.step entry.new.answer)) }
-        ensures err { OnErr result ((h : History) → Follows self.old h → Follows self.new h) }
+        ensures answer { OnOk result (Tells (Follows self.old) entry.new.answer
+            (λ h. (steps.step (histories.space_after h) entry.old.seat entry.old.step).answer)) }
+        ensures follows { OnOk result (Makes (Follows self.old) (Follows self.new)
+            (λ h. histories.extended h entry.old.seat entry.old.step entry.new.answer)) }
+        ensures err { OnErr result (Makes (Follows self.old) (Follows self.new) (λ h. h)) }
         ensures full { IfErr result (λ why. (h : History) → Follows self.old h
             → FullOnly why (histories.is_at_limit h entry.old.seat (Some entry.old.step) ≡ true)) }
         ensures memory { IfErr result (λ why. (h : History) → Follows self.old h → MemoryOnly why (HasPlace h)) }
@@ -140,13 +141,11 @@ impl Live {
         ensures seat { IfOk result (λ e. e.seat ≡ seat) }
         ensures step { IfOk result (λ e. e.step ≡ step) }
         // The answer is the space's, after each history that it followed.
-        ensures answer { IfOk result (λ e. (h : History) → Follows self.old h
-            → e.answer ≡ (steps.step (histories.space_after h) seat step).answer) }
+        ensures answer { IfOk result (λ e. Tells (Follows self.old) e.answer (λ h. (steps.step (histories.space_after h) seat step).answer)) }
         // It then follows that history with this step more.
-        ensures follows { IfOk result (λ e. (h : History) → Follows self.old h
-            → Follows self.new (histories.extended h seat step e.answer)) }
+        ensures follows { IfOk result (λ e. Makes (Follows self.old) (Follows self.new) (λ h. histories.extended h seat step e.answer)) }
         // A step refused leaves it following what it followed.
-        ensures err { OnErr result ((h : History) → Follows self.old h → Follows self.new h) }
+        ensures err { OnErr result (Makes (Follows self.old) (Follows self.new) (λ h. h)) }
         // When a full history is the reason.
         ensures full { IfErr result (λ why. (h : History) → Follows self.old h
             → FullOnly why (histories.is_at_limit h seat (Some step) ≡ true)) }

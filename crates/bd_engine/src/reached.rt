@@ -1,6 +1,7 @@
 //! Which todo lists were filled or emptied.
 
 ghost use Rattle.std.specs.Prelude.{◌≡◌, Bool, true, IfOk, OnOk, OnErr};
+ghost use Rattle.bd_keys.specs.Tables.{Makes};
 ghost use Rattle.bd_space.specs.declared.space.TodoList as lists;
 ghost use Rattle.bd_space.specs.Histories.{History, space_after};
 ghost use Rattle.bd_engine.specs.Follows.{Follows};
@@ -28,7 +29,7 @@ impl Live {
     /// little room; a step takes none for it. Errors: memory was refused; then all is told the next time.
     pub fn tell_reached(&mut self, reached: &mut Vec<TodoList>) -> Result<bool, AllocError>
         // It follows what it followed.
-        ensures follows { (h : History) → Follows self.old h → Follows self.new h }
+        ensures follows { Makes (Follows self.old) (Follows self.new) (λ h. h) }
         ensures whole { IfOk result (λ whole. whole ≡ knows_all self.old) }
         // Then a list is among them exactly where what was told of it isn't so.
         ensures exact { IfOk result (λ whole. whole ≡ true → (told : lists.TodoList → Bool) (h : History)
