@@ -1,5 +1,5 @@
 /* SPDX-License-Identifier: Apache-2.0 OR MIT */
-/* What the programs beside it share that ask the library (tools/library): commands, what an answer has to be, and the first complaint. */
+/* What programs share that ask the library (tools/library, bench/crowds): commands, what an answer has to be, and the first complaint. */
 #ifndef HULLPIPPIN_TOOLS_ASKING_H
 #define HULLPIPPIN_TOOLS_ASKING_H
 

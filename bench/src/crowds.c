@@ -4,7 +4,8 @@
        crowds CROWD NUMBER ROUNDS
 
    So many of the crowd stand first. A round is what the context manager's thread does with another process: a one-way call, and a call
-   that is answered; where calls are queued, one more of these is made, and the oldest read, too. `round` alone makes it. */
+   that is answered; where calls are queued, one more of these is made, and the oldest read, too. `round_of` alone makes it. At the end the
+   crowd has to be there still: its last comers leave, reply, or are read. */
 #include "../../tools/asking.h"
 
 #include <stdio.h>
@@ -126,6 +127,48 @@ static bool queued(uint32_t number)
     return good;
 }
 
+/* ---- that it stands still */
+
+/* So many of those that came last are looked at, at most. */
+enum { LAST = 1000 };
+
+static uint32_t looked_at(uint32_t number)
+{
+    return number < LAST ? number : LAST;
+}
+
+/* The last threads end. */
+static bool leave(uint32_t number)
+{
+    bool good = true;
+    for (uint32_t i = number - looked_at(number); good && i < number; i++) {
+        hullpippin_answer answer;
+        good = is_made(hullpippin_live_exit_thread(&live, FIRST + i, &answer), &answer, HULLPIPPIN_EXITED);
+    }
+    return good;
+}
+
+/* The last calls are replied to, innermost first. */
+static bool unwind(uint32_t number)
+{
+    uint32_t caller = FIRST, server = FIRST + 1;
+    bool good = true;
+    for (uint32_t i = number; good && i > number - looked_at(number); i--) {
+        uint32_t from = i % 2 == 1 ? server : caller, to = i % 2 == 1 ? caller : server;
+        good = replies(from) && reads(&live, from) && takes(to, 0);
+    }
+    return good;
+}
+
+/* So many of the calls are read. */
+static bool drain(uint32_t number)
+{
+    bool good = true;
+    for (uint32_t i = 0; good && i < looked_at(number); i++)
+        good = takes(MANAGER, 0);
+    return good;
+}
+
 /* ---- rounds */
 
 static bool calls_server(void)
@@ -152,20 +195,25 @@ static const struct {
     const char *name;
     bool (*stand)(uint32_t number);
     bool (*make)(void);
+    bool (*end)(uint32_t number);
 } CROWDS[] = {
-    {"threads", threads, calls_server}, {"processes", processes, calls_server},    {"callers", callers, calls_server},
-    {"nested", nested, calls_server},   {"queued", queued, queues_one_more},
+    {"threads", threads, calls_server, leave}, {"processes", processes, calls_server, leave}, {"callers", callers, calls_server, leave},
+    {"nested", nested, calls_server, unwind},  {"queued", queued, queues_one_more, drain},
 };
+
+static bool (*end)(uint32_t number) = leave;
 
 static bool stands(const char *name, uint32_t number)
 {
-    bool good = is_done(hullpippin_live_new(SEATS, &live)) && opens(MANAGER, MANAGER_PID) && opens(CLIENT, CLIENT_PID) && opens(SERVER, SERVER_PID);
+    bool good = is_done(hullpippin_live_new(SEATS, &live)) && opens(MANAGER, MANAGER_PID) && opens(CLIENT, CLIENT_PID)
+                && opens(SERVER, SERVER_PID);
     hullpippin_answer answer;
     good = good && is_made(hullpippin_live_manager(&live, MANAGER, &answer), &answer, HULLPIPPIN_SET) && enters_loop(MANAGER)
            && enters_loop(SERVER) && gives(SERVER, 0x1000, SERVER_HANDLE);
     for (size_t i = 0; i < sizeof CROWDS / sizeof CROWDS[0]; i++)
         if (!strcmp(CROWDS[i].name, name)) {
             make = CROWDS[i].make;
+            end = CROWDS[i].end;
             return good && CROWDS[i].stand(number);
         }
     return fails("no such crowd");
@@ -176,6 +224,7 @@ int main(int count, char **words)
     bool good = count == 4 && stands(words[1], (uint32_t)strtoul(words[2], NULL, 10));
     for (unsigned long left = good ? strtoul(words[3], NULL, 10) : 0; good && left > 0; left--)
         good = round_of();
+    good = good && end((uint32_t)strtoul(words[2], NULL, 10));
     if (!good)
         fprintf(stderr, "crowds: %s\n", complaint ? complaint : "crowds CROWD NUMBER ROUNDS");
     return good ? 0 : 1;

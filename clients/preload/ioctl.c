@@ -72,8 +72,8 @@ static int do_ioctl(struct device *device, struct link *link, unsigned long requ
     }
 }
 
-/* The request's number is what its low 32 bits say: a program may have it as an int. After any request but
-   BINDER_THREAD_EXIT the thread's next one isn't its first any more. */
+/* The request's number is what its low 32 bits say: a program may have it as an int. After BINDER_THREAD_EXIT
+   the next one is a new thread's, whose first read comes back at once. */
 int device_ioctl(int fd, unsigned long request, void *argument)
 {
     struct device *device = device_hold(fd);

@@ -16,7 +16,7 @@
 
 enum { GIVE = 1, POINT };
 
-/* An object as a case wants it: a buffer, a buffer pointed at by another, or an array of descriptors. */
+/* An object of a case: none, a buffer, a buffer pointed at by another, or an array of descriptors. */
 struct shape {
     enum { NONE, BUFFER, CHILD, ARRAY } kind;
     uint32_t parent;
