@@ -1,11 +1,11 @@
 -- What the contracts of tables say, whatever a table stands for.
 use Rattle.std.specs.Prelude.{ℕ, ◌≡◌, ◌+◌, ◌≤◌}
 
--- Of every list for which a table stands (P) its answer x is what f says of the list. `NodesAre t`, for one, is such a P.
+-- Whatever a table stands for (P, as `NodesAre t` says it of a list of objects), its answer x is what f says of that.
 abbrev pub Tells : {L A : Type 0} → (L → Type 0) → A → (L → A) → Type 0
 Tells {L} P x f = (l : L) → P l → x ≡ f l
 
--- A change makes of every list for which the table stood (P) the list that f makes of it, and for that the table stands afterwards (Q).
+-- Whatever a table stood for (P), after a change it stands for what f makes of that (Q).
 abbrev pub Makes : {L : Type 0} → (L → Type 0) → (L → Type 0) → (L → L) → Type 0
 Makes {L} P Q f = (l : L) → P l → Q (f l)
 

@@ -3,7 +3,8 @@
 ghost use Rattle.std.specs.Prelude.{◌≡◌};
 ghost use Rattle.bd_keys.specs.Keys.{spread};
 
-/// A key: the process that a value belongs to, and the word that names it there (a pointer, a cookie or a pid).
+/// A key: a word (a pointer, a cookie or a pid) and the process in which it was chosen, 0 where a table holds the words of
+/// one process, or of none.
 #[derive(Clone, Copy, PartialEq, Eq)]
 pub struct WordKey {
     pub process: u32,

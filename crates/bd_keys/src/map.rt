@@ -8,7 +8,7 @@ use crate::key::WordKey;
 use crate::treed::TreeMap;
 use std::alloc::{AllocError, Global};
 
-// What was put to a map last.
+// The key that came to a map last, and what it has now.
 #[derive(Clone, Copy)]
 pub(crate) struct Latest<V> {
     pub(crate) key: WordKey,
@@ -39,7 +39,7 @@ impl<V: Copy> WordMap<V> {
     }
 
     /// Makes room for so many more keys. Changes nothing else, also on an `Err`.
-    #[tactic(auto, unfolding(crate::specs::Look::word_room, crate::specs::Treed::map_room, crate::specs::Room::tree_room))]
+    #[tactic(auto, unfolding(crate::specs::Look::word_room))]
     pub fn reserve(&mut self, more: usize) -> Result<(), AllocError>
         ensures kept { (k : WordKey) → look self.new k ≡ look self.old k }
         ensures uses { word_room self.old ≤ word_room self.new }
@@ -48,11 +48,7 @@ impl<V: Copy> WordMap<V> {
         ensures keys { OnOk result ((more ≤ word_room self.old → ⊥) → key_count self.new ≤ 2 * value_count self.old + 1) }
         ensures grown { OnErr result (more ≤ word_room self.old → ⊥) }
     {
-        if more == 0 {
-            return Ok(());
-        }
-        // The latest goes to the tree when another comes.
-        self.others.reserve(more.saturating_add(1))
+        self.others.reserve(more)
     }
 
     // The value that came last, if this is its key.

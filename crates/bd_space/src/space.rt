@@ -24,7 +24,7 @@ pub struct Process {
 pub struct Thread {
     /// The place of its Open or Attach.
     pub made: u32,
-    /// Whose thread it is, a number below that of the driver's seats.
+    /// The number of the seat that has it; where there is a driver, one of the driver's seats.
     pub seat: u32,
     /// The place of its process's Open.
     pub process: u32,
