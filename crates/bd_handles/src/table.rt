@@ -2,14 +2,14 @@
 
 ghost use Rattle.std.specs.Prelude.{◌≡◌, ◌==◌, ◌≤◌, ◌<◌, ◌+◌, ◌-◌, ◌*◌, ◌&&◌, ◌++◌, ◌∷◌, not, filter, vec_len, List, [], None, OnOk, OnErr};
 ghost use Rattle.std.specs.HashMap.{hash_map_len};
-ghost use Rattle.bd_keys.specs.Tables.{Makes};
+ghost use Rattle.bd_keys.specs.Tables as tables;
 ghost use Rattle.bd_groups.specs.Members.{group_room, member_count};
 ghost use Rattle.bd_space.specs.declared.space.Name as declared;
 ghost use Rattle.bd_space.specs.Words as words;
 ghost use Rattle.bd_space.specs.Names as names_of;
 ghost use Rattle.bd_space.specs.Notices as notices;
 ghost use Rattle.bd_handles.specs.Numbers.{new_number, with_number, IsFull, IsNextNumber};
-ghost use Rattle.bd_handles.specs.Stands.{NamesSince, NamesAre, name_room, Uses};
+ghost use Rattle.bd_handles.specs.Stands.{NamesSince, NamesAre, Tells, Knows, Makes, name_room, Uses};
 
 use crate::held::reserve_held;
 use crate::names::Names;
@@ -42,7 +42,7 @@ impl NameTable {
     /// Makes room for so many more names. Changes nothing else.
     #[tactic(auto, unfolding(crate::specs::Stands::name_room))]
     pub fn reserve(&mut self, more: usize) -> Result<(), AllocError>
-        ensures stands { (base l : List declared.Name) → NamesSince self.old base l → NamesSince self.new base l }
+        ensures stands { Makes self.old self.new (λ l. l) }
         ensures uses { Uses self.old self.new 0 }
         ensures room { OnOk result (more ≤ name_room self.new) }
         // Where there was no room among the numbers of processes, few are of names that are gone.
@@ -62,7 +62,7 @@ impl NameTable {
 
     /// The object that the number names for the process.
     pub fn named(&self, p: u32, n: u32) -> Option<ObjectId>
-        ensures { (base l : List declared.Name) → NamesSince self.now base l → result ≡ names_of.named_in l p n }
+        ensures { Tells self.now result (λ l. names_of.named_in l p n) }
     {
         self.names.named(p, n)
     }
@@ -70,7 +70,7 @@ impl NameTable {
     /// The least number from this one on that names something for the process. Where this one itself names nothing, it takes a look
     /// for each number that is noted for the process, those of names that are gone too.
     pub fn next_number(&self, p: u32, from: u32) -> Option<u32>
-        ensures { (base l : List declared.Name) → NamesSince self.now base l → IsNextNumber l p from result }
+        ensures { Knows self.now (λ l. IsNextNumber l p from result) }
     {
         if self.names.named(p, from).is_some() {
             return Some(from);
@@ -81,14 +81,14 @@ impl NameTable {
 
     /// The number by which the process names the object, if it does.
     pub fn number_of(&self, p: u32, o: ObjectId) -> Option<u32>
-        ensures { (base l : List declared.Name) → NamesSince self.now base l → result ≡ names_of.number_in l p o }
+        ensures { Tells self.now result (λ l. names_of.number_in l p o) }
     {
         self.names.number_of(p, o)
     }
 
     /// Whether the process has a name for the object.
     pub fn has(&self, p: u32, o: ObjectId) -> bool
-        ensures { (base l : List declared.Name) → NamesSince self.now base l → result ≡ notices.is_name_of l p o }
+        ensures { Tells self.now result (λ l. notices.is_name_of l p o) }
     {
         self.names.number_of(p, o).is_some()
     }
@@ -98,11 +98,9 @@ impl NameTable {
     #[tactic(auto, unfolding(crate::specs::Stands::name_room))]
     pub fn give(&mut self, from_zero: bool, p: u32, o: ObjectId) -> Result<(), NumbersFull>
         requires { 1 ≤ name_room self.old }
-        ensures ok { OnOk result
-            ((base l : List declared.Name) → NamesSince self.old base l → NamesSince self.new base (with_number from_zero p l o)) }
-        ensures err { OnErr result
-            ((base l : List declared.Name) → NamesSince self.old base l → NamesSince self.new base l) }
-        ensures full { OnErr result ((base l : List declared.Name) → NamesSince self.old base l → IsFull from_zero p l o) }
+        ensures ok { OnOk result (Makes self.old self.new (λ l. with_number from_zero p l o)) }
+        ensures err { OnErr result (Makes self.old self.new (λ l. l)) }
+        ensures full { OnErr result (Knows self.old (λ l. IsFull from_zero p l o)) }
         ensures uses { Uses self.old self.new 1 }
     {
         match self.names.number_of(p, o) {
@@ -117,10 +115,8 @@ impl NameTable {
         requires { 1 ≤ name_room self.old }
         ensures ok { OnOk result ((base l : List declared.Name) → NamesSince self.old base l → names_of.number_in l p o ≡ None
             → NamesSince self.new base (with_number from_zero p l o)) }
-        ensures err { OnErr result
-            ((base l : List declared.Name) → NamesSince self.old base l → NamesSince self.new base l) }
-        ensures full { OnErr result ((base l : List declared.Name) → NamesSince self.old base l
-            → 4294967294 < new_number from_zero p l) }
+        ensures err { OnErr result (Makes self.old self.new (λ l. l)) }
+        ensures full { OnErr result (Knows self.old (λ l. 4294967294 < new_number from_zero p l)) }
         ensures uses { Uses self.old self.new 1 }
     {
         match self.names.free_number(from_zero, p) {
@@ -153,41 +149,27 @@ impl NameTable {
     /// Settles the table: the names given so far stay, and can't be taken back any more.
     #[tactic(auto, unfolding(crate::specs::Stands::name_room))]
     pub fn settle(&mut self)
-        ensures stands { (base l : List declared.Name) → NamesSince self.old base l → NamesAre self.new l }
+        ensures stands { (base : List declared.Name) → tables.Makes (NamesSince self.old base) (NamesAre self.new) (λ l. l) }
         ensures uses { Uses self.old self.new 0 }
     {
         self.given.clear();
     }
 
-    // Takes back the name that was given last.
-    #[tactic(auto, unfolding(crate::specs::Stands::name_room))]
-    fn roll_back_last(&mut self)
-        ensures stands { (base l : List declared.Name) → NamesSince self.old base l
-            → NamesSince self.new base (base ++ self.new.given.items) }
-        ensures fewer { vec_len self.new.given ≡ vec_len self.old.given - 1 }
-        ensures uses { Uses self.old self.new 0 }
-    {
-        match self.given.pop() {
-            Some(m) => self.names.remove_object(m.process, m.object),
-            None => {}
-        }
-    }
-
     /// Takes back all names that were given since the table was settled.
     #[tactic(auto, unfolding(crate::specs::Stands::name_room))]
     pub fn roll_back(&mut self)
-        ensures stands { (base l : List declared.Name) → NamesSince self.old base l → NamesAre self.new base }
+        ensures stands { (base : List declared.Name) → tables.Makes (NamesSince self.old base) (NamesAre self.new) (λ l. base) }
         ensures uses { Uses self.old self.new 0 }
     {
-        for _ in 0..self.given.len() {
-            self.roll_back_last();
+        while let Some(m) = self.given.pop() {
+            self.names.remove_object(m.process, m.object);
         }
     }
 
     /// Takes out the process's name of the object, if it has one.
     #[tactic(auto, unfolding(crate::specs::Stands::name_room))]
     pub fn remove(&mut self, p: u32, o: ObjectId)
-        ensures stands { Makes (NamesAre self.old) (NamesAre self.new)
+        ensures stands { tables.Makes (NamesAre self.old) (NamesAre self.new)
             (λ l. filter (λ m. not ((m.process == p) && words.same m.object o)) l) }
         ensures uses { Uses self.old self.new 0 }
     {
@@ -197,7 +179,7 @@ impl NameTable {
     /// Takes out all names of a process, when it ends.
     #[tactic(auto, unfolding(crate::specs::Stands::name_room))]
     pub fn remove_process(&mut self, p: u32)
-        ensures stands { Makes (NamesAre self.old) (NamesAre self.new) (λ l. filter (λ m. not (m.process == p)) l) }
+        ensures stands { tables.Makes (NamesAre self.old) (NamesAre self.new) (λ l. filter (λ m. not (m.process == p)) l) }
         ensures uses { Uses self.old self.new 0 }
     {
         let group = Group::Process { made: p };

@@ -88,7 +88,7 @@ impl Words {
             number: w,
         }) {
             Some(word) => *word = x,
-            None => {}
+            None => unreachable!(),
         }
     }
 

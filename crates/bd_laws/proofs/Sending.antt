@@ -2,7 +2,7 @@
 -- call at its target.
 use Rattle.bd_laws.proofs.words.Logic.{arith, ◌≡◌, ℕ, Bool, true, false, List, [], ◌∷◌, ◌++◌, Some, None, inl, inr, refl, ap, sym, subst, ◌∙◌, find, append-nil, list_any, cons_option}
 use Rattle.bd_laws.proofs.words.Types.{TransactionData, ObjectId, Frame, Buffer, Turn, Actor, Work, OfThread}
-use Rattle.bd_laws.proofs.words.Space.{same, Space, assign_numbers, goes_to, is_gone, owe, is_call, turn_of, turns_of, is_abandoned, Delivery, delivered, own_notices, add_buffer, known_by, refer, make_objects, buffer_of, transacted, called, call_out, completed, ObjectTest, follow_of, ripen_of, no_name, objects_of_items, is_spam}
+use Rattle.bd_laws.proofs.words.Space.{same, Space, assign_numbers, goes_to, is_gone, owe, is_call, turn_of, turns_of, is_abandoned, Delivery, delivered, own_notices, add_buffer, with_carried, refer, make_objects, buffer_of, transacted, called, call_out, completed, ObjectTest, follow_of, ripen_of, no_name, objects_of_items, is_spam}
 use Rattle.bd_space.specs.declared.space.WorkKind.TheVariants as work
 use Rattle.bd_laws.proofs.words.Laws.{In, KeptBefore, Elsewhere, IsSettled, NoneRipe}
 use Rattle.bd_laws.proofs.Lists.{all_push}
@@ -47,7 +47,7 @@ module _ (s : Space) (a : Actor) (d : TransactionData) (v : Delivery) (h : IsCal
   z = delivered s a d v
 
   abbrev pub new_buffer : Buffer
-  new_buffer = buffer_of (known_by s v) a d v
+  new_buffer = buffer_of (with_carried s v) a d v
 
   turn_one_way : (o : ObjectId) → v.one_way ≡ true → v.target ≡ Some o
       → (t : Turn) × (turn_of new_buffer ≡ Some t) × (same t.target o ≡ true)
@@ -74,11 +74,11 @@ module _ (s : Space) (a : Actor) (d : TransactionData) (v : Delivery) (h : IsCal
     y_unripe = still_unripe_if s.todo y.todo s y_calls (turns_of s.buffers) [] h.unripe
 
     pub y_frames : y.frames ≡ s.frames
-    unfolding y owe z delivered own_notices add_buffer known_by assign_numbers refer make_objects
+    unfolding y owe z delivered own_notices add_buffer with_carried assign_numbers refer make_objects
     y_frames = refl
 
-    y_buffers : y.buffers ≡ s.buffers ++ buffer_of (known_by s v) a d v ∷ []
-    unfolding y owe z delivered own_notices add_buffer known_by assign_numbers refer make_objects
+    y_buffers : y.buffers ≡ s.buffers ++ buffer_of (with_carried s v) a d v ∷ []
+    unfolding y owe z delivered own_notices add_buffer with_carried assign_numbers refer make_objects
     y_buffers = search arith
 
     pub turns_are : turns_of y.buffers ≡ turns_of s.buffers ++ cons_option (turn_of new_buffer) []

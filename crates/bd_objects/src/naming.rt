@@ -9,7 +9,8 @@ ghost use Rattle.bd_space.specs.Names as names_of;
 ghost use Rattle.bd_space.specs.{Parcels.{object_of_item}, declared.space.Name.{Name}, declared.space.Object.{Object}};
 ghost use Rattle.bd_space.specs.{declared.space.Reference.{Reference}, declared.step.ObjectId.{ObjectId}};
 ghost use Rattle.bd_nodes.specs.Stands.{NodesAre};
-ghost use Rattle.bd_handles.specs.{Stands.{NamesSince, NamesAre, name_room, Uses}, Numbers.{IsFull}};
+ghost use Rattle.bd_handles.specs.Stands as handles;
+ghost use Rattle.bd_handles.specs.{Stands.{NamesAre, name_room, Uses}, Numbers.{IsFull}};
 ghost use Rattle.bd_objects.specs.{Naming.{with_name_unless, with_other_name, AreReferred}, Numbers.{IsPastLimit}};
 
 use bd_handles::{NameTable, NumbersFull};
@@ -34,12 +35,10 @@ pub(crate) fn give_name(
     o: ObjectId,
 ) -> Result<(), NumbersFull>
     requires { 1 ≤ name_room names.old }
-    ensures ok { OnOk result ((base l : List Name) → NamesSince names.old base l
-        → NamesSince names.new base (with_name_unless own manager p l o)) }
-    ensures err { OnErr result ((base l : List Name) → NamesSince names.old base l → NamesSince names.new base l) }
+    ensures ok { OnOk result (handles.Makes names.old names.new (λ l. with_name_unless own manager p l o)) }
+    ensures err { OnErr result (handles.Makes names.old names.new (λ l. l)) }
     ensures other { OnErr result (own ≡ false) }
-    ensures full { OnErr result ((base l : List Name) → NamesSince names.old base l
-        → IsFull (names_of.is_managers manager o) p l o) }
+    ensures full { OnErr result (handles.Knows names.old (λ l. IsFull (names_of.is_managers manager o) p l o)) }
     ensures uses { Uses names.old names.new 1 }
 {
     if own {

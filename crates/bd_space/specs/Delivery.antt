@@ -75,12 +75,12 @@ own_notices s seat items = record s { todo = fold (add_notice s seat) (fold (wit
 -- ---- the whole delivery
 
 -- the objects, the references and the names come first
-unfoldable pub known_by : Space → Delivery → Space
-known_by s v =
+unfoldable pub with_carried : Space → Delivery → Space
+with_carried s v =
     assign_numbers (refer (make_objects s v.sending.made) v.receiver.made v.sending.items v.target) v.receiver.made (map object_of_item v.sending.items)
 
 -- and then the buffer with the translated data, and the notices
 unfoldable pub delivered : Space → Actor → TransactionData → Delivery → Space
 delivered s a d v =
-    let z = known_by s v in
+    let z = with_carried s v in
     own_notices (add_buffer z (buffer_of z a d v)) a.thread.seat v.sending.items

@@ -60,8 +60,8 @@ cause_of_walk (WalkFault.Bad index) = Cause.BadObject
 cause_of_walk (WalkFault.Unsupported index) = Cause.UnsupportedObject
 
 -- the parcel has the sizes that its record says
-abbrev pub is_cut : TransactionData → Parcel → Bool
-is_cut d q = (length q.bytes == d.data_size) && (length q.offsets == d.offsets_size)
+abbrev pub has_sizes : TransactionData → Parcel → Bool
+has_sizes d q = (length q.bytes == d.data_size) && (length q.offsets == d.offsets_size)
 
 abbrev pub resolve_walked : Space → ℕ → Parcel → Option WalkFault → Result Sending Cause
 resolve_walked s p q (Some fault) = Err (cause_of_walk fault)
@@ -71,7 +71,7 @@ resolve_walked s p q None = resolve_all s p q.bytes q.offsets [] [] (offsets_in 
 unfoldable pub sending_of : Space → ℕ → TransactionData → Option Parcel → Result Sending Cause
 sending_of s p d None = Err Cause.OutsideArea
 sending_of s p d (Some q) =
-    if not (is_cut d q) then Err Cause.OutsideArea
+    if not (has_sizes d q) then Err Cause.OutsideArea
     else (if not (length q.offsets % 8 == 0) then Err Cause.OffsetsSize
     else resolve_walked s p q (fault_in q.bytes (offsets_in q.offsets)))
 

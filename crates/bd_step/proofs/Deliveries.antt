@@ -21,7 +21,7 @@ use Rattle.bd_space.specs.Names.{assign_numbers, names_go, has_number_past_limit
 use Rattle.bd_uapi.specs.Kinds.{is_own, is_strong_kind}
 use Rattle.bd_space.specs.Parcels.{object_of_item, translated, translation}
 use Rattle.bd_space.specs.Todo.{is_notice}
-use Rattle.bd_space.specs.Delivery.{Delivery, make_objects, refer, known_by, withdraw_notice, buffer_of, add_buffer, own_notices}
+use Rattle.bd_space.specs.Delivery.{Delivery, make_objects, refer, with_carried, withdraw_notice, buffer_of, add_buffer, own_notices}
 use Rattle.bd_objects.specs.declared.table.ObjectTable.{ObjectTable}
 use Rattle.bd_objects.specs.Stands as objects
 use Rattle.bd_step.specs.declared.tables.Tables.{Tables}
@@ -64,15 +64,15 @@ abbrev delivered : Space → ℕ → List Object → List Item → Option Object
 delivered s q made items target = assign_numbers (refer (make_objects s made) q items target) q (map object_of_item items)
 
 known_is : (s : Space) (v : Delivery) (q : ℕ) (made : List Object) (items : List Item) (target : Option ObjectId)
-    → q ≡ v.receiver.made → made ≡ v.sending.made → items ≡ v.sending.items → target ≡ v.target → delivered s q made items target ≡ known_by s v
-unfolding known_by
+    → q ≡ v.receiver.made → made ≡ v.sending.made → items ≡ v.sending.items → target ≡ v.target → delivered s q made items target ≡ with_carried s v
+unfolding with_carried
 known_is s v q made items target a b c e =
     ap (λ (x : ℕ). delivered s x made items target) a ∙ ap (λ (x : List Object). delivered s v.receiver.made x items target) b
     ∙ ap (λ (x : List Item). delivered s v.receiver.made v.sending.made x target) c ∙ ap (delivered s v.receiver.made v.sending.made v.sending.items) e
 
 pub known_stands : (t : Tables) (os : ObjectTable) (s : Space) (v : Delivery) (q : ℕ) (made : List Object) (items : List Item) (target : Option ObjectId)
     → q ≡ v.receiver.made → made ≡ v.sending.made → items ≡ v.sending.items → target ≡ v.target
-    → Before t s → objects.StandsFor os (delivered s q made items target) → Before (record t { objects = os }) (known_by s v)
+    → Before t s → objects.StandsFor os (delivered s q made items target) → Before (record t { objects = os }) (with_carried s v)
 unfolding assign_numbers refer make_objects
 known_stands t os s v q made items target a b c e h k =
     let P : Space → Type 0 = λ z. Before (record t { objects = os }) z in
@@ -80,7 +80,7 @@ known_stands t os s v q made items target a b c e h k =
 
 pub known_full : (s : Space) (v : Delivery) (q : ℕ) (made : List Object) (items : List Item) (target : Option ObjectId)
     → q ≡ v.receiver.made → made ≡ v.sending.made → items ≡ v.sending.items → target ≡ v.target
-    → has_number_past_limit (names_go (delivered s q made items target)).names ≡ true → has_number_past_limit (names_go (known_by s v)).names ≡ true
+    → has_number_past_limit (names_go (delivered s q made items target)).names ≡ true → has_number_past_limit (names_go (with_carried s v)).names ≡ true
 known_full s v q made items target a b c e full =
     ap (λ (z : Space). has_number_past_limit (names_go z).names) (sym (known_is s v q made items target a b c e)) ∙ full
 

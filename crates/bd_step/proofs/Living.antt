@@ -32,7 +32,7 @@ use Rattle.bd_space.specs.Turns.{ripen}
 use Rattle.bd_space.specs.Notices.{follow, notify, work_goes, deaths_go}
 use Rattle.bd_space.specs.Names.{names_go, assign_numbers}
 use Rattle.bd_space.specs.References.{objects_go}
-use Rattle.bd_space.specs.Delivery.{Delivery, delivered, own_notices, add_buffer, known_by, refer, make_objects}
+use Rattle.bd_space.specs.Delivery.{Delivery, delivered, own_notices, add_buffer, with_carried, refer, make_objects}
 use Rattle.bd_space.specs.Transactions.{transaction_step, transaction_outcome, transaction_check, transacted, refusal}
 use Rattle.bd_space.specs.Replies.{reply_step, reply_to, reply_outcome, reply_check, replied, reply_refused}
 use Rattle.bd_space.specs.Freeing.{is_made_at}
@@ -87,7 +87,7 @@ settled_live s z u = same_live s.buffers _ (settled_buffers z ∙ u.buffers)
 -- ---- transactions and replies
 
 delivered_live : (s : Space) (a : Actor) (d : TransactionData) (v : Delivery) → AllLive s.buffers (delivered s a d v).buffers
-unfolding delivered own_notices add_buffer known_by assign_numbers refer make_objects
+unfolding delivered own_notices add_buffer with_carried assign_numbers refer make_objects
 delivered_live s a d v c l = (c, in_left c s.buffers _ l, refl)
 
 transacted_live : (s : Space) (a : Actor) (d : TransactionData) (v : Delivery) → AllLive s.buffers (transacted s a d v).buffers

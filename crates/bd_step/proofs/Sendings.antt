@@ -19,7 +19,7 @@ use Rattle.bd_space.specs.declared.space.Resolved.{Resolved}
 use Rattle.bd_space.specs.Words.{and_then}
 use Rattle.bd_space.specs.Space.{Space}
 use Rattle.bd_space.specs.declared.step.Parcel.{Parcel}
-use Rattle.bd_space.specs.Parcels.{Sending, resolve, resolve_all, resolve_walked, sending_of, is_cut}
+use Rattle.bd_space.specs.Parcels.{Sending, resolve, resolve_all, resolve_walked, sending_of, has_sizes}
 use Rattle.bd_uapi.specs.declared.command.TransactionData.{TransactionData}
 use Rattle.bd_parcel.specs.Parcels.{offsets_in, fault_in}
 use Rattle.std.proofs.lemmas.Bool.{eq-eqb}
@@ -73,12 +73,12 @@ option_short (Some x) = omega arith
 pub length_option : {X : Type 0} (xs ys : List X) (o : Option X) (k : ℕ) → ys ≡ xs ++ option_to_list o → length xs ≤ k → length ys ≤ k + 1
 length_option xs ys o k e le = omega (arith, ap length e, length-append xs (option_to_list o), option_short o)
 
-pub sent_walked : (s : Space) (p : ℕ) (d : TransactionData) (q : Parcel) → true ≡ is_cut d q → length q.offsets % 8 ≡ 0
+pub sent_walked : (s : Space) (p : ℕ) (d : TransactionData) (q : Parcel) → true ≡ has_sizes d q → length q.offsets % 8 ≡ 0
     → sending_of s p d (Some q) ≡ resolve_walked s p q (fault_in q.bytes (offsets_in q.offsets))
 unfolding sending_of
 sent_walked s p d q cut whole = rw (← cut, eq-eqb _ _ whole) refl
 
-pub sent_if : {E : Type 0} (t : Tables) (p : ℕ) (d : TransactionData) (q : Parcel) (x : Option Parcel) (r : Result (Result Sending Cause) E) → x ≡ Some q → true ≡ is_cut d q → length q.offsets % 8 ≡ 0
+pub sent_if : {E : Type 0} (t : Tables) (p : ℕ) (d : TransactionData) (q : Parcel) (x : Option Parcel) (r : Result (Result Sending Cause) E) → x ≡ Some q → true ≡ has_sizes d q → length q.offsets % 8 ≡ 0
     → IfOk r (λ y. (n : ℕ) (s : Space) → StandsAt n t s → y ≡ resolve_walked s p q (fault_in q.bytes (offsets_in q.offsets)))
     → IfOk r (λ y. (n : ℕ) (s : Space) → StandsAt n t s → y ≡ sending_of s p d x)
 sent_if t p d q x r is cut whole h =

@@ -24,7 +24,7 @@ use Rattle.bd_space.specs.Frames.{closed, served_innermost}
 use Rattle.bd_space.specs.Parcels.{sending_of, translation}
 use Rattle.bd_space.specs.Windows.{buffers_of}
 use Rattle.bd_space.specs.Spam.{floods, is_spam}
-use Rattle.bd_space.specs.Delivery.{Delivery, placed_for, delivered, known_by, own_notices, add_buffer, refer, make_objects}
+use Rattle.bd_space.specs.Delivery.{Delivery, placed_for, delivered, with_carried, own_notices, add_buffer, refer, make_objects}
 use Rattle.bd_space.specs.Outcomes.{accepted, stopped}
 use Rattle.bd_space.specs.Transactions.{is_one_way, handle_of, not_own, target_of, owner_of, callee_of, caller_cause, transaction_check, call_out, called, transacted, refusal, transaction_step, transaction_outcome}
 use Rattle.bd_space.specs.Replies.{caller_of, reply_check, replied, reply_refused, reply_outcome, reply_to, reply_step}
@@ -101,7 +101,7 @@ unfolding call_out owe names_go
 called_names z seat p true = refl
 called_names z seat p false = refl
 
-pub transacted_full : (s : Space) (a : Actor) (d : TransactionData) (v : Delivery) → has_number_past_limit (names_go (known_by s v)).names ≡ true
+pub transacted_full : (s : Space) (a : Actor) (d : TransactionData) (v : Delivery) → has_number_past_limit (names_go (with_carried s v)).names ≡ true
     → has_number_past_limit (names_go (transacted s a d v)).names ≡ true
 unfolding transacted owe delivered own_notices add_buffer names_go
 transacted_full s a d v e =
@@ -110,12 +110,12 @@ transacted_full s a d v e =
 
 -- a delivery leaves the frames as they are
 pub sent_takes : (s : Space) (a : Actor) (d : TransactionData) (v : Delivery) → TakesCalls s → TakesCalls (delivered s a d v)
-unfolding delivered own_notices add_buffer known_by assign_numbers refer make_objects
+unfolding delivered own_notices add_buffer with_carried assign_numbers refer make_objects
 sent_takes s a d v k = record { stacked = k.stacked; before = k.before }
 
 -- nor does it change a process
 sent_processes : (s : Space) (a : Actor) (d : TransactionData) (v : Delivery) → (delivered s a d v).processes ≡ s.processes
-unfolding delivered own_notices add_buffer known_by assign_numbers refer make_objects
+unfolding delivered own_notices add_buffer with_carried assign_numbers refer make_objects
 sent_processes s a d v = refl
 
 called_within : (t : Tables) (z : Space) (seat p : ℕ) (b spam : Bool) → StandsAt (z.steps + 1) t (called (owe z (OfThread seat) (Complete spam)) seat p b)
@@ -201,9 +201,9 @@ unfolding owe names_go
 told_names z None kind = refl
 told_names z (Some u) kind = refl
 
-pub replied_full : (s : Space) (a : Actor) (d : TransactionData) (f : Frame) (v : Delivery) → has_number_past_limit (names_go (known_by s v)).names ≡ true
+pub replied_full : (s : Space) (a : Actor) (d : TransactionData) (f : Frame) (v : Delivery) → has_number_past_limit (names_go (with_carried s v)).names ≡ true
     → has_number_past_limit (names_go (replied s a d f v)).names ≡ true
-unfolding replied owe closed delivered known_by assign_numbers refer make_objects own_notices add_buffer names_go
+unfolding replied owe closed delivered with_carried assign_numbers refer make_objects own_notices add_buffer names_go
 replied_full s a d f v e =
     ap has_number_past_limit (told_names (owe (delivered (closed s f.made) a d v) (OfThread a.thread.seat) (Complete false)) f.caller (Reply s.steps)) ∙ e
 
@@ -216,13 +216,13 @@ told_at n t z (Some u) kind e h = subst (λ (m : ℕ). StandsAt m t (owe z (OfTh
 
 -- a frame closes before or after a delivery
 closed_first : (s : Space) (a : Actor) (d : TransactionData) (made : ℕ) (v : Delivery) → closed (delivered s a d v) made ≡ delivered (closed s made) a d v
-unfolding closed delivered known_by assign_numbers refer make_objects own_notices add_buffer translation
+unfolding closed delivered with_carried assign_numbers refer make_objects own_notices add_buffer translation
 closed_first s a d made v = refl
 
 pub replied_stands : (t : Tables) (s : Space) (a : Actor) (d : TransactionData) (f : Frame) (v : Delivery)
     → StandsAt ((delivered s a d v).steps + 1) t (tell_caller (owe (closed (delivered s a d v) f.made) (OfThread a.thread.seat) (Complete false)) f (Reply (delivered s a d v).steps))
     → Within t (replied s a d f v)
-unfolding replied owe closed delivered known_by assign_numbers refer make_objects own_notices add_buffer translation
+unfolding replied owe closed delivered with_carried assign_numbers refer make_objects own_notices add_buffer translation
 replied_stands t s a d f v h =
     told_at _ t (owe (closed (delivered s a d v) f.made) (OfThread a.thread.seat) (Complete false)) f.caller (Reply s.steps) refl h
 

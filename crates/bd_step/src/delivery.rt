@@ -299,13 +299,13 @@ impl Tables {
     }
 
     // Takes in the objects, the references and the names.
-    fn known_by(&mut self, v: &Delivery) -> Result<(), NumbersFull>
+    fn deliver_objects(&mut self, v: &Delivery) -> Result<(), NumbersFull>
         requires { object_rooms.HasRoom self.old.objects
             (object_rooms.delivery_room v.now.sending.made v.now.sending.items) }
         ensures ok { OnOk result (MakesWhere (Before self.old) (SendsNew v.now) (Before self.new)
-            (λ s. spec.known_by s v.now)) }
+            (λ s. spec.with_carried s v.now)) }
         ensures err { OnErr result (IsKept self.old self.new) }
-        ensures full { OnErr result (PassesLimit self.old (λ s. names_go (spec.known_by s v.now))) }
+        ensures full { OnErr result (PassesLimit self.old (λ s. names_go (spec.with_carried s v.now))) }
         ensures objects { OnlyObjects self.old self.new (length v.now.sending.made) }
         ensures told { KeepsTold self.old self.new }
     {
@@ -346,11 +346,11 @@ impl Tables {
         requires ready { IsReady self.old v }
         ensures ok { OnOk result (Delivers self.old self.new v (λ s. spec.delivered s a d.now v)) }
         ensures err { OnErr result (IsKept self.old self.new) }
-        ensures full { OnErr result (PassesLimit self.old (λ s. names_go (spec.known_by s v))) }
+        ensures full { OnErr result (PassesLimit self.old (λ s. names_go (spec.with_carried s v))) }
         ensures spends { OnOk result (Spends self.old self.new (length v.sending.made) 0 1 (length v.sending.items)) }
         ensures told { KeepsTold self.old self.new }
     {
-        match self.known_by(&v) {
+        match self.deliver_objects(&v) {
             Err(full) => Err(full),
             Ok(()) => {
                 self.fill(a, d, v);

@@ -126,7 +126,7 @@ impl Tables {
             return Err(StepError::NoMemory);
         };
         self.with_process(pid, euid, size, window);
-        self.with_thread(seat, self.steps);
+        self.add_thread(seat, self.steps);
         Ok(Plain::Opened)
     }
 

@@ -56,8 +56,8 @@ fn cause_of_walk(fault: WalkFault) -> Cause
 }
 
 // Whether the parcel was cut from its area with the sizes that its record says.
-fn is_cut(d: &TransactionData, q: &Parcel) -> bool
-    ensures { result ≡ parcels.is_cut d.now q.now }
+fn has_sizes(d: &TransactionData, q: &Parcel) -> bool
+    ensures { result ≡ parcels.has_sizes d.now q.now }
 {
     q.bytes.len() as u64 == d.data_size && q.offsets.len() as u64 == d.offsets_size
 }
@@ -166,7 +166,7 @@ impl Tables {
         let Some(q) = parcel else {
             return Ok(Err(Cause::OutsideArea));
         };
-        if !is_cut(d, q) {
+        if !has_sizes(d, q) {
             return Ok(Err(Cause::OutsideArea));
         }
         if q.offsets.len() % 8 != 0 {

@@ -95,7 +95,7 @@ impl Tables {
     }
 
     // A thread comes in, for a seat that has none.
-    pub(crate) fn with_thread(&mut self, seat: u32, process: u32)
+    pub(crate) fn add_thread(&mut self, seat: u32, process: u32)
         requires { 1 ≤ thread_room self.old.calls }
         ensures stands { (n : ℕ) → MakesWhere (StandsAt n self.old) (λ s. seats.thread_in s.threads seat ≡ None)
             (StandsAt n self.new) (λ s. steps.with_thread s seat process) }
@@ -118,7 +118,7 @@ impl Tables {
         if self.reserve(NOTHING, 0).is_err() {
             return Err(StepError::NoMemory);
         }
-        self.with_thread(seat, process.made);
+        self.add_thread(seat, process.made);
         Ok(Plain::Opened)
     }
 

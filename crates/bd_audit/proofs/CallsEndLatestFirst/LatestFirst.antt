@@ -1,7 +1,7 @@
 -- CallsEndLatestFirst: a call of a thread that lives on stays open as long as the thread has a later one: so a step ends the latest only.
 use Rattle.bd_laws.proofs.words.Logic.{◌≡◌, ℕ, ◌<◌, ◌≤◌, false, ◌&&◌, List, Some, inl, refl, ap, sym, subst, ◌∙◌, arith, list_any, eqb-true, eq-eqb, le-leb, ◌-◌, ◌==◌, Bool, true, cond, not, inr, find, cases_lt}
 use Rattle.bd_laws.proofs.words.Types.{Entry, Frame, Serving, TransactionData, DeadReply, FailedReply, Step, Work, Thread, Actor, OfThread, WorkKind}
-use Rattle.bd_laws.proofs.words.Space.{Space, opening, calls, is_frame, change, counted, after, is_some_and, closed, is_child_of, is_gone, served_innermost, owe, tell_caller, is_call, list_to_read, ripen, follow, notify, work_goes, deaths_go, names_go, assign_numbers, objects_go, is_abandoned, Delivery, delivered, own_notices, add_buffer, known_by, refer, make_objects, transacted, refusal, replied, reply_refused, read_by, taken, serve}
+use Rattle.bd_laws.proofs.words.Space.{Space, opening, calls, is_frame, change, counted, after, is_some_and, closed, is_child_of, is_gone, served_innermost, owe, tell_caller, is_call, list_to_read, ripen, follow, notify, work_goes, deaths_go, names_go, assign_numbers, objects_go, is_abandoned, Delivery, delivered, own_notices, add_buffer, with_carried, refer, make_objects, transacted, refusal, replied, reply_refused, read_by, taken, serve}
 use Rattle.bd_laws.proofs.words.Laws.{In, Nested, OnPaths, NoChild}
 use Rattle.bd_laws.proofs.Machine.EveryStep.{every_whole_step, KeepsWhole}
 use Rattle.bd_laws.proofs.Lists.{any_in, any_found, all_in, in_filter, filter_in, in_changed, find_in}
@@ -170,7 +170,7 @@ module _ (s : Space) (h : OnPaths s.steps s) where
   -- ---- the step
 
   pub kept : (seat : ℕ) (x : Step) → KeepsWhole s seat x Earlier Earlier
-  unfolding replied reply_refused closed owe delivered own_notices add_buffer known_by assign_numbers refer make_objects ripen follow notify work_goes deaths_go objects_go names_go
+  unfolding replied reply_refused closed owe delivered own_notices add_buffer with_carried assign_numbers refer make_objects ripen follow notify work_goes deaths_go objects_go names_go
   kept seat x = record {
     set_up = set_up_by Leaves Any leaves_table s seat x Earlier left;
     changes = changes_by Leaves Any leaves_table s seat x Earlier left leaves_exits (record {

@@ -1,7 +1,7 @@
 -- For NamesHaveGiftChains: names that come, and what comes later in the step.
 use Rattle.bd_laws.proofs.words.Logic.{fold, arith, filter, ◌≡◌, ℕ, ◌+◌, Bool, false, cond, not, ◌&&◌, List, [], ◌∷◌, ◌++◌, Option, Some, Ok, ◌⊎◌, inl, inr, refl, ap, sym, subst, ◌∙◌, map, is_some}
 use Rattle.bd_laws.proofs.words.Types.{TransactionData, ObjectId, Step, Actor, Frame, Process, Object, Reference, Buffer, Carried, Name, Item, is_strong_kind}
-use Rattle.bd_laws.proofs.words.Space.{Space, actor, reference_of, stays_in, objects_go, is_named_in, number_in, free_number, with_name, assign_numbers, names_go, follow, notify, work_goes, deaths_go, Delivery, delivered, buffer_of, own_notices, add_buffer, known_by, refer, make_objects, buffer_references, object_of_item, ask_check}
+use Rattle.bd_laws.proofs.words.Space.{Space, actor, reference_of, stays_in, objects_go, is_named_in, number_in, free_number, with_name, assign_numbers, names_go, follow, notify, work_goes, deaths_go, Delivery, delivered, buffer_of, own_notices, add_buffer, with_carried, refer, make_objects, buffer_references, object_of_item, ask_check}
 use Rattle.bd_laws.specs.Lists.{In}
 use Rattle.bd_laws.proofs.Lists.{in_right, in_push, in_last, in_filter, filter_in, in_map}
 use Rattle.bd_laws.proofs.Tests.{both, not_true}
@@ -69,7 +69,7 @@ carried_reference b q (x ∷ xs) target k i (inr l) = let r = carried_reference 
 -- what is delivered from the space, or from it after a frame closed
 pub delivered_naming : (s : Space) (frames : List Frame) (seat : ℕ) (x : Step) (a : Actor) (d : TransactionData) (v : Delivery) → actor s seat ≡ Some a
     → Sends (record s { frames = frames }) a.process.made v.sending.made v.sending.items → Naming s seat x (delivered (record s { frames = frames }) a d v)
-unfolding delivered own_notices add_buffer known_by assign_numbers refer make_objects
+unfolding delivered own_notices add_buffer with_carried assign_numbers refer make_objects
 delivered_naming s frames seat x a d v acts sends =
     let y = record s { frames = frames } in
     λ m i. elim (new_names s.manager (s.objects ++ v.sending.made) (s.references ++ buffer_references s.steps v.receiver.made 0 v.sending.items v.target) v.receiver.made
@@ -83,7 +83,7 @@ delivered_naming s frames seat x a d v acts sends =
             acts = acts;
             has = subst (Sent y a.process.made v.sending.made) item.2 (sends.sent item.0 item.1);
             carried = (r.0, in_right r.0 s.references (buffer_references s.steps v.receiver.made 0 v.sending.items v.target) r.1, r.2 ∙ item.2, r.3 ∙ ap (λ q. Carried s.steps q) (sym k.0));
-            buffer = (buffer_of (known_by y v) a d v, in_last (buffer_of (known_by y v) a d v) s.buffers, refl);
+            buffer = (buffer_of (with_carried y v) a d v, in_last (buffer_of (with_carried y v) a d v) s.buffers, refl);
           })))
     ]
 

@@ -1,7 +1,7 @@
 -- For OnlyOwnersHear: a Notice stands where its owner's threads read it, through work items, transactions and replies.
 use Rattle.bd_laws.proofs.words.Logic.{◌≡◌, ℕ, Bool, true, false, cond, List, ◌++◌, Option, Some, None, Ok, inl, inr, refl, ap, sym, subst, ◌∙◌, filter, arith}
 use Rattle.bd_laws.proofs.words.Types.{TransactionData, ObjectId, Parcel, Thread, Object, Frame, Actor, Item, Work, WorkKind, TodoList, OfThread, OfProcess, is_own}
-use Rattle.bd_laws.proofs.words.Space.{same, Space, thread_in, actor, object_in, assign_numbers, goes_to, closed, with_work, owe, notice_of, with_notice, Delivery, delivered, own_notices, add_buffer, known_by, refer, make_objects, buffer_of, add_notice, withdraw_notice, transaction_check, transacted, called, call_out, reply_check, replied, is_spam}
+use Rattle.bd_laws.proofs.words.Space.{same, Space, thread_in, actor, object_in, assign_numbers, goes_to, closed, with_work, owe, notice_of, with_notice, Delivery, delivered, own_notices, add_buffer, with_carried, refer, make_objects, buffer_of, add_notice, withdraw_notice, transaction_check, transacted, called, call_out, reply_check, replied, is_spam}
 use Rattle.bd_space.specs.declared.space.WorkKind.TheVariants as work
 use Rattle.bd_laws.proofs.words.Laws.{In, Pairs, Here, Differ, KeptBefore}
 use Rattle.bd_laws.proofs.Earlier.{in_order_differ}
@@ -87,9 +87,9 @@ own_notices_sits z seat p items reach owned h =
 
 delivered_sits : (s : Space) (a : Actor) (d : TransactionData) (v : Delivery) → KeptBefore s → Live s → Sends s a.process.made v.sending.made v.sending.items
     → Pairs Differ (delivered s a d v).objects → Reaches s.threads (OfThread a.thread.seat) a.process.made → SitsIn s → SitsIn (delivered s a d v)
-unfolding delivered add_buffer known_by assign_numbers refer make_objects own_notices
+unfolding delivered add_buffer with_carried assign_numbers refer make_objects own_notices
 delivered_sits s a d v kept live sends differ reach h =
-    own_notices_sits (add_buffer (known_by s v) (buffer_of (known_by s v) a d v)) a.thread.seat a.process.made v.sending.items reach
+    own_notices_sits (add_buffer (with_carried s v) (buffer_of (with_carried s v) a d v)) a.thread.seat a.process.made v.sending.items reach
     (λ i l own x m is. let w = sends.owned i l own in one_owner (s.objects ++ v.sending.made) differ x w.0 m w.1 (is ∙ sym w.2) ∙ w.3)
     (λ w o x l e i is. elim (in_append x s.objects v.sending.made i) [
       | inl k ↦ h w o x l e k is

@@ -2,7 +2,7 @@
 use Rattle.bd_laws.proofs.words.Logic.{◌≡◌, ℕ, ◌+◌, ◌≤◌, ◌==◌, Bool, true, false, not, ◌&&◌, ◌||◌, List, [], ◌∷◌, Option, Ok, inl, inr, refl, ap, sym, subst, ◌∙◌, filter, arith, eqb-true}
 use Rattle.bd_laws.proofs.words.Types.{TransactionData, ObjectId, Parcel, Step, Process, Actor, Frame, Object, Reference, Asked, Manager, Item, OfThread}
 use mathlib.Core.Bool.{beq}
-use Rattle.bd_laws.proofs.words.Space.{same, with_looping, Space, lives_in, reference_of, held_in, owned_in, objects_go, is_asking, is_shaking, is_of_buffer, is_handshake, names_go, assign_numbers, closed, owe, ripen, follow, notify, work_goes, deaths_go, Delivery, delivered, own_notices, add_buffer, known_by, refer, make_objects, buffer_references, transaction_check, transacted, reply_check, replied, ask, drop_asked, without_buffer, thread_goes, is_lost_reference, threads_go, without_process, is_dropped_with, with_thread, with_process, with_manager, is_spam, with_spam_detection}
+use Rattle.bd_laws.proofs.words.Space.{same, with_looping, Space, lives_in, reference_of, held_in, owned_in, objects_go, is_asking, is_shaking, is_of_buffer, is_handshake, names_go, assign_numbers, closed, owe, ripen, follow, notify, work_goes, deaths_go, Delivery, delivered, own_notices, add_buffer, with_carried, refer, make_objects, buffer_references, transaction_check, transacted, reply_check, replied, ask, drop_asked, without_buffer, thread_goes, is_lost_reference, threads_go, without_process, is_dropped_with, with_thread, with_process, with_manager, is_spam, with_spam_detection}
 use Rattle.bd_space.specs.declared.space.WorkKind.TheVariants as work
 use Rattle.bd_laws.proofs.words.Laws.{In, Pairs, Differ, KeptBefore, Before}
 use Rattle.bd_laws.proofs.Earlier.{in_order_differ}
@@ -116,7 +116,7 @@ module _ (o : ObjectId) (st : Hearing) where
   buffer_unshaken b q (x ∷ xs) target k r l = search (arith, buffer_unshaken b q xs target (k + 1) r)
 
   delivered_told : (s : Space) (a : Actor) (d : TransactionData) (v : Delivery) → KeptBefore s → HeardBefore o st s → Sends s a.process.made v.sending.made v.sending.items → H (delivered s a d v)
-  unfolding delivered own_notices add_buffer known_by assign_numbers refer make_objects
+  unfolding delivered own_notices add_buffer with_carried assign_numbers refer make_objects
   delivered_told s a d v kept h sends x l e live =
       let k = same_more o s.references (buffer_references s.steps v.receiver.made 0 v.sending.items v.target) (buffer_unshaken s.steps v.receiver.made v.sending.items v.target 0) in
       elim (in_append x s.objects v.sending.made l) [

@@ -2,7 +2,7 @@
 -- that made it lives.
 use Rattle.bd_laws.proofs.words.Logic.{◌≡◌, ℕ, zero, suc, ◌<◌, ◌-◌, not, List, [], ◌∷◌, ◌++◌, length, Some, ◌⊎◌, inl, inr, refl, ap, sym, subst, ◌∙◌, arith}
 use Rattle.bd_laws.proofs.words.Types.{TransactionData, Entry, Thread, Frame, Actor}
-use Rattle.bd_laws.proofs.words.Space.{Space, opening, actor, closed, is_frame, owe, list_to_read, ripen, follow, notify, work_goes, deaths_go, names_go, assign_numbers, objects_go, Delivery, delivered, own_notices, add_buffer, known_by, refer, make_objects, transacted, replied, read_by, taken, counted, change, after}
+use Rattle.bd_laws.proofs.words.Space.{Space, opening, actor, closed, is_frame, owe, list_to_read, ripen, follow, notify, work_goes, deaths_go, names_go, assign_numbers, objects_go, Delivery, delivered, own_notices, add_buffer, with_carried, refer, make_objects, transacted, replied, read_by, taken, counted, change, after}
 use Rattle.bd_space.specs.declared.space.WorkKind.TheVariants as work
 use Rattle.bd_laws.specs.Lists.{In}
 use Rattle.bd_laws.proofs.Lists.{in_filter, by_last}
@@ -76,7 +76,7 @@ module _ (es : List Entry) (e : Entry) where
       }
 
   pub comes_kept : KeepsWhole s e.seat e.step Comes Comes
-  unfolding replied closed read_by owe delivered own_notices add_buffer known_by assign_numbers refer make_objects ripen follow notify work_goes deaths_go objects_go names_go
+  unfolding replied closed read_by owe delivered own_notices add_buffer with_carried assign_numbers refer make_objects ripen follow notify work_goes deaths_go objects_go names_go
   comes_kept = whole s e.seat e.step Comes Comes (record {
     set_up = set_up_by Leaves Any leaves_table s e.seat e.step Comes left;
     changes = changes_by Leaves Any leaves_table s e.seat e.step Comes left leaves_exits (record {

@@ -2,7 +2,7 @@
 -- replies.
 use Rattle.bd_laws.proofs.words.Logic.{◌≡◌, ℕ, Bool, true, false, cond, List, [], ◌∷◌, ◌++◌, Option, Some, None, Ok, inl, inr, refl, ap, sym, subst, ◌∙◌, arith}
 use Rattle.bd_laws.proofs.words.Types.{TransactionData, Parcel, Process, Thread, Buffer, Frame, Turn, Work, Actor, TodoList, OfThread, OfProcess, WorkKind}
-use Rattle.bd_laws.proofs.words.Space.{Space, actor, turn_of, turns_of, is_ripe, ripened, ripen, with_work, owe, hands_out, assign_numbers, closed, goes_to, Delivery, delivered, own_notices, add_buffer, known_by, refer, make_objects, buffer_of, transacted, called, call_out, reply_check, replied}
+use Rattle.bd_laws.proofs.words.Space.{Space, actor, turn_of, turns_of, is_ripe, ripened, ripen, with_work, owe, hands_out, assign_numbers, closed, goes_to, Delivery, delivered, own_notices, add_buffer, with_carried, refer, make_objects, buffer_of, transacted, called, call_out, reply_check, replied}
 use Rattle.bd_space.specs.declared.space.WorkKind.TheVariants as work
 use Rattle.bd_todo.specs.TodoList.{reply_of}
 use Rattle.bd_laws.proofs.words.Laws.{In, IsInTurn}
@@ -120,8 +120,8 @@ owed z list kind none h = calm (owe z list kind) z (owe_less z list kind none) (
 abbrev pub sent : Space → Actor → TransactionData → Delivery → Bool → Space
 sent s a d v spam = owe (delivered s a d v) (OfThread a.thread.seat) (work.Complete spam)
 
-sent_buffers : (s : Space) (a : Actor) (d : TransactionData) (v : Delivery) (spam : Bool) → (sent s a d v spam).buffers ≡ s.buffers ++ buffer_of (known_by s v) a d v ∷ []
-unfolding owe delivered own_notices add_buffer known_by assign_numbers refer make_objects
+sent_buffers : (s : Space) (a : Actor) (d : TransactionData) (v : Delivery) (spam : Bool) → (sent s a d v spam).buffers ≡ s.buffers ++ buffer_of (with_carried s v) a d v ∷ []
+unfolding owe delivered own_notices add_buffer with_carried assign_numbers refer make_objects
 sent_buffers s a d v spam = refl
 
 sends : (s : Space) (a : Actor) (d : TransactionData) (v : Delivery) (spam : Bool) → RepliesHeld s → RepliesHeld (sent s a d v spam)
@@ -158,12 +158,12 @@ closes z made h = h
 -- the reply's buffer is the caller's process's, and its thread lives
 fits : (s x : Space) (t : ℕ) (a c : Actor) (d : TransactionData) (v : Delivery) → x.steps ≡ s.steps → x.threads ≡ s.threads → actor s t ≡ Some c
     → v.receiver ≡ c.process → v.one_way ≡ false → HasBuffer (sent x a d v false).threads (sent x a d v false).buffers (OfThread t) s.steps
-unfolding known_by assign_numbers refer make_objects
+unfolding with_carried assign_numbers refer make_objects
 fits s x t a c d v steps threads acts to two_way =
     let k = actor_acts s t c acts in
     record {
-      buffer = buffer_of (known_by x v) a d v;
-      here = subst (In (buffer_of (known_by x v) a d v)) (sym (sent_buffers x a d v false)) (in_last (buffer_of (known_by x v) a d v) x.buffers);
+      buffer = buffer_of (with_carried x v) a d v;
+      here = subst (In (buffer_of (with_carried x v) a d v)) (sym (sent_buffers x a d v false)) (in_last (buffer_of (with_carried x v) a d v) x.buffers);
       made = steps;
       handed = refl;
       two_way = two_way;

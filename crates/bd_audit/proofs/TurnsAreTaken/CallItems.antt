@@ -3,7 +3,7 @@
 -- buffer.
 use Rattle.bd_laws.proofs.words.Logic.{◌≡◌, ℕ, ◌-◌, ◌<◌, Bool, true, false, not, List, [], ◌∷◌, Option, Some, None, Ok, ◌⊎◌, inl, inr, refl, ap, sym, ◌∙◌, filter, arith, list_any, eqb-true}
 use Rattle.bd_laws.proofs.words.Types.{TransactionData, ObjectId, Parcel, Command, Read, Entry, Actor, Frame, Buffer, Work, TodoList, OfThread, WorkKind}
-use Rattle.bd_laws.proofs.words.Space.{Space, actor, owe, with_work, is_call, hands_out, list_to_read, is_item, closed, goes_to, follow, assign_numbers, Delivery, delivered, own_notices, add_buffer, known_by, refer, make_objects, buffer_of, transaction_check, transacted, called, call_out, is_one_way, reply_check, replied, is_made_at, taken, read_by, buffer_taken, hand_out, handed_buffers, read_fault, change, is_spam, ask, drop_asked, acknowledge, with_looping, without_process, threads_go}
+use Rattle.bd_laws.proofs.words.Space.{Space, actor, owe, with_work, is_call, hands_out, list_to_read, is_item, closed, goes_to, follow, assign_numbers, Delivery, delivered, own_notices, add_buffer, with_carried, refer, make_objects, buffer_of, transaction_check, transacted, called, call_out, is_one_way, reply_check, replied, is_made_at, taken, read_by, buffer_taken, hand_out, handed_buffers, read_fault, change, is_spam, ask, drop_asked, acknowledge, with_looping, without_process, threads_go}
 use Rattle.bd_uapi.specs.declared.command.Command.TheVariants as bc
 use Rattle.bd_space.specs.declared.space.WorkKind.TheVariants as work
 use Rattle.bd_laws.proofs.words.Laws.{In, IsInTurn}
@@ -30,16 +30,16 @@ module _ (s : Space) (e : Entry) (m : ℕ) where
 
   delivers : (y : Space) (a : Actor) (d : TransactionData) (v : Delivery) → ((o : ObjectId) → v.one_way ≡ true → v.target ≡ Some o → CallsOneWay s e o) → Treats s e m y
       → Treats s e m (delivered y a d v)
-  unfolding delivered own_notices add_buffer known_by assign_numbers refer make_objects
+  unfolding delivered own_notices add_buffer with_carried assign_numbers refer make_objects
   delivers y a d v calls h = record {
     once = λ fits.
-        (once_less s e m) y.buffers _ _ y.todo (λ w i. own_notices_less (add_buffer (known_by y v) (buffer_of (known_by y v) a d v)) a.thread.seat v.sending.items w m i.0 i.1)
-        (λ w i u. in_left u.buffer y.buffers (buffer_of (known_by y v) a d v ∷ []) u.here) (h.once fits);
-    handed = λ c i made handed. elim (in_push c (buffer_of (known_by y v) a d v) y.buffers i) [
+        (once_less s e m) y.buffers _ _ y.todo (λ w i. own_notices_less (add_buffer (with_carried y v) (buffer_of (with_carried y v) a d v)) a.thread.seat v.sending.items w m i.0 i.1)
+        (λ w i u. in_left u.buffer y.buffers (buffer_of (with_carried y v) a d v ∷ []) u.here) (h.once fits);
+    handed = λ c i made handed. elim (in_push c (buffer_of (with_carried y v) a d v) y.buffers i) [
       | inl k ↦ h.handed c k made handed
       | inr is ↦ (let no : false ≡ c.handed = ap (λ (x : Buffer). x.handed) is in absurd (cc))
     ];
-    made = λ o c i at on. elim (in_push c (buffer_of (known_by y v) a d v) y.buffers i) [
+    made = λ o c i at on. elim (in_push c (buffer_of (with_carried y v) a d v) y.buffers i) [
       | inl k ↦ h.made o c k at on
       | inr is ↦ calls o (ap (λ (x : Buffer). x.one_way) is ∙ on.0) (ap (λ (x : Buffer). x.target) is ∙ on.1)
     ];

@@ -2,7 +2,7 @@
 -- buffer out, and an accepted one-way transaction makes one.
 use Rattle.bd_laws.proofs.words.Logic.{◌≡◌, ℕ, ◌-◌, Bool, true, false, cond, ◌||◌, List, [], ◌∷◌, length, Option, Some, None, Result, Ok, refl, ap, sym, subst, ◌∙◌, map, nat_lt, list_any, arith, eqb-true, eq-eqb}
 use Rattle.bd_laws.proofs.words.Types.{TransactionData, DeadReply, Cause, ObjectId, Parcel, Step, Command, Read, Accepted, Entry, Actor, Buffer, Work, OfThread, WorkKind}
-use Rattle.bd_laws.proofs.words.Space.{first_of, Space, actor, owe, is_call, hands_out, list_to_read, closed, ripen, follow, assign_numbers, Delivery, delivered, own_notices, add_buffer, known_by, refer, make_objects, buffer_of, transaction_step, transaction_check, transacted, target_of, handle_of, command_step, completed, taken, ends_read, read_by, buffer_taken, handed_buffers, bytes_read, buffer_in, read_fault, read_step, read_taking, change, is_spam, is_made_at}
+use Rattle.bd_laws.proofs.words.Space.{first_of, Space, actor, owe, is_call, hands_out, list_to_read, closed, ripen, follow, assign_numbers, Delivery, delivered, own_notices, add_buffer, with_carried, refer, make_objects, buffer_of, transaction_step, transaction_check, transacted, target_of, handle_of, command_step, completed, taken, ends_read, read_by, buffer_taken, handed_buffers, bytes_read, buffer_in, read_fault, read_step, read_taking, change, is_spam, is_made_at}
 use Rattle.bd_uapi.specs.declared.command.Command.TheVariants as bc
 use Rattle.bd_space.specs.declared.space.WorkKind.TheVariants as work
 use Rattle.bd_laws.proofs.words.Laws.{In, On}
@@ -122,9 +122,9 @@ abbrev pub MakesCall : Space → ObjectId → List Buffer → Type 0
 MakesCall s o bs = (c : Buffer) × In c bs × (c.made ≡ s.steps) × On o c
 
 delivered_makes : (s : Space) (a : Actor) (d : TransactionData) (v : Delivery) (o : ObjectId) → v.one_way ≡ true → v.target ≡ Some o → MakesCall s o (delivered s a d v).buffers
-unfolding delivered own_notices add_buffer known_by assign_numbers refer make_objects
+unfolding delivered own_notices add_buffer with_carried assign_numbers refer make_objects
 delivered_makes s a d v o one_way target =
-    (buffer_of (known_by s v) a d v, in_last (buffer_of (known_by s v) a d v) s.buffers, refl, (one_way, target))
+    (buffer_of (with_carried s v) a d v, in_last (buffer_of (with_carried s v) a d v) s.buffers, refl, (one_way, target))
 
 transacted_buffers : (s : Space) (a : Actor) (d : TransactionData) (v : Delivery) → (transacted s a d v).buffers ≡ (delivered s a d v).buffers
 unfolding transacted

@@ -2,7 +2,7 @@
 -- over is its process's.
 use Rattle.bd_laws.proofs.words.Logic.{◌≡◌, ℕ, suc, ◌+◌, ◌≤◌, ◌==◌, Bool, true, false, List, [], ◌∷◌, Option, Some, None, Ok, ◌⊎◌, inl, inr, refl, ap, sym, subst, ◌∙◌, arith, option_and_then, eqb-true}
 use Rattle.bd_laws.proofs.words.Types.{TransactionData, ObjectId, Parcel, Process, Thread, Reference, Buffer, Carried, Item, Frame, Actor, Work, TodoList, OfThread, WorkKind}
-use Rattle.bd_laws.proofs.words.Space.{is_some_and, Space, actor, thread_in, assign_numbers, closed, goes_to, with_work, owe, hands_out, ripen, Delivery, delivered, own_notices, add_buffer, known_by, refer, make_objects, buffer_references, transacted, called, call_out, caller_of, reply_check, replied, is_spam}
+use Rattle.bd_laws.proofs.words.Space.{is_some_and, Space, actor, thread_in, assign_numbers, closed, goes_to, with_work, owe, hands_out, ripen, Delivery, delivered, own_notices, add_buffer, with_carried, refer, make_objects, buffer_references, transacted, called, call_out, caller_of, reply_check, replied, is_spam}
 use Rattle.bd_space.specs.declared.space.WorkKind.TheVariants as work
 use Rattle.bd_laws.proofs.words.Laws.{In, Pairs, IsInTurn, OtherSeat, Homed, AtHome}
 use Rattle.bd_laws.proofs.Lists.{in_append, in_push, find_in, pairs_either, all_push}
@@ -59,20 +59,20 @@ module _ (s x : Space) (a : Actor) (d : TransactionData) (v : Delivery) (steps :
   sent_due w m l e = subst (In w) todo (one_way.sent_due x a d v spam w m l e)
 
   pub sent_steps : sent.steps ≡ s.steps
-  unfolding delivered own_notices add_buffer known_by assign_numbers refer make_objects owe
+  unfolding delivered own_notices add_buffer with_carried assign_numbers refer make_objects owe
   sent_steps = steps
 
   pub sent_threads : sent.threads ≡ s.threads
-  unfolding delivered own_notices add_buffer known_by assign_numbers refer make_objects owe
+  unfolding delivered own_notices add_buffer with_carried assign_numbers refer make_objects owe
   sent_threads = threads
 
   sent_references : (r : Reference) → In r sent.references → In r s.references ⊎ In r (buffer_references s.steps v.receiver.made 0 v.sending.items v.target)
-  unfolding delivered own_notices add_buffer known_by assign_numbers refer make_objects owe
+  unfolding delivered own_notices add_buffer with_carried assign_numbers refer make_objects owe
   sent_references r l = search (arith, in_append)
 
   -- the step's own buffer, or an older one
   sent_buffers : (c : Buffer) → In c sent.buffers → In c s.buffers ⊎ ((c.made ≡ s.steps) × (c.receiver ≡ v.receiver.made))
-  unfolding delivered own_notices add_buffer known_by assign_numbers refer make_objects owe
+  unfolding delivered own_notices add_buffer with_carried assign_numbers refer make_objects owe
   sent_buffers c l = elim (in_push c _ x.buffers l) [
     | inl i ↦ inl (subst (In c) buffers i)
     | inr is ↦ inr (sym (ap (λ (b : Buffer). b.made) is) ∙ steps, sym (ap (λ (b : Buffer). b.receiver) is))

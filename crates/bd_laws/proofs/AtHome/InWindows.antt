@@ -1,6 +1,6 @@
 -- For SpacesAreTidy: what a buffer carries lies in its receiver's window.
 use Rattle.bd_laws.proofs.words.Types.{TransactionData, Entry, Buffer, Actor, Frame, OfThread}
-use Rattle.bd_laws.proofs.words.Space.{Space, opening, assign_numbers, closed, owe, Delivery, delivered, own_notices, add_buffer, known_by, refer, make_objects, buffer_references, transacted, called, replied, counted, next, is_spam}
+use Rattle.bd_laws.proofs.words.Space.{Space, opening, assign_numbers, closed, owe, Delivery, delivered, own_notices, add_buffer, with_carried, refer, make_objects, buffer_references, transacted, called, replied, counted, next, is_spam}
 use Rattle.std.proofs.Common.{◌≡◌, false, inl, inr, ap, sym, subst, ◌∙◌, arith}
 use Rattle.bd_space.specs.declared.space.WorkKind.TheVariants as work
 use Rattle.bd_laws.proofs.words.Laws.{IsInTurn, AtHome, AllInWindows, IsInWindows}
@@ -16,7 +16,7 @@ untouched_in z y u h = subst (AllInWindows z.references) (sym u.buffers) (subst 
 -- ---- what is sent
 
 delivered_in : (s : Space) (a : Actor) (d : TransactionData) (v : Delivery) → AtHome s → IsInTurn s → IsInWindows s → IsInWindows (delivered s a d v)
-unfolding delivered own_notices add_buffer known_by assign_numbers refer make_objects
+unfolding delivered own_notices add_buffer with_carried assign_numbers refer make_objects
 delivered_in s a d v home turns h r c q l m e =
     elim (in_append r s.references (buffer_references s.steps v.receiver.made 0 v.sending.items v.target) l) [
       | inl i ↦ elim (in_push c _ s.buffers m) [

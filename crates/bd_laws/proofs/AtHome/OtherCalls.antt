@@ -1,7 +1,7 @@
 -- For SpacesAreTidy: no thread is to read a call of its own.
 use Rattle.bd_laws.proofs.words.Logic.{◌≡◌, ℕ, ◌<◌, ◌==◌, Bool, true, false, ◌&&◌, Option, Some, Ok, inl, inr, refl, ap, sym, subst, ◌∙◌, arith, eqb-true, eq-eqb}
 use Rattle.bd_laws.proofs.words.Types.{TransactionData, ObjectId, Parcel, Entry, Process, Thread, Object, Frame, Actor, Work, OfThread, OfProcess}
-use Rattle.bd_laws.proofs.words.Space.{same, Space, opening, actor, owned_in, assign_numbers, strongly_named, closed, goes_to, owe, hands_out, ripen, Delivery, delivered, own_notices, add_buffer, known_by, refer, make_objects, transaction_check, transacted, called, call_out, target_of, handle_of, replied, counted, next, is_spam}
+use Rattle.bd_laws.proofs.words.Space.{same, Space, opening, actor, owned_in, assign_numbers, strongly_named, closed, goes_to, owe, hands_out, ripen, Delivery, delivered, own_notices, add_buffer, with_carried, refer, make_objects, transaction_check, transacted, called, call_out, target_of, handle_of, replied, counted, next, is_spam}
 use Rattle.bd_space.specs.declared.space.WorkKind.TheVariants as work
 use Rattle.bd_laws.proofs.words.Laws.{In, IsInTurn, AtHome, OfOthers}
 use Rattle.bd_laws.proofs.Lists.{in_push, find_in, any_in}
@@ -41,7 +41,7 @@ module _ (s : Space) (seat : ℕ) (a : Actor) (d : TransactionData) (parcel : Op
   y = owe (delivered s a d v) (OfThread a.thread.seat) (work.Complete spam)
 
   y_frames : y.frames ≡ s.frames
-  unfolding delivered own_notices add_buffer known_by assign_numbers refer make_objects owe
+  unfolding delivered own_notices add_buffer with_carried assign_numbers refer make_objects owe
   y_frames = search arith
 
   -- the receiver isn't the caller's process

@@ -2,7 +2,7 @@
 -- nowhere else.
 use Rattle.bd_laws.proofs.words.Logic.{fold, ◌≡◌, ℕ, ◌==◌, Bool, true, false, ◌||◌, List, [], ◌∷◌, ◌++◌, Option, Some, ◌⊎◌, inl, inr, refl, sym, ◌∙◌, map, arith, list_any, not, ◌&&◌, ap, filter, list_any-append}
 use Rattle.bd_laws.proofs.words.Types.{TransactionData, ObjectId, Object, Reference, Name, Item, Actor, Work, DeathNotification, WorkKind, TodoList, OfThread}
-use Rattle.bd_laws.proofs.words.Space.{buffer_of, same, is_some_and, Space, object_in, held_in, strong_in, is_named_in, with_name, assign_numbers, with_work, is_call, wants_notice, has_notice_in, is_name_of, object_of_item, Delivery, delivered, own_notices, add_buffer, known_by, refer, make_objects, buffer_references, ObjectTest, no_name, objects_of_items, lives_in, owned_in, stays_in, is_notice, add_notice, withdraw_notice}
+use Rattle.bd_laws.proofs.words.Space.{buffer_of, same, is_some_and, Space, object_in, held_in, strong_in, is_named_in, with_name, assign_numbers, with_work, is_call, wants_notice, has_notice_in, is_name_of, object_of_item, Delivery, delivered, own_notices, add_buffer, with_carried, refer, make_objects, buffer_references, ObjectTest, no_name, objects_of_items, lives_in, owned_in, stays_in, is_notice, add_notice, withdraw_notice}
 use Rattle.bd_space.specs.declared.space.WorkKind.TheVariants as work
 use Rattle.bd_laws.proofs.words.Laws.{In, KeptBefore, Elsewhere, IsFollowed}
 use Rattle.bd_laws.proofs.Lists.{in_push, in_filter, filter_in, any_found, any_in, find_in, fold_keeps, in_append}
@@ -130,9 +130,9 @@ module _ (s : Space) (v : Delivery) (h : IsFollowed s) (kept : KeptBefore s) (k 
   adds_work todo list kind none never t = search (arith, in_push, any_more)
 
   pub delivered_todo : (a : Actor) (d : TransactionData) → Todo (delivered s a d v).todo
-  unfolding delivered add_buffer known_by assign_numbers refer make_objects
+  unfolding delivered add_buffer with_carried assign_numbers refer make_objects
   delivered_todo a d =
-      sent_notices_keep Todo Todo (add_buffer (known_by s v) (buffer_of (known_by s v) a d v)) a.thread.seat v.sending.items
+      sent_notices_keep Todo Todo (add_buffer (with_carried s v) (buffer_of (with_carried s v) a d v)) a.thread.seat v.sending.items
       (λ i todo l t. search (arith, in_filter, any_found, any_in, filter_in, to_false, sent_item, eq_same, same_eq)) (λ todo t. t)
       (λ i todo x l e missing. adds_work todo (OfThread a.thread.seat) (work.Notice x.id)
       (λ o is none.
@@ -141,7 +141,7 @@ module _ (s : Space) (v : Delivery) (h : IsFollowed s) (kept : KeptBefore s) (k 
       (λ n is. cc)) (record { due = (come s.manager).notices; tells = h.tellings; calls = λ n e. e; has = λ o none e. e })
 
   pub delivered_elsewhere : (a : Actor) (d : TransactionData) → Elsewhere no_name is_sent (delivered s a d v)
-  unfolding delivered own_notices add_buffer known_by assign_numbers refer make_objects
+  unfolding delivered own_notices add_buffer with_carried assign_numbers refer make_objects
   delivered_elsewhere a d =
       let t = delivered_todo a d in
       let e = come s.manager in

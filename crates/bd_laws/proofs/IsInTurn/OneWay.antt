@@ -1,7 +1,7 @@
 -- For SpacesAreTidy and the laws of one-way calls: a buffer that is due or handed out has no older rival.
 use Rattle.bd_laws.proofs.words.Logic.{◌≡◌, ℕ, suc, ◌≤◌, ◌==◌, Bool, false, not, List, [], ◌∷◌, ◌++◌, Option, Some, None, ◌⊎◌, inl, inr, refl, ap, sym, subst, filter, arith, fold}
 use Rattle.bd_laws.proofs.words.Types.{Buffer, Work, Item, TodoList, WorkKind, Actor, Frame, OfThread, OfProcess, TransactionData}
-use Rattle.bd_laws.proofs.words.Space.{Space, with_work, hands_out, owe, is_on, is_notice, turn_of, follow, work_goes, still_due, assign_numbers, closed, Delivery, delivered, own_notices, add_buffer, known_by, refer, make_objects, buffer_of, add_notice, withdraw_notice, transacted, call_out, replied, without_buffer, is_made_at, thread_goes, is_lost_with, without_process, tell_deaths, with_thread, with_looping}
+use Rattle.bd_laws.proofs.words.Space.{Space, with_work, hands_out, owe, is_on, is_notice, turn_of, follow, work_goes, still_due, assign_numbers, closed, Delivery, delivered, own_notices, add_buffer, with_carried, refer, make_objects, buffer_of, add_notice, withdraw_notice, transacted, call_out, replied, without_buffer, is_made_at, thread_goes, is_lost_with, without_process, tell_deaths, with_thread, with_looping}
 use Rattle.bd_space.specs.declared.space.WorkKind.TheVariants as work
 use Rattle.bd_laws.proofs.words.Laws.{In, Pairs, Due, Waits, InTurn}
 use Rattle.bd_laws.proofs.Lists.{in_push, in_filter, pairs_map, pairs_filter, pairs_push}
@@ -106,17 +106,17 @@ own_notices_less z seat items =
     (λ todo o due. search (arith, with_work_less)) (λ w m l e. l)
 
 pub delivered_due : (s : Space) (a : Actor) (d : TransactionData) (v : Delivery) → Fewer (delivered s a d v).todo s.todo
-unfolding delivered own_notices add_buffer known_by assign_numbers refer make_objects
-delivered_due s a d v = own_notices_less (add_buffer (known_by s v) (buffer_of (known_by s v) a d v)) a.thread.seat v.sending.items
+unfolding delivered own_notices add_buffer with_carried assign_numbers refer make_objects
+delivered_due s a d v = own_notices_less (add_buffer (with_carried s v) (buffer_of (with_carried s v) a d v)) a.thread.seat v.sending.items
 
 pub sent_due : (s : Space) (a : Actor) (d : TransactionData) (v : Delivery) (spam : Bool) → Fewer (owe (delivered s a d v) (OfThread a.thread.seat) (work.Complete spam)).todo s.todo
 sent_due s a d v spam w m l e = delivered_due s a d v w m ((owe_less (delivered s a d v) (OfThread a.thread.seat) (work.Complete spam) refl).due w m l e) e
 
 pub delivered_in_turn : (s : Space) (a : Actor) (d : TransactionData) (v : Delivery) → InTurn s.steps s.buffers s.todo
     → InTurn (suc (delivered s a d v).steps) (delivered s a d v).buffers (delivered s a d v).todo
-unfolding delivered own_notices add_buffer known_by assign_numbers refer make_objects
+unfolding delivered own_notices add_buffer with_carried assign_numbers refer make_objects
 delivered_in_turn s a d v h =
-    in_turn_push s.steps s.buffers (delivered s a d v).todo s.todo (buffer_of (known_by s v) a d v) h refl refl
+    in_turn_push s.steps s.buffers (delivered s a d v).todo s.todo (buffer_of (with_carried s v) a d v) h refl refl
     (λ m due. (due.0, delivered_due s a d v due.0 m due.1 due.2, due.2))
 
 -- the new buffer is no one-way call, if it isn't to be one
@@ -133,7 +133,7 @@ module _ (s : Space) (a : Actor) (d : TransactionData) (v : Delivery) (spam : Bo
   sent = owe (delivered s a d v) (OfThread a.thread.seat) (work.Complete spam)
 
   sent_no_turn : v.one_way ≡ false → NoTurn sent.steps sent.buffers
-  unfolding owe delivered own_notices add_buffer known_by assign_numbers refer make_objects
+  unfolding owe delivered own_notices add_buffer with_carried assign_numbers refer make_objects
   sent_no_turn one_way c l made = elim (in_push c _ s.buffers l) [
     | inl k ↦ (let lt = h.below c k in absurd (omega arith))
     | inr is ↦ subst (λ (x : Buffer). turn_of x ≡ None) is (search arith)

@@ -2,7 +2,7 @@
 -- buffers, and what they make.
 use Rattle.bd_laws.proofs.words.Logic.{◌≡◌, ℕ, ◌==◌, Bool, true, false, cond, [], ◌∷◌, Option, Some, None, Ok, inl, inr, refl, ap, sym, subst, ◌∙◌, arith, eqb-true, List}
 use Rattle.bd_laws.proofs.words.Types.{TransactionData, ObjectId, Parcel, Process, Thread, Actor, Frame, Object, Buffer, Work, TodoList, OfThread, OfProcess, WorkKind}
-use Rattle.bd_laws.proofs.words.Space.{Space, actor, assign_numbers, owe, with_work, hands_out, list_to_read, closed, goes_to, Delivery, delivered, own_notices, add_buffer, known_by, refer, make_objects, buffer_of, transaction_check, transacted, called, call_out, reply_check, replied, without_buffer, is_made_at, taken, read_by, hand_out, handed_buffers, is_spam}
+use Rattle.bd_laws.proofs.words.Space.{Space, actor, assign_numbers, owe, with_work, hands_out, list_to_read, closed, goes_to, Delivery, delivered, own_notices, add_buffer, with_carried, refer, make_objects, buffer_of, transaction_check, transacted, called, call_out, reply_check, replied, without_buffer, is_made_at, taken, read_by, hand_out, handed_buffers, is_spam}
 use Rattle.bd_space.specs.declared.space.WorkKind.TheVariants as work
 use Rattle.bd_laws.proofs.words.Laws.{In, Due, InTurn, On, OnLists}
 use Rattle.bd_laws.proofs.Lists.{in_left, in_append, in_push, in_filter, filter_in, in_changed, changed_in, find_in, pairs_either, all_push}
@@ -21,7 +21,7 @@ pub delivered_passed : (s : Space) (fs : List Frame) (a : Actor) (d : Transactio
     → Made s a.process.made v.sending.made
     → ((o : ObjectId) → v.one_way ≡ true → v.target ≡ Some o → (x : Object) × In x s.objects × (x.id ≡ o) × (x.owner ≡ v.receiver.made) × Lives s.processes x.owner)
     → Passed s (delivered (record s { frames = fs }) a d v)
-unfolding delivered own_notices add_buffer known_by assign_numbers refer make_objects
+unfolding delivered own_notices add_buffer with_carried assign_numbers refer make_objects
 delivered_passed s fs a d v turns l lives made owned = record {
   steps = refl;
   processes = λ q i. inl (q, i, refl);
@@ -29,14 +29,14 @@ delivered_passed s fs a d v turns l lives made owned = record {
     | inl k ↦ inl (x, k, refl, refl)
     | inr k ↦ inr (made.place x k, subst (Lives s.processes) (sym (made.owner x k)) lives)
   ];
-  from = λ c i. elim (in_push c (buffer_of (known_by (record s { frames = fs }) v) a d v) s.buffers i) [
+  from = λ c i. elim (in_push c (buffer_of (with_carried (record s { frames = fs }) v) a d v) s.buffers i) [
     | inl k ↦ inl (c, k, same_buffer s c)
     | inr e ↦ inr (subst (New s) e (record { made = refl; handed = refl; owned = λ o on. owned o on.0 on.1 }))
   ];
-  to = λ o b i on. inl (b, in_left b s.buffers (buffer_of (known_by (record s { frames = fs }) v) a d v ∷ []) i, same_buffer s b);
+  to = λ o b i on. inl (b, in_left b s.buffers (buffer_of (with_carried (record s { frames = fs }) v) a d v ∷ []) i, same_buffer s b);
   lists = λ w c o i e j on.
       let old = OneWay.delivered_due (record s { frames = fs }) a d v w c.made i e in
-      elim (in_push c (buffer_of (known_by (record s { frames = fs }) v) a d v) s.buffers j) [
+      elim (in_push c (buffer_of (with_carried (record s { frames = fs }) v) a d v) s.buffers j) [
         | inl k ↦ l w c o old e k on
         | inr is ↦ (let lt = turns.fresh c.made (w, old, e) in let m : s.steps ≡ c.made = ap (λ (x : Buffer). x.made) is in absurd (omega arith))
       ];
@@ -74,9 +74,9 @@ reply_out_passed s z (Some t) e none h =
 
 -- the new buffer of a two-way call or a reply is no one-way call
 none_new : (s : Space) (a : Actor) (d : TransactionData) (v : Delivery) → InTurn s.steps s.buffers s.todo → v.one_way ≡ false → NoneNew (delivered s a d v)
-unfolding delivered own_notices add_buffer known_by assign_numbers refer make_objects
+unfolding delivered own_notices add_buffer with_carried assign_numbers refer make_objects
 none_new s a d v turns e c o i made on =
-    elim (in_push c (buffer_of (known_by s v) a d v) s.buffers i) [
+    elim (in_push c (buffer_of (with_carried s v) a d v) s.buffers i) [
       | inl k ↦ (let lt = turns.below c k in omega arith)
       | inr is ↦ (let f : v.one_way ≡ c.one_way = ap (λ (x : Buffer). x.one_way) is in let t = on.0 in absurd (cc))
     ]

@@ -2,7 +2,7 @@
 -- last.
 use Rattle.bd_laws.proofs.words.Logic.{◌≡◌, ℕ, suc, ◌+◌, ◌<◌, Bool, false, ◌&&◌, List, [], ◌∷◌, ◌++◌, Option, Some, None, Ok, ◌⊎◌, inl, inr, refl, ap, sym, subst, ◌∙◌, arith}
 use Rattle.bd_laws.proofs.words.Types.{TransactionData, ObjectId, Parcel, Actor, Frame, Object, Reference, Asked, Manager, Item, OfThread}
-use Rattle.bd_laws.proofs.words.Space.{Space, reference_of, assign_numbers, Delivery, delivered, own_notices, add_buffer, known_by, refer, make_objects, buffer_references, transaction_check, reply_check, ask_check, ask, drop_asked, acknowledge, without_buffer, thread_goes, threads_go, without_process, owe, closed, transacted, called, replied, is_spam}
+use Rattle.bd_laws.proofs.words.Space.{Space, reference_of, assign_numbers, Delivery, delivered, own_notices, add_buffer, with_carried, refer, make_objects, buffer_references, transaction_check, reply_check, ask_check, ask, drop_asked, acknowledge, without_buffer, thread_goes, threads_go, without_process, owe, closed, transacted, called, replied, is_spam}
 use Rattle.bd_space.specs.declared.space.WorkKind.TheVariants as work
 use Rattle.bd_laws.proofs.words.Laws.{In, Pairs, Here, Earlier, Kept, Named, KeptBefore}
 use Rattle.bd_laws.proofs.Lists.{in_left, in_append, in_filter, filter_in, in_without, without_in}
@@ -101,7 +101,7 @@ sent_here s p made o h (inr m) =
 
 pub delivered_kept : (s : Space) (a : Actor) (d : TransactionData) (v : Delivery) → KeptBefore s → Sends s a.process.made v.sending.made v.sending.items
     → ((o : ObjectId) → v.target ≡ Some o → Here s.objects o) → IsKept (delivered s a d v)
-unfolding delivered own_notices add_buffer known_by assign_numbers refer make_objects
+unfolding delivered own_notices add_buffer with_carried assign_numbers refer make_objects
 delivered_kept s a d v h sends target =
     grown s.steps s.manager s.objects v.sending.made s.references (buffer_references s.steps v.receiver.made 0 v.sending.items v.target) h.kept
     sends.makes.place sends.makes.in_order

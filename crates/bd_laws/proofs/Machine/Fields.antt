@@ -1,7 +1,7 @@
 -- For every law: what the parts of a step leave of single fields of the space.
 use Rattle.bd_laws.proofs.words.Logic.{arith, ◌≡◌, ℕ, Bool, cond, not, Option, Some, None, refl, filter}
 use Rattle.bd_laws.proofs.words.Types.{TransactionData, Actor, Frame, TodoList, OfThread, WorkKind}
-use Rattle.bd_laws.proofs.words.Space.{Space, owe, closed, is_frame, counted, follow_of, names_go_of, objects_go_of, deaths_go_of, work_goes_of, notify_of, NameTest, ObjectTest, Delivery, delivered, own_notices, add_buffer, known_by, assign_numbers, refer, make_objects, serve}
+use Rattle.bd_laws.proofs.words.Space.{Space, owe, closed, is_frame, counted, follow_of, names_go_of, objects_go_of, deaths_go_of, work_goes_of, notify_of, NameTest, ObjectTest, Delivery, delivered, own_notices, add_buffer, with_carried, assign_numbers, refer, make_objects, serve}
 use Rattle.bd_space.specs.declared.space.WorkKind.TheVariants as work
 
 -- ---- one item more
@@ -46,15 +46,15 @@ serve_made seat c f = search arith
 -- ---- what is sent
 
 pub sent_steps : (s : Space) (a : Actor) (d : TransactionData) (v : Delivery) (spam : Bool) → (owe (delivered s a d v) (OfThread a.thread.seat) (work.Complete spam)).steps ≡ s.steps
-unfolding owe delivered own_notices add_buffer known_by assign_numbers refer make_objects
+unfolding owe delivered own_notices add_buffer with_carried assign_numbers refer make_objects
 sent_steps s a d v spam = refl
 
 pub sent_threads : (s : Space) (a : Actor) (d : TransactionData) (v : Delivery) (spam : Bool) → (owe (delivered s a d v) (OfThread a.thread.seat) (work.Complete spam)).threads ≡ s.threads
-unfolding owe delivered own_notices add_buffer known_by assign_numbers refer make_objects
+unfolding owe delivered own_notices add_buffer with_carried assign_numbers refer make_objects
 sent_threads s a d v spam = refl
 
 pub sent_frames : (s : Space) (a : Actor) (d : TransactionData) (v : Delivery) (spam : Bool) → (owe (delivered s a d v) (OfThread a.thread.seat) (work.Complete spam)).frames ≡ s.frames
-unfolding owe delivered own_notices add_buffer known_by assign_numbers refer make_objects
+unfolding owe delivered own_notices add_buffer with_carried assign_numbers refer make_objects
 sent_frames s a d v spam = refl
 
 -- ---- what follows, and the step's end

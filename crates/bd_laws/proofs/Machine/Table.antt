@@ -3,7 +3,7 @@
 -- readings, turns.
 use Rattle.bd_laws.proofs.words.Logic.{arith, ◌≡◌, ℕ, ◌-◌, Bool, not, List, [], ◌∷◌, ◌++◌, Option, Some, None, Ok, filter}
 use Rattle.bd_laws.proofs.words.Types.{ObjectId, Process, Object, Reference, Name, DeathNotification, Frame, Actor, Parcel, Item, Buffer, Work, Step, Command, Read, Return, DeadReply, TransactionData, TodoList, OfThread, OfProcess, WorkKind}
-use Rattle.bd_laws.proofs.words.Space.{Space, call_out, is_notice, settle, completed, delivered, own_notices, add_buffer, known_by, refer, make_objects, buffer_of, owe, closed, follow, notify, work_goes, deaths_go, objects_go, names_go, assign_numbers, ripen, ask, drop_asked, acknowledge, with_looping, without_buffer, with_thread, with_process, with_manager, thread_goes, threads_go, without_process, tell_deaths, Delivery, transacted, transaction_check, replied, reply_check, served_innermost, read_by, taken, list_to_read, read_fault, actor, with_spam_detection}
+use Rattle.bd_laws.proofs.words.Space.{Space, call_out, is_notice, settle, completed, delivered, own_notices, add_buffer, with_carried, refer, make_objects, buffer_of, owe, closed, follow, notify, work_goes, deaths_go, objects_go, names_go, assign_numbers, ripen, ask, drop_asked, acknowledge, with_looping, without_buffer, with_thread, with_process, with_manager, thread_goes, threads_go, without_process, tell_deaths, Delivery, transacted, transaction_check, replied, reply_check, served_innermost, read_by, taken, list_to_read, read_fault, actor, with_spam_detection}
 use Rattle.bd_space.specs.declared.space.WorkKind.TheVariants as work
 use Rattle.bd_uapi.specs.declared.command.Command.TheVariants as bc
 use Rattle.bd_laws.proofs.Machine.Adding.{told_keeps, notify_keeps, own_notices_keeps, ripen_keeps}
@@ -106,9 +106,9 @@ module _ (R : Space → Space → Type 0) (T : WorkKind → Type 0) (t : Table R
         (λ todo x due. let y = record z { todo = todo } in t.trans _ y z (t.owes y (OfThread seat) (work.Notice x.id) (t.notice x.id))) (t.same z)
 
     pub delivered_by : (s : Space) (a : Actor) (d : TransactionData) (v : Delivery) → R (delivered s a d v) s
-    unfolding delivered known_by assign_numbers refer make_objects
+    unfolding delivered with_carried assign_numbers refer make_objects
     delivered_by s a d v =
-        let y = known_by s v in
+        let y = with_carried s v in
         let b = buffer_of y a d v in
         t.trans _ (add_buffer y b) s (own_notices_by (add_buffer y b) a.thread.seat v.sending.items) (t.trans _ y s (arrives y b) (t.beside s _ _ _ _ _ _))
 

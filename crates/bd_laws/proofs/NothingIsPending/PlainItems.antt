@@ -3,7 +3,7 @@
 -- notifications.
 use Rattle.bd_laws.proofs.words.Logic.{arith, ◌≡◌, ℕ, Bool, false, List, None, refl, filter}
 use Rattle.bd_laws.proofs.words.Types.{TransactionData, Step, Actor, Object, DeathNotification, Work, WorkKind, TodoList, OfThread, OfProcess}
-use Rattle.bd_laws.proofs.words.Space.{Space, objects_go, names_go, assign_numbers, closed, with_work, owe, notice_of, death_of, list_to_read, ripen, has_notice_in, deaths_go, work_goes, notify, follow, Delivery, delivered, own_notices, add_buffer, known_by, refer, make_objects, buffer_of, transacted, call_out, replied, without_buffer, ask, drop_asked, acknowledge, with_looping, read_by, taken, thread_goes, threads_go, without_process, tell_deaths}
+use Rattle.bd_laws.proofs.words.Space.{Space, objects_go, names_go, assign_numbers, closed, with_work, owe, notice_of, death_of, list_to_read, ripen, has_notice_in, deaths_go, work_goes, notify, follow, Delivery, delivered, own_notices, add_buffer, with_carried, refer, make_objects, buffer_of, transacted, call_out, replied, without_buffer, ask, drop_asked, acknowledge, with_looping, read_by, taken, thread_goes, threads_go, without_process, tell_deaths}
 use Rattle.bd_space.specs.declared.space.WorkKind.TheVariants as work
 use Rattle.bd_laws.proofs.Machine.Adding.{told_keeps, notify_keeps, own_notices_keeps, ripen_keeps}
 use Rattle.bd_laws.proofs.Machine.Deaths.{DeathCommands}
@@ -42,9 +42,9 @@ module _ (P : List Work → List DeathNotification → Type 0) (k : Loose P) whe
   ripen_says z = ripen_keeps (λ todo. P todo z.deaths) z (λ todo t. k.push z.steps todo z.deaths (OfProcess t.receiver) (work.Call t.made) (refl, refl))
 
   delivered_says : (s : Space) (a : Actor) (d : TransactionData) (v : Delivery) → Says s → Says (delivered s a d v)
-  unfolding delivered own_notices add_buffer known_by assign_numbers refer make_objects
+  unfolding delivered own_notices add_buffer with_carried assign_numbers refer make_objects
   delivered_says s a d v =
-      own_notices_keeps (λ todo. P todo s.deaths) (add_buffer (known_by s v) (buffer_of (known_by s v) a d v)) a.thread.seat v.sending.items
+      own_notices_keeps (λ todo. P todo s.deaths) (add_buffer (with_carried s v) (buffer_of (with_carried s v) a d v)) a.thread.seat v.sending.items
       (λ todo o. k.fewer _ todo s.deaths) (λ todo x due. k.notice s.steps todo s.deaths (OfThread a.thread.seat) x due.1)
 
   goes_says : (z : Space) (seat : ℕ) → Says z → Says (thread_goes z seat)

@@ -1,7 +1,7 @@
 -- For SpacesAreTidy: a call makes a frame on the path of its caller, and a reply closes one.
 use Rattle.bd_laws.proofs.words.Logic.{◌≡◌, ℕ, suc, Bool, true, false, List, [], ◌∷◌, ◌++◌, Option, Some, None, Ok, ◌⊎◌, inl, inr, refl, ap, sym, subst, ◌∙◌, arith, option_map}
 use Rattle.bd_laws.proofs.words.Types.{TransactionData, Parcel, Work, Frame, Buffer, Actor, Pending, Serving, OfThread}
-use Rattle.bd_laws.proofs.words.Space.{Space, closed, goes_to, innermost, innermost_in, served_innermost, made_of, owe, assign_numbers, Delivery, delivered, own_notices, add_buffer, known_by, refer, make_objects, transaction_check, transacted, called, call_out, caller_cause, replied, is_spam}
+use Rattle.bd_laws.proofs.words.Space.{Space, closed, goes_to, innermost, innermost_in, served_innermost, made_of, owe, assign_numbers, Delivery, delivered, own_notices, add_buffer, with_carried, refer, make_objects, transaction_check, transacted, called, call_out, caller_cause, replied, is_spam}
 use Rattle.bd_space.specs.declared.space.WorkKind.TheVariants as work
 use Rattle.bd_laws.proofs.words.Laws.{In, Forest, OnPaths}
 use Rattle.bd_laws.proofs.Lists.{in_push}
@@ -22,7 +22,7 @@ sent_calls s a d v spam w b l e = search (arith, sent_due, call_hands)
 
 sent_buffers : (s : Space) (a : Actor) (d : TransactionData) (v : Delivery) (spam : Bool) (c : Buffer) → In c (owe (delivered s a d v) (OfThread a.thread.seat) (work.Complete spam)).buffers
     → In c s.buffers ⊎ ((c.made ≡ s.steps) × (c.one_way ≡ v.one_way))
-unfolding delivered own_notices add_buffer known_by assign_numbers refer make_objects owe
+unfolding delivered own_notices add_buffer with_carried assign_numbers refer make_objects owe
 sent_buffers s a d v spam c l = search (arith, in_push)
 
 sends : (s x : Space) (a : Actor) (d : TransactionData) (v : Delivery) (spam : Bool) → x.steps ≡ s.steps → OnPaths s.steps x → OnPaths (suc s.steps) (owe (delivered x a d v) (OfThread a.thread.seat) (work.Complete spam))

@@ -3,7 +3,7 @@ unfoldable pub use Rattle.bd_space.specs.Asking.{acknowledge, ask, ask_check, do
 unfoldable pub use Rattle.bd_space.specs.Deaths.{clear_check, cleared, death_done, death_ended, mark_cleared, told_death, request_check, requested, with_death, with_phase, without_death}
 pub use Rattle.bd_space.specs.Deaths.{is_out, is_told, is_told_with, is_notification}
 unfoldable pub use Rattle.bd_space.specs.Steps.{command_step, with_looping, attach_step, change, counted, manager_step, open_step, with_manager, with_process, with_thread}
-unfoldable pub use Rattle.bd_space.specs.Delivery.{add_buffer, delivered, known_by, make_objects, own_notices, refer}
+unfoldable pub use Rattle.bd_space.specs.Delivery.{add_buffer, delivered, with_carried, make_objects, own_notices, refer}
 pub use Rattle.bd_space.specs.Delivery.{Delivery, add_notice, buffer_of, buffer_references, withdraw_notice}
 unfoldable pub use Rattle.bd_space.specs.Frames.{closed, goes_to, innermost, served_innermost}
 pub use Rattle.bd_space.specs.Frames.{ancestry, calls, depth_in, innermost_in, is_child_of, is_deepest_in, is_frame, is_gone, list_of_caller, made_of, serves, takes_part, waits_in}
@@ -21,7 +21,7 @@ pub use Rattle.bd_space.specs.Notices.{has_notice_in, is_name_of, still_due, wan
 unfoldable pub use Rattle.bd_space.specs.Outcomes.{completed}
 pub use Rattle.bd_space.specs.Outcomes.{Outcome, by_check, refused}
 unfoldable pub use Rattle.bd_space.specs.Parcels.{resolve, sending_of}
-pub use Rattle.bd_space.specs.Parcels.{Sending, is_cut, new_object, object_of_item, resolve_all, resolve_handle, resolve_own, resolve_walked}
+pub use Rattle.bd_space.specs.Parcels.{Sending, has_sizes, new_object, object_of_item, resolve_all, resolve_handle, resolve_own, resolve_walked}
 unfoldable pub use Rattle.bd_space.specs.ProcessExits.{exit_process_step, tell_deaths, threads_go, without_process}
 pub use Rattle.bd_space.specs.ProcessExits.{is_armed, is_dropped_with, seat_of, tell_death}
 unfoldable pub use Rattle.bd_space.specs.ReadItems.{buffer_taken, read_by, read_step, read_taking}

@@ -1,15 +1,27 @@
-use Rattle.std.proofs.Common.{◌++◌, arith, subst}
+use Rattle.std.proofs.Common.{◌++◌, arith, refl, subst, not}
+use Rattle.bd_handles.specs.Named.{Named, Listed}
 use Rattle.bd_handles.specs.Stands.{NamesSince}
-use Rattle.bd_handles.proofs.Given.{all_back}
+use Rattle.bd_handles.specs.Sound.{has_object}
+use Rattle.bd_handles.proofs.Given.{all_back, last_back}
+use Rattle.bd_handles.proofs.Listing.{listed_filter}
 use Rattle.bd_handles.proofs.table.NameTable.roll_back.Goals as goal
 
-pub loop-preserved : goal.loop-preserved
-loop-preserved c = record {
-  stands = λ base names h. c.roll_back_last.ensures.stands base (base ++ c.loop.self.given.items) (c.loop.invariant.stands base names h);
-  left = omega (arith, c.roll_back_last.ensures.fewer, c.loop.invariant.left, c.len-end.ensures, c.loop-test.true);
-  room = omega (arith, c.roll_back_last.ensures.uses, c.loop.invariant.room);
+pub loop-m-preserved : goal.loop-m-preserved
+loop-m-preserved c = record {
+  stands = λ base names given_since.
+      let l = base ++ c.loop-m.self.given.items in
+      let h = c.loop-m.invariant.stands base names given_since in
+      let m = c.in-Some.m in
+      let held = c.loop-m.self.held in
+      let left = last_back base c.loop-m.self.given.items c.pop.new.self.items l m h.stands.sound h.grows c.in-Some.ensures.items in
+      record {
+        stands = subst (Named c.remove_object.new.self) left (c.remove_object.ensures.stands l h.stands);
+        listed = subst (Listed held) left (listed_filter held (λ k. not (has_object m.process m.object k)) l h.listed);
+        grows = refl;
+      };
+  room = ?room;
 }
 
 pub returns-clause-stands : goal.returns-clause-stands
 returns-clause-stands c = λ base l h.
-    subst (NamesSince c.loop.self base) (all_back base c.loop.self.given.items (omega (arith, c.loop.invariant.left, c.len-end.ensures, c.loop-test.false))) (c.loop.invariant.stands base l h)
+    subst (NamesSince c.loop-m.self base) (all_back base c.loop-m.self.given.items ?none) (c.loop-m.invariant.stands base l h)

@@ -34,5 +34,5 @@ returns-clause-step c = taken_step _ _ _ _ _ (
     (in_case _ _ (λ (q : Option Process). attach_outcome s c.args.seat q false) _ _ (sym (c.process_with_pid.ensures s.steps s h) ∙ c.in-Some.is)
     (record {
       answered = refl;
-      stands = c.with_thread.ensures.stands (s.steps + 1) s (within _ s (c.reserve.ensures.stands s h)) (is_none (thread_in s.threads c.args.seat) free);
+      stands = c.add_thread.ensures.stands (s.steps + 1) s (within _ s (c.reserve.ensures.stands s h)) (is_none (thread_in s.threads c.args.seat) free);
     }))))

@@ -19,6 +19,6 @@ returns-clause-step c = taken_step _ _ _ _ _ (
     let none = sym (c.open_fault.ensures.fault s h) ∙ c.in_default.is in
     let free = new_pid s c.args.seat c.args.pid c.args.size none in
     let opened = c.with_process.ensures.stands s (c.reserve_process.ensures.stands s h) free c.in-Ok.ensures.window in
-    let both = c.with_thread.ensures.stands (s.steps + 1) _ opened (new_seat s c.args.seat c.args.pid c.args.size none) in
+    let both = c.add_thread.ensures.stands (s.steps + 1) _ opened (new_seat s c.args.seat c.args.pid c.args.size none) in
     in_case _ _ (open_outcome s c.args.seat c.args.pid c.args.euid c.args.size) _ _ none
-    (record { answered = refl; stands = subst (λ p. StandsAt (s.steps + 1) c.with_thread.new.self (with_thread (with_process s c.args.pid c.args.euid c.args.size) c.args.seat p)) (sym opened.own.steps_are) both })))
+    (record { answered = refl; stands = subst (λ p. StandsAt (s.steps + 1) c.add_thread.new.self (with_thread (with_process s c.args.pid c.args.euid c.args.size) c.args.seat p)) (sym opened.own.steps_are) both })))
