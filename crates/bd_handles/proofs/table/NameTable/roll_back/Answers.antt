@@ -1,12 +1,13 @@
-use Rattle.std.proofs.Common.{◌++◌, arith, refl, subst, not}
+use Rattle.std.proofs.Common.{◌++◌, arith, refl, sym, subst, not}
 use Rattle.bd_handles.specs.Named.{Named, Listed}
-use Rattle.bd_handles.specs.Stands.{NamesSince}
+use Rattle.bd_handles.specs.Stands.{NamesSince, name_room}
 use Rattle.bd_handles.specs.Sound.{has_object}
 use Rattle.bd_handles.proofs.Given.{all_back, last_back}
 use Rattle.bd_handles.proofs.Listing.{listed_filter}
 use Rattle.bd_handles.proofs.table.NameTable.roll_back.Goals as goal
 
 pub loop-m-preserved : goal.loop-m-preserved
+unfolding name_room
 loop-m-preserved c = record {
   stands = λ base names given_since.
       let l = base ++ c.loop-m.self.given.items in
@@ -19,9 +20,15 @@ loop-m-preserved c = record {
         listed = subst (Listed held) left (listed_filter held (λ k. not (has_object m.process m.object k)) l h.listed);
         grows = refl;
       };
-  room = ?room;
+  room = omega (arith, c.loop-m.invariant.room, c.remove_object.ensures.uses, c.in-Some.ensures.len, c.in-Some.ensures.capacity);
 }
 
 pub returns-clause-stands : goal.returns-clause-stands
 returns-clause-stands c = λ base l h.
-    subst (NamesSince c.loop-m.self base) (all_back base c.loop-m.self.given.items ?none) (c.loop-m.invariant.stands base l h)
+    let none = c.in_default.ensures.cases in
+    let all = subst (NamesSince c.loop-m.self base) (all_back base c.loop-m.self.given.items (omega (arith, none.0))) (c.loop-m.invariant.stands base l h) in
+    record {
+      stands = all.stands;
+      listed = all.listed;
+      grows = sym (all_back base c.pop.new.self.items (omega (arith, none.1)));
+    }

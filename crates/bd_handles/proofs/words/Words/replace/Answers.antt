@@ -7,8 +7,8 @@ use Rattle.bd_handles.specs.declared.keys.NumberKey.{NumberKey}
 use Rattle.bd_handles.proofs.Bits.{some_filled, filled_updated}
 use Rattle.bd_handles.proofs.words.Words.replace.Goals as goal
 
-pub returns-in-Some-clause-words : goal.returns-in-Some-clause-words
-returns-in-Some-clause-words c = λ q v.
+pub returns-clause-words : goal.returns-clause-words
+returns-clause-words c = λ q v.
     let k : NumberKey = record { process = q; number = v } in
     updated (eqb c.args.p q && eqb c.args.w v) (Some c.args.x) (get_by (is_number_key q v) c.args.self.now.words) _
     (((c.get_mut.follows.holds c.args.x).3 (is_there _ _ (ap option_copied_mut c.in-Some.is) c.get_mut.ensures.value)).0 k)
