@@ -157,18 +157,18 @@ impl Tables {
     }
 
     /// The step by which a process frees a buffer that was handed out to it.
-    pub(crate) fn free(&mut self, a: Actor, pointer: u64) -> Result<Plain, StepError>
-        ensures step { IsStep self.old self.new (IsBy a) (λ s. freeing.free_step s a.process.made pointer) result }
+    pub(crate) fn free(&mut self, actor: Actor, pointer: u64) -> Result<Plain, StepError>
+        ensures step { IsStep self.old self.new (IsBy actor) (λ s. freeing.free_step s actor.process.made pointer) result }
         ensures told { KeepsTold self.old self.new }
     {
-        let made = match self.free_check(a.process.made, pointer) {
+        let made = match self.free_check(actor.process.made, pointer) {
             Ok(made) => made,
             Err(note) => return Ok(Plain::Noted(note)),
         };
         let Ok(touched) = self.ready_to_free(made) else {
             return Err(StepError::NoMemory);
         };
-        self.release_buffer(a.process.made, made, touched.as_slice());
+        self.release_buffer(actor.process.made, made, touched.as_slice());
         Ok(Plain::Accepted)
     }
 }

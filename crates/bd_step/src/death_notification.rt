@@ -77,15 +77,15 @@ impl Tables {
     /// The step by which a process asks to be told of an owner's end. Nothing follows from it.
     pub(crate) fn request_death(
         &mut self,
-        a: Actor,
+        actor: Actor,
         n: u32,
         cookie: u64,
     ) -> Result<Plain, StepError>
-        ensures step { IsStep self.old self.new (IsBy a)
-            (λ s. by_check s (λ o. deaths.requested s a.process.made o cookie) (deaths.request_check s a.process.made n)) result }
+        ensures step { IsStep self.old self.new (IsBy actor)
+            (λ s. by_check s (λ o. deaths.requested s actor.process.made o cookie) (deaths.request_check s actor.process.made n)) result }
         ensures told { KeepsTold self.old self.new }
     {
-        let o = match self.objects.request_check(a.process.made, n) {
+        let o = match self.objects.request_check(actor.process.made, n) {
             Ok(o) => o,
             Err(note) => return Ok(Plain::Noted(note)),
         };
@@ -96,7 +96,7 @@ impl Tables {
         if self.reserve(room, 1).is_err() {
             return Err(StepError::NoMemory);
         }
-        self.add_request(a.process.made, o, cookie);
+        self.add_request(actor.process.made, o, cookie);
         Ok(Plain::Accepted)
     }
 
@@ -124,19 +124,19 @@ impl Tables {
     }
 
     /// The step by which a process takes back that it asked to be told of an owner's end. Nothing follows from it.
-    pub(crate) fn clear_death(&mut self, a: Actor, n: u32, cookie: u64) -> Result<Plain, StepError>
-        ensures step { IsStep self.old self.new (IsBy a)
-            (λ s. by_check s (deaths.cleared s a.thread.seat) (deaths.clear_check s a.process.made n cookie)) result }
+    pub(crate) fn clear_death(&mut self, actor: Actor, n: u32, cookie: u64) -> Result<Plain, StepError>
+        ensures step { IsStep self.old self.new (IsBy actor)
+            (λ s. by_check s (deaths.cleared s actor.thread.seat) (deaths.clear_check s actor.process.made n cookie)) result }
         ensures told { KeepsTold self.old self.new }
     {
-        let x = match self.objects.clear_check(a.process.made, n, cookie) {
+        let x = match self.objects.clear_check(actor.process.made, n, cookie) {
             Ok(x) => x,
             Err(note) => return Ok(Plain::Noted(note)),
         };
         if self.reserve(NOTHING, 1).is_err() {
             return Err(StepError::NoMemory);
         }
-        self.clear_request(a.thread.seat, x);
+        self.clear_request(actor.thread.seat, x);
         Ok(Plain::Accepted)
     }
 
@@ -154,19 +154,19 @@ impl Tables {
     }
 
     /// The step by which a process acknowledges that it was told of an owner's end. Nothing follows from it.
-    pub(crate) fn death_done(&mut self, a: Actor, cookie: u64) -> Result<Plain, StepError>
-        ensures step { IsStep self.old self.new (IsBy a)
-            (λ s. by_check s (deaths.death_done s a.thread.seat) (ok_or (deaths.told_death s a.process.made cookie) NoneTold)) result }
+    pub(crate) fn death_done(&mut self, actor: Actor, cookie: u64) -> Result<Plain, StepError>
+        ensures step { IsStep self.old self.new (IsBy actor)
+            (λ s. by_check s (deaths.death_done s actor.thread.seat) (ok_or (deaths.told_death s actor.process.made cookie) NoneTold)) result }
         ensures told { KeepsTold self.old self.new }
     {
-        let x = match self.objects.told_death(a.process.made, cookie) {
+        let x = match self.objects.told_death(actor.process.made, cookie) {
             Some(x) => x,
             None => return Ok(Plain::Noted(Note::NoneTold)),
         };
         if self.reserve(NOTHING, 1).is_err() {
             return Err(StepError::NoMemory);
         }
-        self.acknowledge_death(a.thread.seat, x);
+        self.acknowledge_death(actor.thread.seat, x);
         Ok(Plain::Accepted)
     }
 

@@ -105,21 +105,21 @@ impl Tables {
     // Where the sending goes in its receiver's window. Its parcel is copied only where there is a place for it.
     fn placed_for(
         &self,
-        d: &TransactionData,
+        data: &TransactionData,
         receiver: Process,
         target: Option<ObjectId>,
         one_way: bool,
         sending: Sending<'_>,
     ) -> Result<Result<Delivery, Cause>, AllocError>
-        requires { IsSound d.now sending }
+        requires { IsSound data.now sending }
         ensures computed { IfOk result
             (λ r. (s : Space) → Before self.now s → process_in s.processes receiver.made ≡ Some receiver
-            → r ≡ spec.placed_for s d.now receiver target one_way sending.entry) }
-        ensures deliverable { IfOk result (λ r. IfOk r (IsDeliverable self.now d.now)) }
+            → r ≡ spec.placed_for s data.now receiver target one_way sending.entry) }
+        ensures deliverable { IfOk result (λ r. IfOk r (IsDeliverable self.now data.now)) }
     {
         match self
             .windows
-            .start_for(receiver.made, one_way, d.data_size, d.offsets_size)
+            .start_for(receiver.made, one_way, data.data_size, data.offsets_size)
         {
             Err(cause) => Ok(Err(cause)),
             Ok(start) => {
@@ -140,8 +140,8 @@ impl Tables {
     /// What the actor sends to the receiver by this parcel, or the first cause against it.
     pub(crate) fn sent_to(
         &self,
-        a: Actor,
-        d: &TransactionData,
+        actor: Actor,
+        data: &TransactionData,
         parcel: &Option<Parcel>,
         receiver: Process,
         target: Option<ObjectId>,
@@ -149,36 +149,36 @@ impl Tables {
     ) -> Result<Result<Delivery, Cause>, AllocError>
         ensures computed { IfOk result
             (λ r. (s : Space) → Before self.now s → process_in s.processes receiver.made ≡ Some receiver
-            → r ≡ words.and_then (parcels.sending_of s a.process.made d.now parcel.now)
-            (spec.placed_for s d.now receiver target one_way)) }
-        ensures deliverable { IfOk result (λ r. IfOk r (IsDeliverable self.now d.now)) }
+            → r ≡ words.and_then (parcels.sending_of s actor.process.made data.now parcel.now)
+            (spec.placed_for s data.now receiver target one_way)) }
+        ensures deliverable { IfOk result (λ r. IfOk r (IsDeliverable self.now data.now)) }
     {
-        match self.sending_of(a.process.made, d, parcel)? {
+        match self.sending_of(actor.process.made, data, parcel)? {
             Err(cause) => Ok(Err(cause)),
-            Ok(sending) => self.placed_for(d, receiver, target, one_way, sending),
+            Ok(sending) => self.placed_for(data, receiver, target, one_way, sending),
         }
     }
 
     /// Makes room for a delivery and for what follows from it, and tells at which objects, in the order in which they were
     /// made. Changes nothing else, also where memory is refused.
-    pub(crate) fn reserve_delivery(&mut self, v: &Delivery) -> Result<Vec<ObjectId>, AllocError>
+    pub(crate) fn reserve_delivery(&mut self, delivery: &Delivery) -> Result<Vec<ObjectId>, AllocError>
         ensures stands { IsKept self.old self.new }
-        ensures deliverable { (d : TransactionData) → IsDeliverable self.old d v.now → IsDeliverable self.new d v.now }
-        ensures ready { OnOk result (IsReady self.new v.now) }
-        ensures touched { IfOk result (λ os. AreTouched (objects_of_items v.now.sending.items) os.items) }
-        ensures len { IfOk result (λ os. length os.items ≡ length v.now.sending.items) }
+        ensures deliverable { (d : TransactionData) → IsDeliverable self.old d delivery.now → IsDeliverable self.new d delivery.now }
+        ensures ready { OnOk result (IsReady self.new delivery.now) }
+        ensures touched { IfOk result (λ os. AreTouched (objects_of_items delivery.now.sending.items) os.items) }
+        ensures len { IfOk result (λ os. length os.items ≡ length delivery.now.sending.items) }
         ensures told { KeepsTold self.old self.new }
     {
-        let items = v.items().len();
+        let items = delivery.items().len();
         let references = items.checked_add(1).ok_or(AllocError)?;
         let works = items
             .checked_mul(2)
             .and_then(|n| n.checked_add(3))
             .ok_or(AllocError)?;
-        let touched = in_order(objects_of(self.alloc, v.items())?);
-        self.windows.reserve_buffer(v.receiver())?;
+        let touched = in_order(objects_of(self.alloc, delivery.items())?);
+        self.windows.reserve_buffer(delivery.receiver())?;
         let room = Room {
-            objects: v.made().len(),
+            objects: delivery.made().len(),
             references,
             names: items,
             deaths: 0,
@@ -188,10 +188,10 @@ impl Tables {
     }
 
     // The buffer of a delivery.
-    fn buffer_of(&self, a: Actor, d: &TransactionData, v: Delivery) -> Buffer
-        requires { IsDeliverable self.now d.now v }
-        ensures buffer { Tells self.now result (λ s. spec.buffer_of s a d.now v) }
-        ensures receiver { result.receiver ≡ v.receiver.made }
+    fn buffer_of(&self, actor: Actor, data: &TransactionData, delivery: Delivery) -> Buffer
+        requires { IsDeliverable self.now data.now delivery }
+        ensures buffer { Tells self.now result (λ s. spec.buffer_of s actor data.now delivery) }
+        ensures receiver { result.receiver ≡ delivery.receiver.made }
         ensures sized { result.size ≡ room.needed (length result.bytes) (length result.offsets) }
         ensures can_add { CanAdd self.now.windows result.receiver result.one_way result.size result.start }
     {
@@ -203,20 +203,20 @@ impl Tables {
             made: _,
             items,
             start,
-        } = v;
+        } = delivery;
         let Parcel { bytes, offsets } = parcel;
         Buffer {
             made: self.steps,
             receiver: receiver.made,
-            sender: a.process.made,
+            sender: actor.process.made,
             start,
-            size: needed(d.data_size, d.offsets_size),
+            size: needed(data.data_size, data.offsets_size),
             one_way,
             handed: false,
             target,
-            code: d.code,
-            flags: d.flags,
-            euid: a.process.euid,
+            code: data.code,
+            flags: data.flags,
+            euid: actor.process.euid,
             bytes: self.translation(receiver.made, bytes, items.as_slice()),
             offsets,
         }
@@ -299,61 +299,61 @@ impl Tables {
     }
 
     // Takes in the objects, the references and the names.
-    fn deliver_objects(&mut self, v: &Delivery) -> Result<(), NumbersFull>
+    fn deliver_objects(&mut self, delivery: &Delivery) -> Result<(), NumbersFull>
         requires { object_rooms.HasRoom self.old.objects
-            (object_rooms.delivery_room v.now.sending.made v.now.sending.items) }
-        ensures ok { OnOk result (MakesWhere (Before self.old) (SendsNew v.now) (Before self.new)
-            (λ s. spec.with_carried s v.now)) }
+            (object_rooms.delivery_room delivery.now.sending.made delivery.now.sending.items) }
+        ensures ok { OnOk result (MakesWhere (Before self.old) (SendsNew delivery.now) (Before self.new)
+            (λ s. spec.with_carried s delivery.now)) }
         ensures err { OnErr result (IsKept self.old self.new) }
-        ensures full { OnErr result (PassesLimit self.old (λ s. names_go (spec.with_carried s v.now))) }
-        ensures objects { OnlyObjects self.old self.new (length v.now.sending.made) }
+        ensures full { OnErr result (PassesLimit self.old (λ s. names_go (spec.with_carried s delivery.now))) }
+        ensures objects { OnlyObjects self.old self.new (length delivery.now.sending.made) }
         ensures told { KeepsTold self.old self.new }
     {
         self.objects.deliver(
             self.steps,
             self.manager,
-            v.receiver(),
-            v.made(),
-            v.items(),
-            v.target(),
+            delivery.receiver(),
+            delivery.made(),
+            delivery.items(),
+            delivery.target(),
         )
     }
 
     // Puts the notices and the buffer in, where the names are known.
-    fn fill(&mut self, a: Actor, d: &TransactionData, v: Delivery)
-        requires deliverable { IsDeliverable self.old d.now v }
+    fn fill(&mut self, actor: Actor, data: &TransactionData, delivery: Delivery)
+        requires deliverable { IsDeliverable self.old data.now delivery }
         requires turns { 1 ≤ call_rooms.turn_room self.old.calls }
-        requires works { length v.sending.items ≤ call_rooms.work_room self.old.calls }
-        requires room { 1 ≤ buffer_room self.old.windows v.receiver.made }
+        requires works { length delivery.sending.items ≤ call_rooms.work_room self.old.calls }
+        requires room { 1 ≤ buffer_room self.old.windows delivery.receiver.made }
         ensures stands { Begins self.old self.new
-            (λ s. spec.own_notices (spec.add_buffer s (spec.buffer_of s a d.now v)) a.thread.seat v.sending.items) }
-        ensures spends { Spends self.old self.new 0 0 1 (length v.sending.items) }
+            (λ s. spec.own_notices (spec.add_buffer s (spec.buffer_of s actor data.now delivery)) actor.thread.seat delivery.sending.items) }
+        ensures spends { Spends self.old self.new 0 0 1 (length delivery.sending.items) }
         ensures told { KeepsTold self.old self.new }
     {
-        self.own_notices(a.thread.seat, v.items());
-        let buffer = self.buffer_of(a, d, v);
+        self.own_notices(actor.thread.seat, delivery.items());
+        let buffer = self.buffer_of(actor, data, delivery);
         self.add_buffer(buffer);
     }
 
     /// The whole delivery; nothing where a number past the limit would be needed. Takes no memory.
     pub(crate) fn delivered(
         &mut self,
-        a: Actor,
-        d: &TransactionData,
-        v: Delivery,
+        actor: Actor,
+        data: &TransactionData,
+        delivery: Delivery,
     ) -> Result<(), NumbersFull>
-        requires deliverable { IsDeliverable self.old d.now v }
-        requires ready { IsReady self.old v }
-        ensures ok { OnOk result (Delivers self.old self.new v (λ s. spec.delivered s a d.now v)) }
+        requires deliverable { IsDeliverable self.old data.now delivery }
+        requires ready { IsReady self.old delivery }
+        ensures ok { OnOk result (Delivers self.old self.new delivery (λ s. spec.delivered s actor data.now delivery)) }
         ensures err { OnErr result (IsKept self.old self.new) }
-        ensures full { OnErr result (PassesLimit self.old (λ s. names_go (spec.with_carried s v))) }
-        ensures spends { OnOk result (Spends self.old self.new (length v.sending.made) 0 1 (length v.sending.items)) }
+        ensures full { OnErr result (PassesLimit self.old (λ s. names_go (spec.with_carried s delivery))) }
+        ensures spends { OnOk result (Spends self.old self.new (length delivery.sending.made) 0 1 (length delivery.sending.items)) }
         ensures told { KeepsTold self.old self.new }
     {
-        match self.deliver_objects(&v) {
+        match self.deliver_objects(&delivery) {
             Err(full) => Err(full),
             Ok(()) => {
-                self.fill(a, d, v);
+                self.fill(actor, data, delivery);
                 Ok(())
             }
         }

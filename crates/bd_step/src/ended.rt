@@ -21,10 +21,10 @@ impl Tables {
             → HasEndings places.new.items (space_after h)
             (steps.change (space_after h) seat (step_of.Command (bc.FreeBuffer pointer) parcel)).space) }
     {
-        let Some(a) = self.actor(seat) else {
+        let Some(actor) = self.actor(seat) else {
             return Ok(());
         };
-        if let Some(b) = self.windows.at_pointer(a.process.made, pointer) {
+        if let Some(b) = self.windows.at_pointer(actor.process.made, pointer) {
             places.push(b.made)?;
         }
         Ok(())

@@ -37,11 +37,11 @@ impl Tables {
     }
 
     /// The step that makes the process the context manager.
-    pub(crate) fn set_manager(&mut self, a: Actor) -> Result<Plain, StepError>
-        ensures step { IsStep self.old self.new (IsBy a) (λ s. steps.manager_step s a) result }
+    pub(crate) fn set_manager(&mut self, actor: Actor) -> Result<Plain, StepError>
+        ensures step { IsStep self.old self.new (IsBy actor) (λ s. steps.manager_step s actor) result }
         ensures told { KeepsTold self.old self.new }
     {
-        if self.is_manager_busy(a.process.made) {
+        if self.is_manager_busy(actor.process.made) {
             return Ok(Plain::Refused(Fault::ManagerBusy));
         }
         let room = Room {
@@ -52,7 +52,7 @@ impl Tables {
         if self.reserve(room, 0).is_err() {
             return Err(StepError::NoMemory);
         }
-        self.with_manager(a.process.made);
+        self.with_manager(actor.process.made);
         Ok(Plain::Set)
     }
 }

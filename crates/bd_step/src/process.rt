@@ -186,11 +186,11 @@ impl Tables {
     }
 
     /// The step that ends a process with all its threads. What it touches is gathered before anything changes.
-    pub(crate) fn exit_process(&mut self, a: Actor) -> Result<Plain, StepError>
-        ensures step { IsStep self.old self.new (IsBy a) (λ s. exits.exit_process_step s a) result }
+    pub(crate) fn exit_process(&mut self, actor: Actor) -> Result<Plain, StepError>
+        ensures step { IsStep self.old self.new (IsBy actor) (λ s. exits.exit_process_step s actor) result }
         ensures told { KeepsTold self.old self.new }
     {
-        let p = a.process.made;
+        let p = actor.process.made;
         let Ok((seats, exit)) = self.begin_exit(p) else {
             return Err(StepError::NoMemory);
         };

@@ -318,22 +318,22 @@ impl Tables {
     /// The step that reads.
     pub(crate) fn read(
         &mut self,
-        a: Actor,
+        actor: Actor,
         limit: u32,
         both: bool,
         answer: &mut StepAnswer,
         again: &mut StepAnswer,
     ) -> Result<Brief, StepError>
-        ensures step { IsStepWritten self.old self.new both (IsBy a) (λ s. spec.read_step s a limit) answer.new again.new result }
+        ensures step { IsStepWritten self.old self.new both (IsBy actor) (λ s. spec.read_step s actor limit) answer.new again.new result }
         ensures told { KeepsTold self.old self.new }
     {
         if limit < 72 {
             return written(Ok(Plain::Refused(Fault::ReadTooSmall)), answer);
         }
-        let Some(list) = self.list_to_read(&a.thread) else {
+        let Some(list) = self.list_to_read(&actor.thread) else {
             return written(Ok(Plain::Refused(Fault::Again)), answer);
         };
-        match self.read_list(&a.thread, list, limit, both, answer, again) {
+        match self.read_list(&actor.thread, list, limit, both, answer, again) {
             Ok(()) => Ok(Brief::Got),
             Err(AllocError) => Err(StepError::NoMemory),
         }

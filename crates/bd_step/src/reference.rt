@@ -38,14 +38,14 @@ impl Tables {
     }
 
     /// The step by which a process asks for an object, weakly or strongly.
-    pub(crate) fn ask(&mut self, a: Actor, n: u32, strong: bool) -> Result<Plain, StepError>
-        ensures step { IsStep self.old self.new (IsBy a)
-            (λ s. by_check s (λ o. asking.ask s a.process.made o strong) (asking.ask_check s a.process.made n strong)) result }
+    pub(crate) fn ask(&mut self, actor: Actor, n: u32, strong: bool) -> Result<Plain, StepError>
+        ensures step { IsStep self.old self.new (IsBy actor)
+            (λ s. by_check s (λ o. asking.ask s actor.process.made o strong) (asking.ask_check s actor.process.made n strong)) result }
         ensures told { KeepsTold self.old self.new }
     {
         let o = match self
             .objects
-            .ask_check(self.manager, a.process.made, n, strong)
+            .ask_check(self.manager, actor.process.made, n, strong)
         {
             Ok(o) => o,
             Err(note) => return Ok(Plain::Noted(note)),
@@ -58,7 +58,7 @@ impl Tables {
         if self.reserve(room, 0).is_err() {
             return Err(StepError::NoMemory);
         }
-        match self.add_asked(a.process.made, n, o, strong) {
+        match self.add_asked(actor.process.made, n, o, strong) {
             Ok(()) => Ok(Plain::Accepted),
             Err(why) => Err(why),
         }
@@ -75,20 +75,20 @@ impl Tables {
     }
 
     /// The step by which a process drops a reference that it asked for.
-    pub(crate) fn drop_asked(&mut self, a: Actor, n: u32, strong: bool) -> Result<Plain, StepError>
-        ensures step { IsStep self.old self.new (IsBy a)
-            (λ s. by_check s (λ o. asking.drop_asked s a.process.made o strong)
-            (asking.drop_check s a.process.made n strong)) result }
+    pub(crate) fn drop_asked(&mut self, actor: Actor, n: u32, strong: bool) -> Result<Plain, StepError>
+        ensures step { IsStep self.old self.new (IsBy actor)
+            (λ s. by_check s (λ o. asking.drop_asked s actor.process.made o strong)
+            (asking.drop_check s actor.process.made n strong)) result }
         ensures told { KeepsTold self.old self.new }
     {
-        let o = match self.objects.drop_check(a.process.made, n, strong) {
+        let o = match self.objects.drop_check(actor.process.made, n, strong) {
             Ok(o) => o,
             Err(note) => return Ok(Plain::Noted(note)),
         };
         if self.reserve(NOTHING, 0).is_err() {
             return Err(StepError::NoMemory);
         }
-        self.release_asked(a.process.made, o, strong);
+        self.release_asked(actor.process.made, o, strong);
         Ok(Plain::Accepted)
     }
 
@@ -105,17 +105,17 @@ impl Tables {
     /// The step by which a process acknowledges what it was told of an own object.
     pub(crate) fn acknowledge(
         &mut self,
-        a: Actor,
+        actor: Actor,
         ptr: u64,
         cookie: u64,
         strong: bool,
     ) -> Result<Plain, StepError>
-        ensures step { IsStep self.old self.new (IsBy a)
+        ensures step { IsStep self.old self.new (IsBy actor)
             (λ s. by_check s (λ x. asking.acknowledge s x.id strong)
-            (asking.done_check s a.process.made ptr cookie strong)) result }
+            (asking.done_check s actor.process.made ptr cookie strong)) result }
         ensures told { KeepsTold self.old self.new }
     {
-        let x = match self.objects.done_check(a.process.made, ptr, cookie, strong) {
+        let x = match self.objects.done_check(actor.process.made, ptr, cookie, strong) {
             Ok(x) => x,
             Err(note) => return Ok(Plain::Noted(note)),
         };

@@ -26,18 +26,18 @@ impl Tables {
     // What is to be delivered to the caller of the frame, or the first cause against it.
     fn reply_check(
         &self,
-        a: Actor,
-        d: &TransactionData,
+        actor: Actor,
+        data: &TransactionData,
         parcel: &Option<Parcel>,
         f: &Frame,
     ) -> Result<Result<Delivery, Cause>, AllocError>
         ensures computed { IfOk result
-            (λ r. TellsBefore self.now r (λ s. spec.reply_check s a d.now parcel.now f.now)) }
-        ensures deliverable { IfOk result (λ r. IfOk r (IsDeliverable self.now d.now)) }
+            (λ r. TellsBefore self.now r (λ s. spec.reply_check s actor data.now parcel.now f.now)) }
+        ensures deliverable { IfOk result (λ r. IfOk r (IsDeliverable self.now data.now)) }
     {
         match self.caller_of(f) {
             None => Ok(Err(Cause::CallerGone)),
-            Some(caller) => self.sent_to(a, d, parcel, caller.process, None, false),
+            Some(caller) => self.sent_to(actor, data, parcel, caller.process, None, false),
         }
     }
 
@@ -58,25 +58,25 @@ impl Tables {
     // All that changes.
     fn replied(
         &mut self,
-        a: Actor,
-        d: &TransactionData,
+        actor: Actor,
+        data: &TransactionData,
         f: Frame,
-        v: Delivery,
+        delivery: Delivery,
     ) -> Result<(), StepError>
-        requires deliverable { IsDeliverable self.old d.now v }
-        requires ready { IsReady self.old v }
-        ensures ok { OnOk result (Delivers self.old self.new v (λ s. spec.replied s a d.now f v)) }
+        requires deliverable { IsDeliverable self.old data.now delivery }
+        requires ready { IsReady self.old delivery }
+        ensures ok { OnOk result (Delivers self.old self.new delivery (λ s. spec.replied s actor data.now f delivery)) }
         ensures err { OnErr result (IsKept self.old self.new) }
-        ensures full { OnErr result (PassesLimit self.old (λ s. names_go (spec.replied s a d.now f v))) }
-        ensures follow { OnOk result (CanFollow self.new (length v.sending.items)) }
+        ensures full { OnErr result (PassesLimit self.old (λ s. names_go (spec.replied s actor data.now f delivery))) }
+        ensures follow { OnOk result (CanFollow self.new (length delivery.sending.items)) }
         // There is room by then, so that nothing else is a reason.
         ensures limit { IfErr result (λ why. why ≡ StepError.HistoryFull) }
         ensures told { KeepsTold self.old self.new }
     {
-        match self.delivered(a, d, v) {
+        match self.delivered(actor, data, delivery) {
             Err(NumbersFull) => Err(StepError::HistoryFull),
             Ok(()) => {
-                self.answered(a.thread.seat, f);
+                self.answered(actor.thread.seat, f);
                 Ok(())
             }
         }
@@ -86,21 +86,21 @@ impl Tables {
     // that calls close, from the one in which the answered call was made upwards.
     pub(crate) fn answer(
         &mut self,
-        a: Actor,
-        d: &TransactionData,
+        actor: Actor,
+        data: &TransactionData,
         f: Frame,
-        v: Delivery,
+        delivery: Delivery,
     ) -> Result<Plain, StepError>
-        requires { IsDeliverable self.old d.now v }
-        ensures step { IsStep self.old self.new (IsReplying a d.now f v)
-            (λ s. outcomes.accepted (spec.replied s a d.now f v)) result }
+        requires { IsDeliverable self.old data.now delivery }
+        ensures step { IsStep self.old self.new (IsReplying actor data.now f delivery)
+            (λ s. outcomes.accepted (spec.replied s actor data.now f delivery)) result }
         ensures told { KeepsTold self.old self.new }
     {
         let parent = f.parent;
-        let Ok(touched) = self.reserve_delivery(&v) else {
+        let Ok(touched) = self.reserve_delivery(&delivery) else {
             return Err(StepError::NoMemory);
         };
-        match self.replied(a, d, f, v) {
+        match self.replied(actor, data, f, delivery) {
             Err(why) => Err(why),
             Ok(()) => {
                 self.follow_objects(touched.as_slice());
@@ -140,35 +140,35 @@ impl Tables {
     // The step of a reply to this frame.
     fn reply_to(
         &mut self,
-        a: Actor,
-        d: &TransactionData,
+        actor: Actor,
+        data: &TransactionData,
         parcel: &Option<Parcel>,
         f: Frame,
     ) -> Result<Plain, StepError>
-        ensures step { IsStep self.old self.new (IsServing a.thread.seat f)
-            (λ s. spec.reply_to s a d.now parcel.now (Some f)) result }
+        ensures step { IsStep self.old self.new (IsServing actor.thread.seat f)
+            (λ s. spec.reply_to s actor data.now parcel.now (Some f)) result }
         ensures told { KeepsTold self.old self.new }
     {
-        match self.reply_check(a, d, parcel, &f) {
+        match self.reply_check(actor, data, parcel, &f) {
             Err(_) => Err(StepError::NoMemory),
-            Ok(Err(cause)) => self.stop_reply(a.thread.seat, cause, f),
-            Ok(Ok(v)) => self.answer(a, d, f, v),
+            Ok(Err(cause)) => self.stop_reply(actor.thread.seat, cause, f),
+            Ok(Ok(v)) => self.answer(actor, data, f, v),
         }
     }
 
     /// The step of BC_REPLY.
     pub(crate) fn reply(
         &mut self,
-        a: Actor,
-        d: &TransactionData,
+        actor: Actor,
+        data: &TransactionData,
         parcel: &Option<Parcel>,
     ) -> Result<Plain, StepError>
-        ensures step { IsStep self.old self.new (IsBy a) (λ s. spec.reply_step s a d.now parcel.now) result }
+        ensures step { IsStep self.old self.new (IsBy actor) (λ s. spec.reply_step s actor data.now parcel.now) result }
         ensures told { KeepsTold self.old self.new }
     {
-        match self.calls.served_innermost(a.thread.seat) {
-            None => self.stop(a.thread.seat, Cause::NoCall, Return::FailedReply),
-            Some(f) => self.reply_to(a, d, parcel, f),
+        match self.calls.served_innermost(actor.thread.seat) {
+            None => self.stop(actor.thread.seat, Cause::NoCall, Return::FailedReply),
+            Some(f) => self.reply_to(actor, data, parcel, f),
         }
     }
 }

@@ -56,10 +56,10 @@ fn cause_of_walk(fault: WalkFault) -> Cause
 }
 
 // Whether the parcel was cut from its area with the sizes that its record says.
-fn has_sizes(d: &TransactionData, q: &Parcel) -> bool
-    ensures { result ≡ parcels.has_sizes d.now q.now }
+fn has_sizes(data: &TransactionData, parcel: &Parcel) -> bool
+    ensures { result ≡ parcels.has_sizes data.now parcel.now }
 {
-    q.bytes.len() as u64 == d.data_size && q.offsets.len() as u64 == d.offsets_size
+    parcel.bytes.len() as u64 == data.data_size && parcel.offsets.len() as u64 == data.offsets_size
 }
 
 // One object more.
@@ -157,16 +157,16 @@ impl Tables {
     pub(crate) fn sending_of<'a>(
         &self,
         p: u32,
-        d: &TransactionData,
+        data: &TransactionData,
         parcel: &'a Option<Parcel>,
     ) -> Result<Result<Sending<'a>, Cause>, AllocError>
-        ensures computed { IfOk result (λ r. Tells self.now r (λ s. parcels.sending_of s p d.now parcel.now)) }
-        ensures sound { IfOk result (λ r. IfOk r (IsSound d.now)) }
+        ensures computed { IfOk result (λ r. Tells self.now r (λ s. parcels.sending_of s p data.now parcel.now)) }
+        ensures sound { IfOk result (λ r. IfOk r (IsSound data.now)) }
     {
         let Some(q) = parcel else {
             return Ok(Err(Cause::OutsideArea));
         };
-        if !has_sizes(d, q) {
+        if !has_sizes(data, q) {
             return Ok(Err(Cause::OutsideArea));
         }
         if q.offsets.len() % 8 != 0 {

@@ -13,20 +13,20 @@ use bd_space::Actor;
 impl Tables {
     /// The step by which a process asks for reports of its own flooding, or no longer. Nothing follows from it, and it
     /// takes no memory.
-    pub(crate) fn set_spam_detection(&mut self, a: Actor, on: bool) -> Plain
-        ensures step { IsStep self.old self.new (IsBy a) (λ s. spec.spam_step s on a) (Ok result) }
+    pub(crate) fn set_spam_detection(&mut self, actor: Actor, on: bool) -> Plain
+        ensures step { IsStep self.old self.new (IsBy actor) (λ s. spec.spam_step s on actor) (Ok result) }
         ensures told { KeepsTold self.old self.new }
     {
-        self.processes.set_spam_detection(a.process.made, on);
+        self.processes.set_spam_detection(actor.process.made, on);
         Plain::Set
     }
 
     /// Whether a call that was just delivered to this process is reported to its sender as flooding.
-    pub(crate) fn is_spam(&self, a: Actor, receiver: u32, one_way: bool) -> bool
+    pub(crate) fn is_spam(&self, actor: Actor, receiver: u32, one_way: bool) -> bool
         ensures { (s : Space) (q : Process) → Within self.now s → process_in s.processes receiver ≡ Some q
-            → result ≡ (a.process.spam_detection && one_way
-            && spec.floods q.window (buffers_of s.buffers receiver) a.process.made) }
+            → result ≡ (actor.process.spam_detection && one_way
+            && spec.floods q.window (buffers_of s.buffers receiver) actor.process.made) }
     {
-        a.process.spam_detection && one_way && self.windows.floods(receiver, a.process.made)
+        actor.process.spam_detection && one_way && self.windows.floods(receiver, actor.process.made)
     }
 }

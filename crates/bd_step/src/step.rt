@@ -14,56 +14,56 @@ impl Tables {
     #[tactic(auto, unfolding(bd_space::specs::Steps::command_step))]
     fn command(
         &mut self,
-        a: Actor,
+        actor: Actor,
         command: &Command,
         parcel: &Option<Parcel>,
     ) -> Result<Plain, StepError>
-        ensures step { IsStep self.old self.new (IsBy a) (λ s. command_step s a command.now parcel.now) result }
+        ensures step { IsStep self.old self.new (IsBy actor) (λ s. command_step s actor command.now parcel.now) result }
         ensures told { KeepsTold self.old self.new }
     {
         match command {
-            Command::Transaction(d) => self.transaction(a, d, parcel),
-            Command::Reply(d) => self.reply(a, d, parcel),
-            Command::FreeBuffer(pointer) => self.free(a, *pointer),
-            Command::Increfs(n) => self.ask(a, *n, false),
-            Command::Acquire(n) => self.ask(a, *n, true),
-            Command::Release(n) => self.drop_asked(a, *n, true),
-            Command::Decrefs(n) => self.drop_asked(a, *n, false),
-            Command::IncrefsDone(ptr, cookie) => self.acknowledge(a, *ptr, *cookie, false),
-            Command::AcquireDone(ptr, cookie) => self.acknowledge(a, *ptr, *cookie, true),
-            Command::EnterLooper => Ok(self.set_looping(a, true)),
-            Command::ExitLooper => Ok(self.set_looping(a, false)),
-            Command::RequestDeathNotification(n, cookie) => self.request_death(a, *n, *cookie),
-            Command::ClearDeathNotification(n, cookie) => self.clear_death(a, *n, *cookie),
-            Command::DeadBinderDone(cookie) => self.death_done(a, *cookie),
+            Command::Transaction(d) => self.transaction(actor, d, parcel),
+            Command::Reply(d) => self.reply(actor, d, parcel),
+            Command::FreeBuffer(pointer) => self.free(actor, *pointer),
+            Command::Increfs(n) => self.ask(actor, *n, false),
+            Command::Acquire(n) => self.ask(actor, *n, true),
+            Command::Release(n) => self.drop_asked(actor, *n, true),
+            Command::Decrefs(n) => self.drop_asked(actor, *n, false),
+            Command::IncrefsDone(ptr, cookie) => self.acknowledge(actor, *ptr, *cookie, false),
+            Command::AcquireDone(ptr, cookie) => self.acknowledge(actor, *ptr, *cookie, true),
+            Command::EnterLooper => Ok(self.set_looping(actor, true)),
+            Command::ExitLooper => Ok(self.set_looping(actor, false)),
+            Command::RequestDeathNotification(n, cookie) => self.request_death(actor, *n, *cookie),
+            Command::ClearDeathNotification(n, cookie) => self.clear_death(actor, *n, *cookie),
+            Command::DeadBinderDone(cookie) => self.death_done(actor, *cookie),
         }
     }
 
     // The step of a live thread.
     fn change_by(
         &mut self,
-        a: Actor,
+        actor: Actor,
         step: &Step,
         both: bool,
         answer: &mut StepAnswer,
         again: &mut StepAnswer,
     ) -> Result<Brief, StepError>
-        ensures step { IsStepWritten self.old self.new both (IsBy a) (λ s. change s a.thread.seat step.now)
+        ensures step { IsStepWritten self.old self.new both (IsBy actor) (λ s. change s actor.thread.seat step.now)
             answer.new again.new result }
         ensures told { KeepsTold self.old self.new }
     {
         match step {
             Step::Open { pid, euid, window } => written(
-                self.open(a.thread.seat, *pid, *euid, *window),
+                self.open(actor.thread.seat, *pid, *euid, *window),
                 answer,
             ),
-            Step::Attach { pid } => written(self.attach(a.thread.seat, *pid), answer),
-            Step::SetManager => written(self.set_manager(a), answer),
-            Step::SetSpam { on } => written(Ok(self.set_spam_detection(a, *on)), answer),
-            Step::Command { command, parcel } => written(self.command(a, command, parcel), answer),
-            Step::Read { limit } => self.read(a, *limit, both, answer, again),
-            Step::ExitThread => written(self.exit_thread(a), answer),
-            Step::ExitProcess => written(self.exit_process(a), answer),
+            Step::Attach { pid } => written(self.attach(actor.thread.seat, *pid), answer),
+            Step::SetManager => written(self.set_manager(actor), answer),
+            Step::SetSpam { on } => written(Ok(self.set_spam_detection(actor, *on)), answer),
+            Step::Command { command, parcel } => written(self.command(actor, command, parcel), answer),
+            Step::Read { limit } => self.read(actor, *limit, both, answer, again),
+            Step::ExitThread => written(self.exit_thread(actor), answer),
+            Step::ExitProcess => written(self.exit_process(actor), answer),
         }
     }
 
@@ -94,7 +94,7 @@ impl Tables {
         ensures told { KeepsTold self.old self.new }
     {
         match self.actor(seat) {
-            Some(a) => self.change_by(a, step, both, answer, again),
+            Some(actor) => self.change_by(actor, step, both, answer, again),
             None => written(self.change_alone(seat, step), answer),
         }
     }

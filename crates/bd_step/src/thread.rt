@@ -123,12 +123,12 @@ impl Tables {
     }
 
     /// The step by which a thread enters the loop, or leaves it. Nothing follows from it, and it takes no memory.
-    pub(crate) fn set_looping(&mut self, a: Actor, looping: bool) -> Plain
-        ensures step { IsStep self.old self.new (IsBy a)
-            (λ s. accepted (steps.with_looping s a.thread.seat looping)) (Ok result) }
+    pub(crate) fn set_looping(&mut self, actor: Actor, looping: bool) -> Plain
+        ensures step { IsStep self.old self.new (IsBy actor)
+            (λ s. accepted (steps.with_looping s actor.thread.seat looping)) (Ok result) }
         ensures told { KeepsTold self.old self.new }
     {
-        self.calls.set_looping(a.thread.seat, looping);
+        self.calls.set_looping(actor.thread.seat, looping);
         Plain::Accepted
     }
 
@@ -145,16 +145,16 @@ impl Tables {
     }
 
     /// The step that ends a thread. What it touches is gathered before anything changes.
-    pub(crate) fn exit_thread(&mut self, a: Actor) -> Result<Plain, StepError>
-        ensures step { IsStep self.old self.new (IsBy a) (λ s. exits.exit_thread_step s a) result }
+    pub(crate) fn exit_thread(&mut self, actor: Actor) -> Result<Plain, StepError>
+        ensures step { IsStep self.old self.new (IsBy actor) (λ s. exits.exit_thread_step s actor) result }
         ensures told { KeepsTold self.old self.new }
     {
-        let seat = a.thread.seat;
+        let seat = actor.thread.seat;
         let Ok(exit) = self.begin_thread_exit(seat) else {
             return Err(StepError::NoMemory);
         };
         self.thread_goes(seat);
-        self.follow_among(a.thread.process, exit.objects());
+        self.follow_among(actor.thread.process, exit.objects());
         let mut frames = exit.into_frames();
         self.close_among(frames.as_mut_slice());
         Ok(Plain::Exited)

@@ -24,17 +24,17 @@ use bd_space::{Actor, Callee, Frame, ObjectId, Parcel, Process, WorkKind};
 use bd_uapi::{Cause, Return, TransactionData};
 use std::alloc::AllocError;
 
-fn is_one_way(d: &TransactionData) -> bool
-    ensures { result ≡ spec.is_one_way d.now }
+fn is_one_way(data: &TransactionData) -> bool
+    ensures { result ≡ spec.is_one_way data.now }
 {
-    d.flags.is_one_way()
+    data.flags.is_one_way()
 }
 
 // The handle is the low half of the target.
-fn handle_of(d: &TransactionData) -> u32
-    ensures { result ≡ spec.handle_of d.now }
+fn handle_of(data: &TransactionData) -> u32
+    ensures { result ≡ spec.handle_of data.now }
 {
-    (d.target % 0x1_0000_0000) as u32
+    (data.target % 0x1_0000_0000) as u32
 }
 
 // The thread is in a frame, and doesn't serve it.
@@ -142,22 +142,22 @@ impl Tables {
     // What is to be delivered, or the first cause against it.
     fn transaction_check(
         &self,
-        a: Actor,
-        d: &TransactionData,
+        actor: Actor,
+        data: &TransactionData,
         parcel: &Option<Parcel>,
     ) -> Result<Result<Delivery, Cause>, AllocError>
         ensures computed { IfOk result
-            (λ r. TellsBeforeOfStacked self.now r (λ s. spec.transaction_check s a d.now parcel.now)) }
-        ensures deliverable { IfOk result (λ r. IfOk r (IsDeliverable self.now d.now)) }
+            (λ r. TellsBeforeOfStacked self.now r (λ s. spec.transaction_check s actor data.now parcel.now)) }
+        ensures deliverable { IfOk result (λ r. IfOk r (IsDeliverable self.now data.now)) }
     {
-        let callee = match self.callee_of(a.process.made, handle_of(d)) {
+        let callee = match self.callee_of(actor.process.made, handle_of(data)) {
             Err(cause) => return Ok(Err(cause)),
             Ok(callee) => callee,
         };
-        let one_way = is_one_way(d);
-        match self.call_cause(a.thread.seat, one_way) {
+        let one_way = is_one_way(data);
+        match self.call_cause(actor.thread.seat, one_way) {
             Some(cause) => Ok(Err(cause)),
-            None => self.sent_to(a, d, parcel, callee.process, Some(callee.object), one_way),
+            None => self.sent_to(actor, data, parcel, callee.process, Some(callee.object), one_way),
         }
     }
 
@@ -178,24 +178,24 @@ impl Tables {
     }
 
     // All that changes.
-    fn transacted(&mut self, a: Actor, d: &TransactionData, v: Delivery) -> Result<(), StepError>
-        requires deliverable { IsDeliverable self.old d.now v }
-        requires ready { IsReady self.old v }
-        ensures ok { OnOk result (DeliversCall self.old self.new v (λ s. spec.transacted s a d.now v)) }
+    fn transacted(&mut self, actor: Actor, data: &TransactionData, delivery: Delivery) -> Result<(), StepError>
+        requires deliverable { IsDeliverable self.old data.now delivery }
+        requires ready { IsReady self.old delivery }
+        ensures ok { OnOk result (DeliversCall self.old self.new delivery (λ s. spec.transacted s actor data.now delivery)) }
         ensures err { OnErr result (IsKept self.old self.new) }
-        ensures full { OnErr result (PassesLimit self.old (λ s. names_go (spec.transacted s a d.now v))) }
-        ensures follow { OnOk result (CanFollow self.new (length v.sending.items + 1)) }
+        ensures full { OnErr result (PassesLimit self.old (λ s. names_go (spec.transacted s actor data.now delivery))) }
+        ensures follow { OnOk result (CanFollow self.new (length delivery.sending.items + 1)) }
         // There is room by then, so that nothing else is a reason.
         ensures limit { IfErr result (λ why. why ≡ StepError.HistoryFull) }
         ensures told { KeepsTold self.old self.new }
     {
-        let receiver = v.receiver();
-        let one_way = v.is_one_way();
-        match self.delivered(a, d, v) {
+        let receiver = delivery.receiver();
+        let one_way = delivery.is_one_way();
+        match self.delivered(actor, data, delivery) {
             Err(NumbersFull) => Err(StepError::HistoryFull),
             Ok(()) => {
-                let spam = self.is_spam(a, receiver, one_way);
-                self.called(a.thread.seat, receiver, one_way, spam);
+                let spam = self.is_spam(actor, receiver, one_way);
+                self.called(actor.thread.seat, receiver, one_way, spam);
                 Ok(())
             }
         }
@@ -203,17 +203,17 @@ impl Tables {
 
     // The step of a transaction that nothing stands against. All that may follow is that a one-way call ripens on its target,
     // and what follows at the objects of its parcel.
-    fn transact(&mut self, a: Actor, d: &TransactionData, v: Delivery) -> Result<Plain, StepError>
-        requires { IsDeliverable self.old d.now v }
-        ensures step { IsStep self.old self.new (IsSending a d.now v)
-            (λ s. outcomes.accepted (spec.transacted s a d.now v)) result }
+    fn transact(&mut self, actor: Actor, data: &TransactionData, delivery: Delivery) -> Result<Plain, StepError>
+        requires { IsDeliverable self.old data.now delivery }
+        ensures step { IsStep self.old self.new (IsSending actor data.now delivery)
+            (λ s. outcomes.accepted (spec.transacted s actor data.now delivery)) result }
         ensures told { KeepsTold self.old self.new }
     {
-        let target = v.one_way_target();
-        let Ok(touched) = self.reserve_delivery(&v) else {
+        let target = delivery.one_way_target();
+        let Ok(touched) = self.reserve_delivery(&delivery) else {
             return Err(StepError::NoMemory);
         };
-        match self.transacted(a, d, v) {
+        match self.transacted(actor, data, delivery) {
             Err(why) => Err(why),
             Ok(()) => {
                 self.ripen_next(target);
@@ -226,17 +226,17 @@ impl Tables {
     /// The step of BC_TRANSACTION.
     pub(crate) fn transaction(
         &mut self,
-        a: Actor,
-        d: &TransactionData,
+        actor: Actor,
+        data: &TransactionData,
         parcel: &Option<Parcel>,
     ) -> Result<Plain, StepError>
-        ensures step { IsStep self.old self.new (IsBy a) (λ s. spec.transaction_step s a d.now parcel.now) result }
+        ensures step { IsStep self.old self.new (IsBy actor) (λ s. spec.transaction_step s actor data.now parcel.now) result }
         ensures told { KeepsTold self.old self.new }
     {
-        match self.transaction_check(a, d, parcel) {
+        match self.transaction_check(actor, data, parcel) {
             Err(_) => Err(StepError::NoMemory),
-            Ok(Err(cause)) => self.stop(a.thread.seat, cause, refusal(cause)),
-            Ok(Ok(v)) => self.transact(a, d, v),
+            Ok(Err(cause)) => self.stop(actor.thread.seat, cause, refusal(cause)),
+            Ok(Ok(v)) => self.transact(actor, data, v),
         }
     }
 }

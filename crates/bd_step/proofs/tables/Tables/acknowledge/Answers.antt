@@ -5,10 +5,10 @@ use Rattle.bd_step.proofs.tables.Tables.acknowledge.Goals as goal
 
 pub returns-in-Err-clause-step : goal.returns-in-Err-clause-step
 returns-in-Err-clause-step c = taken_step _ _ _ _ _ (
-    checked_notes _ _ (λ s x. acknowledge s x.id c.args.strong) (λ s. done_check s c.args.a.process.made c.args.ptr c.args.cookie c.args.strong) _
+    checked_notes _ _ (λ s x. acknowledge s x.id c.args.strong) (λ s. done_check s c.args.actor.process.made c.args.ptr c.args.cookie c.args.strong) _
     (λ s h. c.in-Err.ensures s h.objects_stand))
 
 pub returns-clause-step : goal.returns-clause-step
 returns-clause-step c = taken_step _ _ _ _ _ (
-    checked_accepts _ _ (λ s x. acknowledge s x.id c.args.strong) (λ s. done_check s c.args.a.process.made c.args.ptr c.args.cookie c.args.strong) _
+    checked_accepts _ _ (λ s x. acknowledge s x.id c.args.strong) (λ s. done_check s c.args.actor.process.made c.args.ptr c.args.cookie c.args.strong) _
     (λ s h. c.in-Ok.ensures s h.objects_stand) _ _ c.reserve.ensures.stands (λ s h by. c.release_handshake.ensures.stands s h by.tidy))

@@ -7,8 +7,8 @@ use Rattle.bd_step.proofs.tables.Tables.change.Goals as goal
 
 pub returns-in-Some-clause-step : goal.returns-in-Some-clause-step
 returns-in-Some-clause-step c =
-    as_step_written c.args.self.now (IsBy c.in-Some.a) IsAny (λ s. change s c.in-Some.a.thread.seat c.args.step.now) (λ s. change s c.args.seat c.args.step.now)
-    (λ s h q. acting_seat s c.args.seat c.in-Some.a c.args.step.now (sym (c.actor.ensures.found s.steps s h) ∙ c.in-Some.is) q) _ _ _ _ _ c.change_by.ensures.step
+    as_step_written c.args.self.now (IsBy c.in-Some.actor) IsAny (λ s. change s c.in-Some.actor.thread.seat c.args.step.now) (λ s. change s c.args.seat c.args.step.now)
+    (λ s h q. acting_seat s c.args.seat c.in-Some.actor c.args.step.now (sym (c.actor.ensures.found s.steps s h) ∙ c.in-Some.is) q) _ _ _ _ _ c.change_by.ensures.step
 
 pub returns-in-None-clause-step : goal.returns-in-None-clause-step
 returns-in-None-clause-step c =

@@ -41,19 +41,19 @@ pub returns-in-Err-clause-step : goal.returns-in-Err-clause-step
 unfolding free_step
 returns-in-Err-clause-step c = taken_step _ _ _ _ _ (
     notes _ _ _ _ (λ s h by.
-    let p = c.args.a.process.made in
-    let checked = c.in-Err.ensures s c.args.a.process (within c.args.self.now s h) (process_of s c.args.a.thread.seat c.args.a by.acts) in
+    let p = c.args.actor.process.made in
+    let checked = c.in-Err.ensures s c.args.actor.process (within c.args.self.now s h) (process_of s c.args.actor.thread.seat c.args.actor by.acts) in
     sym (ap (freed_outcome s) checked ∙ by_check s (buffer_at_pointer s p c.args.pointer))))
 
 pub returns-clause-step : goal.returns-clause-step
 unfolding free_step
 returns-clause-step c =
-    let p = c.args.a.process.made in
+    let p = c.args.actor.process.made in
     let made = c.in-Ok.made in
     record {
       ok =
           meets _ _ _ _ _ (λ s h by.
-          let checked = c.in-Ok.ensures s c.args.a.process (within c.args.self.now s h) (process_of s c.args.a.thread.seat c.args.a by.acts) in
+          let checked = c.in-Ok.ensures s c.args.actor.process (within c.args.self.now s h) (process_of s c.args.actor.thread.seat c.args.actor by.acts) in
           let is = ap (freed_outcome s) checked ∙ by_check s (buffer_at_pointer s p c.args.pointer) in
           let b = buffer_freed s p c.args.pointer made checked in
           record {

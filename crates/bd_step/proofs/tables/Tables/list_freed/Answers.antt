@@ -19,7 +19,7 @@ returns-in_default c = λ h parcel before.
 pub returns-in_default-at_pointer : goal.returns-in_default-at_pointer
 returns-in_default-at_pointer c = λ h parcel before.
     let s = space_after h in
-    let a = c.in-Some.a in
+    let a = c.in-Some.actor in
     let acts = sym (c.in-Some.ensures.found s.steps s before) in
     let found = sym (c.in_default-at_pointer.ensures.found s a.process (stands_in c.args.self.now.windows s before.windows_stand) (actor_acts s c.args.seat a acts).found) in
     subst (λ (ps : List ℕ). HasEndings ps s (change s c.args.seat (step_of.Command (bc.FreeBuffer c.args.pointer) parcel)).space) (sym c.requires.none)
@@ -28,7 +28,7 @@ returns-in_default-at_pointer c = λ h parcel before.
 pub returns-in_ok-push : goal.returns-in_ok-push
 returns-in_ok-push c = λ h parcel before.
     let s = space_after h in
-    let a = c.in-Some.a in
+    let a = c.in-Some.actor in
     let b = c.in-Some-at_pointer.b.now in
     let acts = sym (c.in-Some.ensures.found s.steps s before) in
     let found = sym (c.in-Some-at_pointer.ensures.found s a.process (stands_in c.args.self.now.windows s before.windows_stand) (actor_acts s c.args.seat a acts).found) in

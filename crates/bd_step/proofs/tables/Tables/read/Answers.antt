@@ -11,21 +11,21 @@ use Rattle.bd_step.proofs.tables.Tables.read.Goals as goal
 pub returns-then-limit-lt72-clause-step : goal.returns-then-limit-lt72-clause-step
 unfolding read_step
 returns-then-limit-lt72-clause-step c = written_step _ _ _ _ _ _ _ _ _ c.written.ensures (taken_step _ _ _ _ _ (meets _ _ _ _ _ (λ s h by.
-    let ws = list_to_read s c.args.a.thread in
-    in_case _ _ (read_outcome s c.args.a.thread.seat c.args.limit ws) _ _ (too_small c.args.limit ws c.if-limit-lt72.true) (is_refused _ s ReadTooSmall h))))
+    let ws = list_to_read s c.args.actor.thread in
+    in_case _ _ (read_outcome s c.args.actor.thread.seat c.args.limit ws) _ _ (too_small c.args.limit ws c.if-limit-lt72.true) (is_refused _ s ReadTooSmall h))))
 
 pub returns-in_default-clause-step : goal.returns-in_default-clause-step
 unfolding read_step
 returns-in_default-clause-step c = written_step _ _ _ _ _ _ _ _ _ c.written-in_default.ensures (taken_step _ _ _ _ _ (meets _ _ _ _ _ (λ s h by.
-    let ws = list_to_read s c.args.a.thread in
-    in_case _ _ (read_outcome s c.args.a.thread.seat c.args.limit ws) _ _
+    let ws = list_to_read s c.args.actor.thread in
+    in_case _ _ (read_outcome s c.args.actor.thread.seat c.args.limit ws) _ _
     (nothing c.args.limit ws c.if-limit-lt72.false (ap none_due (c.list_to_read.ensures.none c.in_default.is s h))) (is_refused _ s Again h))))
 
 pub returns-in-Ok-clause-step : goal.returns-in-Ok-clause-step
 unfolding read_step
 returns-in-Ok-clause-step c = record {
   ok = meets _ _ _ _ _ (λ s h by.
-      let t = c.args.a.thread in
+      let t = c.args.actor.thread in
       let ok = c.in-Ok.ensures.ok in
       let reading : IsReading t c.in-Some.list s = record { tidy = by.tidy; reads = c.in-Some.ensures.some s h } in
       in_case _ _ (read_outcome s t.seat c.args.limit (list_to_read s t)) _ _ (readable c.args.limit (list_to_read s t) c.if-limit-lt72.false (c.in-Some.ensures.filled s h))

@@ -20,6 +20,6 @@ returns-clause-step c = taken_step _ _ _ _ _ (
         };
         objects_stand = w.objects_stand;
         calls_stand = w.calls_stand;
-        windows_stand = stands_marked c.args.self.now.windows s c.args.a.process.made c.args.on w.windows_stand;
+        windows_stand = stands_marked c.args.self.now.windows s c.args.actor.process.made c.args.on w.windows_stand;
       };
     }))
