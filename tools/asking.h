@@ -100,6 +100,64 @@ static inline bool reads(hullpippin_live *live, uint32_t seat)
     return is_made(hullpippin_live_read(live, seat, 256, &answer), &answer, HULLPIPPIN_GOT);
 }
 
+/* A call with nothing in its parcel; with TF_ONE_WAY nobody replies. */
+static inline bool calls(hullpippin_live *live, uint32_t seat, uint32_t handle, uint32_t flags)
+{
+    hullpippin_command command = {.code = HULLPIPPIN_BC_TRANSACTION, .transaction = {.target = handle, .flags = flags}};
+    return runs(live, seat, &command, NULL);
+}
+
+static inline bool replies(hullpippin_live *live, uint32_t seat)
+{
+    hullpippin_command command = {.code = HULLPIPPIN_BC_REPLY};
+    return runs(live, seat, &command, NULL);
+}
+
+/* Reads once, and tells which buffer the call or reply that came is in. */
+static inline bool takes(hullpippin_live *live, uint32_t seat, uint64_t *buffer)
+{
+    uint8_t stream[256];
+    if (!reads(live, seat))
+        return false;
+    size_t size = hullpippin_live_bytes(live, HULLPIPPIN_STREAM, stream, sizeof stream);
+    if (size < CALL_SIZE || size > sizeof stream)
+        return fails("no call and no reply is read");
+    *buffer = 0;
+    for (size_t i = 0; i < 8; i++)
+        *buffer |= (uint64_t)stream[size - 16 + i] << 8 * i;
+    return true;
+}
+
+static inline bool frees(hullpippin_live *live, uint32_t seat, uint64_t buffer)
+{
+    hullpippin_command command = {.code = HULLPIPPIN_BC_FREE_BUFFER, .pointer = buffer};
+    return runs(live, seat, &command, NULL);
+}
+
+static inline bool enters_loop(hullpippin_live *live, uint32_t seat)
+{
+    hullpippin_command command = {.code = HULLPIPPIN_BC_ENTER_LOOPER};
+    return runs(live, seat, &command, NULL);
+}
+
+static inline bool opens_process(hullpippin_live *live, uint32_t seat, uint32_t pid, uint32_t window)
+{
+    hullpippin_answer answer;
+    return is_made(hullpippin_live_open(live, seat, pid, 1000, window, &answer), &answer, HULLPIPPIN_OPENED);
+}
+
+static inline bool attaches(hullpippin_live *live, uint32_t seat, uint32_t pid)
+{
+    hullpippin_answer answer;
+    return is_made(hullpippin_live_attach(live, seat, pid, &answer), &answer, HULLPIPPIN_OPENED);
+}
+
+static inline bool exits_thread(hullpippin_live *live, uint32_t seat)
+{
+    hullpippin_answer answer;
+    return is_made(hullpippin_live_exit_thread(live, seat, &answer), &answer, HULLPIPPIN_EXITED);
+}
+
 /* Two processes of a live engine, the first the context manager's. */
 static inline bool opens_live(hullpippin_live *live, uint32_t manager, uint32_t client)
 {

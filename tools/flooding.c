@@ -36,7 +36,7 @@ struct run {
     hullpippin_seat seats[2];
 };
 
-static bool calls(struct run *run, uint32_t data, uint32_t code)
+static bool driver_calls(struct run *run, uint32_t data, uint32_t code)
 {
     uint8_t command[CALL_SIZE], stream[256];
     hullpippin_answer answer;
@@ -97,9 +97,9 @@ static bool floods(struct run *run)
 {
     hullpippin_answer answer;
     return opens(run) && refuses(run) && is_made(hullpippin_set_spam(&run->seats[CLIENT], 1, &answer), &answer, HULLPIPPIN_SET)
-           && calls(run, WINDOW / 4, HULLPIPPIN_BR_TRANSACTION_COMPLETE) && refuses(run) && calls(run, 0, HULLPIPPIN_BR_ONEWAY_SPAM_SUSPECT)
-           && turns_off(run)
-           && calls(run, 0, HULLPIPPIN_BR_TRANSACTION_COMPLETE);
+           && driver_calls(run, WINDOW / 4, HULLPIPPIN_BR_TRANSACTION_COMPLETE) && refuses(run)
+           && driver_calls(run, 0, HULLPIPPIN_BR_ONEWAY_SPAM_SUSPECT) && turns_off(run)
+           && driver_calls(run, 0, HULLPIPPIN_BR_TRANSACTION_COMPLETE);
 }
 
 static bool floods_a_driver(void)

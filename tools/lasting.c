@@ -16,8 +16,9 @@ enum { FIRST = 1000, ALL = 100000, LEFT = 5000 };
 
 #define COOKIE 7u
 
-/* The one handle that a process has here beside 0. */
+/* The one handle that a process has here beside 0, and one that it hasn't. */
 #define HANDLE 1u
+#define NO_HANDLE 77u
 
 /* ---- memory */
 
@@ -66,110 +67,33 @@ void __wrap_free(void *block)
 
 /* ---- steps */
 
-struct command {
-    uint8_t bytes[CALL_SIZE];
-    size_t size;
-};
-
-static void put64(uint8_t *at, uint64_t value)
+/* A command of the manager's, which looks at the handle and the cookie if it has any. */
+static bool makes(hullpippin_live *live, uint32_t code, uint32_t handle, uint64_t cookie)
 {
-    put32(at, (uint32_t)value);
-    put32(at + 4, (uint32_t)(value >> 32));
+    hullpippin_command command = {.code = code, .handle = handle, .cookie = cookie};
+    return runs(live, MANAGER, &command, NULL);
 }
 
-static uint64_t get64(const uint8_t *at)
+static bool is_refused(hullpippin_live *live, uint32_t seat, uint32_t code, uint32_t handle)
 {
-    uint64_t value = 0;
-    for (int i = 7; i >= 0; i--)
-        value = value << 8 | at[i];
-    return value;
+    hullpippin_answer answer;
+    hullpippin_command command = {.code = code, .transaction = {.target = handle}};
+    return is_done(step(live, seat, &command, NULL, &answer)) && is(answer.stop == HULLPIPPIN_AT_CAUSE, "a call isn't refused");
 }
 
-static struct command of_handle(uint32_t code, uint32_t handle)
+/* A call or reply with one object in its parcel. */
+static bool makes_with_object(hullpippin_live *live, uint32_t seat, uint32_t code, uint32_t flags, uint64_t object)
 {
-    struct command command = {.size = 8};
-    put32(command.bytes, code);
-    put32(command.bytes + 4, handle);
-    return command;
-}
-
-static struct command of_handle_and_cookie(uint32_t code, uint32_t handle, uint64_t cookie)
-{
-    struct command command = of_handle(code, handle);
-    put64(command.bytes + 8, cookie);
-    command.size = 16;
-    return command;
-}
-
-static struct command of_word(uint32_t code, uint64_t word)
-{
-    struct command command = {.size = 12};
-    put32(command.bytes, code);
-    put64(command.bytes + 4, word);
-    return command;
-}
-
-static struct command of_words(uint32_t code, uint64_t first, uint64_t second)
-{
-    struct command command = of_word(code, first);
-    put64(command.bytes + 12, second);
-    command.size = 20;
-    return command;
-}
-
-/* A transaction or reply, with one object in its parcel or with nothing. */
-static struct command of_call(uint32_t code, uint32_t handle, uint32_t flags, bool has_object)
-{
-    struct command command = {.size = CALL_SIZE};
-    put32(command.bytes, code);
-    put32(command.bytes + 4, handle);
-    put32(command.bytes + 4 + 20, flags);
-    put64(command.bytes + 4 + 32, has_object ? OBJECT_SIZE : 0);
-    put64(command.bytes + 4 + 40, has_object ? 8 : 0);
-    return command;
-}
-
-static uint32_t make(hullpippin_live *live, uint32_t seat, struct command command, uint64_t object, hullpippin_answer *answer)
-{
-    static const uint8_t offsets[8];
-    uint8_t data[OBJECT_SIZE] = {0};
-    put32(data, HULLPIPPIN_TYPE_BINDER);
-    put64(data + 8, object);
-    put64(data + 16, COOKIE);
-    return hullpippin_live_command(live, seat, command.bytes, command.size, data, object ? sizeof data : 0, offsets,
-                                   object ? sizeof offsets : 0, answer);
-}
-
-static bool makes(hullpippin_live *live, uint32_t seat, struct command command)
-{
-    hullpippin_answer answer = {0};
-    return is_made(make(live, seat, command, 0, &answer), &answer, HULLPIPPIN_WROTE);
-}
-
-static bool is_refused(hullpippin_live *live, uint32_t seat, struct command command)
-{
-    hullpippin_answer answer = {0};
-    return is_done(make(live, seat, command, 0, &answer)) && (answer.stop == HULLPIPPIN_AT_CAUSE || fails("a call isn't refused"));
-}
-
-static bool calls(hullpippin_live *live, uint32_t seat, uint32_t handle, uint32_t flags)
-{
-    return makes(live, seat, of_call(HULLPIPPIN_BC_TRANSACTION, handle, flags, false));
+    uint8_t data[OBJECT_SIZE];
+    hullpippin_flat_object flat = {.kind = HULLPIPPIN_TYPE_BINDER, .binder = object, .cookie = COOKIE};
+    hullpippin_command command = {.code = code, .transaction = {.flags = flags, .data_size = sizeof data, .offsets_size = 8}};
+    return is(!hullpippin_put_object(&flat, data, sizeof data), "the object has no place") && runs(live, seat, &command, data);
 }
 
 /* The object goes with a one-way call to the manager. */
 static bool sends(hullpippin_live *live, uint32_t seat, uint64_t object)
 {
-    hullpippin_answer answer = {0};
-    struct command command = of_call(HULLPIPPIN_BC_TRANSACTION, 0, TF_ONE_WAY, true);
-    return is_made(make(live, seat, command, object, &answer), &answer, HULLPIPPIN_WROTE);
-}
-
-static bool replies(hullpippin_live *live, uint32_t seat, uint64_t object)
-{
-    hullpippin_answer answer = {0};
-    struct command command = of_call(HULLPIPPIN_BC_REPLY, 0, 0, object != 0);
-    return is_made(make(live, seat, command, object, &answer), &answer, HULLPIPPIN_WROTE);
+    return makes_with_object(live, seat, HULLPIPPIN_BC_TRANSACTION, TF_ONE_WAY, object);
 }
 
 /* Reads until nothing is left. */
@@ -183,53 +107,11 @@ static bool drains(hullpippin_live *live, uint32_t seat)
     return true;
 }
 
-/* Reads until nothing is left, and frees the buffer of the call or reply that came last. */
-static bool takes(hullpippin_live *live, uint32_t seat, uint64_t *buffer)
-{
-    uint8_t stream[256];
-    if (!drains(live, seat))
-        return false;
-    size_t size = hullpippin_live_bytes(live, HULLPIPPIN_STREAM, stream, sizeof stream);
-    if (size < CALL_SIZE)
-        return fails("no call and no reply is read");
-    *buffer = get64(stream + size - 16);
-    return true;
-}
-
-static bool frees(hullpippin_live *live, uint32_t seat, uint64_t buffer)
-{
-    return makes(live, seat, of_word(HULLPIPPIN_BC_FREE_BUFFER, buffer));
-}
-
 static bool acknowledges(hullpippin_live *live, uint32_t seat, uint64_t object)
 {
-    return drains(live, seat) && makes(live, seat, of_words(HULLPIPPIN_BC_INCREFS_DONE, object, COOKIE))
-           && makes(live, seat, of_words(HULLPIPPIN_BC_ACQUIRE_DONE, object, COOKIE));
-}
-
-static bool opens(hullpippin_live *live, uint32_t seat, uint32_t pid)
-{
-    hullpippin_answer answer;
-    return is_made(hullpippin_live_open(live, seat, pid, 1000, WINDOW, &answer), &answer, HULLPIPPIN_OPENED);
-}
-
-static bool attaches(hullpippin_live *live, uint32_t seat, uint32_t pid)
-{
-    hullpippin_answer answer;
-    return is_made(hullpippin_live_attach(live, seat, pid, &answer), &answer, HULLPIPPIN_OPENED);
-}
-
-static bool loops(hullpippin_live *live, uint32_t seat)
-{
-    struct command command = {.size = 4};
-    put32(command.bytes, HULLPIPPIN_BC_ENTER_LOOPER);
-    return makes(live, seat, command);
-}
-
-static bool leaves(hullpippin_live *live, uint32_t seat)
-{
-    hullpippin_answer answer;
-    return is_made(hullpippin_live_exit_thread(live, seat, &answer), &answer, HULLPIPPIN_EXITED);
+    hullpippin_command weakly = {.code = HULLPIPPIN_BC_INCREFS_DONE, .pointer = object, .cookie = COOKIE};
+    hullpippin_command strongly = {.code = HULLPIPPIN_BC_ACQUIRE_DONE, .pointer = object, .cookie = COOKIE};
+    return drains(live, seat) && runs(live, seat, &weakly, NULL) && runs(live, seat, &strongly, NULL);
 }
 
 static bool exits(hullpippin_live *live, uint32_t seat)
@@ -243,13 +125,13 @@ static bool exits(hullpippin_live *live, uint32_t seat)
 static bool process(hullpippin_live *live, uint64_t object)
 {
     (void)object;
-    return opens(live, GUEST, GUEST_PID) && exits(live, GUEST);
+    return opens_process(live, GUEST, GUEST_PID, WINDOW) && exits(live, GUEST);
 }
 
 static bool thread(hullpippin_live *live, uint64_t object)
 {
     (void)object;
-    return attaches(live, SECOND, MANAGER_PID) && leaves(live, SECOND);
+    return attaches(live, SECOND, MANAGER_PID) && exits_thread(live, SECOND);
 }
 
 static bool one_way_call(hullpippin_live *live, uint64_t object)
@@ -263,14 +145,14 @@ static bool call(hullpippin_live *live, uint64_t object)
 {
     uint64_t asked, answered;
     (void)object;
-    return calls(live, CLIENT, 0, 0) && drains(live, CLIENT) && takes(live, MANAGER, &asked) && replies(live, MANAGER, 0)
+    return calls(live, CLIENT, 0, 0) && drains(live, CLIENT) && takes(live, MANAGER, &asked) && replies(live, MANAGER)
            && frees(live, MANAGER, asked) && takes(live, CLIENT, &answered) && frees(live, CLIENT, answered) && drains(live, MANAGER);
 }
 
 static bool refused_call(hullpippin_live *live, uint64_t object)
 {
     (void)object;
-    return is_refused(live, CLIENT, of_call(HULLPIPPIN_BC_TRANSACTION, 77, 0, false)) && drains(live, CLIENT);
+    return is_refused(live, CLIENT, HULLPIPPIN_BC_TRANSACTION, NO_HANDLE) && drains(live, CLIENT);
 }
 
 /* Its caller's thread ends before the reply, which is refused for that. */
@@ -278,8 +160,8 @@ static bool call_without_a_caller(hullpippin_live *live, uint64_t object)
 {
     uint64_t buffer;
     (void)object;
-    return attaches(live, SECOND, CLIENT_PID) && calls(live, SECOND, 0, 0) && takes(live, MANAGER, &buffer) && leaves(live, SECOND)
-           && is_refused(live, MANAGER, of_call(HULLPIPPIN_BC_REPLY, 0, 0, false)) && frees(live, MANAGER, buffer) && drains(live, MANAGER);
+    return attaches(live, SECOND, CLIENT_PID) && calls(live, SECOND, 0, 0) && takes(live, MANAGER, &buffer) && exits_thread(live, SECOND)
+           && is_refused(live, MANAGER, HULLPIPPIN_BC_REPLY, 0) && frees(live, MANAGER, buffer) && drains(live, MANAGER);
 }
 
 static bool sent(hullpippin_live *live, uint64_t object, uint64_t *buffer)
@@ -291,50 +173,47 @@ static bool sent(hullpippin_live *live, uint64_t object, uint64_t *buffer)
 static bool object_and_name(hullpippin_live *live, uint64_t object)
 {
     uint64_t buffer;
-    return sent(live, object, &buffer) && makes(live, MANAGER, of_handle(HULLPIPPIN_BC_INCREFS, HANDLE))
-           && makes(live, MANAGER, of_handle(HULLPIPPIN_BC_ACQUIRE, HANDLE)) && frees(live, MANAGER, buffer)
-           && makes(live, MANAGER, of_handle(HULLPIPPIN_BC_RELEASE, HANDLE))
-           && makes(live, MANAGER, of_handle(HULLPIPPIN_BC_DECREFS, HANDLE)) && drains(live, CLIENT);
+    return sent(live, object, &buffer) && makes(live, HULLPIPPIN_BC_INCREFS, HANDLE, 0) && makes(live, HULLPIPPIN_BC_ACQUIRE, HANDLE, 0)
+           && frees(live, MANAGER, buffer) && makes(live, HULLPIPPIN_BC_RELEASE, HANDLE, 0)
+           && makes(live, HULLPIPPIN_BC_DECREFS, HANDLE, 0) && drains(live, CLIENT);
 }
 
 static bool death_notification(hullpippin_live *live, uint64_t object)
 {
     uint64_t buffer;
-    return sent(live, object, &buffer)
-           && makes(live, MANAGER, of_handle_and_cookie(HULLPIPPIN_BC_REQUEST_DEATH_NOTIFICATION, HANDLE, object))
-           && makes(live, MANAGER, of_handle_and_cookie(HULLPIPPIN_BC_CLEAR_DEATH_NOTIFICATION, HANDLE, object)) && drains(live, MANAGER)
+    return sent(live, object, &buffer) && makes(live, HULLPIPPIN_BC_REQUEST_DEATH_NOTIFICATION, HANDLE, object)
+           && makes(live, HULLPIPPIN_BC_CLEAR_DEATH_NOTIFICATION, HANDLE, object) && drains(live, MANAGER)
            && frees(live, MANAGER, buffer) && drains(live, CLIENT);
 }
 
 /* A process that sends the manager an object and doesn't wait for anything. */
 static bool visits(hullpippin_live *live, uint64_t object, uint64_t *buffer)
 {
-    return opens(live, GUEST, GUEST_PID) && loops(live, GUEST) && sends(live, GUEST, object) && takes(live, MANAGER, buffer);
+    return opens_process(live, GUEST, GUEST_PID, WINDOW) && enters_loop(live, GUEST) && sends(live, GUEST, object)
+           && takes(live, MANAGER, buffer);
 }
 
 static bool death(hullpippin_live *live, uint64_t object)
 {
     uint64_t buffer;
-    return visits(live, object, &buffer)
-           && makes(live, MANAGER, of_handle_and_cookie(HULLPIPPIN_BC_REQUEST_DEATH_NOTIFICATION, HANDLE, object))
-           && exits(live, GUEST) && drains(live, MANAGER) && makes(live, MANAGER, of_word(HULLPIPPIN_BC_DEAD_BINDER_DONE, object))
-           && frees(live, MANAGER, buffer);
+    return visits(live, object, &buffer) && makes(live, HULLPIPPIN_BC_REQUEST_DEATH_NOTIFICATION, HANDLE, object) && exits(live, GUEST)
+           && drains(live, MANAGER) && makes(live, HULLPIPPIN_BC_DEAD_BINDER_DONE, 0, object) && frees(live, MANAGER, buffer);
 }
 
 /* The process ends with the name that a reply gave it, in a buffer that it hasn't freed. */
 static bool process_with_a_name(hullpippin_live *live, uint64_t object)
 {
     uint64_t asked, kept;
-    return opens(live, GUEST, GUEST_PID) && calls(live, GUEST, 0, 0) && takes(live, MANAGER, &asked) && replies(live, MANAGER, object)
-           && frees(live, MANAGER, asked) && acknowledges(live, MANAGER, object) && takes(live, GUEST, &kept) && exits(live, GUEST)
-           && drains(live, MANAGER);
+    return opens_process(live, GUEST, GUEST_PID, WINDOW) && calls(live, GUEST, 0, 0) && takes(live, MANAGER, &asked)
+           && makes_with_object(live, MANAGER, HULLPIPPIN_BC_REPLY, 0, object) && frees(live, MANAGER, asked)
+           && acknowledges(live, MANAGER, object) && takes(live, GUEST, &kept) && exits(live, GUEST) && drains(live, MANAGER);
 }
 
 /* The process ends with a call that was read, some that weren't, and one whose caller waits. */
 static bool process_with_calls(hullpippin_live *live, uint64_t object)
 {
     uint64_t buffer, kept;
-    return visits(live, object, &buffer) && calls(live, MANAGER, HANDLE, TF_ONE_WAY) && drains(live, MANAGER)
+    return visits(live, object, &buffer) && calls(live, MANAGER, HANDLE, TF_ONE_WAY) && drains(live, MANAGER) && reads(live, GUEST)
            && takes(live, GUEST, &kept) && calls(live, MANAGER, HANDLE, TF_ONE_WAY) && calls(live, MANAGER, HANDLE, TF_ONE_WAY)
            && calls(live, MANAGER, HANDLE, 0) && exits(live, GUEST) && drains(live, MANAGER) && frees(live, MANAGER, buffer);
 }
@@ -344,7 +223,7 @@ static bool object_that_stays(hullpippin_live *live, uint64_t object)
 {
     uint64_t buffer;
     uint32_t handle = (uint32_t)(object / OBJECT_SIZE);
-    return sent(live, object, &buffer) && makes(live, MANAGER, of_handle(HULLPIPPIN_BC_ACQUIRE, handle)) && frees(live, MANAGER, buffer);
+    return sent(live, object, &buffer) && makes(live, HULLPIPPIN_BC_ACQUIRE, handle, 0) && frees(live, MANAGER, buffer);
 }
 
 /* ---- */
@@ -386,7 +265,8 @@ static bool measures(struct kind kind, uint64_t rounds, size_t *first, size_t *o
     if (!is_done(hullpippin_live_new(SEATS, &live)))
         return false;
     highest = in_use;
-    bool played = opens_live(&live, MANAGER, CLIENT) && loops(&live, MANAGER) && loops(&live, CLIENT) && plays(&live, kind, 0, FIRST);
+    bool played = opens_live(&live, MANAGER, CLIENT) && enters_loop(&live, MANAGER) && enters_loop(&live, CLIENT)
+                  && plays(&live, kind, 0, FIRST);
     *first = highest - before;
     highest = in_use;
     played = played && plays(&live, kind, FIRST, rounds);

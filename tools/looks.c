@@ -310,7 +310,7 @@ static bool asking(hullpippin_live *live)
 
 /* ---- a call, with a reply and with one that is refused */
 
-static bool calls(hullpippin_live *live, uint32_t seat)
+static bool calls_manager(hullpippin_live *live, uint32_t seat)
 {
     hullpippin_command command = {.code = HULLPIPPIN_BC_TRANSACTION, .transaction = {.code = 9}};
     return runs(live, seat, &command, HULLPIPPIN_NOWHERE);
@@ -332,7 +332,7 @@ static bool is_in_no_call(hullpippin_live *live, uint32_t seat)
 /* The caller makes the call, and the manager serves it from when it reads. */
 static bool calling(hullpippin_live *live, uint32_t made)
 {
-    return calls(live, CLIENT) && is_innermost(live, CLIENT, made, false) && is_in_no_call(live, MANAGER) && reads(live, MANAGER)
+    return calls_manager(live, CLIENT) && is_innermost(live, CLIENT, made, false) && is_in_no_call(live, MANAGER) && reads(live, MANAGER)
            && is_innermost(live, MANAGER, made, true);
 }
 
@@ -459,8 +459,8 @@ static bool failing(hullpippin_live *live)
     hullpippin_answer answer;
     hullpippin_object_id filler;
     memset(&filler, FILLER, sizeof filler);
-    return is_made(hullpippin_live_open(live, GUEST, GUEST_PID, 0, WINDOW, &answer), &answer, HULLPIPPIN_OPENED) && calls(live, GUEST)
-           && is_innermost(live, GUEST, GUEST_CALLED, false)
+    return is_made(hullpippin_live_open(live, GUEST, GUEST_PID, 0, WINDOW, &answer), &answer, HULLPIPPIN_OPENED)
+           && calls_manager(live, GUEST) && is_innermost(live, GUEST, GUEST_CALLED, false)
            && is_made(hullpippin_live_exit_process(live, MANAGER, &answer), &answer, HULLPIPPIN_EXITED)
            && are_of_thread(live, GUEST, guest, 2) && is_in_no_call(live, GUEST)
            && is(!hullpippin_live_manager_object(live, &filler), "a manager that has ended") && IS_FILLER(filler)

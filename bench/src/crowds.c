@@ -22,60 +22,28 @@ enum { SERVER_HANDLE = 1, CROWD_HANDLE = 2 };
 
 static hullpippin_live live;
 
-static bool enters_loop(uint32_t seat)
+static bool takes_and_frees(uint32_t seat)
 {
-    hullpippin_command command = {.code = HULLPIPPIN_BC_ENTER_LOOPER};
-    return runs(&live, seat, &command, NULL);
-}
-
-static bool calls(uint32_t seat, uint32_t handle, uint32_t flags)
-{
-    hullpippin_command command = {.code = HULLPIPPIN_BC_TRANSACTION, .transaction = {.target = handle, .flags = flags}};
-    return runs(&live, seat, &command, NULL);
-}
-
-static bool replies(uint32_t seat)
-{
-    hullpippin_command command = {.code = HULLPIPPIN_BC_REPLY};
-    return runs(&live, seat, &command, NULL);
-}
-
-/* Reads once, and frees the buffer of the call or reply that came, once it has kept an object that came by this handle, if there is one. */
-static bool takes(uint32_t seat, uint32_t handle)
-{
-    uint8_t stream[256];
-    hullpippin_command keep = {.code = HULLPIPPIN_BC_ACQUIRE, .handle = handle}, command = {.code = HULLPIPPIN_BC_FREE_BUFFER};
-    if (!reads(&live, seat))
-        return false;
-    size_t size = hullpippin_live_bytes(&live, HULLPIPPIN_STREAM, stream, sizeof stream);
-    if (size < CALL_SIZE || size > sizeof stream)
-        return fails("no call and no reply is read");
-    for (size_t i = 0; i < 8; i++)
-        command.pointer |= (uint64_t)stream[size - 16 + i] << 8 * i;
-    return (!handle || runs(&live, seat, &keep, NULL)) && runs(&live, seat, &command, NULL);
+    uint64_t buffer;
+    return takes(&live, seat, &buffer) && frees(&live, seat, buffer);
 }
 
 /* Sends the manager an object, which keeps it by this handle. */
 static bool gives(uint32_t seat, uint64_t pointer, uint32_t handle)
 {
     uint8_t data[OBJECT_SIZE];
+    uint64_t buffer;
     hullpippin_flat_object object = {.kind = HULLPIPPIN_TYPE_BINDER, .binder = pointer};
+    hullpippin_command keep = {.code = HULLPIPPIN_BC_ACQUIRE, .handle = handle};
     hullpippin_command send = {.code = HULLPIPPIN_BC_TRANSACTION,
                                .transaction = {.flags = TF_ONE_WAY, .data_size = OBJECT_SIZE, .offsets_size = 8}};
     return is(!hullpippin_put_object(&object, data, sizeof data), "the object has no place") && runs(&live, seat, &send, data)
-           && reads(&live, seat) && takes(MANAGER, handle);
+           && reads(&live, seat) && takes(&live, MANAGER, &buffer) && runs(&live, MANAGER, &keep, NULL) && frees(&live, MANAGER, buffer);
 }
 
 static bool opens(uint32_t seat, uint32_t pid)
 {
-    hullpippin_answer answer;
-    return is_made(hullpippin_live_open(&live, seat, pid, 1000, MOST_WINDOW, &answer), &answer, HULLPIPPIN_OPENED);
-}
-
-static bool attaches(uint32_t seat, uint32_t pid)
-{
-    hullpippin_answer answer;
-    return is_made(hullpippin_live_attach(&live, seat, pid, &answer), &answer, HULLPIPPIN_OPENED);
+    return opens_process(&live, seat, pid, MOST_WINDOW);
 }
 
 /* ---- crowds */
@@ -85,7 +53,7 @@ static bool threads(uint32_t number)
 {
     bool good = opens(FIRST, CROWD_PID);
     for (uint32_t i = 1; good && i < number; i++)
-        good = attaches(FIRST + i, CROWD_PID);
+        good = attaches(&live, FIRST + i, CROWD_PID);
     return good;
 }
 
@@ -103,7 +71,7 @@ static bool callers(uint32_t number)
 {
     bool good = threads(number);
     for (uint32_t i = 0; good && i < number; i++)
-        good = calls(FIRST + i, 0, 0) && reads(&live, FIRST + i);
+        good = calls(&live, FIRST + i, 0, 0) && reads(&live, FIRST + i);
     return good;
 }
 
@@ -111,10 +79,11 @@ static bool callers(uint32_t number)
 static bool nested(uint32_t number)
 {
     uint32_t caller = FIRST, server = FIRST + 1;
-    bool good = opens(caller, CROWD_PID) && gives(caller, 0x2000, CROWD_HANDLE) && attaches(server, MANAGER_PID) && enters_loop(server);
+    bool good = opens(caller, CROWD_PID) && gives(caller, 0x2000, CROWD_HANDLE) && attaches(&live, server, MANAGER_PID)
+                && enters_loop(&live, server);
     for (uint32_t i = 0; good && i < number; i++)
-        good = i % 2 == 0 ? calls(caller, 0, 0) && reads(&live, caller) && takes(server, 0)
-                          : calls(server, CROWD_HANDLE, 0) && reads(&live, server) && takes(caller, 0);
+        good = i % 2 == 0 ? calls(&live, caller, 0, 0) && reads(&live, caller) && takes_and_frees(server)
+                          : calls(&live, server, CROWD_HANDLE, 0) && reads(&live, server) && takes_and_frees(caller);
     return good;
 }
 
@@ -123,7 +92,7 @@ static bool queued(uint32_t number)
 {
     bool good = true;
     for (uint32_t i = 0; good && i < number; i++)
-        good = calls(CLIENT, 0, TF_ONE_WAY) && reads(&live, CLIENT);
+        good = calls(&live, CLIENT, 0, TF_ONE_WAY) && reads(&live, CLIENT);
     return good;
 }
 
@@ -141,10 +110,8 @@ static uint32_t looked_at(uint32_t number)
 static bool leave(uint32_t number)
 {
     bool good = true;
-    for (uint32_t i = number - looked_at(number); good && i < number; i++) {
-        hullpippin_answer answer;
-        good = is_made(hullpippin_live_exit_thread(&live, FIRST + i, &answer), &answer, HULLPIPPIN_EXITED);
-    }
+    for (uint32_t i = number - looked_at(number); good && i < number; i++)
+        good = exits_thread(&live, FIRST + i);
     return good;
 }
 
@@ -155,7 +122,7 @@ static bool unwind(uint32_t number)
     bool good = true;
     for (uint32_t i = number; good && i > number - looked_at(number); i--) {
         uint32_t from = i % 2 == 1 ? server : caller, to = i % 2 == 1 ? caller : server;
-        good = replies(from) && reads(&live, from) && takes(to, 0);
+        good = replies(&live, from) && reads(&live, from) && takes_and_frees(to);
     }
     return good;
 }
@@ -165,7 +132,7 @@ static bool drain(uint32_t number)
 {
     bool good = true;
     for (uint32_t i = 0; good && i < looked_at(number); i++)
-        good = takes(MANAGER, 0);
+        good = takes_and_frees(MANAGER);
     return good;
 }
 
@@ -173,13 +140,14 @@ static bool drain(uint32_t number)
 
 static bool calls_server(void)
 {
-    return calls(MANAGER, SERVER_HANDLE, TF_ONE_WAY) && reads(&live, MANAGER) && takes(SERVER, 0) && calls(MANAGER, SERVER_HANDLE, 0)
-           && reads(&live, MANAGER) && takes(SERVER, 0) && replies(SERVER) && reads(&live, SERVER) && takes(MANAGER, 0);
+    return calls(&live, MANAGER, SERVER_HANDLE, TF_ONE_WAY) && reads(&live, MANAGER) && takes_and_frees(SERVER)
+           && calls(&live, MANAGER, SERVER_HANDLE, 0) && reads(&live, MANAGER) && takes_and_frees(SERVER) && replies(&live, SERVER)
+           && reads(&live, SERVER) && takes_and_frees(MANAGER);
 }
 
 static bool queues_one_more(void)
 {
-    return calls(CLIENT, 0, TF_ONE_WAY) && reads(&live, CLIENT) && takes(MANAGER, 0) && calls_server();
+    return calls(&live, CLIENT, 0, TF_ONE_WAY) && reads(&live, CLIENT) && takes_and_frees(MANAGER) && calls_server();
 }
 
 static bool (*make)(void) = calls_server;
@@ -208,8 +176,8 @@ static bool stands(const char *name, uint32_t number)
     bool good = is_done(hullpippin_live_new(SEATS, &live)) && opens(MANAGER, MANAGER_PID) && opens(CLIENT, CLIENT_PID)
                 && opens(SERVER, SERVER_PID);
     hullpippin_answer answer;
-    good = good && is_made(hullpippin_live_manager(&live, MANAGER, &answer), &answer, HULLPIPPIN_SET) && enters_loop(MANAGER)
-           && enters_loop(SERVER) && gives(SERVER, 0x1000, SERVER_HANDLE);
+    good = good && is_made(hullpippin_live_manager(&live, MANAGER, &answer), &answer, HULLPIPPIN_SET) && enters_loop(&live, MANAGER)
+           && enters_loop(&live, SERVER) && gives(SERVER, 0x1000, SERVER_HANDLE);
     for (size_t i = 0; i < sizeof CROWDS / sizeof CROWDS[0]; i++)
         if (!strcmp(CROWDS[i].name, name)) {
             make = CROWDS[i].make;
