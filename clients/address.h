@@ -10,6 +10,7 @@
 #include <string.h>
 #include <sys/socket.h>
 #include <sys/stat.h>
+#include <sys/time.h>
 #include <sys/un.h>
 #include <unistd.h>
 
@@ -66,17 +67,29 @@ static inline bool is_own_or_root(int fd)
     return getsockopt(fd, SOL_SOCKET, SO_PEERCRED, &peer, &size) == 0 && (peer.uid == geteuid() || peer.uid == 0);
 }
 
+/* So many seconds who only asks has patience for a connection, and for each packet: whoever listens there may be no daemon. */
+#define ASKING_PATIENCE 5
+
+/* A connection takes as long as a packet that is sent, so both are bounded before there is one. */
+static inline bool bound_waits(int fd, time_t seconds)
+{
+    const struct timeval patience = {.tv_sec = seconds};
+    return setsockopt(fd, SOL_SOCKET, SO_SNDTIMEO, &patience, sizeof patience) == 0
+           && setsockopt(fd, SOL_SOCKET, SO_RCVTIMEO, &patience, sizeof patience) == 0;
+}
+
 /* Connects a socket to one address: 0 or an errno. */
 static inline int address_connect(int fd, const struct sockaddr_un *address, bool is_chosen)
 {
     if (connect(fd, (const struct sockaddr *)address, sizeof *address))
-        return errno;
+        return errno == EAGAIN ? ETIMEDOUT : errno;
     return is_chosen || is_own_or_root(fd) ? 0 : EPERM;
 }
 
 /* A connection to the daemon at a path, else at the chosen one, else at one of the user's or the system's; -1 and errno where there is
-   none. The address is that of the daemon, or the first at which there is none. */
-static inline int daemon_dial(const char *path, struct sockaddr_un *address)
+   none. The address is that of the daemon, or the first at which there is none. So many seconds each wait there takes at most; with 0 it is
+   as long as the daemon likes. */
+static inline int daemon_dial(const char *path, time_t patience, struct sockaddr_un *address)
 {
     const char *chosen = path ? path : chosen_address();
     int error = ENAMETOOLONG;
@@ -84,7 +97,8 @@ static inline int daemon_dial(const char *path, struct sockaddr_un *address)
         struct sockaddr_un one;
         if (!(chosen ? address_at(chosen, &one) : address_of(which, &one)))
             continue;
-        int fd = socket(AF_UNIX, SOCK_SEQPACKET | SOCK_CLOEXEC, 0), why = fd < 0 ? errno : address_connect(fd, &one, chosen);
+        int fd = socket(AF_UNIX, SOCK_SEQPACKET | SOCK_CLOEXEC, 0);
+        int why = fd < 0 || (patience && !bound_waits(fd, patience)) ? errno : address_connect(fd, &one, chosen);
         if (!why || error == ENAMETOOLONG)
             *address = one;
         if (!why)

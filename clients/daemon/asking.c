@@ -12,7 +12,7 @@
 #include <sys/mman.h>
 #include <sys/stat.h>
 
-static const char no_daemon[] = "no daemon of this build answers";
+static const char no_daemon[] = "no daemon of this build answers", too_slow[] = "not all of it is told in time";
 
 static int fail(const char *what, const char *why)
 {
@@ -33,12 +33,9 @@ static bool ask(int fd, struct control_request *request, const char *device, voi
 /* A connection that a daemon answers, if it is one. */
 static int connect_to(const char *path)
 {
-    static const struct timeval patience = {.tv_sec = 5};
     struct sockaddr_un address = {0};
-    int fd = daemon_dial(path, &address);
-    if (fd >= 0)
-        setsockopt(fd, SOL_SOCKET, SO_RCVTIMEO, &patience, sizeof patience);
-    else
+    int fd = daemon_dial(path, ASKING_PATIENCE, &address);
+    if (fd < 0)
         fail(address.sun_path, strerror(errno));
     return fd;
 }
@@ -154,8 +151,16 @@ static bool is_page(const struct state_page *page, const struct control_request 
     return page->count <= STATE_ROOM && (!page->next || is_behind);
 }
 
-/* So many pages are asked for, 4,194,304 records: what listens there may be no daemon, and would be asked without end. */
+/* So many pages are asked for, 4,194,304 records, and for so many seconds: what listens there may be no daemon, and would be asked without
+   end. */
 #define PAGES_MAX (1u << 18)
+uint32_t asking_most = 60;
+
+/* Why no page is asked for behind so many, the first of which was asked for then; or NULL. */
+static const char *why_no_more(uint32_t count, uint64_t since)
+{
+    return count == PAGES_MAX ? no_daemon : nanoseconds() - since > asking_most * UINT64_C(1000000000) ? too_slow : NULL;
+}
 
 /* Fetches page after page, up to the last. Why they can't be had, or NULL. */
 static const char *fetch_all(int fd, const char *device, struct records *records)
@@ -163,8 +168,11 @@ static const char *fetch_all(int fd, const char *device, struct records *records
     struct control_request request = {.op = CONTROL_STATE};
     struct state_page page = {.next = 1};
     const char *why = NULL;
+    uint64_t since = nanoseconds();
     for (uint32_t i = 0; !why && page.next; i++) {
-        why = i == PAGES_MAX ? no_daemon : why_not(ask(fd, &request, device, &page, sizeof page, NULL), &page.error);
+        why = why_no_more(i, since);
+        if (!why)
+            why = why_not(ask(fd, &request, device, &page, sizeof page, NULL), &page.error);
         if (!why && !is_page(&page, &request))
             why = no_daemon;
         if (!why && !keep(records, &page))

@@ -818,6 +818,8 @@ void listener_end(struct daemon *daemon);
 
 /* --- asking.c: what a daemon that runs tells of a device. Each prints that, or why it can't be had: a status. --- */
 
+/* So many seconds all pages of a state may take; tests have it otherwise. */
+extern uint32_t asking_most;
 int ask_stats(const char *path, const char *device);
 int ask_state(const char *path, const char *device);
 

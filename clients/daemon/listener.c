@@ -147,15 +147,13 @@ bool listener_set_group(struct listener *listener, const char *word)
 /* As for the library: a daemon of its build answers, be it that it has no such device. */
 int listener_look(const char *path)
 {
-    static const struct timeval patience = {.tv_sec = 5};
     struct control_request request = {.version = PROTOCOL_VERSION, .op = CONTROL_LOOK, .device = "/dev/binder"};
     struct control_answer answer;
     struct sockaddr_un address = {0};
     uint32_t count;
-    int fd = daemon_dial(path, &address);
+    int fd = daemon_dial(path, ASKING_PATIENCE, &address);
     const char *why = fd < 0 ? strerror(errno) : NULL;
     if (fd >= 0) {
-        setsockopt(fd, SOL_SOCKET, SO_RCVTIMEO, &patience, sizeof patience);
         bool is_one = packet_send(fd, &request, sizeof request, NULL, 0, 0)
                       && packet_receive(fd, &answer, sizeof answer, NULL, 0, &count, 0) == 1;
         why = is_one ? NULL : "it doesn't answer, or is of another build";

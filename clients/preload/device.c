@@ -48,7 +48,7 @@ bool device_is(int fd)
 static int dial(void)
 {
     struct sockaddr_un address = {0};
-    int fd = daemon_dial(NULL, &address);
+    int fd = daemon_dial(NULL, 0, &address);
     if (fd < 0)
         say("no daemon at %s: %s", address.sun_path, strerror(errno));
     return fd;

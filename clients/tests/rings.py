@@ -1,6 +1,7 @@
 # SPDX-License-Identifier: Apache-2.0 OR MIT
 """What one can rely on of a device's ring (../ring.h): that its slots say what the steps were, whoever reads while they are written, and
 that nobody else sees it."""
+import contextlib
 import fcntl
 import itertools
 import os
@@ -17,7 +18,7 @@ from collections import Counter, namedtuple
 from journals import Journal, Who
 from raw_tests import DEVICE
 from recordings import contents, neighbours
-from stage import Stage, expect, tail
+from stage import Failed, Stage, expect, tail
 from suite import figures, test
 
 # what `--state` prints of a process, of a thread, of a handle and of a buffer
@@ -313,7 +314,7 @@ def state(build):
 ANSWER, PAGE, RECORDS, RECORD_SIZE = struct.Struct("=iIQ"), struct.Struct("=iIQQQ"), 16, 112
 LATEST = 4096 + 8192 * SLOT.size
 PAGES_MAX = 1 << 18  # as asking.c has it
-NO_DAEMON = "no daemon of this build answers"
+NO_DAEMON, TOO_SLOW = "no daemon of this build answers", "not all of it is told in time"
 
 
 def memory_of(heading, size, seals=fcntl.F_SEAL_SHRINK):
@@ -332,7 +333,7 @@ def page_of(count, after, within=0):
 def answer_all(listener, answers, memory):
     """Answers who comes first, packet by packet; the memory goes with the first."""
     client, _ = listener.accept()
-    with client:
+    with client, contextlib.suppress(BrokenPipeError, ConnectionResetError):
         for answer in answers:
             if not client.recv(4096):
                 break
@@ -382,6 +383,75 @@ def ring_lies(build):
         done = subprocess.run([build.daemon, *words], env={**os.environ, **build.environment}, capture_output=True, text=True, timeout=20)
         expect(done.returncode == 2 and "usage" in done.stderr, f"{words}: {done.returncode}, {tail(done.stderr)}")
     return f"{len(told)} lies are seen through, and two questions at once are none"
+
+
+# so many seconds whoever asks waits for a connection or an answer (../address.h), and for all pages (asking.c, and as short.c has it)
+PATIENCE, WHOLE, SHORT_WHOLE = 5, 60, 3
+# what a question may take beyond, on a busy machine
+LEEWAY = 4
+QUESTIONS = (["--look"], ["--stats", DEVICE], ["--state", DEVICE])
+
+
+def listening(stack, path):
+    """Somebody who listens there, and takes nobody."""
+    listener = stack.enter_context(socket.socket(socket.AF_UNIX, socket.SOCK_SEQPACKET))
+    listener.bind(path)
+    listener.listen(0)
+    return listener
+
+
+def take_all_room(stack, path):
+    """Connects until nobody else can, and who tries it would wait."""
+    while True:
+        client = stack.enter_context(socket.socket(socket.AF_UNIX, socket.SOCK_SEQPACKET))
+        client.setblocking(False)
+        if client.connect_ex(path):
+            return
+
+
+def slowly(pages):
+    """The answers of a device that is opened, and then so many pages, none of them late."""
+    yield ANSWER.pack(0, 0, 0)
+    for after in range(1, pages):
+        time.sleep(0.2)
+        yield page_of(0, after)
+    yield page_of(0, 0)
+
+
+class Question:
+    """A program that asks, and is waited for so many seconds at most."""
+
+    def __init__(self, stack, build, program, words, path, seconds):
+        self.words, self.until = f"{' '.join(words)} at {os.path.basename(path)}", time.monotonic() + seconds
+        self.program = stack.enter_context(subprocess.Popen([program, *words, "--socket", path], env={**os.environ, **build.environment},
+                                                            stdin=subprocess.DEVNULL, stdout=subprocess.DEVNULL, stderr=subprocess.PIPE, text=True))
+        stack.callback(self.program.kill)
+
+    def told(self):
+        """What it has said in the end; it has failed."""
+        try:
+            said = self.program.communicate(timeout=max(0, self.until - time.monotonic()))[1]
+        except subprocess.TimeoutExpired:
+            raise Failed(f"{self.words} still waits") from None
+        expect(self.program.returncode == 1, f"{self.words} ends with {self.program.returncode}: {tail(said)}")
+        return tail(said)
+
+
+@test("raw ring waits")
+def ring_waits(build):
+    """Who asks ends in time where nobody takes the connection, nobody answers, or what is told comes so slowly that it seems to have no end."""
+    with tempfile.TemporaryDirectory(prefix="hullpippin-waits-") as folder, contextlib.ExitStack() as stack:
+        full, mute, slow = (listening(stack, f"{folder}/{name}") for name in ("full", "mute", "slow"))
+        take_all_room(stack, full.getsockname())
+        mute.listen(len(QUESTIONS))
+        waiting = [Question(stack, build, build.daemon, words, it.getsockname(), PATIENCE + LEEWAY) for it in (full, mute) for words in QUESTIONS]
+        threading.Thread(target=answer_all, args=(slow, slowly(WHOLE * 5), None), daemon=True).start()
+        short = Question(stack, build, build.short, ["--state", DEVICE], slow.getsockname(), SHORT_WHOLE + LEEWAY)
+        told = [it.told() for it in waiting]
+        late = short.told()
+    expect(all("timed out" in it for it in told[:len(QUESTIONS)]), f"nobody took a connection: {told}")
+    expect(TOO_SLOW in late, f"what was told slowly: {late}")
+    return f"{len(told) + 1} questions without an answer ended in time"
 
 
 def as_user(user):

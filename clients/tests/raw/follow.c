@@ -31,7 +31,7 @@ static void end(const char *what, int error, int status)
 static int dial(void)
 {
     struct sockaddr_un address;
-    int fd = daemon_dial(NULL, &address);
+    int fd = daemon_dial(NULL, 0, &address);
     if (fd < 0)
         end("the daemon", errno, 1);
     return fd;

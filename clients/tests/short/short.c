@@ -4,7 +4,7 @@
  * 4294967295, which the daemon knows too. The linker has the daemon call these in the library's place. With SHORT_OF_MEMORY in
  * its environment the kernel has no memory for its clients in the first seconds, and the engine none to end the first threads.
  * With SHORT_CALL it asks the kernel for something that it has no use for, as often as a client comes. With SHORT_OF_DISK nothing is
- * taken of what is longer than the heading of a recording, or rings a bell.
+ * taken of what is longer than the heading of a recording, or rings a bell. And it asks another daemon for seconds, not for a minute.
  */
 #include <errno.h>
 #include <fcntl.h>
@@ -29,10 +29,12 @@
 #define HEADING 20
 
 extern uint64_t history_most;
+extern uint32_t asking_most;
 
 __attribute__((constructor)) static void shorten(void)
 {
     history_most = STEPS;
+    asking_most = SECONDS;
 }
 
 /* The library's function of this name, and what the daemon calls. */
