@@ -124,7 +124,12 @@ impl Tables {
     }
 
     /// The step by which a process takes back that it asked to be told of an owner's end. Nothing follows from it.
-    pub(crate) fn clear_death(&mut self, actor: Actor, n: u32, cookie: u64) -> Result<Plain, StepError>
+    pub(crate) fn clear_death(
+        &mut self,
+        actor: Actor,
+        n: u32,
+        cookie: u64,
+    ) -> Result<Plain, StepError>
         ensures step { IsStep self.old self.new (IsBy actor)
             (λ s. by_check s (deaths.cleared s actor.thread.seat) (deaths.clear_check s actor.process.made n cookie)) result }
         ensures told { KeepsTold self.old self.new }

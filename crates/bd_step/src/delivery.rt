@@ -161,7 +161,10 @@ impl Tables {
 
     /// Makes room for a delivery and for what follows from it, and tells at which objects, in the order in which they were
     /// made. Changes nothing else, also where memory is refused.
-    pub(crate) fn reserve_delivery(&mut self, delivery: &Delivery) -> Result<Vec<ObjectId>, AllocError>
+    pub(crate) fn reserve_delivery(
+        &mut self,
+        delivery: &Delivery,
+    ) -> Result<Vec<ObjectId>, AllocError>
         ensures stands { IsKept self.old self.new }
         ensures deliverable { (d : TransactionData) → IsDeliverable self.old d delivery.now → IsDeliverable self.new d delivery.now }
         ensures ready { OnOk result (IsReady self.new delivery.now) }

@@ -75,7 +75,12 @@ impl Tables {
     }
 
     /// The step by which a process drops a reference that it asked for.
-    pub(crate) fn drop_asked(&mut self, actor: Actor, n: u32, strong: bool) -> Result<Plain, StepError>
+    pub(crate) fn drop_asked(
+        &mut self,
+        actor: Actor,
+        n: u32,
+        strong: bool,
+    ) -> Result<Plain, StepError>
         ensures step { IsStep self.old self.new (IsBy actor)
             (λ s. by_check s (λ o. asking.drop_asked s actor.process.made o strong)
             (asking.drop_check s actor.process.made n strong)) result }
@@ -115,7 +120,10 @@ impl Tables {
             (asking.done_check s actor.process.made ptr cookie strong)) result }
         ensures told { KeepsTold self.old self.new }
     {
-        let x = match self.objects.done_check(actor.process.made, ptr, cookie, strong) {
+        let x = match self
+            .objects
+            .done_check(actor.process.made, ptr, cookie, strong)
+        {
             Ok(x) => x,
             Err(note) => return Ok(Plain::Noted(note)),
         };

@@ -60,7 +60,10 @@ impl Tables {
             Step::Attach { pid } => written(self.attach(actor.thread.seat, *pid), answer),
             Step::SetManager => written(self.set_manager(actor), answer),
             Step::SetSpam { on } => written(Ok(self.set_spam_detection(actor, *on)), answer),
-            Step::Command { command, parcel } => written(self.command(actor, command, parcel), answer),
+            Step::Command { command, parcel } => written(
+                self.command(actor, command, parcel),
+                answer,
+            ),
             Step::Read { limit } => self.read(actor, *limit, both, answer, again),
             Step::ExitThread => written(self.exit_thread(actor), answer),
             Step::ExitProcess => written(self.exit_process(actor), answer),

@@ -157,7 +157,14 @@ impl Tables {
         let one_way = is_one_way(data);
         match self.call_cause(actor.thread.seat, one_way) {
             Some(cause) => Ok(Err(cause)),
-            None => self.sent_to(actor, data, parcel, callee.process, Some(callee.object), one_way),
+            None => self.sent_to(
+                actor,
+                data,
+                parcel,
+                callee.process,
+                Some(callee.object),
+                one_way,
+            ),
         }
     }
 
@@ -178,7 +185,12 @@ impl Tables {
     }
 
     // All that changes.
-    fn transacted(&mut self, actor: Actor, data: &TransactionData, delivery: Delivery) -> Result<(), StepError>
+    fn transacted(
+        &mut self,
+        actor: Actor,
+        data: &TransactionData,
+        delivery: Delivery,
+    ) -> Result<(), StepError>
         requires deliverable { IsDeliverable self.old data.now delivery }
         requires ready { IsReady self.old delivery }
         ensures ok { OnOk result (DeliversCall self.old self.new delivery (λ s. spec.transacted s actor data.now delivery)) }
@@ -203,7 +215,12 @@ impl Tables {
 
     // The step of a transaction that nothing stands against. All that may follow is that a one-way call ripens on its target,
     // and what follows at the objects of its parcel.
-    fn transact(&mut self, actor: Actor, data: &TransactionData, delivery: Delivery) -> Result<Plain, StepError>
+    fn transact(
+        &mut self,
+        actor: Actor,
+        data: &TransactionData,
+        delivery: Delivery,
+    ) -> Result<Plain, StepError>
         requires { IsDeliverable self.old data.now delivery }
         ensures step { IsStep self.old self.new (IsSending actor data.now delivery)
             (λ s. outcomes.accepted (spec.transacted s actor data.now delivery)) result }
