@@ -14,6 +14,7 @@ use std::env;
 use std::fs::File;
 use std::io::IoSliceMut;
 use std::os::unix::io::{AsRawFd, FromRawFd, RawFd};
+use std::time::{Duration, Instant};
 
 /// What the daemon and its library say to one another: its number is asked for at each request.
 const PROTOCOL: &str = include_str!("../../../clients/protocol.h");
@@ -24,8 +25,9 @@ const DEVICE_ROOM: usize = 64;
 const ANSWER_SIZE: usize = 16;
 /// So many seconds a daemon may take for a connection, and for each answer.
 const PATIENCE: i64 = 5;
-/// So many pages are asked for, 4,194,304 records: what listens there may be no daemon, and would be asked for ever.
+/// So many pages are asked for, 4,194,304 records, and for so long: what listens there may be no daemon, and would be asked for ever.
 const MOST_PAGES: u32 = 1 << 18;
+const LONGEST: Duration = Duration::from_secs(60);
 
 /// The number in the line `#define PROTOCOL_VERSION Nu`.
 fn protocol_version() -> u32 {
@@ -126,14 +128,20 @@ fn ask(end: &File, device: &str) -> Result<File> {
 }
 
 /// Asks for what goes on on a device, page after page of so many bytes; each says where the next one begins.
-pub fn each_page(place: &Where, size: usize, mut call: impl FnMut(&[u8]) -> [u64; 2]) -> Result<()> {
+pub fn each_page(place: &Where, size: usize, call: impl FnMut(&[u8]) -> [u64; 2]) -> Result<()> {
+    pages_within(place, size, LONGEST, call)
+}
+
+/// The same, of all that is told within some time.
+fn pages_within(place: &Where, size: usize, longest: Duration, mut call: impl FnMut(&[u8]) -> [u64; 2]) -> Result<()> {
     let end = needed(connection(place.socket.as_deref())?, place)?;
     let device = &place.device;
     if let (Some(error), _) = asked(&end, &request(CONTROL_OPEN, [0; 2], device)?, &mut [0; ANSWER_SIZE])? {
         return Err(refusal(Some(error), device));
     }
-    let (mut next, mut page) = ([0; 2], vec![0; size]);
+    let (mut next, mut page, since) = ([0; 2], vec![0; size], Instant::now());
     for _ in 0..MOST_PAGES {
+        ensure!(since.elapsed() <= longest, "{device}: the daemon doesn't tell all of it in time");
         if let (Some(error), _) = asked(&end, &request(CONTROL_STATE, next, device)?, &mut page)? {
             return Err(refusal(Some(error), device));
         }
@@ -216,17 +224,58 @@ mod tests {
     }
 
     #[test]
-    fn who_tells_for_ever_is_not_listened_to() {
-        let (end, path) = listener("endless");
-        let answering = thread::spawn(move || {
+    fn who_takes_nobody_is_not_waited_for() {
+        let (_end, path) = listener("full");
+        let (told, tells) = channel();
+        let there = path.clone();
+        thread::spawn(move || {
+            let mut taken = Vec::new();
+            let why = loop {
+                match dial(&there, true) {
+                    Ok(end) => taken.push(end),
+                    Err(why) => break why,
+                }
+            };
+            told.send(why)
+        });
+        let why = tells.recv_timeout(Duration::from_secs(4 * PATIENCE as u64)).expect("it still waits");
+        assert_eq!(why, Errno::EAGAIN);
+        std::fs::remove_file(path).unwrap();
+    }
+
+    /// Answers one client, each time after a pause: that a device is opened, and then pages of 8 bytes.
+    fn answers(end: File, pause: Duration) -> thread::JoinHandle<()> {
+        thread::spawn(move || {
             let client = owned(accept(end.as_raw_fd()).unwrap());
             let mut request = [0; 256];
             let mut answer = vec![0; ANSWER_SIZE];
             while recv(client.as_raw_fd(), &mut request, MsgFlags::empty()).map_or(false, |it| it > 0) {
+                thread::sleep(pause);
                 let _ = send(client.as_raw_fd(), &answer, MsgFlags::MSG_NOSIGNAL);
                 answer = vec![0; 8];
             }
+        })
+    }
+
+    #[test]
+    fn who_tells_too_slowly_is_not_listened_to() {
+        let (end, path) = listener("slow");
+        let answering = answers(end, Duration::from_millis(100));
+        let mut pages = 0;
+        let told = pages_within(&at(&path), 8, Duration::from_millis(500), |_| {
+            pages += 1;
+            [if pages > 50 { 0 } else { pages }, 0]
         });
+        assert!(told.expect_err("it is listened to").to_string().contains("in time"));
+        assert!((1..=5).contains(&pages), "{pages}");
+        answering.join().unwrap();
+        std::fs::remove_file(path).unwrap();
+    }
+
+    #[test]
+    fn who_tells_for_ever_is_not_listened_to() {
+        let (end, path) = listener("endless");
+        let answering = answers(end, Duration::ZERO);
         let mut pages = 0;
         let told = each_page(&at(&path), 8, |_| {
             pages += 1;
