@@ -24,7 +24,8 @@ fn take_request(latest: &mut Option<Outcome>) -> Option<Request>
 }
 
 impl OwnedSeat {
-    // Keeps what a call came to, and tells it.
+    // Keeps what a call came to, and tells it. Put into its callers, so that an outcome is moved once.
+    #[inline(always)]
     fn keep(&mut self, outcome: Outcome, told: &mut Told)
         ensures kept { self.new ≡ record self.old { latest = Some outcome } }
         ensures told { told.new ≡ told_of outcome }

@@ -47,6 +47,7 @@ impl BoxedEngine {
     }
 
     /// The engine's run of a request.
+    #[inline(always)]
     pub(crate) fn run(&mut self, seat: u32, request: &Request) -> Result<Ran, StepError>
         requires { seat < self.old.seats }
         ensures ok { IfOk result (λ r. HasRun self.old self.new seat request.now r.answer r.from r.to) }

@@ -29,6 +29,9 @@ impl Driver {
     /// place left and the engine answers so, which it does where a growth was refused; with neither where the request
     /// has no entry. What the seat has then seen begins with what it had seen (`begins`). After the call it holds
     /// nothing. Taken takes no memory.
+    // Put into its callers, as all that it calls down to the step: an answer is then written where its reader keeps it, and not
+    // moved from frame to frame.
+    #[inline(always)]
     pub fn call(&self, seat: &mut Seat, request: Request) -> Outcome
         requires table { seat.old.table ≡ self.now.table }
         requires free { is_waiting seat.old.view.handover ≡ false }

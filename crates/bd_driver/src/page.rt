@@ -31,6 +31,7 @@ impl Page {
 }
 
 /// The word of the page of an engine's history, while the engine is taken.
+#[inline(always)]
 pub(crate) fn page_while_taken(engine: &BoxedEngine) -> u64
     ensures page { result ≡ page_word engine.now.seats 1 engine.now.entries }
     ensures length { length engine.now.entries < 4294967296 }

@@ -160,6 +160,7 @@ impl Engine {
     /// Runs a request: makes its steps, and says what they answer it and where they stand. A write that memory or the
     /// full history stops after some of its commands answers those; refused before its first step, the engine is as it
     /// was. A write that makes no step is never refused.
+    #[inline(always)]
     pub fn run(&mut self, seat: u32, request: &Request) -> Result<Ran, StepError>
         requires { seat < self.old.seats }
         ensures ok { IfOk result (λ r. HasRun self.old self.new seat request.now r.answer r.from r.to) }

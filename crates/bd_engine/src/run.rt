@@ -82,6 +82,7 @@ fn step_of(request: &Request) -> Option<Step>
 
 impl WideEngine {
     // A request that is one step.
+    #[inline(always)]
     fn single(&mut self, seat: u32, step: Step) -> Result<Ran, StepError>
         requires { seat < self.old.seats }
         ensures ok { (request : Request) → ((s : Space) → runs.run s seat request ≡ runs.single s seat step)
@@ -103,6 +104,7 @@ impl WideEngine {
     }
 
     // A write: its commands, each one step.
+    #[inline(always)]
     fn write(&mut self, seat: u32, stream: &[u8], area: &[u8]) -> Result<Ran, StepError>
         requires { seat < self.old.seats }
         ensures ok { IfOk result (λ r. HasRun self.old self.new seat (Write stream.now area.now) r.answer r.from r.to) }
@@ -130,6 +132,7 @@ impl WideEngine {
     /// Runs a request: makes its steps, and says what they answer it and where they stand. A write that memory or the
     /// full history stops after some of its commands answers those; refused before its first step, the engine is as it
     /// was. A write that makes no step is never refused.
+    #[inline(always)]
     pub fn run(&mut self, seat: u32, request: &Request) -> Result<Ran, StepError>
         requires { seat < self.old.seats }
         ensures ok { IfOk result (λ r. HasRun self.old self.new seat request.now r.answer r.from r.to) }

@@ -196,6 +196,7 @@ impl WideEngine {
 
     // Makes one step as `step` does, and answers in brief; what was read is written to `again`. The entry stands in the history before
     // the step is made, so that neither its step nor its answer is moved any more; of a step that is refused it is taken off again.
+    #[inline(always)]
     pub(crate) fn step_in_place(
         &mut self,
         seat: u32,

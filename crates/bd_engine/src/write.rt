@@ -253,6 +253,7 @@ impl WideEngine {
     }
 
     /// Runs the commands of a stream of at most 4096 bytes, whose parcels are cut from the area.
+    #[inline(always)]
     pub(crate) fn run_commands(
         &mut self,
         seat: u32,

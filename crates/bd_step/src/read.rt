@@ -272,6 +272,7 @@ impl Tables {
     }
 
     // The thread of a seat has read these work items, by which the buffer made there is handed over.
+    #[inline(always)]
     fn read_by(&mut self, seat: u32, works: &[Work], made: Option<u32>)
         requires { 2 * length works.now ≤ reference_room self.old.objects }
         ensures stands { (s : Space) → Within self.old s → made ≡ option_map made_of_buffer (spec.buffer_taken s works.now)

@@ -39,7 +39,8 @@ impl Tables {
         }
     }
 
-    // The step of a live thread.
+    // The step of a live thread. Put into its caller: else its thread and process are copied once more.
+    #[inline(always)]
     fn change_by(
         &mut self,
         actor: Actor,

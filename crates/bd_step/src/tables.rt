@@ -71,6 +71,8 @@ impl Tables {
 
     /// Makes room for a step: this among the objects, for so many work items, and for the calls that may ripen or close.
     /// Changes nothing else, also where memory is refused.
+    // Put into its callers, which mostly ask for a number that is known there, and have room.
+    #[inline(always)]
     pub(crate) fn reserve(&mut self, room: Room, works: usize) -> Result<(), AllocError>
         ensures stands { IsKept self.old self.new }
         // What had room still has.

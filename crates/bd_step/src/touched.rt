@@ -13,6 +13,8 @@ use crate::tables::Tables;
 use bd_space::{ObjectId, TodoList};
 
 /// The objects in the order in which they were made.
+// Put into its callers: mostly there is nothing to be sorted.
+#[inline(always)]
 pub(crate) fn in_order(mut objects: Vec<ObjectId>) -> Vec<ObjectId>
     ensures touched { AreTouched (is_among objects.items) result.items }
     ensures len { length result.items ≡ length objects.items }
