@@ -388,7 +388,7 @@ def ring_lies(build):
 # so many seconds whoever asks waits for a connection or an answer (../address.h), and for all pages (asking.c, and as short.c has it)
 PATIENCE, WHOLE, SHORT_WHOLE = 5, 60, 3
 # what a question may take beyond, on a busy machine
-LEEWAY = 4
+LEEWAY = 15
 QUESTIONS = (["--look"], ["--stats", DEVICE], ["--state", DEVICE])
 
 
