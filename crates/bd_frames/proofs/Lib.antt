@@ -1,9 +1,7 @@
 pub mod Places
 pub mod InOrder
 pub mod Counting
-pub mod Alike
-pub mod Linking
 pub mod Stacking
-pub mod Standing
+pub mod Alike
 pub mod Ways
-pub mod Down
+pub mod Standing

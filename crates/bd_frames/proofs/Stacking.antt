@@ -1,139 +1,128 @@
 -- The stacks of a table as its frames come, go and change.
-use Rattle.std.proofs.Common.{◌≡◌, ℕ, ◌≤◌, ◌<◌, ◌==◌, Bool, true, false, cond, List, [], ◌∷◌, ◌++◌, Option, Some, None, map, take, length, get_or, set, refl, ap, sym, subst, ◌∙◌, arith, eqb-true, ltb}
-use Rattle.std.proofs.lemmas.Bool.{eq-eqb, ltb-true, ltb-false}
-use Rattle.std.specs.List.{remove}
-use Rattle.bd_space.specs.declared.space.Frame.{Frame}
+use Rattle.std.proofs.Common.{◌≡◌, ℕ, ◌≤◌, ◌<◌, ◌==◌, Bool, true, false, not, List, Option, Some, None, ◌⊎◌, inl, inr, All, map, filter, take, length, get_or, leb, refl, ap, arith}
+use Rattle.std.specs.Prelude.{Contains, nat_le}
+use Rattle.std.specs.Option.{option_and}
+use Rattle.std.specs.List.{AllWithin}
+use Rattle.std.specs.List.Sorted.{IsPartitionPoint}
+use Rattle.std.proofs.lemmas.Bool.{cases_Bool, cond_both, leb-true, leb-false, eqb-true, eq-eqb}
+use Rattle.std.proofs.lemmas.List.{get_or-take, get_or_default, length-take}
+use Rattle.std.proofs.lemmas.List.Elements.{All-contains, All-filter, All-map, All-take, Contains-get_or, filter_passes}
+use Rattle.bd_space.specs.Frames.{takes_part}
 use Rattle.bd_space.specs.Words.{is_some_and}
-use Rattle.bd_space.specs.Frames.{calls, takes_part}
-use Rattle.bd_space.specs.ReadItems.{serve}
+use Rattle.bd_keys.proofs.Rising.{without}
 use Rattle.bd_frames.specs.declared.frame.Row.{Row}
-use Rattle.bd_frames.specs.declared.stacks.Stacks.{Stacks}
-use Rattle.bd_frames.specs.Places.{frames_of, IsRising}
-use Rattle.bd_frames.specs.Children.{Each}
-use Rattle.bd_frames.specs.Words.{left_frame, left_row, is_pending}
-use Rattle.bd_frames.specs.Linked.{kept_at, below_of, Reaches, Bounds, Linked, any_bound, AreStacks, IsPut, IsPutFor}
-use Rattle.bd_frames.proofs.Counting.{each_map}
-use Rattle.bd_frames.proofs.Alike.{pending_takes, IsFewer, left_fewer, left_gone, serve_takes}
-use Rattle.bd_frames.proofs.Linking.{reach_top, bounds_at, bounds_map, bounds_fewer, bounds_push, bounds_remove, bounds_set, bounds_popped, link_at, linked_fewer, linked_more, linked_push, linked_remove, linked_served, served_row}
+use Rattle.bd_frames.specs.Places.{place, turned, AreRising}
+use Rattle.bd_frames.specs.Linked.{below_of, IsUpTo, IsBelow, IsLinked, IsStack, put_top, popped_top}
 
-pub is_seat : (o : Option ℕ) (s : ℕ) → is_some_and o (λ t. t == s) ≡ true → o ≡ Some s
-is_seat None s e = absurd (cc)
-is_seat (Some t) s e = ap (λ (n : ℕ). Some n) (eqb-true t s e)
+-- a row whose thread took part in the one before it there, and is led on as from that
+pub record IsFewer (s : ℕ) (r x : Row) : Type 0 where
+  pub made : place r ≡ place x
+  pub part : takes_part s r.frame ≡ true
+  pub below : below_of s r ≡ below_of s x
 
-pub is_called : (f : Frame) (s : ℕ) → f.caller ≡ Some s → calls s f ≡ true
-is_called f s e = ap (λ (o : Option ℕ). is_some_and o (λ t. t == s)) e ∙ eq-eqb s s refl
+abbrev pub KeepsPart : ℕ → Row → Row → Type 0
+KeepsPart s r x = takes_part s x.frame ≡ true → IsFewer s r x
 
--- where fewer take part
-pub fewer : (t : Stacks) (rs ss : List Row) → Each IsFewer rs ss → AreStacks t rs → AreStacks t ss
-fewer t rs ss a k = record {
-  linked = linked_fewer (Reaches t.floor) any_bound any_bound rs ss (λ s o c. c) a k.linked;
-  tops_are = λ s. bounds_fewer (Reaches t.floor) s (kept_at t.tops s) rs ss a (k.tops_are s);
-}
+-- after the bound the thread takes part in none
+pub none_above : (s b : ℕ) (rs : List Row) (i : ℕ) → IsPartitionPoint (λ r. leb (place r) b ≡ true) (λ r. leb (place r) b ≡ false) rs i → IsStack s (Some b) rs
+    → AllWithin (λ r. takes_part s r.frame ≡ false) rs i (length rs)
+none_above s b rs i p st = λ k d ge lt. elim (cases_Bool (takes_part s (get_or rs k d).frame)) [
+  | inl part ↦ let up = (st k d lt part).0 in let over = leb-false (place (get_or rs k d)) b (p.1 k d ge lt) in absurd (omega (arith, up, over))
+  | inr other ↦ other
+]
 
-pub removed : (t : Stacks) (rs : List Row) (i : ℕ) → i < length rs → AreStacks t rs → AreStacks t (remove rs i)
-removed t rs i h k = record {
-  linked = linked_remove (Reaches t.floor) any_bound rs i h k.linked;
-  tops_are = λ s. bounds_remove (Reaches t.floor) s (kept_at t.tops s) rs i h (k.tops_are s);
-}
+-- ---- the rows become others
 
--- the frame of an index has gone: from its thread's top, what is below it
-pub popped : (t : Stacks) (rs : List Row) (i : ℕ) (r : Row) (s : ℕ) → AreStacks t rs → IsRising 0 (frames_of rs) → i < length rs → r ≡ get_or rs i r → takes_part s r.frame ≡ true
-    → Bounds (Reaches t.floor) s (Some r.frame.made) (remove rs i) → Bounds (Reaches t.floor) s (below_of s r) (remove rs i)
-popped t rs i r s k rises lt at part b =
-    let link = (link_at (Reaches t.floor) any_bound rs i r s k.linked lt (ap (λ (x : Row). takes_part s x.frame) (sym at) ∙ part)).1 in
-    bounds_popped t.floor (below_of s r) s 0 rs i r rises lt (subst (λ (x : Row). Bounds (Reaches t.floor) s (Some x.frame.made) (remove rs i)) at b)
-    (subst (λ (x : Row). Bounds (Reaches t.floor) s (below_of s x) (take i rs)) (sym at) link)
+module _ (s : ℕ) (rs ss : List Row) where
+  abbrev pub From : Row → Type 0
+  From x = (r : Row) × Contains rs r × IsFewer s r x
 
--- other tops, with the same floor
-pub with_tops : (t u : Stacks) (rs : List Row) → u.floor ≡ t.floor → AreStacks t rs → ((s : ℕ) → Bounds (Reaches t.floor) s (kept_at u.tops s) rs) → AreStacks u rs
-with_tops t u rs floor k h = record {
-  linked = subst (λ (x : Option ℕ). Linked (Reaches x) any_bound rs) (sym floor) k.linked;
-  tops_are = λ s. subst (λ (x : Option ℕ). Bounds (Reaches x) s (kept_at u.tops s) rs) (sym floor) (h s);
-}
+  -- it has come there, and the bound of those below it is this
+  abbrev pub Comes : ℕ → Option ℕ → Row → Type 0
+  Comes made o x = (place x ≡ made) × (below_of s x ≡ o)
 
--- ---- a frame comes onto a thread's stack
+  module _ (b n : ℕ) (le : b ≤ n) (st : IsStack s (Some b) rs) where
+    old : (x : Row) (f : From x) → IsLinked s b rs f.0
+    old x f = All-contains (IsLinked s b rs) rs f.0 st f.1
 
--- a thread's top is that frame, with a floor from which all is reached that was made later
-pub put_top : (t u : Stacks) (thread : Option ℕ) (seat made : ℕ) (below : Option ℕ) → thread ≡ Some seat → ((o : Option ℕ) (n : ℕ) → Reaches t.floor o n → Reaches u.floor o n) → kept_at t.tops seat ≡ below
-    → ((s : ℕ) → kept_at u.tops s ≡ cond (seat == s) (Some made) (kept_at t.tops s)) → ((n : ℕ) (o : Option ℕ) → made ≤ n → Reaches t.floor below n → Reaches u.floor o n × Reaches u.floor o made)
-    → IsPut t u thread made below
-put_top t u thread seat made below it more was tops over = record {
-  kept = more;
-  tops = λ s n e. subst (λ (o : Option ℕ). Reaches u.floor o n) (sym (tops s)) (by s n (seat == s) refl e);
-  put = λ s is. subst (λ (z : ℕ). IsPutFor t u z made below) (some_same (sym it ∙ is)) (record {
-    there = subst (λ (o : Option ℕ). Reaches u.floor o made) (sym (mine (seat == seat) refl)) (reach_top u.floor made made (omega arith));
-    later = λ n o h e. (over n o h (old n e)).1;
-    lower = λ n e. more below n (old n e);
-  });
-}
-  where
-    some_same : {a b : ℕ} → Some a ≡ Some b → a ≡ b
-    some_same e = cc e
+    up_to : (x : Row) → From x ⊎ Comes n (Some b) x → place x ≤ n
+    up_to x (inl f) = let a = (old x f f.2.part).0 in omega (arith, a, le, f.2.made)
+    up_to x (inr c) = omega (arith, c.0)
 
-    old : (n : ℕ) → Reaches t.floor (kept_at t.tops seat) n → Reaches t.floor below n
-    old n e = subst (λ (o : Option ℕ). Reaches t.floor o n) was e
+    leads : (x y : Row) → From x ⊎ Comes n (Some b) x → From y ⊎ Comes n (Some b) y → place y < place x → IsUpTo (below_of s x) (place y)
+    leads x y (inl f) (inl g) lt =
+        let a = All-contains (IsBelow s f.0) rs g.0 (old x f f.2.part).1 g.1 g.2.part (omega (arith, lt, f.2.made, g.2.made)) in
+        rw (f.2.below, g.2.made) at a
+    leads x y (inl f) (inr c) lt = let a = (old x f f.2.part).0 in absurd (omega (arith, a, le, f.2.made, c.0, lt))
+    leads x y (inr c) (inl g) lt = let a = (old y g g.2.part).0 in rw c.1 (omega (arith, a, g.2.made))
+    leads x y (inr c) (inr e) lt = absurd (omega (arith, c.0, e.0, lt))
 
-    mine : (b : Bool) → (seat == seat) ≡ b → kept_at u.tops seat ≡ Some made
-    mine b g = tops seat ∙ ap (λ (b : Bool). cond b (Some made) (kept_at t.tops seat)) (eq-eqb seat seat refl)
+    onto : All (λ x. takes_part s x.frame ≡ true → From x ⊎ Comes n (Some b) x) ss → IsStack s (Some n) ss
+    onto new = λ k d lt part. (
+      up_to (get_or ss k d) (new k d lt part),
+      λ j e h other below. leads (get_or ss k d) (get_or ss j e) (new k d lt part) (new j e h other) below,
+    )
 
-    low : (n : ℕ) → Reaches t.floor below n → (b : Bool) → ltb made n ≡ b → Reaches u.floor (Some made) n
-    low n e true g = (over n (Some made) (let h = ltb-true made n g in omega (arith, h)) e).0
-    low n e false g = reach_top u.floor made n (ltb-false made n g)
+  pub stays : (o : Option ℕ) → IsStack s o rs → All (λ x. takes_part s x.frame ≡ true → From x) ss → IsStack s o ss
+  stays None st new = tt
+  stays (Some b) st new = onto b b (omega arith) st (λ k d lt part. inl (new k d lt part))
 
-    by : (s n : ℕ) (b : Bool) → (seat == s) ≡ b → Reaches t.floor (kept_at t.tops s) n → Reaches u.floor (cond b (Some made) (kept_at t.tops s)) n
-    by s n true g e = low n (old n (subst (λ z. Reaches t.floor (kept_at t.tops z) n) (sym (eqb-true seat s g)) e)) (ltb made n) refl
-    by s n false g e = more (kept_at t.tops s) n e
+  -- where a frame has come that was made there
+  pub put_on : (made : ℕ) (o : Option ℕ) → IsStack s o rs → All (λ x. takes_part s x.frame ≡ true → From x ⊎ Comes made o x) ss → IsStack s (put_top made o) ss
+  put_on made None st new = tt
+  put_on made (Some b) st new =
+      cond_both (nat_le b made) (Some made) None (λ o. IsStack s o ss) (λ e. onto b made (leb-true b made e) st new) (λ e. tt)
 
-module _ (t u : Stacks) (below : Option ℕ) where
-  -- a new frame, of which only its caller knows
-  pub pushed : (rs : List Row) (f : Frame) (r : Row) → IsPut t u f.caller f.made below → AreStacks t rs → is_pending f.server ≡ true
-      → r ≡ record { frame = f; caller = below; server = None; children = 0 } → AreStacks u (rs ++ r ∷ [])
-  pushed rs f r p k unread is = subst (λ x. AreStacks u (rs ++ x ∷ [])) (sym is) (record {
-    linked = linked_push (Reaches u.floor) any_bound rs row (linked_more (Reaches t.floor) (Reaches u.floor) any_bound any_bound rs p.kept (λ s o c. c) k.linked) (λ s e. (tt, leads s (own s e)));
-    tops_are = λ s. bounds_push (Reaches u.floor) s (kept_at u.tops s) rs row (bounds_map (Reaches t.floor) (Reaches u.floor) s (kept_at t.tops s) (kept_at u.tops s) rs (p.tops s) (k.tops_are s))
-        (λ e. (p.put s (is_seat f.caller s (own s e))).there);
-  })
+module _ (s : ℕ) (rs : List Row) where
+  pub itself : All (λ x. takes_part s x.frame ≡ true → From s rs rs x) rs
+  itself = λ k d lt part. (get_or rs k d, Contains-get_or rs k d lt, record { made = refl; part = part; below = refl })
+
+  pub mapped : (g : Row → Row) → ((r : Row) → KeepsPart s r (g r)) → (o : Option ℕ) → IsStack s o rs → IsStack s o (map g rs)
+  mapped g keeps o st =
+      stays s rs (map g rs) o st
+      (All-map (λ x. takes_part s x.frame ≡ true → From s rs (map g rs) x) g rs (λ k d lt part. (get_or rs k d, Contains-get_or rs k d lt, keeps (get_or rs k d) part)))
+
+  -- where one row changes
+  pub turns : (made : Option ℕ) (g : Row → Row) → ((r : Row) → KeepsPart s r (g r)) → (o : Option ℕ) → IsStack s o rs → IsStack s o (map (turned made g) rs)
+  turns made g keeps =
+      mapped (turned made g)
+      (λ r. cond_both (is_some_and made (λ m. place r == m)) (g r) r (KeepsPart s r) (λ e. keeps r) (λ e part. record { made = refl; part = part; below = refl }))
+
+  pub filtered : (p : Row → Bool) (o : Option ℕ) → IsStack s o rs → IsStack s o (filter p rs)
+  filtered p o st = stays s rs (filter p rs) o st (All-filter p (λ x. takes_part s x.frame ≡ true → From s rs (filter p rs) x) rs itself)
+
+  -- where the frame of a row has gone
+  pub popped : (r : Row) (o : Option ℕ) → Contains rs r → takes_part s r.frame ≡ true → IsStack s o rs → IsStack s (popped_top s r o) (without place (place r) rs)
+  popped r None inside part st = tt
+  popped r (Some b) inside part st =
+      cond_both (b == place r) (below_of s r) (Some b) (λ o. IsStack s o (filter keep rs)) (λ e. lowered (eqb-true b (place r) e) (below_of s r) refl) (λ e. filtered keep (Some b) st)
     where
-      row : Row
-      row = record { frame = f; caller = below; server = None; children = 0 }
+      keep : Row → Bool
+      keep x = not (place x == place r)
 
-      own : (s : ℕ) → takes_part s f ≡ true → calls s f ≡ true
-      own s e = sym (pending_takes s f unread) ∙ e
+      lowered : b ≡ place r → (o : Option ℕ) → below_of s r ≡ o → IsStack s o (filter keep rs)
+      lowered top None is = tt
+      lowered top (Some c) is = λ k d lt p.
+          let x = get_or (filter keep rs) k d in
+          let old = All-filter keep (IsLinked s b rs) rs st k d lt p in
+          let other = filter_passes keep rs k d lt in
+          let apart : place x ≡ place r → ⊥ = λ same. (let yes = eq-eqb (place x) (place r) same in cc) in
+          let low : place x < place r = omega (arith, old.0, top, apart) in
+          let up = All-filter keep (IsBelow s r) rs (All-contains (IsLinked s b rs) rs r st inside part).1 k d lt p low in
+          (rw is at up, All-filter keep (IsBelow s x) rs old.1)
 
-      leads : (s : ℕ) → calls s f ≡ true → Bounds (Reaches u.floor) s (below_of s row) rs
-      leads s e =
-          subst (λ (o : Option ℕ). Bounds (Reaches u.floor) s o rs) (sym (ap (λ (b : Bool). cond b below None) e))
-          (bounds_map (Reaches t.floor) (Reaches u.floor) s (kept_at t.tops s) below rs (p.put s (is_seat f.caller s e)).lower (k.tops_are s))
-
-  -- a frame that the thread serves
-  pub serves_other : (rs : List Row) (i : ℕ) (d : Row) (seat made : ℕ) → IsPut t u (Some seat) made below → AreStacks t rs → IsRising 0 (frames_of rs) → i < length rs → (get_or rs i d).frame.made ≡ made
-      → AreStacks u (set rs i (served_row seat below (get_or rs i d)))
-  serves_other rs i d seat made p k rises lt is = record {
-    linked = linked_served (Reaches t.floor) (Reaches u.floor) p.kept made seat (kept_at t.tops seat) below (p.put seat refl).later (p.put seat refl).lower any_bound any_bound 0 rs i d rises lt is
-        k.linked (k.tops_are seat) (λ s o c. c) tt;
-    tops_are = λ s. bounds_set (Reaches u.floor) s (kept_at u.tops s) rs i (served_row seat below (get_or rs i d))
-        (bounds_map (Reaches t.floor) (Reaches u.floor) s (kept_at t.tops s) (kept_at u.tops s) rs (p.tops s) (k.tops_are s)) (λ e. at s e (seat == s) refl);
-  }
-    where
-      at : (s : ℕ) → takes_part s (serve seat (get_or rs i d).frame) ≡ true → (b : Bool) → (seat == s) ≡ b → Reaches u.floor (kept_at u.tops s) (get_or rs i d).frame.made
-      at s e true g =
-          subst (λ z. Reaches u.floor (kept_at u.tops z) (get_or rs i d).frame.made) (eqb-true seat s g)
-          (subst (λ n. Reaches u.floor (kept_at u.tops seat) n) (sym is) (p.put seat refl).there)
-      at s e false g = p.tops s (get_or rs i d).frame.made (bounds_at (Reaches t.floor) s (kept_at t.tops s) rs i d lt (k.tops_are s) (serve_takes seat s (get_or rs i d).frame g e))
-
--- ---- a thread goes
-
-pub forgets : (t u : Stacks) (rs : List Row) (seat : ℕ) → AreStacks t rs → u.floor ≡ t.floor → ((s : ℕ) → kept_at u.tops s ≡ cond (seat == s) None (kept_at t.tops s)) → AreStacks u (map (left_row seat) rs)
-forgets t u rs seat k floor tops =
-    let j = fewer t rs (map (left_row seat) rs) (each_map IsFewer (left_row seat) (left_fewer seat) rs) k in
-    with_tops t u (map (left_row seat) rs) floor j
-    (λ s. subst (λ (o : Option ℕ). Bounds (Reaches t.floor) s o (map (left_row seat) rs)) (sym (tops s)) (by s (j.tops_are s) (seat == s) refl))
+-- the way down goes on from the frame at an index
+pub way_on : (s : ℕ) (o : Option ℕ) (rs : List Row) (i : ℕ) (d : Row) → AreRising rs → i < length rs → takes_part s (get_or rs i d).frame ≡ true → IsStack s o rs
+    → IsStack s (option_and o (below_of s (get_or rs i d))) (take i rs)
+way_on s None rs i d rises lt part st = tt
+way_on s (Some b) rs i d rises lt part st = at (below_of s (get_or rs i d)) refl
   where
-    none : (s : ℕ) → (seat == s) ≡ true → (xs : List Row) → Bounds (Reaches t.floor) s None (map (left_row seat) xs)
-    none s e [] = tt
-    none s e (x ∷ xs) =
-        (λ part. let no = sym part ∙ ap (λ n. takes_part n (left_frame seat x.frame)) (sym (eqb-true seat s e)) ∙ left_gone seat x.frame in absurd (cc no), none s e xs)
-
-    by : (s : ℕ) → Bounds (Reaches t.floor) s (kept_at t.tops s) (map (left_row seat) rs) → (c : Bool) → (seat == s) ≡ c → Bounds (Reaches t.floor) s (cond c None (kept_at t.tops s)) (map (left_row seat) rs)
-    by s b true e = none s e rs
-    by s b false e = b
+    at : (o : Option ℕ) → below_of s (get_or rs i d) ≡ o → IsStack s o (take i rs)
+    at None is = tt
+    at (Some c) is = λ k e h p.
+        let low = length-take i rs in
+        let before = rises k i e (omega (arith, h, low)) lt in
+        let same = ap place (get_or_default rs i e d lt) in
+        let read = ap place (get_or-take i rs k e (omega (arith, h, low))) in
+        let up = All-take (IsBelow s (get_or rs i d)) i rs (st i d lt part).1 k e h p (omega (arith, before, same, read)) in
+        (rw is at up, All-take (IsBelow s (get_or (take i rs) k e)) i rs (All-take (IsLinked s b rs) i rs st k e h p).1)

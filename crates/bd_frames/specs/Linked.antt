@@ -1,56 +1,45 @@
--- Each thread's frames as a stack: up to where its innermost one was made, and from each up to where the next older one was.
-use Rattle.std.specs.Prelude.{ℕ, ◌≡◌, ◌==◌, ◌≤◌, true, List, [], ◌∷◌, Option, Some, None, max, if◌then◌else◌}
-use Rattle.std.specs.HashMap.{HashMap, get_by}
+-- Each thread's frames as a stack: a bound of all of them, and from each a bound of the older ones.
+use Rattle.std.specs.Prelude.{ℕ, ◌≡◌, ◌==◌, ◌≤◌, ◌<◌, nat_le, true, List, Option, Some, None, get_or, if◌then◌else◌}
+use Rattle.std.specs.List.{All}
+use Rattle.bd_ways.specs.Words.{is_some_and}
 use Rattle.bd_space.specs.Frames.{calls, takes_part}
 use Rattle.bd_frames.specs.declared.frame.Row.{Row}
 use Rattle.bd_frames.specs.declared.stacks.Stacks.{Stacks}
-use Rattle.bd_frames.specs.Places.{is_reached}
+use Rattle.bd_frames.specs.Places.{place}
 
--- what is kept of a seat
-abbrev pub kept_at : {S : Type 0} → HashMap ℕ ℕ S → ℕ → Option ℕ
-kept_at tops seat = get_by (λ k. seat == k) tops
-
--- the next older frame of a thread that takes part
+-- the bound of the older frames of a thread that takes part
 abbrev pub below_of : ℕ → Row → Option ℕ
 below_of seat r = if calls seat r.frame then r.caller else r.server
 
--- a floor that reaches this place too
-abbrev pub raised : Option ℕ → ℕ → Option ℕ
-raised None made = Some made
-raised (Some floor) made = Some (max floor made)
+-- where there is no bound nothing is said
+abbrev pub IsUpTo : Option ℕ → ℕ → Type 0
+IsUpTo None made = Unit {0}
+IsUpTo (Some bound) made = made ≤ bound
 
--- what was made there is looked at from this bound down: up to the floor all is
-abbrev pub Reaches : Option ℕ → Option ℕ → ℕ → Type 0
-Reaches floor bound made = is_reached floor bound made ≡ true
+-- if the thread takes part in q, which is older than r's frame, it was made up to what r has below
+abbrev pub IsBelow : ℕ → Row → Row → Type 0
+IsBelow seat r q = takes_part seat q.frame ≡ true → place q < place r → IsUpTo (below_of seat r) (place q)
 
--- from this bound down each frame is reached in which the thread takes part
-abbrev pub Bounds : (Option ℕ → ℕ → Type 0) → ℕ → Option ℕ → List Row → Type 0
-Bounds R seat bound [] = Unit {0}
-Bounds R seat bound (r ∷ rs) = (takes_part seat r.frame ≡ true → R bound r.frame.made) × Bounds R seat bound rs
+-- if the thread takes part in the frame, it was made up to the bound, and those that are older are below it
+abbrev pub IsLinked : ℕ → ℕ → List Row → Row → Type 0
+IsLinked seat bound rows r = takes_part seat r.frame ≡ true → (place r ≤ bound) × All (IsBelow seat r) rows
 
--- from each frame on each of its threads all those before it are reached, and what C says
-abbrev pub Linked : (Option ℕ → ℕ → Type 0) → (ℕ → Option ℕ → Type 0) → List Row → Type 0
-Linked R C [] = Unit {0}
-Linked R C (r ∷ rs) =
-    ((seat : ℕ) → takes_part seat r.frame ≡ true → C seat (below_of seat r))
-    × Linked R (λ seat bound. C seat bound × (takes_part seat r.frame ≡ true → R bound r.frame.made)) rs
+-- from this bound down the thread's frames are found
+abbrev pub IsStack : ℕ → Option ℕ → List Row → Type 0
+IsStack seat None rows = Unit {0}
+IsStack seat (Some bound) rows = All (IsLinked seat bound rows) rows
 
-abbrev pub any_bound : ℕ → Option ℕ → Type 0
-any_bound seat bound = Unit {0}
+abbrev pub top_in : Stacks → ℕ → Option ℕ
+top_in s seat = get_or s.tops seat None
 
-pub record AreStacks (s : Stacks) (rows : List Row) : Type 0 where
-  pub linked : Linked (Reaches s.floor) any_bound rows
-  pub tops_are : (seat : ℕ) → Bounds (Reaches s.floor) seat (kept_at s.tops seat) rows
+abbrev pub AreStacks : Stacks → List Row → Type 0
+AreStacks s rows = (seat : ℕ) → IsStack seat (top_in s seat) rows
 
--- the frame made there comes onto this thread's stack: from its top that frame is reached, and whatever was. Where the thread
--- takes part in later ones, it is reached from anywhere. From what is below all is reached that was reached from the old top
-pub record IsPutFor (s t : Stacks) (seat made : ℕ) (below : Option ℕ) : Type 0 where
-  pub there : Reaches t.floor (kept_at t.tops seat) made
-  pub later : (n : ℕ) (bound : Option ℕ) → made ≤ n → Reaches s.floor (kept_at s.tops seat) n → Reaches t.floor bound made
-  pub lower : (n : ℕ) → Reaches s.floor (kept_at s.tops seat) n → Reaches t.floor below n
+-- the top of a stack onto which a frame comes that was made there: none, if one that was made later is on it
+abbrev pub put_top : ℕ → Option ℕ → Option ℕ
+put_top made None = None
+put_top made (Some bound) = if nat_le bound made then Some made else None
 
--- the same if there is a thread; and nothing that was reached no longer is
-pub record IsPut (s t : Stacks) (thread : Option ℕ) (made : ℕ) (below : Option ℕ) : Type 0 where
-  pub kept : (bound : Option ℕ) (n : ℕ) → Reaches s.floor bound n → Reaches t.floor bound n
-  pub tops : (seat n : ℕ) → Reaches s.floor (kept_at s.tops seat) n → Reaches t.floor (kept_at t.tops seat) n
-  pub put : (seat : ℕ) → thread ≡ Some seat → IsPutFor s t seat made below
+-- the top of a stack from which the frame of this row has gone
+abbrev pub popped_top : ℕ → Row → Option ℕ → Option ℕ
+popped_top seat r top = if is_some_and top (λ m. m == place r) then below_of seat r else top

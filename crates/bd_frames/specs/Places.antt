@@ -1,6 +1,8 @@
--- Frames in the order of their places, and where among the rows those are that pass.
-use Rattle.std.specs.Prelude.{ℕ, suc, ◌≡◌, ◌≤◌, nat_le, ◌||◌, Bool, true, false, List, [], ◌∷◌, Option, Some, None, take, drop, get_or, map}
-use Rattle.bd_ways.specs.Words.{list_any, Frame}
+-- Frames in the order of their places, and where among the rows those are that are looked for.
+use Rattle.std.specs.Prelude.{ℕ, suc, ◌≡◌, ◌≤◌, ◌<◌, ◌==◌, true, false, List, [], ◌∷◌, Option, Some, None, AllPairs, length, map, if◌then◌else◌}
+use Rattle.std.specs.List.{All, AllWithin, HoldsAt}
+use Rattle.bd_ways.specs.Words.{Frame, is_some_and}
+use Rattle.bd_space.specs.Frames.{takes_part}
 use Rattle.bd_frames.specs.declared.frame.Row.{Row}
 
 abbrev pub frames_of : List Row → List Frame
@@ -16,25 +18,23 @@ abbrev pub IsAfter : ℕ → List Frame → ℕ → Type 0
 IsAfter from [] made = from ≤ made
 IsAfter from (f ∷ fs) made = IsAfter (suc f.made) fs made
 
--- it was made up to a bound, if there is one
-abbrev pub is_up_to : ℕ → Option ℕ → Bool
-is_up_to made None = false
-is_up_to made (Some bound) = nat_le made bound
+abbrev pub place : Row → ℕ
+place r = r.frame.made
 
-abbrev pub is_reached : Option ℕ → Option ℕ → ℕ → Bool
-is_reached floor bound made = is_up_to made bound || is_up_to made floor
+abbrev pub AreRising : List Row → Type 0
+AreRising = AllPairs (λ r s. place r < place s)
 
--- at this index stands one that passes, and none after it does
-pub record IsLast (q : Frame → Bool) (i : ℕ) (rows : List Row) : Type 0 where
-  pub here : (d : Row) → q (get_or rows i d).frame ≡ true
-  pub after : list_any q (frames_of (drop (suc i) rows)) ≡ false
+-- the frame made there stands at this index, or there is none
+abbrev pub IsAt : ℕ → List Row → Option ℕ → Type 0
+IsAt made rows None = All (λ r. (place r == made) ≡ false) rows
+IsAt made rows (Some i) = HoldsAt (λ r. place r ≡ made) rows i
 
--- the one that passes stands at this index, or there is none
-abbrev pub IsOnlyAt : (Frame → Bool) → Option ℕ → List Row → Type 0
-IsOnlyAt q None rows = list_any q (frames_of rows) ≡ false
-IsOnlyAt q (Some i) rows = IsLast q i rows × (list_any q (frames_of (take i rows)) ≡ false)
+-- the newest frame in which the thread takes part stands at this index, or there is none
+abbrev pub IsNewest : ℕ → List Row → Option ℕ → Type 0
+IsNewest seat rows None = All (λ r. takes_part seat r.frame ≡ false) rows
+IsNewest seat rows (Some i) =
+    HoldsAt (λ r. takes_part seat r.frame ≡ true) rows i × AllWithin (λ r. takes_part seat r.frame ≡ false) rows (suc i) (length rows)
 
--- the newest one that passes stands at this index, or there is none
-abbrev pub IsNewestAt : (Frame → Bool) → Option ℕ → List Row → Type 0
-IsNewestAt q None rows = list_any q (frames_of rows) ≡ false
-IsNewestAt q (Some i) rows = IsLast q i rows
+-- the row, changed if its frame was made there
+abbrev pub turned : Option ℕ → (Row → Row) → Row → Row
+turned made g r = if is_some_and made (λ m. place r == m) then g r else r

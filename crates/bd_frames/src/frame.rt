@@ -1,9 +1,9 @@
 //! A frame, and what a table keeps beside it.
 
-ghost use Rattle.std.specs.Prelude.{◌≡◌, ◌==◌, ◌&&◌, true, false, IfSome};
+ghost use Rattle.std.specs.Prelude.{◌≡◌, ◌==◌, ◌&&◌};
 ghost use Rattle.bd_space.specs.Frames as spec;
 ghost use Rattle.bd_frames.specs.Linked as linked;
-ghost use Rattle.bd_frames.specs.Words.{lost_frame, left_frame};
+ghost use Rattle.bd_frames.specs.Words.{lost_frame, left_frame, server_seat};
 
 use bd_space::{Frame, Server};
 
@@ -11,7 +11,7 @@ use bd_space::{Frame, Server};
 #[derive(Clone, Copy, Debug)]
 pub struct Row {
     pub frame: Frame,
-    /// Up to where the next older frame of its caller was made: no seat.
+    /// A bound: no older frame of its caller was made later, unless nothing is known of that thread's stack.
     pub caller: Option<u32>,
     /// The same of its server.
     pub server: Option<u32>,
@@ -39,7 +39,7 @@ pub(crate) fn is_abandoned(row: &Row) -> bool
     matches!(row.frame.server, Server::Gone) && row.children == 0
 }
 
-/// Up to where the next older frame was made of the thread, which takes part in this one.
+/// The bound of the older frames of the thread, which takes part in this one.
 pub(crate) fn below_of(seat: u32, row: &Row) -> Option<u32>
     ensures { result ≡ linked.below_of seat row.now }
 {
@@ -50,19 +50,12 @@ pub(crate) fn below_of(seat: u32, row: &Row) -> Option<u32>
     }
 }
 
-/// The thread that serves the frame, unless it is also its caller.
-pub(crate) fn other_server(frame: Frame) -> Option<u32>
-    ensures serves { IfSome result (λ s. spec.serves s frame.server ≡ true) }
-    ensures apart { IfSome result (λ s. spec.calls s frame ≡ false) }
+/// The thread that serves the frame.
+pub(crate) fn server_seat(frame: Frame) -> Option<u32>
+    ensures { result ≡ server_seat frame.server }
 {
     match frame.server {
-        Server::Serving(seat) => {
-            if frame.caller == Some(seat) {
-                None
-            } else {
-                Some(seat)
-            }
-        }
+        Server::Serving(seat) => Some(seat),
         _ => None,
     }
 }

@@ -1,7 +1,6 @@
 //! The table of frames, open two-way calls: each found by its place.
 #![tactic(auto)]
 
-mod children;
 mod frame;
 mod place;
 mod stacks;

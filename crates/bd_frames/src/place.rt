@@ -1,17 +1,17 @@
 //! Where the frames stand that are looked for.
 
-ghost use Rattle.std.specs.Prelude.{◌≡◌, ◌<◌, IfSome, length};
-ghost use Rattle.bd_space.specs.Frames as spec;
-ghost use Rattle.bd_frames.specs.Places as places;
-ghost use Rattle.bd_frames.specs.Places.{IsRising, IsOnlyAt, IsNewestAt, frames_of};
-ghost use Rattle.bd_frames.specs.Linked.{Bounds, Reaches};
+ghost use Rattle.std.specs.Prelude.{◌≡◌, ◌<◌, IfSome, length, map, vec_len, vec_capacity};
+ghost use Rattle.bd_keys.specs.Tables.{AnswersBy};
+ghost use Rattle.bd_frames.specs.declared.frame.Row as declared;
+ghost use Rattle.bd_frames.specs.Places.{AreRising, IsAt, IsNewest, turned};
+ghost use Rattle.bd_frames.specs.Linked.{IsStack};
 
 use crate::frame::{Row, takes_part};
 
 /// The index of the frame that was made there: found by halves.
 pub(crate) fn index_of(rows: &[Row], made: u32) -> Option<usize>
     ensures within { IfSome result (λ i. i < length rows.now) }
-    ensures only { IsRising 0 (frames_of rows.now) → IsOnlyAt (spec.is_frame made) result rows.now }
+    ensures found { AreRising rows.now → IsAt made rows.now result }
 {
     let i = rows.partition_point(|r| r.frame.made < made);
     if i < rows.len() && rows[i].frame.made == made {
@@ -21,25 +21,30 @@ pub(crate) fn index_of(rows: &[Row], made: u32) -> Option<usize>
     }
 }
 
-/// Whether it was made no later than the floor or the bound.
-fn is_reached(floor: Option<u32>, bound: Option<u32>, made: u32) -> bool
-    ensures { result ≡ places.is_reached floor bound made }
+/// The row of the frame that was made there, if one was, becomes what `f` makes of it.
+pub(crate) fn turn<F: Fn(Row) -> Row>(rows: &mut Vec<Row>, made: Option<u32>, f: F)
+    requires callable { F.IsAlwaysCallable f }
+    ensures rows { (g : declared.Row → declared.Row) → AnswersBy (λ x y. F.post f x y) g → AreRising rows.old.items
+        → rows.new.items ≡ map (turned made g) rows.old.items }
+    ensures len { vec_len rows.new ≡ vec_len rows.old }
+    ensures capacity { vec_capacity rows.new ≡ vec_capacity rows.old }
 {
-    bound.is_some_and(|b| made <= b) || floor.is_some_and(|b| made <= b)
+    if let Some(made) = made {
+        if let Some(i) = index_of(rows, made) {
+            rows[i] = f(rows[i]);
+        }
+    }
 }
 
-/// The index of the newest frame in which the thread takes part, of those made up to its bound or to the floor.
-pub(crate) fn newest_part(
-    rows: &[Row],
-    seat: u32,
-    floor: Option<u32>,
-    bound: Option<u32>,
-) -> Option<usize>
+/// The index of the newest frame in which the thread takes part, of those made up to the bound of its stack.
+pub(crate) fn newest_part(rows: &[Row], seat: u32, bound: Option<u32>) -> Option<usize>
     ensures within { IfSome result (λ i. i < length rows.now) }
-    ensures newest { IsRising 0 (frames_of rows.now) → Bounds (Reaches floor) seat bound rows.now
-        → IsNewestAt (spec.takes_part seat) result rows.now }
+    ensures newest { AreRising rows.now → IsStack seat bound rows.now → IsNewest seat rows.now result }
 {
-    let mut from = rows.partition_point(|r| is_reached(floor, bound, r.frame.made));
+    let mut from = match bound {
+        Some(bound) => rows.partition_point(|r| r.frame.made <= bound),
+        None => rows.len(),
+    };
     while from > 0 {
         from -= 1;
         if takes_part(&rows[from].frame, seat) {

@@ -1,104 +1,82 @@
-//! Each thread's frames as a stack, linked by the places where they were made.
+//! Each thread's frames as a stack, linked by bounds: places after which the next older one wasn't made.
 
-ghost use Rattle.std.specs.Prelude.{ℕ, true, List, ◌≡◌, ◌==◌, ◌<◌, ◌^◌, [], Some, None, if◌then◌else◌};
+ghost use Rattle.std.specs.Prelude.{ℕ, Some, [], ◌≡◌, ◌==◌, ◌<◌, ◌&&◌, ◌^◌, nat_lt, length, if◌then◌else◌};
+ghost use Rattle.std.specs.Option.{option_and_then};
+ghost use Rattle.bd_space.specs.Frames as spec;
 ghost use Rattle.bd_space.specs.Words.{is_some_and};
-ghost use Rattle.bd_frames.specs.declared.frame.Row as declared;
-ghost use Rattle.bd_frames.specs.Linked as linked;
-ghost use Rattle.bd_frames.specs.Linked.{kept_at, Bounds, Reaches, AreStacks, IsPut};
+ghost use Rattle.bd_frames.specs.Linked.{AreStacks, top_in, put_top, popped_top};
 
-use bd_keys::insert_reserved;
-use std::alloc::Global;
-use std::collections::HashMap;
+use crate::frame::{Row, below_of, server_seat};
+use bd_uapi::MOST_SEATS;
+
+// As many seats as a driver has.
+const SEATS: usize = MOST_SEATS as usize;
 
 /// The stacks of all threads.
 #[derive(Debug, Drop)]
 pub struct Stacks {
-    // What was made up to here is looked for along all frames: nothing, while frames come on top of their threads' stacks.
-    pub(crate) floor: Option<u32>,
-    // Up to where each thread's innermost frame was made.
-    pub(crate) tops: HashMap<u32, u32>,
-}
-
-// The later one of a floor and a place.
-fn raised(floor: Option<u32>, made: u32) -> Option<u32>
-    ensures { result ≡ linked.raised floor made }
-{
-    match floor {
-        Some(floor) => Some(floor.max(made)),
-        None => Some(made),
-    }
+    // By seat: a bound of all frames of its thread. Where there is none nothing is known of the stack, and all frames are
+    // looked through: so it is of a seat that no driver has, and of a thread that served a frame below its innermost one.
+    pub(crate) tops: [Option<u32>; SEATS],
 }
 
 impl Stacks {
-    pub(crate) fn new(alloc: Global) -> Stacks
+    pub(crate) fn new() -> Stacks
         ensures { AreStacks result [] }
     {
         Stacks {
-            floor: None,
-            tops: HashMap::new(alloc),
+            tops: [Some(0); SEATS],
         }
     }
 
     pub(crate) fn top_of(&self, seat: u32) -> Option<u32>
-        ensures { result ≡ kept_at self.now.tops seat }
+        ensures { result ≡ top_in self.now seat }
     {
-        self.tops.get(&seat).copied()
+        *self.tops.get(seat as usize)?
     }
 
-    /// The frame made there comes onto the stack of the thread, if there is one: what is below it there. Takes no memory.
+    /// The frame made there comes onto the stack of the thread, if there is one: the bound of those below it.
     pub(crate) fn put(&mut self, seat: Option<u32>, made: u32) -> Option<u32>
-        ensures put { IsPut self.old self.new seat made result }
+        ensures tops { (s : ℕ) → top_in self.new s
+            ≡ (if is_some_and seat (λ t. t == s) then put_top made (top_in self.old s) else top_in self.old s) }
+        ensures below { result ≡ option_and_then (top_in self.old) seat }
         // A place is a u32.
         ensures place { made < 2 ^ 32 }
     {
         let seat = seat?;
-        if self.tops.len() >= self.tops.capacity() {
-            self.floor = raised(self.floor, made);
-            return self.top_of(seat);
-        }
-        let below = insert_reserved(&mut self.tops, seat, made)?;
-        if below >= made {
-            self.floor = raised(self.floor, below);
-        }
-        Some(below)
+        let bound = self.top_of(seat)?;
+        self.tops[seat as usize] = if bound <= made { Some(made) } else { None };
+        Some(bound)
     }
 
-    /// The frame made there has gone from the stack of the thread, if there is one: where it was on top, what is below is.
-    pub(crate) fn pop(&mut self, seat: Option<u32>, made: u32, below: Option<u32>)
-        ensures floor { self.new.floor ≡ self.old.floor }
-        ensures stands { (rows : List declared.Row) → AreStacks self.old rows
-            → ((s : ℕ) → seat ≡ Some s → Bounds (Reaches self.old.floor) s (Some made) rows
-            → Bounds (Reaches self.old.floor) s below rows) → AreStacks self.new rows }
+    // The frame of this row has gone from the stack of the thread, if there is one: where it was on top, what is below is.
+    fn lower(&mut self, seat: Option<u32>, row: &Row)
+        ensures { (s : ℕ) → top_in self.new s
+            ≡ (if is_some_and seat (λ t. t == s) then popped_top s row.now (top_in self.old s) else top_in self.old s) }
     {
         if let Some(seat) = seat {
-            if self.top_of(seat) == Some(made) {
-                self.lower(seat, below);
+            if self.top_of(seat) == Some(row.frame.made) {
+                self.tops[seat as usize] = below_of(seat, row);
             }
         }
     }
 
-    // What is below the thread's innermost frame is its innermost one.
-    fn lower(&mut self, seat: u32, below: Option<u32>)
-        requires { is_some_and (kept_at self.old.tops seat) (λ _. true) ≡ true }
-        ensures floor { self.new.floor ≡ self.old.floor }
-        ensures tops { (s : ℕ) → kept_at self.new.tops s ≡ (if seat == s then below else kept_at self.old.tops s) }
+    /// The frame of this row has gone from the stacks of its threads.
+    pub(crate) fn pop(&mut self, row: &Row)
+        ensures { (s : ℕ) → top_in self.new s
+            ≡ (if spec.takes_part s row.now.frame then popped_top s row.now (top_in self.old s) else top_in self.old s) }
     {
-        match below {
-            Some(made) => match self.tops.get_mut(&seat) {
-                Some(top) => *top = made,
-                None => {}
-            },
-            None => {
-                let _gone = self.tops.remove(&seat);
-            }
-        }
+        self.lower(row.frame.caller, row);
+        self.lower(server_seat(row.frame), row);
     }
 
     /// The thread is gone from all frames.
     pub(crate) fn forget(&mut self, seat: u32)
-        ensures floor { self.new.floor ≡ self.old.floor }
-        ensures tops { (s : ℕ) → kept_at self.new.tops s ≡ (if seat == s then None else kept_at self.old.tops s) }
+        ensures { (s : ℕ) → top_in self.new s
+            ≡ (if (seat == s) && nat_lt s (length self.old.tops) then Some 0 else top_in self.old s) }
     {
-        let _gone = self.tops.remove(&seat);
+        if (seat as usize) < SEATS {
+            self.tops[seat as usize] = Some(0);
+        }
     }
 }

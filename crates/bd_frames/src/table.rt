@@ -12,9 +12,8 @@ ghost use Rattle.bd_keys.specs.Tables.{AnswersBy};
 ghost use Rattle.bd_frames.specs.InOrder.{IsNextOf};
 ghost use Rattle.bd_frames.specs.Words.{newest_in, abandoned_in, lost_frame, left_frame};
 
-use crate::children::{add_child, remove_child};
-use crate::frame::{Row, frame_lost, is_abandoned, other_server};
-use crate::place::{index_of, newest_part};
+use crate::frame::{Row, frame_lost, is_abandoned};
+use crate::place::{index_of, newest_part, turn};
 use crate::stacks::Stacks;
 use crate::walk::{leave_down, push_served_down, reverse_from};
 use bd_space::{Frame, Server};
@@ -37,7 +36,7 @@ impl FrameTable {
     {
         FrameTable {
             rows: Vec::new(alloc),
-            stacks: Stacks::new(alloc),
+            stacks: Stacks::new(),
         }
     }
 
@@ -49,16 +48,7 @@ impl FrameTable {
         // Memory was asked for: there was no room.
         ensures grown { OnErr result (frame_room self.old < more) }
     {
-        let more = more as usize;
-        let count = self.rows.len();
-        // Each that is there may be read, and each that comes has a caller and may be read: then `put` finds room.
-        let reserved = self.stacks.tops.reserve(count.saturating_add(2 * more));
-        if self.rows.capacity() - count >= more {
-            // Where that was refused, time alone is lost.
-            return Ok(());
-        }
-        reserved?;
-        self.rows.reserve(more)
+        self.rows.reserve(more as usize)
     }
 
     /// How many there are.
@@ -69,14 +59,17 @@ impl FrameTable {
         self.rows.len()
     }
 
-    /// A frame comes in: nobody has read its call, and it was made after all others, its parent among them. Takes no memory.
+    /// A frame comes in: nobody has read its call, and it was made after all others and after its parent, open or not. Takes no memory.
     pub fn push(&mut self, frame: Frame)
         requires { 1 ≤ frame_room self.old }
         ensures stands { (l : List declared.Frame) → FramesAre self.old l → IsNextOf frame l
             → FramesAre self.new (l ++ frame ∷ []) }
         ensures uses { Uses self.old self.new 1 }
     {
-        add_child(&mut self.rows, frame.parent);
+        turn(&mut self.rows, frame.parent, |row| Row {
+            children: row.children.saturating_add(1),
+            ..row
+        });
         let caller = self.stacks.put(frame.caller, frame.made);
         self.rows.push_reserved(Row {
             frame,
@@ -93,11 +86,12 @@ impl FrameTable {
     {
         if let Some(i) = index_of(&self.rows, made) {
             let parent = self.rows[i].frame.parent;
-            remove_child(&mut self.rows, parent);
+            turn(&mut self.rows, parent, |row| Row {
+                children: row.children.saturating_sub(1),
+                ..row
+            });
             let row = self.rows.remove(i);
-            let frame = row.frame;
-            self.stacks.pop(frame.caller, frame.made, row.caller);
-            self.stacks.pop(other_server(frame), frame.made, row.server);
+            self.stacks.pop(&row);
         }
     }
 
@@ -113,15 +107,14 @@ impl FrameTable {
         ensures { Tells self.now result (λ l. newest_in l seat) }
     {
         let top = self.stacks.top_of(seat);
-        Some(self.rows[newest_part(&self.rows, seat, self.stacks.floor, top)?].frame)
+        Some(self.rows[newest_part(&self.rows, seat, top)?].frame)
     }
 
     /// Whether the thread takes part in a frame.
     pub fn is_in_call(&self, seat: u32) -> bool
         ensures { Tells self.now result (λ l. list_any (spec.takes_part seat) l) }
     {
-        let top = self.stacks.top_of(seat);
-        newest_part(&self.rows, seat, self.stacks.floor, top).is_some()
+        self.newest_of(seat).is_some()
     }
 
     /// The frame of the call made at this place, if it is abandoned.
@@ -163,21 +156,18 @@ impl FrameTable {
     {
         if let Some(i) = index_of(&self.rows, made) {
             let row = self.rows[i];
+            // Who serves a call of its own is led on as its caller.
+            let is_own = row.frame.caller == Some(seat);
+            let server = self.stacks.put(if is_own { None } else { Some(seat) }, made);
             let frame = Frame {
                 server: Server::Serving(seat),
                 ..row.frame
             };
-            if row.frame.caller == Some(seat) {
-                // Who serves a call of its own is led on as its caller.
-                self.rows[i] = Row { frame, ..row };
-            } else {
-                let server = self.stacks.put(Some(seat), frame.made);
-                self.rows[i] = Row {
-                    frame,
-                    server,
-                    ..row
-                };
-            }
+            self.rows[i] = Row {
+                frame,
+                server,
+                ..row
+            };
         }
     }
 
@@ -186,13 +176,10 @@ impl FrameTable {
         ensures stands { Makes self.old self.new (λ l. changed (spec.is_frame made) lost_frame l) }
         ensures uses { Uses self.old self.new 0 }
     {
-        if let Some(i) = index_of(&self.rows, made) {
-            let row = self.rows[i];
-            self.rows[i] = Row {
-                frame: frame_lost(row.frame),
-                ..row
-            };
-        }
+        turn(&mut self.rows, Some(made), |row| Row {
+            frame: frame_lost(row.frame),
+            ..row
+        });
     }
 
     /// The thread is gone from its frames, as caller and as server.
@@ -200,7 +187,8 @@ impl FrameTable {
         ensures stands { Makes self.old self.new (λ l. map (left_frame seat) l) }
         ensures uses { Uses self.old self.new 0 }
     {
-        leave_down(&mut self.rows, &self.stacks, seat);
+        let top = self.stacks.top_of(seat);
+        leave_down(&mut self.rows, seat, top);
         self.stacks.forget(seat);
     }
 
@@ -210,7 +198,8 @@ impl FrameTable {
             (λ l. served.old.items ++ map spec.made_of (filter (λ f. spec.serves seat f.server) l))) }
     {
         let from = served.len();
-        push_served_down(&self.rows, &self.stacks, seat, served)?;
+        let top = self.stacks.top_of(seat);
+        push_served_down(&self.rows, seat, top, served)?;
         reverse_from(served, from);
         Ok(())
     }

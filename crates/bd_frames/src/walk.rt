@@ -1,32 +1,54 @@
 //! The way down a thread's stack, from its innermost frame to the next older one, and so on.
 
-ghost use Rattle.std.specs.Prelude.{◌≡◌, ◌≤◌, ◌++◌, ◌∷◌, [], OnOk, take, drop, map, filter, reverse, vec_len, vec_capacity};
+ghost use Rattle.std.specs.Prelude.{◌≡◌, ◌≤◌, ◌<◌, ◌++◌, ◌∷◌, [], IfSome, OnOk, take, drop, map, filter, reverse, length, vec_len, vec_capacity};
 ghost use Rattle.bd_space.specs.Frames as spec;
-ghost use Rattle.bd_frames.specs.{Places.{IsRising, frames_of}, Linked.{AreStacks}, Words.{left_row}};
+ghost use Rattle.bd_frames.specs.{Places.{AreRising, IsNewest, frames_of}, Linked.{IsStack}, Words.{left_row}};
 
 use crate::frame::{Row, below_of, frame_without, serves};
 use crate::place::newest_part;
-use crate::stacks::Stacks;
 use bd_space::Frame;
 use std::alloc::AllocError;
 
-/// The thread is gone from its frames, whose stacks these are.
-pub(crate) fn leave_down(rows: &mut Vec<Row>, stacks: &Stacks, seat: u32)
-    ensures rows { AreStacks stacks.now rows.old.items → IsRising 0 (frames_of rows.old.items)
-        → rows.new.items ≡ map (left_row seat) rows.old.items }
+// What is still to come: frames before this index, and the bound of the thread's among them.
+#[derive(Drop)]
+struct Way {
+    end: usize,
+    bound: Option<u32>,
+}
+
+impl Way {
+    // Goes on to the next frame in which the thread takes part.
+    fn next(&mut self, rows: &[Row], seat: u32) -> Option<usize>
+        requires { self.old.end ≤ length rows.now }
+        ensures end { IfSome result (λ i. (i < self.old.end) × (self.new.end ≡ i)) }
+        ensures newest { AreRising (take self.old.end rows.now) → IsStack seat self.old.bound (take self.old.end rows.now)
+            → IsNewest seat (take self.old.end rows.now) result }
+        ensures rest { AreRising (take self.old.end rows.now) → IsStack seat self.old.bound (take self.old.end rows.now)
+            → IfSome result (λ i. IsStack seat self.new.bound (take i rows.now)) }
+    {
+        let i = newest_part(&rows[..self.end], seat, self.bound)?;
+        self.bound = self.bound.and(below_of(seat, &rows[i]));
+        self.end = i;
+        Some(i)
+    }
+}
+
+/// The thread is gone from its frames, of which this is the bound.
+pub(crate) fn leave_down(rows: &mut Vec<Row>, seat: u32, bound: Option<u32>)
+    ensures rows { AreRising rows.old.items → IsStack seat bound rows.old.items → rows.new.items ≡ map (left_row seat) rows.old.items }
     ensures len { vec_len rows.new ≡ vec_len rows.old }
     ensures capacity { vec_capacity rows.new ≡ vec_capacity rows.old }
 {
-    let mut end = rows.len();
-    let mut next = stacks.top_of(seat);
-    while let Some(i) = newest_part(&rows[..end], seat, stacks.floor, next) {
+    let mut way = Way {
+        end: rows.len(),
+        bound,
+    };
+    while let Some(i) = way.next(rows, seat) {
         let row = rows[i];
         rows[i] = Row {
             frame: frame_without(seat, row.frame),
             ..row
         };
-        next = below_of(seat, &row);
-        end = i;
     }
 }
 
@@ -45,22 +67,21 @@ fn push_if_served(frame: Frame, seat: u32, served: &mut Vec<u32>) -> Result<(), 
 /// Where those of the thread's frames were made that it serves, innermost first, put after what is there.
 pub(crate) fn push_served_down(
     rows: &[Row],
-    stacks: &Stacks,
     seat: u32,
+    bound: Option<u32>,
     served: &mut Vec<u32>,
 ) -> Result<(), AllocError>
-    ensures served { AreStacks stacks.now rows.now → IsRising 0 (frames_of rows.now)
+    ensures served { AreRising rows.now → IsStack seat bound rows.now
         → OnOk result (served.new.items ≡ served.old.items
         ++ reverse (map spec.made_of (filter (λ f. spec.serves seat f.server) (frames_of rows.now)))) }
     ensures longer { vec_len served.old ≤ vec_len served.new }
 {
-    let mut end = rows.len();
-    let mut next = stacks.top_of(seat);
-    while let Some(i) = newest_part(&rows[..end], seat, stacks.floor, next) {
-        let row = rows[i];
-        push_if_served(row.frame, seat, served)?;
-        next = below_of(seat, &row);
-        end = i;
+    let mut way = Way {
+        end: rows.len(),
+        bound,
+    };
+    while let Some(i) = way.next(rows, seat) {
+        push_if_served(rows[i].frame, seat, served)?;
     }
     Ok(())
 }

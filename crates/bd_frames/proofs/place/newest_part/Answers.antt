@@ -1,18 +1,40 @@
-use Rattle.std.proofs.Common.{ℕ, rules, tests}
-use Rattle.std.proofs.lemmas.List.Sorted.{IsPartitionPoint-from_clause}
+use Rattle.std.proofs.Common.{◌≡◌, ◌-◌, leb, rules, tests, inl, inr, ap, sym, ◌∙◌, arith}
+use Rattle.std.proofs.lemmas.Bool.{cases_lt}
+use Rattle.std.proofs.lemmas.List.{get_or_default}
+use Rattle.std.proofs.lemmas.List.Sorted.{IsPartitionPoint-from_clause, IsPartitionedBy-leb}
+use Rattle.bd_keys.proofs.Rising.{non_decreasing}
+use Rattle.bd_space.specs.Frames.{takes_part}
 use Rattle.bd_frames.specs.declared.frame.Row.{Row}
-use Rattle.bd_frames.specs.Places.{is_reached}
-use Rattle.bd_frames.proofs.Places.{partitioned}
-use Rattle.bd_frames.proofs.Linking.{reach_down, none_after_point}
+use Rattle.bd_frames.specs.Places.{place}
+use Rattle.bd_frames.proofs.Stacking.{none_above}
 use Rattle.bd_frames.proofs.place.newest_part.Goals as goal
+use Rattle.bd_frames.proofs.place.newest_part.Goals.{in-Some, in-None}
 
 pub loop-from-init : goal.loop-from-init
-loop-from-init c = record {
-  within = c.partition_point-from.ensures.bound;
-  after = λ r b.
-      let xs = c.args.rows.now in
-      let q = λ (n : ℕ). is_reached c.args.floor c.args.bound n in
-      none_after_point c.args.floor c.args.bound c.args.seat xs c.partition_point-from.result
-      (IsPartitionPoint-from_clause (λ (x : Row). q x.frame.made) xs _ c.partition_point-from.ensures.partitioned (partitioned q (reach_down c.args.floor c.args.bound) xs r)
-      (λ a d f k. search (rules, tests))) b;
-}
+loop-from-init c =
+    let xs = c.args.rows.now in
+    elim c.match-bound.branch [
+      | in-Some w ↦
+          let b = w.in-Some.bound in
+          record {
+            within = omega (arith, w.from-is, w.partition_point-from.ensures.bound);
+            after = λ r st.
+                let point = IsPartitionPoint-from_clause (λ (x : Row). leb (place x) b) xs _ w.partition_point-from.ensures.partitioned
+                (IsPartitionedBy-leb place xs b (non_decreasing place xs r)) (λ a d f k. search (rules, tests)) in
+                rw w.from-is (none_above c.args.seat b xs w.partition_point-from.result point (rw w.in-Some.is at st));
+          }
+      | in-None w ↦ record { within = omega (arith, w.from-is); after = λ r st k d ge lt. absurd (omega (arith, w.from-is)) }
+    ]
+
+pub loop-from-preserved : goal.loop-from-preserved
+loop-from-preserved c =
+    let inv = c.loop-from.invariant in
+    record {
+      within = omega (arith, inv.within);
+      after = λ r st k d ge lt. elim (cases_lt k c.loop-from.from) [
+        | inl low ↦
+            let is : k ≡ c.loop-from.from - 1 = omega arith in
+            rw is (ap (λ (x : Row). takes_part c.args.seat x.frame) (get_or_default c.args.rows.now (c.loop-from.from - 1) d _ (omega (arith, inv.within))) ∙ sym c.takes_part.ensures ∙ c.if-takes_part.false)
+        | inr high ↦ inv.after r st k d high lt
+      ];
+    }

@@ -1,14 +1,15 @@
-use Rattle.std.proofs.Common.{◌≡◌, ◌≤◌, false, length, drop}
-use Rattle.std.specs.List.{list_any}
+use Rattle.std.proofs.Common.{◌≡◌, ◌≤◌, false, length}
+use Rattle.std.specs.List.{AllWithin}
 use Rattle.bd_space.specs.Frames.{takes_part}
-use Rattle.bd_frames.specs.Places.{frames_of, IsRising}
-use Rattle.bd_frames.specs.Linked.{Reaches, Bounds}
+use Rattle.bd_frames.specs.declared.frame.Row.{Row}
+use Rattle.bd_frames.specs.Places.{AreRising}
+use Rattle.bd_frames.specs.Linked.{IsStack}
 use Rattle.bd_frames.proofs.place.newest_part.Given as goal
 
 abbrev pub invariant-loop-from : goal.invariant-loop-from
 invariant-loop-from l = record {
   within : l.from ≤ length l.rows;
-  after : IsRising 0 (frames_of l.rows) → Bounds (Reaches l.fn.floor) l.seat l.fn.bound l.rows → list_any (takes_part l.seat) (frames_of (drop l.from l.rows)) ≡ false;
+  after : AreRising l.rows → IsStack l.seat l.fn.bound l.rows → AllWithin (λ (r : Row). takes_part l.seat r.frame ≡ false) l.rows l.from (length l.rows);
 }
 
 abbrev pub decreases-loop-from : goal.decreases-loop-from

@@ -1,62 +1,70 @@
-use Rattle.std.proofs.Common.{◌≡◌, ◌≤◌, ◌<◌, None, Some, map, take, drop, length, get_or, set, refl, ap, ◌∙◌, arith}
-use Rattle.std.proofs.lemmas.List.{length-take}
+use Rattle.std.proofs.Common.{◌≡◌, ◌<◌, ℕ, List, inl, inr, take, length, get_or, map, ap, sym, ◌∙◌, arith}
+use Rattle.std.proofs.lemmas.Bool.{cases_eq, cases_lt}
+use Rattle.std.proofs.lemmas.List.{length-take, length-map, take-take, take-set-le, get_or-take, get_or-map, get_or-set_same, get_or-set_other, get_or_read, ext_get_or}
 use Rattle.bd_space.specs.declared.space.Frame.{Frame}
 use Rattle.bd_space.specs.Frames.{takes_part}
+use Rattle.bd_frames.specs.declared.frame.Row.{Row}
 use Rattle.bd_frames.specs.Words.{left_row}
-use Rattle.bd_frames.specs.Places.{frames_of, IsRising}
-use Rattle.bd_frames.specs.Linked.{below_of, AreStacks}
 use Rattle.bd_frames.proofs.Alike.{row_other}
-use Rattle.bd_frames.proofs.Down.{way_begins, way_on, found, begun_same, got_begun, none_yet, map_left, map_next}
+use Rattle.bd_frames.proofs.Places.{rising_take, no_row}
 use Rattle.bd_frames.proofs.walk.leave_down.Goals as goal
 
-pub loop-i-init : goal.loop-i-init
-loop-i-init c =
-    let rs = c.args.rows.now.items in
-    let long : c.len-end.result ≡ length rs = omega (arith, c.len-end.ensures) in
-    record {
-      within = omega (arith, c.len-end.ensures);
-      way = λ k r. way_begins c.args.stacks.now c.args.seat rs k r c.len-end.result c.top_of-next.result c.top_of-next.ensures;
-      so_far = λ k r. none_yet (left_row c.args.seat) c.len-end.result rs long;
-      len = refl;
-      capacity = refl;
-    }
+-- two that begin alike
+unchanged : (n : ℕ) (xs ys : List Row) → take n xs ≡ take n ys → (k : ℕ) (d : Row) → k < n → get_or xs k d ≡ get_or ys k d
+unchanged n xs ys same k d low = sym (get_or-take n xs k d low) ∙ ap (λ (zs : List Row). get_or zs k d) same ∙ get_or-take n ys k d low
 
 pub loop-i-preserved : goal.loop-i-preserved
 loop-i-preserved c =
     let inv = c.loop-i.invariant in
     let seat = c.args.seat in
-    let st = c.args.stacks.now in
-    let g = left_row seat in
     let rs = c.args.rows.now.items in
     let ys = c.loop-i.rows.items in
-    let n = c.loop-i.end in
+    let n = c.loop-i.way.end in
     let i = c.in-Some.i in
-    let d = c.index.result.now in
-    let low : i < n = omega (arith, c.in-Some.ensures.within, length-take n c.deref.result.now) in
-    let few : n ≤ length rs = omega (arith, inv.within) in
-    let rest = map g (drop n rs) in
-    let last = λ (k : AreStacks st rs) (r : IsRising 0 (frames_of rs)). found st seat rs k r n c.loop-i.next _
-    (ap (take n) (c.deref.ensures.value ∙ inv.so_far k r) ∙ begun_same n rs rest few) (inv.way k r) (Some i) c.in-Some.ensures.newest in
-    let at = λ (k : AreStacks st rs) (r : IsRising 0 (frames_of rs)). c.index.ensures ∙ ap (λ zs. get_or zs i d) (inv.so_far k r) ∙ got_begun n i rs rest d low few in
+    let y = c.index-row.result.now in
+    let x : Row = record y { frame = c.frame_without.result } in
+    let ends = c.in-Some.ensures.end in
+    let low = ends.0 in
+    let begun : take n c.deref.result.now ≡ take n rs = ap (take n) c.deref.ensures.value ∙ inv.same in
+    let same : take i ys ≡ take i rs = sym (take-take i n ys (omega (arith, low))) ∙ ap (take i) inv.same ∙ take-take i n rs (omega (arith, low)) in
     record {
-      within = omega (arith, low, inv.within);
-      way = λ k r. way_on st seat rs k r n i d c.below_of-next.result low (omega (arith, low, few)) (last k r) (c.below_of-next.ensures ∙ ap (below_of seat) (at k r));
-      so_far = λ k r.
-          ap (λ (f : Frame). set ys i (record d { frame = f })) c.frame_without.ensures
-          ∙ ap (λ x. set ys i (g x)) (at k r) ∙ ap (λ zs. set zs i (g (get_or rs i d))) (inv.so_far k r)
-          ∙ map_next (takes_part seat) g (row_other seat) n i rs d low (omega (arith, low, few)) (last k r).after;
+      within = omega (arith, inv.within, ends.0, ends.1);
+      same = rw ends.1 (take-set-le i ys i x (omega arith) ∙ same);
+      way = λ r st. rw (ends.1, ← same, ← c.deref.ensures.value) (c.in-Some.ensures.rest (rw begun (rising_take n rs r)) (rw begun (inv.way r st)));
+      so_far = λ r st k d ge lt.
+          let none = rw begun at (c.in-Some.ensures.newest (rw begun (rising_take n rs r)) (rw begun (inv.way r st))).1 in
+          elim (cases_eq k i) [
+            | inl is ↦
+                rw is (get_or-set_same ys i x d (omega (arith, low, inv.within, inv.len, c.loop-i.rows.ok))
+                ∙ ap (λ (f : Frame). record y { frame = f }) c.frame_without.ensures
+                ∙ ap (left_row seat) (get_or_read ys i y (omega (arith, low, inv.within, inv.len, c.loop-i.rows.ok)) c.index-row.ensures d ∙ unchanged n ys rs inv.same i d low))
+            | inr other ↦ get_or-set_other ys i k x d other ∙ elim (cases_lt k n) [
+              | inl before ↦
+                  let out = ap (λ (z : Row). takes_part seat z.frame) (sym (get_or-take n rs k d before)) ∙ none k d (omega (arith, ge, ends.1, other)) (omega (arith, before, lt, length-take n rs)) in
+                  unchanged n ys rs inv.same k d before ∙ sym (row_other seat (get_or rs k d) out)
+              | inr after ↦ inv.so_far r st k d after lt
+            ]
+          ];
       len = inv.len;
       capacity = inv.capacity;
     }
 
 pub returns-clause-rows : goal.returns-clause-rows
-returns-clause-rows c = λ k r.
+returns-clause-rows c = λ r st.
     let inv = c.loop-i.invariant in
     let seat = c.args.seat in
-    let g = left_row seat in
     let rs = c.args.rows.now.items in
-    let n = c.loop-i.end in
-    let few : n ≤ length rs = omega (arith, inv.within) in
-    let none = found c.args.stacks.now seat rs k r n c.loop-i.next _
-    (ap (take n) (c.deref.ensures.value ∙ inv.so_far k r) ∙ begun_same n rs (map g (drop n rs)) few) (inv.way k r) None c.in_default.ensures.newest in
-    inv.so_far k r ∙ map_left (takes_part seat) g (row_other seat) n rs none
+    let ys = c.loop-i.rows.items in
+    let n = c.loop-i.way.end in
+    let begun : take n c.deref.result.now ≡ take n rs = ap (take n) c.deref.ensures.value ∙ inv.same in
+    let none = rw begun at (c.in_default.ensures.newest (rw begun (rising_take n rs r)) (rw begun (inv.way r st))) in
+    let long : length ys ≡ length rs = omega (arith, inv.len, c.loop-i.rows.ok, c.args.rows.now.ok) in
+    ext_get_or no_row ys (map (left_row seat) rs) (long ∙ sym (length-map rs (left_row seat))) (λ k lt.
+      let within : k < length rs = omega (arith, lt, long) in
+      let here = get_or-map (left_row seat) rs k no_row no_row within in
+      elim (cases_lt k n) [
+        | inl before ↦
+            let out = ap (λ (z : Row). takes_part seat z.frame) (sym (get_or-take n rs k no_row before)) ∙ none k no_row (omega (arith, before, within, length-take n rs)) in
+            unchanged n ys rs inv.same k no_row before ∙ sym (row_other seat (get_or rs k no_row) out) ∙ sym here
+        | inr after ↦ inv.so_far r st k no_row after within ∙ sym here
+      ])

@@ -1,18 +1,20 @@
-use Rattle.std.proofs.Common.{◌≡◌, ◌≤◌, ◌++◌, map, take, drop, vec_len, vec_capacity}
+use Rattle.std.proofs.Common.{ℕ, ◌≡◌, ◌≤◌, ◌<◌, length, get_or, take, vec_len, vec_capacity}
+use Rattle.bd_frames.specs.declared.frame.Row.{Row}
 use Rattle.bd_frames.specs.Words.{left_row}
-use Rattle.bd_frames.specs.Places.{frames_of, IsRising}
-use Rattle.bd_frames.specs.Linked.{AreStacks, Bounds, Reaches}
+use Rattle.bd_frames.specs.Places.{AreRising}
+use Rattle.bd_frames.specs.Linked.{IsStack}
 use Rattle.bd_frames.proofs.walk.leave_down.Given as goal
 
 abbrev pub invariant-loop-i : goal.invariant-loop-i
 invariant-loop-i l = record {
-  within : l.end ≤ vec_len l.fn.rows;
-  way : AreStacks l.stacks l.fn.rows.items → IsRising 0 (frames_of l.fn.rows.items) → Bounds (Reaches l.stacks.floor) l.seat l.next (take l.end l.fn.rows.items);
-  so_far : AreStacks l.stacks l.fn.rows.items → IsRising 0 (frames_of l.fn.rows.items)
-      → l.rows.items ≡ take l.end l.fn.rows.items ++ map (left_row l.seat) (drop l.end l.fn.rows.items);
+  within : l.way.end ≤ vec_len l.fn.rows;
+  same : take l.way.end l.rows.items ≡ take l.way.end l.fn.rows.items;
+  way : AreRising l.fn.rows.items → IsStack l.seat l.fn.bound l.fn.rows.items → IsStack l.seat l.way.bound (take l.way.end l.fn.rows.items);
+  so_far : AreRising l.fn.rows.items → IsStack l.seat l.fn.bound l.fn.rows.items
+      → (k : ℕ) (d : Row) → l.way.end ≤ k → k < length l.fn.rows.items → get_or l.rows.items k d ≡ left_row l.seat (get_or l.fn.rows.items k d);
   len : vec_len l.rows ≡ vec_len l.fn.rows;
   capacity : vec_capacity l.rows ≡ vec_capacity l.fn.rows;
 }
 
 abbrev pub decreases-loop-i : goal.decreases-loop-i
-decreases-loop-i l = l.end
+decreases-loop-i l = l.way.end

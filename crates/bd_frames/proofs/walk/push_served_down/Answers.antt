@@ -1,56 +1,82 @@
-use Rattle.std.proofs.Common.{ℕ, List, Some, None, append-nil, ◌≤◌, ◌<◌, ◌++◌, ◌∷◌, [], map, filter, reverse, drop, length, get_or, refl, ap, sym, ◌∙◌, arith}
-use Rattle.std.proofs.lemmas.List.{length-take, drop_all}
+use Rattle.std.proofs.Common.{◌≡◌, ◌≤◌, ◌<◌, ◌+◌, ℕ, zero, suc, Bool, true, false, cond, List, ◌++◌, ◌∷◌, [], append-nil, append_assoc, map, filter, reverse, take, drop, length, get_or, refl, ap, sym, ◌∙◌, arith}
+use Rattle.std.proofs.lemmas.List.{length-take, get_or-take, take_all, drop_more, drop_all}
+use Rattle.std.proofs.lemmas.Grind.{reverse_onto}
+use Rattle.bd_ways.proofs.Ranges.{no_head}
 use Rattle.bd_space.specs.declared.space.Frame.{Frame}
-use Rattle.bd_space.specs.Frames.{takes_part, serves, made_of}
+use Rattle.bd_space.specs.Frames.{calls, serves, takes_part, made_of}
 use Rattle.bd_frames.specs.declared.frame.Row.{Row}
-use Rattle.bd_frames.specs.Places.{frames_of, IsRising}
-use Rattle.bd_frames.specs.Linked.{AreStacks}
-use Rattle.bd_frames.proofs.Places.{no_row}
-use Rattle.bd_frames.proofs.Down.{way_begins, way_on, found, kept_next, kept_left, takes_serves, served_next}
+use Rattle.bd_frames.specs.Places.{frames_of}
+use Rattle.bd_frames.proofs.Places.{no_row, rising_take}
 use Rattle.bd_frames.proofs.walk.push_served_down.Goals as goal
 
+-- of those between, none passes
+passed_over : (q : Frame → Bool) (i n : ℕ) (rs : List Row) → i ≤ n → ((k : ℕ) (d : Row) → i ≤ k → k < n → k < length rs → q (get_or rs k d).frame ≡ false)
+    → filter q (frames_of (drop i rs)) ≡ filter q (frames_of (drop n rs))
+passed_over q zero zero rs le none = refl
+passed_over q zero (suc n) [] le none = refl
+passed_over q zero (suc n) (r ∷ rs) le none =
+    rw (none 0 r (omega arith) (omega arith) (omega arith)) (passed_over q zero n rs (omega arith) (λ k d a b h. none (suc k) d (omega arith) (omega arith) (omega arith)))
+passed_over q (suc i) zero rs le none = absurd (omega arith)
+passed_over q (suc i) (suc n) [] le none = refl
+passed_over q (suc i) (suc n) (r ∷ rs) le none = passed_over q i n rs (omega arith) (λ k d a b h. none (suc k) d (omega arith) (omega arith) (omega arith))
+
+-- one more is served, or none
+served_next : (q : Frame → Bool) (xs : List ℕ) (ys : List Frame) (f : Frame)
+    → (xs ++ reverse (map made_of ys)) ++ map made_of (filter q (f ∷ [])) ≡ xs ++ reverse (map made_of (cond (q f) (f ∷ ys) ys))
+served_next q xs ys f = at (q f)
+  where
+    at : (b : Bool) → (xs ++ reverse (map made_of ys)) ++ map made_of (cond b (f ∷ []) []) ≡ xs ++ reverse (map made_of (cond b (f ∷ ys) ys))
+    at true = append_assoc xs (reverse (map made_of ys)) (f.made ∷ []) ∙ ap (λ (zs : List ℕ). xs ++ zs) (sym (reverse_onto (map made_of ys) f.made []))
+    at false = append-nil (xs ++ reverse (map made_of ys))
+
+-- who takes no part doesn't serve
+no_server : (seat n : ℕ) (rs : List Row) (k : ℕ) (d : Row) → k < n → takes_part seat (get_or (take n rs) k d).frame ≡ false → serves seat (get_or rs k d).frame.server ≡ false
+no_server seat n rs k d low out = (no_head (calls seat (get_or rs k d).frame) _ (rw (get_or-take n rs k d low) at out)).1
+
 pub loop-i-init : goal.loop-i-init
-loop-i-init c = record {
-  within = omega arith;
-  way = λ k r. way_begins c.args.stacks.now c.args.seat c.args.rows.now k r (length c.args.rows.now) c.top_of-next.result c.top_of-next.ensures;
-  so_far = λ k r.
-      let xs = c.args.served.now.items in
-      sym (ap (λ (rs : List Row). xs ++ reverse (map made_of (filter (λ (f : Frame). serves c.args.seat f.server) (frames_of rs)))) (drop_all (length c.args.rows.now) c.args.rows.now (omega arith)) ∙ append-nil xs);
-  longer = omega arith;
-}
+loop-i-init c =
+    let rs = c.args.rows.now in
+    let xs = c.args.served.now.items in
+    record {
+      within = omega arith;
+      way = λ r st. rw (take_all (length rs) rs (omega arith)) st;
+      so_far = λ r st. sym (ap (λ (rs : List Row). xs ++ reverse (map made_of (filter (λ (f : Frame). serves c.args.seat f.server) (frames_of rs)))) (drop_all (length rs) rs (omega arith)) ∙ append-nil xs);
+      longer = omega arith;
+    }
 
 pub loop-i-preserved : goal.loop-i-preserved
 loop-i-preserved c =
     let inv = c.loop-i.invariant in
     let seat = c.args.seat in
-    let st = c.args.stacks.now in
     let rs = c.args.rows.now in
-    let n = c.loop-i.end in
+    let n = c.loop-i.way.end in
     let i = c.in-Some.i in
-    let low : i < n = omega (arith, c.in-Some.ensures.within, length-take n rs) in
-    let few : n ≤ length rs = inv.within in
-    let lt : i < length rs = omega (arith, low, few) in
     let q = λ (x : Frame). serves seat x.server in
     let xs = c.args.served.now.items in
-    let last = λ (k : AreStacks st rs) (r : IsRising 0 (frames_of rs)). found st seat rs k r n c.loop-i.next _ refl (inv.way k r) (Some i) c.in-Some.ensures.newest in
-    let d = get_or rs i no_row in
+    let ends = c.in-Some.ensures.end in
+    let few : n ≤ length rs = inv.within in
+    let f = (get_or rs i no_row).frame in
     record {
-      within = omega (arith, lt);
-      way = λ k r. way_on st seat rs k r n i no_row c.below_of-next.result low lt (last k r) c.below_of-next.ensures;
-      so_far = λ k r.
-          c.in_ok-push_if_served.ensures.served
-          ∙ ap (λ (ns : List ℕ). ns ++ map made_of (filter q (d.frame ∷ []))) (inv.so_far k r)
-          ∙ served_next q xs (filter q (frames_of (drop n rs))) d.frame
-          ∙ sym (ap (λ (zs : List Frame). xs ++ reverse (map made_of zs)) (kept_next (takes_part seat) q (takes_serves seat) n i rs no_row low lt (last k r).after));
+      within = omega (arith, few, ends.0, ends.1);
+      way = λ r st. rw ends.1 (c.in-Some.ensures.rest (rising_take n rs r) (inv.way r st));
+      so_far = λ r st.
+          let none = (c.in-Some.ensures.newest (rising_take n rs r) (inv.way r st)).1 in
+          let skipped = passed_over q (i + 1) n rs (omega (arith, ends.0)) (λ k d a b h. no_server seat n rs k d b (none k d (omega (arith, a)) (omega (arith, b, h, length-take n rs)))) in
+          let left = ap (λ (zs : List Row). filter q (frames_of zs)) (drop_more rs i no_row (omega (arith, few, ends.0))) ∙ ap (λ (zs : List Frame). cond (q f) (f ∷ zs) zs) skipped in
+          rw ends.1 (c.in_ok-push_if_served.ensures.served
+          ∙ ap (λ (ns : List ℕ). ns ++ map made_of (filter q (f ∷ []))) (inv.so_far r st)
+          ∙ served_next q xs (filter q (frames_of (drop n rs))) f
+          ∙ sym (ap (λ (zs : List Frame). xs ++ reverse (map made_of zs)) left));
       longer = omega (arith, inv.longer, c.in_ok-push_if_served.ensures.longer);
     }
 
 pub returns-clause-served : goal.returns-clause-served
-returns-clause-served c = λ k r.
+returns-clause-served c = λ r st.
     let inv = c.loop-i.invariant in
     let seat = c.args.seat in
     let rs = c.args.rows.now in
-    let n = c.loop-i.end in
-    let none = found c.args.stacks.now seat rs k r n c.loop-i.next _ refl (inv.way k r) None c.in_default.ensures.newest in
-    inv.so_far k r
-    ∙ ap (λ zs. c.args.served.now.items ++ reverse (map made_of zs)) (kept_left (takes_part seat) (λ (x : Frame). serves seat x.server) (takes_serves seat) n rs none)
+    let n = c.loop-i.way.end in
+    let none = c.in_default.ensures.newest (rising_take n rs r) (inv.way r st) in
+    inv.so_far r st
+    ∙ ap (λ zs. c.args.served.now.items ++ reverse (map made_of zs)) (sym (passed_over (λ (x : Frame). serves seat x.server) 0 n rs (omega arith)
+    (λ k d a b h. no_server seat n rs k d b (none k d (omega (arith, b, h, length-take n rs))))))

@@ -1,18 +1,18 @@
 use Rattle.std.proofs.Common.{◌≡◌, ◌≤◌, ◌++◌, length, map, filter, reverse, take, drop, vec_len}
 use Rattle.bd_space.specs.declared.space.Frame.{Frame}
 use Rattle.bd_space.specs.Frames.{serves, made_of}
-use Rattle.bd_frames.specs.Places.{frames_of, IsRising}
-use Rattle.bd_frames.specs.Linked.{AreStacks, Bounds, Reaches}
+use Rattle.bd_frames.specs.Places.{frames_of, AreRising}
+use Rattle.bd_frames.specs.Linked.{IsStack}
 use Rattle.bd_frames.proofs.walk.push_served_down.Given as goal
 
 abbrev pub invariant-loop-i : goal.invariant-loop-i
 invariant-loop-i l = record {
-  within : l.end ≤ length l.rows;
-  way : AreStacks l.stacks l.rows → IsRising 0 (frames_of l.rows) → Bounds (Reaches l.stacks.floor) l.seat l.next (take l.end l.rows);
-  so_far : AreStacks l.stacks l.rows → IsRising 0 (frames_of l.rows)
-      → l.served.items ≡ l.fn.served.items ++ reverse (map made_of (filter (λ (f : Frame). serves l.seat f.server) (frames_of (drop l.end l.rows))));
+  within : l.way.end ≤ length l.rows;
+  way : AreRising l.rows → IsStack l.seat l.fn.bound l.rows → IsStack l.seat l.way.bound (take l.way.end l.rows);
+  so_far : AreRising l.rows → IsStack l.seat l.fn.bound l.rows
+      → l.served.items ≡ l.fn.served.items ++ reverse (map made_of (filter (λ (f : Frame). serves l.seat f.server) (frames_of (drop l.way.end l.rows))));
   longer : vec_len l.fn.served ≤ vec_len l.served;
 }
 
 abbrev pub decreases-loop-i : goal.decreases-loop-i
-decreases-loop-i l = l.end
+decreases-loop-i l = l.way.end

@@ -1,23 +1,30 @@
-use Rattle.std.proofs.Common.{rules, true, false, ◌≡◌, ◌&&◌, None, sym, ◌∙◌}
+use Rattle.std.proofs.Common.{true, false, ◌&&◌, get_or, ap, sym, ◌∙◌}
+use Rattle.std.proofs.lemmas.List.Folds.{list_any_none}
+use Rattle.bd_ways.proofs.Ranges.{find_none}
+use Rattle.bd_space.specs.declared.space.Frame.{Frame}
 use Rattle.bd_space.specs.Frames.{is_frame}
 use Rattle.bd_space.specs.Settle.{is_abandoned}
-use Rattle.bd_ways.proofs.Ranges.{find_none}
-use Rattle.bd_frames.proofs.Places.{any_both}
-use Rattle.bd_frames.proofs.Standing.{nowhere, abandoned}
+use Rattle.bd_frames.proofs.Standing.{own_rising, nowhere, abandoned}
 use Rattle.bd_frames.proofs.table.FrameTable.abandoned_at.Goals as goal
 
 pub returns-in_err-index_of : goal.returns-in_err-index_of
 returns-in_err-index_of c = λ l h.
-    let q = is_frame c.args.made in
-    let gives : c.from_residual.result ≡ None = search rules in
-    gives ∙ sym (find_none (λ f. q f && is_abandoned l f) l (any_both q (is_abandoned l) l (nowhere c.args.self.now l h c.args.made _ c.deref.ensures.value c.in_err-index_of.ensures.only)))
+    let t = c.args.self.now in
+    let made = c.args.made in
+    let both = λ (f : Frame). is_frame made f && is_abandoned l f in
+    let none = (rw c.deref.ensures.value at c.in_err-index_of.ensures.found) (own_rising t l h) in
+    c.from_residual.ensures ∙ sym (find_none both l (list_any_none both l (λ k d lt. ap (λ b. b && is_abandoned l (get_or l k d)) (nowhere t l h made none k d lt))))
 
 pub returns-then-is_abandoned : goal.returns-then-is_abandoned
 returns-then-is_abandoned c = λ l h.
-    sym (abandoned c.args.self.now l h c.args.made _ c.deref.ensures.value c.in_ok-index_of.field-0 c.index.result.now c.in_ok-index_of.ensures.within c.in_ok-index_of.ensures.only
-    c.index.ensures true (sym c.is_abandoned.ensures ∙ c.if-is_abandoned.true))
+    let t = c.args.self.now in
+    let at = (rw c.deref.ensures.value at c.in_ok-index_of.ensures.found) (own_rising t l h) in
+    let within = rw c.deref.ensures.value at c.in_ok-index_of.ensures.within in
+    sym (abandoned t l h c.args.made c.in_ok-index_of.field-0 c.index.result.now within at c.index.ensures true (sym c.is_abandoned.ensures ∙ c.if-is_abandoned.true))
 
 pub returns-else-is_abandoned : goal.returns-else-is_abandoned
 returns-else-is_abandoned c = λ l h.
-    sym (abandoned c.args.self.now l h c.args.made _ c.deref.ensures.value c.in_ok-index_of.field-0 c.index.result.now c.in_ok-index_of.ensures.within c.in_ok-index_of.ensures.only
-    c.index.ensures false (sym c.is_abandoned.ensures ∙ c.if-is_abandoned.false))
+    let t = c.args.self.now in
+    let at = (rw c.deref.ensures.value at c.in_ok-index_of.ensures.found) (own_rising t l h) in
+    let within = rw c.deref.ensures.value at c.in_ok-index_of.ensures.within in
+    sym (abandoned t l h c.args.made c.in_ok-index_of.field-0 c.index.result.now within at c.index.ensures false (sym c.is_abandoned.ensures ∙ c.if-is_abandoned.false))

@@ -1,69 +1,69 @@
-use Rattle.std.proofs.Common.{◌≡◌, ◌<◌, ◌+◌, ℕ, true, false, not, Option, Some, filter, length, get_or, cond, subst, ap, sym, ◌∙◌}
+use Rattle.std.proofs.Common.{rules, ◌≡◌, ◌==◌, ◌-◌, ◌<◌, ℕ, Bool, true, false, not, cond, List, Option, Some, length, get_or, map, refl, subst, ap, sym, ◌∙◌, arith}
 use Rattle.std.specs.List.{count_by, remove}
-use Rattle.std.specs.Option.{IfSome}
-use Rattle.bd_space.specs.declared.space.Frame.{Frame}
-use Rattle.bd_space.specs.Frames.{is_frame, calls, serves}
-use Rattle.std.proofs.lemmas.Bool.{or_right}
-use Rattle.bd_ways.proofs.Ranges.{filter_none}
+use Rattle.std.proofs.lemmas.Bool.{cond_both}
+use Rattle.std.proofs.lemmas.List.{get_or-map, length-map}
+use Rattle.std.proofs.lemmas.List.Elements.{All-filter}
+use Rattle.bd_keys.proofs.Rising.{without, distinct, filter_at, filter_none}
+use Rattle.bd_space.specs.Words.{is_some_and}
+use Rattle.bd_space.specs.Frames.{is_frame, made_of, takes_part}
 use Rattle.bd_frames.specs.declared.frame.Row.{Row}
 use Rattle.bd_frames.specs.Stands.{FramesAre}
-use Rattle.bd_frames.specs.Places.{frames_of, IsRising}
-use Rattle.bd_frames.specs.Children.{is_child_at, AreCounts}
-use Rattle.bd_frames.specs.Linked.{Reaches, Bounds, AreStacks}
-use Rattle.bd_frames.proofs.Places.{only_filter}
+use Rattle.bd_frames.specs.Places.{frames_of, place, turned, IsRising, IsAt}
+use Rattle.bd_frames.specs.Children.{is_child_at, AreChildren}
+use Rattle.bd_frames.specs.Linked.{IsStack, AreStacks, top_in, popped_top}
+use Rattle.bd_frames.proofs.Places.{rising_rows}
 use Rattle.bd_frames.proofs.InOrder.{in_order_filter}
-use Rattle.bd_frames.proofs.Counting.{one_of, count_remove, counts_remove, same_frames, same_long, each_remove}
-use Rattle.bd_frames.proofs.Alike.{or_left, count_fewer}
-use Rattle.bd_frames.proofs.Stacking.{fewer, removed, popped, is_called}
-use Rattle.bd_frames.proofs.Standing.{own_rising, sought, nowhere, somewhere}
+use Rattle.bd_frames.proofs.Counting.{children_turned}
+use Rattle.bd_frames.proofs.Stacking.{filtered, popped, turns}
+use Rattle.bd_frames.proofs.Standing.{own_rising, nowhere, frames_kept, frames_filtered, count_closed}
 use Rattle.bd_frames.proofs.table.FrameTable.close.Goals as goal
+
+-- the stack of a thread, once the frame of a row has gone
+closed : (s made i : ℕ) (rs : List Row) (r : Row) (top : Option ℕ) → i < length rs → r ≡ get_or rs i r → place r ≡ made → IsStack s top rs → (b : Bool) → takes_part s r.frame ≡ b
+    → IsStack s (cond b (popped_top s r top) top) (without place made rs)
+closed s made i rs r top lt at there st true part = subst (λ m. IsStack s (popped_top s r top) (without place m rs)) there (popped s rs r top (i, lt, sym at) part st)
+closed s made i rs r top lt at there st false part = filtered s rs (λ x. not (place x == made)) top st
 
 pub returns-in-Some-clause-stands : goal.returns-in-Some-clause-stands
 returns-in-Some-clause-stands c = λ l h.
     let t = c.args.self.now in
     let rs = t.rows.items in
-    let ss = c.remove_child.new.rows.items in
+    let made = c.args.made in
     let i = c.in-Some.i in
-    let q = is_frame c.args.made in
-    let keeps = λ (f : Frame). not (q f) in
+    let d = c.index.result.now in
     let r = c.remove-row.result in
-    let same = c.remove_child.ensures.same in
-    let frames = same_frames rs ss same in
-    let lt = somewhere t l h c.args.made _ c.deref.ensures.value i c.in-Some.ensures.within in
-    let only = sought t l h c.args.made _ c.deref.ensures.value (Some i) c.in-Some.ensures.only in
-    let left : frames_of (remove rs i) ≡ filter keeps l = only_filter q rs i lt only ∙ ap (filter keeps) h.items_are in
-    let here : i < length ss = subst (λ n. i < n) (sym (same_long rs ss same)) lt in
-    let gone : frames_of (remove ss i) ≡ filter keeps l = same_frames (remove rs i) (remove ss i) (each_remove rs ss i same) ∙ left in
-    let rises = subst (IsRising 0) (sym frames) (own_rising t l h) in
-    let stacks = fewer t.stacks rs ss (count_fewer rs ss same) h.stacks_are in
-    let at = c.remove-row.ensures.value in
-    let caller = λ (s : ℕ) (is : r.frame.caller ≡ Some s) (b : Bounds (Reaches t.stacks.floor) s (Some r.frame.made) (remove ss i)).
-    let own = is_called r.frame s is in
-    subst (λ (o : Option ℕ). Bounds (Reaches t.stacks.floor) s o (remove ss i)) (ap (λ b. cond b r.caller r.server) own)
-    (popped t.stacks ss i r s stacks rises here at (or_left (calls s r.frame) _ own) b) in
-    let server = λ (s : ℕ) (is : c.other_server.result ≡ Some s) (b : Bounds (Reaches t.stacks.floor) s (Some r.frame.made) (remove ss i)).
-    let apart = subst (λ (o : Option ℕ). IfSome o (λ s. calls s r.frame ≡ false)) is c.other_server.ensures.apart in
-    let part = or_right (calls s r.frame) _ (subst (λ (o : Option ℕ). IfSome o (λ s. serves s r.frame.server ≡ true)) is c.other_server.ensures.serves) in
-    subst (λ (o : Option ℕ). Bounds (Reaches t.stacks.floor) s o (remove ss i)) (ap (λ b. cond b r.caller r.server) apart)
-    (popped t.stacks ss i r s stacks rises here at part b) in
-    let popped_caller = c.pop.ensures.stands (remove ss i) (removed t.stacks ss i here stacks) caller in
-    let popped_server = c.pop-in-Some.ensures.stands (remove ss i) popped_caller
-    (λ s is. subst (λ (fl : Option ℕ). Bounds (Reaches fl) s (Some r.frame.made) (remove ss i) → Bounds (Reaches fl) s r.server (remove ss i)) (sym c.pop.ensures.floor) (server s is)) in
+    let parent = d.frame.parent in
+    let fewer = λ (r : Row). record r { children = r.children - 1 } in
+    let ss = map (turned parent fewer) rs in
+    let k = without made_of made l in
+    let lt = rw c.deref.ensures.value at c.in-Some.ensures.within in
+    let at = (rw c.deref.ensures.value at c.in-Some.ensures.found) (own_rising t l h) in
+    let rows = c.turn.ensures.rows fewer (λ x y e. search rules) (own_rising t l h) in
+    let kept = frames_kept parent fewer (λ r. refl) rs in
+    let rises = rising_rows ss (subst (IsRising 0) (sym (kept ∙ h.items_are)) h.in_order.rising) in
+    let within : i < length ss = rw length-map lt in
+    let there : IsAt made ss (Some i) = λ e.
+        ap place (get_or-map (turned parent fewer) rs i d e lt)
+        ∙ cond_both (is_some_and parent (λ m. place (get_or rs i d) == m)) (fewer (get_or rs i d)) (get_or rs i d) (λ x. place x ≡ place (get_or rs i d)) (λ e. refl) (λ e. refl) ∙ at d in
+    let items = c.remove-row.ensures.items ∙ ap (λ zs. remove zs i) rows ∙ sym (filter_at place made ss i (distinct place ss rises) within there) in
+    let value = rw rows at c.remove-row.ensures.value in
+    let count = λ (m : ℕ). count_closed t l h made i d lt at c.index.ensures (is_child_at m) in
     record {
-      items_are = ap frames_of c.remove-row.ensures.items ∙ gone;
-      in_order = in_order_filter keeps l h.in_order;
-      children_are =
-          let n = λ (m : ℕ). count_by (is_child_at m) l in
-          let k = λ (m : ℕ). count_by (is_child_at m) (filter keeps l) in
-          subst (AreCounts k) (sym c.remove-row.ensures.items) (counts_remove k ss i here
-          (c.remove_child.ensures.counts n k (own_rising t l h) h.children_are
-          (λ m. ap (count_by (is_child_at m)) (sym h.items_are) ∙ count_remove (is_child_at m) rs i c.index.result.now lt
-          ∙ ap (λ fs. count_by (is_child_at m) fs + one_of (get_or rs i c.index.result.now).frame.parent m) left
-          ∙ ap (λ (x : Row). k m + one_of x.frame.parent m) (sym c.index.ensures))));
-      stacks_are = subst (AreStacks c.pop-in-Some.new.self) (sym c.remove-row.ensures.items) popped_server;
+      items_are = ap frames_of items ∙ frames_filtered (λ f. not (is_frame made f)) ss ∙ ap (without made_of made) (kept ∙ h.items_are);
+      in_order = in_order_filter (λ f. not (is_frame made f)) l h.in_order;
+      children_are = subst (AreChildren k) (sym items) (All-filter (λ x. not (place x == made)) (λ r. r.children ≡ count_by (is_child_at (place r)) k) ss
+          (children_turned parent fewer l k rs (λ r. refl)
+          (λ r e yes. let one = ap {B = ℕ} (λ b. cond b 1 0) yes in omega (arith, e, count (place r), one))
+          (λ m no. let none = ap {B = ℕ} (λ b. cond b 1 0) no in omega (arith, count m, none)) h.children_are));
+      stacks_are = subst (AreStacks c.pop.new.self) (sym items) (λ s.
+          let top = top_in t.stacks s in
+          subst (λ (o : Option ℕ). IsStack s o (without place made ss)) (sym (c.pop.ensures s))
+          (closed s made i ss r top within value (ap place value ∙ there r) (turns s rs parent fewer (λ r part. record { made = refl; part = part; below = refl }) top (h.stacks_are s))
+          (takes_part s r.frame) refl));
     }
 
 pub returns-in_default-clause-stands : goal.returns-in_default-clause-stands
 returns-in_default-clause-stands c = λ l h.
     let t = c.args.self.now in
-    subst (FramesAre t) (sym (filter_none (is_frame c.args.made) l (nowhere t l h c.args.made _ c.deref.ensures.value c.in_default.ensures.only))) h
+    let none = (rw c.deref.ensures.value at c.in_default.ensures.found) (own_rising t l h) in
+    subst (FramesAre t) (sym (filter_none made_of c.args.made l (nowhere t l h c.args.made none))) h

@@ -1,19 +1,31 @@
-use Rattle.std.proofs.Common.{refl, ap, sym, subst, ◌∙◌, map}
+use Rattle.std.proofs.Common.{◌≡◌, ◌==◌, ◌&&◌, ℕ, Bool, true, false, cond, Option, Some, None, map, get_or, length, refl, sym, ◌∙◌, subst, eqb-true}
+use Rattle.std.specs.Prelude.{List, nat_lt}
+use Rattle.std.proofs.lemmas.List.Elements.{All-map}
+use Rattle.bd_frames.specs.declared.frame.Row.{Row}
 use Rattle.bd_frames.specs.Words.{left_frame, left_row}
-use Rattle.bd_frames.specs.Places.{frames_of}
-use Rattle.bd_frames.specs.Children.{Each}
-use Rattle.bd_frames.specs.Linked.{AreStacks}
-use Rattle.bd_frames.proofs.Counting.{IsAlike, each_map}
-use Rattle.bd_frames.proofs.Stacking.{forgets}
-use Rattle.bd_frames.proofs.Standing.{own_rising, all_change, frames_left}
+use Rattle.bd_frames.specs.Linked.{IsStack, IsLinked, top_in}
+use Rattle.bd_frames.proofs.Alike.{left_gone, left_keeps}
+use Rattle.bd_frames.proofs.Stacking.{mapped}
+use Rattle.bd_frames.proofs.Standing.{own_rising, own_stack, all_changed}
 use Rattle.bd_frames.proofs.table.FrameTable.leave.Goals as goal
+
+-- whatever bounds its stack
+gone : (seat : ℕ) (o : Option ℕ) (rs : List Row) → IsStack seat o (map (left_row seat) rs)
+gone seat None rs = tt
+gone seat (Some b) rs =
+    All-map (IsLinked seat b (map (left_row seat) rs)) (left_row seat) rs (λ k d lt part. let no = sym part ∙ left_gone seat (get_or rs k d).frame in absurd (cc no))
+
+forgotten : (seat s : ℕ) (in_range : Bool) (top : Option ℕ) (rs : List Row) → IsStack s top rs → (b : Bool) → (seat == s) ≡ b
+    → IsStack s (cond (b && in_range) (Some 0) top) (map (left_row seat) rs)
+forgotten seat s in_range top rs st true e = rw (eqb-true seat s e) (gone s (cond in_range (Some 0) top) rs)
+forgotten seat s in_range top rs st false e = mapped s rs (left_row seat) (left_keeps seat s e) top st
 
 pub returns-clause-stands : goal.returns-clause-stands
 returns-clause-stands c = λ l h.
     let t = c.args.self.now in
     let rs = t.rows.items in
     let seat = c.args.seat in
-    let left = c.leave_down.ensures.rows h.stacks_are (own_rising t l h) in
-    all_change t _ l h (left_frame seat) (λ x. (refl, refl)) (ap frames_of left ∙ frames_left seat rs ∙ ap (map (left_frame seat)) h.items_are)
-    (subst (Each IsAlike rs) (sym left) (each_map IsAlike (left_row seat) (λ r. record { made = refl; children = refl }) rs))
-    (subst (AreStacks c.forget.new.self) (sym left) (forgets t.stacks c.forget.new.self rs seat h.stacks_are c.forget.ensures.floor c.forget.ensures.tops))
+    all_changed t l h _ (left_frame seat) (left_row seat) (λ x. (refl, refl)) (λ r. refl) (λ r. refl)
+    (c.leave_down.ensures.rows (own_rising t l h) (own_stack t l h seat _ c.top_of-top.ensures))
+    (λ s. subst (λ (o : Option ℕ). IsStack s o (map (left_row seat) rs)) (sym (c.forget.ensures s))
+    (forgotten seat s (nat_lt s (length t.stacks.tops)) (top_in t.stacks s) rs (h.stacks_are s) (seat == s) refl))
