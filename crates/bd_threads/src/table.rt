@@ -1,7 +1,8 @@
-//! The table, and its memory.
+//! The table: its memory, its changes and what it tells.
 #![tactic(auto, unfolding(crate::specs::Room::thread_room))]
 
-ghost use Rattle.std.specs.{Prelude.{◌≡◌, ◌≤◌, ◌<◌, [], length, IfOk, OnOk, OnErr}, HashMap.{hash_map_len}};
+ghost use Rattle.std.specs.{Prelude.{◌≡◌, ◌==◌, ◌≤◌, ◌<◌, ◌+◌, ◌++◌, ◌∷◌, [], not, map, filter, length, IfOk, OnOk, OnErr}, HashMap.{hash_map_len}};
+ghost use Rattle.bd_space.specs.{ProcessExits.{seat_of}, Seats.{thread_in}, Words.{changed}};
 ghost use Rattle.bd_threads.specs.Rows.{AreInverse, live, place_at, seat_at};
 
 use bd_keys::room_anew;
@@ -79,5 +80,75 @@ impl ThreadTable {
             return Ok(());
         }
         self.grow(more)
+    }
+
+    /// A thread comes in, in place of the one that its seat has. Takes no memory.
+    pub fn push(&mut self, thread: Thread)
+        requires { 1 ≤ thread_room self.old }
+        ensures listed { listed self.new
+            ≡ filter (λ t. not (t.seat == thread.seat)) (listed self.old) ++ thread ∷ [] }
+        ensures uses { thread_room self.old ≤ thread_room self.new + 1 }
+    {
+        self.remove(thread.seat);
+        let row = self.rows.len();
+        // There is room.
+        if self.places.insert(thread.seat, row).is_ok() {
+            self.rows.push_reserved(Some(thread));
+        }
+    }
+
+    /// The thread of a seat enters or leaves the loop.
+    pub fn set_looping(&mut self, seat: u32, looping: bool)
+        ensures listed { listed self.new ≡
+            changed (λ t. t.seat == seat) (λ t. record t { looping = looping }) (listed self.old) }
+        ensures uses { thread_room self.old ≤ thread_room self.new }
+    {
+        if let Some(row) = self.places.get(&seat) {
+            if let Some(thread) = &mut self.rows[*row] {
+                thread.looping = looping;
+            }
+        }
+    }
+
+    /// The thread of a seat goes.
+    pub fn remove(&mut self, seat: u32)
+        ensures listed { listed self.new ≡ filter (λ t. not (t.seat == seat)) (listed self.old) }
+        ensures uses { thread_room self.old ≤ thread_room self.new }
+    {
+        if let Some(row) = self.places.remove(&seat) {
+            self.rows[row] = None;
+        }
+    }
+
+    /// The thread of a seat.
+    pub fn thread(&self, seat: u32) -> Option<Thread>
+        ensures { result ≡ thread_in (listed self.now) seat }
+    {
+        // Where threads come in by their seats each is in the row of its seat's number, and the map isn't asked.
+        if let Some(Some(thread)) = self.rows.get(seat as usize) {
+            if thread.seat == seat {
+                return Some(*thread);
+            }
+        }
+        let row = self.places.get(&seat)?;
+        self.rows[*row]
+    }
+
+    /// The seats of a process's threads. Fails for want of memory alone, and never where there are none.
+    pub fn seats_of(&self, alloc: Global, process: u32) -> Result<Vec<u32>, AllocError>
+        ensures seats { IfOk result (λ v. v.items
+            ≡ map seat_of (filter (λ t. t.process == process) (listed self.now))) }
+        // Memory was asked for: there was a seat to put into it.
+        ensures grown { OnErr result (1 ≤ length (filter (λ t. t.process == process) (listed self.now))) }
+    {
+        let mut seats = Vec::new(alloc);
+        for row in &self.rows {
+            if let Some(thread) = row {
+                if thread.process == process {
+                    seats.push(thread.seat)?;
+                }
+            }
+        }
+        Ok(seats)
     }
 }

@@ -1,6 +1,6 @@
 use Rattle.std.proofs.Common.{sym, ap, ◌∙◌, length}
 use Rattle.bd_threads.specs.Rows.{live, place_at, seat_at}
-use Rattle.bd_threads.proofs.Inverse.{inverse_as}
+use Rattle.bd_threads.proofs.Rows.{inverse_as}
 use Rattle.bd_threads.proofs.table.ThreadTable.grow.Goals as goal
 
 pub invariant_of-self-2 : goal.invariant_of-self-2

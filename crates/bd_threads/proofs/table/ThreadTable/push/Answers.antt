@@ -8,8 +8,7 @@ use Rattle.bd_space.specs.Seats.{thread_in}
 use Rattle.bd_keys.proofs.Found.{find_gone}
 use Rattle.bd_threads.specs.Listed.{listed}
 use Rattle.bd_threads.specs.Rows.{live, place_at, seat_at}
-use Rattle.bd_threads.proofs.Inverse.{inverse_more}
-use Rattle.bd_threads.proofs.Rows.{seat_of, unplaced, seat_push}
+use Rattle.bd_threads.proofs.Rows.{seat_of, unplaced, seat_push, inverse_more}
 use Rattle.bd_threads.proofs.table.ThreadTable.push.Goals as goal
 
 done : {T E P : Type 0} (r : Result T E) → is_ok r ≡ true → OnOk r P → P
