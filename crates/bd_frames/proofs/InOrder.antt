@@ -57,7 +57,8 @@ KeepsPlaces f = (x : Frame) → ((f x).made ≡ x.made) × ((f x).parent ≡ x.p
 
 older_map : (f : Frame → Frame) → KeepsPlaces f → (xs : List Frame) → ParentsOlder xs → ParentsOlder (map f xs)
 older_map f h [] r = r
-older_map f h (x ∷ xs) r = (subst (λ o. IsBefore o (f x).made) (sym (h x).1) (subst (λ m. IsBefore x.parent m) (sym (h x).0) r.0), older_map f h xs r.1)
+older_map f h (x ∷ xs) r =
+    (subst (λ o. IsBefore o (f x).made) (sym (h x).1) (subst (λ m. IsBefore x.parent m) (sym (h x).0) r.0), older_map f h xs r.1)
 
 pub in_order_map : (f : Frame → Frame) → KeepsPlaces f → (xs : List Frame) → IsInOrder xs → IsInOrder (map f xs)
 in_order_map f h xs k = record { rising = rising_map f (λ x. (h x).0) 0 xs k.rising; older = older_map f h xs k.older }

@@ -28,7 +28,8 @@ above : (m : ℕ) (xs : List Frame) → IsRising m xs → All (λ x. m ≤ x.mad
 above m [] r = λ k d h. absurd (omega arith)
 above m (x ∷ xs) r =
     let a = r.0 in
-    All-cons (λ y. m ≤ y.made) x xs a (All-weaker (λ y. suc x.made ≤ y.made) (λ y. m ≤ y.made) (λ y h. omega (arith, a, h)) xs (above (suc x.made) xs r.1))
+    All-cons (λ y. m ≤ y.made) x xs a
+    (All-weaker (λ y. suc x.made ≤ y.made) (λ y. m ≤ y.made) (λ y h. omega (arith, a, h)) xs (above (suc x.made) xs r.1))
 
 pub rising_frames : (m : ℕ) (xs : List Frame) → IsRising m xs → Rising made_of xs
 rising_frames m [] r = λ i j d h k. absurd (omega arith)
@@ -46,7 +47,8 @@ rising_take n rs r i j d h k =
     rw (get_or-take n rs i d (omega arith), get_or-take n rs j d (omega arith)) (r i j d h (omega arith))
 
 -- where no frame was made there
-pub none_there : (rs : List Row) (made i : ℕ) → AreRising rs → IsPartitionPoint (λ r. ltb (place r) made ≡ true) (λ r. ltb (place r) made ≡ false) rs i
+pub none_there : (rs : List Row) (made i : ℕ) → AreRising rs
+    → IsPartitionPoint (λ r. ltb (place r) made ≡ true) (λ r. ltb (place r) made ≡ false) rs i
     → (i < length rs → IsAt made rs (Some i) → ⊥) → IsAt made rs None
 none_there rs made i rises p other = λ k d lt. ne_eqb (place (get_or rs k d)) made (λ same. elim (cases_lt k i) [
   | inl low ↦ let e = ltb-true (place (get_or rs k d)) made (p.0 k d (omega arith) low) in absurd (omega (arith, e, same))
@@ -55,7 +57,9 @@ none_there rs made i rises p other = λ k d lt. ne_eqb (place (get_or rs k d)) m
         let e = ltb-false (place (get_or rs i d)) made (p.1 i d (omega arith) (omega arith)) in
         let r = rises i k d up lt in
         absurd (omega (arith, e, r, same))
-    | inr down ↦ let is : k ≡ i = omega arith in absurd (other (omega arith) (λ e. ap place (get_or_default rs i e d (omega arith)) ∙ (rw is at same)))
+    | inr down ↦
+        let is : k ≡ i = omega arith in
+        absurd (other (omega arith) (λ e. ap place (get_or_default rs i e d (omega arith)) ∙ (rw is at same)))
   ]
 ])
 
@@ -66,7 +70,8 @@ changed_map p f [] = refl
 changed_map p f (x ∷ xs) = ap (λ ys. cond (p x) (f x) x ∷ ys) (changed_map p f xs)
 
 module _ (g : Row → Row) (made : ℕ) (rs : List Row) where
-  pub turned_at : (i : ℕ) (d : Row) → AreRising rs → i < length rs → IsAt made rs (Some i) → set rs i (g (get_or rs i d)) ≡ map (turned (Some made) g) rs
+  pub turned_at : (i : ℕ) (d : Row) → AreRising rs → i < length rs → IsAt made rs (Some i)
+      → set rs i (g (get_or rs i d)) ≡ map (turned (Some made) g) rs
   turned_at i d rises lt is = sym (changed_at place g made rs i d (distinct place rs rises) lt is) ∙ changed_map (has place made) g rs
 
   pub turned_nowhere : IsAt made rs None → rs ≡ map (turned (Some made) g) rs

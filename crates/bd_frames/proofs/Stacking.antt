@@ -24,7 +24,8 @@ abbrev pub KeepsPart : ℕ → Row → Row → Type 0
 KeepsPart s r x = takes_part s x.frame ≡ true → IsFewer s r x
 
 -- after the bound the thread takes part in none
-pub none_above : (s b : ℕ) (rs : List Row) (i : ℕ) → IsPartitionPoint (λ r. leb (place r) b ≡ true) (λ r. leb (place r) b ≡ false) rs i → IsStack s (Some b) rs
+pub none_above : (s b : ℕ) (rs : List Row) (i : ℕ) → IsPartitionPoint (λ r. leb (place r) b ≡ true) (λ r. leb (place r) b ≡ false) rs i
+    → IsStack s (Some b) rs
     → AllWithin (λ r. takes_part s r.frame ≡ false) rs i (length rs)
 none_above s b rs i p st = λ k d ge lt. elim (cases_Bool (takes_part s (get_or rs k d).frame)) [
   | inl part ↦ let up = (st k d lt part).0 in let over = leb-false (place (get_or rs k d)) b (p.1 k d ge lt) in absurd (omega (arith, up, over))
@@ -68,7 +69,8 @@ module _ (s : ℕ) (rs ss : List Row) where
   stays (Some b) st new = onto b b (omega arith) st (λ k d lt part. inl (new k d lt part))
 
   -- where a frame has come that was made there
-  pub put_on : (made : ℕ) (o : Option ℕ) → IsStack s o rs → All (λ x. takes_part s x.frame ≡ true → From x ⊎ Comes made o x) ss → IsStack s (put_top made o) ss
+  pub put_on : (made : ℕ) (o : Option ℕ) → IsStack s o rs → All (λ x. takes_part s x.frame ≡ true → From x ⊎ Comes made o x) ss
+      → IsStack s (put_top made o) ss
   put_on made None st new = tt
   put_on made (Some b) st new =
       cond_both (nat_le b made) (Some made) None (λ o. IsStack s o ss) (λ e. onto b made (leb-true b made e) st new) (λ e. tt)
@@ -80,22 +82,27 @@ module _ (s : ℕ) (rs : List Row) where
   pub mapped : (g : Row → Row) → ((r : Row) → KeepsPart s r (g r)) → (o : Option ℕ) → IsStack s o rs → IsStack s o (map g rs)
   mapped g keeps o st =
       stays s rs (map g rs) o st
-      (All-map (λ x. takes_part s x.frame ≡ true → From s rs (map g rs) x) g rs (λ k d lt part. (get_or rs k d, Contains-get_or rs k d lt, keeps (get_or rs k d) part)))
+      (All-map (λ x. takes_part s x.frame ≡ true → From s rs (map g rs) x) g rs
+      (λ k d lt part. (get_or rs k d, Contains-get_or rs k d lt, keeps (get_or rs k d) part)))
 
   -- where one row changes
-  pub turns : (made : Option ℕ) (g : Row → Row) → ((r : Row) → KeepsPart s r (g r)) → (o : Option ℕ) → IsStack s o rs → IsStack s o (map (turned made g) rs)
+  pub turns : (made : Option ℕ) (g : Row → Row) → ((r : Row) → KeepsPart s r (g r)) → (o : Option ℕ) → IsStack s o rs
+      → IsStack s o (map (turned made g) rs)
   turns made g keeps =
       mapped (turned made g)
-      (λ r. cond_both (is_some_and made (λ m. place r == m)) (g r) r (KeepsPart s r) (λ e. keeps r) (λ e part. record { made = refl; part = part; below = refl }))
+      (λ r. cond_both (is_some_and made (λ m. place r == m)) (g r) r (KeepsPart s r) (λ e. keeps r)
+      (λ e part. record { made = refl; part = part; below = refl }))
 
   pub filtered : (p : Row → Bool) (o : Option ℕ) → IsStack s o rs → IsStack s o (filter p rs)
   filtered p o st = stays s rs (filter p rs) o st (All-filter p (λ x. takes_part s x.frame ≡ true → From s rs (filter p rs) x) rs itself)
 
   -- where the frame of a row has gone
-  pub popped : (r : Row) (o : Option ℕ) → Contains rs r → takes_part s r.frame ≡ true → IsStack s o rs → IsStack s (popped_top s r o) (without place (place r) rs)
+  pub popped : (r : Row) (o : Option ℕ) → Contains rs r → takes_part s r.frame ≡ true → IsStack s o rs
+      → IsStack s (popped_top s r o) (without place (place r) rs)
   popped r None inside part st = tt
   popped r (Some b) inside part st =
-      cond_both (b == place r) (below_of s r) (Some b) (λ o. IsStack s o (filter keep rs)) (λ e. lowered (eqb-true b (place r) e) (below_of s r) refl) (λ e. filtered keep (Some b) st)
+      cond_both (b == place r) (below_of s r) (Some b) (λ o. IsStack s o (filter keep rs)) (λ e. lowered (eqb-true b (place r) e) (below_of s r) refl)
+      (λ e. filtered keep (Some b) st)
     where
       keep : Row → Bool
       keep x = not (place x == place r)
@@ -112,7 +119,8 @@ module _ (s : ℕ) (rs : List Row) where
           (rw is at up, All-filter keep (IsBelow s x) rs old.1)
 
 -- the way down goes on from the frame at an index
-pub way_on : (s : ℕ) (o : Option ℕ) (rs : List Row) (i : ℕ) (d : Row) → AreRising rs → i < length rs → takes_part s (get_or rs i d).frame ≡ true → IsStack s o rs
+pub way_on : (s : ℕ) (o : Option ℕ) (rs : List Row) (i : ℕ) (d : Row) → AreRising rs → i < length rs → takes_part s (get_or rs i d).frame ≡ true
+    → IsStack s o rs
     → IsStack s (option_and o (below_of s (get_or rs i d))) (take i rs)
 way_on s None rs i d rises lt part st = tt
 way_on s (Some b) rs i d rises lt part st = at (below_of s (get_or rs i d)) refl

@@ -30,13 +30,15 @@ way_ended [] = refl
 way_ended (f ∷ fs) = way_ended fs
 
 module _ (made : ℕ) where
-  pub way_none : (rs : List Row) (fs : List Frame) → All (λ r. (place r == made) ≡ false) rs → ancestry (Some made) (reverse_aux (frames_of rs) fs) ≡ ancestry (Some made) fs
+  pub way_none : (rs : List Row) (fs : List Frame) → All (λ r. (place r == made) ≡ false) rs
+      → ancestry (Some made) (reverse_aux (frames_of rs) fs) ≡ ancestry (Some made) fs
   way_none [] fs none = refl
   way_none (r ∷ rs) fs none =
       way_none rs (r.frame ∷ fs) (All-tail (λ r. (place r == made) ≡ false) r rs none) ∙ rw (All-head (λ r. (place r == made) ≡ false) r rs none) refl
 
   pub way_found : (rs : List Row) (i : ℕ) (d : Row) (fs : List Frame) → AreRising rs → i < length rs → ((d : Row) → place (get_or rs i d) ≡ made)
-      → ancestry (Some made) (reverse_aux (frames_of rs) fs) ≡ (get_or rs i d).frame ∷ ancestry (get_or rs i d).frame.parent (reverse_aux (frames_of (take i rs)) fs)
+      → ancestry (Some made) (reverse_aux (frames_of rs) fs)
+      ≡ (get_or rs i d).frame ∷ ancestry (get_or rs i d).frame.parent (reverse_aux (frames_of (take i rs)) fs)
   way_found [] i d fs rises lt is = absurd (omega arith)
   way_found (r ∷ rs) zero d fs rises lt is =
       way_none rs (r.frame ∷ fs) (rest_differ place made r rs (distinct place (r ∷ rs) rises) (is r)) ∙ rw (eq-eqb (place r) made (is r)) refl

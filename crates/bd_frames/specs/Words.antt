@@ -1,5 +1,5 @@
 -- Words on frames in the order in which they came in.
-use Rattle.std.specs.Prelude.{ℕ, ◌==◌, ◌&&◌, Bool, true, false, List, Option, Some, None, find, reverse}
+use Rattle.std.specs.Prelude.{ℕ, ◌==◌, ◌&&◌, Bool, true, false, List, Option, find, reverse}
 use Rattle.bd_ways.specs.Words.{list_any, Frame, Server, Pending, Serving, Gone}
 use Rattle.bd_space.specs.Frames.{takes_part, is_frame}
 use Rattle.bd_frames.specs.declared.frame.Row.{Row}
@@ -22,12 +22,6 @@ abbrev pub is_pending : Server → Bool
 is_pending Pending = true
 is_pending (Serving t) = false
 is_pending Gone = false
-
--- who serves it
-abbrev pub server_seat : Server → Option ℕ
-server_seat Pending = None
-server_seat (Serving t) = Some t
-server_seat Gone = None
 
 -- who would have served it has gone
 abbrev pub lost : Server → Server

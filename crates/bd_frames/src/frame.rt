@@ -3,7 +3,7 @@
 ghost use Rattle.std.specs.Prelude.{◌≡◌, ◌==◌, ◌&&◌};
 ghost use Rattle.bd_space.specs.Frames as spec;
 ghost use Rattle.bd_frames.specs.Linked as linked;
-ghost use Rattle.bd_frames.specs.Words.{lost_frame, left_frame, server_seat};
+ghost use Rattle.bd_frames.specs.Words.{lost_frame, left_frame};
 
 use bd_space::{Frame, Server};
 
@@ -47,16 +47,6 @@ pub(crate) fn below_of(seat: u32, row: &Row) -> Option<u32>
         row.caller
     } else {
         row.server
-    }
-}
-
-/// The thread that serves the frame.
-pub(crate) fn server_seat(frame: Frame) -> Option<u32>
-    ensures { result ≡ server_seat frame.server }
-{
-    match frame.server {
-        Server::Serving(seat) => Some(seat),
-        _ => None,
     }
 }
 

@@ -6,7 +6,8 @@ ghost use Rattle.bd_space.specs.Frames as spec;
 ghost use Rattle.bd_space.specs.Words.{is_some_and};
 ghost use Rattle.bd_frames.specs.Linked.{AreStacks, top_in, put_top, popped_top};
 
-use crate::frame::{Row, below_of, server_seat};
+use crate::frame::{Row, below_of};
+use bd_space::Server;
 use bd_uapi::MOST_SEATS;
 
 // As many seats as a driver has.
@@ -49,15 +50,12 @@ impl Stacks {
         Some(bound)
     }
 
-    // The frame of this row has gone from the stack of the thread, if there is one: where it was on top, what is below is.
-    fn lower(&mut self, seat: Option<u32>, row: &Row)
-        ensures { (s : ℕ) → top_in self.new s
-            ≡ (if is_some_and seat (λ t. t == s) then popped_top s row.now (top_in self.old s) else top_in self.old s) }
+    // The frame of this row has gone from the stack of the thread: where it was on top, what is below is.
+    fn lower(&mut self, seat: u32, row: &Row)
+        ensures { (s : ℕ) → top_in self.new s ≡ (if seat == s then popped_top s row.now (top_in self.old s) else top_in self.old s) }
     {
-        if let Some(seat) = seat {
-            if self.top_of(seat) == Some(row.frame.made) {
-                self.tops[seat as usize] = below_of(seat, row);
-            }
+        if self.top_of(seat) == Some(row.frame.made) {
+            self.tops[seat as usize] = below_of(seat, row);
         }
     }
 
@@ -66,8 +64,12 @@ impl Stacks {
         ensures { (s : ℕ) → top_in self.new s
             ≡ (if spec.takes_part s row.now.frame then popped_top s row.now (top_in self.old s) else top_in self.old s) }
     {
-        self.lower(row.frame.caller, row);
-        self.lower(server_seat(row.frame), row);
+        if let Some(seat) = row.frame.caller {
+            self.lower(seat, row);
+        }
+        if let Server::Serving(seat) = row.frame.server {
+            self.lower(seat, row);
+        }
     }
 
     /// The thread is gone from all frames.

@@ -122,11 +122,7 @@ impl FrameTable {
         ensures { Tells self.now result (λ l. abandoned_in l made) }
     {
         let row = self.rows[index_of(&self.rows, made)?];
-        if is_abandoned(&row) {
-            Some(row.frame)
-        } else {
-            None
-        }
+        is_abandoned(&row).then_some(row.frame)
     }
 
     /// The first frame that passes on the way from the one made there by parents, innermost first.

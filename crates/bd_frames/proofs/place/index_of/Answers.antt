@@ -12,7 +12,8 @@ returns-else-i-rows-clause-found c = λ r.
     let xs = c.args.rows.now in
     let made = c.args.made in
     none_there xs made c.partition_point-i.result r
-    (IsPartitionPoint-from_clause (λ (x : Row). ltb (place x) made) xs _ c.partition_point-i.ensures.partitioned (IsPartitionedBy-ltb place xs made (non_decreasing place xs r))
+    (IsPartitionPoint-from_clause (λ (x : Row). ltb (place x) made) xs _ c.partition_point-i.ensures.partitioned
+    (IsPartitionedBy-ltb place xs made (non_decreasing place xs r))
     (λ a b f k. search (rules, tests)))
     (λ h e. elim c.else-i-rows.branch [
       | else-i-rows-via-then-i-rows+else-rows-i w ↦ w.if-rows-i.false (e _)

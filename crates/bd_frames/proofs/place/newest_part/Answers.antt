@@ -34,7 +34,9 @@ loop-from-preserved c =
       after = λ r st k d ge lt. elim (cases_lt k c.loop-from.from) [
         | inl low ↦
             let is : k ≡ c.loop-from.from - 1 = omega arith in
-            rw is (ap (λ (x : Row). takes_part c.args.seat x.frame) (get_or_default c.args.rows.now (c.loop-from.from - 1) d _ (omega (arith, inv.within))) ∙ sym c.takes_part.ensures ∙ c.if-takes_part.false)
+            rw is (ap (λ (x : Row). takes_part c.args.seat x.frame)
+            (get_or_default c.args.rows.now (c.loop-from.from - 1) d _ (omega (arith, inv.within))) ∙ sym c.takes_part.ensures
+            ∙ c.if-takes_part.false)
         | inr high ↦ inv.after r st k d high lt
       ];
     }

@@ -9,7 +9,8 @@ use Rattle.bd_frames.proofs.place.newest_part.Given as goal
 abbrev pub invariant-loop-from : goal.invariant-loop-from
 invariant-loop-from l = record {
   within : l.from ≤ length l.rows;
-  after : AreRising l.rows → IsStack l.seat l.fn.bound l.rows → AllWithin (λ (r : Row). takes_part l.seat r.frame ≡ false) l.rows l.from (length l.rows);
+  after : AreRising l.rows → IsStack l.seat l.fn.bound l.rows
+      → AllWithin (λ (r : Row). takes_part l.seat r.frame ≡ false) l.rows l.from (length l.rows);
 }
 
 abbrev pub decreases-loop-from : goal.decreases-loop-from

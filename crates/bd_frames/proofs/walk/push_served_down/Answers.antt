@@ -10,15 +10,18 @@ use Rattle.bd_frames.proofs.Places.{no_row, rising_take}
 use Rattle.bd_frames.proofs.walk.push_served_down.Goals as goal
 
 -- of those between, none passes
-passed_over : (q : Frame → Bool) (i n : ℕ) (rs : List Row) → i ≤ n → ((k : ℕ) (d : Row) → i ≤ k → k < n → k < length rs → q (get_or rs k d).frame ≡ false)
+passed_over : (q : Frame → Bool) (i n : ℕ) (rs : List Row) → i ≤ n
+    → ((k : ℕ) (d : Row) → i ≤ k → k < n → k < length rs → q (get_or rs k d).frame ≡ false)
     → filter q (frames_of (drop i rs)) ≡ filter q (frames_of (drop n rs))
 passed_over q zero zero rs le none = refl
 passed_over q zero (suc n) [] le none = refl
 passed_over q zero (suc n) (r ∷ rs) le none =
-    rw (none 0 r (omega arith) (omega arith) (omega arith)) (passed_over q zero n rs (omega arith) (λ k d a b h. none (suc k) d (omega arith) (omega arith) (omega arith)))
+    rw (none 0 r (omega arith) (omega arith) (omega arith)) (passed_over q zero n rs (omega arith)
+    (λ k d a b h. none (suc k) d (omega arith) (omega arith) (omega arith)))
 passed_over q (suc i) zero rs le none = absurd (omega arith)
 passed_over q (suc i) (suc n) [] le none = refl
-passed_over q (suc i) (suc n) (r ∷ rs) le none = passed_over q i n rs (omega arith) (λ k d a b h. none (suc k) d (omega arith) (omega arith) (omega arith))
+passed_over q (suc i) (suc n) (r ∷ rs) le none = passed_over q i n rs (omega arith)
+    (λ k d a b h. none (suc k) d (omega arith) (omega arith) (omega arith))
 
 -- one more is served, or none
 served_next : (q : Frame → Bool) (xs : List ℕ) (ys : List Frame) (f : Frame)
@@ -26,11 +29,13 @@ served_next : (q : Frame → Bool) (xs : List ℕ) (ys : List Frame) (f : Frame)
 served_next q xs ys f = at (q f)
   where
     at : (b : Bool) → (xs ++ reverse (map made_of ys)) ++ map made_of (cond b (f ∷ []) []) ≡ xs ++ reverse (map made_of (cond b (f ∷ ys) ys))
-    at true = append_assoc xs (reverse (map made_of ys)) (f.made ∷ []) ∙ ap (λ (zs : List ℕ). xs ++ zs) (sym (reverse_onto (map made_of ys) f.made []))
+    at true =
+        append_assoc xs (reverse (map made_of ys)) (f.made ∷ []) ∙ ap (λ (zs : List ℕ). xs ++ zs) (sym (reverse_onto (map made_of ys) f.made []))
     at false = append-nil (xs ++ reverse (map made_of ys))
 
 -- who takes no part doesn't serve
-no_server : (seat n : ℕ) (rs : List Row) (k : ℕ) (d : Row) → k < n → takes_part seat (get_or (take n rs) k d).frame ≡ false → serves seat (get_or rs k d).frame.server ≡ false
+no_server : (seat n : ℕ) (rs : List Row) (k : ℕ) (d : Row) → k < n → takes_part seat (get_or (take n rs) k d).frame ≡ false
+    → serves seat (get_or rs k d).frame.server ≡ false
 no_server seat n rs k d low out = (no_head (calls seat (get_or rs k d).frame) _ (rw (get_or-take n rs k d low) at out)).1
 
 pub loop-i-init : goal.loop-i-init
@@ -40,7 +45,8 @@ loop-i-init c =
     record {
       within = omega arith;
       way = λ r st. rw (take_all (length rs) rs (omega arith)) st;
-      so_far = λ r st. sym (ap (λ (rs : List Row). xs ++ reverse (map made_of (filter (λ (f : Frame). serves c.args.seat f.server) (frames_of rs)))) (drop_all (length rs) rs (omega arith)) ∙ append-nil xs);
+      so_far = λ r st. sym (ap (λ (rs : List Row). xs ++ reverse (map made_of (filter (λ (f : Frame). serves c.args.seat f.server) (frames_of rs))))
+      (drop_all (length rs) rs (omega arith)) ∙ append-nil xs);
       longer = omega arith;
     }
 
@@ -61,8 +67,10 @@ loop-i-preserved c =
       way = λ r st. rw ends.1 (c.in-Some.ensures.rest (rising_take n rs r) (inv.way r st));
       so_far = λ r st.
           let none = (c.in-Some.ensures.newest (rising_take n rs r) (inv.way r st)).1 in
-          let skipped = passed_over q (i + 1) n rs (omega (arith, ends.0)) (λ k d a b h. no_server seat n rs k d b (none k d (omega (arith, a)) (omega (arith, b, h, length-take n rs)))) in
-          let left = ap (λ (zs : List Row). filter q (frames_of zs)) (drop_more rs i no_row (omega (arith, few, ends.0))) ∙ ap (λ (zs : List Frame). cond (q f) (f ∷ zs) zs) skipped in
+          let skipped = passed_over q (i + 1) n rs (omega (arith, ends.0))
+          (λ k d a b h. no_server seat n rs k d b (none k d (omega (arith, a)) (omega (arith, b, h, length-take n rs)))) in
+          let left = ap (λ (zs : List Row). filter q (frames_of zs)) (drop_more rs i no_row (omega (arith, few, ends.0)))
+          ∙ ap (λ (zs : List Frame). cond (q f) (f ∷ zs) zs) skipped in
           rw ends.1 (c.in_ok-push_if_served.ensures.served
           ∙ ap (λ (ns : List ℕ). ns ++ map made_of (filter q (f ∷ []))) (inv.so_far r st)
           ∙ served_next q xs (filter q (frames_of (drop n rs))) f

@@ -10,7 +10,8 @@ invariant-loop-i l = record {
   within : l.way.end ≤ length l.rows;
   way : AreRising l.rows → IsStack l.seat l.fn.bound l.rows → IsStack l.seat l.way.bound (take l.way.end l.rows);
   so_far : AreRising l.rows → IsStack l.seat l.fn.bound l.rows
-      → l.served.items ≡ l.fn.served.items ++ reverse (map made_of (filter (λ (f : Frame). serves l.seat f.server) (frames_of (drop l.way.end l.rows))));
+      → l.served.items
+      ≡ l.fn.served.items ++ reverse (map made_of (filter (λ (f : Frame). serves l.seat f.server) (frames_of (drop l.way.end l.rows))));
   longer : vec_len l.fn.served ≤ vec_len l.served;
 }
 

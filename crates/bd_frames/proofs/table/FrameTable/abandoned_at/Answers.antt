@@ -13,18 +13,14 @@ returns-in_err-index_of c = λ l h.
     let made = c.args.made in
     let both = λ (f : Frame). is_frame made f && is_abandoned l f in
     let none = (rw c.deref.ensures.value at c.in_err-index_of.ensures.found) (own_rising t l h) in
-    c.from_residual.ensures ∙ sym (find_none both l (list_any_none both l (λ k d lt. ap (λ b. b && is_abandoned l (get_or l k d)) (nowhere t l h made none k d lt))))
+    c.from_residual.ensures
+    ∙ sym (find_none both l (list_any_none both l (λ k d lt. ap (λ b. b && is_abandoned l (get_or l k d)) (nowhere t l h made none k d lt))))
 
-pub returns-then-is_abandoned : goal.returns-then-is_abandoned
-returns-then-is_abandoned c = λ l h.
+pub returns : goal.returns
+returns c = λ l h.
     let t = c.args.self.now in
     let at = (rw c.deref.ensures.value at c.in_ok-index_of.ensures.found) (own_rising t l h) in
     let within = rw c.deref.ensures.value at c.in_ok-index_of.ensures.within in
-    sym (abandoned t l h c.args.made c.in_ok-index_of.field-0 c.index.result.now within at c.index.ensures true (sym c.is_abandoned.ensures ∙ c.if-is_abandoned.true))
-
-pub returns-else-is_abandoned : goal.returns-else-is_abandoned
-returns-else-is_abandoned c = λ l h.
-    let t = c.args.self.now in
-    let at = (rw c.deref.ensures.value at c.in_ok-index_of.ensures.found) (own_rising t l h) in
-    let within = rw c.deref.ensures.value at c.in_ok-index_of.ensures.within in
-    sym (abandoned t l h c.args.made c.in_ok-index_of.field-0 c.index.result.now within at c.index.ensures false (sym c.is_abandoned.ensures ∙ c.if-is_abandoned.false))
+    let d = c.index.result.now in
+    c.then_some.ensures ∙ sym (abandoned t l h c.args.made c.in_ok-index_of.field-0 d within at c.index.ensures c.is_abandoned.result
+    (sym c.is_abandoned.ensures))

@@ -16,17 +16,21 @@ abbrev first : (Frame → Bool) → Option ℕ → ℕ → List Row → Option F
 first q from n rs = find q (ancestry from (reverse (frames_of (take n rs))))
 
 -- of the table's own rows
-ends : (t : FrameTable) (l : List Frame) (q : Frame → Bool) (from : Option ℕ) (o : Option Frame) → FramesAre t l → find q (ancestry from (reverse (frames_of t.rows.items))) ≡ o
+ends : (t : FrameTable) (l : List Frame) (q : Frame → Bool) (from : Option ℕ) (o : Option Frame) → FramesAre t l
+    → find q (ancestry from (reverse (frames_of t.rows.items))) ≡ o
     → o ≡ find q (ancestry from (reverse l))
 ends t l q from o h e = sym e ∙ ap (λ ys. find q (ancestry from (reverse ys))) h.items_are
 
-goes_on : (q : Frame → Bool) (made n i : ℕ) (rs : List Row) (d : Row) → AreRising rs → i < length (take n rs) → IsAt made (take n rs) (Some i) → d ≡ get_or rs i d
+goes_on : (q : Frame → Bool) (made n i : ℕ) (rs : List Row) (d : Row) → AreRising rs → i < length (take n rs) → IsAt made (take n rs) (Some i)
+    → d ≡ get_or rs i d
     → first q (Some made) n rs ≡ cond (q d.frame) (Some d.frame) (first q d.frame.parent i rs)
 goes_on q made n i rs d r within at is =
     let low : i < n = omega (arith, within, length-take n rs) in
     ap (find q) (way_found made (take n rs) i d [] (rising_take n rs r) within at)
-    ∙ ap (λ (x : Row). cond (q x.frame) (Some x.frame) (find q (ancestry x.frame.parent (reverse (frames_of (take i (take n rs))))))) (get_or-take n rs i d low ∙ sym is)
-    ∙ ap (λ (zs : List Row). cond (q d.frame) (Some d.frame) (find q (ancestry d.frame.parent (reverse (frames_of zs))))) (take-take i n rs (omega (arith, low)))
+    ∙ ap (λ (x : Row). cond (q x.frame) (Some x.frame) (find q (ancestry x.frame.parent (reverse (frames_of (take i (take n rs)))))))
+    (get_or-take n rs i d low ∙ sym is)
+    ∙ ap (λ (zs : List Row). cond (q d.frame) (Some d.frame) (find q (ancestry d.frame.parent (reverse (frames_of zs)))))
+    (take-take i n rs (omega (arith, low)))
 
 pub loop-next-init : goal.loop-next-init
 loop-next-init g c = record {
@@ -50,7 +54,8 @@ loop-next-preserved g c =
       rest = λ q by r.
           let fails : q d.frame ≡ false = sym (by d.frame c.f.result c.f.ensures) ∙ c.if-f.false in
           let at = (rw c.deref.ensures.value at c.in_ok-i.ensures.found) (rising_take n rs r) in
-          inv.rest q by r ∙ ap (λ (o : Option ℕ). first q o n rs) c.in-Some.is ∙ goes_on q c.in-Some.made n c.in_ok-i.i rs d r within at c.index.ensures
+          inv.rest q by r ∙ ap (λ (o : Option ℕ). first q o n rs) c.in-Some.is
+          ∙ goes_on q c.in-Some.made n c.in_ok-i.i rs d r within at c.index.ensures
           ∙ ap (λ b. cond b (Some d.frame) (first q d.frame.parent c.in_ok-i.i rs)) fails;
     }
 
@@ -62,7 +67,8 @@ returns-in_err-i g c = λ q by l h.
     let r = own_rising t l h in
     let none = (rw c.deref.ensures.value at c.in_err-i.ensures.found) (rising_take n rs r) in
     c.from_residual.ensures
-    ∙ ends t l q c.args.from None h (c.loop-next.invariant.rest q by r ∙ ap (λ (o : Option ℕ). first q o n rs) c.in-Some.is ∙ ap (find q) (way_none c.in-Some.made (take n rs) [] none))
+    ∙ ends t l q c.args.from None h (c.loop-next.invariant.rest q by r ∙ ap (λ (o : Option ℕ). first q o n rs) c.in-Some.is
+    ∙ ap (find q) (way_none c.in-Some.made (take n rs) [] none))
 
 pub returns-then-f : goal.returns-then-f
 returns-then-f g c = λ q by l h.
@@ -75,7 +81,8 @@ returns-then-f g c = λ q by l h.
     let at = (rw c.deref.ensures.value at c.in_ok-i.ensures.found) (rising_take n rs r) in
     let within = rw c.deref.ensures.value at c.in_ok-i.ensures.within in
     ends t l q c.args.from (Some d.frame) h (c.loop-next.invariant.rest q by r ∙ ap (λ (o : Option ℕ). first q o n rs) c.in-Some.is
-    ∙ goes_on q c.in-Some.made n c.in_ok-i.i rs d r within at c.index.ensures ∙ ap (λ b. cond b (Some d.frame) (first q d.frame.parent c.in_ok-i.i rs)) passes)
+    ∙ goes_on q c.in-Some.made n c.in_ok-i.i rs d r within at c.index.ensures
+    ∙ ap (λ b. cond b (Some d.frame) (first q d.frame.parent c.in_ok-i.i rs)) passes)
 
 pub returns : goal.returns
 returns g c = λ q by l h.

@@ -10,7 +10,8 @@ invariant-loop-next g l = record {
   same : l.f ≡ l.fn.f;
   within : l.end ≤ vec_len l.self.rows;
   rest : (q : Frame → Bool) → AnswersBy (λ x b. g.F.Fn.post l.fn.f (x, tt) b) q → AreRising l.self.rows.items
-      → find q (ancestry l.fn.from (reverse (frames_of l.self.rows.items))) ≡ find q (ancestry l.next (reverse (frames_of (take l.end l.self.rows.items))));
+      → find q (ancestry l.fn.from (reverse (frames_of l.self.rows.items)))
+      ≡ find q (ancestry l.next (reverse (frames_of (take l.end l.self.rows.items))));
 }
 
 abbrev pub decreases-loop-next : goal.decreases-loop-next

@@ -7,4 +7,5 @@ use Rattle.bd_frames.proofs.table.FrameTable.is_in_call.Goals as goal
 pub returns : goal.returns
 returns c = λ l h.
     let q = takes_part c.args.seat in
-    c.is_some.ensures ∙ ap is_some (c.newest_of.ensures l h) ∙ sym (any_some q (reverse l)) ∙ sym (list_any-IsPermutation q l (reverse l) (IsPermutation-reverse l))
+    c.is_some.ensures ∙ ap is_some (c.newest_of.ensures l h) ∙ sym (any_some q (reverse l))
+    ∙ sym (list_any-IsPermutation q l (reverse l) (IsPermutation-reverse l))

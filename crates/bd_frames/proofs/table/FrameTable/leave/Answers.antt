@@ -13,7 +13,8 @@ use Rattle.bd_frames.proofs.table.FrameTable.leave.Goals as goal
 gone : (seat : ℕ) (o : Option ℕ) (rs : List Row) → IsStack seat o (map (left_row seat) rs)
 gone seat None rs = tt
 gone seat (Some b) rs =
-    All-map (IsLinked seat b (map (left_row seat) rs)) (left_row seat) rs (λ k d lt part. let no = sym part ∙ left_gone seat (get_or rs k d).frame in absurd (cc no))
+    All-map (IsLinked seat b (map (left_row seat) rs)) (left_row seat) rs
+    (λ k d lt part. let no = sym part ∙ left_gone seat (get_or rs k d).frame in absurd (cc no))
 
 forgotten : (seat s : ℕ) (in_range : Bool) (top : Option ℕ) (rs : List Row) → IsStack s top rs → (b : Bool) → (seat == s) ≡ b
     → IsStack s (cond (b && in_range) (Some 0) top) (map (left_row seat) rs)

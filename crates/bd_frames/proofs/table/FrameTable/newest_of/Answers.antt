@@ -11,7 +11,8 @@ returns-in_err-newest_part c = λ l h.
     let q = takes_part c.args.seat in
     let found = rw c.deref.ensures.value at c.in_err-newest_part.ensures.newest in
     c.from_residual.ensures
-    ∙ sym (ap (λ fs. find q (reverse fs)) (sym h.items_are) ∙ none_newer q t.rows.items [] (found (own_rising t l h) (own_stack t l h c.args.seat _ c.top_of-top.ensures)))
+    ∙ sym (ap (λ fs. find q (reverse fs)) (sym h.items_are) ∙ none_newer q t.rows.items []
+    (found (own_rising t l h) (own_stack t l h c.args.seat _ c.top_of-top.ensures)))
 
 pub returns : goal.returns
 returns c = λ l h.

@@ -21,7 +21,8 @@ is_seat None s e = absurd (cc)
 is_seat (Some t) s e = ap (λ (n : ℕ). Some n) (eqb-true t s e)
 
 -- the rows' stack of a thread, once another row has come
-pushed : (s : ℕ) (rs : List Row) (r : Row) (top : Option ℕ) → IsStack s top rs → (takes_part s r.frame ≡ true → calls s r.frame ≡ true) → (b : Bool) → calls s r.frame ≡ b
+pushed : (s : ℕ) (rs : List Row) (r : Row) (top : Option ℕ) → IsStack s top rs → (takes_part s r.frame ≡ true → calls s r.frame ≡ true) → (b : Bool)
+    → calls s r.frame ≡ b
     → (b ≡ true → r.caller ≡ top) → IsStack s (cond b (put_top (place r) top) top) (rs ++ r ∷ [])
 pushed s rs r top st own true e links =
     put_on s rs (rs ++ r ∷ []) (place r) top st
@@ -29,7 +30,8 @@ pushed s rs r top st own true e links =
     (λ k d lt part. inl (itself s rs k d lt part)) (λ part. inr (refl, rw e (links refl))))
 pushed s rs r top st own false e links =
     stays s rs (rs ++ r ∷ []) top st
-    (All-push (λ x. takes_part s x.frame ≡ true → From s rs (rs ++ r ∷ []) x) rs r (itself s rs) (λ part. let no = sym (own part) ∙ e in absurd (cc no)))
+    (All-push (λ x. takes_part s x.frame ≡ true → From s rs (rs ++ r ∷ []) x) rs r (itself s rs)
+    (λ part. let no = sym (own part) ∙ e in absurd (cc no)))
 
 pub returns-clause-stands : goal.returns-clause-stands
 returns-clause-stands c = λ l h next.
@@ -43,16 +45,21 @@ returns-clause-stands c = λ l h next.
     let items = c.push_reserved.ensures.items ∙ ap (λ zs. zs ++ r ∷ []) rows in
     let k = l ++ x ∷ [] in
     record {
-      items_are = ap frames_of items ∙ map-append (λ (x : Row). x.frame) ss (r ∷ []) ∙ ap (λ fs. fs ++ x ∷ []) (frames_kept x.parent more (λ r. refl) rs ∙ h.items_are);
+      items_are = ap frames_of items ∙ map-append (λ (x : Row). x.frame) ss (r ∷ [])
+      ∙ ap (λ fs. fs ++ x ∷ []) (frames_kept x.parent more (λ r. refl) rs ∙ h.items_are);
       in_order = in_order_push l x h.in_order next;
       children_are = subst (AreChildren k) (sym items) (All-push (λ r. r.children ≡ count_by (is_child_at (place r)) k) ss r
           (children_turned x.parent more l k rs (λ r. refl)
-          (λ r e yes. let one = ap {B = ℕ} (λ b. cond b 1 0) yes in omega (arith, e, count_push (is_child_at (place r)) l x, one, count_few l x h.in_order next (is_child_at (place r)), c.put-caller.ensures.place))
+          (λ r e yes.
+          let one = ap {B = ℕ} (λ b. cond b 1 0) yes in
+          let p = is_child_at (place r) in
+          omega (arith, e, count_push p l x, one, count_few l x h.in_order next p, c.put-caller.ensures.place))
           (λ m no. let none = ap {B = ℕ} (λ b. cond b 1 0) no in omega (arith, count_push (is_child_at m) l x, none)) h.children_are)
           (no_child l x h.in_order next));
       stacks_are = subst (AreStacks c.put-caller.new.self) (sym items) (λ s.
           let top = top_in t.stacks s in
           subst (λ (o : Option ℕ). IsStack s o (ss ++ r ∷ [])) (sym (c.put-caller.ensures.tops s))
-          (pushed s ss r top (turns s rs x.parent more (λ r part. record { made = refl; part = part; below = refl }) top (h.stacks_are s)) (pending_calls s x next.unread) (calls s x) refl
+          (pushed s ss r top (turns s rs x.parent more (λ r part. record { made = refl; part = part; below = refl }) top (h.stacks_are s))
+          (pending_calls s x next.unread) (calls s x) refl
           (λ own. c.put-caller.ensures.below ∙ ap (option_and_then (top_in t.stacks)) (is_seat x.caller s own))));
     }

@@ -15,7 +15,8 @@ use Rattle.bd_frames.proofs.Standing.{own_rising, nowhere, one_changed}
 use Rattle.bd_frames.proofs.table.FrameTable.serve.Goals as goal
 use Rattle.bd_frames.proofs.table.FrameTable.serve.Goals.{then-is_own, else-is_own}
 
-module _ (s seat : ℕ) (rs : List Row) (i : ℕ) (d : Row) (link top : Option ℕ) (lt : i < length rs) (at : d ≡ get_or rs i d) (st : IsStack s top rs) where
+module _ (s seat : ℕ) (rs : List Row) (i : ℕ) (d : Row) (link top : Option ℕ) (lt : i < length rs) (at : d ≡ get_or rs i d)
+    (st : IsStack s top rs) where
   abbrev served : Row
   served = record d { frame = serve seat d.frame; server = link }
 
@@ -68,7 +69,8 @@ returns-after-is_own-clause-stands c = λ l h.
     (ap (λ n. cond (is_some_and (cond (calls seat d.frame) None (Some seat)) (λ t. t == s)) (put_top n top) top) there
     ∙ ap (λ o. cond (is_some_and o (λ t. t == s)) (put_top made top) top) (sym asked) ∙ sym (c.put-server.ensures.tops s))
     (served_on s seat rs i d link top lt c.index.ensures (h.stacks_are s) (calls seat d.frame) refl (seat == s) refl
-    (λ own same. c.put-server.ensures.below ∙ ap (option_and_then (top_in t.stacks)) (asked ∙ ap (λ b. cond b None (Some seat)) own) ∙ ap (top_in t.stacks) (eqb-true seat s same)))))
+    (λ own same. c.put-server.ensures.below ∙ ap (option_and_then (top_in t.stacks)) (asked ∙ ap (λ b. cond b None (Some seat)) own)
+    ∙ ap (top_in t.stacks) (eqb-true seat s same)))))
 
 pub returns-in_default-clause-stands : goal.returns-in_default-clause-stands
 returns-in_default-clause-stands c = λ l h.

@@ -12,9 +12,11 @@ returns c = λ l h.
     let old = c.args.served.now.items in
     let n = c.len-from.result in
     let places = λ (fs : List Frame). map made_of (filter (λ f. serves c.args.seat f.server) fs) in
-    let found = (rw c.deref.ensures.value at c.in_ok-push_served_down.ensures.served) (own_rising t l h) (own_stack t l h c.args.seat _ c.top_of-top.ensures) in
+    let found = (rw c.deref.ensures.value at c.in_ok-push_served_down.ensures.served) (own_rising t l h)
+    (own_stack t l h c.args.seat _ c.top_of-top.ensures) in
     let turned = reverse (places (frames_of t.rows.items)) in
     let from : length old ≡ n = omega (arith, c.len-from.ensures) in
     c.reverse_from.ensures ∙ ap (λ vs. take n vs ++ reverse (drop n vs)) found
     ∙ ap (λ v. v ++ reverse (drop n (old ++ turned))) (take_at old turned n from)
-    ∙ ap (λ v. old ++ reverse v) (drop_at old turned n from) ∙ ap (λ v. old ++ v) (reverse-reverse (places (frames_of t.rows.items)) ∙ ap places h.items_are)
+    ∙ ap (λ v. old ++ reverse v) (drop_at old turned n from)
+    ∙ ap (λ v. old ++ v) (reverse-reverse (places (frames_of t.rows.items)) ∙ ap places h.items_are)
