@@ -1,4 +1,4 @@
-use Rattle.std.proofs.Common.{true, false, ◌&&◌, get_or, ap, sym, ◌∙◌}
+use Rattle.std.proofs.Common.{◌&&◌, get_or, ap, sym, ◌∙◌}
 use Rattle.std.proofs.lemmas.List.Folds.{list_any_none}
 use Rattle.bd_ways.proofs.Ranges.{find_none}
 use Rattle.bd_space.specs.declared.space.Frame.{Frame}
