@@ -60,7 +60,7 @@ module _ (l : List Frame) (x : Frame) (k : IsInOrder l) (n : IsNextOf x l) where
 -- the one made there counts anew, and so each counts those of other frames
 pub children_turned : (o : Option ℕ) (g : Row → Row) (l k : List Frame) (rs : List Row) → ((r : Row) → (g r).frame ≡ r.frame)
     → ((r : Row) → r.children ≡ count_by (is_child_at (place r)) l → is_some_and o (λ m. m == place r) ≡ true
-        → (g r).children ≡ count_by (is_child_at (place r)) k)
+    → (g r).children ≡ count_by (is_child_at (place r)) k)
     → ((m : ℕ) → is_some_and o (λ p. p == m) ≡ false → count_by (is_child_at m) l ≡ count_by (is_child_at m) k)
     → AreChildren l rs → AreChildren k (map (turned o g) rs)
 children_turned o g l k rs frame anew others are =

@@ -1,18 +1,21 @@
 -- The stacks of a table as its frames come, go and change.
-use Rattle.std.proofs.Common.{◌≡◌, ℕ, ◌≤◌, ◌<◌, ◌==◌, Bool, true, false, not, List, Option, Some, None, ◌⊎◌, inl, inr, All, map, filter, take, length, get_or, leb, refl, ap, arith}
+use Rattle.std.proofs.Common.{◌≡◌, ℕ, ◌≤◌, ◌<◌, ◌==◌, Bool, true, false, not, List, Option, Some, None, ◌⊎◌, inl, inr, All, map, filter, take, length, get_or, leb, cond, refl, ap, sym, ◌∙◌, arith}
 use Rattle.std.specs.Prelude.{Contains, nat_le}
 use Rattle.std.specs.Option.{option_and}
 use Rattle.std.specs.List.{AllWithin}
 use Rattle.std.specs.List.Sorted.{IsPartitionPoint}
 use Rattle.std.proofs.lemmas.Bool.{cases_Bool, cond_both, leb-true, leb-false, eqb-true, eq-eqb}
+use Rattle.std.proofs.lemmas.Bool.Decides.{nat_tests}
 use Rattle.std.proofs.lemmas.List.{get_or-take, get_or_default, length-take}
 use Rattle.std.proofs.lemmas.List.Elements.{All-contains, All-filter, All-map, All-take, Contains-get_or, filter_passes}
-use Rattle.bd_space.specs.Frames.{takes_part}
+use Rattle.bd_space.specs.declared.space.Server.{Server}
+use Rattle.bd_space.specs.declared.space.Server.TheVariants.{Pending, Serving, Gone}
+use Rattle.bd_space.specs.Frames.{calls, serves, takes_part}
 use Rattle.bd_space.specs.Words.{is_some_and}
 use Rattle.bd_keys.proofs.Rising.{without}
 use Rattle.bd_frames.specs.declared.frame.Row.{Row}
 use Rattle.bd_frames.specs.Places.{place, turned, AreRising}
-use Rattle.bd_frames.specs.Linked.{below_of, IsUpTo, IsBelow, IsLinked, IsStack, put_top, popped_top}
+use Rattle.bd_frames.specs.Linked.{below_of, IsUpTo, IsBelow, IsLinked, IsStack, Covers, server_but, other_server, put_top, popped_top}
 
 -- a row whose thread took part in the one before it there, and is led on as from that
 pub record IsFewer (s : ℕ) (r x : Row) : Type 0 where
@@ -31,6 +34,13 @@ none_above s b rs i p st = λ k d ge lt. elim (cases_Bool (takes_part s (get_or 
   | inl part ↦ let up = (st k d lt part).0 in let over = leb-false (place (get_or rs k d)) b (p.1 k d ge lt) in absurd (omega (arith, up, over))
   | inr other ↦ other
 ]
+
+-- ---- a bound that covers another
+
+pub covered : (s : ℕ) (p o : Option ℕ) (rs : List Row) → Covers p o → IsStack s p rs → IsStack s o rs
+covered s p None rs c st = tt
+covered s None (Some c) rs never st = absurd never
+covered s (Some b) (Some c) rs le st = λ k d lt part. let f = st k d lt part in (omega (arith, f.0, le), f.1)
 
 -- ---- the rows become others
 
@@ -117,6 +127,38 @@ module _ (s : ℕ) (rs : List Row) where
           let low : place x < place r = omega (arith, old.0, top, apart) in
           let up = All-filter keep (IsBelow s r) rs (All-contains (IsLinked s b rs) rs r st inside part).1 k d lt p low in
           (rw is at up, All-filter keep (IsBelow s x) rs old.1)
+
+-- who calls is not told of again as the server
+calls_alone : (s : ℕ) (c : Option ℕ) (v : Server) → is_some_and c (λ t. t == s) ≡ true → is_some_and (server_but c v) (λ t. t == s) ≡ false
+calls_alone s None v e = absurd (cc)
+calls_alone s (Some c) Pending e = refl
+calls_alone s (Some c) Gone e = refl
+calls_alone s (Some c) (Serving t) e = grind (arith, nat_tests)
+
+other_serves : (s : ℕ) (c : Option ℕ) (v : Server) → is_some_and (server_but c v) (λ t. t == s) ≡ true → serves s v ≡ true
+other_serves s c Pending e = absurd (cc)
+other_serves s c Gone e = absurd (cc)
+other_serves s c (Serving t) e = grind (arith, nat_tests)
+
+-- the frame of a row went from its caller's stack, and then from that of its server, if that is another
+pub gone_from_both : (s : ℕ) (r : Row) (rs : List Row) (was mid new : Option ℕ) → Contains rs r → IsStack s was rs
+    → Covers (cond (calls s r.frame) (popped_top s r was) was) mid
+    → Covers (cond (is_some_and (other_server r.frame) (λ t. t == s)) (popped_top s r mid) mid) new
+    → IsStack s new (without place (place r) rs)
+gone_from_both s r rs was mid new there st first then = by (calls s r.frame) refl first (is_some_and (other_server r.frame) (λ t. t == s)) refl then
+  where
+    left : List Row
+    left = without place (place r) rs
+
+    by : (b : Bool) → calls s r.frame ≡ b → Covers (cond b (popped_top s r was) was) mid → (d : Bool)
+        → is_some_and (other_server r.frame) (λ t. t == s) ≡ d
+        → Covers (cond d (popped_top s r mid) mid) new → IsStack s new left
+    by true e f true g h = let alone = sym (calls_alone s r.frame.caller r.frame.server e) ∙ g in absurd (cc)
+    by true e f false g h = covered s mid new left h (covered s (popped_top s r was) mid left f (popped s rs r was there (rw e refl) st))
+    by false e f true g h =
+        let part : takes_part s r.frame ≡ true = rw (e, other_serves s r.frame.caller r.frame.server g) refl in
+        covered s (popped_top s r mid) new left h (popped s rs r mid there part (covered s was mid rs f st))
+    by false e f false g h = covered s mid new left h (filtered s rs (λ x. not (place x == place r)) mid (covered s was mid rs f st))
 
 -- the way down goes on from the frame at an index
 pub way_on : (s : ℕ) (o : Option ℕ) (rs : List Row) (i : ℕ) (d : Row) → AreRising rs → i < length rs → takes_part s (get_or rs i d).frame ≡ true

@@ -117,7 +117,7 @@ module _ (t : FrameTable) (l : List Frame) (h : FramesAre t l) where
         left_alone : (is_gone d.frame.server && (d.children == 0)) ≡ is_abandoned l d.frame
         left_alone =
             let counted : d.children ≡ count_by (is_child_at d.frame.made) l =
-                subst (λ (x : Row). x.children ≡ count_by (is_child_at (place x)) l) (sym is) (h.children_are i d lt) in
+            subst (λ (x : Row). x.children ≡ count_by (is_child_at (place x)) l) (sym is) (h.children_are i d lt) in
             ap (λ b. is_gone d.frame.server && b) (ap (λ n. n == 0) counted ∙ count_none (is_child_at d.frame.made) l)
 
         abbrev both : Frame → Bool

@@ -1,7 +1,8 @@
 -- Each thread's frames as a stack: a bound of all of them, and from each a bound of the older ones.
-use Rattle.std.specs.Prelude.{ℕ, ◌≡◌, ◌==◌, ◌≤◌, ◌<◌, nat_le, true, List, Option, Some, None, get_or, if◌then◌else◌}
+use Rattle.std.specs.Prelude.{ℕ, ◌≡◌, ◌==◌, ◌≤◌, ◌<◌, nat_le, true, List, Option, Some, None, max, unwrap_or, if◌then◌else◌}
+use Rattle.std.specs.HashMap.{get_by}
 use Rattle.std.specs.List.{All}
-use Rattle.bd_ways.specs.Words.{is_some_and}
+use Rattle.bd_ways.specs.Words.{is_some_and, Frame, Server, Serving}
 use Rattle.bd_space.specs.Frames.{calls, takes_part}
 use Rattle.bd_frames.specs.declared.frame.Row.{Row}
 use Rattle.bd_frames.specs.declared.stacks.Stacks.{Stacks}
@@ -29,11 +30,31 @@ abbrev pub IsStack : ℕ → Option ℕ → List Row → Type 0
 IsStack seat None rows = Unit {0}
 IsStack seat (Some bound) rows = All (IsLinked seat bound rows) rows
 
+-- the thread's own bound, else that of all who have none of their own
 abbrev pub top_in : Stacks → ℕ → Option ℕ
-top_in s seat = get_or s.tops seat None
+top_in s seat = unwrap_or (get_by (λ k. seat == k) s.tops) s.rest
 
 abbrev pub AreStacks : Stacks → List Row → Type 0
 AreStacks s rows = (seat : ℕ) → IsStack seat (top_in s seat) rows
+
+-- whatever is up to the first bound is up to the second
+abbrev pub Covers : Option ℕ → Option ℕ → Type 0
+Covers p None = Unit {0}
+Covers None (Some c) = ⊥
+Covers (Some b) (Some c) = b ≤ c
+
+abbrev pub wider : Option ℕ → Option ℕ → Option ℕ
+wider None b = None
+wider (Some a) None = None
+wider (Some a) (Some b) = Some (max a b)
+
+-- who serves the call, unless it is its caller
+abbrev pub server_but : Option ℕ → Server → Option ℕ
+server_but caller (Serving seat) = if is_some_and caller (λ c. c == seat) then None else Some seat
+server_but caller _ = None
+
+abbrev pub other_server : Frame → Option ℕ
+other_server f = server_but f.caller f.server
 
 -- the top of a stack onto which a frame comes that was made there: none, if one that was made later is on it
 abbrev pub put_top : ℕ → Option ℕ → Option ℕ

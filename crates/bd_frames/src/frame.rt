@@ -50,6 +50,16 @@ pub(crate) fn below_of(seat: u32, row: &Row) -> Option<u32>
     }
 }
 
+/// Who serves the frame's call, unless it is its caller: that is led on as such.
+pub(crate) fn other_server(frame: Frame) -> Option<u32>
+    ensures { result ≡ linked.other_server frame }
+{
+    match frame.server {
+        Server::Serving(seat) if frame.caller != Some(seat) => Some(seat),
+        _ => None,
+    }
+}
+
 /// The frame's call has lost who would have served it.
 pub(crate) fn frame_lost(frame: Frame) -> Frame
     ensures { result ≡ lost_frame frame }

@@ -36,7 +36,7 @@ impl FrameTable {
     {
         FrameTable {
             rows: Vec::new(alloc),
-            stacks: Stacks::new(),
+            stacks: Stacks::new(alloc),
         }
     }
 
@@ -48,7 +48,11 @@ impl FrameTable {
         // Memory was asked for: there was no room.
         ensures grown { OnErr result (frame_room self.old < more) }
     {
-        self.rows.reserve(more as usize)
+        let more = more as usize;
+        // Each that is there may be read, and each that comes has a caller and may be read.
+        self.stacks
+            .reserve(self.rows.len().saturating_add(2 * more));
+        self.rows.reserve(more)
     }
 
     /// How many there are.
@@ -66,10 +70,14 @@ impl FrameTable {
             → FramesAre self.new (l ++ frame ∷ []) }
         ensures uses { Uses self.old self.new 1 }
     {
-        turn(&mut self.rows, frame.parent, |row| Row {
-            children: row.children.saturating_add(1),
-            ..row
-        });
+        turn(
+            &mut self.rows,
+            frame.parent,
+            |row| Row {
+                children: row.children.saturating_add(1),
+                ..row
+            },
+        );
         let caller = self.stacks.put(frame.caller, frame.made);
         self.rows.push_reserved(Row {
             frame,
@@ -86,10 +94,14 @@ impl FrameTable {
     {
         if let Some(i) = index_of(&self.rows, made) {
             let parent = self.rows[i].frame.parent;
-            turn(&mut self.rows, parent, |row| Row {
-                children: row.children.saturating_sub(1),
-                ..row
-            });
+            turn(
+                &mut self.rows,
+                parent,
+                |row| Row {
+                    children: row.children.saturating_sub(1),
+                    ..row
+                },
+            );
             let row = self.rows.remove(i);
             self.stacks.pop(&row);
         }
@@ -154,7 +166,9 @@ impl FrameTable {
             let row = self.rows[i];
             // Who serves a call of its own is led on as its caller.
             let is_own = row.frame.caller == Some(seat);
-            let server = self.stacks.put(if is_own { None } else { Some(seat) }, made);
+            let server = self
+                .stacks
+                .put(if is_own { None } else { Some(seat) }, made);
             let frame = Frame {
                 server: Server::Serving(seat),
                 ..row.frame
@@ -172,10 +186,14 @@ impl FrameTable {
         ensures stands { Makes self.old self.new (λ l. changed (spec.is_frame made) lost_frame l) }
         ensures uses { Uses self.old self.new 0 }
     {
-        turn(&mut self.rows, Some(made), |row| Row {
-            frame: frame_lost(row.frame),
-            ..row
-        });
+        turn(
+            &mut self.rows,
+            Some(made),
+            |row| Row {
+                frame: frame_lost(row.frame),
+                ..row
+            },
+        );
     }
 
     /// The thread is gone from its frames, as caller and as server.

@@ -52,7 +52,7 @@ loop-i-preserved c =
                 rw is (get_or-set_same ys i x d within ∙ ap (λ (f : Frame). record y { frame = f }) c.frame_without.ensures
                 ∙ ap (left_row seat) (get_or_read ys i y within c.index-row.ensures d ∙ unchanged n ys rs inv.same i d low))
             | inr other ↦ get_or-set_other ys i k x d other ∙ left_from seat n (suc i) rs ys inv.same none (inv.so_far r st) k d
-            (omega (arith, ge, ends.1, other)) lt
+                (omega (arith, ge, ends.1, other)) lt
           ];
       len = inv.len;
       capacity = inv.capacity;
@@ -69,5 +69,5 @@ returns-clause-rows c = λ r st.
     let none = rw begun at (c.in_default.ensures.newest (rw begun (rising_take n rs r)) (rw begun (inv.way r st))) in
     let long : length ys ≡ length rs = omega (arith, inv.len, c.loop-i.rows.ok, c.args.rows.now.ok) in
     ext_get_or no_row ys (map left rs) (long ∙ sym (length-map rs left)) (λ k lt.
-      left_from c.args.seat n 0 rs ys inv.same (λ k d ge lt. none k d lt) (inv.so_far r st) k no_row (omega arith) (omega (arith, lt, long))
-      ∙ sym (get_or-map left rs k no_row no_row (omega (arith, lt, long))))
+    left_from c.args.seat n 0 rs ys inv.same (λ k d ge lt. none k d lt) (inv.so_far r st) k no_row (omega arith) (omega (arith, lt, long))
+    ∙ sym (get_or-map left rs k no_row no_row (omega (arith, lt, long))))

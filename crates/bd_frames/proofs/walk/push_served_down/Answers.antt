@@ -46,7 +46,7 @@ loop-i-init c =
       within = omega arith;
       way = λ r st. rw (take_all (length rs) rs (omega arith)) st;
       so_far = λ r st. sym (ap (λ (rs : List Row). xs ++ reverse (map made_of (filter (λ (f : Frame). serves c.args.seat f.server) (frames_of rs))))
-      (drop_all (length rs) rs (omega arith)) ∙ append-nil xs);
+          (drop_all (length rs) rs (omega arith)) ∙ append-nil xs);
       longer = omega arith;
     }
 

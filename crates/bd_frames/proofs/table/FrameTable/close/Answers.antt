@@ -10,21 +10,13 @@ use Rattle.bd_frames.specs.declared.frame.Row.{Row}
 use Rattle.bd_frames.specs.Stands.{FramesAre}
 use Rattle.bd_frames.specs.Places.{frames_of, place, turned, IsRising, IsAt}
 use Rattle.bd_frames.specs.Children.{is_child_at, AreChildren}
-use Rattle.bd_frames.specs.Linked.{IsStack, AreStacks, top_in, popped_top}
+use Rattle.bd_frames.specs.Linked.{IsStack, AreStacks, top_in}
 use Rattle.bd_frames.proofs.Places.{rising_rows}
 use Rattle.bd_frames.proofs.InOrder.{in_order_filter}
 use Rattle.bd_frames.proofs.Counting.{children_turned}
-use Rattle.bd_frames.proofs.Stacking.{filtered, popped, turns}
+use Rattle.bd_frames.proofs.Stacking.{turns}
 use Rattle.bd_frames.proofs.Standing.{own_rising, nowhere, frames_kept, frames_filtered, count_closed}
 use Rattle.bd_frames.proofs.table.FrameTable.close.Goals as goal
-
--- the stack of a thread, once the frame of a row has gone
-closed : (s made i : ℕ) (rs : List Row) (r : Row) (top : Option ℕ) → i < length rs → r ≡ get_or rs i r → place r ≡ made → IsStack s top rs
-    → (b : Bool) → takes_part s r.frame ≡ b
-    → IsStack s (cond b (popped_top s r top) top) (without place made rs)
-closed s made i rs r top lt at there st true part = subst (λ m. IsStack s (popped_top s r top) (without place m rs)) there
-    (popped s rs r top (i, lt, sym at) part st)
-closed s made i rs r top lt at there st false part = filtered s rs (λ x. not (place x == made)) top st
 
 pub returns-in-Some-clause-stands : goal.returns-in-Some-clause-stands
 returns-in-Some-clause-stands c = λ l h.
@@ -45,9 +37,9 @@ returns-in-Some-clause-stands c = λ l h.
     let rises = rising_rows ss (subst (IsRising 0) (sym (kept ∙ h.items_are)) h.in_order.rising) in
     let within : i < length ss = rw length-map lt in
     let there : IsAt made ss (Some i) = λ e.
-        ap place (get_or-map (turned parent fewer) rs i d e lt)
-        ∙ cond_both (is_some_and parent (λ m. place (get_or rs i d) == m)) (fewer (get_or rs i d)) (get_or rs i d)
-        (λ x. place x ≡ place (get_or rs i d)) (λ e. refl) (λ e. refl) ∙ at d in
+    ap place (get_or-map (turned parent fewer) rs i d e lt)
+    ∙ cond_both (is_some_and parent (λ m. place (get_or rs i d) == m)) (fewer (get_or rs i d)) (get_or rs i d)
+    (λ x. place x ≡ place (get_or rs i d)) (λ e. refl) (λ e. refl) ∙ at d in
     let items = c.remove-row.ensures.items ∙ ap (λ zs. remove zs i) rows ∙ sym (filter_at place made ss i (distinct place ss rises) within there) in
     let value = rw rows at c.remove-row.ensures.value in
     let count = λ (m : ℕ). count_closed t l h made i d lt at c.index.ensures (is_child_at m) in
@@ -55,16 +47,14 @@ returns-in-Some-clause-stands c = λ l h.
       items_are = ap frames_of items ∙ frames_filtered (λ f. not (is_frame made f)) ss ∙ ap (without made_of made) (kept ∙ h.items_are);
       in_order = in_order_filter (λ f. not (is_frame made f)) l h.in_order;
       children_are = subst (AreChildren k) (sym items) (All-filter (λ x. not (place x == made))
-      (λ r. r.children ≡ count_by (is_child_at (place r)) k) ss
+          (λ r. r.children ≡ count_by (is_child_at (place r)) k) ss
           (children_turned parent fewer l k rs (λ r. refl)
           (λ r e yes. let one = ap {B = ℕ} (λ b. cond b 1 0) yes in omega (arith, e, count (place r), one))
           (λ m no. let none = ap {B = ℕ} (λ b. cond b 1 0) no in omega (arith, count m, none)) h.children_are));
       stacks_are = subst (AreStacks c.pop.new.self) (sym items) (λ s.
-          let top = top_in t.stacks s in
-          subst (λ (o : Option ℕ). IsStack s o (without place made ss)) (sym (c.pop.ensures s))
-          (closed s made i ss r top within value (ap place value ∙ there r)
-          (turns s rs parent fewer (λ r part. record { made = refl; part = part; below = refl }) top (h.stacks_are s))
-          (takes_part s r.frame) refl));
+          subst (λ m. IsStack s (top_in c.pop.new.self s) (without place m ss)) (ap place value ∙ there r)
+          (c.pop.ensures s ss (i, within, sym value)
+          (turns s rs parent fewer (λ r part. record { made = refl; part = part; below = refl }) (top_in t.stacks s) (h.stacks_are s))));
     }
 
 pub returns-in_default-clause-stands : goal.returns-in_default-clause-stands

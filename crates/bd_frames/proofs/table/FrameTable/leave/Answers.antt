@@ -16,10 +16,10 @@ gone seat (Some b) rs =
     All-map (IsLinked seat b (map (left_row seat) rs)) (left_row seat) rs
     (λ k d lt part. let no = sym part ∙ left_gone seat (get_or rs k d).frame in absurd (cc no))
 
-forgotten : (seat s : ℕ) (in_range : Bool) (top : Option ℕ) (rs : List Row) → IsStack s top rs → (b : Bool) → (seat == s) ≡ b
-    → IsStack s (cond (b && in_range) (Some 0) top) (map (left_row seat) rs)
-forgotten seat s in_range top rs st true e = rw (eqb-true seat s e) (gone s (cond in_range (Some 0) top) rs)
-forgotten seat s in_range top rs st false e = mapped s rs (left_row seat) (left_keeps seat s e) top st
+forgotten : (seat s : ℕ) (rest top : Option ℕ) (rs : List Row) → IsStack s top rs → (b : Bool) → (seat == s) ≡ b
+    → IsStack s (cond b rest top) (map (left_row seat) rs)
+forgotten seat s rest top rs st true e = rw (eqb-true seat s e) (gone s rest rs)
+forgotten seat s rest top rs st false e = mapped s rs (left_row seat) (left_keeps seat s e) top st
 
 pub returns-clause-stands : goal.returns-clause-stands
 returns-clause-stands c = λ l h.
@@ -29,4 +29,4 @@ returns-clause-stands c = λ l h.
     all_changed t l h _ (left_frame seat) (left_row seat) (λ x. (refl, refl)) (λ r. refl) (λ r. refl)
     (c.leave_down.ensures.rows (own_rising t l h) (own_stack t l h seat _ c.top_of-top.ensures))
     (λ s. subst (λ (o : Option ℕ). IsStack s o (map (left_row seat) rs)) (sym (c.forget.ensures s))
-    (forgotten seat s (nat_lt s (length t.stacks.tops)) (top_in t.stacks s) rs (h.stacks_are s) (seat == s) refl))
+    (forgotten seat s t.stacks.rest (top_in t.stacks s) rs (h.stacks_are s) (seat == s) refl))

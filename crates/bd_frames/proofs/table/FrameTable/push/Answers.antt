@@ -12,7 +12,7 @@ use Rattle.bd_frames.specs.Linked.{IsStack, AreStacks, top_in, put_top}
 use Rattle.bd_frames.proofs.InOrder.{in_order_push}
 use Rattle.bd_frames.proofs.Counting.{count_push, count_few, no_child, children_turned}
 use Rattle.bd_frames.proofs.Alike.{pending_calls}
-use Rattle.bd_frames.proofs.Stacking.{From, Comes, itself, stays, put_on, turns}
+use Rattle.bd_frames.proofs.Stacking.{From, Comes, itself, stays, put_on, turns, covered}
 use Rattle.bd_frames.proofs.Standing.{own_rising, frames_kept}
 use Rattle.bd_frames.proofs.table.FrameTable.push.Goals as goal
 
@@ -46,7 +46,7 @@ returns-clause-stands c = λ l h next.
     let k = l ++ x ∷ [] in
     record {
       items_are = ap frames_of items ∙ map-append (λ (x : Row). x.frame) ss (r ∷ [])
-      ∙ ap (λ fs. fs ++ x ∷ []) (frames_kept x.parent more (λ r. refl) rs ∙ h.items_are);
+          ∙ ap (λ fs. fs ++ x ∷ []) (frames_kept x.parent more (λ r. refl) rs ∙ h.items_are);
       in_order = in_order_push l x h.in_order next;
       children_are = subst (AreChildren k) (sym items) (All-push (λ r. r.children ≡ count_by (is_child_at (place r)) k) ss r
           (children_turned x.parent more l k rs (λ r. refl)
@@ -58,7 +58,7 @@ returns-clause-stands c = λ l h next.
           (no_child l x h.in_order next));
       stacks_are = subst (AreStacks c.put-caller.new.self) (sym items) (λ s.
           let top = top_in t.stacks s in
-          subst (λ (o : Option ℕ). IsStack s o (ss ++ r ∷ [])) (sym (c.put-caller.ensures.tops s))
+          covered s _ _ (ss ++ r ∷ []) (c.put-caller.ensures.tops s)
           (pushed s ss r top (turns s rs x.parent more (λ r part. record { made = refl; part = part; below = refl }) top (h.stacks_are s))
           (pending_calls s x next.unread) (calls s x) refl
           (λ own. c.put-caller.ensures.below ∙ ap (option_and_then (top_in t.stacks)) (is_seat x.caller s own))));

@@ -10,7 +10,7 @@ use Rattle.bd_frames.specs.Stands.{FramesAre}
 use Rattle.bd_frames.specs.Places.{place}
 use Rattle.bd_frames.specs.Linked.{IsStack, top_in, put_top}
 use Rattle.bd_frames.proofs.Places.{turned_at}
-use Rattle.bd_frames.proofs.Stacking.{From, Comes, itself, stays, put_on}
+use Rattle.bd_frames.proofs.Stacking.{From, Comes, itself, stays, put_on, covered}
 use Rattle.bd_frames.proofs.Standing.{own_rising, nowhere, one_changed}
 use Rattle.bd_frames.proofs.table.FrameTable.serve.Goals as goal
 use Rattle.bd_frames.proofs.table.FrameTable.serve.Goals.{then-is_own, else-is_own}
@@ -65,12 +65,13 @@ returns-after-is_own-clause-stands c = λ l h.
     (λ s.
     let top = top_in t.stacks s in
     subst (IsStack s (top_in c.put-server.new.self s)) is
+    (covered s _ _ (set rs i (g d)) (c.put-server.ensures.tops s)
     (subst (λ (o : Option ℕ). IsStack s o (set rs i (g d)))
     (ap (λ n. cond (is_some_and (cond (calls seat d.frame) None (Some seat)) (λ t. t == s)) (put_top n top) top) there
-    ∙ ap (λ o. cond (is_some_and o (λ t. t == s)) (put_top made top) top) (sym asked) ∙ sym (c.put-server.ensures.tops s))
+    ∙ ap (λ o. cond (is_some_and o (λ t. t == s)) (put_top made top) top) (sym asked))
     (served_on s seat rs i d link top lt c.index.ensures (h.stacks_are s) (calls seat d.frame) refl (seat == s) refl
     (λ own same. c.put-server.ensures.below ∙ ap (option_and_then (top_in t.stacks)) (asked ∙ ap (λ b. cond b None (Some seat)) own)
-    ∙ ap (top_in t.stacks) (eqb-true seat s same)))))
+    ∙ ap (top_in t.stacks) (eqb-true seat s same))))))
 
 pub returns-in_default-clause-stands : goal.returns-in_default-clause-stands
 returns-in_default-clause-stands c = λ l h.
