@@ -26,17 +26,7 @@ module _ {T : Type 0} where
 
   pub at_more : (k : ℕ) (rs : List (Row T)) (r : Row T) → row_at r.key rs ≡ None → row_at k (rs ++ r ∷ []) ≡ cond (r.key == k) (Some (r.list, r.held)) (row_at k rs)
   at_more k [] r new = refl
-  at_more k (q ∷ rs) r new = at (q.key == k) (q.key == r.key) refl refl new (λ h. at_more k rs r h)
-    where
-      at : (b d : Bool) → (q.key == k) ≡ b → (q.key == r.key) ≡ d → cond d (Some (q.list, q.held)) (row_at r.key rs) ≡ None
-          → (row_at r.key rs ≡ None → row_at k (rs ++ r ∷ []) ≡ cond (r.key == k) (Some (r.list, r.held)) (row_at k rs))
-          → cond b (Some (q.list, q.held)) (row_at k (rs ++ r ∷ [])) ≡ cond (r.key == k) (Some (r.list, r.held)) (cond b (Some (q.list, q.held)) (row_at k rs))
-      at b true e f h more = absurd (cc)
-      at true false e f h more = rw (other) refl
-        where
-          other : (r.key == k) ≡ false
-          other = grind arith
-      at false false e f h more = more h
+  at_more k (q ∷ rs) r new = grind (arith, at_more k rs r)
 
   pub at_less : (k x : ℕ) (rs : List (Row T)) → row_at k (drop_key x rs) ≡ cond (x == k) None (row_at k rs)
   at_less k x [] = grind arith
@@ -81,19 +71,15 @@ module _ {T : Type 0} where
       at true e o off more = (tail o off, more (Some q.key) (restart q.key (keys rs) apart.1))
       at false e o off more = more o (rest o off)
 
+  pub drop_none : (x : ℕ) (rs : List (Row T)) → has x (keys rs) ≡ false → drop_key x rs ≡ rs
+  drop_none x [] h = refl
+  drop_none x (q ∷ rs) h = grind (arith, drop_none x rs)
+
   -- a list counts one less, if what was taken out of it was counted
   pub counted_less : (l x m : ℕ) (w : Held T) (p : Option ℕ) (rs : List (Row T)) → Apart p (keys rs) → row_at x rs ≡ Some (m, w)
       → counted_on l rs ≡ cond ((m == l) && w.counted) (counted_on l (drop_key x rs) + 1) (counted_on l (drop_key x rs))
   counted_less l x m w p [] apart h = grind arith
   counted_less l x m w p (q ∷ rs) apart h = grind (arith, counted_less l x m w (Some q.key) rs apart.1, drop_none x rs, restart q.key (keys rs) apart.1)
-    where
-      drop_none : (x : ℕ) (rs : List (Row T)) → has x (keys rs) ≡ false → drop_key x rs ≡ rs
-      drop_none x [] h = refl
-      drop_none x (q ∷ rs) h = grind (arith, drop_none x rs)
-
-  pub drop_none : (x : ℕ) (rs : List (Row T)) → has x (keys rs) ≡ false → drop_key x rs ≡ rs
-  drop_none x [] h = refl
-  drop_none x (q ∷ rs) h = grind (arith, drop_none x rs)
 
   pub on_keys : (l x : ℕ) (rs : List (Row T)) → has x (ring l rs) ≡ true → is_some (row_at x rs) ≡ true
   on_keys l x [] h = grind arith
@@ -113,10 +99,7 @@ module _ {T : Type 0} where
   none_counted l (q ∷ rs) h = grind (arith, none_counted l rs)
 
   pub none_on : (l x : ℕ) (w : Held T) (rs : List (Row T)) → ring l rs ≡ [] → row_at x rs ≡ Some (l, w) → ⊥
-  none_on l x w rs h is = clash (ap (has x) (sym h) ∙ on_ring l x w rs is)
-    where
-      clash : false ≡ true → ⊥
-      clash e = cc
+  none_on l x w rs h is = grind (arith, on_ring l x w rs is)
 
   pub ring_within : (l : ℕ) (rs : List (Row T)) → length (ring l rs) ≤ length rs
   ring_within l [] = omega arith
@@ -126,12 +109,7 @@ module _ {T : Type 0} where
 
   pub first_some : (l : ℕ) (rs : List (Row T)) → is_some (next_from None (ring l rs) None) ≡ is_some (slice_get (values_on l rs) 0)
   first_some l [] = refl
-  first_some l (q ∷ rs) = at (q.list == l) (first_some l rs)
-    where
-      at : (b : Bool) → is_some (next_from None (ring l rs) None) ≡ is_some (slice_get (values_on l rs) 0)
-          → is_some (next_from None (cond b (q.key ∷ ring l rs) (ring l rs)) None) ≡ is_some (slice_get (cond b (q.held.value ∷ values_on l rs) (values_on l rs)) 0)
-      at true e = refl
-      at false e = e
+  first_some l (q ∷ rs) = grind (arith, first_some l rs)
 
   pub first_in : (l x : ℕ) (rs : List (Row T)) → next_from None (ring l rs) None ≡ Some x → has x (keys rs) ≡ true
   first_in l x [] h = grind arith
@@ -139,22 +117,5 @@ module _ {T : Type 0} where
 
   pub first_value : (l x : ℕ) (p : Option ℕ) (rs : List (Row T)) → Apart p (keys rs) → next_from None (ring l rs) None ≡ Some x
       → slice_get (values_on l rs) 0 ≡ option_map (λ (v : ℕ × Held T). v.1.value) (row_at x rs)
-  first_value l x p [] apart h = absurd (none_some h)
-    where
-      none_some : None ≡ Some x → ⊥
-      none_some e = cc
-  first_value l x p (q ∷ rs) apart h = at (q.list == l) (q.key == x) refl refl h (first_value l x (Some q.key) rs apart.1)
-    where
-      at : (b c : Bool) → (q.list == l) ≡ b → (q.key == x) ≡ c → next_from None (cond b (q.key ∷ ring l rs) (ring l rs)) None ≡ Some x
-          → (next_from None (ring l rs) None ≡ Some x → slice_get (values_on l rs) 0 ≡ option_map (λ (v : ℕ × Held T). v.1.value) (row_at x rs))
-          → slice_get (cond b (q.held.value ∷ values_on l rs) (values_on l rs)) 0 ≡ option_map (λ (v : ℕ × Held T). v.1.value) (cond c (Some (q.list, q.held)) (row_at x rs))
-      at true true e f h more = refl
-      at true false e f h more = absurd (no e f h)
-        where
-          no : (q.list == l) ≡ true → (q.key == x) ≡ false → Some q.key ≡ Some x → ⊥
-          no e f h = grind arith
-      at false true e f h more = absurd (no f (first_in l x rs h))
-        where
-          no : (q.key == x) ≡ true → has x (keys rs) ≡ true → ⊥
-          no f g = grind (arith, restart q.key (keys rs) apart.1)
-      at false false e f h more = more h
+  first_value l x p [] apart h = grind arith
+  first_value l x p (q ∷ rs) apart h = grind (arith, first_value l x (Some q.key) rs apart.1, first_in l x rs, restart q.key (keys rs) apart.1)

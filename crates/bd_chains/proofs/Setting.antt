@@ -12,49 +12,25 @@ use Rattle.bd_chains.specs.Setting.{set_held, set_row, with_value}
 use Rattle.bd_chains.specs.Columns.{next_at, prev_at, shown, ends_of, is_open, Holds}
 
 module _ {T : Type 0} (x : ℕ) (v : T) where
-  -- a row keeps its slot and its list
-  row_same : {A : Type 0} (f : Row T → A) (r : Row T) → f (set_row v r) ≡ f r → (b : Bool) → f (cond b (set_row v r) r) ≡ f r
-  row_same f r e true = e
-  row_same f r e false = refl
-
   pub keys_set : (rs : List (Row T)) → keys (with_value x v rs) ≡ keys rs
   keys_set [] = refl
-  keys_set (r ∷ rs) = rw (row_same (λ (s : Row T). s.key) r refl (r.key == x), keys_set rs) refl
+  keys_set (r ∷ rs) = grind (arith, keys_set rs)
 
   pub length_set : (rs : List (Row T)) → length (with_value x v rs) ≡ length rs
   length_set [] = refl
-  length_set (r ∷ rs) = let n = length_set rs in omega (arith, n)
+  length_set (r ∷ rs) = grind (arith, length_set rs)
 
   pub ring_set : (l : ℕ) (rs : List (Row T)) → ring l (with_value x v rs) ≡ ring l rs
   ring_set l [] = refl
-  ring_set l (r ∷ rs) = rw (row_same (λ (s : Row T). s.key) r refl (r.key == x), row_same (λ (s : Row T). s.list) r refl (r.key == x), ring_set l rs) refl
+  ring_set l (r ∷ rs) = grind (arith, ring_set l rs)
 
   pub counted_set : (l : ℕ) (rs : List (Row T)) → counted_on l (with_value x v rs) ≡ counted_on l rs
   counted_set l [] = refl
-  counted_set l (r ∷ rs) = rw (row_same (λ (s : Row T). s.list) r refl (r.key == x), row_same (λ (s : Row T). s.held.counted) r refl (r.key == x), counted_set l rs) refl
+  counted_set l (r ∷ rs) = grind (arith, counted_set l rs)
 
   pub at_set : (k : ℕ) (rs : List (Row T)) → row_at k (with_value x v rs) ≡ cond (x == k) (option_map (set_held v) (row_at k rs)) (row_at k rs)
-  at_set k [] = same (x == k)
-    where
-      same : (b : Bool) → ◌≡◌ {A = Option (ℕ × Held T)} None (cond b None None)
-      same true = refl
-      same false = refl
-  at_set k (r ∷ rs) = at (r.key == x) (r.key == k) (x == k) refl refl refl (at_set k rs)
-    where
-      clash : {b : Bool} → b ≡ true → b ≡ false → ⊥
-      clash h k = cc
-
-      at : (b c d : Bool) → (r.key == x) ≡ b → (r.key == k) ≡ c → (x == k) ≡ d
-          → row_at k (with_value x v rs) ≡ cond d (option_map (set_held v) (row_at k rs)) (row_at k rs)
-          → row_at k (cond b (set_row v r) r ∷ with_value x v rs) ≡ cond d (option_map (set_held v) (cond c (Some (r.list, r.held)) (row_at k rs))) (cond c (Some (r.list, r.held)) (row_at k rs))
-      at true true true e f g more = ap (λ c. cond c (Some (r.list, record r.held { value = v })) (row_at k (with_value x v rs))) f
-      at true true false e f g more = absurd (clash (eq-eqb x k (sym (eqb-true r.key x e) ∙ eqb-true r.key k f)) g)
-      at true false true e f g more = absurd (clash (eq-eqb r.key k (eqb-true r.key x e ∙ eqb-true x k g)) f)
-      at true false false e f g more = ap (λ c. cond c (Some (r.list, record r.held { value = v })) (row_at k (with_value x v rs))) f ∙ more
-      at false true true e f g more = absurd (clash (eq-eqb r.key x (eqb-true r.key k f ∙ sym (eqb-true x k g))) e)
-      at false true false e f g more = ap (λ c. cond c (Some (r.list, r.held)) (row_at k (with_value x v rs))) f
-      at false false true e f g more = ap (λ c. cond c (Some (r.list, r.held)) (row_at k (with_value x v rs))) f ∙ more
-      at false false false e f g more = ap (λ c. cond c (Some (r.list, r.held)) (row_at k (with_value x v rs))) f ∙ more
+  at_set k [] = grind arith
+  at_set k (r ∷ rs) = grind (arith, at_set k rs)
 
   pub set_holds : (t u : Chains T) (rs : List (Row T)) → Holds t rs → ((k : ℕ) → shown u k ≡ cond (x == k) (option_map (set_held v) (shown t k)) (shown t k))
       → ((m : ℕ) (o : Option ℕ) → next_at u m o ≡ next_at t m o) → ((m : ℕ) (o : Option ℕ) → prev_at u m o ≡ prev_at t m o)
