@@ -4,7 +4,6 @@ use Rattle.std.specs.List.{list_any, slice_get}
 use Rattle.std.specs.Option.{is_some}
 use Rattle.std.specs.Iterator.{YieldsFirst}
 use Rattle.bd_chains.specs.declared.chains.Chains.{Chains}
-use Rattle.bd_chains.specs.Chain.{next_from}
 use Rattle.bd_chains.specs.Rows.{Row, ring, values, values_on, counted_on, drop_key}
 use Rattle.bd_chains.specs.Columns.{is_open, Holds}
 use Rattle.bd_chains.specs.Lists.{AreListed, Shows}
@@ -19,9 +18,9 @@ clash : {b : Bool} → b ≡ true → b ≡ false → ⊥
 clash a b = cc
 
 -- the first on a list is none: nothing is on it
-pub empty_ring : (ks : List ℕ) → next_from None ks None ≡ None → ks ≡ []
+pub empty_ring : (ks : List ℕ) → slice_get ks 0 ≡ None → ks ≡ []
 empty_ring [] e = refl
-empty_ring (k ∷ ks) e = absurd (none_is (sym e))
+empty_ring (k ∷ ks) e = cc
 
 pub none_from : (o : Option ℕ) → is_some o ≡ false → o ≡ None
 none_from None e = refl

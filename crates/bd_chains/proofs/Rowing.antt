@@ -1,11 +1,10 @@
 -- Rows of values: their keys, lists and counts, where one is added or taken out.
 use Rattle.std.proofs.Common.{◌≡◌, ℕ, ◌+◌, ◌≤◌, ◌==◌, ◌&&◌, length, is_some, Bool, true, false, cond, List, [], ◌∷◌, ◌++◌, Option, Some, None, refl, sym, ap, ◌∙◌, arith}
 use Rattle.bd_chains.specs.declared.links.Held.{Held}
-use Rattle.bd_chains.specs.Chain.{has, has_end, next_from, Apart, without}
+use Rattle.bd_chains.specs.Chain.{has, distinct, without}
 use Rattle.std.specs.Prelude.{option_map}
 use Rattle.std.specs.List.{slice_get}
 use Rattle.bd_chains.specs.Rows.{Row, keys, ring, values_on, row_at, counted_on, drop_key}
-use Rattle.bd_chains.proofs.Order.{restart}
 
 module _ {T : Type 0} where
   pub ring_more : (l : ℕ) (rs : List (Row T)) (r : Row T) → ring l (rs ++ r ∷ []) ≡ cond (r.list == l) (ring l rs ++ r.key ∷ []) (ring l rs)
@@ -50,36 +49,23 @@ module _ {T : Type 0} where
   on_ring l x w (q ∷ rs) h = grind (arith, on_ring l x w rs)
 
   -- each key is on one list alone
-  pub one_ring : (l m x : ℕ) (p : Option ℕ) (rs : List (Row T)) → Apart p (keys rs) → has x (ring l rs) ≡ true → (l == m) ≡ false → has x (ring m rs) ≡ false
-  one_ring l m x p [] apart h differ = refl
-  one_ring l m x p (q ∷ rs) apart h differ = grind (arith, one_ring l m x (Some q.key) rs apart.1, off_ring m x rs, off_ring l x rs, apart.1, restart)
+  pub one_ring : (l m x : ℕ) (rs : List (Row T)) → distinct (keys rs) ≡ true → has x (ring l rs) ≡ true → (l == m) ≡ false → has x (ring m rs) ≡ false
+  one_ring l m x [] apart h differ = refl
+  one_ring l m x (q ∷ rs) apart h differ = grind (arith, one_ring l m x rs, off_ring m x rs, off_ring l x rs)
 
-  pub apart_ring : (l : ℕ) (p o : Option ℕ) (rs : List (Row T)) → Apart p (keys rs) → has_end o (keys rs) ≡ false → Apart o (ring l rs)
-  apart_ring l p o [] apart off = tt
-  apart_ring l p o (q ∷ rs) apart off = at (q.list == l) refl o off (λ z h. apart_ring l (Some q.key) z rs apart.1 h)
-    where
-      tail : (o : Option ℕ) → has_end o (q.key ∷ keys rs) ≡ false → has_end o (q.key ∷ ring l rs) ≡ false
-      tail None h = refl
-      tail (Some z) h = grind (arith, off_ring l z rs)
-
-      rest : (o : Option ℕ) → has_end o (q.key ∷ keys rs) ≡ false → has_end o (keys rs) ≡ false
-      rest None h = refl
-      rest (Some z) h = grind arith
-
-      at : (b : Bool) → (q.list == l) ≡ b → (o : Option ℕ) → has_end o (q.key ∷ keys rs) ≡ false → ((z : Option ℕ) → has_end z (keys rs) ≡ false → Apart z (ring l rs))
-          → Apart o (cond b (q.key ∷ ring l rs) (ring l rs))
-      at true e o off more = (tail o off, more (Some q.key) (restart q.key (keys rs) apart.1))
-      at false e o off more = more o (rest o off)
+  pub apart_ring : (l : ℕ) (rs : List (Row T)) → distinct (keys rs) ≡ true → distinct (ring l rs) ≡ true
+  apart_ring l [] apart = refl
+  apart_ring l (q ∷ rs) apart = grind (arith, apart_ring l rs, off_ring l q.key rs)
 
   pub drop_none : (x : ℕ) (rs : List (Row T)) → has x (keys rs) ≡ false → drop_key x rs ≡ rs
   drop_none x [] h = refl
   drop_none x (q ∷ rs) h = grind (arith, drop_none x rs)
 
   -- a list counts one less, if what was taken out of it was counted
-  pub counted_less : (l x m : ℕ) (w : Held T) (p : Option ℕ) (rs : List (Row T)) → Apart p (keys rs) → row_at x rs ≡ Some (m, w)
+  pub counted_less : (l x m : ℕ) (w : Held T) (rs : List (Row T)) → distinct (keys rs) ≡ true → row_at x rs ≡ Some (m, w)
       → counted_on l rs ≡ cond ((m == l) && w.counted) (counted_on l (drop_key x rs) + 1) (counted_on l (drop_key x rs))
-  counted_less l x m w p [] apart h = grind arith
-  counted_less l x m w p (q ∷ rs) apart h = grind (arith, counted_less l x m w (Some q.key) rs apart.1, drop_none x rs, restart q.key (keys rs) apart.1)
+  counted_less l x m w [] apart h = grind arith
+  counted_less l x m w (q ∷ rs) apart h = grind (arith, counted_less l x m w rs, drop_none x rs)
 
   pub on_keys : (l x : ℕ) (rs : List (Row T)) → has x (ring l rs) ≡ true → is_some (row_at x rs) ≡ true
   on_keys l x [] h = grind arith
@@ -89,17 +75,14 @@ module _ {T : Type 0} where
   counted_within l [] = omega arith
   counted_within l (q ∷ rs) = grind (arith, counted_within l rs)
 
-  pub length_less : (x l : ℕ) (w : Held T) (p : Option ℕ) (rs : List (Row T)) → Apart p (keys rs) → row_at x rs ≡ Some (l, w) → length (drop_key x rs) + 1 ≡ length rs
-  length_less x l w p [] apart h = grind arith
-  length_less x l w p (q ∷ rs) apart h = grind (arith, length_less x l w (Some q.key) rs apart.1, drop_none x rs, restart q.key (keys rs) apart.1)
+  pub length_less : (x l : ℕ) (w : Held T) (rs : List (Row T)) → distinct (keys rs) ≡ true → row_at x rs ≡ Some (l, w) → length (drop_key x rs) + 1 ≡ length rs
+  length_less x l w [] apart h = grind arith
+  length_less x l w (q ∷ rs) apart h = grind (arith, length_less x l w rs, drop_none x rs)
 
-  -- on a list on which nothing is, none is counted, and no slot is
+  -- on a list on which nothing is, none is counted
   pub none_counted : (l : ℕ) (rs : List (Row T)) → ring l rs ≡ [] → counted_on l rs ≡ 0
   none_counted l [] h = refl
   none_counted l (q ∷ rs) h = grind (arith, none_counted l rs)
-
-  pub none_on : (l x : ℕ) (w : Held T) (rs : List (Row T)) → ring l rs ≡ [] → row_at x rs ≡ Some (l, w) → ⊥
-  none_on l x w rs h is = grind (arith, on_ring l x w rs is)
 
   pub ring_within : (l : ℕ) (rs : List (Row T)) → length (ring l rs) ≤ length rs
   ring_within l [] = omega arith
@@ -107,15 +90,15 @@ module _ {T : Type 0} where
 
   -- ---- the first on a list
 
-  pub first_some : (l : ℕ) (rs : List (Row T)) → is_some (next_from None (ring l rs) None) ≡ is_some (slice_get (values_on l rs) 0)
+  pub first_some : (l : ℕ) (rs : List (Row T)) → is_some (slice_get (ring l rs) 0) ≡ is_some (slice_get (values_on l rs) 0)
   first_some l [] = refl
   first_some l (q ∷ rs) = grind (arith, first_some l rs)
 
-  pub first_in : (l x : ℕ) (rs : List (Row T)) → next_from None (ring l rs) None ≡ Some x → has x (keys rs) ≡ true
+  pub first_in : (l x : ℕ) (rs : List (Row T)) → slice_get (ring l rs) 0 ≡ Some x → has x (keys rs) ≡ true
   first_in l x [] h = grind arith
   first_in l x (q ∷ rs) h = grind (arith, first_in l x rs)
 
-  pub first_value : (l x : ℕ) (p : Option ℕ) (rs : List (Row T)) → Apart p (keys rs) → next_from None (ring l rs) None ≡ Some x
+  pub first_value : (l x : ℕ) (rs : List (Row T)) → distinct (keys rs) ≡ true → slice_get (ring l rs) 0 ≡ Some x
       → slice_get (values_on l rs) 0 ≡ option_map (λ (v : ℕ × Held T). v.1.value) (row_at x rs)
-  first_value l x p [] apart h = grind arith
-  first_value l x p (q ∷ rs) apart h = grind (arith, first_value l x (Some q.key) rs apart.1, first_in l x rs, restart q.key (keys rs) apart.1)
+  first_value l x [] apart h = grind arith
+  first_value l x (q ∷ rs) apart h = grind (arith, first_value l x rs, first_in l x rs)

@@ -6,9 +6,10 @@ use Rattle.slab.specs.Slab.{Slab, get, slab_len}
 use Rattle.bd_chains.specs.declared.links.Held.{Held}
 use Rattle.bd_chains.specs.declared.links.Ends.{Ends}
 use Rattle.bd_chains.specs.declared.chains.Chains.{Chains}
-use Rattle.bd_chains.specs.Chain.{next_from, prev_from, Apart}
-use Rattle.bd_chains.specs.Rows.{Row, keys, ring, row_at, counted_on, is_end}
+use Rattle.bd_chains.specs.Chain.{distinct}
+use Rattle.bd_chains.specs.Rows.{Row, keys, ring, row_at, counted_on}
 use Rattle.bd_chains.specs.Setting.{set_held, set_row, with_value}
+use Rattle.bd_chains.proofs.Order.{linked_same}
 use Rattle.bd_chains.specs.Columns.{next_at, prev_at, shown, ends_of, is_open, Holds}
 
 module _ {T : Type 0} (x : ℕ) (v : T) where
@@ -36,13 +37,10 @@ module _ {T : Type 0} (x : ℕ) (v : T) where
       → ((m : ℕ) (o : Option ℕ) → next_at u m o ≡ next_at t m o) → ((m : ℕ) (o : Option ℕ) → prev_at u m o ≡ prev_at t m o)
       → u.ends ≡ t.ends → slab_len u.items ≡ slab_len t.items → Holds u (with_value x v rs)
   set_holds t u rs h shows nexts prevs ends len = record {
-    stands = record {
-      apart = subst (Apart None) (sym (keys_set rs)) h.stands.apart;
-      shown = λ k. shows k ∙ ap (λ s. cond (x == k) (option_map (set_held v) s) s) (h.stands.shown k) ∙ sym (at_set k rs);
-      nexts = λ l o on. nexts l o ∙ h.stands.nexts l o (subst (λ ks. is_end o ks ≡ true) (ring_set l rs) on) ∙ sym (ap (λ ks. next_from None ks o) (ring_set l rs));
-      prevs = λ l o on. prevs l o ∙ h.stands.prevs l o (subst (λ ks. is_end o ks ≡ true) (ring_set l rs) on) ∙ sym (ap (λ ks. prev_from None ks o) (ring_set l rs));
-      counts = λ l. ap (λ (s : Slab Ends). (ends_of (get s l)).counted) ends ∙ h.stands.counts l ∙ sym (counted_set l rs);
-    };
+    apart = rw (keys_set rs) h.apart;
+    shown_are = λ k. grind (arith, shows k, h.shown_are k, at_set k rs);
+    linked = λ l. rw (ring_set l rs) (linked_same (next_at t l) (prev_at t l) (next_at u l) (prev_at u l) None (ring l rs) (h.linked l) (nexts l None) (prevs l None) (λ z on. (nexts l (Some z), prevs l (Some z))));
+    counts = λ l. grind (arith, h.counts l, counted_set l rs);
     within = λ k l w is. ap (λ (s : Slab Ends). is_some (get s l)) ends ∙ listed k l w (x == k) (shown t k) refl (sym (shows k) ∙ is);
     len = len ∙ h.len ∙ sym (length_set rs);
   }

@@ -5,7 +5,8 @@ use Rattle.bd_chains.specs.declared.links.Held.{Held}
 use Rattle.bd_chains.specs.declared.links.Item.{Item}
 use Rattle.bd_chains.specs.declared.links.Ends.{Ends}
 use Rattle.bd_chains.specs.declared.chains.Chains.{Chains}
-use Rattle.bd_chains.specs.Rows.{Row, Stands}
+use Rattle.bd_chains.specs.Chain.{distinct, Linked}
+use Rattle.bd_chains.specs.Rows.{Row, keys, ring, row_at, counted_on}
 
 -- a list's record: of a list that isn't there it is that of one on which nothing is
 abbrev pub ends_of : Option Ends → Ends
@@ -52,7 +53,10 @@ module _ {T : Type 0} where
 
   -- the table holds these values in this order, each on a list that was opened
   pub record Holds (t : Chains T) (rs : List (Row T)) : Type 0 where
-    pub stands : Stands (next_at t) (prev_at t) (shown t) (count_at t) rs
+    pub apart : distinct (keys rs) ≡ true
+    pub shown_are : (k : ℕ) → shown t k ≡ row_at k rs
+    pub linked : (l : ℕ) → Linked (next_at t l) (prev_at t l) None (ring l rs)
+    pub counts : (l : ℕ) → count_at t l ≡ counted_on l rs
     pub within : (k l : ℕ) (v : Held T) → shown t k ≡ Some (l, v) → is_open t l ≡ true
     pub len : slab_len t.items ≡ length rs
 

@@ -1,18 +1,12 @@
 -- Values of any lists as rows, each behind those that came before it.
-use Rattle.std.specs.Prelude.{ℕ, ◌≡◌, ◌==◌, ◌+◌, Bool, true, false, ◌&&◌, List, [], ◌∷◌, Option, Some, None, if◌then◌else◌}
+use Rattle.std.specs.Prelude.{ℕ, ◌==◌, ◌+◌, Bool, false, ◌&&◌, List, [], ◌∷◌, Option, Some, None, if◌then◌else◌}
 use Rattle.bd_chains.specs.declared.links.Held.{Held}
-use Rattle.bd_chains.specs.Chain.{has, next_from, prev_from, Apart}
 
 -- one of them: its slot, its list and what it holds
 pub record Row (T : Type 0) : Type 0 where
   pub key : ℕ
   pub list : ℕ
   pub held : Held T
-
--- the list itself, or a key on it
-abbrev pub is_end : Option ℕ → List ℕ → Bool
-is_end None xs = true
-is_end (Some x) xs = has x xs
 
 -- a link written after a key on list l is the one after o on list m: None stands for the list itself
 abbrev pub hits : ℕ → Option ℕ → ℕ → Option ℕ → Bool
@@ -53,11 +47,3 @@ module _ {T : Type 0} where
   abbrev pub drop_key : ℕ → List (Row T) → List (Row T)
   drop_key x [] = []
   drop_key x (r ∷ rs) = if r.key == x then drop_key x rs else r ∷ drop_key x rs
-
-  -- what each slot says agrees with the order: N and P are the neighbours on a list, S what stands in a slot, B a list's count
-  pub record Stands (N P : ℕ → Option ℕ → Option ℕ) (S : ℕ → Option (ℕ × Held T)) (B : ℕ → ℕ) (rs : List (Row T)) : Type 0 where
-    pub apart : Apart None (keys rs)
-    pub shown : (k : ℕ) → S k ≡ row_at k rs
-    pub nexts : (l : ℕ) (o : Option ℕ) → is_end o (ring l rs) ≡ true → N l o ≡ next_from None (ring l rs) o
-    pub prevs : (l : ℕ) (o : Option ℕ) → is_end o (ring l rs) ≡ true → P l o ≡ prev_from None (ring l rs) o
-    pub counts : (l : ℕ) → B l ≡ counted_on l rs

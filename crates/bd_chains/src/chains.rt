@@ -60,9 +60,10 @@ fn end_or(at: Option<usize>, to: Option<usize>, was: Option<usize>) -> Option<us
 }
 
 impl<T: Copy> Chains<T> {
+    ghost use Rattle.std.specs.List.{slice_get};
     ghost use Rattle.slab.specs.Slab.{get, slab_len};
     ghost use Rattle.bd_keys.specs.Tables.{Makes, Tells};
-    ghost use Rattle.bd_chains.specs.Chain.{is_at, are_at, next_from};
+    ghost use Rattle.bd_chains.specs.Chain.{is_at, are_at};
     ghost use Rattle.bd_chains.specs.Rows.{Row, ring, values_on, counted_on, hits, drop_key};
     ghost use Rattle.bd_chains.specs.Columns.{next_at, prev_at, shown, value_at, ends_at, count_at, is_open, is_there, Holds, item_room, list_room, room_of};
 
@@ -215,8 +216,9 @@ impl<T: Copy> Chains<T> {
     }
 
     /// The slot of the first value on a list.
+    #[tactic(auto, using(crate::proofs::Walking::first_is))]
     pub fn first(&self, list: usize) -> Option<usize>
-        ensures { Tells (Holds self.now) result (λ rs. next_from None (ring list rs) None) }
+        ensures { Tells (Holds self.now) result (λ rs. slice_get (ring list rs) 0) }
     {
         self.ends_at(list).first
     }

@@ -1,14 +1,12 @@
 pub mod Fits
 pub mod Plain
-pub mod Each
 pub mod ListKeys
 pub mod HeadRows
-pub mod Rows
 pub mod OnList
-pub mod Queueing
-pub mod Dating
-pub mod Fronts
 pub mod SoughtCounts
+pub mod Rows
+pub mod Queueing
+pub mod Fronts
 pub mod Registering
 pub mod Sweeping
 pub mod WorksStand

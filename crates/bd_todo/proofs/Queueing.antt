@@ -1,24 +1,22 @@
 -- The queues after a change.
 use Rattle.std.proofs.Common.{◌≡◌, ℕ, true, false, List, [], filter, Option, Some, None, IfSome, is_some, refl, sym, ap, ◌∙◌}
-use Rattle.std.specs.Prelude.{option_map, nat_lt, ◌&&◌}
+use Rattle.std.specs.Prelude.{nat_lt, ◌&&◌}
 use Rattle.std.specs.List.{list_any, slice_get}
 use Rattle.bd_space.specs.declared.space.Work.{Work}
 use Rattle.bd_space.specs.declared.space.TodoList.{TodoList}
-use Rattle.bd_space.specs.Words.{without_first}
+use Rattle.bd_space.specs.Words.{is_some_and}
 use Rattle.bd_space.specs.Todo.{same_list, is_on, work_on, keeps_from_calling}
-use Rattle.bd_chains.specs.declared.links.Held.{Held}
-use Rattle.bd_chains.specs.Chain.{next_from}
 use Rattle.bd_chains.specs.Rows.{Row, ring, values_on, counted_on}
 use Rattle.bd_chains.specs.Columns.{is_open, Holds}
-use Rattle.bd_chains.proofs.Rowing.{first_some, first_value}
+use Rattle.bd_chains.proofs.Rowing.{first_some}
 use Rattle.bd_chains.proofs.Walking.{values_walked}
 use Rattle.bd_todo.specs.Heads.{head_at}
-use Rattle.bd_todo.specs.QueuesStand.{list_of, keeps, Stands, FrontIn}
+use Rattle.bd_todo.specs.QueuesStand.{list_of, keeps, Shows, Stands, IsFront}
 use Rattle.bd_todo.specs.declared.queues.Queues.{Queues}
 use Rattle.bd_todo.proofs.ListKeys.{same_list_eq}
 use Rattle.bd_todo.proofs.OnList.{any_first}
 use Rattle.bd_chains.proofs.Listing.{kept_shows, on_list, none_there, counted_there, none_counted_there}
-use Rattle.bd_todo.proofs.Rows.{front_dropped}
+use Rattle.bd_todo.proofs.Rows.{work_is, front_dropped, front_on}
 
 -- what is on the same list has the same number
 pub alike : (t : Queues) (l m : TodoList) → same_list l m ≡ true → head_at t.lists l ≡ head_at t.lists m
@@ -39,24 +37,18 @@ module _ (t : Queues) (todo : List Work) (s : Stands t todo) (list : TodoList) w
   pub no_unread : head_at t.lists list ≡ None → false ≡ list_any (λ w. is_on list w && keeps_from_calling w.kind) todo
   no_unread none = none_counted_there list_of keeps same_list (head_at t.lists) t.chains (alike t) s.rows s.shows list none s.rows s.shows.listed ∙ ap (list_any (λ (w : Work). is_on list w && keeps_from_calling w.kind)) s.works_are
 
-  pub front_any : (h : ℕ) (x : Option ℕ) → head_at t.lists list ≡ Some h → x ≡ next_from None (ring h s.rows) None → is_some x ≡ list_any (is_on list) todo
+  pub front_any : (h : ℕ) (x : Option ℕ) → head_at t.lists list ≡ Some h → x ≡ slice_get (ring h s.rows) 0 → is_some x ≡ list_any (is_on list) todo
   front_any h x is first = ap is_some first ∙ first_some h s.rows ∙ ap (λ ws. is_some (slice_get ws 0)) (works_are h is) ∙ any_first (is_on list) todo
 
   pub no_front_any : head_at t.lists list ≡ None → false ≡ list_any (is_on list) todo
   no_front_any none = ap (λ ws. is_some (slice_get ws 0)) (none_are none) ∙ any_first (is_on list) todo
 
-  pub front_is : (h x : ℕ) → head_at t.lists list ≡ Some h → next_from None (ring h s.rows) None ≡ Some x → FrontIn t todo list x
-  front_is h x is first = record {
-    rows = s.rows;
-    shows = s.shows;
-    works_are = s.works_are;
-    without_it = front_dropped t s.rows s.shows list h x None s.rows is s.shows.listed s.shows.holds.stands.apart first ∙ ap (without_first (is_on list)) s.works_are;
-    is_it = ap (λ ws. slice_get ws 0) (sym (works_are h is)) ∙ first_value h x None s.rows s.shows.holds.stands.apart first ∙ sym (ap (option_map (λ (p : ℕ × Held Work). p.1.value)) (s.shows.holds.stands.shown x));
-  }
-
-  pub front_found : (h : ℕ) (x : Option ℕ) → head_at t.lists list ≡ Some h → x ≡ next_from None (ring h s.rows) None → IfSome x (FrontIn t todo list)
-  front_found h None is first = tt
-  front_found h (Some x) is first = front_is h x is (sym first)
+pub front_found : (t : Queues) (rs : List (Row Work)) (s : Shows t rs) (list : TodoList) (h : ℕ) (x : Option ℕ) → head_at t.lists list ≡ Some h → x ≡ slice_get (ring h rs) 0 → IfSome x (IsFront t rs list)
+front_found t rs s list h None is first = tt
+front_found t rs s list h (Some x) is first = record {
+  on_it = ap (λ o. is_some_and o (is_on list)) (work_is t rs s x) ∙ front_on t rs s list h is x rs s.listed s.holds.apart (sym first);
+  without_it = front_dropped t rs s list h is x rs s.listed s.holds.apart (sym first);
+}
 
 -- what the queues stand for is on each list what stands there
 pub on_same : (t : Queues) (ws vs : List Work) (list : TodoList) → Stands t ws → Stands t vs → filter (is_on list) ws ≡ filter (is_on list) vs

@@ -1,64 +1,58 @@
 -- The register, as a work item comes or goes.
-use Rattle.std.proofs.Common.{◌≡◌, ◌+◌, ◌-◌, ◌<◌, ◌≤◌, ◌==◌, nat_le, nat_lt, Bool, true, false, ◌&&◌, cond, List, [], ◌∷◌, ◌++◌, length, count_by, min, refl, sym, ◌∙◌, subst, arith, leb-true, leb-false, ltb-true}
-use Rattle.std.proofs.lemmas.Bool.{and_parts}
-use Rattle.std.proofs.lemmas.List.Sums.{count_by-le-length}
+use Rattle.std.proofs.Common.{◌≡◌, ◌+◌, ◌-◌, ◌<◌, ◌≤◌, ◌==◌, ℕ, Bool, true, cond, List, [], ◌∷◌, ◌++◌, length, count_by, min, arith}
+use Rattle.std.proofs.lemmas.List.Sums.{sum_by_push, count_by-le-length}
 use Rattle.bd_space.specs.declared.space.Work.{Work}
+use Rattle.bd_space.specs.Todo.{is_item}
 use Rattle.bd_todo.specs.declared.register.Register.{Register}
-use Rattle.bd_todo.specs.Dated.{Dated}
-use Rattle.bd_todo.specs.Rising.{rank, RisesTo}
-use Rattle.bd_todo.specs.Spots.{sought_of, Counted}
-use Rattle.bd_todo.specs.Registered.{Registered}
-use Rattle.bd_todo.proofs.Dating.{dated_new, dated_older, dated_cut}
-use Rattle.bd_todo.proofs.Each.{each_push, each_cut, each_so, pairs_push, pairs_cut}
+use Rattle.bd_todo.specs.declared.spots.Sought.{Sought}
+use Rattle.bd_todo.specs.declared.spots.Spots.{Spots}
+use Rattle.bd_todo.specs.Spots.{sought_of, is_sought, is_key, count_at}
+use Rattle.bd_todo.specs.Registered.{rank, Registered}
 
--- by their ranks
-abbrev Under : Work → Work → Type 0
-Under v w = rank v.id < rank w.id
+module _ (t : Register) (w : Work) (todo : List Work) (h : Registered t todo) (spots : Spots) where
+  module _ (few : length todo < 18446744073709551615) (is : w.id.index ≡ count_by (λ v. v.id.place == w.id.place) todo) (rises : Bool)
+      (above : rises ≡ true → (t.rises ≡ true) × (rank t.last < rank w.id))
+      (counts : (k : Sought) → count_at spots k ≡ cond (is_key k (sought_of w.kind)) (min (count_at t.spots k + 1) 18446744073709551615) (count_at t.spots k)) where
+    more : (p : Work → Bool) → count_by p (todo ++ w ∷ []) ≡ count_by p todo + cond (p w) 1 0
+    more p = sum_by_push (λ v. cond (p v) 1 0) todo w
 
-pub register_came : (t u : Register) (w : Work) (todo : List Work) → Registered t todo → length todo < 18446744073709551615 → w.id.index ≡ count_by (λ v. v.id.place == w.id.place) todo
-    → Counted (λ v. sought_of v.kind) u.spots (todo ++ w ∷ []) → (u.rises ≡ true → (t.rises && nat_lt (rank t.last) (rank w.id)) ≡ true)
-    → (t.last.place ≤ w.id.place → (u.last ≡ w.id) × (u.count ≡ min (w.id.index + 1) 18446744073709551615)) → (w.id.place < t.last.place → (u.last ≡ t.last) × (u.count ≡ t.count))
-    → Registered u (todo ++ w ∷ [])
-register_came t u w todo h few is counts rises newer older = at (nat_le t.last.place w.id.place) refl
-  where
-    low : w.id.index + 1 ≤ 18446744073709551615
-    low = let c = count_by-le-length (λ (v : Work). v.id.place == w.id.place) todo in omega (arith, c, is, few)
+    low : (p : Work → Bool) → count_by p todo < 18446744073709551615
+    low p = let c = count_by-le-length p todo in omega (arith, c, few)
 
-    rising : (t.rises && nat_lt (rank t.last) (rank w.id)) ≡ true → RisesTo w.id (todo ++ w ∷ [])
-    rising k =
-        let both = and_parts t.rises (nat_lt (rank t.last) (rank w.id)) k in
-        let was = h.rising both.0 in
-        let above = ltb-true (rank t.last) (rank w.id) both.1 in
-        let all = each_so (λ (v : Work). rank v.id ≤ rank t.last) (λ (v : Work). Under v w) (λ v l. omega (arith, l, above)) todo was.1 in
-        (pairs_push Under todo w was.0 all, each_push (λ (v : Work). rank v.id ≤ rank w.id) todo w (each_so (λ (v : Work). Under v w) (λ (v : Work). rank v.id ≤ rank w.id) (λ v l. omega (arith, l)) todo all) (omega arith))
+    counted : (k : Sought) → count_at spots k ≡ count_by (λ v. is_sought k v.kind) (todo ++ w ∷ [])
+    counted k = grind (arith, counts k, h.counted k, more (λ v. is_sought k v.kind), low (λ v. is_sought k v.kind))
 
-    at : (b : Bool) → nat_le t.last.place w.id.place ≡ b → Registered u (todo ++ w ∷ [])
-    at true e =
-        let now = newer (leb-true t.last.place w.id.place e) in
-        let n : u.count ≡ w.id.index + 1 = let m = now.1 in omega (arith, m, low) in
-        record {
-          counted = counts;
-          dated = subst (λ i. Dated i.place u.count (todo ++ w ∷ [])) (sym now.0) (subst (λ n. Dated w.id.place n (todo ++ w ∷ [])) (sym n) (dated_new t.last.place t.count w.id.index todo w h.dated (leb-true t.last.place w.id.place e) is));
-          rising = λ r. subst (λ i. RisesTo i (todo ++ w ∷ [])) (sym now.0) (rising (rises r));
-        }
-    at false e =
-        let late : w.id.place < t.last.place = let k = leb-false t.last.place w.id.place e in omega arith in
-        let now = older late in
-        record {
-          counted = counts;
-          dated = subst (λ i. Dated i.place u.count (todo ++ w ∷ [])) (sym now.0) (subst (λ n. Dated t.last.place n (todo ++ w ∷ [])) (sym now.1) (dated_older t.last.place t.count todo w h.dated late));
-          rising = λ r.
-              let above = ltb-true (rank t.last) (rank w.id) (and_parts t.rises (nat_lt (rank t.last) (rank w.id)) (rises r)).1 in
-              absurd (omega (arith, above, late, low));
-        }
+    -- it came last
+    pub newer_came : (count : ℕ) → t.last.place ≤ w.id.place → count ≡ min (w.id.index + 1) 18446744073709551615
+        → Registered (record { spots = spots; last = w.id; count = count; rises = rises }) (todo ++ w ∷ [])
+    newer_came count late counting = record {
+      counted = counted;
+      at_last = grind (arith, counting, is, more (λ v. v.id.place == w.id.place), low (λ v. v.id.place == w.id.place));
+      none_later = λ place l. grind (arith, more (λ v. v.id.place == place), h.none_later place, late, l);
+      none_past = λ r d l. grind (arith, more (λ v. is_item v d), h.none_past (above r).0 d, (above r).1, l);
+      one_each = λ r d. grind (arith, more (λ v. is_item v d), h.none_past (above r).0 d, h.one_each (above r).0 d, (above r).1);
+    }
 
-pub register_went : (t u : Register) (before : List Work) (w : Work) (after : List Work) → Registered t (before ++ w ∷ after)
-    → Counted (λ v. sought_of v.kind) u.spots (before ++ after) → u.rises ≡ t.rises → u.last ≡ t.last → u.count ≡ cond (w.id.place == t.last.place) (t.count - 1) t.count
-    → Registered u (before ++ after)
-register_went t u before w after h counts rises last count = record {
-  counted = counts;
-  dated = subst (λ i. Dated i.place u.count (before ++ after)) (sym last) (dated_cut t.last.place t.count u.count before w after h.dated count);
-  rising = λ r.
-      let was = h.rising (sym rises ∙ r) in
-      subst (λ i. RisesTo i (before ++ after)) (sym last) (pairs_cut Under before w after was.0, each_cut (λ (v : Work). rank v.id ≤ rank t.last) before w after was.1);
-}
+    pub older_came : w.id.place < t.last.place → Registered (record { spots = spots; last = t.last; count = t.count; rises = rises }) (todo ++ w ∷ [])
+    older_came early = record {
+      counted = counted;
+      at_last = grind (arith, more (λ v. v.id.place == t.last.place), h.at_last, early);
+      none_later = λ place l. grind (arith, more (λ v. v.id.place == place), h.none_later place l, early, l);
+      none_past = λ r d l. absurd (never r);
+      one_each = λ r d. absurd (never r);
+    }
+      where
+        never : rises ≡ true → ⊥
+        never r = let a = (above r).1 in let l = low (λ v. v.id.place == w.id.place) in omega (arith, a, l, is, early)
+
+  -- of every test one less passes, if it passed
+  pub register_went : (left : List Work) (count : ℕ) → ((p : Work → Bool) → count_by p todo ≡ cond (p w) 1 0 + count_by p left)
+      → ((k : Sought) → count_at spots k ≡ cond (is_key k (sought_of w.kind)) (count_at t.spots k - 1) (count_at t.spots k))
+      → count ≡ cond (w.id.place == t.last.place) (t.count - 1) t.count → Registered (record { spots = spots; last = t.last; count = count; rises = t.rises }) left
+  register_went left count less counts counting = record {
+    counted = λ k. grind (arith, counts k, h.counted k, less (λ v. is_sought k v.kind));
+    at_last = grind (arith, counting, h.at_last, less (λ v. v.id.place == t.last.place));
+    none_later = λ place l. grind (arith, h.none_later place l, less (λ v. v.id.place == place));
+    none_past = λ r d l. grind (arith, h.none_past r d l, less (λ v. is_item v d));
+    one_each = λ r d. grind (arith, h.one_each r d, less (λ v. is_item v d));
+  }

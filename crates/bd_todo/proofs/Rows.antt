@@ -1,22 +1,23 @@
 -- Rows and the work items that they hold: what stands on a list, and what goes.
-use Rattle.std.proofs.Common.{◌≡◌, ℕ, ◌==◌, Bool, true, false, cond, List, [], ◌∷◌, ◌++◌, length, Option, Some, None, refl, ap, ◌∙◌, arith}
+use Rattle.std.proofs.Common.{◌≡◌, ◌+◌, ℕ, ◌==◌, Bool, true, false, cond, List, [], ◌∷◌, ◌++◌, length, filter, count_by, Option, Some, None, refl, ap, arith}
+use Rattle.std.specs.Prelude.{option_map}
+use Rattle.std.specs.List.{slice_get}
 use Rattle.bd_space.specs.declared.space.Work.{Work}
 use Rattle.bd_space.specs.declared.space.TodoList.{TodoList}
-use Rattle.bd_space.specs.Words.{without_first}
+use Rattle.bd_space.specs.Words.{without_first, is_some_and}
 use Rattle.bd_space.specs.Todo.{same_list, is_on}
 use Rattle.bd_chains.specs.declared.links.Held.{Held}
-use Rattle.bd_chains.specs.Chain.{has, Apart, next_from}
-use Rattle.bd_chains.specs.Rows.{Row, keys, ring, row_at, drop_key}
-use Rattle.bd_chains.proofs.Order.{restart}
+use Rattle.bd_chains.specs.Chain.{has, distinct}
+use Rattle.bd_chains.specs.Rows.{Row, keys, ring, drop_key}
 use Rattle.bd_chains.proofs.Rowing.{drop_none, first_in}
 use Rattle.bd_chains.specs.Lists.{AreListed}
 use Rattle.bd_chains.proofs.Listing.{same_number}
 use Rattle.bd_todo.specs.declared.queues.Queues.{Queues}
 use Rattle.bd_todo.specs.Heads.{head_at}
-use Rattle.bd_todo.specs.Rows.{works}
-use Rattle.bd_todo.specs.QueuesStand.{list_of, keeps, Shows}
-use Rattle.bd_todo.proofs.Plain.{none_some}
+use Rattle.bd_todo.specs.Rows.{works, work_in}
+use Rattle.bd_todo.specs.QueuesStand.{list_of, keeps, Shows, work_at}
 use Rattle.bd_todo.proofs.ListKeys.{same_list_eq}
+use Rattle.bd_todo.proofs.SoughtCounts.{count_cons}
 
 pub works_more : (rs : List (Row Work)) (r : Row Work) → works (rs ++ r ∷ []) ≡ works rs ++ r.held.value ∷ []
 works_more [] r = refl
@@ -26,61 +27,40 @@ pub works_length : (rs : List (Row Work)) → length (works rs) ≡ length rs
 works_length [] = refl
 works_length (q ∷ rs) = let e = works_length rs in omega (arith, e)
 
-module _ (t : Queues) (all : List (Row Work)) (shows : Shows t all) where
-  -- the first on a list goes
-  pub front_dropped : (l : TodoList) (h x : ℕ) (p : Option ℕ) (rs : List (Row Work)) → head_at t.lists l ≡ Some h → AreListed list_of keeps (head_at t.lists) rs → Apart p (keys rs) → next_from None (ring h rs) None ≡ Some x
+-- what the table says of a slot, and what its row holds
+pub work_is : (t : Queues) (rs : List (Row Work)) → Shows t rs → (x : ℕ) → work_at t x ≡ work_in x rs
+work_is t rs s x = ap (option_map (λ (p : ℕ × Held Work). p.1.value)) (s.holds.shown_are x)
+
+-- ---- the first on a list
+
+module _ (t : Queues) (all : List (Row Work)) (shows : Shows t all) (l : TodoList) (h : ℕ) (is : head_at t.lists l ≡ Some h) where
+  on_row : (r : Row Work) → head_at t.lists r.held.value.list ≡ Some r.list → is_on l r.held.value ≡ (r.list == h)
+  on_row r own = same_number list_of keeps same_list (head_at t.lists) t.chains (λ k m e. ap (head_at t.lists) (same_list_eq k m e)) all shows l h r.held.value r.list is own
+
+  pub front_dropped : (x : ℕ) (rs : List (Row Work)) → AreListed list_of keeps (head_at t.lists) rs → distinct (keys rs) ≡ true → slice_get (ring h rs) 0 ≡ Some x
       → works (drop_key x rs) ≡ without_first (is_on l) (works rs)
-  front_dropped l h x p [] is own apart first = refl
-  front_dropped l h x p (r ∷ rs) is own apart first =
-      rw (same_number list_of keeps same_list (head_at t.lists) t.chains (λ k m e. ap (head_at t.lists) (same_list_eq k m e)) all shows l h r.held.value r.list is own.0.0) (at (r.list == h) (r.key == x) refl refl first (front_dropped l h x (Some r.key) rs is own.1 apart.1))
-    where
-      at : (b c : Bool) → (r.list == h) ≡ b → (r.key == x) ≡ c → next_from None (cond b (r.key ∷ ring h rs) (ring h rs)) None ≡ Some x
-          → (next_from None (ring h rs) None ≡ Some x → works (drop_key x rs) ≡ without_first (is_on l) (works rs))
-          → works (cond c (drop_key x rs) (r ∷ drop_key x rs)) ≡ cond b (works rs) (r.held.value ∷ without_first (is_on l) (works rs))
-      at true true e f k more = ap works (drop_none x rs (off f))
-        where
-          off : (r.key == x) ≡ true → has x (keys rs) ≡ false
-          off f = grind (arith, restart r.key (keys rs) apart.1)
-      at true false e f k more = absurd (no f k)
-        where
-          no : (r.key == x) ≡ false → Some r.key ≡ Some x → ⊥
-          no f k = grind arith
-      at false true e f k more = absurd (no f (first_in h x rs k))
-        where
-          no : (r.key == x) ≡ true → has x (keys rs) ≡ true → ⊥
-          no f g = grind (arith, restart r.key (keys rs) apart.1)
-      at false false e f k more = ap (λ ws. r.held.value ∷ ws) (more k)
+  front_dropped x [] own apart first = refl
+  front_dropped x (r ∷ rs) own apart first = rw (on_row r own.0.0) (grind (arith, front_dropped x rs own.1, first_in h x rs, drop_none x rs))
 
--- ---- the items before and after one
+  pub front_on : (x : ℕ) (rs : List (Row Work)) → AreListed list_of keeps (head_at t.lists) rs → distinct (keys rs) ≡ true → slice_get (ring h rs) 0 ≡ Some x
+      → is_some_and (work_in x rs) (is_on l) ≡ true
+  front_on x [] own apart first = grind arith
+  front_on x (r ∷ rs) own apart first = grind (arith, on_row r own.0.0, front_on x rs own.1, first_in h x rs)
 
-pub record Cut (x : ℕ) (w : Work) (rs : List (Row Work)) : Type 0 where
-  pub before : List Work
-  pub after : List Work
-  pub whole : works rs ≡ before ++ w ∷ after
-  pub rest : works (drop_key x rs) ≡ before ++ after
+-- ---- the one in a slot goes
 
-pub cut_at : (x l : ℕ) (v : Held Work) (p : Option ℕ) (rs : List (Row Work)) → Apart p (keys rs) → row_at x rs ≡ Some (l, v) → Cut x v.value rs
-cut_at x l v p [] apart is = absurd (none_some _ is)
-cut_at x l v p (r ∷ rs) apart is = at (r.key == x) refl is (λ k. cut_at x l v (Some r.key) rs apart.1 k)
-  where
-    held_is : {a : ℕ} {u : Held Work} → ◌≡◌ {A = Option (ℕ × Held Work)} (Some (a, u)) (Some (l, v)) → u ≡ v
-    held_is e = ap (λ (o : Option (ℕ × Held Work)). elim o [ None ↦ v | Some q ↦ q.1 ]) e
+pub none_dropped : (x : ℕ) (rs : List (Row Work)) → work_in x rs ≡ None → drop_key x rs ≡ rs
+none_dropped x [] is = refl
+none_dropped x (r ∷ rs) is = grind (arith, none_dropped x rs)
 
-    at : (b : Bool) → (r.key == x) ≡ b → cond b (Some (r.list, r.held)) (row_at x rs) ≡ Some (l, v) → (row_at x rs ≡ Some (l, v) → Cut x v.value rs) → Cut x v.value (r ∷ rs)
-    at true e k more = record {
-      before = [];
-      after = works rs;
-      whole = ap (λ (u : Held Work). u.value ∷ works rs) (held_is k);
-      rest = ap (λ b. works (cond b (drop_key x rs) (r ∷ drop_key x rs))) e ∙ ap works (drop_none x rs (off e));
-    }
-      where
-        off : (r.key == x) ≡ true → has x (keys rs) ≡ false
-        off f = grind (arith, restart r.key (keys rs) apart.1)
-    at false e k more =
-        let c = more k in
-        record {
-          before = r.held.value ∷ c.before;
-          after = c.after;
-          whole = ap (λ ws. r.held.value ∷ ws) c.whole;
-          rest = ap (λ b. works (cond b (drop_key x rs) (r ∷ drop_key x rs))) e ∙ ap (λ ws. r.held.value ∷ ws) c.rest;
-        }
+module _ (x : ℕ) (w : Work) where
+  -- of every test one less passes, if it passed
+  pub count_dropped : (p : Work → Bool) (rs : List (Row Work)) → distinct (keys rs) ≡ true → work_in x rs ≡ Some w
+      → count_by p (works rs) ≡ cond (p w) 1 0 + count_by p (works (drop_key x rs))
+  count_dropped p [] apart is = grind arith
+  count_dropped p (r ∷ rs) apart is = grind (arith, count_dropped p rs, drop_none x rs, count_cons p r.held.value (works rs), count_cons p r.held.value (works (drop_key x rs)))
+
+  pub filter_dropped : (p : Work → Bool) (rs : List (Row Work)) → distinct (keys rs) ≡ true → work_in x rs ≡ Some w → p w ≡ false
+      → filter p (works (drop_key x rs)) ≡ filter p (works rs)
+  filter_dropped p [] apart is out = refl
+  filter_dropped p (r ∷ rs) apart is out = grind (arith, filter_dropped p rs, drop_none x rs)

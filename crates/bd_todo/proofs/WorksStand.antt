@@ -1,10 +1,9 @@
 -- The table as a whole: a work item comes, or some go.
-use Rattle.std.proofs.Common.{◌≡◌, ℕ, ◌<◌, ◌==◌, nat_lt, Bool, not, cond, true, Some, None, List, [], ◌∷◌, ◌++◌, length, filter, count_by, refl, sym, ap, ◌∙◌, subst, arith}
+use Rattle.std.proofs.Common.{◌≡◌, ℕ, ◌<◌, ◌≤◌, ◌==◌, nat_lt, Bool, not, cond, true, Some, None, List, [], ◌∷◌, ◌++◌, length, filter, count_by, refl, sym, ap, ◌∙◌, subst, arith}
 use Rattle.bd_space.specs.declared.space.Work.{Work}
 use Rattle.bd_space.specs.declared.space.TodoList.{TodoList}
 use Rattle.bd_space.specs.declared.space.WorkKind.{WorkKind}
 use Rattle.bd_space.specs.Todo.{with_work, is_on, is_notice, is_call, death_of}
-use Rattle.bd_todo.specs.declared.queues.Queues.{Queues}
 use Rattle.bd_todo.specs.declared.table.WorkTable.{WorkTable}
 use Rattle.std.specs.List.{list_any}
 use Rattle.bd_space.specs.declared.step.ObjectId.{ObjectId}
@@ -14,18 +13,14 @@ use Rattle.bd_todo.specs.declared.spots.Sought.{Sought}
 use Rattle.std.specs.Prelude.{Option, option_map}
 use Rattle.bd_chains.specs.declared.links.Held.{Held}
 use Rattle.bd_chains.specs.Rows.{Row, row_at, drop_key}
-use Rattle.bd_chains.proofs.Rowing.{drop_none, off_keys}
-use Rattle.bd_todo.specs.declared.register.Register.{Register}
 use Rattle.bd_todo.specs.declared.spots.Sought.TheVariants.{Notice, Call, Death}
 use Rattle.bd_todo.specs.Rows.{works}
 use Rattle.bd_todo.specs.Spots.{is_sought, count_at}
-use Rattle.bd_todo.specs.QueuesStand.{Shows, Stands, FrontIn, work_at}
+use Rattle.bd_todo.specs.QueuesStand.{Stands, IsFront, work_at}
 use Rattle.bd_todo.specs.Stands.{WorksAre, RowsAre}
 use Rattle.bd_todo.specs.Registered.{Registered}
-use Rattle.bd_todo.proofs.Plain.{none_some}
-use Rattle.bd_todo.proofs.Rows.{Cut, cut_at}
-use Rattle.bd_todo.proofs.SoughtCounts.{count_less, none_pass, any_counted}
-use Rattle.bd_todo.proofs.Dating.{none_later}
+use Rattle.bd_todo.proofs.Rows.{work_is, count_dropped, filter_dropped}
+use Rattle.bd_todo.proofs.SoughtCounts.{all_pass, any_counted}
 
 -- ---- rows and the work items that they hold
 
@@ -48,36 +43,10 @@ works_pushed t u place index list kind l h is stands few reg = record {
     item : ℕ → Work
     item i = record { id = record { place = place; index = i }; list = list; kind = kind }
 
--- what stands in a slot is among the items, some before it and some after
-row_cut : (t : Queues) (rs : List (Row Work)) (x : ℕ) (w : Work) → Shows t rs → work_at t x ≡ Some w → Cut x w rs
-row_cut t rs x w h is = of (row_at x rs) refl (sym (ap (option_map (λ (v : ℕ × Held Work). v.1.value)) (h.holds.stands.shown x)) ∙ is)
-  where
-    of : (o : Option (ℕ × Held Work)) → row_at x rs ≡ o → option_map (λ (v : ℕ × Held Work). v.1.value) o ≡ Some w → Cut x w rs
-    of None e k = absurd (none_some w k)
-    of (Some v) e k = subst (λ y. Cut x y rs) (some_is k) (cut_at x v.0 v.1 None rs h.holds.stands.apart e)
-      where
-        some_is : {a b : Work} → Some a ≡ Some b → a ≡ b
-        some_is e = cc
-
-pub row_went : (t : Queues) (rs : List (Row Work)) (x : ℕ) (w : Work) (r s : Register) → Shows t rs → work_at t x ≡ Some w → Registered r (works rs)
-    → ((before after : List Work) → Registered r (before ++ w ∷ after) → Registered s (before ++ after)) → Registered s (works (drop_key x rs))
-row_went t rs x w r s h is reg went =
-    let c = row_cut t rs x w h is in
-    subst (Registered s) (sym c.rest) (went c.before c.after (subst (Registered r) c.whole reg))
-
-pub row_absent : (t : Queues) (rs : List (Row Work)) (x : ℕ) (r : Register) → Shows t rs → work_at t x ≡ None → Registered r (works rs) → Registered r (works (drop_key x rs))
-row_absent t rs x r h is reg = subst (λ ss. Registered r (works ss)) (sym (drop_none x rs (off_keys x rs (of (row_at x rs) (sym (ap (option_map (λ (v : ℕ × Held Work). v.1.value)) (h.holds.stands.shown x)) ∙ is))))) reg
-  where
-    of : (o : Option (ℕ × Held Work)) → option_map (λ (v : ℕ × Held Work). v.1.value) o ≡ None → o ≡ None
-    of None k = refl
-    of (Some v) k = absurd (none_some v.1.value (sym k))
-
--- nothing was made at a later place
-pub none_at : (t : WorkTable) (place : ℕ) (l : List Work) → WorksAre t l → t.register.last.place < place → 0 ≡ count_by (λ w. w.id.place == place) l
-none_at t place l h late = sym (none_later t.register.last.place place l h.registered.dated.none_past late)
+-- ---- what was made at a place
 
 pub all_at : (t : WorkTable) (place : ℕ) (l : List Work) → WorksAre t l → place ≡ t.register.last.place → t.register.count ≡ count_by (λ w. w.id.place == place) l
-all_at t place l h same = h.registered.dated.counted ∙ ap (λ n. count_by (λ (w : Work). w.id.place == n) l) (sym same)
+all_at t place l h same = h.registered.at_last ∙ ap (λ n. count_by (λ (w : Work). w.id.place == n) l) (sym same)
 
 -- ---- what is looked up
 
@@ -114,11 +83,8 @@ has_notice_is t o l h = has_sought_is t (Notice o.place o.index) l h ∙ sym (λ
 pub has_call_is : (t : WorkTable) (b : ℕ) (l : List Work) → WorksAre t l → nat_lt 0 (count_at t.register.spots (Call b)) ≡ list_any (λ w. is_call b w.kind) l
 has_call_is t b l h = has_sought_is t (Call b) l h ∙ sym (λ i. list_any (λ (w : Work). call_key b w.kind i) l)
 
-cut_one : (p : Work → Bool) (before : List Work) (w : Work) (after : List Work) → p w ≡ true → filter (λ v. not (p v)) (before ++ w ∷ after) ≡ filter (λ v. not (p v)) (before ++ after)
-cut_one p [] w after e = ap (λ b. cond (not b) (w ∷ filter (λ v. not (p v)) after) (filter (λ v. not (p v)) after)) e
-cut_one p (v ∷ before) w after e = ap (λ vs. cond (not (p v)) (v ∷ vs) vs) (cut_one p before w after e)
-
-pub only_goes : (t u : WorkTable) (p : Work → Bool) (l : List Work) (x : ℕ) → WorksAre t l → is_some_and (work_at t.queues x) p ≡ true → count_by p l ≡ 1
+-- what is in a slot goes, where it is all that is to go
+pub only_goes : (t u : WorkTable) (p : Work → Bool) (l : List Work) (x : ℕ) → WorksAre t l → is_some_and (work_at t.queues x) p ≡ true → count_by p l ≤ 1
     → ((rs : List (Row Work)) → RowsAre t rs → RowsAre u (drop_key x rs)) → WorksAre u (filter (λ w. not (p w)) l)
 only_goes t u p l x h is one gone = of (work_at t.queues x) refl is
   where
@@ -126,21 +92,18 @@ only_goes t u p l x h is one gone = of (work_at t.queues x) refl is
     of None e k = absurd cc
     of (Some w) e k =
         let rs = h.queues_stand.rows in
-        let c = row_cut t.queues rs x w h.queues_stand.shows e in
-        let less = ap (count_by p) (sym c.whole ∙ h.queues_stand.works_are) in
-        let split = count_less p c.before w c.after in
-        let its = ap {B = ℕ} (λ b. cond b 1 0) k in
-        let left : works (drop_key x rs) ≡ filter (λ v. not (p v)) l =
-        c.rest ∙ sym (none_pass p (c.before ++ c.after) (omega (arith, less, split, its, one))) ∙ sym (cut_one p c.before w c.after k) ∙ ap (filter (λ v. not (p v))) (sym c.whole ∙ h.queues_stand.works_are) in
-        works_of u (drop_key x rs) (filter (λ w. not (p w)) l) (gone rs (rows_are t l h)) left
+        let apart = h.queues_stand.shows.holds.apart in
+        let here = sym (work_is t.queues rs h.queues_stand.shows x) ∙ e in
+        let none : count_by p (works (drop_key x rs)) ≡ 0 = grind (arith, count_dropped x w p rs apart here, ap (count_by p) h.queues_stand.works_are) in
+        works_of u (drop_key x rs) (filter (λ w. not (p w)) l) (gone rs (rows_are t l h))
+        (sym (all_pass (λ w. not (p w)) p (works (drop_key x rs)) (λ w. grind arith) none) ∙ filter_dropped x w (λ w. not (p w)) rs apart here (ap not k) ∙ ap (filter (λ w. not (p w))) h.queues_stand.works_are)
 
 -- ---- the first of a list
 
-pub front_went : (t u : WorkTable) (l : List Work) (list : TodoList) (x : ℕ) → WorksAre t l → FrontIn t.queues l list x
+pub front_went : (t u : WorkTable) (l : List Work) (list : TodoList) (x : ℕ) → (h : WorksAre t l) → IsFront t.queues h.queues_stand.rows list x
     → ((rs : List (Row Work)) → RowsAre t rs → RowsAre u (drop_key x rs)) → WorksAre u (without_first (is_on list) l)
 front_went t u l list x h f gone =
-    works_of u (drop_key x f.rows) (without_first (is_on list) l)
-    (gone f.rows (record { shows = f.shows; registered = subst (Registered t.register) (sym f.works_are) h.registered })) f.without_it
+    works_of u (drop_key x h.queues_stand.rows) (without_first (is_on list) l) (gone h.queues_stand.rows (rows_are t l h)) (f.without_it ∙ ap (without_first (is_on list)) h.queues_stand.works_are)
 
 -- nothing stays of nothing
 pub none_left : (p : Work → Bool) (ws : List Work) → length ws ≡ 0 → filter (λ w. not (p w)) ws ≡ ws

@@ -1,11 +1,8 @@
 pub mod Stands
 pub mod TodoList
-pub mod Each
 pub mod Keys
 pub mod Heads
 pub mod Rows
 pub mod QueuesStand
-pub mod Dated
 pub mod Spots
-pub mod Rising
 pub mod Registered

@@ -1,8 +1,7 @@
 -- What the queues stand for: the work items of the space, in its order.
-use Rattle.std.specs.Prelude.{◌≡◌, ℕ, Bool, List, Option, Some}
-use Rattle.std.specs.List.{slice_get}
-use Rattle.bd_ways.specs.Words.{Work, TodoList, without_first}
-use Rattle.bd_space.specs.Todo.{same_list, is_on, work_on, keeps_from_calling}
+use Rattle.std.specs.Prelude.{◌≡◌, ℕ, Bool, true, List, Option}
+use Rattle.bd_ways.specs.Words.{Work, TodoList, without_first, is_some_and}
+use Rattle.bd_space.specs.Todo.{same_list, is_on, keeps_from_calling}
 use Rattle.bd_chains.specs.Rows.{Row, drop_key}
 use Rattle.bd_chains.specs.Columns.{value_at}
 use Rattle.bd_chains.specs.Lists as lists
@@ -34,9 +33,6 @@ abbrev pub queue_room : Queues → ℕ
 queue_room t = lists.lists_room t.chains t.lists.others.all
 
 -- in the slot is the first work item on the list
-pub record FrontIn (t : Queues) (todo : List Work) (list : TodoList) (x : ℕ) : Type 0 where
-  pub rows : List (Row Work)
-  pub shows : Shows t rows
-  pub works_are : works rows ≡ todo
-  pub without_it : works (drop_key x rows) ≡ without_first (is_on list) todo
-  pub is_it : slice_get (work_on todo (Some list)) 0 ≡ work_at t x
+pub record IsFront (t : Queues) (rs : List (Row Work)) (list : TodoList) (x : ℕ) : Type 0 where
+  pub on_it : is_some_and (work_at t x) (is_on list) ≡ true
+  pub without_it : works (drop_key x rs) ≡ without_first (is_on list) (works rs)

@@ -1,16 +1,24 @@
--- What a register says of all work items.
-use Rattle.std.specs.Prelude.{ℕ, ◌≡◌, true, List}
-use Rattle.bd_ways.specs.Words.{Work}
+-- What a register says of all work items: each part by how many of them pass a test.
+use Rattle.std.specs.Prelude.{ℕ, ◌≡◌, ◌+◌, ◌*◌, ◌<◌, ◌≤◌, ◌==◌, true, List, count_by}
+use Rattle.bd_ways.specs.Words.{Identity, Work}
 use Rattle.std.specs.HashMap.{spare}
+use Rattle.bd_space.specs.Todo.{is_item}
+use Rattle.bd_todo.specs.declared.spots.Sought.{Sought}
 use Rattle.bd_todo.specs.declared.register.Register.{Register}
-use Rattle.bd_todo.specs.Dated.{Dated}
-use Rattle.bd_todo.specs.Rising.{RisesTo}
-use Rattle.bd_todo.specs.Spots.{sought_of, Counted}
+use Rattle.bd_todo.specs.Spots.{count_at, is_sought}
+
+-- identities in their order, by the place first
+abbrev pub rank : Identity → ℕ
+rank i = i.place * 18446744073709551616 + i.index
 
 pub record Registered (t : Register) (todo : List Work) : Type 0 where
-  pub counted : Counted (λ w. sought_of w.kind) t.spots todo
-  pub dated : Dated t.last.place t.count todo
-  pub rising : t.rises ≡ true → RisesTo t.last todo
+  pub counted : (k : Sought) → count_at t.spots k ≡ count_by (λ w. is_sought k w.kind) todo
+  -- none was made at a later place than the last one
+  pub at_last : t.count ≡ count_by (λ w. w.id.place == t.last.place) todo
+  pub none_later : (place : ℕ) → t.last.place < place → count_by (λ w. w.id.place == place) todo ≡ 0
+  -- while identities rise up to the last, no two are called the same
+  pub none_past : t.rises ≡ true → (d : Work) → rank t.last < rank d.id → count_by (λ w. is_item w d) todo ≡ 0
+  pub one_each : t.rises ≡ true → (d : Work) → count_by (λ w. is_item w d) todo ≤ 1
 
 -- how many more it takes without memory
 abbrev pub register_room : Register → ℕ

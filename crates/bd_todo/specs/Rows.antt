@@ -1,14 +1,15 @@
 -- Rows that hold work items, and what a walk over all slots has come to.
-use Rattle.std.specs.Prelude.{ℕ, ◌+◌, nat_lt, Bool, not, ◌||◌, ◌&&◌, List, [], ◌∷◌, if◌then◌else◌}
+use Rattle.std.specs.Prelude.{ℕ, ◌+◌, nat_lt, Bool, ◌&&◌, List, [], ◌∷◌, Option, option_map, if◌then◌else◌}
 use Rattle.bd_ways.specs.Words.{Work}
-use Rattle.bd_chains.specs.Rows.{Row, values}
+use Rattle.bd_chains.specs.declared.links.Held.{Held}
+use Rattle.bd_chains.specs.Rows.{Row, values, row_at}
 
 abbrev pub works : List (Row Work) → List Work
 works = values
 
--- a walk over the slots hasn't come to its slot, or the item stays
-abbrev pub stays : (Work → Bool) → ℕ → Row Work → Bool
-stays p i r = not (nat_lt r.key i) || p r.held.value
+-- what the row of a slot holds
+abbrev pub work_in : ℕ → List (Row Work) → Option Work
+work_in x rs = option_map (λ (p : ℕ × Held Work). p.1.value) (row_at x rs)
 
 -- how many of those pass whose slots a walk has come past
 abbrev pub seen_by : (Work → Bool) → ℕ → List (Row Work) → ℕ

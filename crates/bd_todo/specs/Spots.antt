@@ -34,7 +34,3 @@ is_sought k kind = is_key k (sought_of kind)
 
 abbrev pub count_at : Spots → Sought → ℕ
 count_at t k = unwrap_or (option_map (λ s. s.count) (get_by (same_sought k) t.spots)) 0
-
--- the work items are counted by what f looks them up by
-abbrev pub Counted : (Work → Option Sought) → Spots → List Work → Type 0
-Counted f t todo = (k : Sought) → count_at t k ≡ count_by (λ w. is_key k (f w)) todo

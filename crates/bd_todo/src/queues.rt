@@ -26,8 +26,8 @@ pub struct Queues {
 }
 
 impl Queues {
-    ghost use Rattle.bd_chains.specs.Columns.{item_room, list_room};
-    ghost use Rattle.bd_todo.specs.QueuesStand.{Stands, FrontIn, work_at, queue_room};
+    ghost use Rattle.bd_chains.specs.{Rows.{Row}, Columns.{item_room, list_room}};
+    ghost use Rattle.bd_todo.specs.QueuesStand.{Stands, Shows, IsFront, work_at, queue_room};
 
     /// No queues. Takes no memory.
     pub fn new(alloc: Global) -> Queues
@@ -82,7 +82,7 @@ impl Queues {
     /// The slot of the first work item on a list.
     pub fn front(&self, list: TodoList) -> Option<usize>
         ensures any { Tells (Stands self.now) (is_some result) (λ todo. list_any (spec.is_on list) todo) }
-        ensures some { (todo : List Work) → Stands self.now todo → IfSome result (FrontIn self.now todo list) }
+        ensures some { (rs : List (Row Work)) → Shows self.now rs → IfSome result (IsFront self.now rs list) }
     {
         match self.lists.of(list) {
             Some(head) => self.chains.first(head),

@@ -1,9 +1,9 @@
 //! What is known of all work items together, whatever their lists.
 
-ghost use Rattle.std.specs.Prelude.{◌≡◌, ◌==◌, ◌+◌, ◌<◌, ◌≤◌, ◌∷◌, ◌++◌, [], List, length, count_by, nat_lt, OnOk, OnErr};
+ghost use Rattle.std.specs.Prelude.{◌≡◌, ◌==◌, ◌+◌, ◌<◌, ◌≤◌, ◌∷◌, ◌++◌, [], Bool, List, length, count_by, nat_lt, if◌then◌else◌, OnOk, OnErr};
 ghost use Rattle.bd_keys.specs.Tables.{Makes};
 ghost use Rattle.bd_space.specs.declared.space.Work.{Work};
-ghost use Rattle.bd_todo.specs.{Rising.{rank}, Registered.{Registered, register_room}};
+ghost use Rattle.bd_todo.specs.Registered.{rank, Registered, register_room};
 
 use crate::spots::{Spots, sought_of};
 use bd_space::{Identity, Work};
@@ -17,7 +17,7 @@ pub struct Register {
     // No work item was made at a later place than the last one, and so many were made at its place.
     pub(crate) last: Identity,
     pub(crate) count: u64,
-    // Their identities rise, up to the last at most: then no two are called the same.
+    // Their identities rise, up to the last: then no two are called the same.
     pub(crate) rises: bool,
 }
 
@@ -68,8 +68,8 @@ impl Register {
 
     /// A work item went.
     pub fn remove(&mut self, work: Work)
-        ensures stands { (before after : List Work) → Registered self.old (before ++ work ∷ after)
-            → Registered self.new (before ++ after) }
+        ensures stands { (todo left : List Work) → ((p : Work → Bool) → count_by p todo ≡ (if p work then 1 else 0) + count_by p left)
+            → Registered self.old todo → Registered self.new left }
         ensures uses { register_room self.old ≤ register_room self.new }
     {
         self.spots.remove(sought_of(work.kind));

@@ -1,13 +1,12 @@
 //! Work items, counted by what they are looked up by.
 
-ghost use Rattle.std.specs.Prelude.{◌≡◌, ◌≤◌, ◌<◌, ◌+◌, ◌-◌, ◌∷◌, ◌++◌, [], List, length, Option, Some, None, if◌then◌else◌, nat_lt, OnOk, OnErr};
+ghost use Rattle.std.specs.Prelude.{◌≡◌, ◌≤◌, ◌<◌, ◌+◌, ◌-◌, min, if◌then◌else◌, nat_lt, OnOk, OnErr};
 ghost use Rattle.std.specs.Cmp.Rules.{hashing};
 ghost use Rattle.std.specs.Hash as fed;
 ghost use Rattle.std.{specs.HashMap.{spare, get_by}, proofs.Common.{rules}};
-ghost use Rattle.bd_space.specs.declared.space.Work.{Work};
 ghost use Rattle.bd_todo.specs.declared.spots.Sought as declared;
 ghost use Rattle.bd_todo.specs.declared.spots.Sought.TheVariants as sought;
-ghost use Rattle.bd_todo.specs.Spots.{same_sought, spread, sought_of, is_sought, count_at, Counted};
+ghost use Rattle.bd_todo.specs.Spots.{same_sought, spread, sought_of, is_sought, is_key, count_at};
 
 use bd_keys::{pair, wide};
 use bd_space::{ObjectId, WorkKind};
@@ -94,7 +93,7 @@ pub fn is_sought(key: Sought, kind: WorkKind) -> bool
 impl Spots {
     /// None. Takes no memory.
     pub fn new(alloc: Global) -> Spots
-        ensures { (f : Work → Option declared.Sought) → Counted f result [] }
+        ensures { (k : declared.Sought) → count_at result k ≡ 0 }
     {
         Spots {
             spots: HashMap::new(alloc),
@@ -151,8 +150,8 @@ impl Spots {
     /// A work item came last, into this slot, that is looked up so, or not at all.
     pub fn add(&mut self, key: Option<Sought>, slot: usize)
         requires { 0 < spare self.old.spots }
-        ensures counted { (f : Work → Option declared.Sought) (work : Work) (todo : List Work) → key ≡ f work
-            → length todo < 18446744073709551615 → Counted f self.old todo → Counted f self.new (todo ++ work ∷ []) }
+        ensures counts { (k : declared.Sought) → count_at self.new k
+            ≡ (if is_key k key then min (count_at self.old k + 1) 18446744073709551615 else count_at self.old k) }
         ensures uses { spare self.old.spots ≤ spare self.new.spots + 1 }
     {
         if let Some(key) = key {
@@ -169,8 +168,8 @@ impl Spots {
 
     /// A work item went that was looked up so, or not at all.
     pub fn remove(&mut self, key: Option<Sought>)
-        ensures counted { (f : Work → Option declared.Sought) (work : Work) (before after : List Work) → key ≡ f work
-            → Counted f self.old (before ++ work ∷ after) → Counted f self.new (before ++ after) }
+        ensures counts { (k : declared.Sought) → count_at self.new k
+            ≡ (if is_key k key then count_at self.old k - 1 else count_at self.old k) }
         ensures uses { spare self.old.spots ≤ spare self.new.spots }
     {
         if let Some(key) = key {

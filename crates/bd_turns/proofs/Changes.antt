@@ -10,6 +10,7 @@ use Rattle.bd_space.specs.Words.{changed}
 use Rattle.bd_space.proofs.Keyed.{changed_none, pairs_changed, tags_changed}
 use Rattle.bd_keys.proofs.Rising.{has, without, filter_none}
 use Rattle.bd_keys.proofs.Found.{none_found, apart_from, tags_more}
+use Rattle.bd_keys.proofs.Options.{none_mapped}
 use Rattle.bd_chains.specs.declared.links.Held.{Held}
 use Rattle.bd_chains.specs.declared.chains.Chains.{Chains}
 use Rattle.bd_chains.specs.Rows.{Row, values, drop_key}
@@ -49,11 +50,7 @@ found t es made s h at = of (find (has made_of made) es) refl (sym (h.spots_are 
     of (Some x) e k = record { entry = x; is = e; spot = cc }
 
 absent : (t : TurnTable) (es : List Entry) (made : ℕ) → EntriesAre t es → spot_at t.spots made ≡ None → find (has made_of made) es ≡ None
-absent t es made h at = of (find (has made_of made) es) (sym (h.spots_are made) ∙ at)
-  where
-    of : (o : Option Entry) → option_map (λ (e : Entry). e.spot) o ≡ None → o ≡ None
-    of None k = refl
-    of (Some x) k = absurd cc
+absent t es made h at = none_mapped (λ (e : Entry). e.spot) (find (has made_of made) es) (sym (h.spots_are made) ∙ at)
 
 -- what stands on the lists stays, and is found where it was
 pub turns_kept : (t u : TurnTable) (l : List Turn) → ((rs : List (Row Turn)) → CallsShow t rs → CallsShow u rs) → ((rs : List (Row Mark)) → MarksShow t rs → MarksShow u rs)
@@ -105,10 +102,10 @@ turns_removed t u made s l h at calls marks spots =
       entries = without made_of made es;
       are = record {
         on_objects = subst (CallsShow u)
-            (ap (λ (p : Spot). drop_key p.call (map call_row es)) (sym f.spot) ∙ row_went call_row made es f.entry None h.are.distinct h.are.on_objects.holds.stands.apart f.is)
+            (ap (λ (p : Spot). drop_key p.call (map call_row es)) (sym f.spot) ∙ row_went call_row made es f.entry h.are.distinct h.are.on_objects.holds.apart f.is)
             (calls (map call_row es) h.are.on_objects);
         in_windows = subst (MarksShow u)
-            (ap (λ (p : Spot). drop_key p.mark (map mark_row es)) (sym f.spot) ∙ row_went mark_row made es f.entry None h.are.distinct h.are.in_windows.holds.stands.apart f.is)
+            (ap (λ (p : Spot). drop_key p.mark (map mark_row es)) (sym f.spot) ∙ row_went mark_row made es f.entry h.are.distinct h.are.in_windows.holds.apart f.is)
             (marks (map mark_row es) h.are.in_windows);
         distinct = AllPairs-filter (λ a b. made_of a ≡ made_of b → ⊥) (λ e. not (has made_of made e)) es h.are.distinct;
         spots_are = λ m. spots m ∙ ap (λ o. cond (made == m) None o) (h.are.spots_are m) ∙ spots_went made m es;
@@ -137,11 +134,7 @@ turns_absent t u made l h at objects windows spots =
 
 listed_handed : (N : _ → Option ℕ) (m : ℕ) (es : List Entry) → AreListed by_object (λ _. false) N (map call_row es) → AreListed by_object (λ _. false) N (map call_row (changed (has made_of m) hand_entry es))
 listed_handed N m [] h = tt
-listed_handed N m (x ∷ es) h = at (made_of x == m) (listed_handed N m es h.1)
-  where
-    at : (b : Bool) → AreListed by_object (λ _. false) N (map call_row (changed (has made_of m) hand_entry es)) → AreListed by_object (λ _. false) N (call_row (cond b (hand_entry x) x) ∷ map call_row (changed (has made_of m) hand_entry es))
-    at true k = (h.0, k)
-    at false k = (h.0, k)
+listed_handed N m (x ∷ es) h = ((grind (arith, h.0.0), refl), listed_handed N m es h.1)
 
 -- what stands in its slot
 pub value_is : (t : TurnTable) (made : ℕ) (s : Spot) (l : List Turn) → (h : TurnsAre t l) → spot_at t.spots made ≡ Some s → (e : Entry) × (find (has made_of made) h.entries ≡ Some e) × (e.spot ≡ s) × (value_at t.objects.chains s.call ≡ Some e.turn)
@@ -151,7 +144,7 @@ value_is t made s l h at =
       f.is,
       f.spot,
       ap (λ (p : Spot). value_at t.objects.chains p.call) (sym f.spot)
-          ∙ ap (option_map (λ (p : ℕ × Held Turn). p.1.value)) (h.are.on_objects.holds.stands.shown f.entry.spot.call ∙ row_found made h.entries f.entry None h.are.on_objects.holds.stands.apart f.is),
+          ∙ ap (option_map (λ (p : ℕ × Held Turn). p.1.value)) (h.are.on_objects.holds.shown_are f.entry.spot.call ∙ row_found made h.entries f.entry h.are.on_objects.holds.apart f.is),
     )
 
 pub turns_handed_out : (t : TurnTable) (chains : Chains Turn) (made : ℕ) (s : Spot) (v : Turn) (l : List Turn) → TurnsAre t l → spot_at t.spots made ≡ Some s → value_at t.objects.chains s.call ≡ Some v
@@ -162,7 +155,7 @@ turns_handed_out t chains made s v l h at was holds opens =
     let f = value_is t made s l h at in
     let same : f.0.turn ≡ v = some_is (sym f.3 ∙ was) in
     let rows = ap (λ (p : Spot). with_value p.call (hand_turn v) (map call_row es)) (sym f.2) ∙ ap (λ w. with_value f.0.spot.call (hand_turn w) (map call_row es)) (sym same)
-    ∙ row_handed made es f.0 None h.are.distinct h.are.on_objects.holds.stands.apart f.1 in
+    ∙ row_handed made es f.0 h.are.distinct h.are.on_objects.holds.apart f.1 in
     record {
       entries = changed (has made_of made) hand_entry es;
       are = record {
@@ -230,11 +223,9 @@ module _ (t : TurnTable) (p : ℕ) (l : List Turn) (h : TurnsAre t l) where
           )
 
   pub emptied : find (λ v. by_window v == p) (values (map mark_row h.entries)) ≡ None → left l ≡ l
-  emptied is = ap left (sym h.turns_are) ∙ sym (filter_map turn_of (λ t. not (t.receiver == p)) h.entries) ∙ ap (map turn_of) (none_in p h.entries (of (find (λ e. e.turn.receiver == p) h.entries) (sym (mark_found) ∙ is))) ∙ h.turns_are
-    where
-      of : (o : Option Entry) → option_map (λ (e : Entry). mark_of e.turn) o ≡ None → o ≡ None
-      of None k = refl
-      of (Some e) k = absurd cc
+  emptied is =
+      ap left (sym h.turns_are) ∙ sym (filter_map turn_of (λ t. not (t.receiver == p)) h.entries)
+      ∙ ap (map turn_of) (none_in p h.entries (none_mapped (λ (e : Entry). mark_of e.turn) (find (λ e. e.turn.receiver == p) h.entries) (sym (mark_found) ∙ is))) ∙ h.turns_are
 
 -- nothing stays of nothing
 pub none_left : (p : ℕ) (l : List Turn) → length l ≡ 0 → filter (λ t. not (t.receiver == p)) l ≡ l

@@ -5,7 +5,7 @@ use Rattle.bd_todo.proofs.queues.Queues.front.Goals as goal
 pub returns-in-Some : goal.returns-in-Some
 returns-in-Some c = record {
   any = λ todo s. front_any c.args.self.now todo s c.args.list c.in-Some.head c.first.result (sym c.of.ensures ∙ c.in-Some.is) (c.first.ensures s.rows s.shows.holds);
-  some = λ todo s. front_found c.args.self.now todo s c.args.list c.in-Some.head c.first.result (sym c.of.ensures ∙ c.in-Some.is) (c.first.ensures s.rows s.shows.holds);
+  some = λ rs s. front_found c.args.self.now rs s c.args.list c.in-Some.head c.first.result (sym c.of.ensures ∙ c.in-Some.is) (c.first.ensures rs s.holds);
 }
 
 pub returns-in-None-clause-any : goal.returns-in-None-clause-any

@@ -1,11 +1,5 @@
-use Rattle.std.proofs.Common.{refl}
-use Rattle.bd_space.specs.declared.space.Work.{Work}
-use Rattle.bd_todo.specs.Spots.{sought_of}
+use Rattle.std.proofs.Common.{refl, arith}
 use Rattle.bd_todo.proofs.register.Register.new.Goals as goal
 
 pub returns : goal.returns
-returns c = record {
-  counted = c.new.ensures (λ (w : Work). sought_of w.kind);
-  dated = record { none_past = tt; counted = refl };
-  rising = λ r. (tt, tt);
-}
+returns c = record { counted = c.new.ensures; at_last = refl; none_later = λ p l. refl; none_past = λ r d l. refl; one_each = λ r d. omega arith }

@@ -1,6 +1,6 @@
 use Rattle.std.proofs.Common.{◌∙◌, sym, ap, subst, IfSome, is_some}
 use Rattle.bd_space.specs.Todo.{is_on}
-use Rattle.bd_todo.specs.QueuesStand.{FrontIn}
+use Rattle.bd_todo.specs.QueuesStand.{IsFront}
 use Rattle.bd_todo.specs.Stands.{WorksAre}
 use Rattle.bd_todo.proofs.OnList.{no_first}
 use Rattle.bd_todo.proofs.WorksStand.{front_went}
@@ -8,8 +8,9 @@ use Rattle.bd_todo.proofs.table.WorkTable.pop.Goals as goal
 
 pub returns-in-Some-clause-stands : goal.returns-in-Some-clause-stands
 returns-in-Some-clause-stands c = λ l h.
-    front_went c.args.self.now c.remove_at.new.self l c.args.list c.in-Some.x h (subst (λ r. IfSome r (FrontIn c.args.self.now.queues l c.args.list)) c.in-Some.is (c.front.ensures.some l h.queues_stand))
-    c.remove_at.ensures.rows
+    let s = h.queues_stand in
+    front_went c.args.self.now c.remove_at.new.self l c.args.list c.in-Some.x h
+    (subst (λ r. IfSome r (IsFront c.args.self.now.queues s.rows c.args.list)) c.in-Some.is (c.front.ensures.some s.rows s.shows)) c.remove_at.ensures.rows
 
 pub returns-in-Some-clause-popped : goal.returns-in-Some-clause-popped
 returns-in-Some-clause-popped c = λ l h. sym (ap is_some c.in-Some.is) ∙ c.front.ensures.any l h.queues_stand
