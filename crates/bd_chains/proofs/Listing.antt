@@ -4,7 +4,7 @@ use Rattle.std.specs.List.{list_any, slice_get}
 use Rattle.std.specs.Option.{is_some}
 use Rattle.std.specs.Iterator.{YieldsFirst}
 use Rattle.bd_chains.specs.declared.chains.Chains.{Chains}
-use Rattle.bd_chains.specs.Rows.{Row, ring, values, values_on, counted_on, drop_key}
+use Rattle.bd_chains.specs.Rows.{Row, ring, values, values_on, on_some, counted_on, drop_key}
 use Rattle.bd_chains.specs.Columns.{is_open, Holds}
 use Rattle.bd_chains.specs.Lists.{AreListed, Shows}
 
@@ -97,30 +97,23 @@ module _ {K T : Type 0} (key : T → K) (counts : T → Bool) (E : K → K → B
 
   module _ (N : K → Option ℕ) (t : Chains T) (alike : (k l : K) → E k l ≡ true → N k ≡ N l) (rs : List (Row T)) (h : Shows key counts E N t rs) (own : K) where
     -- a value is on a list exactly where its key has that one's number
-    pub same_number : (n : ℕ) (v : T) (list : ℕ) → N own ≡ Some n → N (key v) ≡ Some list → E own (key v) ≡ (list == n)
-    same_number n v list is on = grind (arith, alike own (key v), h.one_list own (key v) n is)
+    pub same_number : (o : Option ℕ) (v : T) (list : ℕ) → N own ≡ o → N (key v) ≡ Some list → E own (key v) ≡ (elim o [ None ↦ false | Some n ↦ list == n ])
+    same_number o v list is on = grind (arith, alike own (key v), h.one_list own (key v) list)
 
-    pub on_list : (n : ℕ) → N own ≡ Some n → (ss : List (Row T)) → AreListed key counts N ss → filter (λ v. E own (key v)) (values ss) ≡ values_on n ss
-    on_list n is [] l = refl
-    on_list n is (r ∷ ss) l = rw (same_number n r.held.value r.list is l.0.0) (grind (arith, on_list n is ss l.1))
+    pub on_list : (o : Option ℕ) → N own ≡ o → (ss : List (Row T)) → AreListed key counts N ss → filter (λ v. E own (key v)) (values ss) ≡ on_some [] values_on o ss
+    on_list None is [] l = refl
+    on_list (Some n) is [] l = refl
+    on_list None is (r ∷ ss) l = rw (same_number None r.held.value r.list is l.0.0) (on_list None is ss l.1)
+    on_list (Some n) is (r ∷ ss) l = rw (same_number (Some n) r.held.value r.list is l.0.0) (grind (arith, on_list (Some n) is ss l.1))
 
-    pub counted_there : (n : ℕ) → N own ≡ Some n → (ss : List (Row T)) → AreListed key counts N ss → nat_lt 0 (counted_on n ss) ≡ list_any (λ v. E own (key v) && counts v) (values ss)
-    counted_there n is [] l = refl
-    counted_there n is (r ∷ ss) l = rw (same_number n r.held.value r.list is l.0.0) (grind (arith, counted_there n is ss l.1, l.0.1))
-
-    -- a key without a number has nothing on its list
-    not_on : (v : T) (list : ℕ) → N own ≡ None → N (key v) ≡ Some list → E own (key v) ≡ false
-    not_on v list none on = grind (arith, alike own (key v))
-
-    pub none_there : N own ≡ None → (ss : List (Row T)) → AreListed key counts N ss → filter (λ v. E own (key v)) (values ss) ≡ []
-    none_there none [] l = refl
-    none_there none (r ∷ ss) l = rw (not_on r.held.value r.list none l.0.0) (none_there none ss l.1)
-
-    pub none_counted_there : N own ≡ None → (ss : List (Row T)) → AreListed key counts N ss → false ≡ list_any (λ v. E own (key v) && counts v) (values ss)
-    none_counted_there none [] l = refl
-    none_counted_there none (r ∷ ss) l = rw (not_on r.held.value r.list none l.0.0) (none_counted_there none ss l.1)
+    pub counted_there : (o : Option ℕ) → N own ≡ o → (ss : List (Row T)) → AreListed key counts N ss
+        → on_some false (λ n rs. nat_lt 0 (counted_on n rs)) o ss ≡ list_any (λ v. E own (key v) && counts v) (values ss)
+    counted_there None is [] l = refl
+    counted_there (Some n) is [] l = refl
+    counted_there None is (r ∷ ss) l = rw (same_number None r.held.value r.list is l.0.0) (counted_there None is ss l.1)
+    counted_there (Some n) is (r ∷ ss) l = rw (same_number (Some n) r.held.value r.list is l.0.0) (grind (arith, counted_there (Some n) is ss l.1, l.0.1))
 
     -- nothing on the list: no key is either
     pub ring_there : (n : ℕ) → N own ≡ Some n → (ss : List (Row T)) → AreListed key counts N ss → list_any (λ v. E own (key v)) (values ss) ≡ false → ring n ss ≡ []
     ring_there n is [] l none = refl
-    ring_there n is (r ∷ ss) l none = grind (arith, ring_there n is ss l.1, same_number n r.held.value r.list is l.0.0)
+    ring_there n is (r ∷ ss) l none = grind (arith, ring_there n is ss l.1, same_number (Some n) r.held.value r.list is l.0.0)

@@ -7,7 +7,7 @@ use Rattle.bd_chains.specs.declared.links.Held.{Held}
 use Rattle.bd_chains.specs.declared.links.Item.{Item}
 use Rattle.bd_chains.specs.declared.chains.Chains.{Chains}
 use Rattle.bd_chains.specs.Chain.{has, distinct, Linked}
-use Rattle.bd_chains.specs.Rows.{Row, keys, ring, values_on, row_at}
+use Rattle.bd_chains.specs.Rows.{Row, keys, ring, values_on, on_some, row_at}
 use Rattle.bd_chains.specs.Columns.{ends_at, next_at, prev_at, shown, Holds}
 use Rattle.bd_chains.specs.Walk.{walk}
 use Rattle.bd_chains.proofs.Rowing.{ring_within}
@@ -40,3 +40,13 @@ module _ {T : Type 0} where
   values_walked t l rs h =
       walks t l (slab_len t.items) None (ring l rs) (h.linked l) (let few = ring_within l rs in let n = h.len in omega (arith, few, n))
       ∙ held_are (shown t) l rs h.apart (λ k on. h.shown_are k)
+
+  -- of a list that isn't there none are
+  pub items_walked : (t : Chains T) (list : Option ℕ) (rs : List (Row T)) → Holds t rs
+      → walk t.items (slab_len t.items) (on_some None (λ l rs. slice_get (ring l rs) 0) list rs) ≡ on_some [] values_on list rs
+  items_walked t None rs h = nothing (slab_len t.items)
+    where
+      nothing : (n : ℕ) → walk t.items n None ≡ []
+      nothing zero = refl
+      nothing (suc n) = refl
+  items_walked t (Some l) rs h = ap (walk t.items (slab_len t.items)) (sym (first_is t l rs h)) ∙ values_walked t l rs h

@@ -39,6 +39,11 @@ module _ {T : Type 0} where
   row_at k [] = None
   row_at k (r ∷ rs) = if r.key == k then Some (r.list, r.held) else row_at k rs
 
+  -- what f says of a list, or d where there is none
+  abbrev pub on_some : {A : Type 0} → A → (ℕ → List (Row T) → A) → Option ℕ → List (Row T) → A
+  on_some d f None rs = d
+  on_some d f (Some l) rs = f l rs
+
   -- how many of one list are counted
   abbrev pub counted_on : ℕ → List (Row T) → ℕ
   counted_on l [] = 0

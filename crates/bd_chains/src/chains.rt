@@ -27,28 +27,6 @@ const EMPTY: Ends = Ends {
     counted: 0,
 };
 
-// Counts one more, if it counts.
-fn raised(count: u64, is_so: bool) -> u64
-    ensures { count < 18446744073709551615 → result ≡ (if is_so then count + 1 else count) }
-{
-    if is_so {
-        count.saturating_add(1)
-    } else {
-        count
-    }
-}
-
-// Counts one less, if it counted.
-fn lowered(count: u64, is_so: bool) -> u64
-    ensures { result ≡ (if is_so then count - 1 else count) }
-{
-    if is_so {
-        count.saturating_sub(1)
-    } else {
-        count
-    }
-}
-
 // The same end of a list, where a key stands there, else another.
 fn end_or(at: Option<usize>, to: Option<usize>, was: Option<usize>) -> Option<usize>
     ensures { result ≡ end_or at to was }
@@ -64,7 +42,7 @@ impl<T: Copy> Chains<T> {
     ghost use Rattle.slab.specs.Slab.{get, slab_len};
     ghost use Rattle.bd_keys.specs.Tables.{Makes, Tells};
     ghost use Rattle.bd_chains.specs.Chain.{is_at, are_at};
-    ghost use Rattle.bd_chains.specs.Rows.{Row, ring, values_on, counted_on, hits, drop_key};
+    ghost use Rattle.bd_chains.specs.Rows.{Row, ring, values_on, on_some, counted_on, hits, drop_key};
     ghost use Rattle.bd_chains.specs.Columns.{next_at, prev_at, shown, value_at, ends_at, count_at, is_open, is_there, Holds, item_room, list_room, room_of};
 
     /// No lists. Takes no memory.
@@ -215,19 +193,22 @@ impl<T: Copy> Chains<T> {
         }
     }
 
-    /// The slot of the first value on a list.
+    /// The slot of the first value on a list, if there is such a list.
     #[tactic(auto, using(crate::proofs::Walking::first_is))]
-    pub fn first(&self, list: usize) -> Option<usize>
-        ensures { Tells (Holds self.now) result (λ rs. slice_get (ring list rs) 0) }
+    pub fn first(&self, list: Option<usize>) -> Option<usize>
+        ensures { Tells (Holds self.now) result (on_some None (λ l rs. slice_get (ring l rs) 0) list) }
     {
-        self.ends_at(list).first
+        self.ends_at(list?).first
     }
 
     /// Whether any value on a list is counted.
-    pub fn has_counted(&self, list: usize) -> bool
-        ensures { Tells (Holds self.now) result (λ rs. nat_lt 0 (counted_on list rs)) }
+    pub fn has_counted(&self, list: Option<usize>) -> bool
+        ensures { Tells (Holds self.now) result (on_some false (λ l rs. nat_lt 0 (counted_on l rs)) list) }
     {
-        self.ends_at(list).counted > 0
+        match list {
+            Some(list) => self.ends_at(list).counted > 0,
+            None => false,
+        }
     }
 
     /// The value in a slot.
@@ -241,24 +222,13 @@ impl<T: Copy> Chains<T> {
     }
 
     /// The values on a list, in the order in which they came.
-    pub fn items_on(&self, list: usize) -> Items<'_, T>
-        ensures { Tells (Holds self.now) result (values_on list) }
+    pub fn items_on(&self, list: Option<usize>) -> Items<'_, T>
+        ensures { Tells (Holds self.now) result (on_some [] values_on list) }
     {
         Items {
             items: &self.items,
             at: self.first(list),
             left: self.items.len(),
-        }
-    }
-
-    /// No values, for a list that isn't there.
-    pub fn no_items(&self) -> Items<'_, T>
-        ensures { result ≡ [] }
-    {
-        Items {
-            items: &self.items,
-            at: None,
-            left: 0,
         }
     }
 
@@ -323,7 +293,7 @@ impl<T: Copy> Chains<T> {
             prev: Some(x),
             next: Some(x),
         };
-        let counted = raised(ends.counted, counted);
+        let counted = ends.counted.saturating_add(u64::from(counted));
         self.join(list, at, to, counted);
         x
     }
@@ -342,7 +312,7 @@ impl<T: Copy> Chains<T> {
             prev: item.prev,
             next: item.next,
         };
-        let counted = lowered(ends.counted, item.held.counted);
+        let counted = ends.counted.saturating_sub(u64::from(item.held.counted));
         self.join(item.list, gap, gap, counted);
         Some(item.held.value)
     }

@@ -81,10 +81,7 @@ impl<K: Eq + Hash + Copy, T: Copy> Lists<K, T> {
         ensures { (f : T → K) (c : T → Bool) → Tells (Shows f c K.eq (get K.eq self.now.numbers.all) self.now.chains) result
             (λ rs. find (λ v. K.eq (f v) key) (values rs)) }
     {
-        match self.numbers.of(key) {
-            Some(number) => self.chains.items_on(number).next(),
-            None => None,
-        }
+        self.chains.items_on(self.numbers.of(key)).next()
     }
 
     /// A list on which nothing is needs no number.
@@ -94,7 +91,7 @@ impl<K: Eq + Hash + Copy, T: Copy> Lists<K, T> {
         ensures uses { lists_room self.old.chains self.old.numbers.all ≤ lists_room self.new.chains self.new.numbers.all }
     {
         if let Some(number) = self.numbers.of(key) {
-            if self.chains.first(number).is_none() {
+            if self.chains.first(Some(number)).is_none() {
                 self.numbers.remove(key);
                 self.chains.close(number);
             }

@@ -65,6 +65,7 @@ impl<K: Eq + Hash + Copy> Numbers<K> {
     {
         self.recent = None;
         insert_reserved(&mut self.all, key, number);
+        self.recent = Some(Recent { key, number });
     }
 
     /// A list has no number from now on.

@@ -35,7 +35,7 @@ work_is t rs s x = ap (option_map (λ (p : ℕ × Held Work). p.1.value)) (s.hol
 
 module _ (t : Queues) (all : List (Row Work)) (shows : Shows t all) (l : TodoList) (h : ℕ) (is : head_at t.lists l ≡ Some h) where
   on_row : (r : Row Work) → head_at t.lists r.held.value.list ≡ Some r.list → is_on l r.held.value ≡ (r.list == h)
-  on_row r own = same_number list_of keeps same_list (head_at t.lists) t.chains (λ k m e. ap (head_at t.lists) (same_list_eq k m e)) all shows l h r.held.value r.list is own
+  on_row r own = same_number list_of keeps same_list (head_at t.lists) t.chains (λ k m e. ap (head_at t.lists) (same_list_eq k m e)) all shows l (Some h) r.held.value r.list is own
 
   pub front_dropped : (x : ℕ) (rs : List (Row Work)) → AreListed list_of keeps (head_at t.lists) rs → distinct (keys rs) ≡ true → slice_get (ring h rs) 0 ≡ Some x
       → works (drop_key x rs) ≡ without_first (is_on l) (works rs)

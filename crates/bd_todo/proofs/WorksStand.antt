@@ -52,19 +52,13 @@ all_at t place l h same = h.registered.at_last ∙ ap (λ n. count_by (λ (w : W
 
 notice_key : (o : ObjectId) (kind : WorkKind) → is_notice o kind ≡ is_sought (Notice o.place o.index) kind
 notice_key o (kinds.Notice p) = refl
-notice_key o (kinds.Call b) = refl
-notice_key o (kinds.Death n) = refl
 notice_key o _ = refl
 
 call_key : (b : ℕ) (kind : WorkKind) → is_call b kind ≡ is_sought (Call b) kind
-call_key b (kinds.Notice p) = refl
 call_key b (kinds.Call c) = refl
-call_key b (kinds.Death n) = refl
 call_key b _ = refl
 
 death_key : (m : ℕ) (kind : WorkKind) → is_some_and (death_of kind) (λ n. n == m) ≡ is_sought (Death m) kind
-death_key m (kinds.Notice o) = refl
-death_key m (kinds.Call b) = refl
 death_key m (kinds.Death n) = refl
 death_key m _ = refl
 

@@ -35,10 +35,7 @@ impl WorkTable {
     pub fn works_on(&self, list: TodoList) -> Works<'_>
         ensures { Tells self.now result (λ l. spec.work_on l (Some list)) }
     {
-        match self.queues.lists.of(list) {
-            Some(head) => self.queues.chains.items_on(head),
-            None => self.queues.chains.no_items(),
-        }
+        self.queues.chains.items_on(self.queues.lists.of(list))
     }
 
     /// The `k`-th work item on a list, oldest first.

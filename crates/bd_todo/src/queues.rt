@@ -84,10 +84,7 @@ impl Queues {
         ensures any { Tells (Stands self.now) (is_some result) (λ todo. list_any (spec.is_on list) todo) }
         ensures some { (rs : List (Row Work)) → Shows self.now rs → IfSome result (IsFront self.now rs list) }
     {
-        match self.lists.of(list) {
-            Some(head) => self.chains.first(head),
-            None => None,
-        }
+        self.chains.first(self.lists.of(list))
     }
 
     // A work item that was made at this place is in the slot.

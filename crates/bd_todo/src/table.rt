@@ -145,10 +145,7 @@ impl WorkTable {
     pub fn keeps_from_calling(&self, list: TodoList) -> bool
         ensures { Tells self.now result (λ l. list_any (λ w. spec.is_on list w && spec.keeps_from_calling w.kind) l) }
     {
-        match self.queues.lists.of(list) {
-            Some(head) => self.queues.chains.has_counted(head),
-            None => false,
-        }
+        self.queues.chains.has_counted(self.queues.lists.of(list))
     }
 
     /// Whether the notice of an object is on any list.

@@ -1,5 +1,5 @@
 -- The table after a change.
-use Rattle.std.proofs.Common.{◌≡◌, ℕ, ◌==◌, ◌+◌, ◌≤◌, Bool, true, false, not, cond, List, [], ◌∷◌, ◌++◌, find, filter, map, length, Option, Some, None, refl, sym, ap, subst, ◌∙◌, arith}
+use Rattle.std.proofs.Common.{◌≡◌, ℕ, ◌==◌, ◌+◌, ◌≤◌, Bool, true, false, eqb-true, not, cond, List, [], ◌∷◌, ◌++◌, find, filter, map, length, Option, Some, None, refl, sym, ap, subst, ◌∙◌, arith}
 use Rattle.std.specs.Prelude.{option_map, min}
 use Rattle.std.specs.List.{list_any}
 use Rattle.std.proofs.lemmas.List.{map-append, length-map}
@@ -8,7 +8,7 @@ use Rattle.std.proofs.lemmas.List.Quantifiers.{all_pairs_push}
 use Rattle.bd_space.specs.declared.space.Turn.{Turn}
 use Rattle.bd_space.specs.Words.{changed}
 use Rattle.bd_space.proofs.Keyed.{changed_none, pairs_changed, tags_changed}
-use Rattle.bd_keys.proofs.Rising.{has, without, filter_none}
+use Rattle.bd_keys.proofs.Rising.{AllOthers, has, without, filter_none}
 use Rattle.bd_keys.proofs.Found.{none_found, apart_from, tags_more}
 use Rattle.bd_keys.proofs.Options.{none_mapped}
 use Rattle.bd_chains.specs.declared.links.Held.{Held}
@@ -114,21 +114,20 @@ turns_removed t u made s l h at calls marks spots =
     }
 
 -- there was none
-pub turns_absent : (t u : TurnTable) (made : ℕ) (l : List Turn) → TurnsAre t l → spot_at t.spots made ≡ None → ((rs : List (Row Turn)) → CallsShow t rs → CallsShow u rs) → ((rs : List (Row Mark)) → MarksShow t rs → MarksShow u rs)
+none_there : (t : TurnTable) (made : ℕ) (l : List Turn) → TurnsAre t l → spot_at t.spots made ≡ None → AllOthers (λ x. x.made) made l
+none_there t made l h at =
+    none_found (has (λ (x : Turn). x.made) made) l
+    (ap (find (λ (x : Turn). x.made == made)) (sym h.turns_are) ∙ find_map turn_of (λ x. x.made == made) h.entries ∙ ap (option_map turn_of) (absent t h.entries made h.are at))
+
+pub turns_absent : (t u : TurnTable) (made : ℕ) (l : List Turn) → TurnsAre t l → spot_at t.spots made ≡ None
+    → ((rs : List (Row Turn)) → CallsShow t rs → CallsShow u rs) → ((rs : List (Row Mark)) → MarksShow t rs → MarksShow u rs)
     → ((m : ℕ) → spot_at u.spots m ≡ cond (made == m) None (spot_at t.spots m)) → TurnsAre u (filter (λ t. not (t.made == made)) l)
-turns_absent t u made l h at objects windows spots =
-    let es = h.entries in
-    let stay = filter_none made_of made es (none_found (has made_of made) es (absent t es made h.are at)) in
-    record {
-      entries = es;
-      are = record {
-        on_objects = objects (map call_row es) h.are.on_objects;
-        in_windows = windows (map mark_row es) h.are.in_windows;
-        distinct = h.are.distinct;
-        spots_are = λ m. spots m ∙ ap (λ o. cond (made == m) None o) (h.are.spots_are m) ∙ spots_went made m es ∙ ap (λ ds. option_map (λ (e : Entry). e.spot) (find (has made_of m) ds)) stay;
-      };
-      turns_are = ap (map turn_of) (sym stay) ∙ filter_map turn_of (λ t. not (t.made == made)) es ∙ ap (filter (λ t. not (t.made == made))) h.turns_are;
-    }
+turns_absent t u made l h at calls marks spots =
+    subst (TurnsAre u) (sym (filter_none (λ (x : Turn). x.made) made l (none_there t made l h at))) (turns_kept t u l calls marks (λ m. spots m ∙ same m (made == m) refl) h)
+  where
+    same : (m : ℕ) (b : Bool) → (made == m) ≡ b → cond b None (spot_at t.spots m) ≡ spot_at t.spots m
+    same m true e = sym at ∙ ap (spot_at t.spots) (eqb-true made m e)
+    same m false e = refl
 
 -- ---- one is handed out
 
@@ -173,10 +172,7 @@ turns_handed_out t chains made s v l h at was holds opens =
     some_is e = cc
 
 pub nothing_handed : (t : TurnTable) (made : ℕ) (l : List Turn) → TurnsAre t l → spot_at t.spots made ≡ None → TurnsAre t (changed (λ t. t.made == made) hand_turn l)
-nothing_handed t made l h at =
-    let es = h.entries in
-    let stay = changed_none made_of hand_entry made es (none_found (has made_of made) es (absent t es made h.are at)) in
-    record { entries = es; are = h.are; turns_are = ap (map turn_of) (sym stay) ∙ changed_map turn_of (λ t. t.made == made) hand_entry hand_turn (λ e. refl) es ∙ ap (changed (λ t. t.made == made) hand_turn) h.turns_are }
+nothing_handed t made l h at = subst (TurnsAre t) (sym (changed_none (λ (x : Turn). x.made) hand_turn made l (none_there t made l h at))) h
 
 -- ---- the values of the rows
 

@@ -1,5 +1,5 @@
 -- Entries, where one comes, goes or is handed out: their rows, and what they are found by.
-use Rattle.std.proofs.Common.{◌≡◌, ℕ, ◌==◌, ◌+◌, Bool, true, false, not, cond, List, [], ◌∷◌, find, filter, map, length, Option, Some, None, is_some, refl, sym, ap, subst, ◌∙◌, arith, eq-eqb}
+use Rattle.std.proofs.Common.{◌≡◌, ℕ, ◌==◌, ◌+◌, Bool, true, false, not, cond, List, [], ◌∷◌, find, filter, map, length, Some, None, refl, sym, ap, subst, arith}
 use Rattle.std.specs.Prelude.{option_map}
 use Rattle.std.specs.List.{list_any}
 use Rattle.std.proofs.lemmas.Bool.{eqb-true, eqb-false}
@@ -9,10 +9,9 @@ use Rattle.bd_space.proofs.Keyed.{changed_none}
 use Rattle.bd_keys.proofs.Rising.{Distinct, has, without, pairs_tail, rest_differ, filter_none}
 use Rattle.bd_turns.proofs.Mapped.{find_map}
 use Rattle.bd_keys.proofs.Found.{any_some, found_has, find_gone, find_stays}
-use Rattle.bd_chains.specs.declared.links.Held.{Held}
 use Rattle.bd_chains.specs.Chain as chain
 use Rattle.bd_chains.specs.Rows.{Row, keys, row_at, drop_key}
-use Rattle.bd_chains.specs.Setting.{set_row, with_value}
+use Rattle.bd_chains.specs.Setting.{with_value}
 use Rattle.bd_chains.proofs.Rowing.{drop_none}
 use Rattle.bd_turns.specs.Turn.{hand_turn}
 use Rattle.bd_turns.specs.Entries.{Entry, made_of, call_row, hand_entry}

@@ -1,5 +1,5 @@
 -- Lists of what elements show: what is found among them, stays, or is changed.
-use Rattle.std.proofs.Common.{◌≡◌, Bool, true, false, cond, List, [], ◌∷◌, arith, find, filter, map, Some, refl, ap, ◌∙◌}
+use Rattle.std.proofs.Common.{◌≡◌, Bool, List, [], ◌∷◌, arith, find, filter, map, refl}
 use Rattle.std.specs.Prelude.{option_map}
 use Rattle.bd_space.specs.Words.{changed}
 

@@ -1,7 +1,4 @@
-use Rattle.std.proofs.Common.{ℕ, None, cond, ap, sym, ◌∙◌, Option}
-use Rattle.std.specs.HashMap.{get_by}
-use Rattle.bd_todo.specs.declared.heads.ListKey.{ListKey}
-use Rattle.bd_todo.specs.Keys.{same_key}
+use Rattle.std.proofs.Common.{None, sym, ◌∙◌}
 use Rattle.bd_todo.specs.Heads.{head_at}
 use Rattle.bd_todo.proofs.HeadRows.{row_put, key_put}
 use Rattle.bd_todo.proofs.heads.Heads.remove.Goals as goal
@@ -16,6 +13,4 @@ pub returns-in-None-clause-heads : goal.returns-in-None-clause-heads
 unfolding head_at
 returns-in-None-clause-heads c =
     let t = c.args.self.now in
-    key_put t.threads t.others.all c.remove.new.self.all c.args.list None (sym c.row.ensures ∙ c.in-None.is)
-    (λ k. c.remove.ensures.numbers k
-    ∙ ap (λ (q : ListKey). cond {A = Option ℕ} (same_key q k) None (get_by (same_key k) t.others.all)) c.list_key.ensures)
+    key_put t.threads t.others.all c.remove.new.self.all c.args.list None (sym c.row.ensures ∙ c.in-None.is) (rw c.list_key.ensures at c.remove.ensures.numbers)
