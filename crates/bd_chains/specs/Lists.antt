@@ -1,6 +1,5 @@
 -- Lists that are found by what their values have in common: N is the number of each that has one.
 use Rattle.std.specs.Prelude.{ℕ, ◌≡◌, Bool, true, List, [], ◌∷◌, Option, Some, min}
-use Rattle.std.specs.HashMap.{HashMap, spare}
 use Rattle.bd_chains.specs.declared.chains.Chains.{Chains}
 use Rattle.bd_chains.specs.Rows.{Row}
 use Rattle.bd_chains.specs.Columns.{is_open, Holds, room_of}
@@ -19,5 +18,5 @@ module _ {K T : Type 0} (key : T → K) (counts : T → Bool) where
     pub one_list : (k l : K) (n : ℕ) → N k ≡ Some n → N l ≡ Some n → same k l ≡ true
 
 -- so many values more take no memory, each maybe the first of its list
-abbrev pub lists_room : {K T S : Type 0} → Chains T → HashMap K ℕ S → ℕ
-lists_room t numbers = min (room_of t) (spare numbers)
+abbrev pub lists_room : {T : Type 0} → Chains T → ℕ → ℕ
+lists_room t numbers = min (room_of t) numbers

@@ -11,4 +11,4 @@ mod set;
 pub use chains::Chains;
 pub use items::Items;
 pub use lists::Lists;
-pub use numbers::Numbers;
+pub use numbers::{Numbering, Numbers};

@@ -1,12 +1,61 @@
 //! The numbers of lists, by their keys.
 
-ghost use Rattle.std.specs.{Prelude.{◌≡◌, ◌≤◌, ◌<◌, ◌+◌, Some, None, OnOk, OnErr, if◌then◌else◌}, HashMap.{get, get_by, spare}};
+ghost use Rattle.std.specs.{Prelude.{ℕ, ◌≡◌, ◌≤◌, ◌<◌, ◌+◌, Bool, true, Option, Some, None, OnOk, OnErr, if◌then◌else◌}, HashMap.{get, get_by, spare, Eq.{lookup_congr}}};
 ghost use Rattle.bd_chains.specs.declared.numbers.Recent as noting;
 
 use bd_keys::insert_reserved;
 use std::alloc::{AllocError, Global};
 use std::collections::HashMap;
 use std::hash::Hash;
+
+/// What tells the number of each list that has one.
+pub trait Numbering {
+    type Key: Copy;
+
+    // Two keys are of the same list.
+    ghost same: { Self.Key → Self.Key → Bool };
+
+    ghost number: { Self → Self.Key → Option ℕ };
+
+    // So many lists more take no memory.
+    ghost room: { Self → ℕ };
+
+    /// The number of a list.
+    fn of(&self, key: Self::Key) -> Option<usize>
+        ensures { result ≡ number self.now key };
+
+    /// The number of a list, which is looked for first from now on.
+    fn find(&mut self, key: Self::Key) -> Option<usize>
+        ensures found { result ≡ number self.old key }
+        ensures numbers { (k : Self.Key) → number self.new k ≡ number self.old k }
+        ensures uses { room self.new ≡ room self.old };
+
+    /// A list has this number from now on.
+    fn insert(&mut self, key: Self::Key, at: usize)
+        requires { 0 < room self.old }
+        ensures numbers { (k : Self.Key) → number self.new k ≡ (if same key k then Some at else number self.old k) }
+        ensures uses { room self.old ≤ room self.new + 1 };
+
+    /// A list has no number from now on.
+    fn remove(&mut self, key: Self::Key)
+        ensures numbers { (k : Self.Key) → number self.new k ≡ (if same key k then None else number self.old k) }
+        ensures uses { room self.old ≤ room self.new };
+
+    /// Room for so many lists more.
+    fn reserve(&mut self, more: usize) -> Result<(), AllocError>
+        ensures numbers { (k : Self.Key) → number self.new k ≡ number self.old k }
+        ensures uses { room self.old ≤ room self.new }
+        ensures room { OnOk result (more ≤ room self.new) }
+        ensures grown { OnErr result (more ≤ room self.old → ⊥) };
+
+    ghost itself: { (k : Self.Key) → same k k ≡ true };
+
+    ghost turned: { (k l : Self.Key) → same k l ≡ same l k };
+
+    ghost alike: { (k l m : Self.Key) → same k l ≡ true → same k m ≡ same l m };
+
+    ghost one_number: { (n : Self) (k l : Self.Key) → same k l ≡ true → number n k ≡ number n l };
+}
 
 /// The number of a list.
 #[derive(Clone, Copy)]
@@ -15,7 +64,7 @@ pub struct Recent<K> {
     pub number: usize,
 }
 
-/// The number of each list that has one.
+/// The number of each list that has one, by its key's hash.
 #[derive(Drop)]
 pub struct Numbers<K: Eq + Hash> {
     pub all: HashMap<K, usize>,
@@ -34,11 +83,26 @@ impl<K: Eq + Hash + Copy> Numbers<K> {
             recent: None,
         }
     }
+}
 
-    /// The number of a list.
-    pub fn of(&self, key: K) -> Option<usize>
-        ensures { result ≡ get K.eq self.now.all key }
-    {
+impl<K: Eq + Hash + Copy> Numbering for Numbers<K> {
+    type Key = K;
+
+    ghost same = { K.eq };
+
+    ghost number = { λ n. get K.eq n.all };
+
+    ghost room = { λ n. spare n.all };
+
+    ghost itself = { K.Eq.laws.refl };
+
+    ghost turned = { K.Eq.laws.symm };
+
+    ghost alike = { K.Eq.laws.congr };
+
+    ghost one_number = { λ n. lookup_congr K.eq K.Eq.laws.congr n.all.entries };
+
+    fn of(&self, key: K) -> Option<usize> {
         if let Some(recent) = self.recent {
             if recent.key == key {
                 return Some(recent.number);
@@ -47,43 +111,24 @@ impl<K: Eq + Hash + Copy> Numbers<K> {
         self.all.get(&key).copied()
     }
 
-    /// The number of a list, which is looked for first from now on.
-    pub fn find(&mut self, key: K) -> Option<usize>
-        ensures found { result ≡ get K.eq self.old.all key }
-        ensures same { self.new.all ≡ self.old.all }
-    {
+    fn find(&mut self, key: K) -> Option<usize> {
         let number = self.of(key)?;
         self.recent = Some(Recent { key, number });
         Some(number)
     }
 
-    /// A list has this number from now on.
-    pub fn insert(&mut self, key: K, number: usize)
-        requires { 0 < spare self.old.all }
-        ensures numbers { (k : K) → get K.eq self.new.all k ≡ (if K.eq key k then Some number else get K.eq self.old.all k) }
-        ensures room { spare self.old.all ≤ spare self.new.all + 1 }
-    {
+    fn insert(&mut self, key: K, at: usize) {
         self.recent = None;
-        insert_reserved(&mut self.all, key, number);
-        self.recent = Some(Recent { key, number });
+        insert_reserved(&mut self.all, key, at);
+        self.recent = Some(Recent { key, number: at });
     }
 
-    /// A list has no number from now on.
-    pub fn remove(&mut self, key: K)
-        ensures numbers { (k : K) → get K.eq self.new.all k ≡ (if K.eq key k then None else get K.eq self.old.all k) }
-        ensures room { spare self.old.all ≤ spare self.new.all }
-    {
+    fn remove(&mut self, key: K) {
         self.recent = None;
         let _gone = self.all.remove(&key);
     }
 
-    /// Room for so many lists more.
-    pub fn reserve(&mut self, more: usize) -> Result<(), AllocError>
-        ensures numbers { (k : K) → get K.eq self.new.all k ≡ get K.eq self.old.all k }
-        ensures uses { spare self.old.all ≤ spare self.new.all }
-        ensures room { OnOk result (more ≤ spare self.new.all) }
-        ensures grown { OnErr result (more ≤ spare self.old.all → ⊥) }
-    {
+    fn reserve(&mut self, more: usize) -> Result<(), AllocError> {
         self.all.reserve(more)
     }
 }

@@ -1,5 +1,5 @@
 -- The queues after a change.
-use Rattle.std.proofs.Common.{◌≡◌, ℕ, true, false, List, [], filter, Option, Some, None, IfSome, is_some, refl, sym, ap, ◌∙◌}
+use Rattle.std.proofs.Common.{◌≡◌, ℕ, Bool, true, false, List, [], ◌∷◌, ◌++◌, filter, Option, Some, None, IfSome, is_some, refl, sym, ap, ◌∙◌}
 use Rattle.std.specs.Prelude.{nat_lt, ◌&&◌}
 use Rattle.std.specs.List.{list_any, slice_get}
 use Rattle.bd_space.specs.declared.space.Work.{Work}
@@ -7,30 +7,28 @@ use Rattle.bd_space.specs.declared.space.TodoList.{TodoList}
 use Rattle.bd_space.specs.Words.{is_some_and}
 use Rattle.bd_space.specs.Todo.{same_list, is_on, work_on, keeps_from_calling}
 use Rattle.bd_chains.specs.Rows.{Row, ring, values_on, on_some, counted_on}
-use Rattle.bd_chains.specs.Columns.{is_open, Holds}
 use Rattle.bd_chains.proofs.Rowing.{first_some}
 use Rattle.bd_chains.proofs.Walking.{values_walked}
 use Rattle.bd_todo.specs.Heads.{head_at}
-use Rattle.bd_todo.specs.QueuesStand.{list_of, keeps, Shows, Stands, IsFront}
-use Rattle.bd_todo.specs.declared.queues.Queues.{Queues}
+use Rattle.bd_todo.specs.QueuesStand.{Queues, list_of, keeps, Shows, Stands, IsFront}
 use Rattle.bd_todo.proofs.ListKeys.{same_list_eq}
 use Rattle.bd_todo.proofs.OnList.{any_first}
-use Rattle.bd_chains.proofs.Listing.{kept_shows, on_list, counted_there}
-use Rattle.bd_todo.proofs.Rows.{work_is, front_dropped, front_on}
+use Rattle.bd_chains.proofs.Listing.{on_list, counted_there}
+use Rattle.bd_todo.proofs.Rows.{work_is, works_more, front_dropped, front_on}
 
 -- what is on the same list has the same number
-pub alike : (t : Queues) (l m : TodoList) → same_list l m ≡ true → head_at t.lists l ≡ head_at t.lists m
-alike t l m e = ap (head_at t.lists) (same_list_eq l m e)
+pub alike : (t : Queues) (l m : TodoList) → same_list l m ≡ true → head_at t.numbers l ≡ head_at t.numbers m
+alike t l m e = ap (head_at t.numbers) (same_list_eq l m e)
 
 -- ---- what is found
 
-module _ (t : Queues) (todo : List Work) (s : Stands t todo) (list : TodoList) (o : Option ℕ) (is : head_at t.lists list ≡ o) where
+module _ (t : Queues) (todo : List Work) (s : Stands t todo) (list : TodoList) (o : Option ℕ) (is : head_at t.numbers list ≡ o) where
   pub works_are : on_some [] values_on o s.rows ≡ work_on todo (Some list)
-  works_are = sym (on_list list_of keeps same_list (head_at t.lists) t.chains (alike t) s.rows s.shows list o is s.rows s.shows.listed) ∙ ap (filter (is_on list)) s.works_are
+  works_are = sym (on_list list_of keeps same_list (head_at t.numbers) t.chains (alike t) s.rows s.shows list o is s.rows s.shows.listed) ∙ ap (filter (is_on list)) s.works_are
 
   pub unread_are : on_some false (λ l rs. nat_lt 0 (counted_on l rs)) o s.rows ≡ list_any (λ w. is_on list w && keeps_from_calling w.kind) todo
   unread_are =
-      counted_there list_of keeps same_list (head_at t.lists) t.chains (alike t) s.rows s.shows list o is s.rows s.shows.listed
+      counted_there list_of keeps same_list (head_at t.numbers) t.chains (alike t) s.rows s.shows list o is s.rows s.shows.listed
       ∙ ap (list_any (λ (w : Work). is_on list w && keeps_from_calling w.kind)) s.works_are
 
   pub front_any : is_some (on_some None (λ l rs. slice_get (ring l rs) 0) o s.rows) ≡ list_any (is_on list) todo
@@ -40,7 +38,7 @@ module _ (t : Queues) (todo : List Work) (s : Stands t todo) (list : TodoList) (
       first None = refl
       first (Some h) = first_some h s.rows
 
-pub front_found : (t : Queues) (rs : List (Row Work)) (s : Shows t rs) (list : TodoList) (o x : Option ℕ) → head_at t.lists list ≡ o → x ≡ on_some None (λ l rs. slice_get (ring l rs) 0) o rs → IfSome x (IsFront t rs list)
+pub front_found : (t : Queues) (rs : List (Row Work)) (s : Shows t rs) (list : TodoList) (o x : Option ℕ) → head_at t.numbers list ≡ o → x ≡ on_some None (λ l rs. slice_get (ring l rs) 0) o rs → IfSome x (IsFront t rs list)
 front_found t rs s list o None is first = tt
 front_found t rs s list None (Some x) is first = absurd cc
 front_found t rs s list (Some h) (Some x) is first = record {
@@ -50,17 +48,18 @@ front_found t rs s list (Some h) (Some x) is first = record {
 
 -- what the queues stand for is on each list what stands there
 pub on_same : (t : Queues) (ws vs : List Work) (list : TodoList) → Stands t ws → Stands t vs → filter (is_on list) ws ≡ filter (is_on list) vs
-on_same t ws vs list a b = sym (works_are t ws a list (head_at t.lists list) refl) ∙ same (head_at t.lists list) ∙ works_are t vs b list (head_at t.lists list) refl
+on_same t ws vs list a b = sym (works_are t ws a list (head_at t.numbers list) refl) ∙ same (head_at t.numbers list) ∙ works_are t vs b list (head_at t.numbers list) refl
   where
     same : (o : Option ℕ) → on_some [] values_on o a.rows ≡ on_some [] values_on o b.rows
     same None = refl
     same (Some h) = sym (values_walked t.chains h a.rows a.shows.holds) ∙ values_walked t.chains h b.rows b.shows.holds
 
--- the same rows, and the same lists
-pub kept_stands : (t u : Queues) (todo : List Work) → Stands t todo → ((rs : List (Row Work)) → Holds t.chains rs → Holds u.chains rs)
-    → ((m : ℕ) → is_open u.chains m ≡ is_open t.chains m) → ((l : TodoList) → head_at u.lists l ≡ head_at t.lists l) → Stands u todo
-kept_stands t u todo s holds opens heads = record {
-  rows = s.rows;
-  shows = kept_shows list_of keeps same_list (head_at t.lists) (head_at u.lists) t.chains u.chains s.rows s.rows s.shows (holds s.rows s.shows.holds) s.shows.listed opens heads;
-  works_are = s.works_are;
-}
+-- the same rows
+pub kept_stands : (t u : Queues) (todo : List Work) → Stands t todo → ((rs : List (Row Work)) → Shows t rs → Shows u rs) → Stands u todo
+kept_stands t u todo s kept = record { rows = s.rows; shows = kept s.rows s.shows; works_are = s.works_are }
+
+pub pushed_stands : (t u : Queues) (todo : List Work) (w : Work) (x : ℕ) (b : Bool) → Stands t todo
+    → ((rs : List (Row Work)) → Shows t rs → (n : ℕ) × Shows u (rs ++ record { key = x; list = n; held = record { value = w; counted = b } } ∷ [])) → Stands u (todo ++ w ∷ [])
+pushed_stands t u todo w x b s pushed =
+    let p = pushed s.rows s.shows in
+    record { rows = _; shows = p.1; works_are = works_more s.rows (record { key = x; list = p.0; held = record { value = w; counted = b } }) ∙ ap (λ ws. ws ++ w ∷ []) s.works_are }

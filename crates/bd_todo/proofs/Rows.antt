@@ -12,10 +12,9 @@ use Rattle.bd_chains.specs.Rows.{Row, keys, ring, drop_key}
 use Rattle.bd_chains.proofs.Rowing.{drop_none, first_in}
 use Rattle.bd_chains.specs.Lists.{AreListed}
 use Rattle.bd_chains.proofs.Listing.{same_number}
-use Rattle.bd_todo.specs.declared.queues.Queues.{Queues}
 use Rattle.bd_todo.specs.Heads.{head_at}
 use Rattle.bd_todo.specs.Rows.{works, work_in}
-use Rattle.bd_todo.specs.QueuesStand.{list_of, keeps, Shows, work_at}
+use Rattle.bd_todo.specs.QueuesStand.{Queues, list_of, keeps, Shows, work_at}
 use Rattle.bd_todo.proofs.ListKeys.{same_list_eq}
 use Rattle.bd_todo.proofs.SoughtCounts.{count_cons}
 
@@ -33,16 +32,16 @@ work_is t rs s x = ap (option_map (λ (p : ℕ × Held Work). p.1.value)) (s.hol
 
 -- ---- the first on a list
 
-module _ (t : Queues) (all : List (Row Work)) (shows : Shows t all) (l : TodoList) (h : ℕ) (is : head_at t.lists l ≡ Some h) where
-  on_row : (r : Row Work) → head_at t.lists r.held.value.list ≡ Some r.list → is_on l r.held.value ≡ (r.list == h)
-  on_row r own = same_number list_of keeps same_list (head_at t.lists) t.chains (λ k m e. ap (head_at t.lists) (same_list_eq k m e)) all shows l (Some h) r.held.value r.list is own
+module _ (t : Queues) (all : List (Row Work)) (shows : Shows t all) (l : TodoList) (h : ℕ) (is : head_at t.numbers l ≡ Some h) where
+  on_row : (r : Row Work) → head_at t.numbers r.held.value.list ≡ Some r.list → is_on l r.held.value ≡ (r.list == h)
+  on_row r own = same_number list_of keeps same_list (head_at t.numbers) t.chains (λ k m e. ap (head_at t.numbers) (same_list_eq k m e)) all shows l (Some h) r.held.value r.list is own
 
-  pub front_dropped : (x : ℕ) (rs : List (Row Work)) → AreListed list_of keeps (head_at t.lists) rs → distinct (keys rs) ≡ true → slice_get (ring h rs) 0 ≡ Some x
+  pub front_dropped : (x : ℕ) (rs : List (Row Work)) → AreListed list_of keeps (head_at t.numbers) rs → distinct (keys rs) ≡ true → slice_get (ring h rs) 0 ≡ Some x
       → works (drop_key x rs) ≡ without_first (is_on l) (works rs)
   front_dropped x [] own apart first = refl
   front_dropped x (r ∷ rs) own apart first = rw (on_row r own.0.0) (grind (arith, front_dropped x rs own.1, first_in h x rs, drop_none x rs))
 
-  pub front_on : (x : ℕ) (rs : List (Row Work)) → AreListed list_of keeps (head_at t.lists) rs → distinct (keys rs) ≡ true → slice_get (ring h rs) 0 ≡ Some x
+  pub front_on : (x : ℕ) (rs : List (Row Work)) → AreListed list_of keeps (head_at t.numbers) rs → distinct (keys rs) ≡ true → slice_get (ring h rs) 0 ≡ Some x
       → is_some_and (work_in x rs) (is_on l) ≡ true
   front_on x [] own apart first = grind arith
   front_on x (r ∷ rs) own apart first = grind (arith, on_row r own.0.0, front_on x rs own.1, first_in h x rs)

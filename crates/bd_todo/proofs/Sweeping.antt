@@ -6,8 +6,7 @@ use Rattle.bd_chains.specs.Chain.{has, distinct}
 use Rattle.bd_chains.specs.Rows.{Row, keys, row_at, drop_key}
 use Rattle.bd_chains.specs.Columns.{is_there}
 use Rattle.bd_todo.specs.Rows.{works, work_in, seen_by}
-use Rattle.bd_todo.specs.declared.queues.Queues.{Queues}
-use Rattle.bd_todo.specs.QueuesStand.{Shows, work_at}
+use Rattle.bd_todo.specs.QueuesStand.{Queues, Shows, work_at}
 use Rattle.bd_todo.specs.Stands.{RowsAre}
 use Rattle.bd_todo.specs.declared.table.WorkTable.{WorkTable}
 use Rattle.bd_todo.proofs.Rows.{work_is, filter_dropped}

@@ -1,6 +1,7 @@
 pub mod Stands
 pub mod TodoList
 pub mod Keys
+pub mod SameList
 pub mod Heads
 pub mod Rows
 pub mod QueuesStand

@@ -5,9 +5,14 @@ use Rattle.bd_space.specs.Todo.{same_list, is_on, keeps_from_calling}
 use Rattle.bd_chains.specs.Rows.{Row, drop_key}
 use Rattle.bd_chains.specs.Columns.{value_at}
 use Rattle.bd_chains.specs.Lists as lists
+use Rattle.std.specs.HashMap.{spare}
 use Rattle.bd_todo.specs.Heads.{head_at}
 use Rattle.bd_todo.specs.Rows.{works}
-use Rattle.bd_todo.specs.declared.queues.Queues.{Queues}
+use Rattle.bd_chains.specs.declared.lists.Lists.{Lists}
+use Rattle.bd_todo.specs.declared.heads.Heads.{Heads}
+
+abbrev pub Queues : Type 0
+Queues = Lists Heads Work
 
 abbrev pub list_of : Work → TodoList
 list_of w = w.list
@@ -17,7 +22,7 @@ keeps w = keeps_from_calling w.kind
 
 -- the rows are those of the queues, each on the list that its item names, which counts it if it keeps from calling
 abbrev pub Shows : Queues → List (Row Work) → Type 0
-Shows t = lists.Shows list_of keeps same_list (head_at t.lists) t.chains
+Shows t = lists.Shows list_of keeps same_list (head_at t.numbers) t.chains
 
 pub record Stands (t : Queues) (todo : List Work) : Type 0 where
   pub rows : List (Row Work)
@@ -30,7 +35,7 @@ work_at t x = value_at t.chains x
 
 -- so many work items more take no memory, each maybe the first of its list
 abbrev pub queue_room : Queues → ℕ
-queue_room t = lists.lists_room t.chains t.lists.others.all
+queue_room t = lists.lists_room t.chains (spare t.numbers.others.all)
 
 -- in the slot is the first work item on the list
 pub record IsFront (t : Queues) (rs : List (Row Work)) (list : TodoList) (x : ℕ) : Type 0 where

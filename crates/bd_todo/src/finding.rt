@@ -4,9 +4,10 @@ ghost use Rattle.std.specs.{Prelude.{◌≡◌, Some}, List.{slice_get}};
 ghost use Rattle.bd_space.specs.Todo as spec;
 ghost use Rattle.bd_todo.specs.TodoList as replies;
 
-use crate::queues::Works;
+use crate::queues::{Works, front};
 use crate::table::WorkTable;
 use crate::work::reply_of;
+use bd_chains::Numbering;
 use bd_space::{TodoList, Work};
 
 fn first_reply_among(works: Works<'_>) -> Option<u32>
@@ -28,14 +29,14 @@ impl WorkTable {
     pub fn has_any(&self, list: TodoList) -> bool
         ensures { Tells self.now result (λ l. spec.has_work_in l list) }
     {
-        self.queues.front(list).is_some()
+        front(&self.queues, list).is_some()
     }
 
     /// The work items on a list, oldest first.
     pub fn works_on(&self, list: TodoList) -> Works<'_>
         ensures { Tells self.now result (λ l. spec.work_on l (Some list)) }
     {
-        self.queues.chains.items_on(self.queues.lists.of(list))
+        self.queues.chains.items_on(self.queues.numbers.of(list))
     }
 
     /// The `k`-th work item on a list, oldest first.

@@ -1,13 +1,13 @@
 //! The numbers of the lists.
 
-ghost use Rattle.std.specs.{Prelude.{◌≡◌, ◌≤◌, ◌<◌, ◌+◌, length, Some, None, OnOk, OnErr, if◌then◌else◌}, Cmp.Rules.{hashing}};
+ghost use Rattle.std.specs.{Prelude.{◌≡◌, length, None}, Cmp.Rules.{hashing}};
 ghost use Rattle.std.specs.Hash as fed;
-ghost use Rattle.std.{specs.HashMap.{spare}, proofs.Common.{rules}};
+ghost use Rattle.std.{specs.HashMap.{spare}, proofs.Common.{ap, rules}};
 ghost use Rattle.bd_space.specs.declared.space.TodoList as declared;
 ghost use Rattle.bd_space.specs.Todo.{same_list};
 ghost use Rattle.bd_todo.specs.Keys as keys;
 
-use bd_chains::Numbers;
+use bd_chains::{Numbering, Numbers};
 use bd_keys::pair;
 use bd_space::TodoList;
 use bd_uapi::MOST_SEATS;
@@ -88,63 +88,59 @@ impl Heads {
             _ => None,
         }
     }
+}
 
-    /// The number of a list.
+impl Numbering for Heads {
+    ghost use Rattle.bd_todo.specs.SameList.{same_list_eq, same_list_refl, same_list_turned};
+    ghost use Rattle.bd_todo.specs.Heads as heads;
+
+    type Key = TodoList;
+
+    ghost same = { same_list };
+
+    ghost number = { heads.head_at };
+
+    ghost room = { λ h. spare h.others.all };
+
+    ghost itself = { same_list_refl };
+
+    ghost turned = { same_list_turned };
+
+    ghost alike = { λ k l m e. ap (λ n. same_list n m) (same_list_eq k l e) };
+
+    ghost one_number = { λ h k l e. ap (heads.head_at h) (same_list_eq k l e) };
+
     #[tactic(auto, unfolding(crate::specs::Heads::head_at))]
-    pub fn of(&self, list: TodoList) -> Option<usize>
-        ensures { result ≡ heads.head_at self.now list }
-    {
+    fn of(&self, list: TodoList) -> Option<usize> {
         match self.row(list) {
             Some(at) => self.threads[at],
             None => self.others.of(list_key(list)),
         }
     }
 
-    /// The number of a list that is about to be filled.
     #[tactic(auto, unfolding(crate::specs::Heads::head_at))]
-    pub fn find(&mut self, list: TodoList) -> Option<usize>
-        ensures found { result ≡ heads.head_at self.old list }
-        ensures heads { (l : declared.TodoList) → heads.head_at self.new l ≡ heads.head_at self.old l }
-        ensures others { self.new.others.all ≡ self.old.others.all }
-    {
+    fn find(&mut self, list: TodoList) -> Option<usize> {
         match self.row(list) {
             Some(at) => self.threads[at],
             None => self.others.find(list_key(list)),
         }
     }
 
-    /// A list has this number from now on.
-    pub fn insert(&mut self, list: TodoList, head: usize)
-        requires { 0 < spare self.old.others.all }
-        ensures heads { (l : declared.TodoList) → heads.head_at self.new l
-            ≡ (if same_list list l then Some head else heads.head_at self.old l) }
-        ensures spare { spare self.old.others.all ≤ spare self.new.others.all + 1 }
-    {
+    fn insert(&mut self, list: TodoList, head: usize) {
         match self.row(list) {
             Some(at) => self.threads[at] = Some(head),
             None => self.others.insert(list_key(list), head),
         }
     }
 
-    /// The list has no number from now on.
-    pub fn remove(&mut self, list: TodoList)
-        ensures heads { (l : declared.TodoList) → heads.head_at self.new l
-            ≡ (if same_list list l then None else heads.head_at self.old l) }
-        ensures spare { spare self.old.others.all ≤ spare self.new.others.all }
-    {
+    fn remove(&mut self, list: TodoList) {
         match self.row(list) {
             Some(at) => self.threads[at] = None,
             None => self.others.remove(list_key(list)),
         }
     }
 
-    /// Room for so many lists more.
-    pub fn reserve(&mut self, more: usize) -> Result<(), AllocError>
-        ensures heads { (l : declared.TodoList) → heads.head_at self.new l ≡ heads.head_at self.old l }
-        ensures uses { spare self.old.others.all ≤ spare self.new.others.all }
-        ensures room { OnOk result (more ≤ spare self.new.others.all) }
-        ensures grown { OnErr result (more ≤ spare self.old.others.all → ⊥) }
-    {
+    fn reserve(&mut self, more: usize) -> Result<(), AllocError> {
         self.others.reserve(more)
     }
 }

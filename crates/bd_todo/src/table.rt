@@ -11,10 +11,12 @@ ghost use Rattle.bd_space.specs.Todo as spec;
 ghost use Rattle.bd_space.specs.Notices as notices;
 ghost use Rattle.bd_todo.specs.Spots as spots;
 
-use crate::queues::Queues;
+use crate::heads::Heads;
+use crate::queues::{Queues, count_at, front};
 use crate::register::Register;
 use crate::spots::{Sought, is_sought, sought_notice};
-use crate::work::is_item;
+use crate::work::{is_item, keeps_from_calling};
+use bd_chains::{Lists, Numbering};
 use bd_space::{Identity, ObjectId, TodoList, Work, WorkKind};
 use std::alloc::{AllocError, Global};
 
@@ -34,7 +36,7 @@ impl WorkTable {
         ensures { WorksAre result [] }
     {
         WorkTable {
-            queues: Queues::new(alloc),
+            queues: Lists::new(alloc, Heads::new(alloc)),
             register: Register::new(alloc),
         }
     }
@@ -60,7 +62,7 @@ impl WorkTable {
         } else if self.register.last.place < place {
             0
         } else {
-            self.queues.count_at(place)
+            count_at(&self.queues, place)
         }
     }
 
@@ -70,7 +72,7 @@ impl WorkTable {
         ensures popped { Tells self.old result (λ l. spec.has_work_in l list) }
         ensures uses { work_room self.old ≤ work_room self.new }
     {
-        match self.queues.front(list) {
+        match front(&self.queues, list) {
             Some(x) => {
                 self.remove_at(x);
                 true
@@ -119,7 +121,7 @@ impl WorkTable {
         ensures stands { Makes self.old self.new (λ l. filter (λ w. not (spec.is_item w item.now)) l) }
         ensures uses { work_room self.old ≤ work_room self.new }
     {
-        match self.queues.front(item.list) {
+        match front(&self.queues, item.list) {
             Some(x) if self.register.rises && self.is_called_at(x, item.id) => self.remove_at(x),
             _ => self.retain(|w| !is_item(item, &w)),
         }
@@ -137,7 +139,7 @@ impl WorkTable {
             list,
             kind,
         };
-        let slot = self.queues.push(work);
+        let slot = self.queues.push(list, work, keeps_from_calling(kind));
         self.register.add(work, slot);
     }
 
@@ -145,7 +147,7 @@ impl WorkTable {
     pub fn keeps_from_calling(&self, list: TodoList) -> bool
         ensures { Tells self.now result (λ l. list_any (λ w. spec.is_on list w && spec.keeps_from_calling w.kind) l) }
     {
-        self.queues.chains.has_counted(self.queues.lists.of(list))
+        self.queues.chains.has_counted(self.queues.numbers.of(list))
     }
 
     /// Whether the notice of an object is on any list.
@@ -252,9 +254,6 @@ impl WorkTable {
     {
         self.pop_all(list);
         // A list on which nothing is needs no number.
-        if let Some(head) = self.queues.lists.of(list) {
-            self.queues.lists.remove(list);
-            self.queues.chains.close(head);
-        }
+        self.queues.give_back(list);
     }
 }

@@ -6,7 +6,7 @@ use Rattle.bd_turns.specs.declared.table.TurnTable.{TurnTable}
 use Rattle.bd_chains.specs.Lists.{lists_room}
 
 unfoldable pub turn_room : TurnTable → ℕ
-turn_room t = min (min (lists_room t.objects.chains t.objects.numbers.all) (lists_room t.windows.chains t.windows.numbers.all)) (spare t.spots)
+turn_room t = min (min (lists_room t.objects.chains (spare t.objects.numbers.all)) (lists_room t.windows.chains (spare t.windows.numbers.all))) (spare t.spots)
 
 -- each by its own place
 unfoldable pub turn_count : TurnTable → ℕ

@@ -2,14 +2,14 @@
 #![tactic(auto, unfolding(crate::specs::Room::turn_room, crate::specs::Room::turn_count))]
 
 ghost use Rattle.std.specs.Prelude.{List, ◌≡◌, ◌==◌, ◌≤◌, ◌++◌, ◌∷◌, [], false, not, filter, find, OnOk, OnErr};
-ghost use Rattle.std.specs.List.{list_any};
+ghost use Rattle.std.specs.{List.{list_any}, HashMap.{spare}};
 ghost use Rattle.bd_keys.specs.Tables as tables;
 ghost use Rattle.bd_space.specs.declared.space.Turn as declared;
 ghost use Rattle.bd_space.specs.Words.{changed, same};
 ghost use Rattle.bd_turns.specs.{Turn.{hand_turn}, Room.{Uses, turn_room}};
 
 use crate::spot::{Mark, Spot, spot_at};
-use bd_chains::Lists;
+use bd_chains::{Lists, Numbers};
 use bd_keys::insert_reserved;
 use bd_space::{ObjectId, Turn};
 use std::alloc::{AllocError, Global};
@@ -18,9 +18,9 @@ use std::collections::HashMap;
 /// The one-way calls of a driver whose buffers live.
 pub struct TurnTable {
     // Of each object, the oldest first.
-    pub(crate) objects: Lists<ObjectId, Turn>,
+    pub(crate) objects: Lists<Numbers<ObjectId>, Turn>,
     // In each process's window.
-    pub(crate) windows: Lists<u32, Mark>,
+    pub(crate) windows: Lists<Numbers<u32>, Mark>,
     // By where they were made.
     pub(crate) spots: HashMap<u32, Spot>,
     // The object whose call went last: of all objects' lists this one alone may be open with nothing on it.
@@ -48,8 +48,8 @@ impl TurnTable {
         ensures { TurnsAre result [] }
     {
         TurnTable {
-            objects: Lists::new(alloc),
-            windows: Lists::new(alloc),
+            objects: Lists::new(alloc, Numbers::new(alloc)),
+            windows: Lists::new(alloc, Numbers::new(alloc)),
             spots: HashMap::new(alloc),
             last: ObjectId { place: 0, index: 0 },
         }
@@ -113,8 +113,8 @@ impl TurnTable {
         ensures objects { tables.Makes (CallsShow self.old) (CallsShow self.new) (λ rs. rs) }
         ensures windows { self.new.windows ≡ self.old.windows }
         ensures spots { self.new.spots ≡ self.old.spots }
-        ensures room { lists_room self.old.objects.chains self.old.objects.numbers.all
-            ≤ lists_room self.new.objects.chains self.new.objects.numbers.all }
+        ensures room { lists_room self.old.objects.chains (spare self.old.objects.numbers.all)
+            ≤ lists_room self.new.objects.chains (spare self.new.objects.numbers.all) }
     {
         if self.last != object {
             self.objects.give_back(self.last);

@@ -14,7 +14,7 @@ returns-in-Some-clause-rows c = λ rs h.
     let t = c.args.self.now.queues in
     let here = sym (work_is t rs h.shows c.args.x) ∙ sym c.remove.ensures.gone ∙ c.in-Some.is in
     record {
-      shows = dropped_shows list_of keeps same_list (head_at t.lists) (head_at t.lists) t.chains c.remove.new.self c.args.x c.remove.ensures.stands c.remove.ensures.open (λ l. refl) rs h.shows;
+      shows = dropped_shows list_of keeps same_list (head_at t.numbers) (head_at t.numbers) t.chains c.remove.new.self c.args.x c.remove.ensures.stands c.remove.ensures.open (λ l. refl) rs h.shows;
       registered = c.remove-in-Some.ensures.stands (works rs) (works (drop_key c.args.x rs)) (λ p. count_dropped c.args.x c.in-Some.work p rs h.shows.holds.apart here) h.registered;
     }
 
@@ -23,6 +23,6 @@ returns-in_default-clause-rows c = λ rs h.
     let t = c.args.self.now.queues in
     let none = sym (work_is t rs h.shows c.args.x) ∙ sym c.remove.ensures.gone ∙ c.in_default.is in
     record {
-      shows = dropped_shows list_of keeps same_list (head_at t.lists) (head_at t.lists) t.chains c.remove.new.self c.args.x c.remove.ensures.stands c.remove.ensures.open (λ l. refl) rs h.shows;
+      shows = dropped_shows list_of keeps same_list (head_at t.numbers) (head_at t.numbers) t.chains c.remove.new.self c.args.x c.remove.ensures.stands c.remove.ensures.open (λ l. refl) rs h.shows;
       registered = subst (λ ss. Registered c.args.self.now.register (works ss)) (sym (none_dropped c.args.x rs none)) h.registered;
     }

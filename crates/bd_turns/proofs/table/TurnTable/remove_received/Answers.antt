@@ -21,6 +21,6 @@ returns-clause-uses c =
     let w = c.give_back.new.self in
     let u = c.pop_received.ensures.uses in
     record {
-      room = wider (turn_room c.args.self.now) (lists_room m.objects.chains m.objects.numbers.all) (lists_room m.windows.chains m.windows.numbers.all) (lists_room w.chains w.numbers.all) (spare m.spots) u.room c.give_back.ensures.uses;
+      room = wider (turn_room c.args.self.now) (lists_room m.objects.chains (spare m.objects.numbers.all)) (lists_room m.windows.chains (spare m.windows.numbers.all)) (lists_room w.chains (spare w.numbers.all)) (spare m.spots) u.room c.give_back.ensures.uses;
       count = u.count;
     }

@@ -1,6 +1,6 @@
 use Rattle.std.proofs.Common.{sym, ◌∙◌}
 use Rattle.std.specs.HashMap.Eq.{lookup_congr}
-use Rattle.bd_chains.proofs.numbers.Numbers.of.Goals as goal
+use Rattle.bd_chains.proofs.numbers.NumbersNumbering.of.Goals as goal
 
 pub returns-then-eq : goal.returns-then-eq
 returns-then-eq g c =
