@@ -1,5 +1,4 @@
 pub mod Fits
-pub mod Plain
 pub mod ListKeys
 pub mod HeadRows
 pub mod OnList

@@ -14,6 +14,6 @@ returns-in-Ok-clause-counts c = λ k.
     let raised : Spot = record { count = c.saturating_add-count.result; slot = c.args.slot } in
     let was = ap (λ (s : Spot). s.count) (c.or_insert-spot.ensures.value ∙ ap (λ o. unwrap_or o none) c.in-Ok.ensures.value) ∙ count_or (get_by (same_sought key) old.spots) none in
     let e =
-        count_updated (same_sought key k) (Some raised) (get_by (same_sought k) old.spots) _ ((c.in-Ok.ensures.update.0 raised).0 k)
-        ∙ at_key old key k raised.count more (c.saturating_add-count.ensures ∙ ap more was) in
+    count_updated (same_sought key k) (Some raised) (get_by (same_sought k) old.spots) _ ((c.in-Ok.ensures.update.0 raised).0 k)
+    ∙ at_key old key k raised.count more (c.saturating_add-count.ensures ∙ ap more was) in
     rw c.in-Some.is (grind (arith, e))
