@@ -1,7 +1,6 @@
 -- Lists after a change, and what stands on one.
-use Rattle.std.proofs.Common.{◌≡◌, ℕ, ◌==◌, nat_lt, Bool, true, false, ◌&&◌, ◌||◌, cond, List, [], ◌∷◌, ◌++◌, ◌+◌, filter, find, Option, Some, None, refl, sym, ap, ◌∙◌, eqb-true, eq-eqb, arith}
+use Rattle.std.proofs.Common.{◌≡◌, ℕ, ◌==◌, nat_lt, Bool, true, false, ◌&&◌, cond, List, [], ◌∷◌, ◌++◌, filter, find, Option, Some, None, refl, sym, ap, ◌∙◌, arith}
 use Rattle.std.specs.List.{list_any, slice_get}
-use Rattle.std.specs.Option.{is_some}
 use Rattle.std.specs.Iterator.{YieldsFirst}
 use Rattle.bd_chains.specs.declared.chains.Chains.{Chains}
 use Rattle.bd_chains.specs.Rows.{Row, ring, values, values_on, on_some, counted_on, drop_key}
@@ -21,10 +20,6 @@ clash a b = cc
 pub empty_ring : (ks : List ℕ) → slice_get ks 0 ≡ None → ks ≡ []
 empty_ring [] e = refl
 empty_ring (k ∷ ks) e = cc
-
-pub none_from : (o : Option ℕ) → is_some o ≡ false → o ≡ None
-none_from None e = refl
-none_from (Some k) e = absurd cc
 
 pub first_yielded : {A : Type 0} (vs : List A) (o : Option A) (ws : List A) → YieldsFirst (λ s. s) vs o ws → o ≡ slice_get vs 0
 first_yielded vs None ws h = sym (ap (λ us. slice_get us 0) h.0)

@@ -1,5 +1,5 @@
 -- Rows of values: their keys, lists and counts, where one is added or taken out.
-use Rattle.std.proofs.Common.{◌≡◌, ℕ, ◌+◌, ◌≤◌, ◌==◌, ◌&&◌, length, is_some, Bool, true, false, cond, List, [], ◌∷◌, ◌++◌, Option, Some, None, refl, sym, ap, ◌∙◌, arith}
+use Rattle.std.proofs.Common.{◌≡◌, ℕ, ◌+◌, ◌≤◌, ◌==◌, ◌&&◌, length, is_some, true, false, cond, List, [], ◌∷◌, ◌++◌, Some, None, refl, ap, arith}
 use Rattle.bd_chains.specs.declared.links.Held.{Held}
 use Rattle.bd_chains.specs.Chain.{has, distinct, without}
 use Rattle.std.specs.Prelude.{option_map}

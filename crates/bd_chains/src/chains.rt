@@ -1,7 +1,7 @@
 //! The table: its lists, what comes and what goes.
 
 ghost use Rattle.bd_chains.specs.Chain.{end_or};
-ghost use Rattle.std.specs.Prelude.{ℕ, ◌≡◌, ◌<◌, ◌≤◌, ◌==◌, ◌+◌, ◌-◌, ◌++◌, ◌∷◌, [], true, false, List, length, Option, Some, None, OnSome, IfNone, OnOk, OnErr, if◌then◌else◌, nat_lt};
+ghost use Rattle.std.specs.Prelude.{ℕ, ◌≡◌, ◌<◌, ◌≤◌, ◌==◌, ◌+◌, ◌-◌, ◌++◌, ◌∷◌, [], true, false, List, length, Option, Some, None, option_map, OnSome, IfNone, OnOk, OnErr, if◌then◌else◌, nat_lt};
 
 use crate::items::Items;
 use crate::links::{Ends, Gap, Held, Item};
@@ -43,6 +43,7 @@ impl<T: Copy> Chains<T> {
     ghost use Rattle.bd_keys.specs.Tables.{Makes, Tells};
     ghost use Rattle.bd_chains.specs.Chain.{is_at, are_at};
     ghost use Rattle.bd_chains.specs.Rows.{Row, ring, values_on, on_some, counted_on, hits, drop_key};
+    ghost use Rattle.bd_chains.specs.Setting.{with_value, set_held};
     ghost use Rattle.bd_chains.specs.Columns.{next_at, prev_at, shown, value_at, ends_at, count_at, is_open, is_there, Holds, item_room, list_room, room_of};
 
     /// No lists. Takes no memory.
@@ -315,5 +316,30 @@ impl<T: Copy> Chains<T> {
         let counted = ends.counted.saturating_sub(u64::from(item.held.counted));
         self.join(item.list, gap, gap, counted);
         Some(item.held.value)
+    }
+
+    // Writes the value in a slot.
+    fn write(&mut self, x: usize, value: T)
+        ensures shown { (k : ℕ) → shown self.new k
+            ≡ (if x == k then option_map (set_held value) (shown self.old k) else shown self.old k) }
+        ensures nexts { (m : ℕ) (o : Option ℕ) → next_at self.new m o ≡ next_at self.old m o }
+        ensures prevs { (m : ℕ) (o : Option ℕ) → prev_at self.new m o ≡ prev_at self.old m o }
+        ensures ends { self.new.ends ≡ self.old.ends }
+        ensures len { slab_len self.new.items ≡ slab_len self.old.items }
+        ensures items { item_room self.new ≡ item_room self.old }
+    {
+        if let Some(item) = self.items.get_mut(x) {
+            item.held.value = value;
+        }
+    }
+
+    /// Another value stands in a slot from now on, in the same place on its list, if any stands there.
+    pub fn set(&mut self, x: usize, value: T)
+        ensures stands { (rs : List (Row T)) → Holds self.old rs → Holds self.new (with_value x value rs) }
+        ensures open { (m : ℕ) → is_open self.new m ≡ is_open self.old m }
+        ensures items { item_room self.new ≡ item_room self.old }
+        ensures lists { list_room self.new ≡ list_room self.old }
+    {
+        self.write(x, value);
     }
 }

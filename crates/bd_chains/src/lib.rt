@@ -6,7 +6,6 @@ mod items;
 mod links;
 mod lists;
 mod numbers;
-mod set;
 
 pub use chains::Chains;
 pub use items::Items;

@@ -1,4 +1,4 @@
-use Rattle.std.proofs.Common.{sym, ap, arith}
+use Rattle.std.proofs.Common.{ap, arith}
 use Rattle.bd_chains.proofs.Tables.{push_holds}
 use Rattle.bd_chains.proofs.chains.Chains.push.Goals as goal
 

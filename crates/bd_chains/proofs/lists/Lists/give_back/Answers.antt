@@ -1,10 +1,11 @@
 use Rattle.std.proofs.Common.{not, sym, ap, ◌∙◌}
-use Rattle.bd_chains.proofs.Listing.{empty_ring, closed_shows, none_from}
+use Rattle.bd_keys.proofs.Options.{none_is}
+use Rattle.bd_chains.proofs.Listing.{empty_ring, closed_shows}
 use Rattle.bd_chains.proofs.lists.Lists.give_back.Goals as goal
 
 pub returns-then-is_none-clause-stands : goal.returns-then-is_none-clause-stands
 returns-then-is_none-clause-stands g c = λ f k rs h.
     let N = g.N.Numbering.number in let t = c.args.self.now in let law = g.met.N.Numbering in
-    let empty = empty_ring _ (sym (c.first.ensures rs h.holds) ∙ none_from c.first.result (c.is_none.ensures ∙ ap not c.if-is_none.true)) in
+    let empty = empty_ring _ (sym (c.first.ensures rs h.holds) ∙ none_is c.first.result (c.is_none.ensures ∙ ap not c.if-is_none.true)) in
     closed_shows f k g.N.Numbering.same (N t.numbers) (N c.remove.new.self) t.chains c.close.new.self law.alike (law.one_number t.numbers) rs h c.args.key c.in-Some.number
     (sym c.of.ensures ∙ c.in-Some.is) empty (c.close.ensures.stands rs h.holds empty) c.close.ensures.open c.remove.ensures.numbers
