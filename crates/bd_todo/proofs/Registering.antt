@@ -7,9 +7,9 @@ use Rattle.bd_todo.specs.declared.register.Register.{Register}
 use Rattle.bd_todo.specs.declared.spots.Sought.{Sought}
 use Rattle.bd_todo.specs.declared.spots.Spots.{Spots}
 use Rattle.bd_todo.specs.Spots.{sought_of, is_sought, is_key, count_at}
-use Rattle.bd_todo.specs.Registered.{rank, Registered}
+use Rattle.bd_todo.specs.Registered.{rank, AreCounted}
 
-module _ (t : Register) (w : Work) (todo : List Work) (h : Registered t todo) (spots : Spots) where
+module _ (t : Register) (w : Work) (todo : List Work) (h : AreCounted t todo) (spots : Spots) where
   module _ (few : length todo < 18446744073709551615) (is : w.id.index ≡ count_by (λ v. v.id.place == w.id.place) todo) (rises : Bool)
       (above : rises ≡ true → (t.rises ≡ true) × (rank t.last < rank w.id))
       (counts : (k : Sought) → count_at spots k ≡ cond (is_key k (sought_of w.kind)) (min (count_at t.spots k + 1) 18446744073709551615) (count_at t.spots k)) where
@@ -24,7 +24,7 @@ module _ (t : Register) (w : Work) (todo : List Work) (h : Registered t todo) (s
 
     -- it came last
     pub newer_came : (count : ℕ) → t.last.place ≤ w.id.place → count ≡ min (w.id.index + 1) 18446744073709551615
-        → Registered (record { spots = spots; last = w.id; count = count; rises = rises }) (todo ++ w ∷ [])
+        → AreCounted (record { spots = spots; last = w.id; count = count; rises = rises }) (todo ++ w ∷ [])
     newer_came count late counting = record {
       counted = counted;
       at_last = grind (arith, counting, is, more (λ v. v.id.place == w.id.place), low (λ v. v.id.place == w.id.place));
@@ -33,7 +33,7 @@ module _ (t : Register) (w : Work) (todo : List Work) (h : Registered t todo) (s
       one_each = λ r d. grind (arith, more (λ v. is_item v d), h.none_past (above r).0 d, h.one_each (above r).0 d, (above r).1);
     }
 
-    pub older_came : w.id.place < t.last.place → Registered (record { spots = spots; last = t.last; count = t.count; rises = rises }) (todo ++ w ∷ [])
+    pub older_came : w.id.place < t.last.place → AreCounted (record { spots = spots; last = t.last; count = t.count; rises = rises }) (todo ++ w ∷ [])
     older_came early = record {
       counted = counted;
       at_last = grind (arith, more (λ v. v.id.place == t.last.place), h.at_last, early);
@@ -48,7 +48,7 @@ module _ (t : Register) (w : Work) (todo : List Work) (h : Registered t todo) (s
   -- of every test one less passes, if it passed
   pub register_went : (left : List Work) (count : ℕ) → ((p : Work → Bool) → count_by p todo ≡ cond (p w) 1 0 + count_by p left)
       → ((k : Sought) → count_at spots k ≡ cond (is_key k (sought_of w.kind)) (count_at t.spots k - 1) (count_at t.spots k))
-      → count ≡ cond (w.id.place == t.last.place) (t.count - 1) t.count → Registered (record { spots = spots; last = t.last; count = count; rises = t.rises }) left
+      → count ≡ cond (w.id.place == t.last.place) (t.count - 1) t.count → AreCounted (record { spots = spots; last = t.last; count = count; rises = t.rises }) left
   register_went left count less counts counting = record {
     counted = λ k. grind (arith, counts k, h.counted k, less (λ v. is_sought k v.kind));
     at_last = grind (arith, counting, h.at_last, less (λ v. v.id.place == t.last.place));

@@ -46,6 +46,7 @@ works_pushed t u place index list kind l h is stands few reg = record {
 -- ---- what was made at a place
 
 pub all_at : (t : WorkTable) (place : ℕ) (l : List Work) → WorksAre t l → place ≡ t.register.last.place → t.register.count ≡ count_by (λ w. w.id.place == place) l
+unfolding Registered
 all_at t place l h same = h.registered.at_last ∙ ap (λ n. count_by (λ (w : Work). w.id.place == n) l) (sym same)
 
 -- ---- what is looked up
@@ -69,6 +70,7 @@ pub death_goes : (m : ℕ) (l : List Work) → filter (λ w. not (is_sought (Dea
 death_goes m l = sym (λ i. filter (λ (w : Work). not (death_key m w.kind i)) l)
 
 pub has_sought_is : (t : WorkTable) (k : Sought) (l : List Work) → WorksAre t l → nat_lt 0 (count_at t.register.spots k) ≡ list_any (λ w. is_sought k w.kind) l
+unfolding Registered
 has_sought_is t k l h = ap (nat_lt 0) (h.registered.counted k) ∙ any_counted (λ (w : Work). is_sought k w.kind) l
 
 pub has_notice_is : (t : WorkTable) (o : ObjectId) (l : List Work) → WorksAre t l → nat_lt 0 (count_at t.register.spots (Notice o.place o.index)) ≡ list_any (λ w. is_notice o w.kind) l

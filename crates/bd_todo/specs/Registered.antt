@@ -11,7 +11,7 @@ use Rattle.bd_todo.specs.Spots.{count_at, is_sought}
 abbrev pub rank : Identity → ℕ
 rank i = i.place * 18446744073709551616 + i.index
 
-pub record Registered (t : Register) (todo : List Work) : Type 0 where
+pub record AreCounted (t : Register) (todo : List Work) : Type 0 where
   pub counted : (k : Sought) → count_at t.spots k ≡ count_by (λ w. is_sought k w.kind) todo
   -- none was made at a later place than the last one
   pub at_last : t.count ≡ count_by (λ w. w.id.place == t.last.place) todo
@@ -19,6 +19,10 @@ pub record Registered (t : Register) (todo : List Work) : Type 0 where
   -- while identities rise up to the last, no two are called the same
   pub none_past : t.rises ≡ true → (d : Work) → rank t.last < rank d.id → count_by (λ w. is_item w d) todo ≡ 0
   pub one_each : t.rises ≡ true → (d : Work) → count_by (λ w. is_item w d) todo ≤ 1
+
+-- as one word: what stands on the table has no use for its parts
+unfoldable pub Registered : Register → List Work → Type 0
+Registered t todo = AreCounted t todo
 
 -- how many more it takes without memory
 abbrev pub register_room : Register → ℕ

@@ -41,6 +41,7 @@ impl Register {
     }
 
     /// Room for so many more.
+    #[tactic(auto, unfolding(crate::specs::Registered::Registered))]
     pub fn reserve(&mut self, more: usize) -> Result<(), AllocError>
         ensures stands { Makes (Registered self.old) (Registered self.new) (λ todo. todo) }
         ensures room { OnOk result (more ≤ register_room self.new) }

@@ -1,13 +1,14 @@
 use Rattle.std.proofs.Common.{◌≡◌, ◌<◌, true, ap, sym, ◌∙◌, arith, ltb-true}
 use Rattle.bd_space.specs.declared.space.Work.{Work}
 use Rattle.bd_todo.specs.declared.register.Register.{Register}
-use Rattle.bd_todo.specs.Registered.{rank}
+use Rattle.bd_todo.specs.Registered.{rank, Registered}
 use Rattle.bd_todo.specs.Spots.{is_key, count_at}
 use Rattle.bd_todo.proofs.Registering.{newer_came, older_came}
 use Rattle.bd_todo.proofs.register.Register.add.Goals.{then-self, else-self}
 use Rattle.bd_todo.proofs.register.Register.add.Goals as goal
 
 pub returns-then-self-work-clause-stands : goal.returns-then-self-work-clause-stands
+unfolding Registered
 returns-then-self-work-clause-stands c = λ todo few is h.
     newer_came c.args.self.now c.args.work todo h c.add.new.self few is c.if-self.self
     (elim c.if-self.branch as (λ _. c.if-self.self ≡ true → (c.args.self.now.rises ≡ true) × (rank c.args.self.now.last < rank c.args.work.id)) [
@@ -17,6 +18,7 @@ returns-then-self-work-clause-stands c = λ todo few is h.
     (rw c.sought_of.ensures at c.add.ensures.counts) _ (omega arith) c.saturating_add-self.ensures
 
 pub returns-else-self-work-clause-stands : goal.returns-else-self-work-clause-stands
+unfolding Registered
 returns-else-self-work-clause-stands c = λ todo few is h.
     older_came c.args.self.now c.args.work todo h c.add.new.self few is c.if-self.self
     (elim c.if-self.branch as (λ _. c.if-self.self ≡ true → (c.args.self.now.rises ≡ true) × (rank c.args.self.now.last < rank c.args.work.id)) [

@@ -1,6 +1,7 @@
 use Rattle.std.proofs.Common.{◌≡◌, ◌∙◌, sym, subst, rules, tests, not, true, IfSome, arith}
 use Rattle.bd_space.specs.declared.space.Work.{Work}
 use Rattle.bd_space.specs.Words.{is_some_and}
+use Rattle.bd_todo.specs.Registered.{Registered}
 use Rattle.bd_todo.specs.QueuesStand.{work_at}
 use Rattle.bd_todo.specs.Spots.{is_sought, count_at}
 use Rattle.bd_todo.specs.Stands.{WorksAre}
@@ -17,6 +18,7 @@ returns-else-has-clause-stands c = λ l h.
     subst (WorksAre c.args.self.now) (sym (nothing_goes (λ (w : Work). is_sought c.args.key w.kind) l none)) h
 
 pub returns-in-Some-clause-stands : goal.returns-in-Some-clause-stands
+unfolding Registered
 returns-in-Some-clause-stands c = λ l h.
     let is = subst (λ r. IfSome r (λ x. (is_some_and (work_at c.args.self.now.queues x) (λ w. is_sought c.args.key w.kind) ≡ true) × (count_at c.args.self.now.register.spots c.args.key ≡ 1))) c.in-Some.is c.only.ensures in
     only_goes c.args.self.now c.remove_at.new.self (λ (w : Work). is_sought c.args.key w.kind) l c.in-Some.x h is.0 (let one = sym (h.registered.counted c.args.key) ∙ is.1 in omega (arith, one)) c.remove_at.ensures.rows
