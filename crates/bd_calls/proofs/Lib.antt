@@ -1,7 +1,6 @@
 pub mod Closing
 pub mod Few
 pub mod InCalls
-pub mod InList
 pub mod InOrder
 pub mod Losing
 pub mod Marking
@@ -9,4 +8,3 @@ pub mod OneByOne
 pub mod OneWay
 pub mod Rooms
 pub mod Seats
-pub mod Threads

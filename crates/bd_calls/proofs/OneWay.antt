@@ -28,62 +28,25 @@ turns_add bs b = filter_map-append turn_of bs (b ∷ []) ∙ ap (λ ts. turns_of
 
 -- ---- some go
 
-kept : (p : Bool) (b : Buffer) (bs : List Buffer) → turns_of (cond p (b ∷ bs) bs) ≡ cond p (cons_option (turn_of b) (turns_of bs)) (turns_of bs)
-kept true b bs = refl
-kept false b bs = refl
-
-module _ (p : Buffer → Bool) (q : Turn → Bool) where
-  kept_turn : (o : Option Turn) (stays : Bool) (ts : List Turn) → ((t : Turn) → o ≡ Some t → q t ≡ stays)
-      → cond stays (cons_option o (filter q ts)) (filter q ts) ≡ filter q (cons_option o ts)
-  kept_turn None true ts h = refl
-  kept_turn None false ts h = refl
-  kept_turn (Some t) stays ts h = ap (λ b. cond b (t ∷ filter q ts) (filter q ts)) (sym (h t refl))
-
-  pub turns_filter : ((b : Buffer) (t : Turn) → turn_of b ≡ Some t → q t ≡ p b) → (bs : List Buffer) → turns_of (filter p bs) ≡ filter q (turns_of bs)
-  turns_filter h [] = refl
-  turns_filter h (b ∷ bs) =
-      kept (p b) b (filter p bs) ∙ ap (λ ts. cond (p b) (cons_option (turn_of b) ts) ts) (turns_filter h bs) ∙ kept_turn (turn_of b) (p b) (turns_of bs) (h b)
+turns_filter : (p : Buffer → Bool) (q : Turn → Bool) → ((b : Buffer) (t : Turn) → turn_of b ≡ Some t → q t ≡ p b) → (bs : List Buffer)
+    → turns_of (filter p bs) ≡ filter q (turns_of bs)
+turns_filter p q h [] = refl
+turns_filter p q h (b ∷ bs) = grind (arith, h b, turns_filter p q h bs)
 
 -- ---- some change
 
-changed_cons : (p : Bool) (b c : Buffer) (bs : List Buffer) → turns_of (cond p b c ∷ bs) ≡ cons_option (cond p (turn_of b) (turn_of c)) (turns_of bs)
-changed_cons true b c bs = refl
-changed_cons false b c bs = refl
-
-module _ (p : Buffer → Bool) (f : Buffer → Buffer) (q : Turn → Bool) (g : Turn → Turn) where
-  changed_turn : (o : Option Turn) (is : Bool) (ts : List Turn) → ((t : Turn) → o ≡ Some t → q t ≡ is)
-      → cons_option (cond is (option_map g o) o) (changed q g ts) ≡ changed q g (cons_option o ts)
-  changed_turn None true ts h = refl
-  changed_turn None false ts h = refl
-  changed_turn (Some t) true ts h = ap (λ b. cond b (g t) t ∷ changed q g ts) (sym (h t refl))
-  changed_turn (Some t) false ts h = ap (λ b. cond b (g t) t ∷ changed q g ts) (sym (h t refl))
-
-  pub turns_changed : ((b : Buffer) → turn_of (f b) ≡ option_map g (turn_of b)) → ((b : Buffer) (t : Turn) → turn_of b ≡ Some t → q t ≡ p b)
-      → (bs : List Buffer) → turns_of (changed p f bs) ≡ changed q g (turns_of bs)
-  turns_changed k h [] = refl
-  turns_changed k h (b ∷ bs) =
-      changed_cons (p b) (f b) b (changed p f bs) ∙ ap (λ o. cons_option (cond (p b) o (turn_of b)) (turns_of (changed p f bs))) (k b)
-      ∙ ap (cons_option (cond (p b) (option_map g (turn_of b)) (turn_of b))) (turns_changed k h bs) ∙ changed_turn (turn_of b) (p b) (turns_of bs) (h b)
+turns_changed : (p : Buffer → Bool) (f : Buffer → Buffer) (q : Turn → Bool) (g : Turn → Turn) → ((b : Buffer) → turn_of (f b) ≡ option_map g (turn_of b))
+    → ((b : Buffer) (t : Turn) → turn_of b ≡ Some t → q t ≡ p b) → (bs : List Buffer) → turns_of (changed p f bs) ≡ changed q g (turns_of bs)
+turns_changed p f q g k h [] = refl
+turns_changed p f q g k h (b ∷ bs) = grind (arith, k b, h b, turns_changed p f q g k h bs)
 
 -- ---- what a one-way call has of its buffer
 
-as_handed : (w : Bool) (o : Option ObjectId) (b : Buffer) → cond w (option_map (λ x. let t : Turn = record { made = b.made; receiver = b.receiver; target = x; handed = true } in t) o) None
-    ≡ option_map hand_turn (cond w (option_map (λ x. let t : Turn = record { made = b.made; receiver = b.receiver; target = x; handed = b.handed } in t) o) None)
-as_handed true (Some x) b = refl
-as_handed true None b = refl
-as_handed false o b = refl
-
-pub turn_handed : (b : Buffer) → turn_of (hand_out b) ≡ option_map hand_turn (turn_of b)
-turn_handed b = as_handed b.one_way b.target b
+turn_handed : (b : Buffer) → turn_of (hand_out b) ≡ option_map hand_turn (turn_of b)
+turn_handed b = grind arith
 
 turn_is_of : (b : Buffer) (t : Turn) → turn_of b ≡ Some t → (t.made ≡ b.made) × (t.receiver ≡ b.receiver)
-turn_is_of b t h = of b.one_way b.target h
-  where
-    of : (w : Bool) (o : Option ObjectId) → cond w (option_map (λ x. record { made = b.made; receiver = b.receiver; target = x; handed = b.handed }) o) None ≡ Some t
-        → (t.made ≡ b.made) × (t.receiver ≡ b.receiver)
-    of true (Some x) e = (cc, cc)
-    of true None e = (cc, cc)
-    of false o e = (cc, cc)
+turn_is_of b t h = grind (arith, h)
 
 turn_made : (b : Buffer) (t : Turn) → turn_of b ≡ Some t → t.made ≡ b.made
 turn_made b t h = (turn_is_of b t h).0
@@ -91,14 +54,9 @@ turn_made b t h = (turn_is_of b t h).0
 -- no one-way call was made where a later buffer is
 none_later : (made : ℕ) (bs : List Buffer) → All (λ b. b.made < made) bs → list_any (λ t. t.made == made) (turns_of bs) ≡ false
 none_later made [] before = refl
-none_later made (b ∷ bs) before = of (turn_of b) refl (none_later made bs (All-tail (λ (c : Buffer). c.made < made) b bs before))
-  where
-    of : (o : Option Turn) → turn_of b ≡ o → list_any (λ t. t.made == made) (turns_of bs) ≡ false → list_any (λ t. t.made == made) (cons_option o (turns_of bs)) ≡ false
-    of None e h = h
-    of (Some t) e h =
-        let low = All-head (λ (c : Buffer). c.made < made) b bs before in
-        let same = turn_made b t e in
-        rw (ne_eqb t.made made (λ k. absurd (omega (arith, low, same, k)))) h
+none_later made (b ∷ bs) before =
+    let earlier = λ (c : Buffer). c.made < made in
+    grind (arith, turn_made b, All-head earlier b bs before, none_later made bs (All-tail earlier b bs before))
 
 pub turn_new : (bs : List Buffer) (b : Buffer) → All (λ c. c.made < b.made) bs → is_some_and (turn_of b) (λ t. list_any (λ u. u.made == t.made) (turns_of bs)) ≡ false
 turn_new bs b before = of (turn_of b) refl

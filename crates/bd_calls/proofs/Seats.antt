@@ -1,36 +1,35 @@
--- What is kept of the seats, and what a change of the work items leaves of it.
-use Rattle.std.proofs.Common.{◌≡◌, ℕ, ◌<◌, ◌+◌, ◌==◌, arith, Bool, true, false, cond, not, ◌&&◌, ◌||◌, List, [], ◌∷◌, Some, None, refl, ap, sym, subst, ◌∙◌, length, get_or, set, filter, take, eqb-true, IfSome}
+-- What is kept of the seats, and what a change of the work items or of a thread leaves of it.
+use Rattle.std.proofs.Common.{◌≡◌, ℕ, ◌<◌, ◌==◌, arith, Bool, true, false, cond, not, ◌&&◌, ◌||◌, List, [], ◌∷◌, ◌++◌, Some, None, refl, ap, sym, subst, ◌∙◌, length, get_or, set, eqb-true, ne_eqb, IfSome}
 use Rattle.std.specs.Prelude.{Option, option_map}
-use Rattle.std.specs.Option.{is_none}
-use Rattle.std.specs.List.{list_any}
-use Rattle.std.proofs.lemmas.Bool.{eq-eqb}
-use Rattle.std.proofs.lemmas.List.Folds.{list_any-append}
-use Rattle.std.proofs.lemmas.List.{get_or-set_same, get_or-set_other, take_more}
+use Rattle.std.specs.Option.{is_none, option_or}
+use Rattle.std.proofs.lemmas.Bool.{eqb-false}
+use Rattle.std.proofs.lemmas.List.Folds.{find-append}
+use Rattle.std.proofs.lemmas.List.{get_or-set_same, get_or-set_other}
+use Rattle.std.proofs.lemmas.Option.{IfSome_then}
 use Rattle.bd_keys.proofs.Found.{found_passes}
-use Rattle.bd_space.specs.declared.step.ObjectId.{ObjectId}
+use Rattle.bd_keys.proofs.Options.{or_none}
 use Rattle.bd_space.specs.declared.space.Frame.{Frame}
 use Rattle.bd_space.specs.declared.space.Thread.{Thread}
 use Rattle.bd_space.specs.declared.space.Work.{Work}
 use Rattle.bd_space.specs.declared.space.WorkKind.{WorkKind}
 use Rattle.bd_space.specs.declared.space.TodoList.{TodoList}
 use Rattle.bd_space.specs.declared.space.TodoList.TheVariants.{OfThread, OfProcess}
-use Rattle.bd_space.specs.Words.{is_some_and}
+use Rattle.bd_space.specs.Words.{changed, is_some_and}
 use Rattle.bd_space.specs.Seats.{thread_in}
 use Rattle.bd_space.specs.Frames.{innermost_in}
 use Rattle.bd_space.specs.ReadItems.{none_due}
-use Rattle.bd_space.specs.Todo.{has_work_in, is_on, same_list, work_on, reads_in, with_work, without_taken, is_notice}
-use Rattle.bd_space.specs.Notices.{has_notice_in}
+use Rattle.bd_space.specs.Todo.{has_work_in, is_on, same_list, work_on, reads_in, with_work, without_taken}
 use Rattle.bd_calls.specs.declared.ready.Seen.{Seen}
 use Rattle.bd_calls.specs.declared.ready.ReadySeats.{ReadySeats}
-use Rattle.bd_calls.specs.Ready.{seen_at, is_of, with_own, with_shared, told_then, told_after, IsSeen, AreSeen}
+use Rattle.bd_calls.specs.Ready.{seen_at, noted, told_then, told_after, IsSeen, AreSeen}
 use Rattle.bd_todo.proofs.OnList.{any_left}
-use Rattle.bd_todo.proofs.ListKeys.{same_list_eq, same_list_refl}
-use Rattle.bd_calls.proofs.Marking.{pushed_on, gone_beside}
+use Rattle.bd_todo.proofs.ListKeys.{same_list_eq}
+use Rattle.bd_calls.proofs.Marking.{pushed_on, taken_beside}
 
 -- ---- a seat that was seen
 
 -- whether there is anything to read is told by the lists alone where they are empty
-pub anything_to_read : (todo : List Work) (own shared : TodoList) (idle : Bool)
+anything_to_read : (todo : List Work) (own shared : TodoList) (idle : Bool)
     → (has_work_in todo own || (has_work_in todo shared && idle)) ≡ not (none_due (work_on todo (cond (has_work_in todo own) (Some own) (cond idle (Some shared) None))))
 anything_to_read todo own shared idle = grind (arith, any_left (is_on own) todo, any_left (is_on shared) todo)
 
@@ -41,79 +40,35 @@ seen_ready fs ts ws seat x t is seen =
     let found : thread_in ts seat ≡ Some t = sym seen.thread ∙ is in
     let at : t.seat ≡ seat = eqb-true _ _ (found_passes (λ (u : Thread). u.seat == seat) ts t found) in
     let idle = t.looping && is_none (innermost_in fs t.seat) in
-    let own : x.own ≡ has_work_in ws (OfThread t.seat) = seen.own ∙ ap (λ n. has_work_in ws (OfThread n)) (sym at) in
-    let shared : x.shared ≡ has_work_in ws (OfProcess t.process) =
-    subst (λ o. IfSome o (λ u. x.shared ≡ has_work_in ws (OfProcess u.process))) is seen.shared in
-    ap (λ b. b || (x.shared && idle)) own
-    ∙ ap (λ b. has_work_in ws (OfThread t.seat) || (b && idle)) shared
+    ap (λ b. b || (x.shared && idle)) (seen.own ∙ ap (λ n. has_work_in ws (OfThread n)) (sym at))
+    ∙ ap (λ b. has_work_in ws (OfThread t.seat) || (b && idle)) (seen.shared ∙ ap (λ o. is_some_and o (λ u. has_work_in ws (OfProcess u.process))) is)
     ∙ anything_to_read ws (OfThread t.seat) (OfProcess t.process) idle
     ∙ ap (λ o. is_some_and o (λ u. not (none_due (work_on ws (reads_in fs ws u))))) (sym found)
 
 -- ---- what is kept
 
-pub none_seen : (r : ReadySeats) (ts : List Thread) (told : TodoList → Bool) → ((seat : ℕ) → seen_at r seat ≡ None) → AreSeen r ts told
-none_seen r ts told none = λ seat x is. let never : None ≡ Some x = sym (none seat) ∙ is in absurd (cc)
-
+-- it was looked at a seat
 pub look_seen : (xs : List (Option Seen)) (i : ℕ) (y : Seen) (ts : List Thread) (told : TodoList → Bool) → i < length xs → IsSeen ts told i y
-    → ((seat : ℕ) (x : Seen) → get_or xs seat None ≡ Some x → IsSeen ts told seat x)
-    → (seat : ℕ) (x : Seen) → get_or (set xs i (Some y)) seat None ≡ Some x → IsSeen ts told seat x
-look_seen xs i y ts told lt is before seat x at = by (seat == i) refl
+    → ((seat : ℕ) → IfSome (get_or xs seat None) (IsSeen ts told seat)) → (seat : ℕ) → IfSome (get_or (set xs i (Some y)) seat None) (IsSeen ts told seat)
+look_seen xs i y ts told lt is before seat = by seat (i == seat) refl
   where
-    by : (b : Bool) → (seat == i) ≡ b → IsSeen ts told seat x
-    by true e =
-        let same : seat ≡ i = eqb-true seat i e in
-        let here : get_or (set xs i (Some y)) seat None ≡ Some y = ap (λ n. get_or (set xs i (Some y)) n None) same ∙ get_or-set_same xs i (Some y) None lt in
-        let one : y ≡ x = let eq : Some y ≡ Some x = sym here ∙ at in cc in
-        subst (λ z. IsSeen ts told seat z) one (subst (λ n. IsSeen ts told n y) (sym same) is)
-    by false e =
-        let apart : seat ≡ i → ⊥ = λ k. let never : false ≡ true = sym e ∙ eq-eqb seat i k in absurd (cc) in
-        before seat x (sym (get_or-set_other xs i seat (Some y) None apart) ∙ at)
+    by : (at : ℕ) (b : Bool) → (i == at) ≡ b → IfSome (get_or (set xs i (Some y)) at None) (IsSeen ts told at)
+    by at true e = subst (λ n. IfSome (get_or (set xs i (Some y)) n None) (IsSeen ts told n)) (eqb-true i at e)
+        (subst (λ o. IfSome o (IsSeen ts told i)) (sym (get_or-set_same xs i (Some y) None lt)) is)
+    by at false e = subst (λ o. IfSome o (IsSeen ts told at)) (sym (get_or-set_other xs i at (Some y) None (λ k. eqb-false i at e (sym k)))) (before at)
 
-some_is : {x y : Seen} → Some y ≡ Some x → y ≡ x
-some_is e = cc
+-- something is on a list from now on, or nothing is
+pub noted_seen : (old new : ReadySeats) (ts : List Thread) (told : TodoList → Bool) (list : TodoList) (has : Bool)
+    → ((seat : ℕ) → seen_at new seat ≡ option_map (noted list has seat) (seen_at old seat)) → AreSeen old ts told → AreSeen new ts (told_then list has told)
+noted_seen old new ts told list has now before = λ seat. subst (λ o. IfSome o (IsSeen ts (told_then list has told) seat)) (sym (now seat)) (at seat (seen_at old seat) (before seat))
+  where
+    one : (l : TodoList) (seat : ℕ) (x : Seen) → IsSeen ts told seat x → IsSeen ts (told_then l has told) seat (noted l has seat x)
+    one (OfThread t) seat x h = record { thread = grind (arith, h.thread); own = grind (arith, h.own); shared = grind (arith, h.shared) }
+    one (OfProcess p) seat x h = record { thread = grind (arith, h.thread); own = grind (arith, h.own); shared = grind (arith, h.shared) }
 
--- ---- something is on a list from now on, or nothing is
-
-module _ (old new : ReadySeats) (ts : List Thread) (told : TodoList → Bool) (has : Bool) (before : AreSeen old ts told) where
-  -- on a thread's
-  pub own_noted : (t : ℕ) → ((seat : ℕ) → seen_at new seat ≡ cond (t == seat) (option_map (with_own has) (seen_at old seat)) (seen_at old seat))
-      → AreSeen new ts (told_then (OfThread t) has told)
-  own_noted t now = λ seat x is. by seat x (t == seat) refl (seen_at old seat) refl (sym (now seat) ∙ is)
-    where
-      by : (seat : ℕ) (x : Seen) (b : Bool) → (t == seat) ≡ b → (o : Option Seen) → seen_at old seat ≡ o → cond b (option_map (with_own has) o) o ≡ Some x
-          → IsSeen ts (told_then (OfThread t) has told) seat x
-      by seat x true e None was at = absurd cc
-      by seat x false e None was at = absurd cc
-      by seat x true e (Some y) was at =
-          let seen = before seat y was in
-          subst (IsSeen ts (told_then (OfThread t) has told) seat) (some_is at)
-          (record { thread = seen.thread; own = sym (ap (λ b. cond b has (told (OfThread seat))) e); shared = seen.shared })
-      by seat x false e (Some y) was at =
-          let seen = before seat x (was ∙ at) in
-          record { thread = seen.thread; own = seen.own ∙ sym (ap (λ b. cond b has (told (OfThread seat))) e); shared = seen.shared }
-
-  -- on a process's
-  pub shared_noted : (p : ℕ) → ((seat : ℕ) → seen_at new seat ≡ with_shared p has (seen_at old seat)) → AreSeen new ts (told_then (OfProcess p) has told)
-  shared_noted p now = λ seat x is. by seat x (seen_at old seat) refl (sym (now seat) ∙ is)
-    where
-      shared : (o : Option Thread) (now : Bool) → IfSome o (λ t. now ≡ told (OfProcess t.process))
-          → IfSome o (λ t. cond (is_some_and o (λ u. u.process == p)) has now ≡ told_then (OfProcess p) has told (OfProcess t.process))
-      shared None now h = tt
-      shared (Some t) now h = grind (arith, h)
-
-      by : (seat : ℕ) (x : Seen) (o : Option Seen) → seen_at old seat ≡ o → with_shared p has o ≡ Some x → IsSeen ts (told_then (OfProcess p) has told) seat x
-      by seat x None was at = absurd cc
-      by seat x (Some y) was at = of (is_of p y) refl at
-        where
-          seen : IsSeen ts told seat y
-          seen = before seat y was
-
-          kept : (b : Bool) → is_of p y ≡ b → IsSeen ts (told_then (OfProcess p) has told) seat (record y { shared = cond b has y.shared })
-          kept b e = record { thread = seen.thread; own = seen.own; shared = subst (λ c. IfSome y.thread (λ t. cond c has y.shared ≡ told_then (OfProcess p) has told (OfProcess t.process))) e (shared y.thread y.shared seen.shared) }
-
-          of : (b : Bool) → is_of p y ≡ b → cond b (Some (record y { shared = has })) (Some y) ≡ Some x → IsSeen ts (told_then (OfProcess p) has told) seat x
-          of true e k = subst (IsSeen ts (told_then (OfProcess p) has told) seat) (some_is k) (kept true e)
-          of false e k = subst (IsSeen ts (told_then (OfProcess p) has told) seat) (some_is k) (kept false e)
+    at : (seat : ℕ) (o : Option Seen) → IfSome o (IsSeen ts told seat) → IfSome (option_map (noted list has seat) o) (IsSeen ts (told_then list has told) seat)
+    at seat None h = tt
+    at seat (Some x) h = one list seat x h
 
 -- what is told of each list may be said otherwise
 pub told_same : (r : ReadySeats) (ts : List Thread) (a b : TodoList → Bool) → ((list : TodoList) → a list ≡ b list) → AreSeen r ts a → AreSeen r ts b
@@ -123,27 +78,37 @@ told_same r ts a b same = subst (AreSeen r ts) (λ i list. same list i)
 
 -- a work item comes onto a list
 pub pushed_told : (place : ℕ) (ws : List Work) (to : TodoList) (kind : WorkKind) (list : TodoList) → told_then to true (has_work_in ws) list ≡ has_work_in (with_work place ws to kind) list
-pushed_told place ws to kind list = grind (arith, pushed_on place ws to kind list, same_list_eq to list, same_list_eq list to, same_list_refl to)
+pushed_told place ws to kind list = grind (arith, pushed_on place ws to kind list)
 
--- work items of other lists go
+-- work items go
+told_right : (todo taken : List Work) (told : TodoList → Bool) (list : TodoList) → (has_work_in taken list ≡ false → told list ≡ has_work_in todo list)
+    → told_after todo taken told list ≡ has_work_in todo list
+told_right todo [] told list right = right refl
+told_right todo (d ∷ ds) told list right =
+    told_right todo ds (told_then d.list (has_work_in todo d.list) told) list (λ out. grind (arith, out, right, same_list_eq list d.list))
+
 pub taken_told : (taken ws : List Work) (list : TodoList) → told_after (without_taken taken ws) taken (has_work_in ws) list ≡ has_work_in (without_taken taken ws) list
-taken_told taken ws list = by (list_any (λ d. same_list d.list list) taken) refl
-  where
-    by : (b : Bool) → list_any (λ d. same_list d.list list) taken ≡ b → cond b (has_work_in (without_taken taken ws) list) (has_work_in ws list) ≡ has_work_in (without_taken taken ws) list
-    by true e = refl
-    by false e = sym (gone_beside taken ws list e)
+taken_told taken ws list = told_right (without_taken taken ws) taken (has_work_in ws) list (λ out. sym (taken_beside taken ws list out))
 
--- one work item more was taken
-pub told_more : (todo taken : List Work) (i : ℕ) (d : Work) (told : TodoList → Bool) (list : TodoList) → i < length taken
-    → told_then (get_or taken i d).list (has_work_in todo (get_or taken i d).list) (told_after todo (take i taken) told) list ≡ told_after todo (take (i + 1) taken) told list
-told_more todo taken i d told list lt = rw (take_more taken i d lt, list_any-append (λ e. same_list e.list list) (take i taken) (get_or taken i d ∷ []))
-    (by (same_list (get_or taken i d).list list) refl (list_any (λ e. same_list e.list list) (take i taken)))
-  where
-    by : (b : Bool) → same_list (get_or taken i d).list list ≡ b → (c : Bool) → cond b (has_work_in todo (get_or taken i d).list) (cond c (has_work_in todo list) (told list)) ≡ cond (c || (b || false)) (has_work_in todo list) (told list)
-    by true e c = grind (arith, same_list_eq (get_or taken i d).list list e)
-    by false e c = grind arith
+-- ---- a change of a thread
 
--- nothing goes where there is no such notice
-pub no_notice : (o : ObjectId) (ws : List Work) → has_notice_in ws o ≡ false → filter (λ w. not (is_notice o w.kind)) ws ≡ ws
-no_notice o [] e = refl
-no_notice o (w ∷ ws) e = grind (arith, e, no_notice o ws)
+-- where the other seats have the threads that they had, what is kept of them is so still
+pub kept_beside : (old new : ReadySeats) (ts us : List Thread) (told : TodoList → Bool) (gone : ℕ) → ((at : ℕ) → seen_at new at ≡ cond (gone == at) None (seen_at old at))
+    → ((at : ℕ) → (gone ≡ at → ⊥) → thread_in us at ≡ thread_in ts at) → AreSeen old ts told → AreSeen new us told
+kept_beside old new ts us told gone now as_before before = λ at. subst (λ o. IfSome o (IsSeen us told at)) (sym (now at)) (by at (gone == at) refl)
+  where
+    by : (at : ℕ) (b : Bool) → (gone == at) ≡ b → IfSome (cond b None (seen_at old at)) (IsSeen us told at)
+    by at true e = tt
+    by at false e = IfSome_then (seen_at old at) (before at)
+        (λ x seen. record { thread = seen.thread ∙ sym (as_before at (eqb-false gone at e)); own = seen.own; shared = seen.shared })
+
+-- one comes in
+pub pushed_other : (ts : List Thread) (t : Thread) (at : ℕ) → (t.seat ≡ at → ⊥) → thread_in (ts ++ t ∷ []) at ≡ thread_in ts at
+pushed_other ts t at other =
+    find-append (λ u. u.seat == at) ts (t ∷ []) ∙ ap (λ b. option_or (thread_in ts at) (cond b (Some t) None)) (ne_eqb t.seat at other) ∙ or_none (thread_in ts at)
+
+-- one enters the loop, or leaves it
+pub turned_other : (looping : Bool) (ts : List Thread) (seat at : ℕ) → (seat ≡ at → ⊥)
+    → thread_in (changed (λ t. t.seat == seat) (λ t. record t { looping = looping }) ts) at ≡ thread_in ts at
+turned_other looping [] seat at other = refl
+turned_other looping (t ∷ ts) seat at other = grind (arith, other, turned_other looping ts seat at other)

@@ -4,6 +4,5 @@ pub mod Marks
 pub mod Stands
 pub mod Room
 pub mod Told
-pub mod Losing
 pub mod Closing
 pub mod Stacked

@@ -1,5 +1,6 @@
 -- What was told of the todo lists, as far as it is kept: which may have been filled or emptied since.
-use Rattle.std.specs.Prelude.{◌≡◌, ◌≤◌, ◌+◌, ℕ, Bool, true, false, not, ◌||◌, ◌&&◌, List, [], ◌∷◌, if◌then◌else◌, vec_len, vec_capacity}
+use Rattle.std.specs.Prelude.{◌≡◌, ◌≤◌, ◌+◌, ℕ, Bool, true, false, not, ◌||◌, List, [], ◌∷◌, if◌then◌else◌, vec_len, vec_capacity}
+use Rattle.std.specs.List.{AllByRecursion}
 use Rattle.bd_ways.specs.Words.{list_any, Work, TodoList}
 use Rattle.bd_space.specs.Todo.{same_list, has_work_in}
 use Rattle.bd_todo.specs.declared.table.WorkTable.{WorkTable}
@@ -18,16 +19,6 @@ is_among lists list = list_any (same_list list) lists
 abbrev pub is_marked_in : List Mark → TodoList → Bool
 is_marked_in marks list = list_any (λ m. same_list list m.list) marks
 
--- each list is marked once
-abbrev pub are_apart : List Mark → Bool
-are_apart [] = true
-are_apart (m ∷ marks) = not (is_marked_in marks m.list) && are_apart marks
-
--- what was told of a list: what its mark has kept, or what is so where it has none
-abbrev pub told_of : List Mark → List Work → TodoList → Bool
-told_of [] todo list = has_work_in todo list
-told_of (m ∷ marks) todo list = if same_list list m.list then m.had else told_of marks todo list
-
 -- the list was filled or emptied since it was marked
 abbrev pub is_changed : List Work → Mark → Bool
 is_changed todo m = differs m.had (has_work_in todo m.list)
@@ -36,12 +27,12 @@ abbrev pub changed_lists : List Work → List Mark → List TodoList
 changed_lists todo [] = []
 changed_lists todo (m ∷ marks) = if is_changed todo m then m.list ∷ changed_lists todo marks else changed_lists todo marks
 
--- the table stands for work items of which, by the marks, this was told of each list
+-- the table stands for work items of which this was told: of a marked list what its mark has kept, of any other what is so
 pub record IsRecalled (marks : List Mark) (t : WorkTable) (told : TodoList → Bool) : Type 0 where
   pub todo : List Work
   pub todo_are : WorksAre t todo
-  pub apart : are_apart marks ≡ true
-  pub right : (list : TodoList) → told list ≡ told_of marks todo list
+  pub had : AllByRecursion (λ m. told m.list ≡ m.had) marks
+  pub beside : (list : TodoList) → is_marked_in marks list ≡ false → told list ≡ has_work_in todo list
 
 -- what was told of each list is known still, unless all are marked
 abbrev pub RecallsIn : Marks → WorkTable → (TodoList → Bool) → Type 0
@@ -52,9 +43,9 @@ is_marked m list = m.all || is_marked_in m.marks.items list
 
 -- ---- a change of the marks
 
--- what was marked is marked still
-abbrev pub Stay : Marks → Marks → Type 0
-Stay old new = (list : TodoList) → is_marked old list ≡ true → is_marked new list ≡ true
+-- what isn't marked was not marked before, and is none of these
+abbrev pub AreMarked : (TodoList → Bool) → Marks → Marks → Type 0
+AreMarked these old new = (list : TodoList) → is_marked new list ≡ false → (is_marked old list ≡ false) × (these list ≡ false)
 
 -- what was told is known still
 abbrev pub Goes : Marks → Marks → WorkTable → Type 0

@@ -1,8 +1,8 @@
 //! Frames: open two-way calls. A thread's innermost frame is its newest, as its frames are a stack.
 #![tactic(auto, unfolding(bd_space::specs::Frames::innermost, bd_space::specs::Frames::served_innermost, bd_space::specs::Frames::goes_to, bd_space::specs::Frames::closed, bd_space::specs::Transactions::call_out, bd_space::specs::Todo::owe, crate::specs::Room::rooms, crate::specs::Told::Recalls, crate::specs::Told::HasRoomToTell))]
 
-ghost use Rattle.std.specs.Prelude.{List, ◌≡◌, ◌==◌, ◌&&◌, ◌+◌, ◌-◌, ◌≤◌, ◌++◌, map, filter, find, reverse, length, Option, Some, None, option_map, OnOk};
-ghost use Rattle.std.specs.{List.{list_any}, Option.{is_none}};
+ghost use Rattle.std.specs.Prelude.{ℕ, List, ◌≡◌, ◌==◌, ◌&&◌, ◌+◌, ◌-◌, ◌≤◌, ◌++◌, map, filter, find, reverse, length, Option, Some, None, option_map, OnOk};
+ghost use Rattle.std.specs.{List.{cons_option, list_any}, Option.{is_none}};
 ghost use Rattle.bd_space.specs.declared.space.Work as declared;
 ghost use Rattle.bd_space.specs.Words.{changed};
 ghost use Rattle.bd_space.specs.Frames as spec;
@@ -14,9 +14,8 @@ ghost use Rattle.bd_space.specs.Todo as works;
 ghost use Rattle.bd_todo.specs.Stands as todo_table;
 ghost use Rattle.bd_frames.specs.Stands as frame_table;
 ghost use Rattle.bd_frames.specs.Room as frame_rooms;
-ghost use Rattle.bd_frames.specs.Words.{newest_in, is_place_among, abandoned_in, lost_frame};
+ghost use Rattle.bd_frames.specs.Words.{newest_in, is_place_among};
 ghost use Rattle.bd_threads.specs.Listed.{listed};
-ghost use Rattle.bd_calls.specs.Losing.{lost_frames};
 
 use crate::table::CallTable;
 use bd_frames::{FrameTable, serves};
@@ -99,7 +98,7 @@ pub(crate) fn leave_frames(frames: &mut FrameTable, todo: &WorkTable, seat: u32)
 impl CallTable {
     ghost use Rattle.bd_space.specs.{Space.{Space}, Transactions.{call_out}};
     ghost use Rattle.bd_ways.specs.Tables.{IsAt, Tells, Makes, MakesAt};
-    ghost use Rattle.bd_calls.specs.{Stands.{StandsFor}, Stacked.{TellsOfStacked, MakesOfStackedAt}};
+    ghost use Rattle.bd_calls.specs.{Stands.{StandsFor}, Stacked.{TellsOfStacked, MakesOfStackedAt}, Closing.{IsClosing}};
     ghost use Rattle.bd_calls.specs.{Told.{KeepsTold, ReachesFew}, Room.{Uses, UsesNothing, nothing, frame_room, work_room, frame_count}};
 
     /// The frame of the call made at this place.
@@ -137,8 +136,7 @@ impl CallTable {
     {
         let parent = newest_made(&self.frames, seat);
         let list = list_from(&self.threads, &self.frames, parent, process);
-        // One of it serves both: the frame and its call have room of their own, for so many each.
-        let sure_room = self.sure_room.saturating_sub(1);
+        // What this takes of the sure room is for the frame too.
         self.owe(place, list, WorkKind::Call(place));
         self.frames.push(Frame {
             made: place,
@@ -146,7 +144,6 @@ impl CallTable {
             server: Server::Pending,
             parent,
         });
-        self.sure_room = sure_room;
     }
 
     /// A call's frame closes.
@@ -159,33 +156,14 @@ impl CallTable {
         self.frames.close(made);
     }
 
-    // The call made there closes if it is abandoned, and its caller is told, if it lives; its frame, if it was.
-    #[tactic(auto)]
-    fn close_if_abandoned(&mut self, place: u32, made: u32) -> Option<Frame>
-        requires { 1 ≤ work_room self.old }
-        ensures stands { MakesAt place (StandsFor self.old) (StandsFor self.new) (local.close_up 1 (Some made)) }
-        ensures closed { Tells (StandsFor self.old) result (λ s. abandoned_in s.frames made) }
-        ensures kept { result ≡ None → self.new ≡ self.old }
-        ensures uses { Uses self.old self.new (record nothing { works = 1 }) }
-        ensures told { KeepsTold self.old self.new }
-        ensures few { ReachesFew 1 self.old self.new }
-    {
-        let frame = self.frames.abandoned_at(made)?;
-        self.close(frame.made);
-        self.tell_caller(place, frame, WorkKind::Verdict(Return::DeadReply));
-        Some(frame)
-    }
-
     // The call made there closes if it is abandoned, then the one in which it was made, and so on while one closes, so many
-    // at most; how many more may.
+    // at most; each caller that lives is told. How many more may close.
     #[tactic(auto)]
     fn close_up_within(&mut self, place: u32, made: Option<u32>, most: usize) -> usize
         requires { most ≤ work_room self.old }
-        ensures stands { MakesAt place (StandsFor self.old) (StandsFor self.new) (local.close_up most made) }
+        ensures closing { (due : List ℕ) (whole : Space) → IsClosing self.old place most (cons_option made due) whole
+            → IsClosing self.new place result due whole }
         ensures left { result ≤ most }
-        // Where fewer may close there are fewer frames.
-        ensures fewer { (s : Space) → StandsFor self.old s → IsAt place s
-            → length (local.close_up most made s).frames + most ≤ length s.frames + result }
         ensures uses { Uses self.old self.new (record nothing { works = most - result }) }
         ensures told { KeepsTold self.old self.new }
         ensures few { ReachesFew (most - result) self.old self.new }
@@ -195,9 +173,11 @@ impl CallTable {
             let Some(made) = next else {
                 return most - closed;
             };
-            let Some(frame) = self.close_if_abandoned(place, made) else {
+            let Some(frame) = self.frames.abandoned_at(made) else {
                 return most - closed;
             };
+            self.close(frame.made);
+            self.tell_caller(place, frame, WorkKind::Verdict(Return::DeadReply));
             next = frame.parent;
         }
         0

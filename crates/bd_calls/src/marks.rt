@@ -1,8 +1,7 @@
 //! Which todo lists may have been filled or emptied since that was last told.
 #![tactic(auto)]
 
-ghost use Rattle.std.specs.Prelude.{◌≡◌, ◌+◌, ◌<◌, ◌≤◌, ◌++◌, ◌∷◌, [], Bool, true, false, not, List, if◌then◌else◌, IfOk, OnOk, OnErr, length, vec_len, vec_capacity};
-ghost use Rattle.std.specs.List.{list_all};
+ghost use Rattle.std.specs.Prelude.{◌≡◌, ◌≤◌, [], Bool, true, false, not, List, IfOk, OnOk, OnErr, length, vec_capacity};
 ghost use Rattle.bd_space.specs.declared.space.TodoList as lists;
 ghost use Rattle.bd_space.specs.declared.space.Work as works;
 ghost use Rattle.bd_space.specs.Todo.{same_list, has_work_in};
@@ -36,29 +35,21 @@ fn is_marked_in(marks: &[Mark], list: TodoList) -> bool
     marks.iter().any(|m| m.list == list)
 }
 
-// The list is put there if it was filled or emptied.
-fn push_changed(mark: &Mark, todo: &WorkTable, reached: &mut Vec<TodoList>)
-    requires { vec_len reached.old < vec_capacity reached.old }
-    ensures listed { todo_table.Tells todo.now reached.new.items
-        (λ l. reached.old.items ++ (if spec.is_changed l mark.now then mark.now.list ∷ [] else [])) }
-    ensures len { vec_len reached.new ≤ vec_len reached.old + 1 }
-    ensures capacity { vec_capacity reached.new ≡ vec_capacity reached.old }
-{
-    let has = todo.has_any(mark.list);
-    if mark.had != has {
-        reached.push_reserved(mark.list);
-    }
-}
-
-// The marked lists that were filled or emptied, put into what has room for them.
-fn list_changed(marks: &[Mark], todo: &WorkTable, reached: &mut Vec<TodoList>)
-    requires none { reached.old.items ≡ [] }
-    requires room { vec_len reached.old + length marks.now ≤ vec_capacity reached.old }
-    ensures { todo_table.Tells todo.now reached.new.items (λ l. spec.changed_lists l marks.now) }
+// The marked lists that were filled or emptied. Fails for want of memory alone.
+fn list_changed(
+    marks: &[Mark],
+    todo: &WorkTable,
+    reached: &mut Vec<TodoList>,
+) -> Result<(), AllocError>
+    requires { reached.old.items ≡ [] }
+    ensures { OnOk result (todo_table.Tells todo.now reached.new.items (λ l. spec.changed_lists l marks.now)) }
 {
     for mark in marks {
-        push_changed(mark, todo, reached);
+        if mark.had != todo.has_any(mark.list) {
+            reached.push(mark.list)?;
+        }
     }
+    Ok(())
 }
 
 impl Marks {
@@ -91,8 +82,7 @@ impl Marks {
 
     /// The list may be filled or emptied from now on. Takes no memory: others are marked with it only where there is no room.
     pub(crate) fn mark(&mut self, todo: &WorkTable, list: TodoList)
-        ensures marked { spec.is_marked self.new list ≡ true }
-        ensures stay { spec.Stay self.old self.new }
+        ensures marked { spec.AreMarked (λ l. same_list l list) self.old self.new }
         ensures recalls { spec.Goes self.old self.new todo.now }
         ensures few { spec.MarksFew 1 self.old self.new }
     {
@@ -109,7 +99,7 @@ impl Marks {
 
     /// The lists of these work items may be emptied from now on.
     pub(crate) fn mark_lists_of(&mut self, todo: &WorkTable, taken: &[Work])
-        ensures marked { list_all (λ d. spec.is_marked self.new d.list) taken.now ≡ true }
+        ensures marked { spec.AreMarked (has_work_in taken.now) self.old self.new }
         ensures recalls { spec.Goes self.old self.new todo.now }
         ensures few { spec.MarksFew (length taken.now) self.old self.new }
     {
@@ -136,8 +126,7 @@ impl Marks {
         ensures err { OnErr result (self.new ≡ self.old) }
     {
         reached.clear();
-        reached.reserve(self.marks.len())?;
-        list_changed(&self.marks, todo, reached);
+        list_changed(&self.marks, todo, reached)?;
         let whole = !self.all;
         self.marks.clear();
         self.all = false;

@@ -2,8 +2,9 @@
 #![tactic(auto)]
 
 ghost use Rattle.std.specs.Prelude.{ℕ, ◌≡◌, ◌==◌, Bool, List, map, if◌then◌else◌, Option, None, option_map};
-ghost use Rattle.bd_space.specs.declared.space.Thread as threads;
+ghost use Rattle.bd_space.specs.declared.space.Thread as declared;
 ghost use Rattle.bd_space.specs.declared.space.TodoList as lists;
+ghost use Rattle.bd_space.specs.declared.space.TodoList.TheVariants.{OfThread};
 ghost use Rattle.bd_space.specs.declared.space.Work as works;
 ghost use Rattle.bd_space.specs.Todo as todos;
 ghost use Rattle.bd_todo.specs.Stands as todo_table;
@@ -35,7 +36,7 @@ pub(crate) struct ReadySeats {
 
 // What is kept of a seat, once something is on the process's list or nothing is.
 fn with_shared(seen: Option<Seen>, process: u32, has: bool) -> Option<Seen>
-    ensures { result ≡ spec.with_shared process has seen }
+    ensures { result ≡ option_map (spec.with_shared process has) seen }
 {
     let mut seen = seen?;
     if seen.thread.is_some_and(|t| t.process == process) {
@@ -45,7 +46,7 @@ fn with_shared(seen: Option<Seen>, process: u32, has: bool) -> Option<Seen>
 }
 
 fn note_members(seats: &mut Vec<Option<Seen>>, process: u32, has: bool)
-    ensures { seats.new.items ≡ map (spec.with_shared process has) seats.old.items }
+    ensures { seats.new.items ≡ map (option_map (spec.with_shared process has)) seats.old.items }
 {
     for seen in seats.iter_mut() {
         *seen = with_shared(*seen, process, has);
@@ -54,7 +55,8 @@ fn note_members(seats: &mut Vec<Option<Seen>>, process: u32, has: bool)
 
 /// Looks at a seat.
 pub(crate) fn look_at(threads: &ThreadTable, todo: &WorkTable, seat: u32) -> Seen
-    ensures { (ws : List works.Work) → todo_table.WorksAre todo.now ws → spec.IsSeen (listed threads.now) (todos.has_work_in ws) seat result }
+    ensures { (ts : List declared.Thread) (ws : List works.Work) → listed threads.now ≡ ts → todo_table.WorksAre todo.now ws
+        → spec.IsSeen ts (todos.has_work_in ws) seat result }
 {
     let own = todo.has_any(TodoList::OfThread(seat));
     let thread = threads.thread(seat);
@@ -72,7 +74,7 @@ pub(crate) fn look_at(threads: &ThreadTable, todo: &WorkTable, seat: u32) -> See
 impl ReadySeats {
     /// Nothing is kept, of no seat. Takes no memory.
     pub(crate) fn new(alloc: Global) -> ReadySeats
-        ensures { (seat : ℕ) → spec.seen_at result seat ≡ None }
+        ensures { (ts : List declared.Thread) (told : lists.TodoList → Bool) → spec.AreSeen result ts told }
     {
         ReadySeats {
             seats: Vec::new(alloc),
@@ -82,7 +84,7 @@ impl ReadySeats {
 
     /// The seat's thread may have changed.
     pub(crate) fn forget_seat(&mut self, seat: u32)
-        ensures { spec.KeepsBut seat self.old self.new }
+        ensures { (at : ℕ) → spec.seen_at self.new at ≡ (if seat == at then None else spec.seen_at self.old at) }
     {
         let at = seat as usize;
         if at < self.seats.len() {
@@ -93,8 +95,7 @@ impl ReadySeats {
 
     // Whether there is anything on the list of the seat's thread.
     fn note_own(&mut self, seat: u32, has: bool)
-        ensures { (at : ℕ) → spec.seen_at self.new at
-            ≡ (if seat == at then option_map (spec.with_own has) (spec.seen_at self.old at) else spec.seen_at self.old at) }
+        ensures { (at : ℕ) → spec.seen_at self.new at ≡ option_map (spec.noted (OfThread seat) has at) (spec.seen_at self.old at) }
     {
         let at = seat as usize;
         if at < self.seats.len() {
@@ -106,8 +107,7 @@ impl ReadySeats {
 
     /// There is anything on the list from now on, or nothing.
     pub(crate) fn note(&mut self, list: TodoList, has: bool)
-        ensures { (ts : List threads.Thread) (told : lists.TodoList → Bool) → spec.AreSeen self.old ts told
-            → spec.AreSeen self.new ts (spec.told_then list has told) }
+        ensures { (at : ℕ) → spec.seen_at self.new at ≡ option_map (spec.noted list has at) (spec.seen_at self.old at) }
     {
         match list {
             TodoList::OfThread(seat) => self.note_own(seat, has),
@@ -117,7 +117,7 @@ impl ReadySeats {
 
     /// These work items went from their lists, as the table now has them.
     pub(crate) fn note_lists_of(&mut self, todo: &WorkTable, taken: &[Work])
-        ensures { (ts : List threads.Thread) (told : lists.TodoList → Bool) (ws : List works.Work) → todo_table.WorksAre todo.now ws
+        ensures { (ts : List declared.Thread) (told : lists.TodoList → Bool) (ws : List works.Work) → todo_table.WorksAre todo.now ws
             → spec.AreSeen self.old ts told → spec.AreSeen self.new ts (spec.told_after ws taken.now told) }
     {
         for work in taken {
@@ -127,7 +127,7 @@ impl ReadySeats {
 
     /// All may have changed.
     pub(crate) fn forget_all(&mut self)
-        ensures { (seat : ℕ) → spec.seen_at self.new seat ≡ None }
+        ensures { (ts : List declared.Thread) (told : lists.TodoList → Bool) → spec.AreSeen self.new ts told }
     {
         self.whole = false;
         self.seats.fill(None);
@@ -135,8 +135,8 @@ impl ReadySeats {
 
     // Looks at a seat of which nothing is kept.
     fn look(&mut self, threads: &ThreadTable, todo: &WorkTable, seat: u32)
-        ensures { (ws : List works.Work) → todo_table.WorksAre todo.now ws → spec.AreSeen self.old (listed threads.now) (todos.has_work_in ws)
-            → spec.AreSeen self.new (listed threads.now) (todos.has_work_in ws) }
+        ensures { (ts : List declared.Thread) (ws : List works.Work) → listed threads.now ≡ ts → todo_table.WorksAre todo.now ws
+            → spec.AreSeen self.old ts (todos.has_work_in ws) → spec.AreSeen self.new ts (todos.has_work_in ws) }
     {
         let at = seat as usize;
         if at < self.seats.len() && self.seats[at].is_none() {
@@ -146,8 +146,8 @@ impl ReadySeats {
 
     /// Looks at those seats of which nothing is kept.
     pub(crate) fn refresh(&mut self, threads: &ThreadTable, todo: &WorkTable)
-        ensures { (ws : List works.Work) → todo_table.WorksAre todo.now ws → spec.AreSeen self.old (listed threads.now) (todos.has_work_in ws)
-            → spec.AreSeen self.new (listed threads.now) (todos.has_work_in ws) }
+        ensures { (ts : List declared.Thread) (ws : List works.Work) → listed threads.now ≡ ts → todo_table.WorksAre todo.now ws
+            → spec.AreSeen self.old ts (todos.has_work_in ws) → spec.AreSeen self.new ts (todos.has_work_in ws) }
     {
         if self.whole {
             return;

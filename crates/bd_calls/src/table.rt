@@ -88,7 +88,7 @@ impl CallTable {
         self.todo.reserve(works)
     }
 
-    // Makes room for more than so many work items, and for as many of all others: whether it is there now.
+    // Whether there surely is room for so many work items, and as many of all others: else it is made for more, if they are few.
     fn reserve_ahead(&mut self, works: usize) -> bool
         ensures stands { Makes (StandsFor self.old) (StandsFor self.new) (λ s. s) }
         ensures uses { UsesNothing self.old self.new }
@@ -96,7 +96,13 @@ impl CallTable {
         ensures few { ReachesFew 0 self.old self.new }
         ensures sure { result ≡ true → works ≤ self.new.sure_room }
     {
-        if works > AHEAD as usize || self.reserve_each(AHEAD, AHEAD as usize).is_err() {
+        if works <= self.sure_room {
+            return true;
+        }
+        if works > AHEAD as usize {
+            return false;
+        }
+        if self.reserve_each(AHEAD, AHEAD as usize).is_err() {
             return false;
         }
         self.sure_room = AHEAD as usize;
@@ -115,7 +121,7 @@ impl CallTable {
         ensures grown { OnErr result (HasRoom self.old works → ⊥) }
     {
         let works = self.works_to_reserve(works)?;
-        if works <= self.sure_room || self.reserve_ahead(works) {
+        if self.reserve_ahead(works) {
             return Ok(());
         }
         self.reserve_each(1, works)

@@ -1,7 +1,7 @@
 //! Todo lists: which work items are still to be read, and by whom.
 #![tactic(auto, unfolding(bd_space::specs::Todo::owe, bd_space::specs::Todo::has_unread, bd_space::specs::Todo::list_to_read, crate::specs::Room::rooms, crate::specs::Told::Recalls, crate::specs::Told::HasRoomToTell))]
 
-ghost use Rattle.std.specs.Prelude.{Bool, List, ◌≡◌, ◌==◌, ◌&&◌, ◌<◌, ◌≤◌, not, filter, Option, Some, None};
+ghost use Rattle.std.specs.Prelude.{Bool, List, ◌≡◌, ◌==◌, ◌&&◌, ◌-◌, ◌<◌, ◌≤◌, not, filter, Option, Some, None};
 ghost use Rattle.std.specs.{List.{slice_get}, Option.{is_none}};
 ghost use Rattle.bd_keys.specs.Tables.{AnswersBy};
 ghost use Rattle.bd_space.specs.{declared.space.WorkKind.{WorkKind}, Frames.{innermost_in}, Words.{is_some_and}};
@@ -104,6 +104,7 @@ impl CallTable {
         ensures uses { Uses self.old self.new (record nothing { works = 1 }) }
         ensures told { KeepsTold self.old self.new }
         ensures few { ReachesFew 1 self.old self.new }
+        ensures sure { self.new.sure_room ≡ self.old.sure_room - 1 }
     {
         self.sure_room = self.sure_room.saturating_sub(1);
         self.marks.mark(&self.todo, list);

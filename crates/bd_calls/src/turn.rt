@@ -13,7 +13,7 @@ ghost use Rattle.bd_space.specs.declared.space.Turn as one_way;
 ghost use Rattle.bd_todo.specs.Stands as todo_table;
 ghost use Rattle.bd_turns.specs.Stands as turn_table;
 ghost use Rattle.bd_turns.specs.Room as turn_rooms;
-ghost use Rattle.bd_calls.specs.Turn.{handed_turns, is_other_than};
+ghost use Rattle.bd_calls.specs.Turn.{handed_turns};
 
 use crate::table::CallTable;
 use bd_space::{ObjectId, TodoList, Turn, Work, WorkKind};

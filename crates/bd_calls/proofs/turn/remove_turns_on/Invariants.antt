@@ -1,16 +1,12 @@
-use Rattle.std.proofs.Common.{List, not, filter}
-use Rattle.bd_space.specs.declared.space.Turn.{Turn}
-use Rattle.bd_space.specs.declared.space.Work.{Work}
-use Rattle.bd_space.specs.ThreadExits.{is_lost_with}
-use Rattle.bd_todo.specs.Stands.{WorksAre}
+use Rattle.bd_turns.specs.declared.table.TurnTable.{TurnTable}
 use Rattle.bd_turns.specs.Room.{Uses}
-use Rattle.bd_turns.specs.Stands.{TurnsAre}
-use Rattle.bd_calls.proofs.Losing.{Losing}
+use Rattle.bd_turns.specs.Stands.{Makes}
+use Rattle.bd_calls.proofs.Losing.{left}
 use Rattle.bd_calls.proofs.turn.remove_turns_on.Given as goal
 
+-- what is still to go makes of these what the whole makes of the first
 abbrev pub invariant-loop-work : goal.invariant-loop-work
 invariant-loop-work l = record {
-  losing : (works : List Work) → WorksAre l.fn.todo works → (ts : List Turn) → TurnsAre l.fn.turns ts
-      → Losing l.turns l.work-iterator (filter (λ (t : Turn). not (is_lost_with works l.fn.list t.made)) ts);
-  uses : Uses l.fn.turns l.turns 0;
+  turns : (t : TurnTable) → Makes l.turns t (left l.work-iterator) → Makes l.initial.turns t (left l.initial.work-iterator);
+  uses : Uses l.initial.turns l.turns 0;
 }

@@ -1,10 +1,10 @@
 use Rattle.std.proofs.Common.{arith, ◌+◌}
-use Rattle.bd_calls.proofs.Marking.{each_more}
+use Rattle.std.proofs.lemmas.Grind.{common_steps}
 use Rattle.bd_calls.proofs.marks.Marks.mark_lists_of.Goals as goal
 
 pub loop-work-preserved : goal.loop-work-preserved
 loop-work-preserved c = record {
-  marked = each_more c.loop-work.self c.mark.new.self c.args.taken.now c.loop-work.work-index _ (omega arith) c.loop-work.invariant.marked c.mark.ensures.stay c.mark.ensures.marked;
+  marked = λ list out. let now = c.mark.ensures.marked list out in grind (arith, common_steps, now, c.loop-work.invariant.marked list now.0);
   recalls = λ told k. c.mark.ensures.recalls told (c.loop-work.invariant.recalls told k);
   few = λ more room. c.mark.ensures.few more (c.loop-work.invariant.few (1 + more) (room.0, (let fits = room.1 in omega (arith, fits))));
 }

@@ -1,10 +1,12 @@
-use Rattle.std.proofs.Common.{subst, arith, take, get_or}
+use Rattle.std.proofs.Common.{sym, subst, ◌∙◌, ap, arith, take, get_or}
 use Rattle.std.proofs.lemmas.List.{take_all}
+use Rattle.std.proofs.lemmas.List.Sums.{fold_more}
 use Rattle.bd_space.specs.declared.space.Work.{Work}
 use Rattle.bd_space.specs.declared.space.TodoList.TheVariants.{OfThread}
 use Rattle.bd_space.specs.declared.space.WorkKind.TheVariants.{Notice}
+use Rattle.bd_space.specs.Todo.{has_work_in}
 use Rattle.bd_calls.specs.Ready.{AreSeen, told_then, told_after}
-use Rattle.bd_calls.proofs.Seats.{told_same, told_more}
+use Rattle.bd_calls.proofs.Seats.{noted_seen}
 use Rattle.bd_calls.proofs.ready.ReadySeats.note_lists_of.Goals as goal
 
 -- where there is none
@@ -16,9 +18,9 @@ loop-work-preserved c = λ ts told ws are before.
     let i = c.loop-work.work-index in
     let ds = c.args.taken.now in
     let was = told_after ws (take i ds) told in
-    told_same c.note.new.self ts _ _ (λ list. told_more ws ds i blank told list (omega arith))
-    (subst (λ b. AreSeen c.note.new.self ts (told_then (get_or ds i blank).list b was)) (c.has_any.ensures ws are)
-    (c.note.ensures ts was (c.loop-work.invariant ts told ws are before)))
+    subst (AreSeen c.note.new.self ts)
+    (ap (λ b. told_then (get_or ds i blank).list b was) (c.has_any.ensures ws are) ∙ sym (fold_more (λ said (d : Work). told_then d.list (has_work_in ws d.list) said) told ds i blank (omega arith)))
+    (noted_seen c.loop-work.self c.note.new.self ts was _ _ c.note.ensures (c.loop-work.invariant ts told ws are before))
 
 pub returns : goal.returns
 returns c = λ ts told ws are before.

@@ -1,4 +1,5 @@
-use Rattle.std.proofs.Common.{List}
+use Rattle.std.proofs.Common.{◌≡◌, List}
+use Rattle.bd_space.specs.declared.space.Thread.{Thread}
 use Rattle.bd_space.specs.declared.space.Work.{Work}
 use Rattle.bd_space.specs.Todo.{has_work_in}
 use Rattle.bd_todo.specs.Stands.{WorksAre}
@@ -7,4 +8,5 @@ use Rattle.bd_calls.specs.Ready.{AreSeen}
 use Rattle.bd_calls.proofs.ready.ReadySeats.refresh.Given as goal
 
 abbrev pub invariant-loop-seat : goal.invariant-loop-seat
-invariant-loop-seat l = (ws : List Work) → WorksAre l.todo ws → AreSeen l.initial.self (listed l.threads) (has_work_in ws) → AreSeen l.self (listed l.threads) (has_work_in ws)
+invariant-loop-seat l = (ts : List Thread) (ws : List Work) → listed l.threads ≡ ts → WorksAre l.todo ws
+    → AreSeen l.initial.self ts (has_work_in ws) → AreSeen l.self ts (has_work_in ws)

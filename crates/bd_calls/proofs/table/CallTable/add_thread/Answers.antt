@@ -3,7 +3,7 @@ use Rattle.bd_space.specs.declared.space.Thread.{Thread}
 use Rattle.bd_space.specs.Steps.{with_thread}
 use Rattle.bd_keys.proofs.Rising.{without, filter_none}
 use Rattle.bd_keys.proofs.Found.{none_found}
-use Rattle.bd_calls.proofs.Threads.{kept_beside, pushed_beside}
+use Rattle.bd_calls.proofs.Seats.{kept_beside, pushed_other}
 use Rattle.bd_calls.proofs.table.CallTable.add_thread.Goals as goal
 
 abbrev seat_of : Thread → ℕ
@@ -22,6 +22,5 @@ returns-clause-stands c = λ s stands new.
       frames_are = stands.frames_are;
       todo_are = stands.todo_are;
       turns_are = stands.turns_are;
-      ready_are = kept_beside c.args.self.now.ready c.forget_seat.new.self s.threads _ s.todo seat stands.ready_are c.forget_seat.ensures
-          (pushed_beside s.threads (one s.steps));
+      ready_are = kept_beside c.args.self.now.ready c.forget_seat.new.self s.threads _ _ seat c.forget_seat.ensures (pushed_other s.threads (one s.steps)) stands.ready_are;
     }

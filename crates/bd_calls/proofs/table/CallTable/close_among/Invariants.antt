@@ -1,14 +1,15 @@
-use Rattle.std.proofs.Common.{◌≡◌, ◌-◌, ◌≤◌, drop}
+use Rattle.std.proofs.Common.{◌≡◌, ◌-◌, ◌≤◌, drop, length}
 use Rattle.bd_space.specs.Space.{Space}
+use Rattle.bd_calls.specs.Closing.{IsClosing, close_due}
 use Rattle.bd_calls.specs.Stands.{StandsFor}
 use Rattle.bd_calls.specs.Room.{Uses, nothing, frame_count}
 use Rattle.bd_calls.specs.Told.{KeepsTold, ReachesFew}
-use Rattle.bd_calls.proofs.InOrder.{IsEachAt, each_up}
 use Rattle.bd_calls.proofs.table.CallTable.close_among.Given as goal
 
 abbrev pub invariant-loop-made : goal.invariant-loop-made
 invariant-loop-made l = record {
-  goes_on : (s : Space) → StandsFor l.fn.self s → s.steps ≡ l.place → IsEachAt l.self l.place l.left (drop l.made-index l.made-items) (each_up l.made-items s);
+  closing : (s : Space) → StandsFor l.fn.self s → s.steps ≡ l.place
+      → IsClosing l.self l.place l.left (drop l.made-index l.made-items) (close_due (length s.frames) l.made-items s);
   left : l.left ≤ frame_count l.fn.self;
   uses : Uses l.fn.self l.self (record nothing { works = frame_count l.fn.self - l.left });
   told : KeepsTold l.fn.self l.self;

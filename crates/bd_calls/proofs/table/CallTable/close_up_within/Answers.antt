@@ -1,40 +1,31 @@
-use Rattle.std.proofs.Common.{◌≡◌, ◌-◌, ◌+◌, suc, subst, sym, arith}
-use Rattle.bd_ways.specs.Local.{close_up}
-use Rattle.bd_calls.specs.declared.table.CallTable.{CallTable}
-use Rattle.bd_calls.specs.Stands.{StandsFor}
+use Rattle.std.proofs.Common.{◌≡◌, ◌-◌, ◌+◌, suc, sym, ◌∙◌, arith, rules}
+use Rattle.bd_space.specs.Frames.{closed}
 use Rattle.bd_calls.proofs.Few.{few_both}
-use Rattle.bd_calls.proofs.Rooms.{uses_both}
-use Rattle.bd_calls.proofs.Closing.{up_more, up_done, up_all, up_stopped}
+use Rattle.bd_calls.proofs.Closing.{closing_goes, closing_stays, closing_ends}
 use Rattle.bd_calls.proofs.table.CallTable.close_up_within.Goals as goal
 
 pub loop-closed-preserved : goal.loop-closed-preserved
+unfolding closed
 loop-closed-preserved c = record {
-  goes_up = λ s stands at.
+  closing = λ due whole h.
       let i = c.loop-closed.closed in
+      let f = c.in-Some-abandoned_at.frame in
       let left : c.args.most - i ≡ suc (c.args.most - (i + 1)) = omega (arith, c.loop-closed-test.true) in
-      up_more _ _ _ c.in-Some.made _ _ _ _ c.in-Some-close_if_abandoned.frame _ left (rw c.in-Some.is at c.loop-closed.invariant.goes_up s stands at)
-      c.close_if_abandoned.ensures.stands (rw c.in-Some-close_if_abandoned.is at c.close_if_abandoned.ensures.closed);
-  uses = uses_both _ _ _ _ _ _ (omega arith) c.loop-closed.invariant.uses c.close_if_abandoned.ensures.uses;
-  told = λ told k. c.close_if_abandoned.ensures.told told (c.loop-closed.invariant.told told k);
-  few = few_both _ _ _ _ _ _ (omega arith) c.loop-closed.invariant.few c.close_if_abandoned.ensures.few;
+      closing_goes _ _ _ _ _ c.in-Some.made f due whole left (λ s stands. sym c.in-Some-abandoned_at.is ∙ c.abandoned_at.ensures s.frames stands.frames_are)
+      (λ s stands at. c.tell_caller.ensures.stands (closed s f.made) (c.close.ensures.stands s stands) at)
+      (rw c.in-Some.is at c.loop-closed.invariant.closing due whole h);
+  uses = search (rules, arith);
+  told = λ told k. c.tell_caller.ensures.told told (c.close.ensures.told told (c.loop-closed.invariant.told told k));
+  few = few_both _ _ _ _ _ _ (omega arith) c.loop-closed.invariant.few (few_both _ _ _ _ _ 1 (omega arith) c.close.ensures.few c.tell_caller.ensures.few);
 }
 
-pub returns-in_default-clause-stands : goal.returns-in_default-clause-stands
-returns-in_default-clause-stands c = λ s stands at. (up_done _ _ _ _ _ _ _ c.in_default.is (c.loop-closed.invariant.goes_up s stands at)).stands
+pub returns-in_default-clause-closing : goal.returns-in_default-clause-closing
+returns-in_default-clause-closing c = λ due whole h. rw c.in_default.is at c.loop-closed.invariant.closing due whole h
 
-pub returns-in_default-clause-fewer : goal.returns-in_default-clause-fewer
-returns-in_default-clause-fewer c = λ s stands at. (up_done _ _ _ _ _ _ _ c.in_default.is (c.loop-closed.invariant.goes_up s stands at)).fewer
+pub returns-in_default-abandoned_at-clause-closing : goal.returns-in_default-abandoned_at-clause-closing
+returns-in_default-abandoned_at-clause-closing c = λ due whole h.
+    closing_stays _ _ _ c.in-Some.made due whole (λ s stands. sym c.in_default-abandoned_at.is ∙ c.abandoned_at.ensures s.frames stands.frames_are)
+    (rw c.in-Some.is at c.loop-closed.invariant.closing due whole h)
 
-pub returns-in_default-close_if_abandoned-clause-stands : goal.returns-in_default-close_if_abandoned-clause-stands
-returns-in_default-close_if_abandoned-clause-stands c = λ s stands at.
-    subst (λ (t : CallTable). StandsFor t (close_up c.args.most c.args.made s)) (sym (c.close_if_abandoned.ensures.kept c.in_default-close_if_abandoned.is))
-    (up_stopped _ _ c.in-Some.made _ _ _ _ (rw c.in-Some.is at c.loop-closed.invariant.goes_up s stands at) (rw c.in_default-close_if_abandoned.is at c.close_if_abandoned.ensures.closed)).stands
-
-pub returns-in_default-close_if_abandoned-clause-fewer : goal.returns-in_default-close_if_abandoned-clause-fewer
-returns-in_default-close_if_abandoned-clause-fewer c = λ s stands at.
-    (up_stopped _ _ c.in-Some.made _ _ _ _ (rw c.in-Some.is at c.loop-closed.invariant.goes_up s stands at) (rw c.in_default-close_if_abandoned.is at c.close_if_abandoned.ensures.closed)).fewer
-
-pub returns-clause-stands : goal.returns-clause-stands
-returns-clause-stands c = λ s stands at.
-    let none : c.args.most - c.loop-closed.closed ≡ 0 = omega arith in
-    (up_all _ _ _ _ _ _ _ none (c.loop-closed.invariant.goes_up s stands at)).stands
+pub returns-clause-closing : goal.returns-clause-closing
+returns-clause-closing c = λ due whole h. closing_ends _ _ _ _ due whole (omega arith) (c.loop-closed.invariant.closing due whole h)

@@ -2,7 +2,6 @@ use Rattle.std.proofs.Common.{sym, subst}
 use Rattle.bd_space.specs.ProcessExits.{without_process}
 use Rattle.bd_turns.specs.Stands.{TurnsAre}
 use Rattle.bd_calls.proofs.OneWay.{turns_received}
-use Rattle.bd_calls.proofs.Seats.{none_seen}
 use Rattle.std.proofs.Common.{not, filter}
 use Rattle.bd_space.specs.declared.space.TodoList.TheVariants.{OfProcess}
 use Rattle.bd_space.specs.declared.space.Work.{Work}
@@ -20,7 +19,7 @@ returns-clause-stands c =
       frames_are = c.lose_unread.ensures.frames s.todo stands.todo_are _ stands.frames_are;
       todo_are = c.clear_list.ensures.stands _ stands.todo_are;
       turns_are = subst (TurnsAre c.remove_received.new.self) (sym (turns_received c.args.process s.buffers)) (c.remove_received.ensures.stands _ stands.turns_are);
-      ready_are = none_seen c.forget_all.new.self _ _ c.forget_all.ensures;
+      ready_are = c.forget_all.ensures _ _;
     }
 
 pub returns-clause-told : goal.returns-clause-told
@@ -28,4 +27,4 @@ unfolding Recalls
 returns-clause-told c = λ told k.
     let list = OfProcess c.args.process in
     told_on c.mark.new.self _ _ (λ ws. filter (λ (w : Work). not (is_on list w)) ws) told c.clear_list.ensures.stands
-    (λ ws other out. cleared_beside c.mark.new.self ws list other c.mark.ensures.marked out) (c.mark.ensures.recalls told k)
+    (λ ws other out. cleared_beside ws list other (c.mark.ensures.marked other out).1) (c.mark.ensures.recalls told k)

@@ -29,4 +29,4 @@ pub returns-clause-told : goal.returns-clause-told
 unfolding Recalls
 returns-clause-told c = λ told k.
     told_on c.mark_lists_of.new.self _ _ (λ ws. without_taken c.args.taken.now ws) told c.remove_taken.ensures.stands
-    (λ ws list out. taken_beside c.mark_lists_of.new.self c.args.taken.now ws list c.mark_lists_of.ensures.marked out) (c.mark_lists_of.ensures.recalls told k)
+    (λ ws list out. taken_beside c.args.taken.now ws list (c.mark_lists_of.ensures.marked list out).1) (c.mark_lists_of.ensures.recalls told k)

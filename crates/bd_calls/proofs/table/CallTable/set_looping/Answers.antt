@@ -2,7 +2,7 @@ use Rattle.std.proofs.Common.{◌==◌, ap, ◌∙◌}
 use Rattle.bd_space.specs.declared.space.Thread.{Thread}
 use Rattle.bd_space.specs.Steps.{with_looping}
 use Rattle.bd_space.specs.Words.{changed}
-use Rattle.bd_calls.proofs.Threads.{kept_beside, turned_beside}
+use Rattle.bd_calls.proofs.Seats.{kept_beside, turned_other}
 use Rattle.bd_calls.proofs.table.CallTable.set_looping.Goals as goal
 
 pub returns-clause-stands : goal.returns-clause-stands
@@ -16,6 +16,5 @@ returns-clause-stands c = λ s stands.
       frames_are = stands.frames_are;
       todo_are = stands.todo_are;
       turns_are = stands.turns_are;
-      ready_are = kept_beside c.args.self.now.ready c.forget_seat.new.self s.threads _ s.todo seat stands.ready_are c.forget_seat.ensures
-          (turned_beside looping s.threads seat);
+      ready_are = kept_beside c.args.self.now.ready c.forget_seat.new.self s.threads _ _ seat c.forget_seat.ensures (turned_other looping s.threads seat) stands.ready_are;
     }

@@ -4,7 +4,6 @@ use Rattle.bd_space.specs.declared.space.TodoList.TheVariants.{OfThread}
 use Rattle.bd_space.specs.ThreadExits.{thread_goes, is_lost_with}
 use Rattle.bd_turns.specs.Stands.{TurnsAre}
 use Rattle.bd_calls.proofs.OneWay.{turns_lost}
-use Rattle.bd_calls.proofs.Seats.{none_seen}
 use Rattle.bd_space.specs.declared.space.Work.{Work}
 use Rattle.bd_space.specs.Todo.{is_on}
 use Rattle.bd_calls.proofs.Marking.{told_on, cleared_beside}
@@ -23,7 +22,7 @@ returns-clause-stands c =
       todo_are = c.clear_list.ensures.stands _ stands.todo_are;
       turns_are = subst (TurnsAre c.remove_turns_on.new.turns) (sym (turns_lost (is_lost_with s.todo list) s.buffers))
           (c.remove_turns_on.ensures.turns s.todo stands.todo_are _ stands.turns_are);
-      ready_are = none_seen c.forget_all.new.self _ _ c.forget_all.ensures;
+      ready_are = c.forget_all.ensures _ _;
     }
 
 pub returns-clause-told : goal.returns-clause-told
@@ -31,4 +30,4 @@ unfolding Recalls
 returns-clause-told c = λ told k.
     let list = OfThread c.args.seat in
     told_on c.mark.new.self _ _ (λ ws. filter (λ (w : Work). not (is_on list w)) ws) told c.clear_list.ensures.stands
-    (λ ws other out. cleared_beside c.mark.new.self ws list other c.mark.ensures.marked out) (c.mark.ensures.recalls told k)
+    (λ ws other out. cleared_beside ws list other (c.mark.ensures.marked other out).1) (c.mark.ensures.recalls told k)
