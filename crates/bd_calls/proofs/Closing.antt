@@ -1,11 +1,9 @@
 -- Calls close one after the other: upwards, and those that are due.
 use Rattle.std.proofs.Common.{◌≡◌, ℕ, zero, suc, not, List, [], ◌∷◌, filter, Option, Some, None, refl, ap, sym, subst, ◌∙◌}
 use Rattle.std.specs.List.{cons_option}
+use Rattle.bd_ways.specs.Words.{Frame, OfThread, Space}
 use Rattle.bd_uapi.specs.declared.command.Return.TheVariants.{DeadReply}
-use Rattle.bd_space.specs.declared.space.Frame.{Frame}
-use Rattle.bd_space.specs.declared.space.TodoList.TheVariants.{OfThread}
 use Rattle.bd_space.specs.declared.space.WorkKind.TheVariants.{Verdict}
-use Rattle.bd_space.specs.Space.{Space}
 use Rattle.bd_space.specs.Frames.{is_frame, closed}
 use Rattle.bd_space.specs.Settle.{settle_one}
 use Rattle.bd_space.specs.Todo.{owe}
@@ -18,14 +16,11 @@ use Rattle.bd_calls.specs.Closing.{close_first, close_due, IsClosing}
 
 -- ---- one call closes: its frame goes, and no step is counted
 
-closes : (s : Space) (made : ℕ) (caller : Option ℕ) → let z = elim caller as (λ (o : Option ℕ). Space) [ None ↦ closed s made | Some t ↦ owe (closed s made) (OfThread t) (Verdict DeadReply) ] in
+pub closes : (s : Space) (made : ℕ) (caller : Option ℕ) → let z = elim caller as (λ (o : Option ℕ). Space) [ None ↦ closed s made | Some t ↦ owe (closed s made) (OfThread t) (Verdict DeadReply) ] in
     (z.frames ≡ filter (λ g. not (is_frame made g)) s.frames) × (z.steps ≡ s.steps)
 unfolding closed owe
 closes s made None = (refl, refl)
 closes s made (Some t) = (refl, refl)
-
-pub frames_after : (s : Space) (f : Frame) → (settle_one s (Some f)).frames ≡ filter (λ g. not (is_frame f.made g)) s.frames
-frames_after s f = (closes s f.made f.caller).0
 
 -- ---- those that are due
 

@@ -1,10 +1,9 @@
 -- A thread has an innermost frame exactly where it takes part in one, however the frames lie.
-use Rattle.std.proofs.Common.{◌≡◌, ℕ, zero, suc, ◌≤◌, ◌==◌, nat_le, Bool, true, false, not, ◌&&◌, ◌||◌, cond, List, [], ◌∷◌, find, Option, Some, None, refl, ap, sym, ◌∙◌, max, arith}
-use Rattle.std.specs.List.{list_any, list_all}
+use Rattle.std.proofs.Common.{◌≡◌, ℕ, zero, suc, ◌≤◌, ◌==◌, nat_le, Bool, true, false, not, ◌&&◌, ◌||◌, cond, List, [], ◌∷◌, Option, Some, None, refl, ap, sym, ◌∙◌, max, arith}
 use Rattle.std.specs.Option.{is_some, is_none}
 use Rattle.std.proofs.lemmas.Bool.{and_parts, and_from, eq-eqb, eqb-true, le-leb}
+use Rattle.bd_ways.specs.Words.{Frame, list_any, list_all}
 use Rattle.bd_keys.proofs.Found.{any_some}
-use Rattle.bd_space.specs.declared.space.Frame.{Frame}
 use Rattle.bd_space.specs.Frames.{takes_part, depth_in, is_deepest_in, innermost_in}
 
 any_implied : (p q : Frame → Bool) → ((f : Frame) → p f ≡ true → q f ≡ true) → (fs : List Frame) → list_any p fs ≡ true → list_any q fs ≡ true

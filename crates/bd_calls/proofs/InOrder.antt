@@ -1,23 +1,21 @@
 -- Closing among chosen calls where frames are in order: those that are due in turn, from the oldest on.
 use Rattle.std.proofs.Common.{◌≡◌, ℕ, zero, suc, ◌==◌, ◌<◌, ◌≤◌, Bool, true, false, not, ◌&&◌, ◌||◌, List, [], ◌∷◌, Option, Some, None, ◌⊎◌, inl, inr, refl, ap, sym, subst, ◌∙◌, length, filter, find, get_or, arith}
-use Rattle.std.specs.List.{cons_option, list_any}
+use Rattle.std.specs.List.{cons_option}
 use Rattle.std.specs.List.Sorted.{IsNonDecreasing, IsPermutation}
 use Rattle.std.proofs.Math.Path.{fun_ext}
 use Rattle.std.proofs.lemmas.List.Sorted.{list_any-IsPermutation}
-use Rattle.std.proofs.lemmas.Bool.{and_parts, eqb-true, eq-eqb, not-false, not-true}
+use Rattle.std.proofs.lemmas.Bool.{and_parts, eqb-true, not-false}
+use Rattle.bd_ways.specs.Words.{Frame, is_some_and, Space, list_any}
 use Rattle.bd_keys.proofs.Found.{found_passes}
-use Rattle.bd_space.specs.declared.space.Frame.{Frame}
-use Rattle.bd_space.specs.Words.{is_some_and}
-use Rattle.bd_space.specs.Space.{Space}
 use Rattle.bd_space.specs.Frames.{is_frame, is_child_of, is_gone}
 use Rattle.bd_space.specs.Settle.{is_abandoned, settle_one}
 use Rattle.bd_ways.specs.Local.{close_among}
 use Rattle.bd_frames.specs.Places.{IsRising}
 use Rattle.bd_frames.specs.Words.{abandoned_in, is_place_among}
 use Rattle.bd_frames.specs.InOrder.{IsBefore, ParentsOlder, IsInOrder}
-use Rattle.bd_frames.proofs.Places.{rising_from}
+use Rattle.bd_frames.proofs.InOrder.{in_order_filter}
 use Rattle.bd_calls.specs.Closing.{close_due}
-use Rattle.bd_calls.proofs.Closing.{frames_after, due_stays, due_closes}
+use Rattle.bd_calls.proofs.Closing.{closes, due_stays, due_closes}
 
 -- ---- the frames of a list
 
@@ -46,14 +44,6 @@ in_filter q (f ∷ fs) g i = grind (arith, i, in_filter q fs g)
 any_kept : (p q : Frame → Bool) (fs : List Frame) → ((g : Frame) → In g fs → q g ≡ false → p g ≡ false) → list_any p (filter q fs) ≡ list_any p fs
 any_kept p q [] h = refl
 any_kept p q (f ∷ fs) h = let here = h f (inl refl) in grind (arith, here, any_kept p q fs (λ g i. h g (inr i)))
-
-rising_filter : (q : Frame → Bool) (n : ℕ) (fs : List Frame) → IsRising n fs → IsRising n (filter q fs)
-rising_filter q n [] r = tt
-rising_filter q n (f ∷ fs) r = grind (arith, r, rising_filter q (suc f.made) fs r.1, rising_from n (suc f.made) (filter q fs))
-
-older_filter : (q : Frame → Bool) (fs : List Frame) → ParentsOlder fs → ParentsOlder (filter q fs)
-older_filter q [] r = tt
-older_filter q (f ∷ fs) r = grind (arith, r, older_filter q fs r.1)
 
 above_in : (n : ℕ) (fs : List Frame) (f : Frame) → IsRising n fs → In f fs → n ≤ f.made
 above_in n [] f r i = absurd i
@@ -109,9 +99,8 @@ among_next (Some p) cs k = refl
 -- ---- these are due, and all that is chosen and abandoned is among them
 
 record IsReady (chosen : ℕ → Bool) (due : List ℕ) (fs : List Frame) : Type 0 where
-  rising : IsRising 0 fs
-  older : ParentsOlder fs
-  order : IsSortedFrom 0 due
+  in_order : IsInOrder fs
+  sorted : IsSortedFrom 0 due
   among : (k : ℕ) → is_place_among due k ≡ true → chosen k ≡ true
   all : (g : Frame) → In g fs → chosen g.made ≡ true → is_abandoned fs g ≡ true → is_place_among due g.made ≡ true
 
@@ -121,9 +110,8 @@ or_parent c parent m = c m || is_some_and parent (λ p. p == m)
 -- the call made at x is not abandoned
 ready_stays : (c : ℕ → Bool) (x : ℕ) (xs : List ℕ) (fs : List Frame) → abandoned_in fs x ≡ None → IsReady c (x ∷ xs) fs → IsReady c xs fs
 ready_stays c x xs fs none r = record {
-  rising = r.rising;
-  older = r.older;
-  order = sorted_down 0 x xs (omega arith) r.order.1;
+  in_order = r.in_order;
+  sorted = sorted_down 0 x xs (omega arith) r.sorted.1;
   among = λ k h. r.among k (grind (arith, h));
   all = λ g i h a. grind (arith, none_passes _ fs g none i, a, r.all g i h a);
 }
@@ -139,8 +127,8 @@ module _ (c : ℕ → Bool) (x : ℕ) (xs : List ℕ) (fs : List Frame) (f : Fra
   chosen_first : find (λ g. c g.made && is_abandoned fs g) fs ≡ Some f
   chosen_first =
       let here : c f.made ≡ true = r.among f.made (grind (arith, passes.0)) in
-      found_first (λ g. c g.made && is_abandoned fs g) 0 fs f r.rising inside (grind (arith, here, passes.1))
-      (λ g i h. let both = and_parts (c g.made) (is_abandoned fs g) h in grind (arith, passes.0, sorted_above x (x ∷ xs) g.made (omega arith, r.order.1) (r.all g i both.0 both.1)))
+      found_first (λ g. c g.made && is_abandoned fs g) 0 fs f r.in_order.rising inside (grind (arith, here, passes.1))
+      (λ g i h. let both = and_parts (c g.made) (is_abandoned fs g) h in grind (arith, passes.0, sorted_above x (x ∷ xs) g.made (omega arith, r.sorted.1) (r.all g i both.0 both.1)))
 
   abbrev left : List Frame
   left = filter (λ h. not (is_frame f.made h)) fs
@@ -148,13 +136,12 @@ module _ (c : ℕ → Bool) (x : ℕ) (xs : List ℕ) (fs : List Frame) (f : Fra
   -- none is abandoned now that was not before but its parent
   freed : (g : Frame) → is_child_of g f ≡ false → is_abandoned left g ≡ is_abandoned fs g
   freed g apart = ap (λ b. is_gone g.server && not b)
-      (any_kept (is_child_of g) _ fs (λ h i out. ap (is_child_of g) (only_one 0 fs h f r.rising i inside (eqb-true h.made f.made (not-false _ out))) ∙ apart))
+      (any_kept (is_child_of g) _ fs (λ h i out. ap (is_child_of g) (only_one 0 fs h f r.in_order.rising i inside (eqb-true h.made f.made (not-false _ out))) ∙ apart))
 
   ready_next : IsReady (or_parent c f.parent) (cons_option f.parent xs) left
   ready_next = record {
-    rising = rising_filter (λ h. not (is_frame f.made h)) 0 fs r.rising;
-    older = older_filter (λ h. not (is_frame f.made h)) fs r.older;
-    order = sorted_next f.parent x xs (subst (IsBefore f.parent) passes.0 (older_in fs f r.older inside)) r.order.1;
+    in_order = in_order_filter (λ h. not (is_frame f.made h)) fs r.in_order;
+    sorted = sorted_next f.parent x xs (subst (IsBefore f.parent) passes.0 (older_in fs f r.in_order.older inside)) r.sorted.1;
     among = λ k h. grind (arith, h, among_next f.parent xs k, r.among k);
     all = λ g i h a. let j = in_filter (λ h. not (is_frame f.made h)) fs g i in
         grind (arith, h, a, passes.0, j.1, freed g, r.all g j.0, among_next f.parent xs g.made);
@@ -166,10 +153,10 @@ abbrev Meets : ℕ → Type 0
 Meets n = (due : List ℕ) (c : ℕ → Bool) (s : Space) → IsReady c due s.frames → close_among n c s ≡ close_due n due s
 
 meets_more : (n : ℕ) → Meets n → Meets (suc n)
-meets_more n rest [] c s r = rw (found_nowhere _ s.frames (λ g i. nobody (c g.made) (is_abandoned s.frames g) (r.all g i)), close_among) refl
+meets_more n rest [] c s r = rw (found_nowhere _ s.frames nobody, close_among) refl
   where
-    nobody : (a b : Bool) → (a ≡ true → b ≡ true → false ≡ true) → (a && b) ≡ false
-    nobody a b never = grind (arith, never)
+    nobody : (g : Frame) → In g s.frames → (c g.made && is_abandoned s.frames g) ≡ false
+    nobody g i = grind (arith, r.all g i)
 meets_more n rest (x ∷ xs) c s r = at (abandoned_in s.frames x) refl (meets_more n rest xs c s)
   where
     at : (o : Option Frame) → abandoned_in s.frames x ≡ o → (IsReady c xs s.frames → close_among (suc n) c s ≡ close_due (suc n) xs s)
@@ -178,7 +165,7 @@ meets_more n rest (x ∷ xs) c s r = at (abandoned_in s.frames x) refl (meets_mo
     at (Some f) found go =
         rw (chosen_first c x xs s.frames f found r, close_among)
         (rest (cons_option f.parent xs) (or_parent c f.parent) (settle_one s (Some f))
-        (subst (IsReady (or_parent c f.parent) (cons_option f.parent xs)) (sym (frames_after s f)) (ready_next c x xs s.frames f found r)))
+        (subst (IsReady (or_parent c f.parent) (cons_option f.parent xs)) (sym (closes s f.made f.caller).0) (ready_next c x xs s.frames f found r)))
         ∙ sym (due_closes n x xs s f found)
 
 meets : (n : ℕ) → Meets n
@@ -190,4 +177,4 @@ pub among_in_order : (n : ℕ) (s : Space) (chosen sorted : List ℕ) → IsInOr
 among_in_order n s chosen sorted order up moved =
     ap (λ c. close_among n c s) (fun_ext (λ k. list_any-IsPermutation (λ m. m == k) chosen sorted moved))
     ∙ meets n sorted (is_place_among sorted) s
-    (record { rising = order.rising; older = order.older; order = sorted_list 0 sorted (λ d more. omega arith) up; among = λ k h. h; all = λ g i h a. h })
+    (record { in_order = order; sorted = sorted_list 0 sorted (λ d more. omega arith) up; among = λ k h. h; all = λ g i h a. h })

@@ -6,5 +6,4 @@ pub mod Losing
 pub mod Marking
 pub mod OneByOne
 pub mod OneWay
-pub mod Rooms
 pub mod Seats

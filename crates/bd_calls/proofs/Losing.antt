@@ -1,11 +1,7 @@
 -- One-way calls that go one after the other, by the work items that would have handed them out.
 use Rattle.std.proofs.Common.{◌≡◌, ◌==◌, ◌∙◌, ℕ, Bool, not, ◌||◌, ◌&&◌, List, [], ◌∷◌, Option, Some, None, refl, ap, sym, filter, fold, arith}
-use Rattle.std.specs.List.{list_any}
+use Rattle.bd_ways.specs.Words.{TodoList, Turn, Work, is_some_and, list_any}
 use Rattle.bd_ways.proofs.Ranges.{all_stay, same_filter}
-use Rattle.bd_space.specs.declared.space.TodoList.{TodoList}
-use Rattle.bd_space.specs.declared.space.Turn.{Turn}
-use Rattle.bd_space.specs.declared.space.Work.{Work}
-use Rattle.bd_space.specs.Words.{is_some_and}
 use Rattle.bd_space.specs.Todo.{hands_out, work_on, is_on}
 use Rattle.bd_space.specs.ThreadExits.{is_lost_with}
 use Rattle.bd_todo.proofs.OnList.{any_filter}

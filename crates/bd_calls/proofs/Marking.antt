@@ -1,12 +1,10 @@
 -- What was told of the todo lists is known still where a change fills and empties marked lists alone.
 use Rattle.std.proofs.Common.{◌≡◌, ℕ, Bool, true, false, not, ◌&&◌, ◌||◌, List, [], ◌∷◌, ◌++◌, refl, ap, sym, ◌∙◌, filter, arith}
-use Rattle.std.specs.List.{AllByRecursion, list_any}
+use Rattle.std.specs.List.{AllByRecursion}
 use Rattle.std.proofs.lemmas.List.Folds.{list_any-append}
 use Rattle.std.proofs.lemmas.Map.Views.{any-filter_same}
 use Rattle.std.proofs.Math.Bool.{or-false}
-use Rattle.bd_space.specs.declared.space.Work.{Work}
-use Rattle.bd_space.specs.declared.space.WorkKind.{WorkKind}
-use Rattle.bd_space.specs.declared.space.TodoList.{TodoList}
+use Rattle.bd_ways.specs.Words.{Work, WorkKind, TodoList, list_any}
 use Rattle.bd_space.specs.ReadItems.{none_due}
 use Rattle.bd_space.specs.Todo.{has_work_in, is_on, same_list, with_work, is_item, without_taken}
 use Rattle.bd_todo.specs.declared.table.WorkTable.{WorkTable}

@@ -1,17 +1,9 @@
 -- Frames that are changed one by one, along the calls among work items.
-use Rattle.std.proofs.Common.{◌≡◌, ◌==◌, ℕ, Bool, true, false, cond, ◌||◌, List, [], ◌∷◌, Some, refl, ap, sym, subst, ◌∙◌, map, fold, arith}
-use Rattle.std.specs.List.{list_any}
+use Rattle.std.proofs.Common.{◌≡◌, ℕ, Bool, false, cond, ◌||◌, List, [], ◌∷◌, Some, refl, ap, sym, subst, ◌∙◌, map, fold, arith}
 use Rattle.std.proofs.Math.Path.{fun_ext}
+use Rattle.bd_ways.specs.Words.{Frame, Work, Server, Pending, WorkKind, TodoList, OfThread, changed, list_any}
 use Rattle.bd_keys.proofs.Lists.{eqb_turned}
-use Rattle.bd_space.specs.declared.space.Frame.{Frame}
-use Rattle.bd_space.specs.declared.space.Work.{Work}
-use Rattle.bd_space.specs.declared.space.Server.{Server}
-use Rattle.bd_space.specs.declared.space.Server.TheVariants.{Pending}
-use Rattle.bd_space.specs.declared.space.WorkKind.{WorkKind}
 use Rattle.bd_space.specs.declared.space.WorkKind.TheVariants.{Call}
-use Rattle.bd_space.specs.declared.space.TodoList.{TodoList}
-use Rattle.bd_space.specs.declared.space.TodoList.TheVariants.{OfThread}
-use Rattle.bd_space.specs.Words.{changed}
 use Rattle.bd_space.specs.Frames.{is_frame}
 use Rattle.bd_space.specs.Todo.{is_on, is_call, work_on}
 use Rattle.bd_space.specs.ThreadExits.{is_unread_on, unread_frame, frame_without}

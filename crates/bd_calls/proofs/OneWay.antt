@@ -1,37 +1,35 @@
 -- The one-way calls of changed buffers.
-use Rattle.std.proofs.Common.{◌≡◌, ◌==◌, ◌<◌, ℕ, All, ne_eqb, Bool, true, false, cond, not, List, [], ◌∷◌, ◌++◌, Option, Some, None, refl, ap, sym, ◌∙◌, filter, arith}
+use Rattle.std.proofs.Common.{◌≡◌, ◌==◌, ◌<◌, ℕ, All, Bool, false, List, [], ◌∷◌, ◌++◌, Option, Some, None, refl, ap, sym, subst, ◌∙◌, filter, arith}
 use Rattle.std.specs.Option.{is_some, option_map, option_to_list, option_and_then}
-use Rattle.std.specs.List.{cons_option, list_any}
 use Rattle.std.proofs.lemmas.Bool.{eqb-true}
 use Rattle.std.proofs.lemmas.List.Elements.{All-head, All-tail, filter_map-append}
+use Rattle.bd_ways.specs.Words.{Buffer, Turn, changed, is_some_and, list_any}
 use Rattle.bd_keys.proofs.Found.{any_some, found_passes}
 use Rattle.bd_ways.proofs.Ranges.{changed_none}
-use Rattle.bd_space.specs.declared.step.ObjectId.{ObjectId}
-use Rattle.bd_space.specs.declared.space.Buffer.{Buffer}
-use Rattle.bd_space.specs.declared.space.Turn.{Turn}
-use Rattle.bd_space.specs.Words.{changed, is_some_and}
 use Rattle.bd_space.specs.Turns.{turn_of, turns_of}
 use Rattle.bd_space.specs.Freeing.{is_made_at}
 use Rattle.bd_space.specs.Returns.{buffer_in}
 use Rattle.bd_space.specs.ReadItems.{hand_out, handed_buffers}
+use Rattle.bd_turns.specs.declared.table.TurnTable.{TurnTable}
+use Rattle.bd_turns.specs.Stands.{TurnsAre}
 use Rattle.bd_turns.specs.Turn.{hand_turn}
 use Rattle.bd_calls.specs.Turn.{handed_turns}
 
 -- ---- one more
 
 pub turns_add : (bs : List Buffer) (b : Buffer) → turns_of (bs ++ b ∷ []) ≡ turns_of bs ++ option_to_list (turn_of b)
-turns_add bs b = filter_map-append turn_of bs (b ∷ []) ∙ ap (λ ts. turns_of bs ++ ts) (single (turn_of b))
-  where
-    single : (o : Option Turn) → cons_option o [] ≡ option_to_list o
-    single None = refl
-    single (Some t) = refl
+turns_add bs b = grind (arith, filter_map-append turn_of bs (b ∷ []))
 
 -- ---- some go
 
-turns_filter : (p : Buffer → Bool) (q : Turn → Bool) → ((b : Buffer) (t : Turn) → turn_of b ≡ Some t → q t ≡ p b) → (bs : List Buffer)
+turns_left : (p : Buffer → Bool) (q : Turn → Bool) → ((b : Buffer) (t : Turn) → turn_of b ≡ Some t → q t ≡ p b) → (bs : List Buffer)
     → turns_of (filter p bs) ≡ filter q (turns_of bs)
-turns_filter p q h [] = refl
-turns_filter p q h (b ∷ bs) = grind (arith, h b, turns_filter p q h bs)
+turns_left p q h [] = refl
+turns_left p q h (b ∷ bs) = grind (arith, h b, turns_left p q h bs)
+
+pub left_stand : (t : TurnTable) (p : Buffer → Bool) (q : Turn → Bool) → ((b : Buffer) (u : Turn) → turn_of b ≡ Some u → q u ≡ p b) → (bs : List Buffer)
+    → TurnsAre t (filter q (turns_of bs)) → TurnsAre t (turns_of (filter p bs))
+left_stand t p q h bs = subst (TurnsAre t) (sym (turns_left p q h bs))
 
 -- ---- some change
 
@@ -45,7 +43,7 @@ turns_changed p f q g k h (b ∷ bs) = grind (arith, k b, h b, turns_changed p f
 turn_handed : (b : Buffer) → turn_of (hand_out b) ≡ option_map hand_turn (turn_of b)
 turn_handed b = grind arith
 
-turn_is_of : (b : Buffer) (t : Turn) → turn_of b ≡ Some t → (t.made ≡ b.made) × (t.receiver ≡ b.receiver)
+pub turn_is_of : (b : Buffer) (t : Turn) → turn_of b ≡ Some t → (t.made ≡ b.made) × (t.receiver ≡ b.receiver)
 turn_is_of b t h = grind (arith, h)
 
 turn_made : (b : Buffer) (t : Turn) → turn_of b ≡ Some t → t.made ≡ b.made
@@ -64,18 +62,6 @@ turn_new bs b before = of (turn_of b) refl
     of : (o : Option Turn) → turn_of b ≡ o → is_some_and o (λ t. list_any (λ u. u.made == t.made) (turns_of bs)) ≡ false
     of None e = refl
     of (Some t) e = ap (λ m. list_any (λ (u : Turn). u.made == m) (turns_of bs)) (turn_made b t e) ∙ none_later b.made bs before
-
--- the buffer made here goes
-pub turns_without : (made : ℕ) (bs : List Buffer) → turns_of (filter (λ b. not (is_made_at made b)) bs) ≡ filter (λ t. not (t.made == made)) (turns_of bs)
-turns_without made bs = turns_filter (λ b. not (is_made_at made b)) (λ t. not (t.made == made)) (λ b t h. ap (λ m. not (m == made)) (turn_made b t h)) bs
-
--- the buffers in a process's window go
-pub turns_received : (p : ℕ) (bs : List Buffer) → turns_of (filter (λ b. not (b.receiver == p)) bs) ≡ filter (λ t. not (t.receiver == p)) (turns_of bs)
-turns_received p bs = turns_filter (λ b. not (b.receiver == p)) (λ t. not (t.receiver == p)) (λ b t h. ap (λ m. not (m == p)) (turn_is_of b t h).1) bs
-
--- the buffers that are lost go
-pub turns_lost : (lost : ℕ → Bool) (bs : List Buffer) → turns_of (filter (λ b. not (lost b.made)) bs) ≡ filter (λ t. not (lost t.made)) (turns_of bs)
-turns_lost lost bs = turns_filter (λ b. not (lost b.made)) (λ t. not (lost t.made)) (λ b t h. ap (λ m. not (lost m)) (turn_made b t h)) bs
 
 -- ---- the buffer that is handed out
 

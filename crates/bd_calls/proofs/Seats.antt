@@ -6,19 +6,13 @@ use Rattle.std.proofs.lemmas.Bool.{eqb-false}
 use Rattle.std.proofs.lemmas.List.Folds.{find-append}
 use Rattle.std.proofs.lemmas.List.{get_or-set_same, get_or-set_other}
 use Rattle.std.proofs.lemmas.Option.{IfSome_then}
+use Rattle.bd_ways.specs.Words.{Frame, Thread, Work, WorkKind, TodoList, OfThread, OfProcess, changed, is_some_and}
 use Rattle.bd_keys.proofs.Found.{found_passes}
 use Rattle.bd_keys.proofs.Options.{or_none}
-use Rattle.bd_space.specs.declared.space.Frame.{Frame}
-use Rattle.bd_space.specs.declared.space.Thread.{Thread}
-use Rattle.bd_space.specs.declared.space.Work.{Work}
-use Rattle.bd_space.specs.declared.space.WorkKind.{WorkKind}
-use Rattle.bd_space.specs.declared.space.TodoList.{TodoList}
-use Rattle.bd_space.specs.declared.space.TodoList.TheVariants.{OfThread, OfProcess}
-use Rattle.bd_space.specs.Words.{changed, is_some_and}
 use Rattle.bd_space.specs.Seats.{thread_in}
 use Rattle.bd_space.specs.Frames.{innermost_in}
 use Rattle.bd_space.specs.ReadItems.{none_due}
-use Rattle.bd_space.specs.Todo.{has_work_in, is_on, same_list, work_on, reads_in, with_work, without_taken}
+use Rattle.bd_space.specs.Todo.{has_work_in, is_on, work_on, reads_in, with_work, without_taken}
 use Rattle.bd_calls.specs.declared.ready.Seen.{Seen}
 use Rattle.bd_calls.specs.declared.ready.ReadySeats.{ReadySeats}
 use Rattle.bd_calls.specs.Ready.{seen_at, noted, told_then, told_after, IsSeen, AreSeen}

@@ -3,7 +3,6 @@
 
 mod frame;
 mod marks;
-mod reached;
 mod ready;
 mod table;
 mod thread;

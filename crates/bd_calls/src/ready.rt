@@ -133,17 +133,6 @@ impl ReadySeats {
         self.seats.fill(None);
     }
 
-    // Looks at a seat of which nothing is kept.
-    fn look(&mut self, threads: &ThreadTable, todo: &WorkTable, seat: u32)
-        ensures { (ts : List declared.Thread) (ws : List works.Work) → listed threads.now ≡ ts → todo_table.WorksAre todo.now ws
-            → spec.AreSeen self.old ts (todos.has_work_in ws) → spec.AreSeen self.new ts (todos.has_work_in ws) }
-    {
-        let at = seat as usize;
-        if at < self.seats.len() && self.seats[at].is_none() {
-            self.seats[at] = Some(look_at(threads, todo, seat));
-        }
-    }
-
     /// Looks at those seats of which nothing is kept.
     pub(crate) fn refresh(&mut self, threads: &ThreadTable, todo: &WorkTable)
         ensures { (ts : List declared.Thread) (ws : List works.Work) → listed threads.now ≡ ts → todo_table.WorksAre todo.now ws
@@ -154,7 +143,10 @@ impl ReadySeats {
         }
         let seats = self.seats.len().min(MOST_SEATS as usize) as u32;
         for seat in 0..seats {
-            self.look(threads, todo, seat);
+            let at = seat as usize;
+            if at < self.seats.len() && self.seats[at].is_none() {
+                self.seats[at] = Some(look_at(threads, todo, seat));
+            }
         }
         self.whole = true;
     }

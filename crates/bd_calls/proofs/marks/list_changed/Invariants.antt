@@ -1,5 +1,5 @@
 use Rattle.std.proofs.Common.{◌≡◌, ◌++◌, List, drop}
-use Rattle.bd_space.specs.declared.space.Work.{Work}
+use Rattle.bd_ways.specs.Words.{Work}
 use Rattle.bd_todo.specs.Stands.{WorksAre}
 use Rattle.bd_calls.specs.Marks.{changed_lists}
 use Rattle.bd_calls.proofs.marks.list_changed.Given as goal

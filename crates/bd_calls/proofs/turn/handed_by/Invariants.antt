@@ -1,6 +1,5 @@
 use Rattle.std.proofs.Common.{◌≡◌, map, drop}
-use Rattle.bd_space.specs.declared.space.Work.{Work}
-use Rattle.bd_space.specs.Words.{first_of}
+use Rattle.bd_ways.specs.Words.{Work, first_of}
 use Rattle.bd_space.specs.Todo.{hands_out}
 use Rattle.bd_calls.proofs.turn.handed_by.Given as goal
 

@@ -1,8 +1,7 @@
 use Rattle.std.proofs.Common.{sym, subst, ◌∙◌, ap, arith, take, get_or}
 use Rattle.std.proofs.lemmas.List.{take_all}
 use Rattle.std.proofs.lemmas.List.Sums.{fold_more}
-use Rattle.bd_space.specs.declared.space.Work.{Work}
-use Rattle.bd_space.specs.declared.space.TodoList.TheVariants.{OfThread}
+use Rattle.bd_ways.specs.Words.{Work, OfThread}
 use Rattle.bd_space.specs.declared.space.WorkKind.TheVariants.{Notice}
 use Rattle.bd_space.specs.Todo.{has_work_in}
 use Rattle.bd_calls.specs.Ready.{AreSeen, told_then, told_after}

@@ -1,7 +1,5 @@
 use Rattle.std.proofs.Common.{Bool, List, take}
-use Rattle.bd_space.specs.declared.space.Thread.{Thread}
-use Rattle.bd_space.specs.declared.space.TodoList.{TodoList}
-use Rattle.bd_space.specs.declared.space.Work.{Work}
+use Rattle.bd_ways.specs.Words.{Thread, TodoList, Work}
 use Rattle.bd_todo.specs.Stands.{WorksAre}
 use Rattle.bd_calls.specs.Ready.{AreSeen, told_after}
 use Rattle.bd_calls.proofs.ready.ReadySeats.note_lists_of.Given as goal

@@ -1,6 +1,5 @@
 use Rattle.std.proofs.Common.{◌≡◌, List}
-use Rattle.bd_space.specs.declared.space.Thread.{Thread}
-use Rattle.bd_space.specs.declared.space.Work.{Work}
+use Rattle.bd_ways.specs.Words.{Thread, Work}
 use Rattle.bd_space.specs.Todo.{has_work_in}
 use Rattle.bd_todo.specs.Stands.{WorksAre}
 use Rattle.bd_threads.specs.Listed.{listed}

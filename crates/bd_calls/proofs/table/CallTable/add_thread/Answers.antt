@@ -1,5 +1,5 @@
 use Rattle.std.proofs.Common.{ℕ, ◌==◌, ◌++◌, ◌∷◌, [], false, ap, sym, ◌∙◌}
-use Rattle.bd_space.specs.declared.space.Thread.{Thread}
+use Rattle.bd_ways.specs.Words.{Thread}
 use Rattle.bd_space.specs.Steps.{with_thread}
 use Rattle.bd_keys.proofs.Rising.{without, filter_none}
 use Rattle.bd_keys.proofs.Found.{none_found}

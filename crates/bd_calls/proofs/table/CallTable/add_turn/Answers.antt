@@ -1,7 +1,6 @@
 use Rattle.std.proofs.Common.{◌∙◌, ◌==◌, ap, sym, subst, ◌++◌}
 use Rattle.std.specs.Option.{option_to_list}
-use Rattle.std.specs.List.{list_any}
-use Rattle.bd_space.specs.Words.{is_some_and}
+use Rattle.bd_ways.specs.Words.{is_some_and, list_any}
 use Rattle.bd_space.specs.Turns.{turns_of}
 use Rattle.bd_space.specs.Delivery.{add_buffer}
 use Rattle.bd_turns.specs.Stands.{TurnsAre}

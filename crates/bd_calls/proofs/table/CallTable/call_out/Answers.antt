@@ -1,21 +1,12 @@
-use Rattle.std.proofs.Common.{◌≡◌, ◌∙◌, ◌≤◌, refl, sym, ap, subst, ◌++◌, ◌∷◌, [], List, Some, Option, ℕ, suc, Bool, true, false, cond, arith}
+use Rattle.std.proofs.Common.{◌≡◌, ◌∙◌, ◌≤◌, refl, sym, ap, ◌∷◌, [], List, Some, ℕ, suc, Bool, true, false, cond, arith}
 use Rattle.std.specs.Prelude.{find, reverse, option_map}
-use Rattle.bd_space.specs.declared.space.Frame.{Frame}
-use Rattle.bd_space.specs.declared.space.Server.TheVariants.{Pending}
-use Rattle.bd_space.specs.declared.space.WorkKind.TheVariants.{Call}
+use Rattle.bd_ways.specs.Words.{Frame}
 use Rattle.bd_space.specs.Frames.{innermost, innermost_in, is_deepest_in, goes_to, list_of_caller, waits_in, ancestry, made_of}
-use Rattle.bd_space.specs.Todo.{owe, with_work}
+use Rattle.bd_space.specs.Todo.{owe}
 use Rattle.bd_space.specs.Transactions.{call_out}
-use Rattle.bd_space.specs.Turns.{turns_of}
-use Rattle.bd_frames.specs.Stands.{FramesAre}
 use Rattle.bd_frames.specs.Places.{IsAfter, IsRising}
-use Rattle.bd_frames.specs.InOrder.{IsBefore, IsNextOf}
-use Rattle.bd_calls.specs.Stands.{Stands}
+use Rattle.bd_frames.specs.InOrder.{IsBefore}
 use Rattle.bd_calls.proofs.table.CallTable.call_out.Goals as goal
-
--- a call's frame that nobody has read
-abbrev new_frame : ℕ → ℕ → Option ℕ → Frame
-new_frame made seat parent = record { made = made; caller = Some seat; server = Pending; parent = parent }
 
 -- where all were made before, so was the one that is found
 up_to : (m n : ℕ) (fs : List Frame) → IsRising m fs → IsAfter m fs n → m ≤ n

@@ -1,5 +1,5 @@
 use Rattle.std.proofs.Common.{◌≡◌, ◌-◌, ◌≤◌, drop, length}
-use Rattle.bd_space.specs.Space.{Space}
+use Rattle.bd_ways.specs.Words.{Space}
 use Rattle.bd_calls.specs.Closing.{IsClosing, close_due}
 use Rattle.bd_calls.specs.Stands.{StandsFor}
 use Rattle.bd_calls.specs.Room.{Uses, nothing, frame_count}

@@ -1,6 +1,6 @@
 use Rattle.std.proofs.Common.{◌-◌, ℕ, List}
 use Rattle.std.specs.List.{cons_option}
-use Rattle.bd_space.specs.Space.{Space}
+use Rattle.bd_ways.specs.Words.{Space}
 use Rattle.bd_calls.specs.Closing.{IsClosing}
 use Rattle.bd_calls.specs.Room.{Uses, nothing}
 use Rattle.bd_calls.specs.Told.{KeepsTold, ReachesFew}

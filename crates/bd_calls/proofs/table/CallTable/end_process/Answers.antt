@@ -1,10 +1,7 @@
-use Rattle.std.proofs.Common.{sym, subst}
+use Rattle.bd_ways.specs.Words.{OfProcess, Work}
 use Rattle.bd_space.specs.ProcessExits.{without_process}
-use Rattle.bd_turns.specs.Stands.{TurnsAre}
-use Rattle.bd_calls.proofs.OneWay.{turns_received}
-use Rattle.std.proofs.Common.{not, filter}
-use Rattle.bd_space.specs.declared.space.TodoList.TheVariants.{OfProcess}
-use Rattle.bd_space.specs.declared.space.Work.{Work}
+use Rattle.bd_calls.proofs.OneWay.{left_stand, turn_is_of}
+use Rattle.std.proofs.Common.{◌==◌, ap, not, filter}
 use Rattle.bd_space.specs.Todo.{is_on}
 use Rattle.bd_calls.proofs.Marking.{told_on, cleared_beside}
 use Rattle.bd_calls.specs.Told.{Recalls}
@@ -18,7 +15,8 @@ returns-clause-stands c =
       threads_are = stands.threads_are;
       frames_are = c.lose_unread.ensures.frames s.todo stands.todo_are _ stands.frames_are;
       todo_are = c.clear_list.ensures.stands _ stands.todo_are;
-      turns_are = subst (TurnsAre c.remove_received.new.self) (sym (turns_received c.args.process s.buffers)) (c.remove_received.ensures.stands _ stands.turns_are);
+      turns_are = left_stand c.remove_received.new.self (λ b. not (b.receiver == c.args.process)) (λ t. not (t.receiver == c.args.process))
+          (λ b t h. ap (λ p. not (p == c.args.process)) (turn_is_of b t h).1) s.buffers (c.remove_received.ensures.stands _ stands.turns_are);
       ready_are = c.forget_all.ensures _ _;
     }
 

@@ -1,16 +1,9 @@
-use Rattle.std.proofs.Common.{sym, subst}
-use Rattle.bd_space.specs.Freeing.{without_buffer}
-use Rattle.bd_turns.specs.Stands.{TurnsAre}
-use Rattle.bd_calls.proofs.OneWay.{turns_without}
+use Rattle.std.proofs.Common.{◌==◌, ap, not, rules}
+use Rattle.bd_space.specs.Freeing.{is_made_at, without_buffer}
+use Rattle.bd_calls.proofs.OneWay.{left_stand, turn_is_of}
 use Rattle.bd_calls.proofs.table.CallTable.remove_turn.Goals as goal
 
 pub returns-clause-stands : goal.returns-clause-stands
 unfolding without_buffer
-returns-clause-stands c =
-    λ s stands. record {
-      threads_are = stands.threads_are;
-      frames_are = stands.frames_are;
-      todo_are = stands.todo_are;
-      turns_are = subst (TurnsAre c.remove.new.self) (sym (turns_without c.args.made s.buffers)) (c.remove.ensures.stands _ stands.turns_are);
-      ready_are = stands.ready_are;
-    }
+returns-clause-stands c = search (rules, left_stand c.remove.new.self (λ b. not (is_made_at c.args.made b)) (λ t. not (t.made == c.args.made))
+    (λ b t h. ap (λ m. not (m == c.args.made)) (turn_is_of b t h).0))

@@ -1,7 +1,4 @@
-use Rattle.std.proofs.Common.{◌==◌, ap, ◌∙◌}
-use Rattle.bd_space.specs.declared.space.Thread.{Thread}
 use Rattle.bd_space.specs.Steps.{with_looping}
-use Rattle.bd_space.specs.Words.{changed}
 use Rattle.bd_calls.proofs.Seats.{kept_beside, turned_other}
 use Rattle.bd_calls.proofs.table.CallTable.set_looping.Goals as goal
 
@@ -11,8 +8,7 @@ returns-clause-stands c = λ s stands.
     let seat = c.args.seat in
     let looping = c.args.looping in
     record {
-      threads_are = c.set_looping.ensures.listed
-          ∙ ap (changed (λ (t : Thread). t.seat == seat) (λ (t : Thread). record t { looping = looping })) stands.threads_are;
+      threads_are = rw stands.threads_are at c.set_looping.ensures.listed;
       frames_are = stands.frames_are;
       todo_are = stands.todo_are;
       turns_are = stands.turns_are;

@@ -1,10 +1,7 @@
-use Rattle.std.proofs.Common.{◌==◌, ◌∙◌, ap, sym, subst, not, filter}
-use Rattle.bd_space.specs.declared.space.Thread.{Thread}
-use Rattle.bd_space.specs.declared.space.TodoList.TheVariants.{OfThread}
+use Rattle.std.proofs.Common.{◌==◌, ◌∙◌, ap, not, filter}
+use Rattle.bd_ways.specs.Words.{Thread, OfThread, Work}
 use Rattle.bd_space.specs.ThreadExits.{thread_goes, is_lost_with}
-use Rattle.bd_turns.specs.Stands.{TurnsAre}
-use Rattle.bd_calls.proofs.OneWay.{turns_lost}
-use Rattle.bd_space.specs.declared.space.Work.{Work}
+use Rattle.bd_calls.proofs.OneWay.{left_stand, turn_is_of}
 use Rattle.bd_space.specs.Todo.{is_on}
 use Rattle.bd_calls.proofs.Marking.{told_on, cleared_beside}
 use Rattle.bd_calls.specs.Told.{Recalls}
@@ -20,8 +17,8 @@ returns-clause-stands c =
       threads_are = c.remove.ensures.listed ∙ ap (filter (λ (t : Thread). not (t.seat == seat))) stands.threads_are;
       frames_are = c.leave_frames.ensures.frames s.todo stands.todo_are _ stands.frames_are;
       todo_are = c.clear_list.ensures.stands _ stands.todo_are;
-      turns_are = subst (TurnsAre c.remove_turns_on.new.turns) (sym (turns_lost (is_lost_with s.todo list) s.buffers))
-          (c.remove_turns_on.ensures.turns s.todo stands.todo_are _ stands.turns_are);
+      turns_are = left_stand c.remove_turns_on.new.turns (λ b. not (is_lost_with s.todo list b.made)) (λ t. not (is_lost_with s.todo list t.made))
+          (λ b t h. ap (λ m. not (is_lost_with s.todo list m)) (turn_is_of b t h).0) s.buffers (c.remove_turns_on.ensures.turns s.todo stands.todo_are _ stands.turns_are);
       ready_are = c.forget_all.ensures _ _;
     }
 
