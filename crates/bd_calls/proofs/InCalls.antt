@@ -1,5 +1,5 @@
 -- A thread has an innermost frame exactly where it takes part in one, however the frames lie.
-use Rattle.std.proofs.Common.{◌≡◌, ℕ, zero, suc, ◌≤◌, ◌==◌, nat_le, Bool, true, false, not, ◌&&◌, ◌||◌, cond, List, [], ◌∷◌, Option, Some, None, refl, ap, sym, ◌∙◌, max, arith}
+use Rattle.std.proofs.Common.{◌≡◌, ℕ, zero, suc, ◌≤◌, ◌==◌, nat_le, Bool, true, false, not, ◌&&◌, ◌||◌, cond, List, [], ◌∷◌, Option, refl, ap, sym, ◌∙◌, max, arith}
 use Rattle.std.specs.Option.{is_some, is_none}
 use Rattle.std.proofs.lemmas.Bool.{and_parts, and_from, eq-eqb, eqb-true, le-leb}
 use Rattle.bd_ways.specs.Words.{Frame, list_any, list_all}
@@ -32,8 +32,7 @@ pub in_no_call : (fs : List Frame) (seat : ℕ) → is_none (innermost_in fs sea
 in_no_call fs seat = none_is (innermost_in fs seat) ∙ ap not (sym (any_some deepest fs) ∙ at (top depth takes fs) refl)
   where
     none_is : (o : Option Frame) → is_none o ≡ not (is_some o)
-    none_is None = refl
-    none_is (Some f) = refl
+    none_is o = grind arith
 
     depth : Frame → ℕ
     depth = depth_in fs

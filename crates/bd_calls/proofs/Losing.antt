@@ -1,5 +1,5 @@
 -- One-way calls that go one after the other, by the work items that would have handed them out.
-use Rattle.std.proofs.Common.{◌≡◌, ◌==◌, ◌∙◌, ℕ, Bool, not, ◌||◌, ◌&&◌, List, [], ◌∷◌, Option, Some, None, refl, ap, sym, filter, fold, arith}
+use Rattle.std.proofs.Common.{◌≡◌, ◌==◌, ◌∙◌, ℕ, Bool, not, ◌||◌, ◌&&◌, List, [], ◌∷◌, Option, Some, refl, ap, sym, filter, fold, arith}
 use Rattle.bd_ways.specs.Words.{TodoList, Turn, Work, is_some_and, list_any}
 use Rattle.bd_ways.proofs.Ranges.{all_stay, same_filter}
 use Rattle.bd_space.specs.Todo.{hands_out, work_on, is_on}
@@ -23,8 +23,7 @@ left_stays [] ts = sym (all_stay (stays []) (λ t. refl) ts)
 left_stays (w ∷ ws) ts = left_stays ws (filter (is_other_than (hands_out w.kind)) ts) ∙ twice ts
   where
     apart : (o : Option ℕ) (n : ℕ) (b : Bool) → not (is_some_and o (λ m. m == n) || b) ≡ (not (is_some_and o (λ m. n == m)) && not b)
-    apart None n b = refl
-    apart (Some m) n b = grind arith
+    apart o n b = grind arith
 
     twice : (us : List Turn) → filter (stays ws) (filter (is_other_than (hands_out w.kind)) us) ≡ filter (stays (w ∷ ws)) us
     twice [] = refl

@@ -1,7 +1,7 @@
 -- Frames that are changed one by one, along the calls among work items.
 use Rattle.std.proofs.Common.{◌≡◌, ℕ, Bool, false, cond, ◌||◌, List, [], ◌∷◌, Some, refl, ap, sym, subst, ◌∙◌, map, fold, arith}
 use Rattle.std.proofs.Math.Path.{fun_ext}
-use Rattle.bd_ways.specs.Words.{Frame, Work, Server, Pending, WorkKind, TodoList, OfThread, changed, list_any}
+use Rattle.bd_ways.specs.Words.{Frame, Work, WorkKind, TodoList, OfThread, changed, list_any}
 use Rattle.bd_keys.proofs.Lists.{eqb_turned}
 use Rattle.bd_space.specs.declared.space.WorkKind.TheVariants.{Call}
 use Rattle.bd_space.specs.Frames.{is_frame}
@@ -10,7 +10,7 @@ use Rattle.bd_space.specs.ThreadExits.{is_unread_on, unread_frame, frame_without
 use Rattle.bd_todo.proofs.OnList.{any_filter}
 use Rattle.bd_frames.specs.declared.table.FrameTable.{FrameTable}
 use Rattle.bd_frames.specs.Stands.{FramesAre, Makes}
-use Rattle.bd_frames.specs.Words.{lost, lost_frame, left_frame}
+use Rattle.bd_frames.specs.Words.{lost_frame, left_frame}
 
 module _ (g : Frame → Frame) where
   -- the frame of this call changes, if it is one
@@ -50,22 +50,17 @@ module _ (g : Frame → Frame) where
 -- ---- the calls of a list have lost their server
 
 lost_once : (f : Frame) → lost_frame (lost_frame f) ≡ lost_frame f
-lost_once f = ap (λ v. record f { server = v }) (at f.server)
-  where
-    at : (v : Server) → lost (lost v) ≡ lost v
-    at Pending = refl
-    at _ = refl
+lost_once f = grind arith
 
-lost_one : (todo : List Work) (list : TodoList) (f : Frame) (v : Server) → f.server ≡ v → cond (is_unread_on todo list f.made) (lost_frame f) f ≡ unread_frame todo list f
-lost_one todo list f Pending e = grind (arith, e)
-lost_one todo list f _ e = grind (arith, e)
+lost_one : (todo : List Work) (list : TodoList) (f : Frame) → cond (is_unread_on todo list f.made) (lost_frame f) f ≡ unread_frame todo list f
+lost_one todo list f = grind arith
 
 pub lost_unread : (todo : List Work) (list : TodoList) (fs : List Frame) → along lost_frame (work_on todo (Some list)) fs ≡ map (unread_frame todo list) fs
 lost_unread todo list fs = along_at_once lost_frame lost_once (λ f. refl) (work_on todo (Some list)) fs ∙ each fs
   where
     each : (gs : List Frame) → changed (λ f. list_any (λ w. is_call f.made w.kind) (work_on todo (Some list))) lost_frame gs ≡ map (unread_frame todo list) gs
     each [] = refl
-    each (f ∷ gs) = grind (arith, any_filter (is_on list) (λ w. is_call f.made w.kind) todo, lost_one todo list f f.server refl, each gs)
+    each (f ∷ gs) = grind (arith, any_filter (is_on list) (λ w. is_call f.made w.kind) todo, lost_one todo list f, each gs)
 
 pub frames_left : (todo : List Work) (seat : ℕ) (fs : List Frame) → map (left_frame seat) (map (unread_frame todo (OfThread seat)) fs) ≡ map (frame_without todo seat) fs
 frames_left todo seat [] = refl

@@ -7,9 +7,7 @@ ghost use Rattle.bd_keys.specs.Tables.{AnswersBy};
 ghost use Rattle.bd_space.specs.{declared.space.WorkKind.{WorkKind}, Frames.{innermost_in}, Words.{is_some_and}};
 ghost use Rattle.bd_space.specs.Todo as spec;
 ghost use Rattle.bd_space.specs.Notices as notices;
-ghost use Rattle.bd_space.specs.declared.space.Frame as declared;
 ghost use Rattle.bd_frames.specs.Stands as frame_table;
-ghost use Rattle.bd_todo.specs.Stands as todo_table;
 ghost use Rattle.bd_todo.specs.TodoList as replies;
 
 use crate::ready::{Seen, look_at};

@@ -1,13 +1,10 @@
 use Rattle.std.proofs.Common.{ℕ, ◌==◌, ◌++◌, ◌∷◌, [], false, ap, sym, ◌∙◌}
 use Rattle.bd_ways.specs.Words.{Thread}
 use Rattle.bd_space.specs.Steps.{with_thread}
-use Rattle.bd_keys.proofs.Rising.{without, filter_none}
+use Rattle.bd_keys.proofs.Rising.{filter_none}
 use Rattle.bd_keys.proofs.Found.{none_found}
 use Rattle.bd_calls.proofs.Seats.{kept_beside, pushed_other}
 use Rattle.bd_calls.proofs.table.CallTable.add_thread.Goals as goal
-
-abbrev seat_of : Thread → ℕ
-seat_of t = t.seat
 
 pub returns-clause-stands : goal.returns-clause-stands
 unfolding with_thread
@@ -15,10 +12,8 @@ returns-clause-stands c = λ s stands new.
     let seat = c.args.seat in
     let one : ℕ → Thread = λ made. record { made = made; seat = seat; process = c.args.process; looping = false } in
     record {
-      threads_are = c.push.ensures.listed
-          ∙ ap (λ ts. without seat_of seat ts ++ one c.args.place ∷ []) stands.threads_are
-          ∙ ap (λ ts. ts ++ one c.args.place ∷ []) (filter_none seat_of seat s.threads (none_found (λ (t : Thread). t.seat == seat) s.threads new.1))
-          ∙ ap (λ made. s.threads ++ one made ∷ []) (sym new.0);
+      threads_are = (rw (stands.threads_are, filter_none (λ (t : Thread). t.seat) seat s.threads (none_found (λ (t : Thread). t.seat == seat) s.threads new.1))
+          at c.push.ensures.listed) ∙ ap (λ made. s.threads ++ one made ∷ []) (sym new.0);
       frames_are = stands.frames_are;
       todo_are = stands.todo_are;
       turns_are = stands.turns_are;
