@@ -50,5 +50,5 @@ in_no_call fs seat = none_is (innermost_in fs seat) ∙ ap not (sym (any_some de
     at zero e = grind (arith, none_there depth takes fs e, some)
     at (suc n) e =
         let there = any_implied (λ f. takes f && (depth f == n)) deepest
-            (λ f h. let k = and_parts _ _ h in and_from _ _ k.0 (none_above depth takes (depth f) fs (omega (arith, e, eqb-true (depth f) n k.1)))) fs (at_top depth takes n fs e) in
+        (λ f h. let k = and_parts _ _ h in and_from _ _ k.0 (none_above depth takes (depth f) fs (omega (arith, e, eqb-true (depth f) n k.1)))) fs (at_top depth takes n fs e) in
         there ∙ sym (some there)

@@ -6,16 +6,17 @@ use Rattle.bd_calls.proofs.table.CallTable.is_ready.Goals as goal
 pub returns-then-seen : goal.returns-then-seen
 unfolding list_to_read
 returns-then-seen c = λ s stands.
-    grind (arith, c.if-seen.true, seen_ready s.frames s.threads s.todo c.args.seat c.seen_at-seen.result c.in-Some.thread c.in-Some.is (c.seen_at-seen.ensures s stands))
+    let ready = seen_ready s.frames s.threads s.todo c.args.seat c.seen_at-seen.result c.in-Some.thread c.in-Some.is (c.seen_at-seen.ensures s stands) in
+    grind (arith, ready, c.if-seen.true)
 
 pub returns-then-seen-2 : goal.returns-then-seen-2
 unfolding list_to_read
 returns-then-seen-2 c = λ s stands.
-    grind (arith, c.if-seen.false, c.if-seen-2.true, c.is_idle.ensures s.frames stands.frames_are,
-      seen_ready s.frames s.threads s.todo c.args.seat c.seen_at-seen.result c.in-Some.thread c.in-Some.is (c.seen_at-seen.ensures s stands))
+    let ready = seen_ready s.frames s.threads s.todo c.args.seat c.seen_at-seen.result c.in-Some.thread c.in-Some.is (c.seen_at-seen.ensures s stands) in
+    grind (arith, ready, c.if-seen.false, c.if-seen-2.true, c.is_idle.ensures s.frames stands.frames_are)
 
 pub returns-else-seen-2 : goal.returns-else-seen-2
 unfolding list_to_read
 returns-else-seen-2 c = λ s stands.
-    grind (arith, c.if-seen.false, c.if-seen-2.false,
-      seen_ready s.frames s.threads s.todo c.args.seat c.seen_at-seen.result c.in-Some.thread c.in-Some.is (c.seen_at-seen.ensures s stands))
+    let ready = seen_ready s.frames s.threads s.todo c.args.seat c.seen_at-seen.result c.in-Some.thread c.in-Some.is (c.seen_at-seen.ensures s stands) in
+    grind (arith, ready, c.if-seen.false, c.if-seen-2.false)

@@ -5,5 +5,7 @@ use Rattle.bd_calls.proofs.table.CallTable.remove_turn.Goals as goal
 
 pub returns-clause-stands : goal.returns-clause-stands
 unfolding without_buffer
-returns-clause-stands c = search (rules, left_stand c.remove.new.self (λ b. not (is_made_at c.args.made b)) (λ t. not (t.made == c.args.made))
-    (λ b t h. ap (λ m. not (m == c.args.made)) (turn_is_of b t h).0))
+returns-clause-stands c =
+    let made = c.args.made in
+    let left = left_stand c.remove.new.self (λ b. not (is_made_at made b)) (λ t. not (t.made == made)) (λ b t h. ap (λ m. not (m == made)) (turn_is_of b t h).0) in
+    search (rules, left)
