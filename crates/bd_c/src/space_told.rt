@@ -73,7 +73,7 @@ pub struct BufferTold {
     pub start: u32,
     /// How many bytes of the window it takes.
     pub size: u32,
-    /// The number of the method that is called, as the sender wrote it.
+    /// The number of the method that is called, as the sender wrote it; a reply has one too.
     pub code: u32,
     /// The flags, as the sender wrote them.
     pub flags: u32,

@@ -12,7 +12,7 @@ pub struct TransactionInC {
     pub target: u64,
     /// The cookie of the receiver's object.
     pub cookie: u64,
-    /// The number of the method that is called.
+    /// The number of the method that is called; a reply has one too.
     pub code: u32,
     /// The flags, all 32 bits.
     pub flags: u32,

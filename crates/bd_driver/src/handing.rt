@@ -65,8 +65,7 @@ impl Driver {
     /// up to and without `to` in a history that the seat has then seen; they begin not below the length that it had
     /// seen at its post, and their places are its own from then on. Back: the equal request, with NoMemory or
     /// HistoryFull, each only where `call` could say it after a beginning of what is then seen, which isn't shorter than
-    /// what it had seen at its post. Handed exactly where the step found another word than ANSWERED. Takes no
-    /// memory.
+    /// what it had seen at its post. Handed exactly where the step found no answer there. Takes no memory.
     pub fn collect(&self, seat: &mut Seat) -> Outcome
         requires table { seat.old.table ≡ self.now.table }
         requires waiting { is_waiting seat.old.view.handover ≡ true }

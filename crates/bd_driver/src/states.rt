@@ -12,7 +12,7 @@ pub(crate) const EMPTY: u64 = 0;
 /// A mailbox with a request, which anybody may pick and its seat may take back.
 pub(crate) const POSTED: u64 = 1;
 
-/// A mailbox whose request another seat has picked.
+/// A mailbox whose request a seat that serves has picked, be it its own or another's.
 pub(crate) const PICKED: u64 = 2;
 
 /// A mailbox with what came of its request.

@@ -25,7 +25,7 @@ pub enum Handover {
 pub enum Picking {
     /// Nothing.
     Nothing,
-    /// A request of another seat or its own was picked, and these places are published for it.
+    /// A request was picked, of another seat or its own. Until its entries are published it has none: both numbers are 0.
     Picked {
         /// The seat whose mailbox it was in.
         seat: u32,

@@ -86,6 +86,7 @@ impl Live {
     }
 
     // Looks anew at the seats that a step may have made ready or unready.
+    #[inline(always)]
     pub(crate) fn refresh_ready(&mut self)
         ensures follows { Makes (Follows self.old) (Follows self.new) (λ h. h) }
         ensures seats { self.new.seats ≡ self.old.seats }

@@ -26,6 +26,7 @@ pub struct Ran {
 }
 
 // What was read, as the answer to a request.
+#[inline(always)]
 fn got(answer: StepAnswer) -> Answer
     requires { IsGot answer }
     ensures { result ≡ answered answer }
@@ -45,6 +46,7 @@ fn got(answer: StepAnswer) -> Answer
 }
 
 // What the only step of a request answers it: its answer in brief, and what was read.
+#[inline(always)]
 fn answered(brief: Brief, again: StepAnswer) -> Answer
     requires { brief ≡ Got → IsGot again }
     ensures { (answer : words.StepAnswer) → IsBrief brief answer → (brief ≡ Got → again ≡ answer) → result ≡ answered answer }

@@ -197,6 +197,7 @@ impl WideEngine {
     }
 
     // Runs the next command of a write, of this size.
+    #[inline(always)]
     fn run_command(
         &mut self,
         seat: u32,
@@ -221,6 +222,7 @@ impl WideEngine {
     }
 
     // Runs one command after the other, up to one that ends the write.
+    #[inline(always)]
     fn run_each(
         &mut self,
         seat: u32,

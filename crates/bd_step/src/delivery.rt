@@ -138,6 +138,8 @@ impl Tables {
     }
 
     /// What the actor sends to the receiver by this parcel, or the first cause against it.
+    // Put into its callers, as what else has a delivery: it isn't moved from frame to frame.
+    #[inline(always)]
     pub(crate) fn sent_to(
         &self,
         actor: Actor,
@@ -161,6 +163,7 @@ impl Tables {
 
     /// Makes room for a delivery and for what follows from it, and tells at which objects, in the order in which they were
     /// made. Changes nothing else, also where memory is refused.
+    #[inline(always)]
     pub(crate) fn reserve_delivery(
         &mut self,
         delivery: &Delivery,
@@ -339,6 +342,7 @@ impl Tables {
     }
 
     /// The whole delivery; nothing where a number past the limit would be needed. Takes no memory.
+    #[inline(always)]
     pub(crate) fn delivered(
         &mut self,
         actor: Actor,

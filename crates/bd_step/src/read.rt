@@ -21,6 +21,7 @@ use crate::touched::in_order;
 use bd_codec::write_return;
 use bd_objects::Room;
 use bd_space::{Actor, Buffer, Bytes, ObjectId, StepAnswer, Thread, TodoList, Work, WorkKind};
+use bd_todo::hands_out;
 use bd_uapi::{Fault, Return};
 use std::alloc::{AllocError, Global};
 use std::slice::from_ref;
@@ -87,15 +88,6 @@ fn ends_read(kind: WorkKind) -> bool
         kind,
         WorkKind::Call(_) | WorkKind::Reply(_) | WorkKind::Death(_)
     )
-}
-
-fn hands_out(kind: WorkKind) -> Option<u32>
-    ensures { result ≡ todo.hands_out kind }
-{
-    match kind {
-        WorkKind::Call(buffer) | WorkKind::Reply(buffer) => Some(buffer),
-        _ => None,
-    }
 }
 
 // The buffer that is handed over by reading these.
