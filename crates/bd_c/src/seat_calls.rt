@@ -16,6 +16,7 @@ use bd_space::Request;
 use std::alloc::Global;
 
 // Makes a request of the seat that is behind the handle, and answers the number of the call's status.
+#[inline(always)]
 fn ask(seat: &mut Handle, request: Request, told: &mut Told) -> u32
     ensures asks { IsSeat seat.old.held → Reports result (AsksAt seat.old.held seat.new.held request told.old told.new) }
     ensures misuse { (IsSeat seat.old.held → ⊥) → IsMisuse result seat.old.held seat.new.held × (told.new ≡ told.old) }

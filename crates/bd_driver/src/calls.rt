@@ -81,6 +81,7 @@ impl Driver {
     }
 
     // Publishes the engine's history, and puts the engine home.
+    #[inline(always)]
     pub(crate) fn give(&self, table_seat: &mut TableSeat, engine: BoxedEngine)
         requires table { table_seat.old.table_id ≡ self.now.table }
         requires one { table_seat.old.me.0 ≡ view_of table_seat.old.me.0 ∷ [] }
