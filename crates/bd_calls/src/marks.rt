@@ -1,7 +1,7 @@
 //! Which todo lists may have been filled or emptied since that was last told.
 #![tactic(auto)]
 
-ghost use Rattle.std.specs.Prelude.{◌≡◌, ◌≤◌, [], Bool, true, false, not, List, IfOk, OnOk, OnErr, length, vec_capacity};
+ghost use Rattle.std.specs.Prelude.{◌≡◌, ◌≤◌, ◌++◌, ◌∷◌, if◌then◌else◌, [], Bool, true, false, not, List, IfOk, OnOk, OnErr, length, vec_capacity};
 ghost use Rattle.bd_space.specs.declared.space.TodoList as lists;
 ghost use Rattle.bd_space.specs.declared.space.Work as works;
 ghost use Rattle.bd_space.specs.Todo.{same_list, has_work_in};
@@ -35,6 +35,21 @@ fn is_marked_in(marks: &[Mark], list: TodoList) -> bool
     marks.iter().any(|m| m.list == list)
 }
 
+// The list is put there if it was filled or emptied. Fails for want of memory alone.
+fn push_if_changed(
+    mark: &Mark,
+    todo: &WorkTable,
+    reached: &mut Vec<TodoList>,
+) -> Result<(), AllocError>
+    ensures { OnOk result (todo_table.Tells todo.now reached.new.items
+        (λ l. reached.old.items ++ (if spec.is_changed l mark.now then mark.now.list ∷ [] else []))) }
+{
+    if mark.had != todo.has_any(mark.list) {
+        reached.push(mark.list)?;
+    }
+    Ok(())
+}
+
 // The marked lists that were filled or emptied. Fails for want of memory alone.
 fn list_changed(
     marks: &[Mark],
@@ -45,9 +60,7 @@ fn list_changed(
     ensures { OnOk result (todo_table.Tells todo.now reached.new.items (λ l. spec.changed_lists l marks.now)) }
 {
     for mark in marks {
-        if mark.had != todo.has_any(mark.list) {
-            reached.push(mark.list)?;
-        }
+        push_if_changed(mark, todo, reached)?;
     }
     Ok(())
 }
