@@ -1,18 +1,11 @@
 -- Calls close one after the other: upwards, and those that are due.
 use Rattle.std.proofs.Common.{◌≡◌, ℕ, zero, suc, not, List, [], ◌∷◌, filter, Option, Some, None, refl, ap, sym, subst, ◌∙◌}
 use Rattle.std.specs.List.{cons_option}
-use Rattle.bd_ways.specs.Words.{Frame, OfThread, Space}
+use Rattle.bd_ways.specs.{Words.{Frame, OfThread, Space}, Local.{close_up}, Tables.{Tells, MakesAt}}
 use Rattle.bd_uapi.specs.declared.command.Return.TheVariants.{DeadReply}
-use Rattle.bd_space.specs.declared.space.WorkKind.TheVariants.{Verdict}
-use Rattle.bd_space.specs.Frames.{is_frame, closed}
-use Rattle.bd_space.specs.Settle.{settle_one}
-use Rattle.bd_space.specs.Todo.{owe}
-use Rattle.bd_ways.specs.Local.{close_up}
-use Rattle.bd_ways.specs.Tables.{Tells, MakesAt}
+use Rattle.bd_space.specs.{declared.space.WorkKind.TheVariants.{Verdict}, Frames.{is_frame, closed}, Settle.{settle_one}, Todo.{owe}}
 use Rattle.bd_frames.specs.Words.{abandoned_in}
-use Rattle.bd_calls.specs.declared.table.CallTable.{CallTable}
-use Rattle.bd_calls.specs.Stands.{StandsFor}
-use Rattle.bd_calls.specs.Closing.{close_first, close_due, IsClosing}
+use Rattle.bd_calls.specs.{declared.table.CallTable.{CallTable}, Stands.{StandsFor}, Closing.{close_first, close_due, IsClosing}}
 
 -- ---- one call closes: its frame goes, and no step is counted
 

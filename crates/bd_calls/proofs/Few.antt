@@ -1,7 +1,6 @@
 -- How many todo lists changes fill or empty, one after the other.
 use Rattle.std.proofs.Common.{◌≤◌, ◌+◌, ℕ, arith}
-use Rattle.bd_calls.specs.declared.table.CallTable.{CallTable}
-use Rattle.bd_calls.specs.Told.{HasRoomToTell, ReachesFew}
+use Rattle.bd_calls.specs.{declared.table.CallTable.{CallTable}, Told.{HasRoomToTell, ReachesFew}}
 
 room_less : (t : CallTable) (m n : ℕ) → m ≤ n → HasRoomToTell t n → HasRoomToTell t m
 unfolding HasRoomToTell

@@ -1,7 +1,7 @@
 -- A thread has an innermost frame exactly where it takes part in one, however the frames lie.
 use Rattle.std.proofs.Common.{◌≡◌, ℕ, zero, suc, ◌≤◌, ◌==◌, nat_le, Bool, true, false, not, ◌&&◌, ◌||◌, cond, List, [], ◌∷◌, Option, refl, ap, sym, ◌∙◌, max, arith}
-use Rattle.std.specs.Option.{is_some, is_none}
 use Rattle.std.proofs.lemmas.Bool.{and_parts, and_from, eq-eqb, eqb-true, le-leb}
+use Rattle.std.specs.Option.{is_some, is_none}
 use Rattle.bd_ways.specs.Words.{Frame, list_any, list_all}
 use Rattle.bd_keys.proofs.Found.{any_some}
 use Rattle.bd_space.specs.Frames.{takes_part, depth_in, is_deepest_in, innermost_in}

@@ -1,18 +1,11 @@
 -- Closing among chosen calls where frames are in order: those that are due in turn, from the oldest on.
 use Rattle.std.proofs.Common.{◌≡◌, ℕ, zero, suc, ◌==◌, ◌<◌, ◌≤◌, Bool, true, false, not, ◌&&◌, ◌||◌, List, [], ◌∷◌, Option, Some, None, ◌⊎◌, inl, inr, refl, ap, sym, subst, ◌∙◌, length, filter, find, get_or, arith}
-use Rattle.std.specs.List.{cons_option}
-use Rattle.std.specs.List.Sorted.{IsNonDecreasing, IsPermutation}
-use Rattle.std.proofs.Math.Path.{fun_ext}
-use Rattle.std.proofs.lemmas.List.Sorted.{list_any-IsPermutation}
-use Rattle.std.proofs.lemmas.Bool.{and_parts, eqb-true, not-false}
-use Rattle.bd_ways.specs.Words.{Frame, is_some_and, Space, list_any}
+use Rattle.std.proofs.{Math.Path.{fun_ext}, lemmas.List.Sorted.{list_any-IsPermutation}, lemmas.Bool.{and_parts, eqb-true, not-false}}
+use Rattle.std.specs.{List.{cons_option}, List.Sorted.{IsNonDecreasing, IsPermutation}}
+use Rattle.bd_ways.specs.{Words.{Frame, is_some_and, Space, list_any}, Local.{close_among}}
 use Rattle.bd_keys.proofs.Found.{found_passes}
-use Rattle.bd_space.specs.Frames.{is_frame, is_child_of, is_gone}
-use Rattle.bd_space.specs.Settle.{is_abandoned, settle_one}
-use Rattle.bd_ways.specs.Local.{close_among}
-use Rattle.bd_frames.specs.Places.{IsRising}
-use Rattle.bd_frames.specs.Words.{abandoned_in, is_place_among}
-use Rattle.bd_frames.specs.InOrder.{IsBefore, ParentsOlder, IsInOrder}
+use Rattle.bd_space.specs.{Frames.{is_frame, is_child_of, is_gone}, Settle.{is_abandoned, settle_one}}
+use Rattle.bd_frames.specs.{Places.{IsRising}, Words.{abandoned_in, is_place_among}, InOrder.{IsBefore, ParentsOlder, IsInOrder}}
 use Rattle.bd_frames.proofs.InOrder.{in_order_filter}
 use Rattle.bd_calls.specs.Closing.{close_due}
 use Rattle.bd_calls.proofs.Closing.{closes, due_stays, due_closes}

@@ -2,8 +2,7 @@
 use Rattle.std.proofs.Common.{◌≡◌, ◌==◌, ◌∙◌, ℕ, Bool, not, ◌||◌, ◌&&◌, List, [], ◌∷◌, Option, Some, refl, ap, sym, filter, fold, arith}
 use Rattle.bd_ways.specs.Words.{TodoList, Turn, Work, is_some_and, list_any}
 use Rattle.bd_ways.proofs.Ranges.{all_stay, same_filter}
-use Rattle.bd_space.specs.Todo.{hands_out, work_on, is_on}
-use Rattle.bd_space.specs.ThreadExits.{is_lost_with}
+use Rattle.bd_space.specs.{Todo.{hands_out, work_on, is_on}, ThreadExits.{is_lost_with}}
 use Rattle.bd_todo.proofs.OnList.{any_filter}
 
 -- another than the one made here, if there is one

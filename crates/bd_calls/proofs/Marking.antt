@@ -1,19 +1,12 @@
 -- What was told of the todo lists is known still where a change fills and empties marked lists alone.
 use Rattle.std.proofs.Common.{◌≡◌, ℕ, Bool, true, false, not, ◌&&◌, ◌||◌, List, [], ◌∷◌, ◌++◌, refl, ap, sym, ◌∙◌, filter, arith}
+use Rattle.std.proofs.{lemmas.List.Folds.{list_any-append}, lemmas.Map.Views.{any-filter_same}, Math.Bool.{or-false}}
 use Rattle.std.specs.List.{AllByRecursion}
-use Rattle.std.proofs.lemmas.List.Folds.{list_any-append}
-use Rattle.std.proofs.lemmas.Map.Views.{any-filter_same}
-use Rattle.std.proofs.Math.Bool.{or-false}
 use Rattle.bd_ways.specs.Words.{Work, WorkKind, TodoList, list_any}
-use Rattle.bd_space.specs.ReadItems.{none_due}
-use Rattle.bd_space.specs.Todo.{has_work_in, is_on, same_list, with_work, is_item, without_taken}
-use Rattle.bd_todo.specs.declared.table.WorkTable.{WorkTable}
-use Rattle.bd_todo.specs.Stands.{WorksAre}
-use Rattle.bd_todo.proofs.OnList.{any_left}
-use Rattle.bd_todo.proofs.ListKeys.{same_list_eq, same_list_refl}
-use Rattle.bd_todo.proofs.Queueing.{on_same}
-use Rattle.bd_calls.specs.declared.marks.Mark.{Mark}
-use Rattle.bd_calls.specs.declared.marks.Marks.{Marks}
+use Rattle.bd_space.specs.{ReadItems.{none_due}, Todo.{has_work_in, is_on, same_list, with_work, is_item, without_taken}}
+use Rattle.bd_todo.specs.{declared.table.WorkTable.{WorkTable}, Stands.{WorksAre}}
+use Rattle.bd_todo.proofs.{OnList.{any_left}, ListKeys.{same_list_eq, same_list_refl}, Queueing.{on_same}}
+use Rattle.bd_calls.specs.{declared.marks.Mark.{Mark}, declared.marks.Marks.{Marks}}
 use Rattle.bd_calls.specs.Marks.{differs, is_among, is_marked_in, is_marked, changed_lists, IsRecalled, RecallsIn}
 
 -- ---- lists beside those of a change

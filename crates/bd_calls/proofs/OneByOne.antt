@@ -3,14 +3,10 @@ use Rattle.std.proofs.Common.{◌≡◌, ℕ, Bool, false, cond, ◌||◌, List,
 use Rattle.std.proofs.Math.Path.{fun_ext}
 use Rattle.bd_ways.specs.Words.{Frame, Work, WorkKind, TodoList, OfThread, changed, list_any}
 use Rattle.bd_keys.proofs.Lists.{eqb_turned}
-use Rattle.bd_space.specs.declared.space.WorkKind.TheVariants.{Call}
-use Rattle.bd_space.specs.Frames.{is_frame}
-use Rattle.bd_space.specs.Todo.{is_on, is_call, work_on}
+use Rattle.bd_space.specs.{declared.space.WorkKind.TheVariants.{Call}, Frames.{is_frame}, Todo.{is_on, is_call, work_on}}
 use Rattle.bd_space.specs.ThreadExits.{is_unread_on, unread_frame, frame_without}
 use Rattle.bd_todo.proofs.OnList.{any_filter}
-use Rattle.bd_frames.specs.declared.table.FrameTable.{FrameTable}
-use Rattle.bd_frames.specs.Stands.{FramesAre, Makes}
-use Rattle.bd_frames.specs.Words.{lost_frame, left_frame}
+use Rattle.bd_frames.specs.{declared.table.FrameTable.{FrameTable}, Stands.{FramesAre, Makes}, Words.{lost_frame, left_frame}}
 
 module _ (g : Frame → Frame) where
   -- the frame of this call changes, if it is one

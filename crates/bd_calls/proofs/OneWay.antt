@@ -1,18 +1,12 @@
 -- The one-way calls of changed buffers.
 use Rattle.std.proofs.Common.{◌≡◌, ◌==◌, ◌<◌, ℕ, All, Bool, false, List, [], ◌∷◌, ◌++◌, Option, Some, None, refl, ap, sym, subst, ◌∙◌, filter, arith}
+use Rattle.std.proofs.{lemmas.Bool.{eqb-true}, lemmas.List.Elements.{All-head, All-tail, filter_map-append}}
 use Rattle.std.specs.Option.{is_some, option_map, option_to_list, option_and_then}
-use Rattle.std.proofs.lemmas.Bool.{eqb-true}
-use Rattle.std.proofs.lemmas.List.Elements.{All-head, All-tail, filter_map-append}
 use Rattle.bd_ways.specs.Words.{Buffer, Turn, changed, is_some_and, list_any}
 use Rattle.bd_keys.proofs.Found.{any_some, found_passes}
 use Rattle.bd_ways.proofs.Ranges.{changed_none}
-use Rattle.bd_space.specs.Turns.{turn_of, turns_of}
-use Rattle.bd_space.specs.Freeing.{is_made_at}
-use Rattle.bd_space.specs.Returns.{buffer_in}
-use Rattle.bd_space.specs.ReadItems.{hand_out, handed_buffers}
-use Rattle.bd_turns.specs.declared.table.TurnTable.{TurnTable}
-use Rattle.bd_turns.specs.Stands.{TurnsAre}
-use Rattle.bd_turns.specs.Turn.{hand_turn}
+use Rattle.bd_space.specs.{Turns.{turn_of, turns_of}, Freeing.{is_made_at}, Returns.{buffer_in}, ReadItems.{hand_out, handed_buffers}}
+use Rattle.bd_turns.specs.{declared.table.TurnTable.{TurnTable}, Stands.{TurnsAre}, Turn.{hand_turn}}
 use Rattle.bd_calls.specs.Turn.{handed_turns}
 
 -- ---- one more

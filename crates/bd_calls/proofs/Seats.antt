@@ -1,23 +1,15 @@
 -- What is kept of the seats, and what a change of the work items or of a thread leaves of it.
 use Rattle.std.proofs.Common.{◌≡◌, ℕ, ◌<◌, ◌==◌, arith, Bool, true, false, cond, not, ◌&&◌, ◌||◌, List, [], ◌∷◌, ◌++◌, Some, None, refl, ap, sym, subst, ◌∙◌, length, get_or, set, eqb-true, ne_eqb, IfSome}
-use Rattle.std.specs.Prelude.{Option, option_map}
-use Rattle.std.specs.Option.{is_none, option_or}
-use Rattle.std.proofs.lemmas.Bool.{eqb-false}
-use Rattle.std.proofs.lemmas.List.Folds.{find-append}
-use Rattle.std.proofs.lemmas.List.{get_or-set_same, get_or-set_other}
+use Rattle.std.proofs.{lemmas.Bool.{eqb-false}, lemmas.List.Folds.{find-append}, lemmas.List.{get_or-set_same, get_or-set_other}}
 use Rattle.std.proofs.lemmas.Option.{IfSome_then}
+use Rattle.std.specs.{Prelude.{Option, option_map}, Option.{is_none, option_or}}
 use Rattle.bd_ways.specs.Words.{Frame, Thread, Work, WorkKind, TodoList, OfThread, OfProcess, changed, is_some_and}
-use Rattle.bd_keys.proofs.Found.{found_passes}
-use Rattle.bd_keys.proofs.Options.{or_none}
-use Rattle.bd_space.specs.Seats.{thread_in}
-use Rattle.bd_space.specs.Frames.{innermost_in}
-use Rattle.bd_space.specs.ReadItems.{none_due}
+use Rattle.bd_keys.proofs.{Found.{found_passes}, Options.{or_none}}
+use Rattle.bd_space.specs.{Seats.{thread_in}, Frames.{innermost_in}, ReadItems.{none_due}}
 use Rattle.bd_space.specs.Todo.{has_work_in, is_on, work_on, reads_in, with_work, without_taken}
-use Rattle.bd_calls.specs.declared.ready.Seen.{Seen}
-use Rattle.bd_calls.specs.declared.ready.ReadySeats.{ReadySeats}
+use Rattle.bd_calls.specs.{declared.ready.Seen.{Seen}, declared.ready.ReadySeats.{ReadySeats}}
 use Rattle.bd_calls.specs.Ready.{seen_at, noted, told_then, told_after, IsSeen, AreSeen}
-use Rattle.bd_todo.proofs.OnList.{any_left}
-use Rattle.bd_todo.proofs.ListKeys.{same_list_eq}
+use Rattle.bd_todo.proofs.{OnList.{any_left}, ListKeys.{same_list_eq}}
 use Rattle.bd_calls.proofs.Marking.{pushed_on, taken_beside}
 
 -- ---- a seat that was seen

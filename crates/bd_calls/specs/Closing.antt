@@ -1,12 +1,10 @@
 -- Calls that are due to close, the oldest first: where an abandoned one closes, the one in which it was made is due in its place.
-use Rattle.std.specs.Prelude.{ℕ, zero, suc, ◌≡◌, List, [], ◌∷◌, Some, None}
-use Rattle.std.specs.List.{cons_option}
+use Rattle.std.specs.{Prelude.{ℕ, zero, suc, ◌≡◌, List, [], ◌∷◌, Some, None}, List.{cons_option}}
 use Rattle.bd_ways.specs.Words.{Space}
 use Rattle.bd_space.specs.Settle.{settle_one}
 pub use Rattle.bd_frames.specs.Words.{is_place_among}
 use Rattle.bd_frames.specs.Words.{abandoned_in}
-use Rattle.bd_calls.specs.declared.table.CallTable.{CallTable}
-use Rattle.bd_calls.specs.Stands.{StandsFor}
+use Rattle.bd_calls.specs.{declared.table.CallTable.{CallTable}, Stands.{StandsFor}}
 
 -- the first that is abandoned closes, and the rest follows
 abbrev pub close_first : (List ℕ → Space → Space) → List ℕ → Space → Space

@@ -3,10 +3,8 @@ use Rattle.std.specs.Prelude.{◌≡◌, ◌≤◌, ◌+◌, ℕ, Bool, true, fa
 use Rattle.std.specs.List.{AllByRecursion}
 use Rattle.bd_ways.specs.Words.{list_any, Work, TodoList}
 use Rattle.bd_space.specs.Todo.{same_list, has_work_in}
-use Rattle.bd_todo.specs.declared.table.WorkTable.{WorkTable}
-use Rattle.bd_todo.specs.Stands.{WorksAre}
-use Rattle.bd_calls.specs.declared.marks.Mark.{Mark}
-use Rattle.bd_calls.specs.declared.marks.Marks.{Marks}
+use Rattle.bd_todo.specs.{declared.table.WorkTable.{WorkTable}, Stands.{WorksAre}}
+use Rattle.bd_calls.specs.{declared.marks.Mark.{Mark}, declared.marks.Marks.{Marks}}
 
 -- one of the two is so, and the other isn't
 abbrev pub differs : Bool → Bool → Bool

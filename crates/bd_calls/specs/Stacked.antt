@@ -5,8 +5,7 @@ use Rattle.bd_space.specs.Frames.{innermost_in}
 use Rattle.bd_ways.specs.Tables as tables
 pub use Rattle.bd_frames.specs.Words.{newest_in}
 pub use Rattle.bd_frames.specs.Places.{IsAfter}
-use Rattle.bd_calls.specs.declared.table.CallTable.{CallTable}
-use Rattle.bd_calls.specs.Stands.{StandsFor}
+use Rattle.bd_calls.specs.{declared.table.CallTable.{CallTable}, Stands.{StandsFor}}
 
 -- it is each thread's innermost: so it is between two steps, but not of any frames that a table may hold
 abbrev pub IsStacked : Space → Type 0

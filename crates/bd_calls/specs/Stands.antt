@@ -2,14 +2,12 @@
 -- and what is kept of the seats is so.
 use Rattle.std.specs.Prelude.{◌≡◌, List}
 use Rattle.bd_ways.specs.Words.{Thread, Frame, Work, Turn, Space}
-use Rattle.bd_space.specs.Turns.{turns_of}
-use Rattle.bd_space.specs.Todo.{has_work_in}
+use Rattle.bd_space.specs.{Turns.{turns_of}, Todo.{has_work_in}}
 use Rattle.bd_frames.specs.Stands.{FramesAre}
 use Rattle.bd_todo.specs.Stands.{WorksAre}
 use Rattle.bd_turns.specs.Stands.{TurnsAre}
 use Rattle.bd_threads.specs.Listed.{listed}
-use Rattle.bd_calls.specs.Ready.{AreSeen}
-use Rattle.bd_calls.specs.declared.table.CallTable.{CallTable}
+use Rattle.bd_calls.specs.{Ready.{AreSeen}, declared.table.CallTable.{CallTable}}
 
 pub record Stands (t : CallTable) (threads : List Thread) (frames : List Frame) (todo : List Work)
     (turns : List Turn) : Type 0 where

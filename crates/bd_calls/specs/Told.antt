@@ -1,8 +1,7 @@
 -- What was told of the todo lists of a call table: whether anything is on each.
 use Rattle.std.specs.Prelude.{◌+◌, ℕ, Bool, not, vec_capacity}
 use Rattle.bd_ways.specs.Words.{TodoList}
-use Rattle.bd_calls.specs.declared.table.CallTable.{CallTable}
-use Rattle.bd_calls.specs.Marks.{RecallsIn, HasMarkRoom}
+use Rattle.bd_calls.specs.{declared.table.CallTable.{CallTable}, Marks.{RecallsIn, HasMarkRoom}}
 
 -- if this was told of each list, then which lists were filled or emptied since is known still, or that any may have been
 unfoldable pub Recalls : CallTable → (TodoList → Bool) → Type 0

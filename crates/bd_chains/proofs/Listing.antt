@@ -1,11 +1,8 @@
 -- Lists after a change, and what stands on one.
 use Rattle.std.proofs.Common.{◌≡◌, ℕ, ◌==◌, nat_lt, Bool, true, false, ◌&&◌, cond, List, [], ◌∷◌, ◌++◌, filter, find, Option, Some, None, refl, sym, ap, ◌∙◌, arith}
-use Rattle.std.specs.List.{list_any, slice_get}
-use Rattle.std.specs.Iterator.{YieldsFirst}
-use Rattle.bd_chains.specs.declared.chains.Chains.{Chains}
-use Rattle.bd_chains.specs.Rows.{Row, ring, values, values_on, on_some, counted_on, drop_key}
-use Rattle.bd_chains.specs.Columns.{is_open, Holds}
-use Rattle.bd_chains.specs.Lists.{AreListed, Shows}
+use Rattle.std.specs.{List.{list_any, slice_get}, Iterator.{YieldsFirst}}
+use Rattle.bd_chains.specs.{declared.chains.Chains.{Chains}, Rows.{Row, ring, values, values_on, on_some, counted_on, drop_key}}
+use Rattle.bd_chains.specs.{Columns.{is_open, Holds}, Lists.{AreListed, Shows}}
 
 some_is : {a b : ℕ} → Some a ≡ Some b → a ≡ b
 some_is e = cc

@@ -1,10 +1,8 @@
 -- Rows of values: their keys, lists and counts, where one is added or taken out.
 use Rattle.std.proofs.Common.{◌≡◌, ℕ, ◌+◌, ◌≤◌, ◌==◌, ◌&&◌, length, is_some, true, false, cond, List, [], ◌∷◌, ◌++◌, Some, None, refl, ap, arith}
-use Rattle.bd_chains.specs.declared.links.Held.{Held}
-use Rattle.bd_chains.specs.Chain.{has, distinct, without}
-use Rattle.std.specs.Prelude.{option_map}
-use Rattle.std.specs.List.{slice_get}
+use Rattle.bd_chains.specs.{declared.links.Held.{Held}, Chain.{has, distinct, without}}
 use Rattle.bd_chains.specs.Rows.{Row, keys, ring, values_on, row_at, counted_on, drop_key}
+use Rattle.std.specs.{Prelude.{option_map}, List.{slice_get}}
 
 module _ {T : Type 0} where
   pub ring_more : (l : ℕ) (rs : List (Row T)) (r : Row T) → ring l (rs ++ r ∷ []) ≡ cond (r.list == l) (ring l rs ++ r.key ∷ []) (ring l rs)

@@ -2,13 +2,10 @@
 use Rattle.std.proofs.Common.{◌≡◌, ℕ, ◌==◌, Bool, true, false, cond, List, [], ◌∷◌, length, Option, Some, None, is_some, refl, sym, ap, ◌∙◌, subst, arith}
 use Rattle.std.specs.Prelude.{option_map}
 use Rattle.slab.specs.Slab.{Slab, get, slab_len}
-use Rattle.bd_chains.specs.declared.links.Held.{Held}
-use Rattle.bd_chains.specs.declared.links.Ends.{Ends}
-use Rattle.bd_chains.specs.declared.chains.Chains.{Chains}
-use Rattle.bd_chains.specs.Rows.{Row, keys, ring, row_at, counted_on}
-use Rattle.bd_chains.specs.Setting.{set_held, with_value}
-use Rattle.bd_chains.proofs.Order.{linked_same}
+use Rattle.bd_chains.specs.{declared.links.Held.{Held}, declared.links.Ends.{Ends}, declared.chains.Chains.{Chains}}
+use Rattle.bd_chains.specs.{Rows.{Row, keys, ring, row_at, counted_on}, Setting.{set_held, with_value}}
 use Rattle.bd_chains.specs.Columns.{next_at, prev_at, shown, is_open, Holds}
+use Rattle.bd_chains.proofs.Order.{linked_same}
 
 module _ {T : Type 0} (x : ℕ) (v : T) where
   pub keys_set : (rs : List (Row T)) → keys (with_value x v rs) ≡ keys rs

@@ -1,14 +1,10 @@
 -- A table after a value came or went, and after a list went.
 use Rattle.std.proofs.Common.{◌≡◌, ℕ, ◌+◌, ◌-◌, ◌<◌, ◌==◌, ◌||◌, Bool, true, false, cond, List, [], ◌∷◌, ◌++◌, Option, Some, None, is_some, refl, sym, ap, ◌∙◌, subst, arith, length-append}
-use Rattle.std.specs.Prelude.{option_map}
 use Rattle.std.proofs.lemmas.Bool.{eqb-true, false≢true, eq-eqb}
+use Rattle.std.specs.Prelude.{option_map}
 use Rattle.slab.specs.Slab.{Slab, get, slab_len, Updates}
-use Rattle.bd_chains.specs.declared.links.Held.{Held}
-use Rattle.bd_chains.specs.declared.links.Item.{Item}
-use Rattle.bd_chains.specs.declared.links.Ends.{Ends}
-use Rattle.bd_chains.specs.declared.chains.Chains.{Chains}
-use Rattle.bd_chains.specs.Chain.{is_at, same_end, has, has_end, without, Linked}
-use Rattle.bd_chains.specs.Rows.{Row, keys, ring, row_at, drop_key, hits}
+use Rattle.bd_chains.specs.{declared.links.Held.{Held}, declared.links.Item.{Item}, declared.links.Ends.{Ends}, declared.chains.Chains.{Chains}}
+use Rattle.bd_chains.specs.{Chain.{is_at, same_end, has, has_end, without, Linked}, Rows.{Row, keys, ring, row_at, drop_key, hits}}
 use Rattle.bd_chains.specs.Columns.{ends_of, ends_at, next_of, prev_of, next_at, prev_at, shown, count_at, is_open, is_there, Holds}
 use Rattle.bd_chains.proofs.Order.{last_in, prev_in, next_in, prev_other, next_other, without_none, distinct_more, distinct_less, linked_same, linked_more, linked_less}
 use Rattle.bd_chains.proofs.Rowing.{ring_more, ring_less, keys_more, keys_less, at_more, at_less, counted_more, counted_less, on_keys, on_ring, one_ring, apart_ring, off_keys, off_ring, drop_none, counted_within, length_less, none_counted}

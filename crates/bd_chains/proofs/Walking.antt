@@ -2,12 +2,8 @@
 use Rattle.std.proofs.Common.{◌≡◌, ℕ, zero, suc, ◌≤◌, true, List, [], ◌∷◌, length, Option, Some, None, refl, sym, ap, ◌∙◌, arith}
 use Rattle.std.specs.List.{slice_get}
 use Rattle.slab.specs.Slab.{slab_len}
-use Rattle.bd_chains.specs.declared.links.Held.{Held}
-use Rattle.bd_chains.specs.declared.chains.Chains.{Chains}
-use Rattle.bd_chains.specs.Chain.{has, distinct, Linked}
-use Rattle.bd_chains.specs.Rows.{Row, keys, ring, values_on, on_some, row_at}
-use Rattle.bd_chains.specs.Columns.{ends_at, next_at, prev_at, shown, Holds}
-use Rattle.bd_chains.specs.Walk.{walk}
+use Rattle.bd_chains.specs.{declared.links.Held.{Held}, declared.chains.Chains.{Chains}, Chain.{has, distinct, Linked}}
+use Rattle.bd_chains.specs.{Rows.{Row, keys, ring, values_on, on_some, row_at}, Columns.{ends_at, next_at, prev_at, shown, Holds}, Walk.{walk}}
 use Rattle.bd_chains.proofs.Rowing.{ring_within}
 
 module _ {T : Type 0} where

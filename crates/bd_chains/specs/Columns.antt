@@ -1,12 +1,8 @@
 -- What a table of lists says of each slot, and when that is the values in their order.
 use Rattle.std.specs.Prelude.{ℕ, ◌≡◌, ◌-◌, Bool, true, List, length, Option, Some, None, is_some, option_map, min}
 use Rattle.slab.specs.Slab.{get, slab_len}
-use Rattle.bd_chains.specs.declared.links.Held.{Held}
-use Rattle.bd_chains.specs.declared.links.Item.{Item}
-use Rattle.bd_chains.specs.declared.links.Ends.{Ends}
-use Rattle.bd_chains.specs.declared.chains.Chains.{Chains}
-use Rattle.bd_chains.specs.Chain.{distinct, Linked}
-use Rattle.bd_chains.specs.Rows.{Row, keys, ring, row_at, counted_on}
+use Rattle.bd_chains.specs.{declared.links.Held.{Held}, declared.links.Item.{Item}, declared.links.Ends.{Ends}, declared.chains.Chains.{Chains}}
+use Rattle.bd_chains.specs.{Chain.{distinct, Linked}, Rows.{Row, keys, ring, row_at, counted_on}}
 
 -- a list's record: of a list that isn't there it is that of one on which nothing is
 abbrev pub ends_of : Option Ends → Ends

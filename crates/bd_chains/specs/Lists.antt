@@ -1,8 +1,6 @@
 -- Lists that are found by what their values have in common: N is the number of each that has one.
 use Rattle.std.specs.Prelude.{ℕ, ◌≡◌, Bool, true, List, [], ◌∷◌, Option, Some, min}
-use Rattle.bd_chains.specs.declared.chains.Chains.{Chains}
-use Rattle.bd_chains.specs.Rows.{Row}
-use Rattle.bd_chains.specs.Columns.{is_open, Holds, room_of}
+use Rattle.bd_chains.specs.{declared.chains.Chains.{Chains}, Rows.{Row}, Columns.{is_open, Holds, room_of}}
 
 module _ {K T : Type 0} (key : T → K) (counts : T → Bool) where
   -- each is on the list of its key, which counts it if it is to

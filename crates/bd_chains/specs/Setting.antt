@@ -1,7 +1,6 @@
 -- Another value in a slot.
 use Rattle.std.specs.Prelude.{ℕ, ◌==◌, List, [], ◌∷◌, if◌then◌else◌}
-use Rattle.bd_chains.specs.declared.links.Held.{Held}
-use Rattle.bd_chains.specs.Rows.{Row}
+use Rattle.bd_chains.specs.{declared.links.Held.{Held}, Rows.{Row}}
 
 module _ {T : Type 0} where
   -- the list stays, and whether it counts

@@ -1,15 +1,9 @@
 -- Threads take part in a frame as before, or fewer do.
-use Rattle.std.proofs.Common.{◌≡◌, ℕ, ◌==◌, ◌||◌, true, false, cond, Option, Some, None, refl, ap, sym, ◌∙◌, arith}
-use Rattle.std.proofs.lemmas.Bool.Decides.{nat_tests}
-use Rattle.bd_space.specs.declared.space.Frame.{Frame}
-use Rattle.bd_space.specs.declared.space.Server.{Server}
-use Rattle.bd_space.specs.declared.space.Server.TheVariants.{Pending, Serving, Gone}
-use Rattle.bd_space.specs.Words.{is_some_and}
-use Rattle.bd_space.specs.Frames.{calls, serves, takes_part}
-use Rattle.bd_space.specs.ThreadExits.{gone_caller, gone_server}
+use Rattle.std.proofs.{Common.{◌≡◌, ℕ, ◌==◌, ◌||◌, true, false, cond, Option, Some, None, refl, ap, sym, ◌∙◌, arith}, lemmas.Bool.Decides.{nat_tests}}
+use Rattle.bd_space.specs.{declared.space.Frame.{Frame}, declared.space.Server.{Server}, declared.space.Server.TheVariants.{Pending, Serving, Gone}}
+use Rattle.bd_space.specs.{Words.{is_some_and}, Frames.{calls, serves, takes_part}, ThreadExits.{gone_caller, gone_server}}
 use Rattle.bd_ways.proofs.Ranges.{no_head}
-use Rattle.bd_frames.specs.declared.frame.Row.{Row}
-use Rattle.bd_frames.specs.Words.{lost, lost_frame, left_frame, left_row, is_pending}
+use Rattle.bd_frames.specs.{declared.frame.Row.{Row}, Words.{lost, lost_frame, left_frame, left_row, is_pending}}
 use Rattle.bd_frames.proofs.Stacking.{KeepsPart}
 
 -- ---- who would have served it has gone

@@ -1,17 +1,12 @@
 -- How many children the frames have, as frames come, go and change.
 use Rattle.std.proofs.Common.{◌≡◌, ℕ, suc, ◌+◌, ◌≤◌, ◌==◌, Bool, true, false, not, cond, List, [], ◌∷◌, ◌++◌, Option, Some, None, get_or, map, refl, ap, sym, ◌∙◌, arith, ne_eqb}
-use Rattle.std.specs.List.{list_any, count_by}
-use Rattle.std.proofs.lemmas.Bool.{cond_both}
-use Rattle.std.proofs.lemmas.Bool.Decides.{nat_tests}
-use Rattle.bd_keys.proofs.Lists.{eqb_turned}
-use Rattle.std.proofs.lemmas.List.Sums.{sum_by_push, sum_by-cons, count_by-le-length}
+use Rattle.std.proofs.{lemmas.Bool.{cond_both}, lemmas.Bool.Decides.{nat_tests}, lemmas.List.Sums.{sum_by_push, sum_by-cons, count_by-le-length}}
 use Rattle.std.proofs.lemmas.List.Elements.{All-map}
-use Rattle.bd_space.specs.declared.space.Frame.{Frame}
-use Rattle.bd_space.specs.Words.{is_some_and}
-use Rattle.bd_frames.specs.declared.frame.Row.{Row}
-use Rattle.bd_frames.specs.Places.{IsRising, IsAfter, place, turned}
-use Rattle.bd_frames.specs.InOrder.{IsBefore, ParentsOlder, IsInOrder, IsNextOf}
-use Rattle.bd_frames.specs.Children.{is_child_at, AreChildren}
+use Rattle.std.specs.List.{list_any, count_by}
+use Rattle.bd_keys.proofs.Lists.{eqb_turned}
+use Rattle.bd_space.specs.{declared.space.Frame.{Frame}, Words.{is_some_and}}
+use Rattle.bd_frames.specs.{declared.frame.Row.{Row}, Places.{IsRising, IsAfter, place, turned}}
+use Rattle.bd_frames.specs.{InOrder.{IsBefore, ParentsOlder, IsInOrder, IsNextOf}, Children.{is_child_at, AreChildren}}
 use Rattle.bd_frames.proofs.InOrder.{KeepsPlaces, after_all, fewer_than}
 
 -- ---- of frames

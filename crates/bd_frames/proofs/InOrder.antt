@@ -1,8 +1,7 @@
 -- Frames each of which was made after the one before it, and after its parent.
 use Rattle.std.proofs.Common.{◌≡◌, ℕ, suc, ◌+◌, ◌≤◌, Bool, true, false, cond, List, [], ◌∷◌, ◌++◌, filter, map, length, subst, sym, arith}
 use Rattle.bd_space.specs.declared.space.Frame.{Frame}
-use Rattle.bd_frames.specs.Places.{IsRising, IsAfter}
-use Rattle.bd_frames.specs.InOrder.{IsBefore, ParentsOlder, IsInOrder, IsNextOf}
+use Rattle.bd_frames.specs.{Places.{IsRising, IsAfter}, InOrder.{IsBefore, ParentsOlder, IsInOrder, IsNextOf}}
 use Rattle.bd_frames.proofs.Places.{rising_from}
 
 rising_push : (m : ℕ) (xs : List Frame) (x : Frame) → IsRising m xs → IsAfter m xs x.made → IsRising m (xs ++ x ∷ [])

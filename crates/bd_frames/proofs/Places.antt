@@ -1,18 +1,12 @@
 -- Frames in the order of their places, and where among the rows those are that are looked for.
 use Rattle.std.proofs.Common.{◌≡◌, ℕ, suc, ◌≤◌, ◌<◌, Bool, true, false, cond, List, [], ◌∷◌, Some, None, map, length, get_or, set, take, ltb, refl, sym, ap, ◌∙◌, arith, inl, inr, All, ne_eqb}
+use Rattle.std.proofs.{lemmas.Bool.{ltb-true, ltb-false, cases_lt}, lemmas.List.{get_or-map, get_or_default, length-map, get_or-take, length-take}}
+use Rattle.std.proofs.{lemmas.List.Elements.{All-cons, All-weaker}, lemmas.List.Kept.{AllPairs-cons}}
 use Rattle.std.specs.List.Sorted.{IsPartitionPoint}
-use Rattle.std.proofs.lemmas.Bool.{ltb-true, ltb-false, cases_lt}
-use Rattle.std.proofs.lemmas.List.{get_or-map, get_or_default, length-map, get_or-take, length-take}
-use Rattle.std.proofs.lemmas.List.Elements.{All-cons, All-weaker}
-use Rattle.std.proofs.lemmas.List.Kept.{AllPairs-cons}
-use Rattle.bd_space.specs.declared.space.Frame.{Frame}
-use Rattle.bd_space.specs.declared.space.Server.TheVariants.{Pending}
-use Rattle.bd_space.specs.Frames.{made_of}
-use Rattle.bd_space.specs.Words.{changed}
+use Rattle.bd_space.specs.{declared.space.Frame.{Frame}, declared.space.Server.TheVariants.{Pending}, Frames.{made_of}, Words.{changed}}
 use Rattle.bd_space.proofs.Keyed.{changed_none, changed_at}
 use Rattle.bd_keys.proofs.Rising.{Rising, has, distinct}
-use Rattle.bd_frames.specs.declared.frame.Row.{Row}
-use Rattle.bd_frames.specs.Places.{frames_of, place, IsRising, AreRising, IsAt, turned}
+use Rattle.bd_frames.specs.{declared.frame.Row.{Row}, Places.{frames_of, place, IsRising, AreRising, IsAt, turned}}
 
 -- what stands where a list has ended
 abbrev pub no_row : Row

@@ -1,20 +1,13 @@
 -- The stacks of a table as its frames come, go and change.
 use Rattle.std.proofs.Common.{◌≡◌, ℕ, ◌≤◌, ◌<◌, ◌==◌, Bool, true, false, not, List, Option, Some, None, ◌⊎◌, inl, inr, All, map, filter, take, length, get_or, leb, cond, refl, ap, sym, ◌∙◌, arith}
-use Rattle.std.specs.Prelude.{Contains, nat_le}
-use Rattle.std.specs.Option.{option_and}
-use Rattle.std.specs.List.{AllWithin}
-use Rattle.std.specs.List.Sorted.{IsPartitionPoint}
-use Rattle.std.proofs.lemmas.Bool.{cases_Bool, cond_both, leb-true, leb-false, eqb-true, eq-eqb}
-use Rattle.std.proofs.lemmas.Bool.Decides.{nat_tests}
+use Rattle.std.proofs.{lemmas.Bool.{cases_Bool, cond_both, leb-true, leb-false, eqb-true, eq-eqb}, lemmas.Bool.Decides.{nat_tests}}
 use Rattle.std.proofs.lemmas.List.{get_or-take, get_or_default, length-take}
 use Rattle.std.proofs.lemmas.List.Elements.{All-contains, All-filter, All-map, All-take, Contains-get_or, filter_passes}
-use Rattle.bd_space.specs.declared.space.Server.{Server}
-use Rattle.bd_space.specs.declared.space.Server.TheVariants.{Pending, Serving, Gone}
-use Rattle.bd_space.specs.Frames.{calls, serves, takes_part}
-use Rattle.bd_space.specs.Words.{is_some_and}
+use Rattle.std.specs.{Prelude.{Contains, nat_le}, Option.{option_and}, List.{AllWithin}, List.Sorted.{IsPartitionPoint}}
+use Rattle.bd_space.specs.{declared.space.Server.{Server}, declared.space.Server.TheVariants.{Pending, Serving, Gone}}
+use Rattle.bd_space.specs.{Frames.{calls, serves, takes_part}, Words.{is_some_and}}
 use Rattle.bd_keys.proofs.Rising.{without}
-use Rattle.bd_frames.specs.declared.frame.Row.{Row}
-use Rattle.bd_frames.specs.Places.{place, turned, AreRising}
+use Rattle.bd_frames.specs.{declared.frame.Row.{Row}, Places.{place, turned, AreRising}}
 use Rattle.bd_frames.specs.Linked.{below_of, IsUpTo, IsBelow, IsLinked, IsStack, Covers, server_but, other_server, put_top, popped_top}
 
 -- a row whose thread took part in the one before it there, and is led on as from that

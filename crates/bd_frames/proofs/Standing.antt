@@ -1,28 +1,15 @@
 -- What a table's rows stand for, as they come, go and change.
 use Rattle.std.proofs.Common.{◌≡◌, ℕ, ◌<◌, ◌==◌, ◌&&◌, Bool, true, false, cond, List, [], ◌∷◌, Option, Some, None, All, find, length, get_or, map, refl, sym, ap, ◌∙◌, subst, arith, eqb-true, ◌+◌, filter}
-use Rattle.std.specs.Prelude.{option_map}
-use Rattle.std.specs.Bool.{then_some}
-use Rattle.std.specs.List.{count_by, remove}
-use Rattle.std.proofs.lemmas.Bool.{cond_both}
-use Rattle.std.proofs.lemmas.List.{get_or-map, length-map, map-id}
-use Rattle.std.proofs.lemmas.List.Sums.{sum_by-remove}
+use Rattle.std.proofs.{lemmas.Bool.{cond_both}, lemmas.List.{get_or-map, length-map, map-id}, lemmas.List.Sums.{sum_by-remove}}
 use Rattle.std.proofs.lemmas.List.Elements.{All-map}
-use Rattle.bd_space.specs.declared.space.Frame.{Frame}
-use Rattle.bd_space.specs.Words.{changed, is_some_and}
-use Rattle.bd_space.specs.Frames.{is_frame, is_gone, made_of}
-use Rattle.bd_space.specs.Settle.{is_abandoned}
-use Rattle.bd_keys.proofs.Rising.{distinct, find_at, filter_at, without}
-use Rattle.bd_keys.proofs.Found.{by_key, found_has, found_passes, none_found}
+use Rattle.std.specs.{Prelude.{option_map}, Bool.{then_some}, List.{count_by, remove}}
+use Rattle.bd_space.specs.{declared.space.Frame.{Frame}, Words.{changed, is_some_and}, Frames.{is_frame, is_gone, made_of}, Settle.{is_abandoned}}
+use Rattle.bd_keys.proofs.{Rising.{distinct, find_at, filter_at, without}, Found.{by_key, found_has, found_passes, none_found}}
 use Rattle.bd_ways.proofs.Ranges.{first_of_both}
-use Rattle.bd_frames.specs.declared.frame.Row.{Row}
-use Rattle.bd_frames.specs.declared.table.FrameTable.{FrameTable}
-use Rattle.bd_frames.specs.Places.{frames_of, place, AreRising, IsRising, IsAt, turned}
-use Rattle.bd_frames.specs.Children.{AreChildren, is_child_at}
-use Rattle.bd_frames.specs.Linked.{AreStacks, IsStack, top_in}
-use Rattle.bd_frames.specs.Stands.{FramesAre}
-use Rattle.bd_frames.proofs.Places.{rising_rows, rising_frames, changed_map}
-use Rattle.bd_frames.proofs.InOrder.{KeepsPlaces, in_order_map}
-use Rattle.bd_frames.proofs.Counting.{count_map, count_none}
+use Rattle.bd_frames.specs.{declared.frame.Row.{Row}, declared.table.FrameTable.{FrameTable}}
+use Rattle.bd_frames.specs.{Places.{frames_of, place, AreRising, IsRising, IsAt, turned}, Children.{AreChildren, is_child_at}}
+use Rattle.bd_frames.specs.{Linked.{AreStacks, IsStack, top_in}, Stands.{FramesAre}}
+use Rattle.bd_frames.proofs.{Places.{rising_rows, rising_frames, changed_map}, InOrder.{KeepsPlaces, in_order_map}, Counting.{count_map, count_none}}
 
 pub frames_mapped : (g : Frame → Frame) (f : Row → Row) → ((r : Row) → (f r).frame ≡ g r.frame) → (rs : List Row)
     → frames_of (map f rs) ≡ map g (frames_of rs)

@@ -1,13 +1,11 @@
 -- From the newest frame on: the way by parents, and the first that passes.
 use Rattle.std.proofs.Common.{◌≡◌, ℕ, zero, suc, ◌<◌, ◌==◌, Bool, true, false, List, [], ◌∷◌, Some, None, All, find, take, length, get_or, refl, ◌∙◌, arith, eq-eqb}
+use Rattle.std.proofs.lemmas.List.Elements.{All-head, All-tail}
 use Rattle.std.specs.List.{AllWithin}
 use mathlib.Core.List.{reverse_aux}
-use Rattle.std.proofs.lemmas.List.Elements.{All-head, All-tail}
-use Rattle.bd_space.specs.declared.space.Frame.{Frame}
-use Rattle.bd_space.specs.Frames.{ancestry}
+use Rattle.bd_space.specs.{declared.space.Frame.{Frame}, Frames.{ancestry}}
 use Rattle.bd_keys.proofs.Rising.{pairs_tail, rest_differ, distinct}
-use Rattle.bd_frames.specs.declared.frame.Row.{Row}
-use Rattle.bd_frames.specs.Places.{frames_of, place, AreRising}
+use Rattle.bd_frames.specs.{declared.frame.Row.{Row}, Places.{frames_of, place, AreRising}}
 
 -- ---- the newest one that passes, of these rows and of frames before them
 

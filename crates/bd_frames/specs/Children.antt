@@ -1,9 +1,7 @@
 -- How many children the frames have, counted in their rows.
-use Rattle.std.specs.Prelude.{ℕ, ◌≡◌, ◌==◌, Bool, List}
-use Rattle.std.specs.List.{All, count_by}
+use Rattle.std.specs.{Prelude.{ℕ, ◌≡◌, ◌==◌, Bool, List}, List.{All, count_by}}
 use Rattle.bd_ways.specs.Words.{Frame, is_some_and}
-use Rattle.bd_frames.specs.declared.frame.Row.{Row}
-use Rattle.bd_frames.specs.Places.{place}
+use Rattle.bd_frames.specs.{declared.frame.Row.{Row}, Places.{place}}
 
 -- the frame's parent was made there
 abbrev pub is_child_at : ℕ → Frame → Bool

@@ -1,8 +1,7 @@
 -- Frames in order: each was made after the one before it, and after its parent.
 use Rattle.std.specs.Prelude.{ℕ, ◌≡◌, ◌<◌, true, List, [], ◌∷◌, Option, Some, None}
 use Rattle.bd_ways.specs.Words.{Frame}
-use Rattle.bd_frames.specs.Places.{IsRising, IsAfter}
-use Rattle.bd_frames.specs.Words.{is_pending}
+use Rattle.bd_frames.specs.{Places.{IsRising, IsAfter}, Words.{is_pending}}
 
 -- the parent, if there is one, was made before
 abbrev pub IsBefore : Option ℕ → ℕ → Type 0

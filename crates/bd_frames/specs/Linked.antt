@@ -1,12 +1,9 @@
 -- Each thread's frames as a stack: a bound of all of them, and from each a bound of the older ones.
-use Rattle.std.specs.Prelude.{ℕ, ◌≡◌, ◌==◌, ◌≤◌, ◌<◌, nat_le, true, List, Option, Some, None, max, unwrap_or, if◌then◌else◌}
-use Rattle.std.specs.HashMap.{get_by}
+use Rattle.std.specs.{Prelude.{ℕ, ◌≡◌, ◌==◌, ◌≤◌, ◌<◌, nat_le, true, List, Option, Some, None, max, unwrap_or, if◌then◌else◌}, HashMap.{get_by}}
 use Rattle.std.specs.List.{All}
 use Rattle.bd_ways.specs.Words.{is_some_and, Frame, Server, Serving}
 use Rattle.bd_space.specs.Frames.{calls, takes_part}
-use Rattle.bd_frames.specs.declared.frame.Row.{Row}
-use Rattle.bd_frames.specs.declared.stacks.Stacks.{Stacks}
-use Rattle.bd_frames.specs.Places.{place}
+use Rattle.bd_frames.specs.{declared.frame.Row.{Row}, declared.stacks.Stacks.{Stacks}, Places.{place}}
 
 -- the bound of the older frames of a thread that takes part
 abbrev pub below_of : ℕ → Row → Option ℕ

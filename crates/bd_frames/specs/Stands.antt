@@ -2,10 +2,7 @@
 use Rattle.std.specs.Prelude.{◌≡◌, List}
 use Rattle.bd_ways.specs.Words.{Frame}
 use Rattle.bd_keys.specs.Tables as tables
-use Rattle.bd_frames.specs.declared.table.FrameTable.{FrameTable}
-use Rattle.bd_frames.specs.Places.{frames_of}
-use Rattle.bd_frames.specs.InOrder.{IsInOrder}
-use Rattle.bd_frames.specs.Children.{AreChildren}
+use Rattle.bd_frames.specs.{declared.table.FrameTable.{FrameTable}, Places.{frames_of}, InOrder.{IsInOrder}, Children.{AreChildren}}
 use Rattle.bd_frames.specs.Linked.{AreStacks}
 
 pub record FramesAre (t : FrameTable) (l : List Frame) : Type 0 where

@@ -1,10 +1,8 @@
 -- Words on frames in the order in which they came in.
 use Rattle.std.specs.Prelude.{ℕ, ◌==◌, ◌&&◌, Bool, true, false, List, Option, find, reverse}
 use Rattle.bd_ways.specs.Words.{list_any, Frame, Server, Pending, Serving, Gone}
-use Rattle.bd_space.specs.Frames.{takes_part, is_frame}
+use Rattle.bd_space.specs.{Frames.{takes_part, is_frame}, Settle.{is_abandoned}, ThreadExits.{gone_caller, gone_server}}
 use Rattle.bd_frames.specs.declared.frame.Row.{Row}
-use Rattle.bd_space.specs.Settle.{is_abandoned}
-use Rattle.bd_space.specs.ThreadExits.{gone_caller, gone_server}
 
 -- the newest frame in which the thread takes part
 abbrev pub newest_in : List Frame → ℕ → Option Frame

@@ -1,19 +1,12 @@
 -- What rows have, and what each change leaves of it.
 use Rattle.std.proofs.Common.{◌≡◌, ℕ, zero, suc, ◌<◌, ◌==◌, false, cond, List, [], ◌∷◌, ◌++◌, length, get_or, set, take, drop, ◌+◌, Some, None, refl, ap, sym, ◌∙◌, arith, eq-eqb, ne_eqb}
-use Rattle.std.specs.Prelude.{Option, option_map}
-use Rattle.std.specs.List.{cons_option}
-use Rattle.std.proofs.lemmas.Bool.Decides.{nat_tests}
-use Rattle.std.proofs.lemmas.Grind.{common_steps}
-use Rattle.std.proofs.lemmas.List.{take_more, drop_more, get_or_read}
+use Rattle.std.proofs.{lemmas.Bool.Decides.{nat_tests}, lemmas.Grind.{common_steps}, lemmas.List.{take_more, drop_more, get_or_read}}
 use Rattle.std.proofs.lemmas.List.Elements.{All-nil, All-cons, filter_map-append}
-use Rattle.bd_space.specs.declared.space.Thread.{Thread}
-use Rattle.bd_space.specs.Seats.{thread_in}
-use Rattle.bd_space.specs.Words.{changed}
+use Rattle.std.specs.{Prelude.{Option, option_map}, List.{cons_option}}
+use Rattle.bd_space.specs.{declared.space.Thread.{Thread}, Seats.{thread_in}, Words.{changed}}
 use Rattle.bd_space.proofs.Keyed.{changed_none}
 use Rattle.bd_keys.proofs.Rising.{AllOthers, has, without, filter_none}
-use Rattle.bd_threads.specs.declared.table.ThreadTable.{ThreadTable}
-use Rattle.bd_threads.specs.Listed.{listed}
-use Rattle.bd_threads.specs.Rows.{AreInverse, live, seat_at, place_at}
+use Rattle.bd_threads.specs.{declared.table.ThreadTable.{ThreadTable}, Listed.{listed}, Rows.{AreInverse, live, seat_at, place_at}}
 
 abbrev pub seat_of : Thread → ℕ
 seat_of t = t.seat

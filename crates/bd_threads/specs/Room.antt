@@ -1,6 +1,5 @@
 -- How many threads a table may still take without memory.
-use Rattle.std.specs.Prelude.{ℕ, ◌-◌, min, vec_len, vec_capacity}
-use Rattle.std.specs.HashMap.{spare}
+use Rattle.std.specs.{Prelude.{ℕ, ◌-◌, min, vec_len, vec_capacity}, HashMap.{spare}}
 use Rattle.bd_threads.specs.declared.table.ThreadTable.{ThreadTable}
 
 unfoldable pub thread_room : ThreadTable → ℕ

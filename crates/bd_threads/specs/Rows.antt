@@ -1,8 +1,6 @@
 -- Threads in rows, in the order in which they came in. A row whose thread has gone is empty.
-use Rattle.std.specs.Prelude.{ℕ, ◌≡◌, ◌==◌, List, Option, Some, None, option_map, slice_index_or}
-use Rattle.std.specs.HashMap.{HashMap, get_by}
-use Rattle.bd_space.specs.declared.space.Thread.{Thread}
-use Rattle.bd_space.specs.Words.{filter_map}
+use Rattle.std.specs.{Prelude.{ℕ, ◌≡◌, ◌==◌, List, Option, Some, None, option_map, slice_index_or}, HashMap.{HashMap, get_by}}
+use Rattle.bd_space.specs.{declared.space.Thread.{Thread}, Words.{filter_map}}
 
 -- the threads that are there
 abbrev pub live : List (Option Thread) → List Thread

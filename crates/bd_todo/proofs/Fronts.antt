@@ -1,8 +1,6 @@
 -- What was taken goes, one after the other.
 use Rattle.std.proofs.Common.{◌≡◌, ℕ, zero, suc, ◌≤◌, length, drop, Bool, true, not, ◌&&◌, List, [], ◌∷◌, filter, Option, None, Some, refl, sym, ap, ◌∙◌, arith}
-use Rattle.bd_space.specs.declared.space.Work.{Work}
-use Rattle.bd_space.specs.Words.{is_some_and}
-use Rattle.bd_space.specs.Todo.{is_item, without_taken}
+use Rattle.bd_space.specs.{declared.space.Work.{Work}, Words.{is_some_and}, Todo.{is_item, without_taken}}
 
 pub without_taken_cons : (d : Work) (ds ws : List Work) → without_taken (d ∷ ds) ws ≡ without_taken ds (filter (λ w. not (is_item w d)) ws)
 without_taken_cons d ds [] = refl

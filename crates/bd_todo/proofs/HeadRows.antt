@@ -2,13 +2,9 @@
 use Rattle.std.proofs.Common.{◌≡◌, ℕ, ◌<◌, ◌==◌, Bool, true, false, cond, List, length, get_or, set, replicate, zero, suc, Option, Some, None, refl, arith}
 use Rattle.std.proofs.lemmas.List.{length-set, get_or-set_same, get_or-set_other}
 use Rattle.std.specs.HashMap.{HashMap, get_by}
-use Rattle.bd_space.specs.declared.space.TodoList.{TodoList}
-use Rattle.bd_space.specs.declared.space.TodoList.TheVariants.{OfThread, OfProcess}
-use Rattle.bd_space.specs.Words.{is_some_and}
+use Rattle.bd_space.specs.{declared.space.TodoList.{TodoList}, declared.space.TodoList.TheVariants.{OfThread, OfProcess}, Words.{is_some_and}}
 use Rattle.bd_space.specs.Todo.{same_list}
-use Rattle.bd_todo.specs.declared.heads.ListKey.{ListKey}
-use Rattle.bd_todo.specs.Keys.{list_key, same_key}
-use Rattle.bd_todo.specs.Heads.{row_of, head_by}
+use Rattle.bd_todo.specs.{declared.heads.ListKey.{ListKey}, Keys.{list_key, same_key}, Heads.{row_of, head_by}}
 use Rattle.bd_todo.proofs.ListKeys.{same_keys}
 
 row_within : (n i : ℕ) (l : TodoList) → row_of n l ≡ Some i → i < n

@@ -1,8 +1,6 @@
 -- Lists and their keys, by name.
 use Rattle.std.proofs.Common.{◌≡◌, refl}
-use Rattle.bd_space.specs.declared.space.TodoList.{TodoList}
-use Rattle.bd_space.specs.declared.space.TodoList.TheVariants.{OfThread, OfProcess}
-use Rattle.bd_space.specs.Todo.{same_list}
+use Rattle.bd_space.specs.{declared.space.TodoList.{TodoList}, declared.space.TodoList.TheVariants.{OfThread, OfProcess}, Todo.{same_list}}
 pub use Rattle.bd_todo.specs.SameList.{same_list_eq, same_list_refl}
 use Rattle.bd_todo.specs.Keys.{list_key, same_key}
 

@@ -1,9 +1,7 @@
 -- What is found among the work items on a list.
 use Rattle.std.proofs.Common.{◌≡◌, Bool, true, false, not, ◌&&◌, List, [], ◌∷◌, length, filter, refl, ap, ◌∙◌, is_some, ◌+◌, arith}
 use Rattle.std.specs.List.{list_any, slice_get}
-use Rattle.bd_space.specs.declared.space.Work.{Work}
-use Rattle.bd_space.specs.ReadItems.{none_due}
-use Rattle.bd_space.specs.Words.{without_first}
+use Rattle.bd_space.specs.{declared.space.Work.{Work}, ReadItems.{none_due}, Words.{without_first}}
 
 pub any_filter : (p q : Work → Bool) (ws : List Work) → list_any q (filter p ws) ≡ list_any (λ w. p w && q w) ws
 any_filter p q [] = refl

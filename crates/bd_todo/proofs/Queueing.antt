@@ -1,20 +1,12 @@
 -- The queues after a change.
 use Rattle.std.proofs.Common.{◌≡◌, ℕ, Bool, true, false, List, [], ◌∷◌, ◌++◌, filter, Option, Some, None, IfSome, is_some, refl, sym, ap, ◌∙◌}
-use Rattle.std.specs.Prelude.{nat_lt, ◌&&◌}
-use Rattle.std.specs.List.{list_any, slice_get}
-use Rattle.bd_space.specs.declared.space.Work.{Work}
-use Rattle.bd_space.specs.declared.space.TodoList.{TodoList}
-use Rattle.bd_space.specs.Words.{is_some_and}
+use Rattle.std.specs.{Prelude.{nat_lt, ◌&&◌}, List.{list_any, slice_get}}
+use Rattle.bd_space.specs.{declared.space.Work.{Work}, declared.space.TodoList.{TodoList}, Words.{is_some_and}}
 use Rattle.bd_space.specs.Todo.{same_list, is_on, work_on, keeps_from_calling}
 use Rattle.bd_chains.specs.Rows.{Row, ring, values_on, on_some, counted_on}
-use Rattle.bd_chains.proofs.Rowing.{first_some}
-use Rattle.bd_chains.proofs.Walking.{values_walked}
-use Rattle.bd_todo.specs.Heads.{head_at}
-use Rattle.bd_todo.specs.QueuesStand.{Queues, list_of, keeps, Shows, Stands, IsFront}
-use Rattle.bd_todo.proofs.ListKeys.{same_list_eq}
-use Rattle.bd_todo.proofs.OnList.{any_first}
-use Rattle.bd_chains.proofs.Listing.{on_list, counted_there}
-use Rattle.bd_todo.proofs.Rows.{work_is, works_more, front_dropped, front_on}
+use Rattle.bd_chains.proofs.{Rowing.{first_some}, Walking.{values_walked}, Listing.{on_list, counted_there}}
+use Rattle.bd_todo.specs.{Heads.{head_at}, QueuesStand.{Queues, list_of, keeps, Shows, Stands, IsFront}}
+use Rattle.bd_todo.proofs.{ListKeys.{same_list_eq}, OnList.{any_first}, Rows.{work_is, works_more, front_dropped, front_on}}
 
 -- what is on the same list has the same number
 pub alike : (t : Queues) (l m : TodoList) → same_list l m ≡ true → head_at t.numbers l ≡ head_at t.numbers m

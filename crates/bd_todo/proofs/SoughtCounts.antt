@@ -1,15 +1,10 @@
 -- The counts of what is looked up, as entries and work items come and go.
 use Rattle.std.proofs.Common.{◌≡◌, ℕ, ◌+◌, ◌-◌, ◌<◌, ◌==◌, nat_lt, Bool, true, false, not, ◌&&◌, ◌||◌, cond, List, [], ◌∷◌, ◌++◌, length, filter, count_by, Option, Some, None, option_map, unwrap_or, min, ap, refl, sym, ◌∙◌, arith, eqb-true, lt-ltb}
-use Rattle.std.specs.List.{list_any}
-use Rattle.std.specs.Map.{lookup}
-use Rattle.std.proofs.lemmas.Bool.{and_parts}
-use Rattle.std.proofs.lemmas.List.Sums.{sum_by-cons}
+use Rattle.std.proofs.{lemmas.Bool.{and_parts}, lemmas.List.Sums.{sum_by-cons}}
+use Rattle.std.specs.{List.{list_any}, Map.{lookup}}
 use Rattle.bd_space.specs.declared.space.Work.{Work}
-use Rattle.bd_todo.specs.declared.spots.Sought.{Sought}
-use Rattle.bd_todo.specs.declared.spots.Sought.TheVariants.{Notice, Call, Death}
-use Rattle.bd_todo.specs.declared.spots.Spot.{Spot}
-use Rattle.bd_todo.specs.declared.spots.Spots.{Spots}
-use Rattle.bd_todo.specs.Spots.{same_sought, count_at}
+use Rattle.bd_todo.specs.{declared.spots.Sought.{Sought}, declared.spots.Sought.TheVariants.{Notice, Call, Death}, declared.spots.Spot.{Spot}}
+use Rattle.bd_todo.specs.{declared.spots.Spots.{Spots}, Spots.{same_sought, count_at}}
 
 -- the count that is found, or 0
 pub count_updated : (b : Bool) (w old new : Option Spot) → new ≡ cond b w old

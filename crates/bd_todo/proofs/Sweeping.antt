@@ -1,16 +1,10 @@
 -- A walk over all slots takes out the work items that aren't to stay, or counts some.
 use Rattle.std.proofs.Common.{◌≡◌, ℕ, ◌+◌, ◌<◌, Bool, true, false, not, cond, List, [], ◌∷◌, filter, count_by, Option, Some, is_some, refl, sym, ap, ◌∙◌, arith}
-use Rattle.bd_space.specs.declared.space.Work.{Work}
-use Rattle.bd_space.specs.Words.{is_some_and}
-use Rattle.bd_chains.specs.Chain.{has, distinct}
-use Rattle.bd_chains.specs.Rows.{Row, keys, row_at, drop_key}
-use Rattle.bd_chains.specs.Columns.{is_there}
-use Rattle.bd_todo.specs.Rows.{works, work_in, seen_by}
-use Rattle.bd_todo.specs.QueuesStand.{Queues, Shows, work_at}
-use Rattle.bd_todo.specs.Stands.{RowsAre}
+use Rattle.bd_space.specs.{declared.space.Work.{Work}, Words.{is_some_and}}
+use Rattle.bd_chains.specs.{Chain.{has, distinct}, Rows.{Row, keys, row_at, drop_key}, Columns.{is_there}}
+use Rattle.bd_todo.specs.{Rows.{works, work_in, seen_by}, QueuesStand.{Queues, Shows, work_at}, Stands.{RowsAre}}
 use Rattle.bd_todo.specs.declared.table.WorkTable.{WorkTable}
-use Rattle.bd_todo.proofs.Rows.{work_is, filter_dropped}
-use Rattle.bd_todo.proofs.SoughtCounts.{count_cons, all_pass}
+use Rattle.bd_todo.proofs.{Rows.{work_is, filter_dropped}, SoughtCounts.{count_cons, all_pass}}
 
 -- ---- those that a walk has come past
 

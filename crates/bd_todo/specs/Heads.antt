@@ -1,10 +1,7 @@
 -- The numbers of the lists, by list.
-use Rattle.std.specs.Prelude.{ℕ, nat_lt, List, length, Option, Some, None, cond, get_or}
+use Rattle.std.specs.{Prelude.{ℕ, nat_lt, List, length, Option, Some, None, cond, get_or}, HashMap.{HashMap, get_by}}
 use Rattle.bd_ways.specs.Words.{TodoList, OfThread, OfProcess}
-use Rattle.std.specs.HashMap.{HashMap, get_by}
-use Rattle.bd_todo.specs.declared.heads.ListKey.{ListKey}
-use Rattle.bd_todo.specs.declared.heads.Heads.{Heads}
-use Rattle.bd_todo.specs.Keys.{same_key, list_key}
+use Rattle.bd_todo.specs.{declared.heads.ListKey.{ListKey}, declared.heads.Heads.{Heads}, Keys.{same_key, list_key}}
 
 -- the row of a thread's list, of so many rows
 abbrev pub row_of : ℕ → TodoList → Option ℕ

@@ -2,8 +2,7 @@
 use Rattle.std.specs.Prelude.{ℕ, Bool}
 use Rattle.bd_ways.specs.Words.{TodoList, OfThread, OfProcess}
 use Rattle.bd_keys.specs.Numbers.{pair}
-use Rattle.bd_todo.specs.declared.heads.ListKey.{ListKey}
-use Rattle.bd_todo.specs.declared.heads.ListKey.TheVariants.{Thread, Process}
+use Rattle.bd_todo.specs.{declared.heads.ListKey.{ListKey}, declared.heads.ListKey.TheVariants.{Thread, Process}}
 use Rattle.bd_todo.specs.contracts.heads.ListKeyPartialEq.TheImpl as keys
 
 abbrev pub same_key : ListKey → ListKey → Bool

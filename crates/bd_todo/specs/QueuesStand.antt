@@ -1,15 +1,10 @@
 -- What the queues stand for: the work items of the space, in its order.
-use Rattle.std.specs.Prelude.{◌≡◌, ℕ, Bool, true, List, Option}
+use Rattle.std.specs.{Prelude.{◌≡◌, ℕ, Bool, true, List, Option}, HashMap.{spare}}
 use Rattle.bd_ways.specs.Words.{Work, TodoList, without_first, is_some_and}
 use Rattle.bd_space.specs.Todo.{same_list, is_on, keeps_from_calling}
-use Rattle.bd_chains.specs.Rows.{Row, drop_key}
-use Rattle.bd_chains.specs.Columns.{value_at}
+use Rattle.bd_chains.specs.{Rows.{Row, drop_key}, Columns.{value_at}, declared.lists.Lists.{Lists}}
 use Rattle.bd_chains.specs.Lists as lists
-use Rattle.std.specs.HashMap.{spare}
-use Rattle.bd_todo.specs.Heads.{head_at}
-use Rattle.bd_todo.specs.Rows.{works}
-use Rattle.bd_chains.specs.declared.lists.Lists.{Lists}
-use Rattle.bd_todo.specs.declared.heads.Heads.{Heads}
+use Rattle.bd_todo.specs.{Heads.{head_at}, Rows.{works}, declared.heads.Heads.{Heads}}
 
 abbrev pub Queues : Type 0
 Queues = Lists Heads Work

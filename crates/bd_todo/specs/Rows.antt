@@ -1,8 +1,7 @@
 -- Rows that hold work items, and what a walk over all slots has come to.
 use Rattle.std.specs.Prelude.{ℕ, ◌+◌, nat_lt, Bool, ◌&&◌, List, [], ◌∷◌, Option, option_map, if◌then◌else◌}
 use Rattle.bd_ways.specs.Words.{Work}
-use Rattle.bd_chains.specs.declared.links.Held.{Held}
-use Rattle.bd_chains.specs.Rows.{Row, values, row_at}
+use Rattle.bd_chains.specs.{declared.links.Held.{Held}, Rows.{Row, values, row_at}}
 
 abbrev pub works : List (Row Work) → List Work
 works = values

@@ -1,12 +1,9 @@
 -- What work items are looked up by, and how many are looked up so.
-use Rattle.std.specs.Prelude.{ℕ, ◌≡◌, Bool, List, count_by, Option, Some, None, option_map, unwrap_or}
+use Rattle.std.specs.{Prelude.{ℕ, ◌≡◌, Bool, List, count_by, Option, Some, None, option_map, unwrap_or}, HashMap.{get_by}}
 use Rattle.bd_ways.specs.Words.{is_some_and, Work, WorkKind}
-use Rattle.std.specs.HashMap.{get_by}
 use Rattle.bd_space.specs.declared.space.WorkKind.TheVariants as work
 use Rattle.bd_keys.specs.Numbers.{pair, wide}
-use Rattle.bd_todo.specs.declared.spots.Sought.{Sought}
-use Rattle.bd_todo.specs.declared.spots.Sought.TheVariants.{Notice, Call, Death}
-use Rattle.bd_todo.specs.declared.spots.Spots.{Spots}
+use Rattle.bd_todo.specs.{declared.spots.Sought.{Sought}, declared.spots.Sought.TheVariants.{Notice, Call, Death}, declared.spots.Spots.{Spots}}
 use Rattle.bd_todo.specs.contracts.spots.SoughtPartialEq.TheImpl as sought
 
 abbrev pub same_sought : Sought → Sought → Bool

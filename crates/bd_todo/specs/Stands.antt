@@ -3,9 +3,7 @@ use Rattle.std.specs.Prelude.{ℕ, List, min}
 use Rattle.bd_ways.specs.Words.{Work}
 use Rattle.bd_keys.specs.Tables as tables
 use Rattle.bd_chains.specs.Rows.{Row}
-use Rattle.bd_todo.specs.Rows.{works}
-use Rattle.bd_todo.specs.declared.table.WorkTable.{WorkTable}
-use Rattle.bd_todo.specs.Registered.{Registered, register_room}
+use Rattle.bd_todo.specs.{Rows.{works}, declared.table.WorkTable.{WorkTable}, Registered.{Registered, register_room}}
 use Rattle.bd_todo.specs.QueuesStand as queues
 
 pub record WorksAre (t : WorkTable) (l : List Work) : Type 0 where

@@ -1,26 +1,13 @@
 -- The table after a change.
 use Rattle.std.proofs.Common.{◌≡◌, ℕ, ◌==◌, ◌+◌, ◌≤◌, Bool, true, false, eqb-true, not, cond, List, [], ◌∷◌, ◌++◌, find, filter, map, length, Option, Some, None, refl, sym, ap, subst, ◌∙◌, arith}
-use Rattle.std.specs.Prelude.{option_map, min}
-use Rattle.std.specs.List.{list_any}
-use Rattle.std.proofs.lemmas.List.{map-append, length-map}
-use Rattle.std.proofs.lemmas.List.Kept.{AllPairs-filter}
-use Rattle.std.proofs.lemmas.List.Quantifiers.{all_pairs_push}
-use Rattle.bd_space.specs.declared.space.Turn.{Turn}
-use Rattle.bd_space.specs.Words.{changed}
+use Rattle.std.proofs.{lemmas.List.{map-append, length-map}, lemmas.List.Kept.{AllPairs-filter}, lemmas.List.Quantifiers.{all_pairs_push}}
+use Rattle.std.specs.{Prelude.{option_map, min}, List.{list_any}}
+use Rattle.bd_space.specs.{declared.space.Turn.{Turn}, Words.{changed}}
 use Rattle.bd_space.proofs.Keyed.{changed_none, pairs_changed, tags_changed}
-use Rattle.bd_keys.proofs.Rising.{AllOthers, has, without, filter_none}
-use Rattle.bd_keys.proofs.Found.{none_found, apart_from, tags_more}
-use Rattle.bd_keys.proofs.Options.{none_mapped}
-use Rattle.bd_chains.specs.declared.links.Held.{Held}
-use Rattle.bd_chains.specs.declared.chains.Chains.{Chains}
-use Rattle.bd_chains.specs.Rows.{Row, values, drop_key}
-use Rattle.bd_chains.specs.Setting.{with_value}
-use Rattle.bd_chains.specs.Columns.{value_at, is_open, Holds}
-use Rattle.bd_chains.specs.Lists.{AreListed}
-use Rattle.bd_turns.specs.declared.spot.Mark.{Mark}
-use Rattle.bd_turns.specs.declared.spot.Spot.{Spot}
-use Rattle.bd_turns.specs.declared.table.TurnTable.{TurnTable}
-use Rattle.bd_turns.specs.Turn.{hand_turn}
+use Rattle.bd_keys.proofs.{Rising.{AllOthers, has, without, filter_none}, Found.{none_found, apart_from, tags_more}, Options.{none_mapped}}
+use Rattle.bd_chains.specs.{declared.links.Held.{Held}, declared.chains.Chains.{Chains}, Rows.{Row, values, drop_key}, Setting.{with_value}}
+use Rattle.bd_chains.specs.{Columns.{value_at, is_open, Holds}, Lists.{AreListed}}
+use Rattle.bd_turns.specs.{declared.spot.Mark.{Mark}, declared.spot.Spot.{Spot}, declared.table.TurnTable.{TurnTable}, Turn.{hand_turn}}
 use Rattle.bd_turns.specs.Spots.{spot_at, mark_of}
 use Rattle.bd_turns.specs.Entries.{by_object, by_window, same_object, object_number, CallsShow, MarksShow, Entry, made_of, call_row, mark_row, hand_entry, EntriesAre}
 use Rattle.bd_turns.specs.Stands.{TurnsAre}

@@ -1,20 +1,15 @@
 -- Entries, where one comes, goes or is handed out: their rows, and what they are found by.
 use Rattle.std.proofs.Common.{◌≡◌, ℕ, ◌==◌, ◌+◌, Bool, true, false, not, cond, List, [], ◌∷◌, find, filter, map, length, Some, None, refl, sym, ap, subst, arith}
-use Rattle.std.specs.Prelude.{option_map}
-use Rattle.std.specs.List.{list_any}
 use Rattle.std.proofs.lemmas.Bool.{eqb-true, eqb-false}
-use Rattle.bd_space.specs.declared.space.Turn.{Turn}
-use Rattle.bd_space.specs.Words.{changed}
+use Rattle.std.specs.{Prelude.{option_map}, List.{list_any}}
+use Rattle.bd_space.specs.{declared.space.Turn.{Turn}, Words.{changed}}
 use Rattle.bd_space.proofs.Keyed.{changed_none}
-use Rattle.bd_keys.proofs.Rising.{Distinct, has, without, pairs_tail, rest_differ, filter_none}
+use Rattle.bd_keys.proofs.{Rising.{Distinct, has, without, pairs_tail, rest_differ, filter_none}, Found.{any_some, found_has, find_gone, find_stays}}
 use Rattle.bd_turns.proofs.Mapped.{find_map}
-use Rattle.bd_keys.proofs.Found.{any_some, found_has, find_gone, find_stays}
 use Rattle.bd_chains.specs.Chain as chain
-use Rattle.bd_chains.specs.Rows.{Row, keys, row_at, drop_key}
-use Rattle.bd_chains.specs.Setting.{with_value}
+use Rattle.bd_chains.specs.{Rows.{Row, keys, row_at, drop_key}, Setting.{with_value}}
 use Rattle.bd_chains.proofs.Rowing.{drop_none}
-use Rattle.bd_turns.specs.Turn.{hand_turn}
-use Rattle.bd_turns.specs.Entries.{Entry, made_of, call_row, hand_entry}
+use Rattle.bd_turns.specs.{Turn.{hand_turn}, Entries.{Entry, made_of, call_row, hand_entry}}
 
 abbrev pub turn_of : Entry → Turn
 turn_of e = e.turn

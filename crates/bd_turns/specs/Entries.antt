@@ -1,14 +1,9 @@
 -- The calls of a table with their slots and the numbers of their lists.
-use Rattle.std.specs.Prelude.{ℕ, ◌≡◌, ◌==◌, Bool, false, List, Option, map, find, AllPairs, option_map}
-use Rattle.std.specs.HashMap.{get}
+use Rattle.std.specs.{Prelude.{ℕ, ◌≡◌, ◌==◌, Bool, false, List, Option, map, find, AllPairs, option_map}, HashMap.{get}}
 use Rattle.bd_ways.specs.Words.{Turn, ObjectId}
 use Rattle.bd_space.specs.contracts.step.ObjectIdPartialEq.TheImpl as objects
-use Rattle.bd_chains.specs.Rows.{Row}
-use Rattle.bd_chains.specs.Lists.{Shows}
-use Rattle.bd_turns.specs.declared.spot.Mark.{Mark}
-use Rattle.bd_turns.specs.declared.spot.Spot.{Spot}
-use Rattle.bd_turns.specs.declared.table.TurnTable.{TurnTable}
-use Rattle.bd_turns.specs.Spots.{spot_at, mark_of}
+use Rattle.bd_chains.specs.{Rows.{Row}, Lists.{Shows}}
+use Rattle.bd_turns.specs.{declared.spot.Mark.{Mark}, declared.spot.Spot.{Spot}, declared.table.TurnTable.{TurnTable}, Spots.{spot_at, mark_of}}
 use Rattle.bd_turns.specs.Turn.{hand_turn}
 
 -- a call, where it stands, and on which lists

@@ -1,6 +1,5 @@
 -- How many one-way calls a table may still take without memory, how many it has, and what a change takes of that.
-use Rattle.std.specs.Prelude.{ℕ, min}
-use Rattle.std.specs.HashMap.{spare, hash_map_len}
+use Rattle.std.specs.{Prelude.{ℕ, min}, HashMap.{spare, hash_map_len}}
 use Rattle.bd_keys.specs.Tables as tables
 use Rattle.bd_turns.specs.declared.table.TurnTable.{TurnTable}
 use Rattle.bd_chains.specs.Lists.{lists_room}

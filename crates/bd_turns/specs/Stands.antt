@@ -2,8 +2,7 @@
 use Rattle.std.specs.Prelude.{◌≡◌, List, map}
 use Rattle.bd_ways.specs.Words.{Turn}
 use Rattle.bd_keys.specs.Tables as tables
-use Rattle.bd_turns.specs.declared.table.TurnTable.{TurnTable}
-use Rattle.bd_turns.specs.Entries.{Entry, EntriesAre}
+use Rattle.bd_turns.specs.{declared.table.TurnTable.{TurnTable}, Entries.{Entry, EntriesAre}}
 
 pub record TurnsAre (t : TurnTable) (l : List Turn) : Type 0 where
   pub entries : List Entry

@@ -1,6 +1,5 @@
 use Rattle.std.proofs.Common.{◌∙◌, ap, subst, rules}
-use Rattle.bd_frames.specs.Stands.{FramesAre}
-use Rattle.bd_frames.specs.Words.{lost_frame}
+use Rattle.bd_frames.specs.{Stands.{FramesAre}, Words.{lost_frame}}
 use Rattle.bd_calls.proofs.OneByOne.{along, call_changed, no_call_changed, lost_unread}
 use Rattle.bd_calls.proofs.frame.lose_unread.Goals as goal
 

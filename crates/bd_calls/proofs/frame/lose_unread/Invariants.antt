@@ -1,7 +1,4 @@
-use Rattle.bd_frames.specs.declared.table.FrameTable.{FrameTable}
-use Rattle.bd_frames.specs.Stands.{Makes}
-use Rattle.bd_frames.specs.Room.{Uses}
-use Rattle.bd_frames.specs.Words.{lost_frame}
+use Rattle.bd_frames.specs.{declared.table.FrameTable.{FrameTable}, Stands.{Makes}, Room.{Uses}, Words.{lost_frame}}
 use Rattle.bd_calls.proofs.OneByOne.{along}
 use Rattle.bd_calls.proofs.frame.lose_unread.Given as goal
 

@@ -1,10 +1,8 @@
-use Rattle.std.proofs.Common.{refl, rules, subst, arith}
-use Rattle.std.proofs.lemmas.List.{drop_all, drop_more}
+use Rattle.std.proofs.{Common.{refl, rules, subst, arith}, lemmas.List.{drop_all, drop_more}}
 use Rattle.bd_space.specs.ReadItems as reading
 use Rattle.bd_frames.specs.Stands.{FramesAre}
-use Rattle.bd_calls.proofs.OneByOne.{along_at_once, call_changed, no_call_changed}
+use Rattle.bd_calls.proofs.{OneByOne.{along_at_once, call_changed, no_call_changed}, frame.serve.Goals.{in-Call, in_default}}
 use Rattle.bd_calls.proofs.frame.serve.Goals as goal
-use Rattle.bd_calls.proofs.frame.serve.Goals.{in-Call, in_default}
 
 pub loop-work-preserved : goal.loop-work-preserved
 loop-work-preserved c =

@@ -1,8 +1,6 @@
 use Rattle.std.proofs.Common.{drop}
 use Rattle.bd_space.specs.ReadItems.{serve}
-use Rattle.bd_frames.specs.declared.table.FrameTable.{FrameTable}
-use Rattle.bd_frames.specs.Stands.{Makes}
-use Rattle.bd_frames.specs.Room.{Uses}
+use Rattle.bd_frames.specs.{declared.table.FrameTable.{FrameTable}, Stands.{Makes}, Room.{Uses}}
 use Rattle.bd_calls.proofs.OneByOne.{along}
 use Rattle.bd_calls.proofs.frame.serve.Given as goal
 

@@ -1,7 +1,6 @@
 use Rattle.std.proofs.Common.{◌≡◌, ◌∷◌, [], ◌++◌, ◌<◌, ◌+◌, ℕ, suc, List, Bool, true, false, cond, length, get_or, drop, drop-cons, append_assoc, refl, sym, ap, ◌∙◌, arith}
 use Rattle.bd_ways.specs.Words.{Work, TodoList}
-use Rattle.bd_calls.specs.declared.marks.Mark.{Mark}
-use Rattle.bd_calls.specs.Marks.{is_changed, changed_lists}
+use Rattle.bd_calls.specs.{declared.marks.Mark.{Mark}, Marks.{is_changed, changed_lists}}
 use Rattle.bd_calls.proofs.marks.list_changed.Goals as goal
 
 -- what one mark adds to those that are put there

@@ -1,6 +1,4 @@
-use Rattle.bd_turns.specs.declared.table.TurnTable.{TurnTable}
-use Rattle.bd_turns.specs.Room.{Uses}
-use Rattle.bd_turns.specs.Stands.{Makes}
+use Rattle.bd_turns.specs.{declared.table.TurnTable.{TurnTable}, Room.{Uses}, Stands.{Makes}}
 use Rattle.bd_calls.proofs.Losing.{left}
 use Rattle.bd_calls.proofs.turn.remove_turns_on.Given as goal
 

@@ -1,11 +1,8 @@
-use Rattle.std.proofs.Common.{rules, tests, ltb, arith}
-use Rattle.std.proofs.lemmas.List.Sorted.{IsPartitionPoint-from_clause, IsPartitionedBy-ltb}
+use Rattle.std.proofs.{Common.{rules, tests, ltb, arith}, lemmas.List.Sorted.{IsPartitionPoint-from_clause, IsPartitionedBy-ltb}}
 use Rattle.bd_keys.proofs.Rising.{non_decreasing}
-use Rattle.bd_frames.specs.declared.frame.Row.{Row}
-use Rattle.bd_frames.specs.Places.{place}
-use Rattle.bd_frames.proofs.Places.{none_there}
+use Rattle.bd_frames.specs.{declared.frame.Row.{Row}, Places.{place}}
+use Rattle.bd_frames.proofs.{Places.{none_there}, place.index_of.Goals.{else-i-rows-via-then-i-rows+else-rows-i, else-i-rows-via-else-i-rows}}
 use Rattle.bd_frames.proofs.place.index_of.Goals as goal
-use Rattle.bd_frames.proofs.place.index_of.Goals.{else-i-rows-via-then-i-rows+else-rows-i, else-i-rows-via-else-i-rows}
 
 pub returns-else-i-rows-clause-found : goal.returns-else-i-rows-clause-found
 returns-else-i-rows-clause-found c = λ r.

@@ -1,14 +1,10 @@
-use Rattle.std.proofs.Common.{◌≡◌, ◌-◌, leb, rules, tests, inl, inr, ap, sym, ◌∙◌, arith}
-use Rattle.std.proofs.lemmas.Bool.{cases_lt}
-use Rattle.std.proofs.lemmas.List.{get_or_default}
+use Rattle.std.proofs.{Common.{◌≡◌, ◌-◌, leb, rules, tests, inl, inr, ap, sym, ◌∙◌, arith}, lemmas.Bool.{cases_lt}, lemmas.List.{get_or_default}}
 use Rattle.std.proofs.lemmas.List.Sorted.{IsPartitionPoint-from_clause, IsPartitionedBy-leb}
 use Rattle.bd_keys.proofs.Rising.{non_decreasing}
 use Rattle.bd_space.specs.Frames.{takes_part}
-use Rattle.bd_frames.specs.declared.frame.Row.{Row}
-use Rattle.bd_frames.specs.Places.{place}
-use Rattle.bd_frames.proofs.Stacking.{none_above}
+use Rattle.bd_frames.specs.{declared.frame.Row.{Row}, Places.{place}}
+use Rattle.bd_frames.proofs.{Stacking.{none_above}, place.newest_part.Goals.{in-Some, in-None}}
 use Rattle.bd_frames.proofs.place.newest_part.Goals as goal
-use Rattle.bd_frames.proofs.place.newest_part.Goals.{in-Some, in-None}
 
 pub loop-from-init : goal.loop-from-init
 loop-from-init c =

@@ -1,9 +1,7 @@
 use Rattle.std.proofs.Common.{◌≡◌, ◌≤◌, false, length}
 use Rattle.std.specs.List.{AllWithin}
 use Rattle.bd_space.specs.Frames.{takes_part}
-use Rattle.bd_frames.specs.declared.frame.Row.{Row}
-use Rattle.bd_frames.specs.Places.{AreRising}
-use Rattle.bd_frames.specs.Linked.{IsStack}
+use Rattle.bd_frames.specs.{declared.frame.Row.{Row}, Places.{AreRising}, Linked.{IsStack}}
 use Rattle.bd_frames.proofs.place.newest_part.Given as goal
 
 abbrev pub invariant-loop-from : goal.invariant-loop-from

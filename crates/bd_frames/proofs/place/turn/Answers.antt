@@ -1,5 +1,4 @@
-use Rattle.std.proofs.Common.{sym, ap, ◌∙◌, map, set}
-use Rattle.std.proofs.lemmas.List.{map-id}
+use Rattle.std.proofs.{Common.{sym, ap, ◌∙◌, map, set}, lemmas.List.{map-id}}
 use Rattle.bd_frames.specs.Places.{turned}
 use Rattle.bd_frames.proofs.Places.{turned_at, turned_nowhere}
 use Rattle.bd_frames.proofs.place.turn.Goals as goal

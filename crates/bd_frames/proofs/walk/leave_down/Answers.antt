@@ -1,13 +1,10 @@
 use Rattle.std.proofs.Common.{◌≡◌, ◌≤◌, ◌<◌, ℕ, suc, false, List, inl, inr, take, length, get_or, map, ap, sym, ◌∙◌, arith}
-use Rattle.std.specs.List.{AllWithin}
 use Rattle.std.proofs.lemmas.Bool.{cases_eq, cases_lt}
 use Rattle.std.proofs.lemmas.List.{length-take, length-map, take-take, take-set-le, get_or-take, get_or-map, get_or-set_same, get_or-set_other, get_or_read, ext_get_or}
-use Rattle.bd_space.specs.declared.space.Frame.{Frame}
-use Rattle.bd_space.specs.Frames.{takes_part}
-use Rattle.bd_frames.specs.declared.frame.Row.{Row}
-use Rattle.bd_frames.specs.Words.{left_row}
-use Rattle.bd_frames.proofs.Alike.{row_other}
-use Rattle.bd_frames.proofs.Places.{rising_take, no_row}
+use Rattle.std.specs.List.{AllWithin}
+use Rattle.bd_space.specs.{declared.space.Frame.{Frame}, Frames.{takes_part}}
+use Rattle.bd_frames.specs.{declared.frame.Row.{Row}, Words.{left_row}}
+use Rattle.bd_frames.proofs.{Alike.{row_other}, Places.{rising_take, no_row}}
 use Rattle.bd_frames.proofs.walk.leave_down.Goals as goal
 
 -- two that begin alike

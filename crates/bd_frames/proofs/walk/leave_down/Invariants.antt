@@ -1,8 +1,5 @@
 use Rattle.std.proofs.Common.{ℕ, ◌≡◌, ◌≤◌, ◌<◌, length, get_or, take, vec_len, vec_capacity}
-use Rattle.bd_frames.specs.declared.frame.Row.{Row}
-use Rattle.bd_frames.specs.Words.{left_row}
-use Rattle.bd_frames.specs.Places.{AreRising}
-use Rattle.bd_frames.specs.Linked.{IsStack}
+use Rattle.bd_frames.specs.{declared.frame.Row.{Row}, Words.{left_row}, Places.{AreRising}, Linked.{IsStack}}
 use Rattle.bd_frames.proofs.walk.leave_down.Given as goal
 
 abbrev pub invariant-loop-i : goal.invariant-loop-i

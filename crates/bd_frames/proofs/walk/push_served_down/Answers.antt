@@ -1,11 +1,8 @@
 use Rattle.std.proofs.Common.{◌≡◌, ◌≤◌, ◌<◌, ◌+◌, ℕ, zero, suc, Bool, true, false, cond, List, ◌++◌, ◌∷◌, [], append-nil, append_assoc, map, filter, reverse, take, drop, length, get_or, refl, ap, sym, ◌∙◌, arith}
-use Rattle.std.proofs.lemmas.List.{length-take, get_or-take, take_all, drop_more, drop_all}
-use Rattle.std.proofs.lemmas.Grind.{reverse_onto}
+use Rattle.std.proofs.{lemmas.List.{length-take, get_or-take, take_all, drop_more, drop_all}, lemmas.Grind.{reverse_onto}}
 use Rattle.bd_ways.proofs.Ranges.{no_head}
-use Rattle.bd_space.specs.declared.space.Frame.{Frame}
-use Rattle.bd_space.specs.Frames.{calls, serves, takes_part, made_of}
-use Rattle.bd_frames.specs.declared.frame.Row.{Row}
-use Rattle.bd_frames.specs.Places.{frames_of}
+use Rattle.bd_space.specs.{declared.space.Frame.{Frame}, Frames.{calls, serves, takes_part, made_of}}
+use Rattle.bd_frames.specs.{declared.frame.Row.{Row}, Places.{frames_of}}
 use Rattle.bd_frames.proofs.Places.{no_row, rising_take}
 use Rattle.bd_frames.proofs.walk.push_served_down.Goals as goal
 

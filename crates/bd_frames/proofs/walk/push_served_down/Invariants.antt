@@ -1,8 +1,6 @@
 use Rattle.std.proofs.Common.{◌≡◌, ◌≤◌, ◌++◌, length, map, filter, reverse, take, drop, vec_len}
-use Rattle.bd_space.specs.declared.space.Frame.{Frame}
-use Rattle.bd_space.specs.Frames.{serves, made_of}
-use Rattle.bd_frames.specs.Places.{frames_of, AreRising}
-use Rattle.bd_frames.specs.Linked.{IsStack}
+use Rattle.bd_space.specs.{declared.space.Frame.{Frame}, Frames.{serves, made_of}}
+use Rattle.bd_frames.specs.{Places.{frames_of, AreRising}, Linked.{IsStack}}
 use Rattle.bd_frames.proofs.walk.push_served_down.Given as goal
 
 abbrev pub invariant-loop-i : goal.invariant-loop-i

@@ -1,8 +1,7 @@
 use Rattle.std.proofs.Common.{◌≡◌, ◌∙◌, ◌==◌, ◌+◌, ◌≤◌, ap, sym, count_by, arith}
 use Rattle.bd_space.specs.declared.space.Work.{Work}
 use Rattle.bd_todo.specs.Rows.{seen_by}
-use Rattle.bd_todo.proofs.Rows.{work_is}
-use Rattle.bd_todo.proofs.Sweeping.{seen_first, seen_more, seen_all, keys_below}
+use Rattle.bd_todo.proofs.{Rows.{work_is}, Sweeping.{seen_first, seen_more, seen_all, keys_below}}
 use Rattle.bd_todo.proofs.queues.count_at.Goals.{then-is_made_at, else-is_made_at}
 use Rattle.bd_todo.proofs.queues.count_at.Goals as goal
 

@@ -1,8 +1,7 @@
 use Rattle.std.proofs.Common.{◌≡◌, ◌≤◌, ◌==◌, List}
 use Rattle.bd_space.specs.declared.space.Work.{Work}
 use Rattle.bd_chains.specs.Rows.{Row}
-use Rattle.bd_todo.specs.Rows.{seen_by}
-use Rattle.bd_todo.specs.QueuesStand.{Shows}
+use Rattle.bd_todo.specs.{Rows.{seen_by}, QueuesStand.{Shows}}
 use Rattle.bd_todo.proofs.queues.count_at.Given as goal
 
 abbrev pub invariant-loop-x : goal.invariant-loop-x

@@ -1,5 +1,4 @@
-use Rattle.std.proofs.Common.{subst, sym, ◌∙◌, arith}
-use Rattle.std.proofs.lemmas.Bool.{or_parts}
+use Rattle.std.proofs.{Common.{subst, sym, ◌∙◌, arith}, lemmas.Bool.{or_parts}}
 use Rattle.bd_todo.proofs.ListKeys.{same_list_eq}
 use Rattle.bd_calls.specs.Marks.{IsRecalled}
 use Rattle.bd_calls.proofs.Marking.{recalled_more}

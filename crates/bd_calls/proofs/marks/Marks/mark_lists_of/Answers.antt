@@ -1,5 +1,4 @@
-use Rattle.std.proofs.Common.{arith, ◌+◌}
-use Rattle.std.proofs.lemmas.Grind.{common_steps}
+use Rattle.std.proofs.{Common.{arith, ◌+◌}, lemmas.Grind.{common_steps}}
 use Rattle.bd_calls.proofs.marks.Marks.mark_lists_of.Goals as goal
 
 pub loop-work-preserved : goal.loop-work-preserved

@@ -1,5 +1,4 @@
-use Rattle.std.proofs.Common.{ap, ◌∙◌}
-use Rattle.std.proofs.lemmas.Bool.{not-true}
+use Rattle.std.proofs.{Common.{ap, ◌∙◌}, lemmas.Bool.{not-true}}
 use Rattle.bd_calls.specs.Marks.{changed_lists, is_among}
 use Rattle.bd_calls.proofs.Marking.{told_exact}
 use Rattle.bd_calls.proofs.marks.Marks.tell.Goals as goal

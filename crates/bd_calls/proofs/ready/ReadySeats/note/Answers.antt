@@ -1,6 +1,5 @@
-use Rattle.std.proofs.Common.{ap, ◌∙◌, get_or, None}
+use Rattle.std.proofs.{Common.{ap, ◌∙◌, get_or, None}, Math.ListN.{get_or-map}}
 use Rattle.std.specs.Prelude.{option_map}
-use Rattle.std.proofs.Math.ListN.{get_or-map}
 use Rattle.bd_calls.specs.Ready.{with_shared}
 use Rattle.bd_calls.proofs.ready.ReadySeats.note.Goals as goal
 

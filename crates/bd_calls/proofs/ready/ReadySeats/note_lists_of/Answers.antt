@@ -1,9 +1,6 @@
-use Rattle.std.proofs.Common.{sym, subst, ◌∙◌, ap, arith, take, get_or}
-use Rattle.std.proofs.lemmas.List.{take_all}
-use Rattle.std.proofs.lemmas.List.Sums.{fold_more}
+use Rattle.std.proofs.{Common.{sym, subst, ◌∙◌, ap, arith, take, get_or}, lemmas.List.{take_all}, lemmas.List.Sums.{fold_more}}
 use Rattle.bd_ways.specs.Words.{Work, OfThread}
-use Rattle.bd_space.specs.declared.space.WorkKind.TheVariants.{Notice}
-use Rattle.bd_space.specs.Todo.{has_work_in}
+use Rattle.bd_space.specs.{declared.space.WorkKind.TheVariants.{Notice}, Todo.{has_work_in}}
 use Rattle.bd_calls.specs.Ready.{AreSeen, told_then, told_after}
 use Rattle.bd_calls.proofs.Seats.{noted_seen}
 use Rattle.bd_calls.proofs.ready.ReadySeats.note_lists_of.Goals as goal

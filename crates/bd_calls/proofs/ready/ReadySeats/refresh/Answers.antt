@@ -1,9 +1,8 @@
 use Rattle.std.proofs.Common.{sym, subst, arith}
 use Rattle.bd_space.specs.Todo.{has_work_in}
 use Rattle.bd_calls.specs.Ready.{AreSeen}
-use Rattle.bd_calls.proofs.Seats.{look_seen}
+use Rattle.bd_calls.proofs.{Seats.{look_seen}, ready.ReadySeats.refresh.Goals.{then-at-len+then-is_none, else-at-len}}
 use Rattle.bd_calls.proofs.ready.ReadySeats.refresh.Goals as goal
-use Rattle.bd_calls.proofs.ready.ReadySeats.refresh.Goals.{then-at-len+then-is_none, else-at-len}
 
 pub loop-seat-preserved : goal.loop-seat-preserved
 loop-seat-preserved c = λ ts ws listed are first.

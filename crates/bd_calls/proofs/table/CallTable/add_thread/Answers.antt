@@ -1,8 +1,7 @@
 use Rattle.std.proofs.Common.{ℕ, ◌==◌, ◌++◌, ◌∷◌, [], false, ap, sym, ◌∙◌}
 use Rattle.bd_ways.specs.Words.{Thread}
 use Rattle.bd_space.specs.Steps.{with_thread}
-use Rattle.bd_keys.proofs.Rising.{filter_none}
-use Rattle.bd_keys.proofs.Found.{none_found}
+use Rattle.bd_keys.proofs.{Rising.{filter_none}, Found.{none_found}}
 use Rattle.bd_calls.proofs.Seats.{kept_beside, pushed_other}
 use Rattle.bd_calls.proofs.table.CallTable.add_thread.Goals as goal
 

@@ -1,8 +1,7 @@
 use Rattle.std.proofs.Common.{◌∙◌, ◌==◌, ap, sym, subst, ◌++◌}
 use Rattle.std.specs.Option.{option_to_list}
 use Rattle.bd_ways.specs.Words.{is_some_and, list_any}
-use Rattle.bd_space.specs.Turns.{turns_of}
-use Rattle.bd_space.specs.Delivery.{add_buffer}
+use Rattle.bd_space.specs.{Turns.{turns_of}, Delivery.{add_buffer}}
 use Rattle.bd_turns.specs.Stands.{TurnsAre}
 use Rattle.bd_calls.proofs.OneWay.{turn_new, turns_add}
 use Rattle.bd_calls.proofs.table.CallTable.add_turn.Goals as goal

@@ -1,11 +1,9 @@
 use Rattle.std.proofs.Common.{◌≡◌, ◌∙◌, ◌≤◌, refl, sym, ap, ◌∷◌, [], List, Some, ℕ, suc, Bool, true, false, cond, arith}
 use Rattle.std.specs.Prelude.{find, reverse, option_map}
 use Rattle.bd_ways.specs.Words.{Frame}
-use Rattle.bd_space.specs.Frames.{innermost, innermost_in, is_deepest_in, goes_to, list_of_caller, waits_in, ancestry, made_of}
-use Rattle.bd_space.specs.Todo.{owe}
+use Rattle.bd_space.specs.{Frames.{innermost, innermost_in, is_deepest_in, goes_to, list_of_caller, waits_in, ancestry, made_of}, Todo.{owe}}
 use Rattle.bd_space.specs.Transactions.{call_out}
-use Rattle.bd_frames.specs.Places.{IsAfter, IsRising}
-use Rattle.bd_frames.specs.InOrder.{IsBefore}
+use Rattle.bd_frames.specs.{Places.{IsAfter, IsRising}, InOrder.{IsBefore}}
 use Rattle.bd_calls.proofs.table.CallTable.call_out.Goals as goal
 
 -- where all were made before, so was the one that is found

@@ -1,13 +1,7 @@
-use Rattle.std.proofs.Common.{ap, subst, sym, arith, rules}
+use Rattle.std.proofs.{Common.{ap, subst, sym, arith, rules}, lemmas.List.{drop_all, drop_more}, lemmas.List.Sorted.{IsNonDecreasingBy-from_sort}}
 use Rattle.std.specs.Prelude.{length}
-use Rattle.std.proofs.lemmas.List.{drop_all, drop_more}
-use Rattle.std.proofs.lemmas.List.Sorted.{IsNonDecreasingBy-from_sort}
-use Rattle.bd_calls.specs.Closing.{close_due}
-use Rattle.bd_calls.specs.Room.{rooms}
-use Rattle.bd_calls.specs.Stands.{StandsFor}
-use Rattle.bd_calls.proofs.Closing.{all_closed}
-use Rattle.bd_calls.proofs.Few.{few_same, few_less, few_both}
-use Rattle.bd_calls.proofs.InOrder.{among_in_order}
+use Rattle.bd_calls.specs.{Closing.{close_due}, Room.{rooms}, Stands.{StandsFor}}
+use Rattle.bd_calls.proofs.{Closing.{all_closed}, Few.{few_same, few_less, few_both}, InOrder.{among_in_order}}
 use Rattle.bd_calls.proofs.table.CallTable.close_among.Goals as goal
 
 pub loop-made-init : goal.loop-made-init

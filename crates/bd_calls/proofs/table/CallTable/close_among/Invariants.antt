@@ -1,9 +1,6 @@
 use Rattle.std.proofs.Common.{◌≡◌, ◌-◌, ◌≤◌, drop, length}
 use Rattle.bd_ways.specs.Words.{Space}
-use Rattle.bd_calls.specs.Closing.{IsClosing, close_due}
-use Rattle.bd_calls.specs.Stands.{StandsFor}
-use Rattle.bd_calls.specs.Room.{Uses, nothing, frame_count}
-use Rattle.bd_calls.specs.Told.{KeepsTold, ReachesFew}
+use Rattle.bd_calls.specs.{Closing.{IsClosing, close_due}, Stands.{StandsFor}, Room.{Uses, nothing, frame_count}, Told.{KeepsTold, ReachesFew}}
 use Rattle.bd_calls.proofs.table.CallTable.close_among.Given as goal
 
 abbrev pub invariant-loop-made : goal.invariant-loop-made

@@ -1,11 +1,8 @@
 use Rattle.std.proofs.Common.{◌∙◌, [], refl, subst, ap, arith}
 use Rattle.std.specs.List.{cons_option}
 use Rattle.bd_ways.specs.Local.{close_up}
-use Rattle.bd_calls.specs.Closing.{close_due}
-use Rattle.bd_calls.specs.Room.{rooms}
-use Rattle.bd_calls.specs.Stands.{StandsFor}
-use Rattle.bd_calls.proofs.Few.{few_less}
-use Rattle.bd_calls.proofs.Closing.{all_closed, due_up}
+use Rattle.bd_calls.specs.{Closing.{close_due}, Room.{rooms}, Stands.{StandsFor}}
+use Rattle.bd_calls.proofs.{Few.{few_less}, Closing.{all_closed, due_up}}
 use Rattle.bd_calls.proofs.table.CallTable.close_up.Goals as goal
 
 pub returns-clause-stands : goal.returns-clause-stands

@@ -1,7 +1,6 @@
 use Rattle.std.proofs.Common.{◌≡◌, ◌-◌, ◌+◌, suc, sym, ◌∙◌, arith, rules}
 use Rattle.bd_space.specs.Frames.{closed}
-use Rattle.bd_calls.proofs.Few.{few_both}
-use Rattle.bd_calls.proofs.Closing.{closing_goes, closing_stays, closing_ends}
+use Rattle.bd_calls.proofs.{Few.{few_both}, Closing.{closing_goes, closing_stays, closing_ends}}
 use Rattle.bd_calls.proofs.table.CallTable.close_up_within.Goals as goal
 
 pub loop-closed-preserved : goal.loop-closed-preserved

@@ -1,9 +1,7 @@
 use Rattle.std.proofs.Common.{◌-◌, ℕ, List}
 use Rattle.std.specs.List.{cons_option}
 use Rattle.bd_ways.specs.Words.{Space}
-use Rattle.bd_calls.specs.Closing.{IsClosing}
-use Rattle.bd_calls.specs.Room.{Uses, nothing}
-use Rattle.bd_calls.specs.Told.{KeepsTold, ReachesFew}
+use Rattle.bd_calls.specs.{Closing.{IsClosing}, Room.{Uses, nothing}, Told.{KeepsTold, ReachesFew}}
 use Rattle.bd_calls.proofs.table.CallTable.close_up_within.Given as goal
 
 abbrev pub invariant-loop-closed : goal.invariant-loop-closed

@@ -1,9 +1,7 @@
 use Rattle.bd_ways.specs.Words.{OfProcess, Work}
-use Rattle.bd_space.specs.ProcessExits.{without_process}
-use Rattle.bd_calls.proofs.OneWay.{left_stand, turn_is_of}
+use Rattle.bd_space.specs.{ProcessExits.{without_process}, Todo.{is_on}}
+use Rattle.bd_calls.proofs.{OneWay.{left_stand, turn_is_of}, Marking.{told_on, cleared_beside}}
 use Rattle.std.proofs.Common.{◌==◌, ap, not, filter}
-use Rattle.bd_space.specs.Todo.{is_on}
-use Rattle.bd_calls.proofs.Marking.{told_on, cleared_beside}
 use Rattle.bd_calls.specs.Told.{Recalls}
 use Rattle.bd_calls.proofs.table.CallTable.end_process.Goals as goal
 

@@ -1,8 +1,7 @@
 use Rattle.std.proofs.Common.{sym, subst}
 use Rattle.bd_space.specs.Todo.{owe, with_work}
 use Rattle.bd_todo.specs.Stands.{WorksAre}
-use Rattle.bd_calls.proofs.Seats.{told_same, noted_seen, pushed_told}
-use Rattle.bd_calls.proofs.Marking.{told_on, pushed_beside}
+use Rattle.bd_calls.proofs.{Seats.{told_same, noted_seen, pushed_told}, Marking.{told_on, pushed_beside}}
 use Rattle.bd_calls.specs.Told.{Recalls}
 use Rattle.bd_calls.proofs.table.CallTable.owe.Goals as goal
 

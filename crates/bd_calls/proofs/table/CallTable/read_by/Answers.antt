@@ -1,12 +1,8 @@
 use Rattle.std.proofs.Common.{sym, subst, map}
 use Rattle.bd_ways.specs.Words.{Work, first_of}
-use Rattle.bd_space.specs.Todo.{hands_out}
-use Rattle.bd_space.specs.ReadItems.{read_by, buffer_taken}
+use Rattle.bd_space.specs.{Todo.{hands_out}, ReadItems.{read_by, buffer_taken}, Todo.{without_taken}}
 use Rattle.bd_turns.specs.Stands.{TurnsAre}
-use Rattle.bd_calls.proofs.OneWay.{turns_handed}
-use Rattle.bd_calls.proofs.Seats.{told_same, taken_told}
-use Rattle.bd_space.specs.Todo.{without_taken}
-use Rattle.bd_calls.proofs.Marking.{told_on, taken_beside}
+use Rattle.bd_calls.proofs.{OneWay.{turns_handed}, Seats.{told_same, taken_told}, Marking.{told_on, taken_beside}}
 use Rattle.bd_calls.specs.Told.{Recalls}
 use Rattle.bd_calls.proofs.table.CallTable.read_by.Goals as goal
 

@@ -1,7 +1,6 @@
 use Rattle.std.proofs.Common.{◌+◌, ◌≤◌, ◌^◌, ℕ, rules, arith}
 use Rattle.bd_todo.proofs.Fits.{room_fits}
-use Rattle.bd_calls.specs.declared.table.CallTable.{CallTable}
-use Rattle.bd_calls.specs.Room.{HasRoom, frame_count, rooms}
+use Rattle.bd_calls.specs.{declared.table.CallTable.{CallTable}, Room.{HasRoom, frame_count, rooms}}
 use Rattle.bd_calls.proofs.Few.{few_both}
 use Rattle.bd_calls.proofs.table.CallTable.reserve.Goals as goal
 

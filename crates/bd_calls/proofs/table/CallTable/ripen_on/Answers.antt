@@ -1,6 +1,5 @@
 use Rattle.std.proofs.Common.{◌∙◌, sym}
-use Rattle.bd_space.specs.Todo.{owe}
-use Rattle.bd_space.specs.Turns.{turns_of}
+use Rattle.bd_space.specs.{Todo.{owe}, Turns.{turns_of}}
 use Rattle.bd_ways.specs.Local.{ripen_of}
 use Rattle.bd_calls.proofs.table.CallTable.ripen_on.Goals as goal
 

@@ -1,9 +1,7 @@
 use Rattle.std.proofs.Common.{◌==◌, ◌∙◌, ap, not, filter}
 use Rattle.bd_ways.specs.Words.{Thread, OfThread, Work}
-use Rattle.bd_space.specs.ThreadExits.{thread_goes, is_lost_with}
-use Rattle.bd_calls.proofs.OneWay.{left_stand, turn_is_of}
-use Rattle.bd_space.specs.Todo.{is_on}
-use Rattle.bd_calls.proofs.Marking.{told_on, cleared_beside}
+use Rattle.bd_space.specs.{ThreadExits.{thread_goes, is_lost_with}, Todo.{is_on}}
+use Rattle.bd_calls.proofs.{OneWay.{left_stand, turn_is_of}, Marking.{told_on, cleared_beside}}
 use Rattle.bd_calls.specs.Told.{Recalls}
 use Rattle.bd_calls.proofs.table.CallTable.thread_goes.Goals as goal
 

@@ -1,7 +1,6 @@
 use Rattle.std.proofs.Common.{sym, subst, ◌∙◌}
 use Rattle.bd_ways.proofs.Ranges.{filter_none}
-use Rattle.bd_space.specs.Todo.{is_notice}
-use Rattle.bd_space.specs.Turns.{turns_of}
+use Rattle.bd_space.specs.{Todo.{is_notice}, Turns.{turns_of}}
 use Rattle.bd_calls.specs.Stands.{Stands}
 use Rattle.bd_calls.proofs.table.CallTable.withdraw_notice.Goals as goal
 

@@ -1,9 +1,6 @@
-use Rattle.std.proofs.Common.{◌&&◌, get_or, ap, sym, ◌∙◌}
-use Rattle.std.proofs.lemmas.List.Folds.{list_any_none}
+use Rattle.std.proofs.{Common.{◌&&◌, get_or, ap, sym, ◌∙◌}, lemmas.List.Folds.{list_any_none}}
 use Rattle.bd_ways.proofs.Ranges.{find_none}
-use Rattle.bd_space.specs.declared.space.Frame.{Frame}
-use Rattle.bd_space.specs.Frames.{is_frame}
-use Rattle.bd_space.specs.Settle.{is_abandoned}
+use Rattle.bd_space.specs.{declared.space.Frame.{Frame}, Frames.{is_frame}, Settle.{is_abandoned}}
 use Rattle.bd_frames.proofs.Standing.{own_rising, nowhere, abandoned}
 use Rattle.bd_frames.proofs.table.FrameTable.abandoned_at.Goals as goal
 

@@ -1,20 +1,11 @@
 use Rattle.std.proofs.Common.{rules, ◌≡◌, ◌==◌, ◌-◌, ◌<◌, ℕ, Bool, true, false, not, cond, List, Option, Some, length, get_or, map, refl, subst, ap, sym, ◌∙◌, arith}
+use Rattle.std.proofs.{lemmas.Bool.{cond_both}, lemmas.List.{get_or-map, length-map}, lemmas.List.Elements.{All-filter}}
 use Rattle.std.specs.List.{count_by, remove}
-use Rattle.std.proofs.lemmas.Bool.{cond_both}
-use Rattle.std.proofs.lemmas.List.{get_or-map, length-map}
-use Rattle.std.proofs.lemmas.List.Elements.{All-filter}
 use Rattle.bd_keys.proofs.Rising.{without, distinct, filter_at, filter_none}
-use Rattle.bd_space.specs.Words.{is_some_and}
-use Rattle.bd_space.specs.Frames.{is_frame, made_of, takes_part}
-use Rattle.bd_frames.specs.declared.frame.Row.{Row}
-use Rattle.bd_frames.specs.Stands.{FramesAre}
-use Rattle.bd_frames.specs.Places.{frames_of, place, turned, IsRising, IsAt}
-use Rattle.bd_frames.specs.Children.{is_child_at, AreChildren}
-use Rattle.bd_frames.specs.Linked.{IsStack, AreStacks, top_in}
-use Rattle.bd_frames.proofs.Places.{rising_rows}
-use Rattle.bd_frames.proofs.InOrder.{in_order_filter}
-use Rattle.bd_frames.proofs.Counting.{children_turned}
-use Rattle.bd_frames.proofs.Stacking.{turns}
+use Rattle.bd_space.specs.{Words.{is_some_and}, Frames.{is_frame, made_of, takes_part}}
+use Rattle.bd_frames.specs.{declared.frame.Row.{Row}, Stands.{FramesAre}, Places.{frames_of, place, turned, IsRising, IsAt}}
+use Rattle.bd_frames.specs.{Children.{is_child_at, AreChildren}, Linked.{IsStack, AreStacks, top_in}}
+use Rattle.bd_frames.proofs.{Places.{rising_rows}, InOrder.{in_order_filter}, Counting.{children_turned}, Stacking.{turns}}
 use Rattle.bd_frames.proofs.Standing.{own_rising, nowhere, frames_kept, frames_filtered, count_closed}
 use Rattle.bd_frames.proofs.table.FrameTable.close.Goals as goal
 

@@ -1,14 +1,8 @@
 use Rattle.std.proofs.Common.{◌≡◌, ◌≤◌, ◌<◌, Bool, true, false, cond, None, Some, Option, ℕ, List, [], find, reverse, take, length, get_or, refl, sym, ap, ◌∙◌, arith, rules}
 use Rattle.std.proofs.lemmas.List.{length-take, take_all, take-take, get_or-take}
-use Rattle.bd_space.specs.declared.space.Frame.{Frame}
-use Rattle.bd_space.specs.Frames.{ancestry}
-use Rattle.bd_frames.specs.declared.frame.Row.{Row}
-use Rattle.bd_frames.specs.declared.table.FrameTable.{FrameTable}
-use Rattle.bd_frames.specs.Stands.{FramesAre}
-use Rattle.bd_frames.specs.Places.{frames_of, AreRising, IsAt}
-use Rattle.bd_frames.proofs.Ways.{way_ended, way_none, way_found}
-use Rattle.bd_frames.proofs.Places.{rising_take}
-use Rattle.bd_frames.proofs.Standing.{own_rising}
+use Rattle.bd_space.specs.{declared.space.Frame.{Frame}, Frames.{ancestry}}
+use Rattle.bd_frames.specs.{declared.frame.Row.{Row}, declared.table.FrameTable.{FrameTable}, Stands.{FramesAre}, Places.{frames_of, AreRising, IsAt}}
+use Rattle.bd_frames.proofs.{Ways.{way_ended, way_none, way_found}, Places.{rising_take}, Standing.{own_rising}}
 use Rattle.bd_frames.proofs.table.FrameTable.first_on_way.Goals as goal
 
 -- what is found on the way from a place, from the newest of the first n rows on

@@ -1,6 +1,5 @@
 use Rattle.std.proofs.Common.{◌≡◌, ◌≤◌, Bool, find, reverse, take, vec_len}
-use Rattle.bd_space.specs.declared.space.Frame.{Frame}
-use Rattle.bd_space.specs.Frames.{ancestry}
+use Rattle.bd_space.specs.{declared.space.Frame.{Frame}, Frames.{ancestry}}
 use Rattle.bd_keys.specs.Tables.{AnswersBy}
 use Rattle.bd_frames.specs.Places.{frames_of, AreRising}
 use Rattle.bd_frames.proofs.table.FrameTable.first_on_way.Given as goal

@@ -1,5 +1,4 @@
-use Rattle.std.proofs.Common.{reverse, is_some, ap, sym, ◌∙◌}
-use Rattle.std.proofs.lemmas.List.Sorted.{list_any-IsPermutation, IsPermutation-reverse}
+use Rattle.std.proofs.{Common.{reverse, is_some, ap, sym, ◌∙◌}, lemmas.List.Sorted.{list_any-IsPermutation, IsPermutation-reverse}}
 use Rattle.bd_keys.proofs.Found.{any_some}
 use Rattle.bd_space.specs.Frames.{takes_part}
 use Rattle.bd_frames.proofs.table.FrameTable.is_in_call.Goals as goal

@@ -1,12 +1,8 @@
 use Rattle.std.proofs.Common.{◌≡◌, ◌==◌, ◌&&◌, ℕ, Bool, true, false, cond, Option, Some, None, map, get_or, length, refl, sym, ◌∙◌, subst, eqb-true}
-use Rattle.std.specs.Prelude.{List, nat_lt}
 use Rattle.std.proofs.lemmas.List.Elements.{All-map}
-use Rattle.bd_frames.specs.declared.frame.Row.{Row}
-use Rattle.bd_frames.specs.Words.{left_frame, left_row}
-use Rattle.bd_frames.specs.Linked.{IsStack, IsLinked, top_in}
-use Rattle.bd_frames.proofs.Alike.{left_gone, left_keeps}
-use Rattle.bd_frames.proofs.Stacking.{mapped}
-use Rattle.bd_frames.proofs.Standing.{own_rising, own_stack, all_changed}
+use Rattle.std.specs.Prelude.{List, nat_lt}
+use Rattle.bd_frames.specs.{declared.frame.Row.{Row}, Words.{left_frame, left_row}, Linked.{IsStack, IsLinked, top_in}}
+use Rattle.bd_frames.proofs.{Alike.{left_gone, left_keeps}, Stacking.{mapped}, Standing.{own_rising, own_stack, all_changed}}
 use Rattle.bd_frames.proofs.table.FrameTable.leave.Goals as goal
 
 -- whatever bounds its stack

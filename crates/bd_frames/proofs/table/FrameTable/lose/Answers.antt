@@ -1,10 +1,6 @@
 use Rattle.std.proofs.Common.{Some, refl, rules}
-use Rattle.bd_frames.specs.declared.frame.Row.{Row}
-use Rattle.bd_frames.specs.Words.{lost_frame}
-use Rattle.bd_frames.specs.Linked.{top_in}
-use Rattle.bd_frames.proofs.Alike.{lost_keeps}
-use Rattle.bd_frames.proofs.Stacking.{turns}
-use Rattle.bd_frames.proofs.Standing.{own_rising, one_changed}
+use Rattle.bd_frames.specs.{declared.frame.Row.{Row}, Words.{lost_frame}, Linked.{top_in}}
+use Rattle.bd_frames.proofs.{Alike.{lost_keeps}, Stacking.{turns}, Standing.{own_rising, one_changed}}
 use Rattle.bd_frames.proofs.table.FrameTable.lose.Goals as goal
 
 pub returns-clause-stands : goal.returns-clause-stands

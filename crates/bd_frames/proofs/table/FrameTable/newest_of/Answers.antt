@@ -1,8 +1,7 @@
 use Rattle.std.proofs.Common.{[], Some, find, reverse, sym, ap, ◌∙◌}
 use Rattle.bd_space.specs.Frames.{takes_part}
 use Rattle.bd_frames.specs.declared.frame.Row.{Row}
-use Rattle.bd_frames.proofs.Ways.{none_newer, newest}
-use Rattle.bd_frames.proofs.Standing.{own_rising, own_stack}
+use Rattle.bd_frames.proofs.{Ways.{none_newer, newest}, Standing.{own_rising, own_stack}}
 use Rattle.bd_frames.proofs.table.FrameTable.newest_of.Goals as goal
 
 pub returns-in_err-newest_part : goal.returns-in_err-newest_part

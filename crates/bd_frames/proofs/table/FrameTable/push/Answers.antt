@@ -1,19 +1,11 @@
 use Rattle.std.proofs.Common.{rules, ◌≡◌, ◌==◌, ◌+◌, ◌++◌, ◌∷◌, [], ℕ, Bool, true, false, cond, List, Option, Some, None, inl, inr, ◌⊎◌, map, min, refl, subst, ap, sym, ◌∙◌, arith, eqb-true}
-use Rattle.std.specs.List.{count_by}
-use Rattle.std.specs.Option.{option_and_then}
-use Rattle.std.proofs.lemmas.List.{map-append}
-use Rattle.std.proofs.lemmas.List.Elements.{All-push}
-use Rattle.bd_space.specs.Words.{is_some_and}
-use Rattle.bd_space.specs.Frames.{calls, takes_part}
-use Rattle.bd_frames.specs.declared.frame.Row.{Row}
-use Rattle.bd_frames.specs.Places.{frames_of, place, turned}
-use Rattle.bd_frames.specs.Children.{is_child_at, AreChildren}
+use Rattle.std.proofs.{lemmas.List.{map-append}, lemmas.List.Elements.{All-push}}
+use Rattle.std.specs.{List.{count_by}, Option.{option_and_then}}
+use Rattle.bd_space.specs.{Words.{is_some_and}, Frames.{calls, takes_part}}
+use Rattle.bd_frames.specs.{declared.frame.Row.{Row}, Places.{frames_of, place, turned}, Children.{is_child_at, AreChildren}}
 use Rattle.bd_frames.specs.Linked.{IsStack, AreStacks, top_in, put_top}
-use Rattle.bd_frames.proofs.InOrder.{in_order_push}
-use Rattle.bd_frames.proofs.Counting.{count_push, count_few, no_child, children_turned}
-use Rattle.bd_frames.proofs.Alike.{pending_calls}
-use Rattle.bd_frames.proofs.Stacking.{From, Comes, itself, stays, put_on, turns, covered}
-use Rattle.bd_frames.proofs.Standing.{own_rising, frames_kept}
+use Rattle.bd_frames.proofs.{InOrder.{in_order_push}, Counting.{count_push, count_few, no_child, children_turned}, Alike.{pending_calls}}
+use Rattle.bd_frames.proofs.{Stacking.{From, Comes, itself, stays, put_on, turns, covered}, Standing.{own_rising, frames_kept}}
 use Rattle.bd_frames.proofs.table.FrameTable.push.Goals as goal
 
 is_seat : (o : Option ℕ) (s : ℕ) → is_some_and o (λ t. t == s) ≡ true → o ≡ Some s

@@ -1,7 +1,5 @@
 use Rattle.std.proofs.Common.{ℕ, Option, ap, sym, subst, ◌∙◌}
-use Rattle.bd_frames.specs.Places.{frames_of}
-use Rattle.bd_frames.specs.Children.{AreChildren}
-use Rattle.bd_frames.specs.Linked.{IsStack, top_in}
+use Rattle.bd_frames.specs.{Places.{frames_of}, Children.{AreChildren}, Linked.{IsStack, top_in}}
 use Rattle.bd_frames.proofs.table.FrameTable.reserve.Goals as goal
 
 pub returns-clause-stands : goal.returns-clause-stands

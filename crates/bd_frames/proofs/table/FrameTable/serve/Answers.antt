@@ -1,19 +1,12 @@
 use Rattle.std.proofs.Common.{rules, ◌≡◌, ◌==◌, ◌||◌, ◌<◌, ℕ, Bool, true, false, cond, List, Option, Some, None, inl, inr, ◌⊎◌, set, get_or, length, refl, subst, ap, sym, ◌∙◌, eqb-true}
-use Rattle.std.specs.Option.{option_and_then}
 use Rattle.std.proofs.lemmas.List.Elements.{All-set}
-use Rattle.bd_space.specs.Words.{is_some_and}
-use Rattle.bd_space.specs.Frames.{made_of, calls, takes_part}
-use Rattle.bd_space.specs.ReadItems.{serve}
+use Rattle.std.specs.Option.{option_and_then}
+use Rattle.bd_space.specs.{Words.{is_some_and}, Frames.{made_of, calls, takes_part}, ReadItems.{serve}}
 use Rattle.bd_space.proofs.Keyed.{changed_none}
-use Rattle.bd_frames.specs.declared.frame.Row.{Row}
-use Rattle.bd_frames.specs.Stands.{FramesAre}
-use Rattle.bd_frames.specs.Places.{place}
-use Rattle.bd_frames.specs.Linked.{IsStack, top_in, put_top}
-use Rattle.bd_frames.proofs.Places.{turned_at}
-use Rattle.bd_frames.proofs.Stacking.{From, Comes, itself, stays, put_on, covered}
-use Rattle.bd_frames.proofs.Standing.{own_rising, nowhere, one_changed}
-use Rattle.bd_frames.proofs.table.FrameTable.serve.Goals as goal
+use Rattle.bd_frames.specs.{declared.frame.Row.{Row}, Stands.{FramesAre}, Places.{place}, Linked.{IsStack, top_in, put_top}}
+use Rattle.bd_frames.proofs.{Places.{turned_at}, Stacking.{From, Comes, itself, stays, put_on, covered}, Standing.{own_rising, nowhere, one_changed}}
 use Rattle.bd_frames.proofs.table.FrameTable.serve.Goals.{then-is_own, else-is_own}
+use Rattle.bd_frames.proofs.table.FrameTable.serve.Goals as goal
 
 module _ (s seat : ℕ) (rs : List Row) (i : ℕ) (d : Row) (link top : Option ℕ) (lt : i < length rs) (at : d ≡ get_or rs i d)
     (st : IsStack s top rs) where

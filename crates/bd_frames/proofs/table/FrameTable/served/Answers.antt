@@ -1,7 +1,6 @@
 use Rattle.std.proofs.Common.{◌≡◌, ◌++◌, List, length, map, filter, reverse, take, drop, ap, ◌∙◌, arith}
 use Rattle.std.proofs.lemmas.List.{reverse-reverse, take_at, drop_at}
-use Rattle.bd_space.specs.declared.space.Frame.{Frame}
-use Rattle.bd_space.specs.Frames.{serves, made_of}
+use Rattle.bd_space.specs.{declared.space.Frame.{Frame}, Frames.{serves, made_of}}
 use Rattle.bd_frames.specs.Places.{frames_of}
 use Rattle.bd_frames.proofs.Standing.{own_rising, own_stack}
 use Rattle.bd_frames.proofs.table.FrameTable.served.Goals as goal

@@ -1,10 +1,7 @@
-use Rattle.std.proofs.Common.{◌<◌, Option, ℕ, take, sym, ap, subst, ◌∙◌, arith, rules}
+use Rattle.std.proofs.{Common.{◌<◌, Option, ℕ, take, sym, ap, subst, ◌∙◌, arith, rules}, lemmas.List.{length-take, take-take, get_or-take}}
 use Rattle.std.specs.Option.{option_and}
-use Rattle.std.proofs.lemmas.List.{length-take, take-take, get_or-take}
-use Rattle.bd_frames.specs.declared.frame.Row.{Row}
-use Rattle.bd_frames.specs.Linked.{below_of, IsStack}
-use Rattle.bd_frames.proofs.Places.{no_row}
-use Rattle.bd_frames.proofs.Stacking.{way_on}
+use Rattle.bd_frames.specs.{declared.frame.Row.{Row}, Linked.{below_of, IsStack}}
+use Rattle.bd_frames.proofs.{Places.{no_row}, Stacking.{way_on}}
 use Rattle.bd_frames.proofs.walk.Way.next.Goals as goal
 
 pub returns : goal.returns

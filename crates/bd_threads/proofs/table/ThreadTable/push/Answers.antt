@@ -1,13 +1,9 @@
 use Rattle.std.proofs.Common.{◌≡◌, ℕ, ◌+◌, true, cond, length, List, [], ◌∷◌, ◌++◌, None, Some, sym, ap, ◌∙◌, arith, Result, Ok, Err, Option}
-use Rattle.std.specs.Prelude.{IfOk, OnOk, is_some, option_map}
-use Rattle.std.specs.Result.{is_ok}
-use Rattle.std.proofs.lemmas.List.{get_or_past, length_push}
-use Rattle.std.proofs.lemmas.List.Elements.{filter_map-append}
-use Rattle.bd_space.specs.declared.space.Thread.{Thread}
-use Rattle.bd_space.specs.Seats.{thread_in}
+use Rattle.std.proofs.{lemmas.List.{get_or_past, length_push}, lemmas.List.Elements.{filter_map-append}}
+use Rattle.std.specs.{Prelude.{IfOk, OnOk, is_some, option_map}, Result.{is_ok}}
+use Rattle.bd_space.specs.{declared.space.Thread.{Thread}, Seats.{thread_in}}
 use Rattle.bd_keys.proofs.Found.{find_gone}
-use Rattle.bd_threads.specs.Listed.{listed}
-use Rattle.bd_threads.specs.Rows.{live, place_at, seat_at}
+use Rattle.bd_threads.specs.{Listed.{listed}, Rows.{live, place_at, seat_at}}
 use Rattle.bd_threads.proofs.Rows.{seat_of, unplaced, seat_push, inverse_more}
 use Rattle.bd_threads.proofs.table.ThreadTable.push.Goals as goal
 

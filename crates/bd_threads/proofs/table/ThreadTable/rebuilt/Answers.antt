@@ -1,11 +1,9 @@
-use Rattle.std.proofs.Common.{◌≡◌, ◌<◌, ◌++◌, ◌∷◌, [], length, take, get_or, None, Some, ap, sym, ◌∙◌, arith}
+use Rattle.std.proofs.{Common.{◌≡◌, ◌<◌, ◌++◌, ◌∷◌, [], length, take, get_or, None, Some, ap, sym, ◌∙◌, arith}, lemmas.List.{append-nil}}
 use Rattle.std.specs.Prelude.{option_map}
-use Rattle.std.proofs.lemmas.List.{append-nil}
 use Rattle.bd_keys.proofs.Rising.{without, filter_none}
 use Rattle.bd_threads.specs.Rows.{live}
-use Rattle.bd_threads.proofs.Rows.{seat_of, none_before, live_take, live_drop}
+use Rattle.bd_threads.proofs.{Rows.{seat_of, none_before, live_take, live_drop}, table.ThreadTable.rebuilt.Goals.{in-Some, in_default}}
 use Rattle.bd_threads.proofs.table.ThreadTable.rebuilt.Goals as goal
-use Rattle.bd_threads.proofs.table.ThreadTable.rebuilt.Goals.{in-Some, in_default}
 
 pub loop-row-preserved : goal.loop-row-preserved
 loop-row-preserved c =

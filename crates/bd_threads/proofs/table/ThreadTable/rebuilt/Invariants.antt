@@ -1,7 +1,5 @@
 use Rattle.std.proofs.Common.{◌≡◌, ◌+◌, ◌≤◌, length, take, drop}
-use Rattle.bd_threads.specs.Listed.{listed}
-use Rattle.bd_threads.specs.Room.{thread_room}
-use Rattle.bd_threads.specs.Rows.{live}
+use Rattle.bd_threads.specs.{Listed.{listed}, Room.{thread_room}, Rows.{live}}
 use Rattle.bd_threads.proofs.table.ThreadTable.rebuilt.Given as goal
 
 abbrev pub invariant-loop-row : goal.invariant-loop-row

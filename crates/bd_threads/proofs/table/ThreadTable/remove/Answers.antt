@@ -1,7 +1,6 @@
 use Rattle.std.proofs.Common.{None, sym, arith}
 use Rattle.bd_keys.proofs.Rising.{filter_none}
-use Rattle.bd_threads.specs.Listed.{listed}
-use Rattle.bd_threads.specs.Rows.{place_at, seat_at}
+use Rattle.bd_threads.specs.{Listed.{listed}, Rows.{place_at, seat_at}}
 use Rattle.bd_threads.proofs.Rows.{seat_of, inside, row_found, none_found, seat_set, inverse_less}
 use Rattle.bd_threads.proofs.table.ThreadTable.remove.Goals as goal
 

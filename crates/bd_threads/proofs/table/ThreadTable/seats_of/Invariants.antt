@@ -1,6 +1,5 @@
 use Rattle.std.proofs.Common.{◌≡◌, ◌++◌, ◌==◌, map, filter, drop}
-use Rattle.bd_space.specs.declared.space.Thread.{Thread}
-use Rattle.bd_space.specs.ProcessExits.{seat_of}
+use Rattle.bd_space.specs.{declared.space.Thread.{Thread}, ProcessExits.{seat_of}}
 use Rattle.bd_threads.specs.Rows.{live}
 use Rattle.bd_threads.proofs.table.ThreadTable.seats_of.Given as goal
 

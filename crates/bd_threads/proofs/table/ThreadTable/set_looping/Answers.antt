@@ -1,8 +1,7 @@
 use Rattle.std.proofs.Common.{◌==◌, Bool, length, refl, sym, ap, ◌∙◌, arith}
 use Rattle.bd_space.specs.declared.space.Thread.{Thread}
 use Rattle.bd_space.proofs.Keyed.{changed_none, length_changed}
-use Rattle.bd_threads.specs.Listed.{listed}
-use Rattle.bd_threads.specs.Rows.{place_at, seat_at}
+use Rattle.bd_threads.specs.{Listed.{listed}, Rows.{place_at, seat_at}}
 use Rattle.bd_threads.proofs.Rows.{seat_of, inside, read, filled, row_found, none_found, seat_kept, inverse_as}
 use Rattle.bd_threads.proofs.table.ThreadTable.set_looping.Goals as goal
 

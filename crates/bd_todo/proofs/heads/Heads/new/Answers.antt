@@ -1,6 +1,5 @@
 use Rattle.std.proofs.Common.{None, replicate}
-use Rattle.bd_todo.specs.Keys.{list_key}
-use Rattle.bd_todo.specs.Heads.{head_at}
+use Rattle.bd_todo.specs.{Keys.{list_key}, Heads.{head_at}}
 use Rattle.bd_todo.proofs.HeadRows.{none_has, no_heads}
 use Rattle.bd_todo.proofs.heads.Heads.new.Goals as goal
 

@@ -1,5 +1,4 @@
-use Rattle.bd_todo.specs.Keys.{list_key}
-use Rattle.bd_todo.specs.Heads.{head_at}
+use Rattle.bd_todo.specs.{Keys.{list_key}, Heads.{head_at}}
 use Rattle.bd_todo.proofs.HeadRows.{same_numbers}
 use Rattle.bd_todo.proofs.heads.HeadsNumbering.reserve.Goals as goal
 

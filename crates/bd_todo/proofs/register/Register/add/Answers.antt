@@ -1,10 +1,7 @@
 use Rattle.std.proofs.Common.{◌≡◌, ◌<◌, true, ap, sym, ◌∙◌, arith, ltb-true}
 use Rattle.bd_space.specs.declared.space.Work.{Work}
-use Rattle.bd_todo.specs.declared.register.Register.{Register}
-use Rattle.bd_todo.specs.Registered.{rank, Registered}
-use Rattle.bd_todo.specs.Spots.{is_key, count_at}
-use Rattle.bd_todo.proofs.Registering.{newer_came, older_came}
-use Rattle.bd_todo.proofs.register.Register.add.Goals.{then-self, else-self}
+use Rattle.bd_todo.specs.{declared.register.Register.{Register}, Registered.{rank, Registered}, Spots.{is_key, count_at}}
+use Rattle.bd_todo.proofs.{Registering.{newer_came, older_came}, register.Register.add.Goals.{then-self, else-self}}
 use Rattle.bd_todo.proofs.register.Register.add.Goals as goal
 
 pub returns-then-self-work-clause-stands : goal.returns-then-self-work-clause-stands

@@ -1,7 +1,6 @@
 use Rattle.std.proofs.Common.{ℕ, Some, ap, ◌∙◌, min, ◌+◌, unwrap_or, arith}
 use Rattle.std.specs.HashMap.{get_by}
-use Rattle.bd_todo.specs.declared.spots.Spot.{Spot}
-use Rattle.bd_todo.specs.Spots.{same_sought}
+use Rattle.bd_todo.specs.{declared.spots.Spot.{Spot}, Spots.{same_sought}}
 use Rattle.bd_todo.proofs.SoughtCounts.{count_updated, count_or, at_key}
 use Rattle.bd_todo.proofs.spots.Spots.add.Goals as goal
 

@@ -1,9 +1,7 @@
 use Rattle.std.proofs.Common.{◌∙◌, sym, ap, subst, IfSome, is_some}
 use Rattle.bd_space.specs.Todo.{is_on}
-use Rattle.bd_todo.specs.QueuesStand.{IsFront}
-use Rattle.bd_todo.specs.Stands.{WorksAre}
-use Rattle.bd_todo.proofs.OnList.{no_first}
-use Rattle.bd_todo.proofs.WorksStand.{front_went}
+use Rattle.bd_todo.specs.{QueuesStand.{IsFront}, Stands.{WorksAre}}
+use Rattle.bd_todo.proofs.{OnList.{no_first}, WorksStand.{front_went}}
 use Rattle.bd_todo.proofs.table.WorkTable.pop.Goals as goal
 
 pub returns-in-Some-clause-stands : goal.returns-in-Some-clause-stands

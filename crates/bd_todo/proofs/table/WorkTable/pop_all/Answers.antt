@@ -1,9 +1,7 @@
 use Rattle.std.proofs.Common.{◌∙◌, sym, refl, ap, length, subst, arith}
 use Rattle.bd_space.specs.Todo.{is_on}
 use Rattle.bd_todo.specs.Stands.{WorksAre}
-use Rattle.bd_todo.proofs.OnList.{nothing_goes, no_first, rest_same, one_less}
-use Rattle.bd_todo.proofs.Rows.{works_length}
-use Rattle.bd_todo.proofs.WorksStand.{none_left}
+use Rattle.bd_todo.proofs.{OnList.{nothing_goes, no_first, rest_same, one_less}, Rows.{works_length}, WorksStand.{none_left}}
 use Rattle.bd_todo.proofs.table.WorkTable.pop_all.Goals as goal
 
 pub loop-init : goal.loop-init

@@ -1,6 +1,5 @@
 use Rattle.std.proofs.Common.{◌≡◌, ◌≤◌, ◌+◌, not, List, length, filter}
-use Rattle.bd_space.specs.declared.space.Work.{Work}
-use Rattle.bd_space.specs.Todo.{is_on}
+use Rattle.bd_space.specs.{declared.space.Work.{Work}, Todo.{is_on}}
 use Rattle.bd_todo.specs.Stands.{WorksAre, work_room}
 use Rattle.bd_todo.proofs.table.WorkTable.pop_all.Given as goal
 

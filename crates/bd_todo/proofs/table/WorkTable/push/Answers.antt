@@ -1,8 +1,6 @@
 use Rattle.std.proofs.Common.{refl, ap, length, arith}
 use Rattle.bd_todo.specs.QueuesStand.{list_of, keeps}
-use Rattle.bd_todo.proofs.Queueing.{pushed_stands}
-use Rattle.bd_todo.proofs.Rows.{works_length}
-use Rattle.bd_todo.proofs.WorksStand.{works_pushed}
+use Rattle.bd_todo.proofs.{Queueing.{pushed_stands}, Rows.{works_length}, WorksStand.{works_pushed}}
 use Rattle.bd_todo.proofs.table.WorkTable.push.Goals as goal
 
 pub returns-clause-stands : goal.returns-clause-stands

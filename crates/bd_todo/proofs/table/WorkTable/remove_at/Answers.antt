@@ -2,10 +2,7 @@ use Rattle.std.proofs.Common.{refl, sym, ap, subst, ◌∙◌}
 use Rattle.bd_space.specs.Todo.{same_list}
 use Rattle.bd_chains.proofs.Listing.{dropped_shows}
 use Rattle.bd_chains.specs.Rows.{drop_key}
-use Rattle.bd_todo.specs.Heads.{head_at}
-use Rattle.bd_todo.specs.Rows.{works}
-use Rattle.bd_todo.specs.QueuesStand.{list_of, keeps}
-use Rattle.bd_todo.specs.Registered.{Registered}
+use Rattle.bd_todo.specs.{Heads.{head_at}, Rows.{works}, QueuesStand.{list_of, keeps}, Registered.{Registered}}
 use Rattle.bd_todo.proofs.Rows.{work_is, count_dropped, none_dropped}
 use Rattle.bd_todo.proofs.table.WorkTable.remove_at.Goals as goal
 

@@ -1,11 +1,7 @@
 use Rattle.std.proofs.Common.{◌∙◌, sym, subst, IfSome}
-use Rattle.bd_space.specs.declared.space.Work.{Work}
-use Rattle.bd_space.specs.Words.{same_identity}
-use Rattle.bd_space.specs.Todo.{is_item, is_on}
-use Rattle.bd_todo.specs.Registered.{Registered}
-use Rattle.bd_todo.specs.QueuesStand.{IsFront, work_at}
-use Rattle.bd_todo.proofs.Fronts.{both_so}
-use Rattle.bd_todo.proofs.WorksStand.{only_goes}
+use Rattle.bd_space.specs.{declared.space.Work.{Work}, Words.{same_identity}, Todo.{is_item, is_on}}
+use Rattle.bd_todo.specs.{Registered.{Registered}, QueuesStand.{IsFront, work_at}}
+use Rattle.bd_todo.proofs.{Fronts.{both_so}, WorksStand.{only_goes}}
 use Rattle.bd_todo.proofs.table.WorkTable.remove_item.Goals as goal
 
 pub returns-in-Some-clause-stands : goal.returns-in-Some-clause-stands

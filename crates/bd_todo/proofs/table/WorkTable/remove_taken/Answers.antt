@@ -1,8 +1,5 @@
-use Rattle.std.proofs.Common.{◌∙◌, ap, arith, refl, subst, get_or}
-use Rattle.std.proofs.lemmas.List.{drop_more}
-use Rattle.bd_space.specs.declared.space.Work.{Work}
-use Rattle.bd_space.specs.declared.space.TodoList.TheVariants.{OfThread}
-use Rattle.bd_space.specs.declared.space.WorkKind.TheVariants.{Notice}
+use Rattle.std.proofs.{Common.{◌∙◌, ap, arith, refl, subst, get_or}, lemmas.List.{drop_more}}
+use Rattle.bd_space.specs.{declared.space.Work.{Work}, declared.space.TodoList.TheVariants.{OfThread}, declared.space.WorkKind.TheVariants.{Notice}}
 use Rattle.bd_space.specs.Todo.{without_taken}
 use Rattle.bd_todo.specs.Stands.{WorksAre}
 use Rattle.bd_todo.proofs.Fronts.{without_taken_cons, taken_all}

@@ -1,6 +1,5 @@
 use Rattle.std.proofs.Common.{◌≡◌, ◌≤◌, List, drop}
-use Rattle.bd_space.specs.declared.space.Work.{Work}
-use Rattle.bd_space.specs.Todo.{without_taken}
+use Rattle.bd_space.specs.{declared.space.Work.{Work}, Todo.{without_taken}}
 use Rattle.bd_todo.specs.Stands.{WorksAre, work_room}
 use Rattle.bd_todo.proofs.table.WorkTable.remove_taken.Given as goal
 

@@ -1,9 +1,7 @@
 use Rattle.std.proofs.Common.{◌≤◌, ◌+◌, ◌∙◌, not, filter, ap, sym, refl, subst, arith}
-use Rattle.bd_space.specs.declared.space.Work.{Work}
-use Rattle.bd_space.specs.Words.{is_some_and}
+use Rattle.bd_space.specs.{declared.space.Work.{Work}, Words.{is_some_and}}
 use Rattle.bd_todo.specs.Stands.{work_room}
-use Rattle.bd_todo.proofs.Sweeping.{Swept, seen_first, keys_below, swept_kept, swept_cut, swept_all}
-use Rattle.bd_todo.proofs.WorksStand.{rows_are, works_of}
+use Rattle.bd_todo.proofs.{Sweeping.{Swept, seen_first, keys_below, swept_kept, swept_cut, swept_all}, WorksStand.{rows_are, works_of}}
 use Rattle.bd_todo.proofs.table.WorkTable.retain.Goals.{in-Some+then-not-f, in-Some+else-not-f, in_default}
 use Rattle.bd_todo.proofs.table.WorkTable.retain.Goals as goal
 

@@ -1,12 +1,7 @@
 use Rattle.std.proofs.Common.{◌≡◌, ◌∙◌, sym, subst, rules, tests, not, true, IfSome, arith}
-use Rattle.bd_space.specs.declared.space.Work.{Work}
-use Rattle.bd_space.specs.Words.{is_some_and}
-use Rattle.bd_todo.specs.Registered.{Registered}
-use Rattle.bd_todo.specs.QueuesStand.{work_at}
-use Rattle.bd_todo.specs.Spots.{is_sought, count_at}
-use Rattle.bd_todo.specs.Stands.{WorksAre}
-use Rattle.bd_todo.proofs.OnList.{nothing_goes}
-use Rattle.bd_todo.proofs.WorksStand.{only_goes, has_sought_is}
+use Rattle.bd_space.specs.{declared.space.Work.{Work}, Words.{is_some_and}}
+use Rattle.bd_todo.specs.{Registered.{Registered}, QueuesStand.{work_at}, Spots.{is_sought, count_at}, Stands.{WorksAre}}
+use Rattle.bd_todo.proofs.{OnList.{nothing_goes}, WorksStand.{only_goes, has_sought_is}}
 use Rattle.bd_todo.proofs.table.WorkTable.withdraw.Goals as goal
 
 pub returns-then-has-clause-stands : goal.returns-then-has-clause-stands

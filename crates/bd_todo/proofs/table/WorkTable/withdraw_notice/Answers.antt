@@ -1,7 +1,6 @@
 use Rattle.std.proofs.Common.{ap, subst, not, filter, ◌∙◌}
 use Rattle.bd_space.specs.declared.space.Work.{Work}
-use Rattle.bd_todo.specs.Spots.{is_sought}
-use Rattle.bd_todo.specs.Stands.{WorksAre}
+use Rattle.bd_todo.specs.{Spots.{is_sought}, Stands.{WorksAre}}
 use Rattle.bd_todo.proofs.WorksStand.{notice_goes}
 use Rattle.bd_todo.proofs.table.WorkTable.withdraw_notice.Goals as goal
 

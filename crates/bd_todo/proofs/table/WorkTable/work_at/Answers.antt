@@ -1,8 +1,6 @@
-use Rattle.std.proofs.Common.{◌≡◌, Option, Some, None, List, refl, ◌∙◌}
+use Rattle.std.proofs.{Common.{◌≡◌, Option, Some, None, List, refl, ◌∙◌}, lemmas.Iterator.Consumers.{nth_from_yields_List, YieldsList-from_first}}
 use Rattle.std.specs.Option.{option_map}
-use Rattle.std.proofs.lemmas.Iterator.Consumers.{nth_from_yields_List, YieldsList-from_first}
-use Rattle.bd_space.specs.declared.space.Work.{Work}
-use Rattle.bd_space.specs.Todo.{work_on}
+use Rattle.bd_space.specs.{declared.space.Work.{Work}, Todo.{work_on}}
 use Rattle.bd_todo.proofs.table.WorkTable.work_at.Goals as goal
 
 as_it_is : {A : Type 0} (o : Option A) → o ≡ option_map (λ x. x) o

@@ -1,9 +1,6 @@
-use Rattle.std.proofs.Common.{false, ◌∙◌, sym, ap, map, length, subst, arith}
-use Rattle.std.proofs.lemmas.List.{length-map}
-use Rattle.bd_turns.specs.Entries.{by_window, mark_row}
-use Rattle.bd_turns.specs.Stands.{TurnsAre}
-use Rattle.bd_turns.proofs.Entries.{turn_of}
-use Rattle.bd_turns.proofs.Changes.{popped, emptied, none_left}
+use Rattle.std.proofs.{Common.{false, ◌∙◌, sym, ap, map, length, subst, arith}, lemmas.List.{length-map}}
+use Rattle.bd_turns.specs.{Entries.{by_window, mark_row}, Stands.{TurnsAre}}
+use Rattle.bd_turns.proofs.{Entries.{turn_of}, Changes.{popped, emptied, none_left}}
 use Rattle.bd_turns.proofs.table.TurnTable.pop_received.Goals as goal
 
 pub loop-preserved : goal.loop-preserved

@@ -1,7 +1,6 @@
 use Rattle.std.proofs.Common.{◌≡◌, ◌==◌, ◌≤◌, ◌+◌, not, List, length, filter}
 use Rattle.bd_space.specs.declared.space.Turn.{Turn}
-use Rattle.bd_turns.specs.Room.{Uses}
-use Rattle.bd_turns.specs.Stands.{TurnsAre}
+use Rattle.bd_turns.specs.{Room.{Uses}, Stands.{TurnsAre}}
 use Rattle.bd_turns.proofs.table.TurnTable.pop_received.Given as goal
 
 abbrev pub invariant-loop : goal.invariant-loop

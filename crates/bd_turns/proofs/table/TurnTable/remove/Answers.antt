@@ -1,10 +1,8 @@
 use Rattle.std.proofs.Common.{ℕ, false, refl, sym, ap, ◌∙◌, arith}
 use Rattle.std.specs.HashMap.{HashMap, spare}
 use Rattle.bd_chains.specs.Rows.{drop_key}
-use Rattle.bd_turns.specs.declared.spot.Spot.{Spot}
-use Rattle.bd_turns.specs.Entries.{by_object, by_window, same_object, same_window, object_number, window_number}
-use Rattle.bd_turns.specs.Spots.{spot_at}
-use Rattle.bd_turns.specs.Room.{turn_room, turn_count}
+use Rattle.bd_turns.specs.{declared.spot.Spot.{Spot}, Entries.{by_object, by_window, same_object, same_window, object_number, window_number}}
+use Rattle.bd_turns.specs.{Spots.{spot_at}, Room.{turn_room, turn_count}}
 use Rattle.bd_chains.proofs.Listing.{dropped_shows}
 use Rattle.bd_turns.proofs.Changes.{more_chains, more_room, turns_removed, turns_absent}
 use Rattle.bd_turns.proofs.table.TurnTable.remove.Goals as goal

@@ -1,9 +1,7 @@
 use Rattle.std.proofs.Common.{ℕ, ◌≤◌, ◌+◌, false, refl, arith}
-use Rattle.std.specs.Prelude.{min}
-use Rattle.std.specs.HashMap.{spare}
+use Rattle.std.specs.{Prelude.{min}, HashMap.{spare}}
 use Rattle.bd_chains.specs.Lists.{lists_room}
-use Rattle.bd_turns.specs.Entries.{by_window}
-use Rattle.bd_turns.specs.Room.{turn_room, turn_count}
+use Rattle.bd_turns.specs.{Entries.{by_window}, Room.{turn_room, turn_count}}
 use Rattle.bd_turns.proofs.Changes.{turns_kept}
 use Rattle.bd_turns.proofs.table.TurnTable.remove_received.Goals as goal
 
