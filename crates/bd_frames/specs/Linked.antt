@@ -1,9 +1,9 @@
 -- Each thread's frames as a stack: a bound of all of them, and from each a bound of the older ones.
-use Rattle.std.specs.{Prelude.{ℕ, ◌≡◌, ◌==◌, ◌≤◌, ◌<◌, nat_le, true, List, Option, Some, None, max, unwrap_or, if◌then◌else◌}, HashMap.{get_by}}
+use Rattle.std.specs.{Prelude.{ℕ, ◌≡◌, ◌==◌, ◌≤◌, ◌<◌, nat_le, true, List, Option, Some, None, max, nat_lt, get_or, length, unwrap_or, if◌then◌else◌}, HashMap.{get_by}}
 use Rattle.std.specs.List.{All}
 use Rattle.bd_ways.specs.Words.{is_some_and, Frame, Server, Serving}
 use Rattle.bd_space.specs.Frames.{calls, takes_part}
-use Rattle.bd_frames.specs.{declared.frame.Row.{Row}, declared.stacks.Stacks.{Stacks}, Places.{place}}
+use Rattle.bd_frames.specs.{declared.stacks.Bounds.{Bounds}, declared.frame.Row.{Row}, declared.stacks.Stacks.{Stacks}, Places.{place}}
 
 -- the bound of the older frames of a thread that takes part
 abbrev pub below_of : ℕ → Row → Option ℕ
@@ -27,9 +27,12 @@ abbrev pub IsStack : ℕ → Option ℕ → List Row → Type 0
 IsStack seat None rows = Unit {0}
 IsStack seat (Some bound) rows = All (IsLinked seat bound rows) rows
 
--- the thread's own bound, else that of all who have none of their own
+-- the seat's own bound, else that of all who have none of their own
+abbrev pub bound_in : Bounds → ℕ → Option ℕ
+bound_in b seat = unwrap_or (get_by (λ k. seat == k) b.own) b.rest
+
 abbrev pub top_in : Stacks → ℕ → Option ℕ
-top_in s seat = unwrap_or (get_by (λ k. seat == k) s.tops) s.rest
+top_in s seat = if nat_lt seat (length s.tops) then get_or s.tops seat None else bound_in s.others seat
 
 abbrev pub AreStacks : Stacks → List Row → Type 0
 AreStacks s rows = (seat : ℕ) → IsStack seat (top_in s seat) rows

@@ -1,6 +1,6 @@
 //! Each thread's frames as a stack, linked by bounds: places after which the next older one wasn't made.
 
-ghost use Rattle.std.specs.Prelude.{ℕ, List, Some, [], ◌≡◌, ◌==◌, ◌<◌, ◌^◌, Contains, filter, not, if◌then◌else◌};
+ghost use Rattle.std.specs.Prelude.{ℕ, List, Some, [], ◌≡◌, ◌==◌, ◌<◌, ◌^◌, false, Contains, filter, not, if◌then◌else◌};
 ghost use Rattle.std.specs.Option.{option_and_then};
 ghost use Rattle.bd_space.specs.Words.{is_some_and};
 ghost use Rattle.bd_frames.specs.declared.frame.Row as declared;
@@ -10,17 +10,28 @@ ghost use Rattle.bd_frames.specs.Linked.{AreStacks, Covers, IsStack, top_in, put
 
 use crate::frame::{Row, below_of, other_server};
 use bd_keys::insert_reserved;
+use bd_uapi::MOST_SEATS;
 use std::alloc::Global;
 use std::collections::HashMap;
 
-/// The stacks of all threads.
+// As many seats as a driver has.
+const SEATS: usize = MOST_SEATS as usize;
+
+/// Bounds of stacks by seat, wherever the seat is.
 #[derive(Debug, Drop)]
-pub struct Stacks {
-    // By seat: a bound of all frames of its thread. Where there is none nothing is known of the stack, and all frames are
-    // looked through: so it is of a thread that served a frame below its innermost one.
-    pub(crate) tops: HashMap<u32, Option<u32>>,
+pub struct Bounds {
+    pub(crate) own: HashMap<u32, Option<u32>>,
     // The bound of all threads that have none of their own: they have no frames, unless memory for a bound was refused.
     pub(crate) rest: Option<u32>,
+}
+
+/// The stacks of all threads: by seat, a bound of all frames of its thread. Where there is none nothing is known of the stack,
+/// and all frames are looked through: so it is of a thread that served a frame below its innermost one.
+#[derive(Debug, Drop)]
+pub struct Stacks {
+    // Of the seats that a driver has: most looks are at these, and take no hash.
+    pub(crate) tops: [Option<u32>; SEATS],
+    pub(crate) others: Bounds,
 }
 
 // A bound of what either bounds.
@@ -40,13 +51,56 @@ fn raised(bound: Option<u32>, made: u32) -> Option<u32>
     }
 }
 
+impl Bounds {
+    ghost use Rattle.bd_frames.specs.Linked.{bound_in};
+
+    fn new(alloc: Global) -> Bounds
+        ensures { (s : ℕ) → bound_in result s ≡ Some 0 }
+    {
+        Bounds {
+            own: HashMap::new(alloc),
+            rest: Some(0),
+        }
+    }
+
+    fn reserve(&mut self, more: usize)
+        ensures { (s : ℕ) → bound_in self.new s ≡ bound_in self.old s }
+    {
+        let _refused = self.own.reserve(more);
+    }
+
+    fn of(&self, seat: u32) -> Option<u32>
+        ensures { result ≡ bound_in self.now seat }
+    {
+        self.own.get(&seat).copied().unwrap_or(self.rest)
+    }
+
+    // This is the bound of the thread from now on, or, without memory for it, one of all that have none of their own.
+    fn set(&mut self, seat: u32, bound: Option<u32>)
+        ensures { (s : ℕ) → Covers (if seat == s then bound else bound_in self.old s) (bound_in self.new s) }
+    {
+        if self.own.len() < self.own.capacity() {
+            insert_reserved(&mut self.own, seat, bound);
+        } else {
+            let _gone = self.own.remove(&seat);
+            self.rest = wider(self.rest, bound);
+        }
+    }
+
+    fn remove(&mut self, seat: u32)
+        ensures { (s : ℕ) → (seat == s) ≡ false → bound_in self.new s ≡ bound_in self.old s }
+    {
+        let _gone = self.own.remove(&seat);
+    }
+}
+
 impl Stacks {
     pub(crate) fn new(alloc: Global) -> Stacks
         ensures { AreStacks result [] }
     {
         Stacks {
-            tops: HashMap::new(alloc),
-            rest: Some(0),
+            tops: [Some(0); SEATS],
+            others: Bounds::new(alloc),
         }
     }
 
@@ -54,24 +108,27 @@ impl Stacks {
     pub(crate) fn reserve(&mut self, more: usize)
         ensures { (s : ℕ) → top_in self.new s ≡ top_in self.old s }
     {
-        let _refused = self.tops.reserve(more);
+        self.others.reserve(more);
     }
 
     pub(crate) fn top_of(&self, seat: u32) -> Option<u32>
         ensures { result ≡ top_in self.now seat }
     {
-        self.tops.get(&seat).copied().unwrap_or(self.rest)
+        if (seat as usize) < self.tops.len() {
+            self.tops[seat as usize]
+        } else {
+            self.others.of(seat)
+        }
     }
 
-    // This is the bound of the thread from now on, or, without memory for it, one of all that have none of their own.
+    // This is the bound of the thread from now on, or one that covers it.
     fn set(&mut self, seat: u32, top: Option<u32>)
         ensures { (s : ℕ) → Covers (if seat == s then top else top_in self.old s) (top_in self.new s) }
     {
-        if self.tops.len() < self.tops.capacity() {
-            insert_reserved(&mut self.tops, seat, top);
+        if (seat as usize) < self.tops.len() {
+            self.tops[seat as usize] = top;
         } else {
-            let _gone = self.tops.remove(&seat);
-            self.rest = wider(self.rest, top);
+            self.others.set(seat, top);
         }
     }
 
@@ -112,8 +169,12 @@ impl Stacks {
 
     /// The thread is gone from all frames.
     pub(crate) fn forget(&mut self, seat: u32)
-        ensures { (s : ℕ) → top_in self.new s ≡ (if seat == s then self.old.rest else top_in self.old s) }
+        ensures { (s : ℕ) → (seat == s) ≡ false → top_in self.new s ≡ top_in self.old s }
     {
-        let _gone = self.tops.remove(&seat);
+        if (seat as usize) < self.tops.len() {
+            self.tops[seat as usize] = Some(0);
+        } else {
+            self.others.remove(seat);
+        }
     }
 }

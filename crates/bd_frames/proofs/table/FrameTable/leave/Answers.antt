@@ -12,10 +12,11 @@ gone seat (Some b) rs =
     All-map (IsLinked seat b (map (left_row seat) rs)) (left_row seat) rs
     (λ k d lt part. let no = sym part ∙ left_gone seat (get_or rs k d).frame in absurd (cc no))
 
-forgotten : (seat s : ℕ) (rest top : Option ℕ) (rs : List Row) → IsStack s top rs → (b : Bool) → (seat == s) ≡ b
-    → IsStack s (cond b rest top) (map (left_row seat) rs)
-forgotten seat s rest top rs st true e = rw (eqb-true seat s e) (gone s rest rs)
-forgotten seat s rest top rs st false e = mapped s rs (left_row seat) (left_keeps seat s e) top st
+forgotten : (seat s : ℕ) (top now : Option ℕ) (rs : List Row) → IsStack s top rs → ((seat == s) ≡ false → now ≡ top) → (b : Bool) → (seat == s) ≡ b
+    → IsStack s now (map (left_row seat) rs)
+forgotten seat s top now rs st others true e = rw (eqb-true seat s e) (gone s now rs)
+forgotten seat s top now rs st others false e =
+    subst (λ (o : Option ℕ). IsStack s o (map (left_row seat) rs)) (sym (others e)) (mapped s rs (left_row seat) (left_keeps seat s e) top st)
 
 pub returns-clause-stands : goal.returns-clause-stands
 returns-clause-stands c = λ l h.
@@ -24,5 +25,4 @@ returns-clause-stands c = λ l h.
     let seat = c.args.seat in
     all_changed t l h _ (left_frame seat) (left_row seat) (λ x. (refl, refl)) (λ r. refl) (λ r. refl)
     (c.leave_down.ensures.rows (own_rising t l h) (own_stack t l h seat _ c.top_of-top.ensures))
-    (λ s. subst (λ (o : Option ℕ). IsStack s o (map (left_row seat) rs)) (sym (c.forget.ensures s))
-    (forgotten seat s t.stacks.rest (top_in t.stacks s) rs (h.stacks_are s) (seat == s) refl))
+    (λ s. forgotten seat s (top_in t.stacks s) (top_in c.forget.new.self s) rs (h.stacks_are s) (c.forget.ensures s) (seat == s) refl)
