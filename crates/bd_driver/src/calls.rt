@@ -18,6 +18,8 @@ use bd_space::Request;
 impl Driver {
     ghost use Rattle.bd_driver.specs.Driver.{LooksOnce, Takes, Follows, Gives, Calls};
 
+    // Put into its callers, as all that it calls down to the step: an answer is then written where its reader keeps it, and not
+    // moved from frame to frame.
     /// Runs a request, if the engine is free.
     ///
     /// One take is made (`calls`: `one_take`), and where it finds the engine one publish and one put (`page`). Taken is
@@ -29,8 +31,6 @@ impl Driver {
     /// place left and the engine answers so, which it does where a growth was refused; with neither where the request
     /// has no entry. What the seat has then seen begins with what it had seen (`begins`). After the call it holds
     /// nothing. Taken takes no memory.
-    // Put into its callers, as all that it calls down to the step: an answer is then written where its reader keeps it, and not
-    // moved from frame to frame.
     #[inline(always)]
     pub fn call(&self, seat: &mut Seat, request: Request) -> Outcome
         requires table { seat.old.table ≡ self.now.table }

@@ -91,9 +91,9 @@ impl ThreadTable {
     {
         self.remove(thread.seat);
         let row = self.rows.len();
-        // There is room.
-        if self.places.insert(thread.seat, row).is_ok() {
-            self.rows.push_reserved(Some(thread));
+        match self.places.insert(thread.seat, row) {
+            Ok(_) => self.rows.push_reserved(Some(thread)),
+            Err(_) => unreachable!(),
         }
     }
 

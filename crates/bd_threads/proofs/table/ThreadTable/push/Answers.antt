@@ -24,7 +24,7 @@ invariant_of-self c =
     let rows = t.rows.items in
     let one = c.args.thread in
     let items = c.push_reserved.ensures.items in
-    let ok = sym c.is_ok.ensures.value ∙ c.if-is_ok.true in
+    let ok = ap is_ok c.in-Ok.is in
     let none = unplaced t one.seat
     (ap (λ ts. thread_in ts one.seat) c.remove.ensures.listed ∙ find_gone seat_of one.seat (listed c.args.self.now)) in
     let at : c.len-row.result ≡ length rows = omega (arith, c.len-row.ensures, t.rows.ok) in
@@ -37,7 +37,7 @@ invariant_of-self c =
       left = omega (arith, len, t.left, ap length (more rows _ one items), length_push (live rows) one);
     }
 
-pub returns-then-is_ok-clause-listed : goal.returns-then-is_ok-clause-listed
-returns-then-is_ok-clause-listed c =
+pub returns-clause-listed : goal.returns-clause-listed
+returns-clause-listed c =
     more c.remove.new.self.rows.items _ c.args.thread c.push_reserved.ensures.items
     ∙ ap (λ ts. ts ++ c.args.thread ∷ []) c.remove.ensures.listed
