@@ -79,12 +79,13 @@ typedef struct {
 #define HULLPIPPIN_NO_LIVE ((hullpippin_live){ NULL })
 #endif
 
-/* Where a buffer of no bytes may be, and one of no numbers; NULL does as well. */
+/* Where a buffer of no bytes may be, one of no numbers, and one of no places; NULL does as well. */
 #define HULLPIPPIN_NOWHERE ((uint8_t *)1)
 #define HULLPIPPIN_NO_NUMBERS ((uint32_t *)4)
+#define HULLPIPPIN_NO_PLACES ((uint64_t *)8)
 
-/* The version of this header, a byte for each of its numbers: 1.0.0. */
-#define HULLPIPPIN_VERSION 0x010000
+/* The version of this header, a byte for each of its numbers: 2.0.0. */
+#define HULLPIPPIN_VERSION 0x020000
 
 /* Whether a call was made. With every number but 0 nothing was done, and nothing was written to what the call fills. */
 enum {
@@ -222,8 +223,8 @@ enum {
 /* What a request came to. What a field doesn't apply to has 0 there. */
 typedef struct {
     uint32_t kind;     /* HULLPIPPIN_HANDED .. HULLPIPPIN_BACK */
-    uint32_t from;     /* the place of its first step in the history */
-    uint32_t to;       /* the place behind its last */
+    uint64_t from;     /* the place of its first step in the history; a driver's are below 4294967295 */
+    uint64_t to;       /* the place behind its last */
     uint32_t consumed; /* wrote: write_consumed, how many bytes of the stream were run */
     size_t notes;      /* wrote: how many of the commands changed nothing, each with a note */
     uint32_t stop;     /* wrote: HULLPIPPIN_AT_END .. HULLPIPPIN_AT_CAUSE */
@@ -259,8 +260,8 @@ typedef struct {
 
 /* What is said of a journal. */
 typedef struct {
-    bool lawful;    /* whether its entries are a history */
-    size_t entries; /* how many of them are one, from the first on: all of them where it is lawful */
+    bool lawful;    /* whether each of its entries follows from those before: up to 4294967295 of them are a history then */
+    size_t entries; /* how many do, from the first on: all of them where it is lawful */
 } hullpippin_verdict_on;
 
 /* No place of a step: none has so many before it. */
@@ -427,7 +428,7 @@ uint32_t hullpippin_withdraw(hullpippin_seat *seat, hullpippin_answer *answer);
  * buffers, however many steps were made. One handle is for all seats, which the calls name by their numbers, from 0;
  * it is used by one thread at a time, as any handle. A step makes one entry of the history, and the engine has only
  * the latest: fetch its bytes with hullpippin_live_entry and append them to a file, and that file is a journal. There
- * are at most 4294967295 steps.
+ * are at most 18446744073709551615 steps, so places of them have 64 bits, and a device doesn't see their end.
  *
  * Each step answers as the seat's request of that name does, and fills `answer` where it is DONE: one step, so `to`
  * is `from` and 1. Also NO_SUCH_SEAT, HISTORY_FULL, NO_MEMORY.
@@ -473,15 +474,15 @@ uint32_t hullpippin_live_exit_process(hullpippin_live *live, uint32_t seat, hull
 bool hullpippin_live_ready(hullpippin_live *live, uint32_t seat);
 
 /* How many steps were made. Takes no memory. */
-uint32_t hullpippin_live_len(hullpippin_live *live);
+uint64_t hullpippin_live_len(hullpippin_live *live);
 
 /* Copies where the buffers were made that ended by the latest step, each the place of its step in the history, oldest
-   first, to `out` if all of them fit in `room` numbers, and else nothing. Answers how many there are, 0 where no step
+   first, to `out` if all of them fit in `room` places, and else nothing. Answers how many there are, 0 where no step
    was made yet; they stay until the next step that is DONE. A buffer has ended where one made there lived before the
    step and none does after it, so a bridge may take back its memory. Only a BC_FREE_BUFFER and the exits end buffers,
    and only they take time for it: a BC_FREE_BUFFER looks for one, an exit looks through those of its own process.
    Takes no memory. */
-size_t hullpippin_live_ended(hullpippin_live *live, uint32_t *out, size_t room);
+size_t hullpippin_live_ended(hullpippin_live *live, uint64_t *out, size_t room);
 
 /* Looks whether each of `count` seats has something to read, and notes it. Tells in `changed` for how many of them that
    differs from what was noted when the seat was last looked at by this function; at first no seat has anything to
@@ -499,7 +500,7 @@ size_t hullpippin_live_changed(hullpippin_live *live, uint32_t *out, size_t room
 /* A list of what is to be read: that of a thread, which it alone reads, or that of a process. */
 typedef struct {
     uint32_t kind;   /* HULLPIPPIN_LIST_OF_THREAD .. */
-    uint32_t number; /* of a thread: its seat; of a process: the place of its open; any list: 0 */
+    uint64_t number; /* of a thread: its seat; of a process: the place of its open; any list: 0 */
 } hullpippin_todo_list;
 
 /* A list: its kind. */
@@ -532,10 +533,11 @@ size_t hullpippin_live_bytes(hullpippin_live *live, uint32_t part, uint8_t *out,
 uint32_t hullpippin_live_entry(hullpippin_live *live, uint8_t *out, size_t room, size_t *size);
 
 /* The same for what a journal of `count` entries begins with, 16 bytes, or 20 where there are more than 31 seats. Where
-   the entries are still to come, begin the file with the heading of 4294967295 entries, and write the right one over
-   it at the end, or `count` alone into the four bytes from byte 12, little-endian. Until then no reader takes it for
-   a journal. */
-uint32_t hullpippin_live_heading(hullpippin_live *live, uint32_t count, uint8_t *out, size_t room, size_t *size);
+   the entries are still to come, begin the file with the heading of 4294967295 entries, of UINT64_MAX where there are
+   more than 31 seats, and write the right one over it at the end, or `count` alone from byte 12 on, little-endian, into
+   four bytes, or eight where there are more than 31 seats. Until then no reader takes it for a journal. NO_JOURNAL:
+   there are 31 seats or fewer and more than 4294967295 entries, which no journal of so few seats counts. */
+uint32_t hullpippin_live_heading(hullpippin_live *live, uint64_t count, uint8_t *out, size_t room, size_t *size);
 
 /* Lets go of a live engine, and empties the handle. Does nothing where it is empty. */
 void hullpippin_free_live(hullpippin_live *live);
@@ -549,13 +551,13 @@ void hullpippin_free_live(hullpippin_live *live);
 
 /* An object's identity. */
 typedef struct {
-    uint32_t place; /* the place of the step that made it */
+    uint64_t place; /* the place of the step that made it */
     uint32_t index; /* which of that step's objects it is, from 0 */
 } hullpippin_object_id;
 
 /* A live process. */
 typedef struct {
-    uint32_t made;       /* the place of its open, by which it is named */
+    uint64_t made;       /* the place of its open, by which it is named */
     uint32_t pid;        /* its pid */
     uint32_t euid;       /* its effective user id */
     uint32_t window;     /* the size of its window in bytes */
@@ -564,14 +566,14 @@ typedef struct {
 
 /* The live thread of a seat. */
 typedef struct {
-    uint32_t made;    /* the place of its open or attach */
-    uint32_t process; /* its process */
+    uint64_t made;    /* the place of its open or attach */
+    uint64_t process; /* its process */
     bool looping;     /* it has entered the loop */
 } hullpippin_thread;
 
 /* An object. */
 typedef struct {
-    uint32_t owner;   /* the process that owns it, live or not */
+    uint64_t owner;   /* the process that owns it, live or not */
     uint64_t ptr;     /* by which its owner knows it */
     uint64_t cookie;  /* what its owner gave with it */
     bool told_weak;   /* its owner was told that it is referred to */
@@ -580,8 +582,8 @@ typedef struct {
 
 /* A live buffer. */
 typedef struct {
-    uint32_t receiver; /* the process whose window it lies in */
-    uint32_t sender;   /* the process that sent it, live or not */
+    uint64_t receiver; /* the process whose window it lies in */
+    uint64_t sender;   /* the process that sent it, live or not */
     uint32_t start;    /* where it begins in the window */
     uint32_t size;     /* how much of the window it takes */
     uint32_t code;     /* as written */
@@ -597,13 +599,13 @@ typedef struct {
 
 /* The innermost open call that a thread is in. */
 typedef struct {
-    uint32_t made; /* the place of its transaction */
+    uint64_t made; /* the place of its transaction */
     bool serves;   /* the thread serves it, and else made it */
 } hullpippin_frame;
 
 /* A death notification. */
 typedef struct {
-    uint32_t process;            /* the process that asked for it */
+    uint64_t process;            /* the process that asked for it */
     hullpippin_object_id object; /* the object whose owner's death is told */
     uint64_t cookie;             /* what the process gave with it */
     uint32_t phase;              /* HULLPIPPIN_ARMED .. */
@@ -620,13 +622,13 @@ enum {
 
 /* What is still to be read. */
 typedef struct {
-    uint32_t place; /* the place of the step that made it */
+    uint64_t place; /* the place of the step that made it */
     uint64_t index; /* which of that step's it is, from 0 */
     uint32_t kind;  /* HULLPIPPIN_NOTICE .. */
     hullpippin_object_id object; /* notice: whose references have changed */
     bool spam;       /* completion: it is read as BR_ONEWAY_SPAM_SUSPECT */
     uint32_t code;   /* refusal, verdict: the code of the return */
-    uint32_t made;   /* call, reply: the buffer; death: the notification */
+    uint64_t made;   /* call, reply: the buffer; death: the notification */
     uint64_t cookie; /* cleared: the notification's */
 } hullpippin_work;
 
@@ -643,10 +645,10 @@ enum {
 };
 
 /* The live process that was opened at this place. */
-bool hullpippin_live_process(hullpippin_live *live, uint32_t made, hullpippin_process *process);
+bool hullpippin_live_process(hullpippin_live *live, uint64_t made, hullpippin_process *process);
 
 /* The live process with this pid: the place of its open. */
-bool hullpippin_live_process_of_pid(hullpippin_live *live, uint32_t pid, uint32_t *made);
+bool hullpippin_live_process_of_pid(hullpippin_live *live, uint32_t pid, uint64_t *made);
 
 /* The live thread of a seat. */
 bool hullpippin_live_thread(hullpippin_live *live, uint32_t seat, hullpippin_thread *thread);
@@ -655,40 +657,40 @@ bool hullpippin_live_thread(hullpippin_live *live, uint32_t seat, hullpippin_thr
 bool hullpippin_live_manager_object(hullpippin_live *live, hullpippin_object_id *object);
 
 /* An object, by its identity. */
-bool hullpippin_live_object(hullpippin_live *live, uint32_t place, uint32_t index, hullpippin_object *object);
+bool hullpippin_live_object(hullpippin_live *live, uint64_t place, uint32_t index, hullpippin_object *object);
 
 /* The object that a handle names for the live process with this pid. */
 bool hullpippin_live_named(hullpippin_live *live, uint32_t pid, uint32_t handle, hullpippin_object_id *object);
 
 /* The live buffer that was made at this place. */
-bool hullpippin_live_buffer(hullpippin_live *live, uint32_t made, hullpippin_buffer *buffer);
+bool hullpippin_live_buffer(hullpippin_live *live, uint64_t made, hullpippin_buffer *buffer);
 
 /* The object of an index, from 0, among those that the live buffer made at this place carries: one for each object of its parcel, in
    their order. It goes along them from the first. */
-bool hullpippin_live_carried(hullpippin_live *live, uint32_t made, size_t index, hullpippin_object_id *object);
+bool hullpippin_live_carried(hullpippin_live *live, uint64_t made, size_t index, hullpippin_object_id *object);
 
 /* The item of an index, from 0, on the list of a seat's thread: what it is to read, oldest first. It goes along them from the first. */
 bool hullpippin_live_unread_of_thread(hullpippin_live *live, uint32_t seat, size_t index, hullpippin_work *work);
 
 /* The same on the list of a process, which any of its threads reads that is in the loop. */
-bool hullpippin_live_unread_of_process(hullpippin_live *live, uint32_t process, size_t index, hullpippin_work *work);
+bool hullpippin_live_unread_of_process(hullpippin_live *live, uint64_t process, size_t index, hullpippin_work *work);
 
 /* The innermost open call that a seat's thread is in. */
 bool hullpippin_live_innermost(hullpippin_live *live, uint32_t seat, hullpippin_frame *frame);
 
 /* The death notification that was asked for at this place. */
-bool hullpippin_live_death(hullpippin_live *live, uint32_t made, hullpippin_death *death);
+bool hullpippin_live_death(hullpippin_live *live, uint64_t made, hullpippin_death *death);
 
 /* The first live process that was opened at the place `from` or behind it: the place of its open. To go through all that there are,
    begin with 0, and go on with one more than was told; the same goes for the two looks that follow. */
-bool hullpippin_live_next_process(hullpippin_live *live, uint32_t from, uint32_t *place);
+bool hullpippin_live_next_process(hullpippin_live *live, uint64_t from, uint64_t *place);
 
 /* The least handle, `from` or above it, that names something for the live process with this pid. Where `from` itself names nothing, it
    looks at each handle that is noted for the process, those of names that are gone too until room for more is made. */
 bool hullpippin_live_next_handle(hullpippin_live *live, uint32_t pid, uint32_t from, uint32_t *handle);
 
 /* The first live buffer of a process, named by the place of its open, that was made at the place `from` or behind it: where it was made. */
-bool hullpippin_live_next_buffer(hullpippin_live *live, uint32_t process, uint32_t from, uint32_t *made);
+bool hullpippin_live_next_buffer(hullpippin_live *live, uint64_t process, uint64_t from, uint64_t *made);
 
 /*
  * Commands, returns and parcels as bytes (docs/FORMATS.md): they are read and spelled exactly as the engine does it. These

@@ -3,11 +3,10 @@
 use Rattle.bd_laws.proofs.words.Logic.{◌≡◌, ◌≤◌, ◌<◌, ◌+◌, ℕ, Bool, true, false, ◌||◌, List, [], ◌∷◌, ◌++◌, length, take, drop, get_or, Some, refl, ap, sym, ◌∙◌, subst, arith, length-append, nat_lt, nat_le, list_all, lt-leb, take-append-drop, take_all, take_more}
 use Rattle.bd_laws.proofs.words.Types.{Entry, StepAnswer, Step}
 use Rattle.bd_laws.proofs.words.Space.{Space, opening, step, History, IsHistory, EntryFollows, Follows, after, next, space_after, is_at_limit}
+use Rattle.bd_space.specs.Histories.{IsLawful, is_at_end}
 use Rattle.bd_engine.specs.StepError.{StepError}
-use Rattle.bd_engine.specs.StepError.TheVariants as why
 use Rattle.bd_engine.specs.Refusals.{FullOnly}
 use Rattle.bd_audit.specs.declared.judging.AuditFault.{AuditFault}
-use Rattle.bd_audit.specs.declared.judging.AuditFault.TheVariants.{Unlawful, NoMemory}
 use Rattle.bd_audit.specs.declared.judge.Judge.{Judge}
 use Rattle.bd_audit.specs.Judging.{HasJudged}
 use Rattle.bd_audit.specs.Replays.{with_entry, beginning, IsEntryAt, IfUnlawful, fault_of}
@@ -73,18 +72,38 @@ pub refused : (h : History) (e : Entry) (at : ℕ) (w : StepError) (x : Step) (f
     → IfUnlawful f (λ at. IsHistory (with_entry h e) → ⊥)
 refused h e at w x f is same_step full = search (arith, past_limit)
 
--- An engine refuses an entry's step as unlawful only at the place where the history ends, and the entry doesn't continue it.
-pub refused_here : (h : History) (e : Entry) (at : ℕ) (w : StepError) (x : Step) (f : AuditFault) → f ≡ fault_of w at → x ≡ e.step → FullOnly w (is_at_limit h e.seat (Some x) ≡ true) → at ≡ length h.entries
-    → IfUnlawful f (λ n. (n ≡ length h.entries) × (IsHistory (with_entry h e) → ⊥))
-refused_here h e at w x f is same_step full so_long = by f is (refused h e at w x f is same_step full)
-  where
-    named : (n : ℕ) (w : StepError) → Unlawful n ≡ fault_of w at → n ≡ at
-    named n why.HistoryFull is = cc
-    named n why.NoMemory is = absurd cc
+-- ---- what is lawful
 
-    by : (f : AuditFault) → f ≡ fault_of w at → IfUnlawful f (λ n. IsHistory (with_entry h e) → ⊥) → IfUnlawful f (λ n. (n ≡ length h.entries) × (IsHistory (with_entry h e) → ⊥))
-    by (Unlawful n) is stops = (named n w is ∙ so_long, stops)
-    by NoMemory is stops = tt
+lawful_front : (n : ℕ) (es fs : List Entry) → IsLawful (record { seats = n; entries = es ++ fs }) → IsLawful (record { seats = n; entries = es })
+lawful_front n es fs h = record {
+  short = let l = length-append es fs in omega (arith, l, h.short);
+  seats = (all_parts (λ e. nat_lt e.seat n) es fs h.seats).0;
+  follows = follows_front opening es fs h.follows;
+}
+
+pub take_lawful : (n : ℕ) (h : History) → IsLawful h → IsLawful (beginning n h)
+take_lawful n h k = lawful_front h.seats (take n h.entries) (drop n h.entries) (subst (λ es. IsLawful (record { seats = h.seats; entries = es })) (sym (take-append-drop n h.entries)) k)
+
+-- what the last entry of a lawful history has to meet
+pub last_lawful : (h : History) (e : Entry) → IsLawful (with_entry h e) → (length h.entries < 18446744073709551615) × (nat_lt e.seat h.seats ≡ true) × EntryFollows (after opening h.entries) e
+last_lawful h e k = (
+  (let l = length-append h.entries (e ∷ []) in omega (arith, l, k.short)),
+  (both (nat_lt e.seat h.seats) true (all_parts (λ (x : Entry). nat_lt x.seat h.seats) h.entries (e ∷ []) k.seats).1).0,
+  (follows_rest opening h.entries (e ∷ []) k.follows).0,
+)
+
+pub no_such_answer : (h : History) (e : Entry) (a : StepAnswer) → a ≡ (step (space_after h) e.seat e.step).answer → (a ≡ e.answer → ⊥) → IsLawful (with_entry h e) → ⊥
+unfolding space_after
+no_such_answer h e a is not k = not (is ∙ (last_lawful h e k).2.answer)
+
+pub past_end : (h : History) (e : Entry) → is_at_end h e.seat (Some e.step) ≡ true → IsLawful (with_entry h e) → ⊥
+unfolding space_after is_at_end
+past_end h e limit k =
+    let l = last_lawful h e k in
+    let room : nat_le 18446744073709551615 (length h.entries) ≡ false = lt-leb _ _ l.0 in
+    let past = either_case _ _ limit room in
+    let fits = l.2.numbers in
+    absurd (cc)
 
 -- ---- places
 

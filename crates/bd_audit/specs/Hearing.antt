@@ -1,6 +1,6 @@
 -- What an owner hears of one of its objects, and what it acknowledges.
 use Rattle.std.specs.Prelude.{ℕ, zero, suc, ◌-◌, ◌≡◌, ◌&&◌, ◌==◌, ◌≤◌, ◌⊎◌, Bool, true, false, List, [], ◌∷◌, ◌++◌, Option, Some, None, length, find, filter, if◌then◌else◌, filter_map}
-use Rattle.bd_ways.specs.Words.{list_any, list_all, beq, Return, ObjectId, Entry, Step, StepAnswer, Actor, Work, same, is_some_and, Space}
+use Rattle.bd_ways.specs.Words.{list_any, list_all, beq, Return, Identity, Entry, Step, StepAnswer, Actor, Work, same, is_some_and, Space}
 use Rattle.bd_uapi.specs.declared.command.Command as command
 use Rattle.bd_uapi.specs.declared.command.Command.TheVariants as bc
 use Rattle.bd_uapi.specs.declared.command.Return.TheVariants as br
@@ -34,16 +34,16 @@ event_of (br.Decrefs ptr cookie) = Some decrefs
 event_of _ = None
 
 -- what these items tell of the object, in the order in which they are read
-abbrev pub heard_in : Space → ObjectId → List Work → List Event
+abbrev pub heard_in : Space → Identity → List Work → List Event
 heard_in s o [] = []
 heard_in s o (w ∷ ws) = (if is_notice o w.kind then filter_map event_of (returns_of s w.kind) else []) ++ heard_in s o ws
 
 -- p's object with this ptr and cookie is this one
-abbrev pub names_own : Space → ObjectId → ℕ → ℕ → ℕ → Bool
+abbrev pub names_own : Space → Identity → ℕ → ℕ → ℕ → Bool
 names_own s o p ptr cookie = is_some_and (find (λ x. (x.owner == p) && (x.ptr == ptr) && (x.cookie == cookie)) s.objects) (λ x. same x.id o)
 
 -- what this command of p's acknowledges of the object
-abbrev pub acknowledged : Space → ObjectId → ℕ → command.Command → List Event
+abbrev pub acknowledged : Space → Identity → ℕ → command.Command → List Event
 acknowledged s o p (bc.IncrefsDone ptr cookie) = if names_own s o p ptr cookie then (increfs_done ∷ []) else []
 acknowledged s o p (bc.AcquireDone ptr cookie) = if names_own s o p ptr cookie then (acquire_done ∷ []) else []
 acknowledged s o p _ = []
@@ -57,20 +57,20 @@ is_accepted Accepted = true
 is_accepted _ = false
 
 -- the events of a step with this answer
-abbrev pub heard_by : Space → ObjectId → Actor → Step → StepAnswer → List Event
+abbrev pub heard_by : Space → Identity → Actor → Step → StepAnswer → List Event
 heard_by s o a (Read limit) answer = if is_got answer then heard_in s o (taken s (limit - 4) (list_to_read s a.thread)) else []
 heard_by s o a (Command c parcel) answer = if is_accepted answer then acknowledged s o a.process.made c else []
 heard_by s o a _ answer = []
 
-abbrev pub heard_at : Space → ObjectId → Entry → List Event
+abbrev pub heard_at : Space → Identity → Entry → List Event
 heard_at s o e = elim (actor s e.seat) [ None ↦ [] | Some a ↦ heard_by s o a e.step e.answer ]
 
-abbrev pub heard_from : Space → ObjectId → List Entry → List Event
+abbrev pub heard_from : Space → Identity → List Entry → List Event
 heard_from s o [] = []
 heard_from s o (e ∷ es) = heard_at s o e ++ heard_from (next s e) o es
 
 -- what is heard and acknowledged of the object, in the order of the history
-unfoldable pub heard_of : ObjectId → History → List Event
+unfoldable pub heard_of : Identity → History → List Event
 heard_of o h = heard_from opening o h.entries
 
 -- ---- the order of these events
@@ -116,17 +116,17 @@ pub record InOrder (es : List Event) : Type 0 where
 
 -- Of every object in every history, what its owner hears and acknowledges is in this order.
 abbrev pub OwnersHearInOrder : Type 0
-OwnersHearInOrder = (h : History) → IsHistory h → (o : ObjectId) → InOrder (heard_of o h)
+OwnersHearInOrder = (h : History) → IsHistory h → (o : Identity) → InOrder (heard_of o h)
 
 -- ---- who hears
 
 -- the step is one of the object's owner's threads
-abbrev pub is_by_owner : Space → ObjectId → Entry → Bool
+abbrev pub is_by_owner : Space → Identity → Entry → Bool
 is_by_owner s o e = is_some_and (actor s e.seat) (λ a. owned_in s.objects a.process.made o)
 
 -- of the events of an object each is by its owner
 abbrev pub OnlyOwnersHear : Type 0
-OnlyOwnersHear = (h : History) → IsHistory h → (o : ObjectId) (front back : List Entry) (e : Entry) → h.entries ≡ front ++ e ∷ back
+OnlyOwnersHear = (h : History) → IsHistory h → (o : Identity) (front back : List Entry) (e : Entry) → h.entries ≡ front ++ e ∷ back
     → (heard_at (after opening front) o e ≡ []) ⊎ (is_by_owner (after opening front) o e ≡ true)
 
 -- ---- what is to be heard
@@ -135,4 +135,4 @@ OnlyOwnersHear = (h : History) → IsHistory h → (o : ObjectId) (front back : 
 abbrev pub NoticesAreDue : Type 0
 NoticesAreDue = (h : History) → IsHistory h
     → (list_all (λ x. beq (has_notice_in (space_after h).todo x.id) (wants_notice (space_after h).processes (space_after h).references x)) (space_after h).objects ≡ true)
-    × ((o : ObjectId) → length (filter (λ w. is_notice o w.kind) (space_after h).todo) ≤ 1)
+    × ((o : Identity) → length (filter (λ w. is_notice o w.kind) (space_after h).todo) ≤ 1)

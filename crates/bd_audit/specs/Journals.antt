@@ -22,7 +22,7 @@ HasSeenAll old new left = (es : List Entry) × (left ≡ Some es) × HasSeenMore
 abbrev pub HasSeenWhole : Judge → Judge → List Entry × List ℕ → ℕ → ℕ → Type 0
 HasSeenWhole old new whole entries left = HasSeenMore old new whole.0 × (entries ≡ length whole.0) × (left ≡ length whole.1)
 
--- the entries are so many, and are a history or stop being one there
+-- the entries are so many, and are lawful or stop being so there
 abbrev pub IsJudgment : Record → Judgment → Type 0
 IsJudgment r j = (j.entries ≡ length r.entries) × IsStop (history_in r) j.stopped
 

@@ -1,6 +1,6 @@
 -- The laws of every history.
 use Rattle.std.specs.Prelude.{ℕ, ◌+◌, ◌≡◌, ◌<◌, ◌≤◌, Bool, true, false, not, ◌||◌, List, length, is_some}
-use Rattle.bd_ways.specs.Words.{list_all, ObjectId, Turn, Work, OfProcess, same, Space}
+use Rattle.bd_ways.specs.Words.{list_all, Identity, Turn, Work, OfProcess, same, Space}
 use Rattle.std.specs.List.{AllPairs}
 use Rattle.bd_space.specs.Todo.{is_call, same_list}
 use Rattle.bd_space.specs.Turns.{turns_of}
@@ -12,7 +12,7 @@ use Rattle.bd_audit.specs.Replays.{beginning}
 -- ---- one-way calls: of one object's, one is due or handed out at a time
 
 abbrev pub OneAtATime : Type 0
-OneAtATime = (h : History) → IsHistory h → (o : ObjectId) → length (out_on o (space_after h)) ≤ 1
+OneAtATime = (h : History) → IsHistory h → (o : Identity) → length (out_on o (space_after h)) ≤ 1
 
 -- a one-way call that is due stands on the list of the process that its object belongs to, and on no thread's
 abbrev pub stands_with_receiver : Work → Turn → Bool
@@ -33,7 +33,7 @@ OneWayCallsAreDueInTurn = (h : History) → IsHistory h
 abbrev pub space_at : History → ℕ → Space
 space_at h n = space_after (beginning n h)
 
-abbrev pub is_here : Space → ObjectId → Bool
+abbrev pub is_here : Space → Identity → Bool
 is_here s o = is_some (object_in s.objects o)
 
 -- the object of each reference and of each name is in the space
@@ -43,6 +43,6 @@ ObjectsAreKept = (h : History) → IsHistory h → (n : ℕ)
 
 -- an object that the step at place i takes out never is in the space again, and has no reference, after that step and every later one
 abbrev pub GoneUnheld : Type 0
-GoneUnheld = (h : History) → IsHistory h → (i : ℕ) → i < length h.entries → (o : ObjectId)
+GoneUnheld = (h : History) → IsHistory h → (i : ℕ) → i < length h.entries → (o : Identity)
     → is_here (space_at h i) o ≡ true → is_here (space_at h (i + 1)) o ≡ false
     → (n : ℕ) → i < n → (is_here (space_at h n) o ≡ false) × (held_in (space_at h n).references o ≡ false)

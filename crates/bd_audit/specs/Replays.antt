@@ -2,7 +2,7 @@
 use Rattle.std.specs.Prelude.{ℕ, ◌+◌, ◌<◌, ◌≡◌, [], ◌∷◌, ◌++◌, length, take, Some}
 use Rattle.bd_ways.specs.Words.{Entry}
 use Rattle.std.specs.List.{slice_get}
-use Rattle.bd_space.specs.Histories.{History, IsHistory, history_of, BeginsWith}
+use Rattle.bd_space.specs.Histories.{History, IsHistory, IsLawful, history_of, BeginsWith}
 use Rattle.bd_engine.specs.StepError.{StepError}
 use Rattle.bd_engine.specs.StepError.TheVariants as why
 use Rattle.bd_audit.specs.declared.judging.AuditFault.{AuditFault}
@@ -22,6 +22,12 @@ pub record StopsAt (h : History) (at : ℕ) : Type 0 where
   pub inside : at < length h.entries
   pub before : IsHistory (beginning at h)
   pub stops : IsHistory (beginning (at + 1) h) → ⊥
+
+-- the entries before this place are lawful, and with its entry they aren't
+pub record IsLawfulUpTo (h : History) (at : ℕ) : Type 0 where
+  pub inside : at < length h.entries
+  pub before : IsLawful (beginning at h)
+  pub stops : IsLawful (beginning (at + 1) h) → ⊥
 
 abbrev pub IfUnlawful : AuditFault → (ℕ → Type 0) → Type 0
 IfUnlawful (Unlawful at) P = P at

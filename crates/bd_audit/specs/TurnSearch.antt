@@ -1,13 +1,13 @@
 -- The turns of an object as a search notes them, step by step.
 use Rattle.std.specs.Prelude.{ℕ, ◌≡◌, Bool, true, false, not, ◌&&◌, List, [], ◌∷◌, ◌++◌, take, Option, Some, None, is_some, map}
-use Rattle.bd_ways.specs.Words.{list_any, list_all, filter_map, ObjectId, Entry, Buffer, when, is_some_and, same, Space}
+use Rattle.bd_ways.specs.Words.{list_any, list_all, filter_map, Identity, Entry, Buffer, when, is_some_and, same, Space}
 use Rattle.bd_space.specs.Space.{opening}
 use Rattle.bd_space.specs.Freeing.{is_made_at}
 use Rattle.bd_space.specs.Histories.{History, next}
 use Rattle.bd_audit.specs.declared.turns.Turn.{Turn}
 
 -- the buffer is a one-way call's on this object
-abbrev pub is_call_on : ObjectId → Buffer → Bool
+abbrev pub is_call_on : Identity → Buffer → Bool
 is_call_on o b = b.one_way && is_some_and b.target (λ x. same x o)
 
 -- the buffer made there lives, and was handed out
@@ -32,19 +32,19 @@ marked place buffers t = record {
 }
 
 -- the turn whose buffer the step at this place made
-abbrev pub turn_made : ObjectId → ℕ → Buffer → Option Turn
+abbrev pub turn_made : Identity → ℕ → Buffer → Option Turn
 turn_made o place b = when (is_made_at place b && is_call_on o b) (record { made = place; handed = None; ended = None })
 
 -- the turns after one step more, and after a list of them
-abbrev pub next_turns : ObjectId → ℕ → List Buffer → List Turn → List Turn
+abbrev pub next_turns : Identity → ℕ → List Buffer → List Turn → List Turn
 next_turns o place buffers ts = map (marked place buffers) ts ++ filter_map (turn_made o place) buffers
 
-abbrev pub turns_from : ObjectId → Space → List Turn → List Entry → List Turn
+abbrev pub turns_from : Identity → Space → List Turn → List Entry → List Turn
 turns_from o s ts [] = ts
 turns_from o s ts (e ∷ es) = turns_from o (next s e) (next_turns o s.steps (next s e).buffers ts) es
 
 -- The turns of an object after all steps of a history.
-unfoldable pub turns_on : ObjectId → History → List Turn
+unfoldable pub turns_on : Identity → History → List Turn
 turns_on o h = turns_from o opening [] h.entries
 
 -- ---- which turns a step can change

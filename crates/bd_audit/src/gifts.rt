@@ -10,7 +10,7 @@ ghost use Rattle.bd_audit.specs.GiftSearch as spec;
 
 use crate::playing::advance;
 use bd_engine::{Looks, WideEngine};
-use bd_space::{Entry, ObjectId, Record};
+use bd_space::{Entry, Identity, Record};
 use bd_uapi::Fault;
 use std::alloc::Global;
 
@@ -18,11 +18,11 @@ use std::alloc::Global;
 #[derive(Clone, Copy)]
 pub(crate) struct Gift {
     /// The process that came to the name, by the place of its Open.
-    receiver: u32,
+    receiver: u64,
     /// The place of the step by which it came to it.
     place: u32,
     /// The process that gave the object by its own name for it, by the place of its Open; None where a gift chain begins here.
-    giver: Option<u32>,
+    giver: Option<u64>,
 }
 
 /// What a first replay of the record tells, before the gifts are looked for by a second one.
@@ -31,23 +31,23 @@ pub(crate) struct Received {
     /// The engine after the last step.
     engine: WideEngine,
     /// For each entry, the process in whose window its step made a buffer.
-    receivers: Vec<Option<u32>>,
+    receivers: Vec<Option<u64>>,
 }
 
 /// A process, and an object that it has a name for.
 #[derive(Clone, Copy)]
 pub(crate) struct Holder {
     /// The process, by the place of its Open.
-    process: u32,
+    process: u64,
     /// The object that it has a name for.
-    object: ObjectId,
+    object: Identity,
 }
 
 // The process of a seat, if it has a name for the object.
-fn giver_of(engine: &WideEngine, seat: u32, object: ObjectId) -> Option<u32>
+fn giver_of(engine: &WideEngine, seat: u32, object: Identity) -> Option<u64>
     ensures { result ≡ spec.giver_in (space_after engine.now) seat object }
 {
-    match engine.process_of(seat) {
+    match Looks::process_of(engine, seat) {
         Some(process) => {
             if engine.knows(process, object) {
                 Some(process)
@@ -60,10 +60,10 @@ fn giver_of(engine: &WideEngine, seat: u32, object: ObjectId) -> Option<u32>
 }
 
 // The process in whose window the buffer made at this place lies.
-fn receiver_at(engine: &WideEngine, place: u32) -> Option<u32>
+fn receiver_at(engine: &WideEngine, place: u32) -> Option<u64>
     ensures { result ≡ spec.receiver_at (space_after engine.now) place }
 {
-    match engine.buffer(place) {
+    match Looks::buffer(engine, u64::from(place)) {
         Some(buffer) => Some(buffer.receiver),
         None => None,
     }
@@ -95,8 +95,8 @@ fn receivers_of(alloc: Global, seats: u32, entries: &[Entry]) -> Result<Received
 fn gift_made(
     engine: &mut WideEngine,
     entry: &Entry,
-    receiver: u32,
-    object: ObjectId,
+    receiver: u64,
+    object: Identity,
 ) -> Result<Option<Gift>, Fault>
     requires lawful { IsHistory (with_entry engine.old entry.now) }
     ensures ok { IfOk result (λ _. engine.new ≡ with_entry engine.old entry.now) }
@@ -122,8 +122,8 @@ fn gift_made(
 fn next_gift(
     engine: &mut WideEngine,
     entry: &Entry,
-    receiver: Option<u32>,
-    object: ObjectId,
+    receiver: Option<u64>,
+    object: Identity,
 ) -> Result<Option<Gift>, Fault>
     requires lawful { IsHistory (with_entry engine.old entry.now) }
     requires receiver { receiver ≡ spec.receiver_of engine.old.entries entry.now }
@@ -131,7 +131,7 @@ fn next_gift(
     ensures gift { IfOk result (spec.IsGiftOf engine.old.entries entry.now object) }
     ensures fault { IfErr result (λ f. f ≡ faults.NoMemory) }
 {
-    match receiver.or(engine.process_of(entry.seat)) {
+    match receiver.or(Looks::process_of(engine, entry.seat)) {
         Some(process) => gift_made(engine, entry, process, object),
         None => {
             advance(engine, entry)?;
@@ -144,8 +144,8 @@ fn next_gift(
 fn gifts_of(
     alloc: Global,
     history: &Record,
-    receivers: &[Option<u32>],
-    object: ObjectId,
+    receivers: &[Option<u64>],
+    object: Identity,
 ) -> Result<Vec<Gift>, Fault>
     requires seats { IsLiveSeats history.now.seats }
     requires lawful { IsHistory (history_in history.now) }
@@ -169,7 +169,7 @@ fn gifts_of(
 
 // The places of the gifts on the way to the receiver, found from its end: the latest gift to it, the latest one before that
 // to its giver, and so on.
-fn way_to(alloc: Global, gifts: Vec<Gift>, receiver: u32) -> Result<Vec<u32>, Fault>
+fn way_to(alloc: Global, gifts: Vec<Gift>, receiver: u64) -> Result<Vec<u32>, Fault>
     requires linked { spec.IsLinked gifts.items }
     requires given { spec.HasGift gifts.items receiver }
     ensures { MatchResult result (λ v. spec.IsWay gifts.items v.items receiver) (λ f. f ≡ faults.NoMemory) }
@@ -195,7 +195,7 @@ fn holder_in(engine: &WideEngine, pid: u32, number: u32) -> Option<Holder>
     ensures none { is_some result ≡ is_some (looks.named_by (space_after engine.now) pid number) }
 {
     let process = engine.process_of_pid(pid)?;
-    let object = engine.named(pid, number)?;
+    let object = Looks::named(engine, pid, number)?;
     Some(Holder { process, object })
 }
 

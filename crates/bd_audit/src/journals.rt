@@ -17,8 +17,8 @@ use std::alloc::Global;
 pub struct Judgment {
     /// How many entries the journal has, or how many are whole in one that was cut off.
     pub entries: usize,
-    /// The place of the first that doesn't follow from those before, from 0; None where they are a history.
-    pub stopped: Option<u32>,
+    /// The place of the first that doesn't follow from those before, from 0; None where they all do.
+    pub stopped: Option<u64>,
 }
 
 // A judge of the record that is read.
@@ -58,8 +58,8 @@ fn show_all<W: Watch>(
     }
 }
 
-/// Judges the bytes of a journal as they are read: how many entries it has, and whether they are a history, or else which
-/// is the first that doesn't follow from those before. No entry is kept. It tells how far it is.
+/// Judges the bytes of a journal as they are read: how many entries it has, and whether they are lawful, or else which
+/// is the first that doesn't follow from those before. Lawful entries of a journal of version one or two are a history. No entry is kept. It tells how far it is.
 ///
 /// # Errors
 /// `Malformed` where no record is spelled so, whatever its entries are; `Memory` where memory was refused.

@@ -1,16 +1,22 @@
 //! Whether a record is a history.
 
-ghost use Rattle.std.specs.Prelude.{◌≡◌, ◌<◌, length, IfOk, IfErr, MatchResult};
+ghost use Rattle.std.specs.Prelude.{◌≡◌, ◌<◌, true, false, length, IfOk, IfErr, OnErr, MatchResult};
 ghost use Rattle.bd_engine.specs.{Follows.{Follows}, Refusals.{IsLiveSeats}};
-ghost use Rattle.bd_space.specs.Histories.{History, IsHistory, history_in};
+ghost use Rattle.bd_uapi.specs.declared.fault.Fault.TheVariants as faults;
+ghost use Rattle.bd_space.specs.Histories.{History, HasLivePlace, IsHistory, IsLawful, history_in, history_of};
 ghost use Rattle.bd_audit.specs.Replays as spec;
+ghost use Rattle.bd_audit.specs.Judging.{IsStop};
 ghost use Rattle.bd_audit.specs.Replays.{with_entry, Begins, IfUnlawful, IfNoMemory, StopsAt};
 
 use crate::answers::is_same_answer;
 use crate::judge::Judge;
 use bd_engine::{Live, StepError, WideEngine};
 use bd_space::{Entry, Record};
-use std::alloc::Global;
+use bd_uapi::Fault;
+use std::alloc::{AllocError, Global};
+
+// The most steps that a history has.
+const MOST_STEPS: usize = 4294967295;
 
 /// Why a record isn't accepted.
 #[derive(Clone, Copy, Debug, PartialEq, Eq)]
@@ -62,30 +68,24 @@ pub(crate) fn accept(engine: &mut WideEngine, entry: &Entry) -> Result<(), Audit
     }
 }
 
-// Makes the entry's step after whatever history is followed, if its answer is then the entry's.
-pub(crate) fn accept_live(live: &mut Live, entry: &Entry) -> Result<(), AuditFault>
-    ensures ok { IfOk result (λ _. (h : History) → Follows live.old h → Follows live.new (with_entry h entry.now)) }
-    ensures unlawful { IfErr result (λ f. (h : History) → Follows live.old h → IfUnlawful f (λ at.
-        (at ≡ length h.entries) × (IsHistory (with_entry h entry.now) → ⊥))) }
-    // A full history is found before memory is asked for.
-    ensures memory { IfErr result (λ f. (h : History) → Follows live.old h → IfNoMemory f (length h.entries < 4294967295)) }
+// Makes the entry's step after whatever lawful history is followed, and tells whether its answer is then the entry's: else the
+// entry continues none of them. Errors: memory was refused.
+pub(crate) fn accept_live(live: &mut Live, entry: &Entry) -> Result<bool, AllocError>
+    ensures accepted { IfOk result (λ accepted. accepted ≡ true → (h : History) → Follows live.old h
+        → Follows live.new (with_entry h entry.now)) }
+    ensures unlawful { IfOk result (λ accepted. accepted ≡ false → (h : History) → Follows live.old h
+        → IsLawful (with_entry h entry.now) → ⊥) }
+    // That no place is left is found before memory is asked for.
+    ensures memory { OnErr result ((h : History) → Follows live.old h → HasLivePlace h) }
 {
-    let at = live.len();
-    if entry.seat >= live.seats() || at == u32::MAX {
-        return Err(AuditFault::Unlawful { at });
+    if entry.seat >= live.seats() || live.len() == u64::MAX {
+        return Ok(false);
     }
-    let Ok(step) = entry.step.copied() else {
-        return Err(AuditFault::NoMemory);
-    };
+    let step = entry.step.copied()?;
     match live.step(entry.seat, step) {
-        Ok(made) => {
-            if is_same_answer(&made.answer, &entry.answer) {
-                Ok(())
-            } else {
-                Err(AuditFault::Unlawful { at })
-            }
-        }
-        Err(why) => Err(fault_of(why, at)),
+        Ok(made) => Ok(is_same_answer(&made.answer, &entry.answer)),
+        Err(StepError::HistoryFull) => Ok(false),
+        Err(StepError::NoMemory) => Err(AllocError),
     }
 }
 
@@ -101,6 +101,26 @@ pub struct Unwatched;
 
 impl Watch for Unwatched {
     fn follow(&mut self, _done: usize, _all: usize) {}
+}
+
+// The place of the first of these entries that doesn't follow from those before; None where all do. Tells how far it is.
+fn first_unlawful<W: Watch>(
+    alloc: Global,
+    seats: u32,
+    entries: &[Entry],
+    watch: &mut W,
+) -> Result<Option<u64>, Fault>
+    requires seats { IsLiveSeats seats }
+    ensures { MatchResult result (IsStop (history_of seats entries.now)) (λ f. f ≡ faults.NoMemory) }
+{
+    let mut judge = Judge::new(alloc, seats)?;
+    let mut done = 0;
+    for entry in entries {
+        judge.see(entry)?;
+        done += 1;
+        watch.follow(done, entries.len());
+    }
+    Ok(judge.stopped())
 }
 
 /// Judges a record: Ok where it is a history and nowhere else; `Unlawful` tells up to which entry it is one. An entry for
@@ -124,20 +144,13 @@ pub fn replay_watched<W: Watch>(
     ensures history { MatchResult result (λ _. IsHistory (history_in «record».now)) (λ f. IfUnlawful f (λ at. IsHistory (history_in «record».now) → ⊥)) }
     ensures first { IfErr result (λ f. IfUnlawful f (StopsAt (history_in «record».now))) }
 {
-    let all = record.entries.as_slice().len();
-    let Ok(mut judge) = Judge::new(alloc, record.seats) else {
-        return Err(AuditFault::NoMemory);
-    };
-    let mut done = 0;
-    for entry in record.entries.as_slice() {
-        let Ok(()) = judge.see(entry) else {
-            return Err(AuditFault::NoMemory);
-        };
-        done += 1;
-        watch.follow(done, all);
-    }
-    match judge.stopped() {
-        None => Ok(()),
-        Some(at) => Err(AuditFault::Unlawful { at }),
+    let entries = record.entries.as_slice();
+    // A history has places for so many.
+    let placed = &entries[..entries.len().min(MOST_STEPS)];
+    match first_unlawful(alloc, record.seats, placed, watch) {
+        Ok(Some(at)) => Err(AuditFault::Unlawful { at: at as u32 }),
+        Ok(None) if placed.len() < entries.len() => Err(AuditFault::Unlawful { at: u32::MAX }),
+        Ok(None) => Ok(()),
+        Err(_) => Err(AuditFault::NoMemory),
     }
 }

@@ -10,7 +10,7 @@ ghost use Rattle.bd_audit.specs.TurnSearch as spec;
 
 use crate::playing::advance;
 use bd_engine::{Looks, WideEngine};
-use bd_space::{Buffer, Entry, ObjectId, Record};
+use bd_space::{Buffer, Entry, Identity, ObjectId, Record};
 use bd_uapi::Fault;
 use std::alloc::Global;
 
@@ -47,7 +47,7 @@ fn noted_at(earlier: Option<u32>, place: u32, now: bool) -> Option<u32>
 fn is_live(engine: &WideEngine, made: u32) -> bool
     ensures { result ≡ spec.is_live (space_after engine.now).buffers made }
 {
-    match engine.buffer(made) {
+    match Looks::buffer(engine, u64::from(made)) {
         Some(_) => true,
         None => false,
     }
@@ -56,13 +56,13 @@ fn is_live(engine: &WideEngine, made: u32) -> bool
 fn is_handed(engine: &WideEngine, made: u32) -> bool
     ensures { result ≡ spec.is_handed (space_after engine.now).buffers made }
 {
-    match engine.buffer(made) {
+    match Looks::buffer(engine, u64::from(made)) {
         Some(buffer) => buffer.handed,
         None => false,
     }
 }
 
-fn is_call_on(buffer: &Buffer, object: ObjectId) -> bool
+fn is_call_on(buffer: &Buffer, object: Identity) -> bool
     ensures { result ≡ spec.is_call_on object buffer.now }
 {
     buffer.one_way && matches!(buffer.target, Some(target) if target == object)
@@ -98,10 +98,10 @@ fn mark(turns: &mut [Turn], ended: usize, engine: &WideEngine, place: u32) -> us
 }
 
 // The turn that the step at this place made, if it did.
-fn turn_made(engine: &WideEngine, place: u32, object: ObjectId) -> Option<Turn>
+fn turn_made(engine: &WideEngine, place: u32, object: Identity) -> Option<Turn>
     ensures { option_to_list result ≡ filter_map (spec.turn_made object place) (space_after engine.now).buffers }
 {
-    match engine.buffer(place) {
+    match Looks::buffer(engine, u64::from(place)) {
         Some(buffer) => {
             if is_call_on(buffer, object) {
                 Some(Turn {
@@ -118,7 +118,7 @@ fn turn_made(engine: &WideEngine, place: u32, object: ObjectId) -> Option<Turn>
 }
 
 // Notes the engine's last step, which stands at this place.
-fn note(list: &mut TurnList, engine: &WideEngine, place: u32, object: ObjectId) -> Result<(), Fault>
+fn note(list: &mut TurnList, engine: &WideEngine, place: u32, object: Identity) -> Result<(), Fault>
     requires { spec.AreInTurn (spec.marked place (space_after engine.now).buffers)
         list.old.ended list.old.turns.items }
     ensures ok { IfOk result (λ _. list.new.turns.items
@@ -146,6 +146,7 @@ pub fn oneway_turns(alloc: Global, record: &Record, object: ObjectId) -> Result<
     let Ok(mut engine) = WideEngine::new(alloc, record.seats) else {
         return Err(Fault::NoMemory);
     };
+    let object = Identity::from(object);
     let turns = Vec::new(alloc);
     let mut list = TurnList { turns, ended: 0 };
     for entry in record.entries.as_slice() {

@@ -25,7 +25,7 @@ pub(crate) struct Ground {
     // The sizes of each sender's one-way buffers together, but for senders that have none.
     pub(crate) senders: WordMap<u32>,
     // Where the buffers were made, by their pointers.
-    pub(crate) spots: WordMap<u32>,
+    pub(crate) spots: WordMap<u64>,
     // What is free between the buffers, in order of place. No two holes touch; some are empty.
     pub(crate) holes: Vec<Hole>,
     // Where the last buffer ends. All is free from there on.

@@ -8,17 +8,17 @@ use crate::rows::Rows;
 use bd_keys::{WordKey, WordMap};
 
 /// By what the home of the buffer made there is found.
-pub(crate) fn home_key(made: u32) -> WordKey
+pub(crate) fn home_key(made: u64) -> WordKey
     ensures { result ≡ spec.home_key made }
 {
     WordKey {
         process: 0,
-        word: u64::from(made),
+        word: made,
     }
 }
 
 /// Forgets the homes of these live buffers, and no others.
-pub(crate) fn forget(homes: &mut WordMap<u32>, buffers: &Rows)
+pub(crate) fn forget(homes: &mut WordMap<u64>, buffers: &Rows)
     ensures { spec.Forgets (live buffers.now.rows) homes.old homes.new }
 {
     for i in 0..buffers.len() {

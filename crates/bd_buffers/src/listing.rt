@@ -7,7 +7,7 @@ use crate::rows::Rows;
 use std::alloc::AllocError;
 
 /// Appends the places at which these live buffers were made, oldest first.
-pub(crate) fn list_made(buffers: &Rows, places: &mut Vec<u32>) -> Result<(), AllocError>
+pub(crate) fn list_made(buffers: &Rows, places: &mut Vec<u64>) -> Result<(), AllocError>
     ensures { OnOk result (places.new.items ≡ places.old.items ++ map made_of_buffer (live buffers.now.rows)) }
 {
     for i in 0..buffers.len() {
@@ -19,7 +19,7 @@ pub(crate) fn list_made(buffers: &Rows, places: &mut Vec<u32>) -> Result<(), All
 }
 
 /// Where the first live buffer that was made at this place or behind it was made. Found by halves, past the empty rows there.
-pub(crate) fn next_from(buffers: &Rows, from: u32) -> Option<u32>
+pub(crate) fn next_from(buffers: &Rows, from: u64) -> Option<u64>
     ensures { result ≡ next_made (live buffers.now.rows) from }
 {
     for i in buffers.first_from(from)..buffers.len() {

@@ -12,12 +12,12 @@ use bd_keys::WordMap;
 /// The window of a live process.
 #[derive(Drop)]
 pub(crate) struct OwnedWindow {
-    pub(crate) owner: u32,
+    pub(crate) owner: u64,
     pub(crate) window: Window,
 }
 
 impl OwnedWindow {
-    fn is_of(&self, p: u32) -> bool
+    fn is_of(&self, p: u64) -> bool
         ensures { result ≡ is_owned_by p self.now }
     {
         self.owner == p
@@ -25,7 +25,7 @@ impl OwnedWindow {
 }
 
 /// Where the window of a process stands.
-pub(crate) fn position_of(windows: &[OwnedWindow], p: u32) -> Option<usize>
+pub(crate) fn position_of(windows: &[OwnedWindow], p: u64) -> Option<usize>
     requires order { AreInOrder windows.now }
     ensures { result ≡ position (is_owned_by p) windows.now }
 {
@@ -38,7 +38,7 @@ pub(crate) fn position_of(windows: &[OwnedWindow], p: u32) -> Option<usize>
 }
 
 /// The window of a process.
-pub(crate) fn owned_by(windows: &[OwnedWindow], p: u32) -> Option<&OwnedWindow>
+pub(crate) fn owned_by(windows: &[OwnedWindow], p: u64) -> Option<&OwnedWindow>
     requires order { AreInOrder windows.now }
     ensures { option_copied result ≡ find (is_owned_by p) windows.now }
 {
@@ -49,7 +49,7 @@ pub(crate) fn owned_by(windows: &[OwnedWindow], p: u32) -> Option<&OwnedWindow>
 }
 
 /// Whether the window of this process would come after all.
-pub(crate) fn is_last(windows: &[OwnedWindow], owner: u32) -> bool
+pub(crate) fn is_last(windows: &[OwnedWindow], owner: u64) -> bool
     requires order { AreInOrder windows.now }
     ensures { IsTrue result ↔ All (λ w. w.owner < owner) windows.now }
 {
@@ -60,7 +60,7 @@ pub(crate) fn is_last(windows: &[OwnedWindow], owner: u32) -> bool
 }
 
 /// Ends the buffer made there, in the window of a process.
-pub(crate) fn free_in(windows: &mut Vec<OwnedWindow>, p: u32, made: u32)
+pub(crate) fn free_in(windows: &mut Vec<OwnedWindow>, p: u64, made: u64)
     requires order { AreInOrder windows.old.items }
     ensures { map seen windows.new.items ≡
         changed (is_of p) (with_buffers (filter (λ b. not (is_made_at made b)))) (map seen windows.old.items) }
@@ -71,7 +71,7 @@ pub(crate) fn free_in(windows: &mut Vec<OwnedWindow>, p: u32, made: u32)
 }
 
 /// Marks the buffer made there, in the window of a process, as handed out.
-pub(crate) fn hand_out_in(windows: &mut Vec<OwnedWindow>, p: u32, made: u32)
+pub(crate) fn hand_out_in(windows: &mut Vec<OwnedWindow>, p: u64, made: u64)
     requires order { AreInOrder windows.old.items }
     ensures { map seen windows.new.items ≡
         changed (is_of p) (with_buffers (changed (is_made_at made) hand_out)) (map seen windows.old.items) }
@@ -82,7 +82,7 @@ pub(crate) fn hand_out_in(windows: &mut Vec<OwnedWindow>, p: u32, made: u32)
 }
 
 /// Forgets the homes of the live buffers of a process, and no others.
-pub(crate) fn forget_in(homes: &mut WordMap<u32>, windows: &[OwnedWindow], p: u32)
+pub(crate) fn forget_in(homes: &mut WordMap<u64>, windows: &[OwnedWindow], p: u64)
     requires order { AreInOrder windows.now }
     ensures { Forgets (buffers_held (find (is_owned_by p) windows.now)) homes.old homes.new }
 {
@@ -92,7 +92,7 @@ pub(crate) fn forget_in(homes: &mut WordMap<u32>, windows: &[OwnedWindow], p: u3
 }
 
 /// Ends the window of a process.
-pub(crate) fn close_among(windows: &mut Vec<OwnedWindow>, p: u32)
+pub(crate) fn close_among(windows: &mut Vec<OwnedWindow>, p: u64)
     ensures { windows.new.items ≡ filter (λ w. not (is_owned_by p w)) windows.old.items }
 {
     windows.retain(|w| !w.is_of(p));

@@ -12,12 +12,12 @@ use std::marker::Model;
 // Where a buffer was made, and the buffer while it lives.
 #[derive(Drop)]
 pub(crate) struct Row {
-    pub(crate) made: u32,
+    pub(crate) made: u64,
     pub(crate) buffer: Option<Buffer>,
 }
 
 // The index of the row made there, found by halves.
-fn index_by_halves(rows: &[Row], made: u32) -> Option<usize>
+fn index_by_halves(rows: &[Row], made: u64) -> Option<usize>
     requires order { AllPairs (λ a b. a.made < b.made) rows.now }
     ensures { MatchOption result
         (All (λ r. (r.made == made) ≡ false) rows.now)
@@ -32,7 +32,7 @@ fn index_by_halves(rows: &[Row], made: u32) -> Option<usize>
 }
 
 // The index of the first row that was made at a place or behind it.
-fn first_row(rows: &[Row], from: u32) -> usize
+fn first_row(rows: &[Row], from: u64) -> usize
     requires order { AllPairs (λ a b. a.made < b.made) rows.now }
     ensures { IsPartitionPoint (λ r. r.made < from) (λ r. from ≤ r.made) rows.now result }
 {
@@ -40,7 +40,7 @@ fn first_row(rows: &[Row], from: u32) -> usize
 }
 
 // The index of the row made there. The last is looked at first: it is what a step mostly speaks of.
-fn index_among(rows: &[Row], made: u32) -> Option<usize>
+fn index_among(rows: &[Row], made: u64) -> Option<usize>
     requires order { AllPairs (λ a b. a.made < b.made) rows.now }
     ensures { MatchOption result
         (All (λ r. (r.made == made) ≡ false) rows.now)
@@ -176,7 +176,7 @@ impl Rows {
     }
 
     /// Whether all live buffers were made before that place.
-    pub(crate) fn is_newest(&self, made: u32) -> bool
+    pub(crate) fn is_newest(&self, made: u64) -> bool
         ensures { IsTrue result ↔ All (λ b. b.made < made) (live self.now.rows) }
     {
         match self.rows.last() {
@@ -200,14 +200,14 @@ impl Rows {
     }
 
     /// The index of the row of the buffer made there.
-    pub(crate) fn index_of(&self, made: u32) -> Option<usize>
+    pub(crate) fn index_of(&self, made: u64) -> Option<usize>
         ensures { option_and_then (in_row self.now.rows) result ≡ buffer_in (live self.now.rows) made }
     {
         index_among(&self.rows, made)
     }
 
     /// The index of a row before which all live buffers were made before this place, and from which on none was. Found by halves.
-    pub(crate) fn first_from(&self, from: u32) -> usize
+    pub(crate) fn first_from(&self, from: u64) -> usize
         ensures before { All (λ b. b.made < from) (live (take result self.now.rows)) }
         ensures behind { (i : ℕ) → result ≤ i → IfSome (in_row self.now.rows i) (λ b. from ≤ b.made) }
     {
@@ -225,7 +225,7 @@ impl Rows {
     }
 
     /// The live buffer made there.
-    pub(crate) fn made_at(&self, made: u32) -> Option<&Buffer>
+    pub(crate) fn made_at(&self, made: u64) -> Option<&Buffer>
         ensures { option_copied result ≡ buffer_in (live self.now.rows) made }
     {
         match self.index_of(made) {
@@ -249,7 +249,7 @@ impl Rows {
     }
 
     /// Marks the buffer made there as handed out.
-    pub(crate) fn hand_out(&mut self, made: u32)
+    pub(crate) fn hand_out(&mut self, made: u64)
         ensures live { live self.new.rows ≡ changed (is_made_at made) hand_out (live self.old.rows) }
         ensures room { self.old.room ≤ self.new.room }
     {

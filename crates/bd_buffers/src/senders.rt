@@ -9,17 +9,17 @@ use bd_keys::{WordKey, WordMap};
 use bd_space::Buffer;
 
 // By what a sender's sum is found.
-fn sender_key(sender: u32) -> WordKey
+fn sender_key(sender: u64) -> WordKey
     ensures { result ≡ spec.sender_key sender }
 {
     WordKey {
         process: 0,
-        word: u64::from(sender),
+        word: sender,
     }
 }
 
 /// The sum of a sender: 0 where nothing is noted. Takes no memory.
-pub(crate) fn sum_of(sums: &WordMap<u32>, sender: u32) -> u32
+pub(crate) fn sum_of(sums: &WordMap<u32>, sender: u64) -> u32
     ensures { result ≡ spec.sum_at sums.now sender }
 {
     sums.get(sender_key(sender)).unwrap_or(0)

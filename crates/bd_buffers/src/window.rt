@@ -143,14 +143,14 @@ impl Window {
 
     // Whether the one-way buffers of a sender take more than a quarter of the window.
     #[tactic(auto, unfolding(bd_space::specs::Spam::floods))]
-    fn is_flooded(&self, sender: u32) -> bool
+    fn is_flooded(&self, sender: u64) -> bool
         ensures { result ≡ floods self.now.size self.now.buffers sender }
     {
         4 * u64::from(sum_of(&self.ground.senders, sender)) > u64::from(self.ground.size)
     }
 
     /// Whether the live one-way buffers of a sender's process take more than a quarter of the window.
-    pub fn floods(&self, sender: u32) -> bool
+    pub fn floods(&self, sender: u64) -> bool
         ensures { WindowTells (Stands self.now) result (λ size bs. floods size bs sender) }
     {
         self.is_flooded(sender)
@@ -175,7 +175,7 @@ impl Window {
     }
 
     /// Whether all live buffers were made before that place.
-    pub fn is_newest(&self, made: u32) -> bool
+    pub fn is_newest(&self, made: u64) -> bool
         ensures { IsTrue result ↔ All (λ b. b.made < made) self.now.buffers }
     {
         self.buffers.is_newest(made)
@@ -200,7 +200,7 @@ impl Window {
     }
 
     /// The live buffer made there.
-    pub fn buffer(&self, made: u32) -> Option<&Buffer>
+    pub fn buffer(&self, made: u64) -> Option<&Buffer>
         ensures found { WindowTells (Stands self.now) (option_copied result) (λ size bs. buffer_in bs made) }
         ensures placed { IfSome result (λ b. IsPlaced 4194304 b.now) }
     {
@@ -219,28 +219,28 @@ impl Window {
     }
 
     /// Forgets the homes of all live buffers, and no others.
-    pub(crate) fn forget_homes(&self, homes: &mut WordMap<u32>)
+    pub(crate) fn forget_homes(&self, homes: &mut WordMap<u64>)
         ensures { Forgets self.now.buffers homes.old homes.new }
     {
         forget(homes, &self.buffers);
     }
 
     /// Appends the places at which the live buffers were made, oldest first.
-    pub(crate) fn list_made(&self, places: &mut Vec<u32>) -> Result<(), AllocError>
+    pub(crate) fn list_made(&self, places: &mut Vec<u64>) -> Result<(), AllocError>
         ensures { OnOk result (places.new.items ≡ places.old.items ++ map made_of_buffer self.now.buffers) }
     {
         list_made(&self.buffers, places)
     }
 
     /// Where the first live buffer that was made at this place or behind it was made.
-    pub(crate) fn next_from(&self, from: u32) -> Option<u32>
+    pub(crate) fn next_from(&self, from: u64) -> Option<u64>
         ensures { result ≡ next_made self.now.buffers from }
     {
         next_from(&self.buffers, from)
     }
 
     /// Ends the buffer made there.
-    pub fn free(&mut self, made: u32)
+    pub fn free(&mut self, made: u64)
         ensures stands { WindowMakes (Stands self.old) (Stands self.new) (filter (λ b. not (is_made_at made b))) }
         ensures room { UsesNothing self.old self.new }
     {
@@ -250,7 +250,7 @@ impl Window {
     }
 
     /// Marks the buffer made there as handed out.
-    pub fn hand_out(&mut self, made: u32)
+    pub fn hand_out(&mut self, made: u64)
         ensures stands { WindowMakes (Stands self.old) (Stands self.new) (changed (is_made_at made) hand_out) }
         ensures room { UsesNothing self.old self.new }
     {

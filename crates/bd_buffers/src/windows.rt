@@ -28,7 +28,7 @@ pub struct Windows {
     // In the order in which the processes were opened.
     windows: Vec<OwnedWindow>,
     // Whose window each live buffer is in, by where it was made. Of buffers that ended nothing is noted.
-    homes: WordMap<u32>,
+    homes: WordMap<u64>,
 }
 
 impl Model for Windows {
@@ -73,7 +73,7 @@ impl Windows {
     }
 
     /// Takes in the empty window of the process that the step at this place opens. Takes no memory.
-    pub fn open(&mut self, place: u32, window: Window)
+    pub fn open(&mut self, place: u64, window: Window)
         requires room { 1 ≤ window_room self.old }
         ensures { (s : Space) (pid euid size : ℕ) → StandsFor self.old s → s.steps ≡ place → Stands window size []
             → StandsIn self.new (with_process s pid euid size) }
@@ -88,7 +88,7 @@ impl Windows {
     }
 
     // The window of a process, where it lives.
-    fn owned(&self, p: u32) -> Option<&OwnedWindow>
+    fn owned(&self, p: u64) -> Option<&OwnedWindow>
         ensures found { option_copied result ≡ find (is_owned_by p) self.now.windows }
         ensures lives { (s : Space) (q : Process) → StandsIn self.now s → process_in s.processes p ≡ Some q
             → MatchOption result ⊥ (λ w. Stands w.now.window q.window (buffers_of s.buffers p)) }
@@ -102,7 +102,7 @@ impl Windows {
     /// half of the window.
     pub fn start_for(
         &self,
-        p: u32,
+        p: u64,
         one_way: bool,
         data_size: u64,
         offsets_size: u64,
@@ -121,7 +121,7 @@ impl Windows {
 
     /// Whether the live one-way buffers that a sender's process made take more than a quarter of the window of a process.
     /// No process that has ended is flooded.
-    pub fn floods(&self, p: u32, sender: u32) -> bool
+    pub fn floods(&self, p: u64, sender: u64) -> bool
         ensures computed { (s : Space) (q : Process) → StandsIn self.now s → process_in s.processes p ≡ Some q
             → result ≡ floods q.window (buffers_of s.buffers p) sender }
         ensures no_process { (s : Space) → StandsIn self.now s → process_in s.processes p ≡ None → result ≡ false }
@@ -133,7 +133,7 @@ impl Windows {
     }
 
     /// Makes room for one more buffer in the window of a process. All stays as it was, also on an `Err`.
-    pub fn reserve_buffer(&mut self, p: u32) -> Result<(), AllocError>
+    pub fn reserve_buffer(&mut self, p: u64) -> Result<(), AllocError>
         ensures stands { Makes (StandsFor self.old) (StandsFor self.new) (λ s. s) }
         ensures can_add { (q : ℕ) (one_way : Bool) (size start : ℕ) → CanAdd self.old q one_way size start
             → CanAdd self.new q one_way size start }
@@ -166,7 +166,7 @@ impl Windows {
     }
 
     /// The live buffer made there.
-    pub fn buffer(&self, made: u32) -> Option<&Buffer>
+    pub fn buffer(&self, made: u64) -> Option<&Buffer>
         ensures found { Tells (StandsIn self.now) (option_copied result) (λ s. buffer_in s.buffers made) }
         ensures placed { IfSome result (λ b. IsInWindow b.now) }
     {
@@ -176,7 +176,7 @@ impl Windows {
     }
 
     /// The live buffer that a process knows by a pointer, handed out or not.
-    pub fn at_pointer(&self, p: u32, pointer: u64) -> Option<&Buffer>
+    pub fn at_pointer(&self, p: u64, pointer: u64) -> Option<&Buffer>
         ensures found { (s : Space) (q : Process) → StandsIn self.now s → process_in s.processes p ≡ Some q
             → option_copied result ≡ buffer_at_pointer s p pointer }
         ensures placed { IfSome result (λ b. IsInWindow b.now) }
@@ -190,7 +190,7 @@ impl Windows {
 
     /// Appends the places at which the live buffers of a process were made, oldest first. What it appends where memory is
     /// refused isn't said.
-    pub fn list_made(&self, p: u32, places: &mut Vec<u32>) -> Result<(), AllocError>
+    pub fn list_made(&self, p: u64, places: &mut Vec<u64>) -> Result<(), AllocError>
         ensures { OnOk result (Tells (StandsIn self.now) places.new.items
             (λ s. places.old.items ++ map made_of_buffer (buffers_of s.buffers p))) }
     {
@@ -201,7 +201,7 @@ impl Windows {
     }
 
     /// Where the first live buffer of a process that was made at this place or behind it was made.
-    pub fn next_from(&self, p: u32, from: u32) -> Option<u32>
+    pub fn next_from(&self, p: u64, from: u64) -> Option<u64>
         ensures { Tells (StandsIn self.now) result (λ s. next_made (buffers_of s.buffers p) from) }
     {
         match self.owned(p) {
@@ -211,7 +211,7 @@ impl Windows {
     }
 
     /// Ends the buffer made there.
-    pub fn free(&mut self, made: u32)
+    pub fn free(&mut self, made: u64)
         ensures { Makes (StandsIn self.old) (StandsIn self.new) (λ s. without_buffer s made) }
     {
         if let Some(p) = self.homes.remove(home_key(made)) {
@@ -220,7 +220,7 @@ impl Windows {
     }
 
     /// Marks the buffer that is handed over by reading these work items, if any.
-    pub fn hand_out(&mut self, made: Option<u32>)
+    pub fn hand_out(&mut self, made: Option<u64>)
         ensures { (s : Space) (seat : ℕ) (ws : List Work) → StandsIn self.old s
             → made ≡ option_map made_of_buffer (buffer_taken s ws) → StandsIn self.new (read_by s seat ws) }
     {
@@ -232,7 +232,7 @@ impl Windows {
     }
 
     /// Ends the window of a process, with its buffers.
-    pub fn close(&mut self, p: u32)
+    pub fn close(&mut self, p: u64)
         ensures { Makes (StandsIn self.old) (StandsIn self.new) (λ s. without_process s p) }
     {
         forget_in(&mut self.homes, &self.windows, p);

@@ -5,7 +5,7 @@ use Rattle.bd_uapi.specs.declared.fault.Fault.{Fault}
 use Rattle.bd_uapi.specs.declared.command.Command.{Command}
 use Rattle.bd_codec.specs.Spelling.{command_bytes, IsCommand}
 use Rattle.bd_space.specs.declared.step.Step.{Step}
-use Rattle.bd_space.specs.Histories.{History, HasPlace, is_at_limit}
+use Rattle.bd_space.specs.Histories.{History, HasLivePlace, is_at_end}
 use Rattle.bd_engine.specs.Follows.{Follows}
 use Rattle.bd_c.specs.declared.answers.Told.{Told}
 use Rattle.bd_c.specs.declared.live.OwnedLive.{OwnedLive}
@@ -30,11 +30,11 @@ rests x told = record {
 abbrev Counts : OwnedLive → ℕ → Type 0
 Counts x n = (h : History) → Follows x.live h → n ≡ length h.entries
 
-pub full : (x : OwnedLive) (n seat : ℕ) (z : Step) → Counts x n → n ≡ 4294967295 → (h : History) → Follows x.live h → is_at_limit h seat (Some z) ≡ true
-unfolding is_at_limit
+pub full : (x : OwnedLive) (n seat : ℕ) (z : Step) → Counts x n → n ≡ 18446744073709551615 → (h : History) → Follows x.live h → is_at_end h seat (Some z) ≡ true
+unfolding is_at_end
 full x n seat z counts is h follows = search (arith, counts)
 
-pub has_place : (x : OwnedLive) (n : ℕ) → Counts x n → (n ≡ 4294967295 → ⊥) → (h : History) → Follows x.live h → HasPlace h
+pub has_place : (x : OwnedLive) (n : ℕ) → Counts x n → (n ≡ 18446744073709551615 → ⊥) → (h : History) → Follows x.live h → HasLivePlace h
 has_place x n counts not h follows = let at = counts h follows in omega (arith, at, follows.lawful.short, not)
 
 -- ---- bytes that are no command

@@ -3,7 +3,7 @@ use Rattle.std.specs.Prelude.{◌≡◌, ◌≤◌, ℕ, true, [], length, Optio
 use Rattle.bd_space.specs.declared.step.Step.{Step}
 use Rattle.bd_space.specs.declared.step.StepAnswer.{StepAnswer}
 use Rattle.bd_space.specs.Steps.{step}
-use Rattle.bd_space.specs.Histories.{History, history_of, space_after, extended, HasPlace, is_at_limit}
+use Rattle.bd_space.specs.Histories.{History, space_after, extended, HasLivePlace, is_at_end}
 use Rattle.bd_engine.specs.Follows.{Follows}
 use Rattle.bd_engine.specs.Ending.{ended_between}
 use Rattle.bd_engine.specs.Reached.{KeepsTold}
@@ -16,10 +16,10 @@ use Rattle.bd_c.specs.declared.held.Held.{Held}
 use Rattle.bd_c.specs.declared.status.Status.{Status}
 use Rattle.bd_c.specs.declared.status.Status.TheVariants.{Done, NoMemory, SeatCount, NoSuchSeat, HistoryFull}
 
--- a new engine of so many seats follows their empty history, and has no entry
-pub record Begins (seats : ℕ) (x : OwnedLive) : Type 0 where
-  pub follows : Follows x.live (history_of seats [])
-  pub seats_are : x.live.seats ≡ seats
+-- a new engine follows this history, and has no entry
+pub record Begins (h : History) (x : OwnedLive) : Type 0 where
+  pub follows : Follows x.live h
+  pub seats_are : x.live.seats ≡ h.seats
   pub none : x.latest ≡ None
   pub ended : x.ended.items ≡ []
   pub noted : x.noted.items ≡ []
@@ -78,13 +78,13 @@ pub record Rests (x y : OwnedLive) (a b : Told) : Type 0 where
 abbrev pub Steps : OwnedLive → OwnedLive → ℕ → Step → Status → Told → Told → Type 0
 Steps x y seat z Done a b = Makes x y seat z b
 Steps x y seat z NoSuchSeat a b = (x.live.seats ≤ seat) × Rests x y a b
-Steps x y seat z HistoryFull a b = ((h : History) → Follows x.live h → is_at_limit h seat (Some z) ≡ true) × Rests x y a b
-Steps x y seat z NoMemory a b = ((h : History) → Follows x.live h → HasPlace h) × Rests x y a b
+Steps x y seat z HistoryFull a b = ((h : History) → Follows x.live h → is_at_end h seat (Some z) ≡ true) × Rests x y a b
+Steps x y seat z NoMemory a b = ((h : History) → Follows x.live h → HasLivePlace h) × Rests x y a b
 Steps x y seat z _ a b = ⊥
 
--- A new live engine is behind the handle; or nothing is, and the status says why.
-abbrev pub LiveOpensAt : ℕ → Option Held → Status → Type 0
-LiveOpensAt seats h s = IsMade (λ k. Of live_of k (Begins seats)) (IsLiveRefusal seats) h s
+-- A new live engine that follows this history is behind the handle; or nothing is, and the status says why.
+abbrev pub LiveOpensAt : History → Option Held → Status → Type 0
+LiveOpensAt h k s = IsMade (λ m. Of live_of m (Begins h)) (IsLiveRefusal h.seats) k s
 
 -- the step was made with the live engine behind the handle, or none was
 abbrev pub StepsAt : Option Held → Option Held → ℕ → Step → Told → Told → Status → Type 0

@@ -1,7 +1,7 @@
 -- What C is told of a space.
 use Rattle.std.specs.Prelude.{◌≡◌, ℕ, Bool, true, false, List, length, Option, Some, None, is_some}
 use Rattle.bd_space.specs.Histories.{History, space_after}
-use Rattle.bd_space.specs.declared.step.ObjectId.{ObjectId}
+use Rattle.bd_space.specs.declared.step.Identity.{Identity}
 use Rattle.bd_space.specs.declared.space.Process.{Process}
 use Rattle.bd_space.specs.declared.space.Thread.{Thread}
 use Rattle.bd_space.specs.declared.space.Object.{Object}
@@ -25,7 +25,7 @@ use Rattle.bd_c.specs.declared.space_told.FrameTold.{FrameTold}
 use Rattle.bd_c.specs.declared.space_told.DeathTold.{DeathTold}
 use Rattle.bd_c.specs.declared.space_told.WorkTold.{WorkTold}
 
-abbrev pub id_told : ObjectId → IdTold
+abbrev pub id_told : Identity → IdTold
 id_told o = record { place = o.place; index = o.index }
 
 abbrev pub no_id : IdTold
@@ -40,7 +40,7 @@ thread_told t = record { made = t.made; process = t.process; looping = t.looping
 abbrev pub object_told : Object → ObjectTold
 object_told x = record { owner = x.owner; ptr = x.ptr; cookie = x.cookie; told_weak = x.told_weak; told_strong = x.told_strong }
 
-abbrev pub target_told : Option ObjectId → IdTold
+abbrev pub target_told : Option Identity → IdTold
 target_told None = no_id
 target_told (Some o) = id_told o
 

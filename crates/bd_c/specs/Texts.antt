@@ -137,6 +137,6 @@ text_of kind n =
     else (if kind == 6 then text_in return_texts n
     else [])))))
 
--- The version of the library, 1.0.0, with a byte for each of its numbers.
+-- The version of the library, 2.0.0, with a byte for each of its numbers.
 abbrev pub version : ℕ
-version = 0x010000
+version = 0x020000

@@ -12,9 +12,9 @@ pub struct Told {
     /// 0 still handed over, 1 opened, 2 set, 3 exited, 4 wrote, 5 got, 6 refused, 7 back.
     pub kind: u32,
     /// The place of the first of its steps.
-    pub from: u32,
+    pub from: u64,
     /// The place behind the last of its steps.
-    pub to: u32,
+    pub to: u64,
     /// Of a write, how many bytes of the stream were run.
     pub consumed: u32,
     /// Of a write, how many notes there are.
@@ -38,7 +38,7 @@ impl Told {
     ghost use Rattle.bd_c.specs.Told.{told_of, placed, got_of, refused_of, done_of, told_of_step};
 
     // What is told of an answer of this kind, with the places of its steps and nothing else yet.
-    fn placed(kind: u32, from: u32, to: u32) -> Told
+    fn placed(kind: u32, from: u64, to: u64) -> Told
         ensures { result ≡ placed kind from to }
     {
         Told {
@@ -57,7 +57,7 @@ impl Told {
     }
 
     // What is told of a read: how many bytes it got.
-    fn got(stream: &Bytes, bytes: &Bytes, offsets: &Bytes, from: u32, to: u32) -> Told
+    fn got(stream: &Bytes, bytes: &Bytes, offsets: &Bytes, from: u64, to: u64) -> Told
         ensures { result ≡ got_of stream.now bytes.now offsets.now from to }
     {
         Told {
@@ -68,7 +68,7 @@ impl Told {
         }
     }
 
-    fn refused(fault: Fault, from: u32, to: u32) -> Told
+    fn refused(fault: Fault, from: u64, to: u64) -> Told
         ensures { result ≡ refused_of fault from to }
     {
         Told {
@@ -78,7 +78,7 @@ impl Told {
     }
 
     // What is told of a request that was run, whose steps stand at these places.
-    fn done(answer: &Answer, from: u32, to: u32) -> Told
+    fn done(answer: &Answer, from: u64, to: u64) -> Told
         ensures { result ≡ done_of answer.now from to }
     {
         match answer {
@@ -111,7 +111,9 @@ impl Told {
     {
         match outcome {
             Outcome::Handed => Told::placed(0, 0, 0),
-            Outcome::Done { answer, from, to } => Told::done(answer, *from, *to),
+            Outcome::Done { answer, from, to } => {
+                Told::done(answer, u64::from(*from), u64::from(*to))
+            }
             Outcome::Back { request: _, why } => Told {
                 why: why_number(*why),
                 ..Told::placed(7, 0, 0)
@@ -120,7 +122,7 @@ impl Told {
     }
 
     /// What a step is told as.
-    pub(crate) fn of_step(answer: &StepAnswer, from: u32, to: u32) -> Told
+    pub(crate) fn of_step(answer: &StepAnswer, from: u64, to: u64) -> Told
         ensures { result ≡ told_of_step answer.now from to }
     {
         match answer {

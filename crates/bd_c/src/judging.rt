@@ -15,9 +15,9 @@ use std::alloc::Global;
 #[repr(C)]
 #[derive(Clone, Copy)]
 pub struct Verdict {
-    /// Whether its entries are a history.
+    /// Whether its entries are lawful: each answer follows from the entries before.
     pub lawful: bool,
-    /// How many of them are one, from the first on.
+    /// How many of them are, from the first on.
     pub entries: usize,
 }
 

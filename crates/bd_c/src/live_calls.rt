@@ -1,5 +1,7 @@
 //! What C calls of a live engine: one handle, with which all seats' steps are made.
-ghost use Rattle.std.specs.Prelude.{◌≡◌, None};
+ghost use Rattle.std.specs.Prelude.{◌≡◌, [], None};
+ghost use Rattle.bd_space.specs.Histories.{history_of};
+ghost use Rattle.bd_engine.specs.Begun.{refusals};
 ghost use Rattle.bd_space.specs.declared.step.Step.TheVariants.{Open, Attach, SetManager, SetSpam, Read, ExitThread, ExitProcess};
 ghost use Rattle.bd_c.specs.{Status.{Reports}, Misuse.{IsMisuse}, Behind.{IsThere, IsLive}, Flags.{ByFlag}, Lives.{LiveOpensAt, StepsAt}};
 ghost use Rattle.bd_c.specs.LiveCommands.{Commands};
@@ -7,7 +9,7 @@ ghost use Rattle.bd_c.specs.LiveCommands.{Commands};
 use crate::answers::Told;
 use crate::handles::Handle;
 use crate::live_commands::command_of;
-use crate::lives::open_live;
+use crate::lives::{open_live, open_live_at};
 use crate::opening::put_made;
 use crate::requests::flag_of;
 use crate::status::Status;
@@ -18,13 +20,31 @@ use std::alloc::Global;
 #[tactic(auto, using(crate::proofs::Behind::none_there))]
 #[unsafe(no_mangle)]
 pub extern "C" fn hullpippin_live_new(alloc: Global, seats: u32, live: &mut Handle) -> u32
-    ensures begins { live.old.held ≡ None → Reports result (LiveOpensAt seats live.new.held) }
+    ensures begins { live.old.held ≡ None → Reports result (LiveOpensAt (history_of seats []) live.new.held) }
     ensures misuse { IsThere live.old.held → IsMisuse result live.old.held live.new.held }
 {
     if live.is_there() {
         return Status::Misuse.number();
     }
     put_made(live, open_live(alloc, seats))
+}
+
+/// Makes one that is as after so many refused steps, for tests of what is far behind the first: hullpippin.h hasn't got it.
+#[tactic(auto, using(crate::proofs::Behind::none_there))]
+#[unsafe(no_mangle)]
+pub extern "C" fn hullpippin_live_begun_at(
+    alloc: Global,
+    seats: u32,
+    steps: u64,
+    live: &mut Handle,
+) -> u32
+    ensures begins { live.old.held ≡ None → Reports result (LiveOpensAt (refusals seats steps) live.new.held) }
+    ensures misuse { IsThere live.old.held → IsMisuse result live.old.held live.new.held }
+{
+    if live.is_there() {
+        return Status::Misuse.number();
+    }
+    put_made(live, open_live_at(alloc, seats, steps))
 }
 
 // Makes a step.

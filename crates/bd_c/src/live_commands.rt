@@ -72,7 +72,7 @@ impl OwnedLive {
         if seat >= self.live.seats() {
             return Status::NoSuchSeat;
         }
-        if self.live.len() == u32::MAX {
+        if self.live.len() == u64::MAX {
             return Status::HistoryFull;
         }
         match parcel_for(alloc, &command, bytes, offsets) {

@@ -6,13 +6,13 @@ ghost use Rattle.bd_c.specs.{LiveEntries.{got_of, IsSpelled, spelled}, Parts.{Te
 use crate::live::OwnedLive;
 use crate::parts::{part_of, tell_written};
 use crate::status::Status;
-use bd_journal::{write_entry, write_heading};
+use bd_journal::{lay_entry, write_heading};
 use bd_space::{Entry, StepAnswer};
 use smallvec::SmallVec;
 use std::alloc::Global;
 
-// Nearly all entries are shorter. What is spelled within so many bytes asks for no memory.
-const SHORT: usize = 512;
+// A heading is shorter. What is spelled within so many bytes asks for no memory.
+const SHORT: usize = 32;
 
 /// A part of what the latest step got, if it was a read.
 pub(crate) fn got_of(latest: &Option<Entry>, part: u32) -> &[u8]
@@ -32,8 +32,8 @@ pub(crate) fn got_of(latest: &Option<Entry>, part: u32) -> &[u8]
 }
 
 impl OwnedLive {
-    /// Copies the bytes of the latest entry, if all of them fit.
-    pub(crate) fn entry(&self, alloc: Global, out: &mut [u8], size: &mut usize) -> Status
+    /// Spells the latest entry into the memory given, if all of it fits there.
+    pub(crate) fn entry(&self, out: &mut [u8], size: &mut usize) -> Status
         ensures { Tells (IsSpelled self.now.live.seats self.now.latest) (spelled self.now.latest)
             out.old out.new size.old size.new result }
     {
@@ -41,16 +41,20 @@ impl OwnedLive {
             *size = 0;
             return Status::Done;
         };
-        let mut entry: SmallVec<u8, SHORT, Global> = SmallVec::new(alloc);
-        let written = write_entry(self.live.seats(), latest, &mut entry);
-        tell_written(written, entry.as_slice(), out, size)
+        match lay_entry(self.live.seats(), latest, out) {
+            Some(len) => {
+                *size = len;
+                Status::Done
+            }
+            None => Status::NoJournal,
+        }
     }
 
     /// Copies the bytes of the heading of a journal of so many entries, if all of them fit.
     pub(crate) fn heading(
         &self,
         alloc: Global,
-        count: u32,
+        count: u64,
         out: &mut [u8],
         size: &mut usize,
     ) -> Status

@@ -30,7 +30,7 @@ pub extern "C" fn hullpippin_live_ready(live: &mut Handle, seat: u32) -> bool
 
 /// How many steps were made.
 #[unsafe(no_mangle)]
-pub extern "C" fn hullpippin_live_len(live: &mut Handle) -> u32
+pub extern "C" fn hullpippin_live_len(live: &mut Handle) -> u64
     ensures same { live.new.held ≡ live.old.held }
     ensures len { IsLive live.old.held → Of live_of live.old.held (λ x. (h : History) → Follows x.live h
         → result ≡ length h.entries) }
@@ -59,12 +59,7 @@ pub extern "C" fn hullpippin_live_bytes(live: &mut Handle, part: u32, out: &mut 
 
 /// Tells how many bytes the latest entry has in a journal, and copies them if all of them fit.
 #[unsafe(no_mangle)]
-pub extern "C" fn hullpippin_live_entry(
-    alloc: Global,
-    live: &mut Handle,
-    out: &mut [u8],
-    size: &mut usize,
-) -> u32
+pub extern "C" fn hullpippin_live_entry(live: &mut Handle, out: &mut [u8], size: &mut usize) -> u32
     ensures same { live.new.held ≡ live.old.held }
     ensures tells { IsLive live.old.held → Reports result (λ s. Of live_of live.old.held (λ x.
         Tells (IsSpelled x.live.seats x.latest) (spelled x.latest) out.old out.new size.old size.new s)) }
@@ -72,7 +67,7 @@ pub extern "C" fn hullpippin_live_entry(
         × (out.new ≡ out.old) × (size.new ≡ size.old) }
 {
     match live.engine() {
-        Some(engine) => engine.entry(alloc, out, size).number(),
+        Some(engine) => engine.entry(out, size).number(),
         None => Status::Misuse.number(),
     }
 }
@@ -82,7 +77,7 @@ pub extern "C" fn hullpippin_live_entry(
 pub extern "C" fn hullpippin_live_heading(
     alloc: Global,
     live: &mut Handle,
-    count: u32,
+    count: u64,
     out: &mut [u8],
     size: &mut usize,
 ) -> u32

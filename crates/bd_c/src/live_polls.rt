@@ -31,7 +31,7 @@ impl OwnedLive {
 /// Copies the places at which the buffers were made that ended by the latest step, oldest first, if all of them fit.
 /// Answers how many they are.
 #[unsafe(no_mangle)]
-pub extern "C" fn hullpippin_live_ended(live: &mut Handle, out: &mut [u32]) -> usize
+pub extern "C" fn hullpippin_live_ended(live: &mut Handle, out: &mut [u64]) -> usize
     ensures same { live.new.held ≡ live.old.held }
     ensures fetches { IsLive live.old.held
         → Of live_of live.old.held (λ x. Fetches x.ended.items out.old out.new result) }

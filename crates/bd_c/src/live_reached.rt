@@ -15,7 +15,7 @@ pub struct ListTold {
     /// 0 that of a seat's thread, 1 that of a process, 2 any list at all.
     pub kind: u32,
     /// The seat whose thread's list it is, or the process whose list it is, by the place of its Open; 0 of any list.
-    pub number: u32,
+    pub number: u64,
 }
 
 // Any list at all.
@@ -26,7 +26,10 @@ impl ListTold {
         ensures { result ≡ list_told list }
     {
         match list {
-            TodoList::OfThread(number) => ListTold { kind: 0, number },
+            TodoList::OfThread(seat) => ListTold {
+                kind: 0,
+                number: u64::from(seat),
+            },
             TodoList::OfProcess(number) => ListTold { kind: 1, number },
         }
     }

@@ -1,5 +1,7 @@
 //! A new live engine, as it comes behind a handle.
-ghost use Rattle.std.specs.Prelude.{Some, IfOk, IfErr};
+ghost use Rattle.std.specs.Prelude.{[], Some, IfOk, IfErr};
+ghost use Rattle.bd_space.specs.Histories.{history_of};
+ghost use Rattle.bd_engine.specs.Begun.{refusals};
 ghost use Rattle.bd_c.specs.{Behind.{Of, live_of}, Lives.{Begins, IsLiveRefusal}};
 
 use crate::held::Held;
@@ -10,9 +12,18 @@ use std::alloc::Global;
 
 /// A new live engine, in a box.
 pub(crate) fn open_live(alloc: Global, seats: u32) -> Result<Box<Held>, Status>
-    ensures ok { IfOk result (λ b. Of live_of (Some b.value) (Begins seats)) }
+    ensures ok { IfOk result (λ b. Of live_of (Some b.value) (Begins (history_of seats []))) }
     ensures refused { IfErr result (IsLiveRefusal seats) }
 {
     let live = OwnedLive::new(alloc, seats)?;
+    boxed(alloc, Held::Live(live))
+}
+
+/// One that is as after so many refused steps.
+pub(crate) fn open_live_at(alloc: Global, seats: u32, steps: u64) -> Result<Box<Held>, Status>
+    ensures ok { IfOk result (λ b. Of live_of (Some b.value) (Begins (refusals seats steps))) }
+    ensures refused { IfErr result (IsLiveRefusal seats) }
+{
+    let live = OwnedLive::begun_at(alloc, seats, steps)?;
     boxed(alloc, Held::Live(live))
 }

@@ -12,13 +12,13 @@ use crate::handles::Handle;
 use crate::space_told::{
     BufferTold, DeathTold, FrameTold, IdTold, ObjectTold, ProcessTold, ThreadTold, WorkTold,
 };
-use bd_space::{ObjectId, TodoList};
+use bd_space::{Identity, TodoList};
 
 /// Tells the live process that was opened by the step at a place.
 #[unsafe(no_mangle)]
 pub extern "C" fn hullpippin_live_process(
     live: &mut Handle,
-    made: u32,
+    made: u64,
     told: &mut ProcessTold,
 ) -> bool
     ensures same { live.new.held ≡ live.old.held }
@@ -36,7 +36,7 @@ pub extern "C" fn hullpippin_live_process(
 pub extern "C" fn hullpippin_live_process_of_pid(
     live: &mut Handle,
     pid: u32,
-    told: &mut u32,
+    told: &mut u64,
 ) -> bool
     ensures same { live.new.held ≡ live.old.held }
     ensures finds { IsLive live.old.held → Of live_of live.old.held (λ x. InSpace x (λ s. Finds (process_of_pid s pid) told.old told.new result)) }
@@ -82,7 +82,7 @@ pub extern "C" fn hullpippin_live_manager_object(live: &mut Handle, told: &mut I
 #[unsafe(no_mangle)]
 pub extern "C" fn hullpippin_live_object(
     live: &mut Handle,
-    place: u32,
+    place: u64,
     index: u32,
     told: &mut ObjectTold,
 ) -> bool
@@ -91,7 +91,7 @@ pub extern "C" fn hullpippin_live_object(
     ensures misuse { (IsLive live.old.held → ⊥) → (result ≡ false) × (told.new ≡ told.old) }
 {
     match live.engine() {
-        Some(engine) => engine.tell_object(ObjectId { place, index }, told),
+        Some(engine) => engine.tell_object(Identity { place, index }, told),
         None => false,
     }
 }
@@ -118,7 +118,7 @@ pub extern "C" fn hullpippin_live_named(
 #[unsafe(no_mangle)]
 pub extern "C" fn hullpippin_live_buffer(
     live: &mut Handle,
-    made: u32,
+    made: u64,
     told: &mut BufferTold,
 ) -> bool
     ensures same { live.new.held ≡ live.old.held }
@@ -135,7 +135,7 @@ pub extern "C" fn hullpippin_live_buffer(
 #[unsafe(no_mangle)]
 pub extern "C" fn hullpippin_live_carried(
     live: &mut Handle,
-    made: u32,
+    made: u64,
     index: usize,
     told: &mut IdTold,
 ) -> bool
@@ -171,7 +171,7 @@ pub extern "C" fn hullpippin_live_unread_of_thread(
 #[unsafe(no_mangle)]
 pub extern "C" fn hullpippin_live_unread_of_process(
     live: &mut Handle,
-    process: u32,
+    process: u64,
     index: usize,
     told: &mut WorkTold,
 ) -> bool
@@ -204,7 +204,7 @@ pub extern "C" fn hullpippin_live_innermost(
 
 /// Tells the death notification that was asked for by the step at a place.
 #[unsafe(no_mangle)]
-pub extern "C" fn hullpippin_live_death(live: &mut Handle, made: u32, told: &mut DeathTold) -> bool
+pub extern "C" fn hullpippin_live_death(live: &mut Handle, made: u64, told: &mut DeathTold) -> bool
     ensures same { live.new.held ≡ live.old.held }
     ensures finds { IsLive live.old.held → Of live_of live.old.held (λ x. InSpace x (λ s. Finds (option_map death_told (find (is_notification made) s.deaths)) told.old told.new result)) }
     ensures misuse { (IsLive live.old.held → ⊥) → (result ≡ false) × (told.new ≡ told.old) }
@@ -220,8 +220,8 @@ pub extern "C" fn hullpippin_live_death(live: &mut Handle, made: u32, told: &mut
 #[unsafe(no_mangle)]
 pub extern "C" fn hullpippin_live_next_process(
     live: &mut Handle,
-    from: u32,
-    place: &mut u32,
+    from: u64,
+    place: &mut u64,
 ) -> bool
     ensures same { live.new.held ≡ live.old.held }
     ensures finds { IsLive live.old.held → Of live_of live.old.held (λ x. InSpace x (λ s. Finds (next_process s from) place.old place.new result)) }
@@ -255,9 +255,9 @@ pub extern "C" fn hullpippin_live_next_handle(
 #[unsafe(no_mangle)]
 pub extern "C" fn hullpippin_live_next_buffer(
     live: &mut Handle,
-    process: u32,
-    from: u32,
-    made: &mut u32,
+    process: u64,
+    from: u64,
+    made: &mut u64,
 ) -> bool
     ensures same { live.new.held ≡ live.old.held }
     ensures finds { IsLive live.old.held → Of live_of live.old.held (λ x. InSpace x (λ s. Finds (next_buffer s process from) made.old made.new result)) }

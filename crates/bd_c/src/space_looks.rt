@@ -10,9 +10,9 @@ use crate::space_told::{
     BufferTold, DeathTold, FrameTold, IdTold, ObjectTold, ProcessTold, ThreadTold, WorkTold,
 };
 use bd_engine::{CarriedObjects, Looks, Works};
-use bd_space::{ObjectId, TodoList, Work};
+use bd_space::{Identity, TodoList, Work};
 
-fn carried_at(mut objects: CarriedObjects<'_>, index: usize) -> Option<ObjectId>
+fn carried_at(mut objects: CarriedObjects<'_>, index: usize) -> Option<Identity>
     ensures { result ≡ slice_get objects.entry index }
 {
     objects.nth(index)
@@ -27,7 +27,7 @@ fn unread_at(mut works: Works<'_>, index: usize) -> Option<Work>
 impl OwnedLive {
     /// Tells the live process that was opened by the step at a place.
     #[tactic(auto, using(crate::proofs::Looking::finds_some, crate::proofs::Looking::finds_none))]
-    pub(crate) fn tell_process(&self, made: u32, told: &mut ProcessTold) -> bool
+    pub(crate) fn tell_process(&self, made: u64, told: &mut ProcessTold) -> bool
         ensures { InSpace self.now (λ s. Finds (option_map process_told (process_in s.processes made)) told.old told.new result) }
     {
         match self.live.process(made) {
@@ -69,7 +69,7 @@ impl OwnedLive {
 
     /// Tells an object of the space, by its identity.
     #[tactic(auto, using(crate::proofs::Looking::finds_some, crate::proofs::Looking::finds_none))]
-    pub(crate) fn tell_object(&self, id: ObjectId, told: &mut ObjectTold) -> bool
+    pub(crate) fn tell_object(&self, id: Identity, told: &mut ObjectTold) -> bool
         ensures { InSpace self.now (λ s. Finds (option_map object_told (object_in s.objects id)) told.old told.new result) }
     {
         match self.live.object(id) {
@@ -97,7 +97,7 @@ impl OwnedLive {
 
     /// Tells the live buffer that was made by the step at a place.
     #[tactic(auto, using(crate::proofs::Looking::finds_some, crate::proofs::Looking::finds_none))]
-    pub(crate) fn tell_buffer(&self, made: u32, told: &mut BufferTold) -> bool
+    pub(crate) fn tell_buffer(&self, made: u64, told: &mut BufferTold) -> bool
         ensures { InSpace self.now (λ s. Finds (option_map buffer_told (buffer_in s.buffers made)) told.old told.new result) }
     {
         match self.live.buffer(made) {
@@ -125,7 +125,7 @@ impl OwnedLive {
 
     /// Tells the death notification that was asked for by the step at a place.
     #[tactic(auto, using(crate::proofs::Looking::finds_some, crate::proofs::Looking::finds_none))]
-    pub(crate) fn tell_death(&self, made: u32, told: &mut DeathTold) -> bool
+    pub(crate) fn tell_death(&self, made: u64, told: &mut DeathTold) -> bool
         ensures { InSpace self.now (λ s. Finds (option_map death_told (find (is_notification made) s.deaths)) told.old told.new result) }
     {
         match self.live.death(made) {
@@ -139,7 +139,7 @@ impl OwnedLive {
 
     /// The live process with this pid, by the place of its Open.
     #[tactic(auto, using(crate::proofs::Looking::finds_some, crate::proofs::Looking::finds_none))]
-    pub(crate) fn tell_process_of_pid(&self, pid: u32, made: &mut u32) -> bool
+    pub(crate) fn tell_process_of_pid(&self, pid: u32, made: &mut u64) -> bool
         ensures { InSpace self.now (λ s. Finds (process_of_pid s pid) made.old made.new result) }
     {
         match self.live.process_of_pid(pid) {
@@ -153,7 +153,7 @@ impl OwnedLive {
 
     /// One of the objects that the live buffer made there carries.
     #[tactic(auto, using(crate::proofs::Looking::finds_some, crate::proofs::Looking::finds_none))]
-    pub(crate) fn tell_carried(&self, made: u32, index: usize, told: &mut IdTold) -> bool
+    pub(crate) fn tell_carried(&self, made: u64, index: usize, told: &mut IdTold) -> bool
         ensures { InSpace self.now (λ s. Finds (option_map id_told (slice_get (carried s made) index)) told.old told.new result) }
     {
         match carried_at(self.live.carried(made), index) {
@@ -181,7 +181,7 @@ impl OwnedLive {
 
     /// The first live process that was opened at this place or behind it, by the place of its Open.
     #[tactic(auto, using(crate::proofs::Looking::finds_some, crate::proofs::Looking::finds_none))]
-    pub(crate) fn tell_next_process(&self, from: u32, place: &mut u32) -> bool
+    pub(crate) fn tell_next_process(&self, from: u64, place: &mut u64) -> bool
         ensures { InSpace self.now (λ s. Finds (next_process s from) place.old place.new result) }
     {
         match self.live.next_process(from) {
@@ -208,7 +208,7 @@ impl OwnedLive {
 
     /// The first live buffer of a process that was made at this place or behind it.
     #[tactic(auto, using(crate::proofs::Looking::finds_some, crate::proofs::Looking::finds_none))]
-    pub(crate) fn tell_next_buffer(&self, process: u32, from: u32, made: &mut u32) -> bool
+    pub(crate) fn tell_next_buffer(&self, process: u64, from: u64, made: &mut u64) -> bool
         ensures { InSpace self.now (λ s. Finds (next_buffer s process from) made.old made.new result) }
     {
         match self.live.next_buffer(process, from) {

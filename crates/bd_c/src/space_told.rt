@@ -2,7 +2,7 @@
 //! notifications, and what is still to be read.
 use crate::spelled::ReturnInC;
 use bd_space::{
-    Buffer, DeathNotification, Object, ObjectId, Phase, Process, Thread, Work, WorkKind,
+    Buffer, DeathNotification, Identity, Object, Phase, Process, Thread, Work, WorkKind,
 };
 use bd_uapi::Return;
 use bitflags::Flags;
@@ -12,7 +12,7 @@ use bitflags::Flags;
 #[derive(Clone, Copy)]
 pub struct IdTold {
     /// The place of the step that made it.
-    pub place: u32,
+    pub place: u64,
     /// Which of that step's objects it is, from 0.
     pub index: u32,
 }
@@ -22,7 +22,7 @@ pub struct IdTold {
 #[derive(Clone, Copy)]
 pub struct ProcessTold {
     /// The place of its Open, which is its name.
-    pub made: u32,
+    pub made: u64,
     /// The process's pid, which no other live process has.
     pub pid: u32,
     /// The process's effective user id, as it was opened with.
@@ -38,9 +38,9 @@ pub struct ProcessTold {
 #[derive(Clone, Copy)]
 pub struct ThreadTold {
     /// The place of its Open or Attach.
-    pub made: u32,
+    pub made: u64,
     /// Its process, by the place of its Open.
-    pub process: u32,
+    pub process: u64,
     /// Whether it has entered the loop.
     pub looping: bool,
 }
@@ -50,7 +50,7 @@ pub struct ThreadTold {
 #[derive(Clone, Copy)]
 pub struct ObjectTold {
     /// The process that owns it, live or not.
-    pub owner: u32,
+    pub owner: u64,
     /// The pointer by which its owner knows it.
     pub ptr: u64,
     /// The cookie that its owner gave with it.
@@ -66,9 +66,9 @@ pub struct ObjectTold {
 #[derive(Clone, Copy)]
 pub struct BufferTold {
     /// The process whose window it lies in.
-    pub receiver: u32,
+    pub receiver: u64,
     /// The process that sent it, live or not.
-    pub sender: u32,
+    pub sender: u64,
     /// Where it begins in the window, in bytes.
     pub start: u32,
     /// How many bytes of the window it takes.
@@ -98,7 +98,7 @@ pub struct BufferTold {
 #[derive(Clone, Copy)]
 pub struct FrameTold {
     /// The place of its transaction.
-    pub made: u32,
+    pub made: u64,
     /// Whether the thread serves it.
     pub serves: bool,
 }
@@ -108,7 +108,7 @@ pub struct FrameTold {
 #[derive(Clone, Copy)]
 pub struct DeathTold {
     /// The process that asked for it, by the place of its Open.
-    pub process: u32,
+    pub process: u64,
     /// The object whose owner's end is to be told.
     pub object: IdTold,
     /// The cookie that the process gave with it.
@@ -124,7 +124,7 @@ pub struct DeathTold {
 #[derive(Clone, Copy)]
 pub struct WorkTold {
     /// The place of the step that made it.
-    pub place: u32,
+    pub place: u64,
     /// Which of that step's it is, from 0.
     pub index: u64,
     /// 1 a notice, 2 a completion, 3 a refusal, 4 a call, 5 a reply, 6 a verdict, 7 a death, 8 a death notification that was
@@ -137,7 +137,7 @@ pub struct WorkTold {
     /// Of a refusal or a verdict, the code of its return.
     pub code: u32,
     /// Of a call or a reply the buffer, of a death its notification.
-    pub made: u32,
+    pub made: u64,
     /// Of a death notification that was cleared, its cookie.
     pub cookie: u64,
 }
@@ -147,7 +147,7 @@ impl IdTold {
     ghost use Rattle.bd_c.specs.SpaceTold.{id_told, no_id};
 
     /// What is told of an identity.
-    pub(crate) fn of(id: ObjectId) -> IdTold
+    pub(crate) fn of(id: Identity) -> IdTold
         ensures { result ≡ id_told id }
     {
         IdTold {
@@ -221,7 +221,7 @@ impl BufferTold {
     ghost use Rattle.bd_c.specs.SpaceTold.{buffer_told, target_told};
 
     // The object that a buffer's transaction goes to; of a reply none.
-    fn target(target: Option<ObjectId>) -> IdTold
+    fn target(target: Option<Identity>) -> IdTold
         ensures { result ≡ target_told target }
     {
         match target {

@@ -182,7 +182,7 @@ pub extern "C" fn hullpippin_text_bytes(kind: u32, number: u32, out: &mut [u8]) 
 }
 
 // The three numbers of the library's version, a byte each.
-const VERSION: u32 = 0x010000;
+const VERSION: u32 = 0x020000;
 
 /// The version of the library: its three numbers, a byte each.
 #[unsafe(no_mangle)]

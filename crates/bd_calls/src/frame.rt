@@ -25,7 +25,7 @@ use bd_uapi::Return;
 use std::alloc::AllocError;
 
 // The frame's caller is a thread of the process.
-fn waits(threads: &ThreadTable, process: u32, frame: &Frame) -> bool
+fn waits(threads: &ThreadTable, process: u64, frame: &Frame) -> bool
     ensures { result ≡ spec.waits_in (listed threads.now) process frame.now }
 {
     frame
@@ -34,7 +34,7 @@ fn waits(threads: &ThreadTable, process: u32, frame: &Frame) -> bool
         .is_some_and(|thread| thread.process == process)
 }
 
-fn newest_made(frames: &FrameTable, seat: u32) -> Option<u32>
+fn newest_made(frames: &FrameTable, seat: u32) -> Option<u64>
     ensures { frame_table.Tells frames.now result (λ l. option_map spec.made_of (newest_in l seat)) }
 {
     frames.newest_of(seat).map(|f| f.made)
@@ -45,8 +45,8 @@ fn newest_made(frames: &FrameTable, seat: u32) -> Option<u32>
 fn list_from(
     threads: &ThreadTable,
     frames: &FrameTable,
-    from: Option<u32>,
-    process: u32,
+    from: Option<u64>,
+    process: u64,
 ) -> TodoList
     ensures { frame_table.Tells frames.now result (λ l. spec.list_of_caller process
         (find (spec.waits_in (listed threads.now) process) (spec.ancestry from (reverse l)))) }
@@ -101,7 +101,7 @@ impl CallTable {
     ghost use Rattle.bd_calls.specs.{Told.{KeepsTold, ReachesFew}, Room.{Uses, UsesNothing, nothing, frame_room, work_room, frame_count}};
 
     /// The frame of the call made at this place.
-    pub fn frame(&self, made: u32) -> Option<Frame>
+    pub fn frame(&self, made: u64) -> Option<Frame>
         ensures { Tells (StandsFor self.now) result (λ s. find (spec.is_frame made) s.frames) }
     {
         self.frames.frame(made)
@@ -125,7 +125,7 @@ impl CallTable {
 
     /// A thread calls a process, and waits: a frame comes in, and the call is due at once, both made at this place. There is
     /// room for both, each thread's frames are a stack, and all frames were made before.
-    pub fn call_out(&mut self, place: u32, seat: u32, process: u32)
+    pub fn call_out(&mut self, place: u64, seat: u32, process: u64)
         requires frames { 1 ≤ frame_room self.old }
         requires works { 1 ≤ work_room self.old }
         ensures stands { MakesOfStackedAt place self.old self.new (λ s. call_out s seat process) }
@@ -146,7 +146,7 @@ impl CallTable {
     }
 
     /// A call's frame closes.
-    pub fn close(&mut self, made: u32)
+    pub fn close(&mut self, made: u64)
         ensures stands { Makes (StandsFor self.old) (StandsFor self.new) (λ s. spec.closed s made) }
         ensures uses { UsesNothing self.old self.new }
         ensures told { KeepsTold self.old self.new }
@@ -158,7 +158,7 @@ impl CallTable {
     // The call made there closes if it is abandoned, then the one in which it was made, and so on while one closes, so many
     // at most; each caller that lives is told. How many more may close.
     #[tactic(auto)]
-    fn close_up_within(&mut self, place: u32, made: Option<u32>, most: usize) -> usize
+    fn close_up_within(&mut self, place: u64, made: Option<u64>, most: usize) -> usize
         requires { most ≤ work_room self.old }
         ensures closing { (due : List ℕ) (whole : Space) → IsClosing self.old place most (cons_option made due) whole
             → IsClosing self.new place result due whole }
@@ -185,7 +185,7 @@ impl CallTable {
     /// The call made there closes if it is abandoned, then the one in which it was made, and so on while one closes;
     /// each caller that lives is told, by a work item made at this place.
     #[tactic(auto, unfolding(crate::specs::Room::rooms))]
-    pub fn close_up(&mut self, place: u32, made: Option<u32>)
+    pub fn close_up(&mut self, place: u64, made: Option<u64>)
         requires { frame_count self.old ≤ work_room self.old }
         ensures stands { MakesAt place (StandsFor self.old) (StandsFor self.new)
             (λ s. local.close_up (length s.frames) made s) }
@@ -200,7 +200,7 @@ impl CallTable {
     /// Of the chosen calls those close that are abandoned, oldest first, until there are none left; where one closes, the
     /// one in which it was made is chosen for it. Each caller that lives is told, by a work item made at this place.
     #[tactic(auto)]
-    pub fn close_among(&mut self, place: u32, chosen: &mut [u32])
+    pub fn close_among(&mut self, place: u64, chosen: &mut [u64])
         requires { frame_count self.old ≤ work_room self.old }
         ensures stands { MakesAt place (StandsFor self.old) (StandsFor self.new)
             (λ s. local.close_among (length s.frames) (is_place_among chosen.old) s) }
@@ -217,7 +217,7 @@ impl CallTable {
     }
 
     /// Where the calls were made that the thread of a seat serves, put after what is there. Fails for want of memory alone.
-    pub fn served(&self, seat: u32, served: &mut Vec<u32>) -> Result<(), AllocError>
+    pub fn served(&self, seat: u32, served: &mut Vec<u64>) -> Result<(), AllocError>
         ensures { OnOk result (Tells (StandsFor self.now) served.new.items
             (λ s. served.old.items ++ map spec.made_of (filter (λ f. spec.serves seat f.server) s.frames))) }
     {

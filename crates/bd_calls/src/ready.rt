@@ -35,7 +35,7 @@ pub(crate) struct ReadySeats {
 }
 
 // What is kept of a seat, once something is on the process's list or nothing is.
-fn with_shared(seen: Option<Seen>, process: u32, has: bool) -> Option<Seen>
+fn with_shared(seen: Option<Seen>, process: u64, has: bool) -> Option<Seen>
     ensures { result ≡ option_map (spec.with_shared process has) seen }
 {
     let mut seen = seen?;
@@ -45,7 +45,7 @@ fn with_shared(seen: Option<Seen>, process: u32, has: bool) -> Option<Seen>
     Some(seen)
 }
 
-fn note_members(seats: &mut Vec<Option<Seen>>, process: u32, has: bool)
+fn note_members(seats: &mut Vec<Option<Seen>>, process: u64, has: bool)
     ensures { seats.new.items ≡ map (option_map (spec.with_shared process has)) seats.old.items }
 {
     for seen in seats.iter_mut() {

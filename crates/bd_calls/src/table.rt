@@ -221,7 +221,7 @@ impl CallTable {
     }
 
     /// A process without threads ends: its list goes, and the one-way calls in its window.
-    pub fn end_process(&mut self, process: u32)
+    pub fn end_process(&mut self, process: u64)
         ensures stands { Makes (StandsFor self.old) (StandsFor self.new) (λ s. exits.without_process s process) }
         ensures uses { UsesNothing self.old self.new }
         ensures told { KeepsTold self.old self.new }

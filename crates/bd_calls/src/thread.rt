@@ -21,7 +21,7 @@ impl CallTable {
     }
 
     /// The seats of a process's threads. Fails for want of memory alone, and never where there are none.
-    pub fn seats_of(&self, alloc: Global, process: u32) -> Result<Vec<u32>, AllocError>
+    pub fn seats_of(&self, alloc: Global, process: u64) -> Result<Vec<u32>, AllocError>
         ensures seats { IfOk result (λ v. Tells (StandsFor self.now) v.items
             (λ s. map seat_of (filter (λ t. t.process == process) s.threads))) }
         // Memory was asked for: there was a seat to put into it.
@@ -32,7 +32,7 @@ impl CallTable {
     }
 
     /// A thread comes in, made at the place of the step, for a seat that has none. There is room for it.
-    pub fn add_thread(&mut self, place: u32, seat: u32, process: u32)
+    pub fn add_thread(&mut self, place: u64, seat: u32, process: u64)
         requires { 1 ≤ thread_room self.old }
         ensures stands { MakesWhere (StandsFor self.old) (λ s. IsAt place s × (thread_in s.threads seat ≡ None))
             (StandsFor self.new) (λ s. with_thread s seat process) }

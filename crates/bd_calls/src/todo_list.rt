@@ -13,7 +13,7 @@ ghost use Rattle.bd_todo.specs.TodoList as replies;
 use crate::ready::{Seen, look_at};
 use crate::table::CallTable;
 use bd_frames::FrameTable;
-use bd_space::{Frame, ObjectId, Thread, TodoList, Work, WorkKind};
+use bd_space::{Frame, Identity, Thread, TodoList, Work, WorkKind};
 use bd_todo::{WorkTable, Works};
 
 // The thread has entered the loop and is in no call.
@@ -68,7 +68,7 @@ impl CallTable {
     }
 
     /// Where the first reply on a list was made.
-    pub fn first_reply(&self, list: TodoList) -> Option<u32>
+    pub fn first_reply(&self, list: TodoList) -> Option<u64>
         ensures { Tells (StandsFor self.now) result (λ s. replies.first_reply_in (spec.work_on s.todo (Some list))) }
     {
         self.todo.first_reply(list)
@@ -96,7 +96,7 @@ impl CallTable {
     }
 
     /// A work item comes onto a list, made at this place.
-    pub fn owe(&mut self, place: u32, list: TodoList, kind: WorkKind)
+    pub fn owe(&mut self, place: u64, list: TodoList, kind: WorkKind)
         requires { 1 ≤ work_room self.old }
         ensures stands { MakesAt place (StandsFor self.old) (StandsFor self.new) (λ s. spec.owe s list kind) }
         ensures uses { Uses self.old self.new (record nothing { works = 1 }) }
@@ -111,7 +111,7 @@ impl CallTable {
     }
 
     /// The caller of a frame, if it lives, gets a work item, made at this place.
-    pub fn tell_caller(&mut self, place: u32, frame: Frame, kind: WorkKind)
+    pub fn tell_caller(&mut self, place: u64, frame: Frame, kind: WorkKind)
         requires { 1 ≤ work_room self.old }
         ensures stands { MakesAt place (StandsFor self.old) (StandsFor self.new) (λ s. spec.tell_caller s frame kind) }
         ensures uses { Uses self.old self.new (record nothing { works = 1 }) }
@@ -142,7 +142,7 @@ impl CallTable {
     }
 
     /// The notice of an object whose owner is to be told comes onto a list, if it is missing, made at this place.
-    pub fn add_notice(&mut self, place: u32, list: TodoList, object: ObjectId, wanted: bool)
+    pub fn add_notice(&mut self, place: u64, list: TodoList, object: Identity, wanted: bool)
         requires { 1 ≤ work_room self.old }
         ensures stands { (s : Space) (x : Object) → StandsFor self.old s → s.steps ≡ place → x.id ≡ object
             → wanted ≡ notices.wants_notice s.processes s.references x
@@ -159,7 +159,7 @@ impl CallTable {
     }
 
     /// The notice of an object goes.
-    pub fn withdraw_notice(&mut self, object: ObjectId)
+    pub fn withdraw_notice(&mut self, object: Identity)
         ensures stands { Makes (StandsFor self.old) (StandsFor self.new)
             (λ s. record s { todo = filter (λ w. not (spec.is_notice object w.kind)) s.todo }) }
         ensures uses { UsesNothing self.old self.new }
@@ -173,7 +173,7 @@ impl CallTable {
     }
 
     /// The work item of a death notification goes.
-    pub fn withdraw_death(&mut self, made: u32)
+    pub fn withdraw_death(&mut self, made: u64)
         ensures stands { Makes (StandsFor self.old) (StandsFor self.new)
             (λ s. record s { todo = filter (λ w. not (is_some_and (spec.death_of w.kind) (λ n. n == made))) s.todo }) }
         ensures uses { UsesNothing self.old self.new }

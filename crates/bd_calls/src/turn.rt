@@ -16,7 +16,7 @@ ghost use Rattle.bd_turns.specs.Room as turn_rooms;
 ghost use Rattle.bd_calls.specs.Turn.{handed_turns};
 
 use crate::table::CallTable;
-use bd_space::{ObjectId, TodoList, Turn, Work, WorkKind};
+use bd_space::{Identity, TodoList, Turn, Work, WorkKind};
 use bd_todo::{WorkTable, hands_out};
 use bd_turns::TurnTable;
 
@@ -41,7 +41,7 @@ fn push_turn(turns: &mut TurnTable, turn: Option<Turn>)
 }
 
 // The buffer that is handed over by reading these.
-fn handed_by(taken: &[Work]) -> Option<u32>
+fn handed_by(taken: &[Work]) -> Option<u64>
     ensures { result ≡ first_of (map (λ w. works.hands_out w.kind) taken.now) }
 {
     for work in taken {
@@ -96,7 +96,7 @@ impl CallTable {
     }
 
     /// The one-way call of a freed buffer goes, if it is one.
-    pub fn remove_turn(&mut self, made: u32)
+    pub fn remove_turn(&mut self, made: u64)
         ensures stands { Makes (StandsFor self.old) (StandsFor self.new) (λ s. without_buffer s made) }
         ensures uses { UsesNothing self.old self.new }
         ensures told { KeepsTold self.old self.new }
@@ -106,7 +106,7 @@ impl CallTable {
     }
 
     /// The oldest one-way call on an object becomes due, made at this place, unless somebody was told of it before.
-    pub fn ripen_on(&mut self, place: u32, object: ObjectId)
+    pub fn ripen_on(&mut self, place: u64, object: Identity)
         requires { 1 ≤ work_room self.old }
         ensures stands { MakesAt place (StandsFor self.old) (StandsFor self.new) (local.ripen_of object) }
         ensures uses { Uses self.old self.new (record nothing { works = 1 }) }

@@ -37,8 +37,8 @@ kept t u q f alike l h items order same told = record {
   keyed = record {
     groups = λ k. ap (λ s. group_at s k) same ∙ h.keyed.groups k
         ∙ sym (group_stays q f (λ x. (alike x).made) (has k) (λ x. has_alike k x (f x) (alike x)) l);
-    places = All_changed (λ (x : DeathNotification). x.made < 2 ^ 32) q f
-        (λ x fits. subst (λ n. n < 2 ^ 32) (sym (alike x).made) fits) l h.keyed.places;
+    places = All_changed (λ (x : DeathNotification). x.made < 2 ^ 64) q f
+        (λ x fits. subst (λ n. n < 2 ^ 64) (sym (alike x).made) fits) l h.keyed.places;
   };
   none_told = told;
 }

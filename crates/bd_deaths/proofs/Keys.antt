@@ -27,7 +27,7 @@ pub same_group : (ys zs : List DeathNotification) → length ys ≡ length zs �
 same_group [] [] e f = refl
 same_group [] (z ∷ zs) e f = absurd (omega (arith, e))
 same_group (y ∷ ys) [] e f = absurd (omega (arith, e))
-same_group (y ∷ ys) (z ∷ zs) e f = same_kept _ _ _ _ e (ap (λ n. n % 2 ^ 32) f)
+same_group (y ∷ ys) (z ∷ zs) e f = same_kept _ _ _ _ e (ap (λ n. n % 2 ^ 64) f)
 
 -- something is kept where there are any
 pub any_kept : (q : DeathNotification → Bool) (xs : List DeathNotification) → is_some (group (filter q xs)) ≡ list_any q xs
@@ -45,22 +45,22 @@ length_push [] x = refl
 length_push (y ∷ ys) x = let e = length_push ys x in omega (arith, e)
 
 -- the sum of one is its place
-pub sum_of_one : (made : ℕ) → made < 2 ^ 32 → (0 + made) % 2 ^ 32 ≡ made
-sum_of_one made fits = let e : 0 + made ≡ made = omega arith in ap (λ n. n % 2 ^ 32) e ∙ mod-eq_of_lt fits
+pub sum_of_one : (made : ℕ) → made < 2 ^ 64 → (0 + made) % 2 ^ 64 ≡ made
+sum_of_one made fits = let e : 0 + made ≡ made = omega arith in ap (λ n. n % 2 ^ 64) e ∙ mod-eq_of_lt fits
 
-group_more : (ys : List DeathNotification) (x : DeathNotification) → length ys + 1 < 2 ^ 64 → x.made < 2 ^ 32
+group_more : (ys : List DeathNotification) (x : DeathNotification) → length ys + 1 < 2 ^ 64 → x.made < 2 ^ 64
     → group (ys ++ x ∷ []) ≡ Some (with_one x.made (group ys))
-group_more [] x few fits = same_kept 1 1 ((0 + x.made) % 2 ^ 32) x.made refl (sum_of_one x.made fits)
+group_more [] x few fits = same_kept 1 1 ((0 + x.made) % 2 ^ 64) x.made refl (sum_of_one x.made fits)
 group_more (y ∷ ys) x few fits = same_kept _ _ _ _
     (length_push (y ∷ ys) x ∙ sym (mod-eq_of_lt few))
-    (ap (λ n. n % 2 ^ 32) (sum_by_push made_of (y ∷ ys) x)
-    ∙ sym (mod-add-mod (places (y ∷ ys)) (2 ^ 32) x.made))
+    (ap (λ n. n % 2 ^ 64) (sum_by_push made_of (y ∷ ys) x)
+    ∙ sym (mod-add-mod (places (y ∷ ys)) (2 ^ 64) x.made))
 
 pub few_pass : (q : DeathNotification → Bool) (xs : List DeathNotification) → length (filter q xs) ≤ length xs
 few_pass q xs = subst (λ n. n ≤ length xs) (sym (length-filter q xs)) (count_by-le-length q xs)
 
 pub group_push : (q : DeathNotification → Bool) (xs : List DeathNotification) (x : DeathNotification)
-    → length xs + 1 < 2 ^ 64 → x.made < 2 ^ 32 → (b : Bool) → q x ≡ b
+    → length xs + 1 < 2 ^ 64 → x.made < 2 ^ 64 → (b : Bool) → q x ≡ b
     → group (filter q (xs ++ x ∷ [])) ≡ cond b (Some (with_one x.made (group (filter q xs)))) (group (filter q xs))
 group_push q xs x few fits true h =
     let fewer = few_pass q xs in
@@ -99,11 +99,11 @@ places_remove q (x ∷ xs) (suc i) d h e = by (q x) (places_remove q xs i d (ome
     by false g = g
 
 -- what was added is taken off, whether or not the sum wrapped
-taken_off : (s t m : ℕ) → m < 2 ^ 32 → t + m ≡ s → (s % 2 ^ 32 + (2 ^ 32 - m)) % 2 ^ 32 ≡ t % 2 ^ 32
+taken_off : (s t m : ℕ) → m < 2 ^ 64 → t + m ≡ s → (s % 2 ^ 64 + (2 ^ 64 - m)) % 2 ^ 64 ≡ t % 2 ^ 64
 taken_off s t m fits e =
-    mod-add-mod s (2 ^ 32) (2 ^ 32 - m)
-    ∙ ap (λ n. n % 2 ^ 32) (omega (arith, fits, e))
-    ∙ add-mod_right t (2 ^ 32)
+    mod-add-mod s (2 ^ 64) (2 ^ 64 - m)
+    ∙ ap (λ n. n % 2 ^ 64) (omega (arith, fits, e))
+    ∙ add-mod_right t (2 ^ 64)
 
 several : (n : ℕ) → 1 < n → nat_le n 1 ≡ false
 several n h = by (nat_le n 1) refl
@@ -112,7 +112,7 @@ several n h = by (nat_le n 1) refl
     by true e = let few = leb-true n 1 e in absurd (omega (arith, few, h))
     by false e = refl
 
-group_less : (ys zs : List DeathNotification) (m : ℕ) → m < 2 ^ 32 → length zs + 1 ≡ length ys
+group_less : (ys zs : List DeathNotification) (m : ℕ) → m < 2 ^ 64 → length zs + 1 ≡ length ys
     → places zs + m ≡ places ys → without_one m (group ys) ≡ group zs
 group_less [] zs m fits h e = absurd (omega (arith, h))
 group_less (y ∷ []) [] m fits h e = refl
@@ -121,11 +121,11 @@ group_less (y ∷ x ∷ ys) [] m fits h e = absurd (omega (arith, h))
 group_less (y ∷ x ∷ ys) (z ∷ zs) m fits h e =
     rw (several (length (y ∷ x ∷ ys)) (omega arith))
     (same_kept (length (y ∷ x ∷ ys) - 1) (length (z ∷ zs))
-    ((places (y ∷ x ∷ ys) % 2 ^ 32 + (2 ^ 32 - m)) % 2 ^ 32) (places (z ∷ zs) % 2 ^ 32)
+    ((places (y ∷ x ∷ ys) % 2 ^ 64 + (2 ^ 64 - m)) % 2 ^ 64) (places (z ∷ zs) % 2 ^ 64)
     (omega (arith, h)) (taken_off (places (y ∷ x ∷ ys)) (places (z ∷ zs)) m fits e))
 
 pub group_remove : (q : DeathNotification → Bool) (xs : List DeathNotification) (i : ℕ) (d : DeathNotification)
-    → i < length xs → (get_or xs i d).made < 2 ^ 32 → q (get_or xs i d) ≡ true
+    → i < length xs → (get_or xs i d).made < 2 ^ 64 → q (get_or xs i d) ≡ true
     → without_one (get_or xs i d).made (group (filter q xs)) ≡ group (filter q (remove xs i))
 group_remove q xs i d h fits e =
     group_less (filter q xs) (filter q (remove xs i)) (get_or xs i d).made fits (length_remove q xs i d h e)

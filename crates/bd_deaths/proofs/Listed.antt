@@ -10,7 +10,7 @@ use Rattle.bd_groups.specs.declared.group.Group.{Group}
 use Rattle.bd_groups.specs.declared.group.Group.TheVariants.{Process}
 use Rattle.bd_groups.specs.Group.{same_group}
 use Rattle.bd_groups.specs.Members.{members, IsIn}
-use Rattle.bd_space.specs.declared.step.ObjectId.{ObjectId}
+use Rattle.bd_space.specs.declared.step.Identity.{Identity}
 use Rattle.bd_space.specs.declared.space.DeathNotification.{DeathNotification}
 use Rattle.bd_space.specs.Words.{changed}
 use Rattle.bd_deaths.specs.Keys.{object_group}
@@ -45,7 +45,7 @@ module _ (p : ℕ) (t u : Groups ℕ)
   unfolding same_group
   of_other n e = eqb_turned p n ∙ e
 
-  of_object : (h : ObjectId) → same_group (Process p) (object_group h) ≡ false
+  of_object : (h : Identity) → same_group (Process p) (object_group h) ≡ false
   unfolding same_group
   of_object h = refl
 

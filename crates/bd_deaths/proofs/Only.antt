@@ -6,7 +6,7 @@ use Rattle.std.proofs.lemmas.List.Sums.{sum_by-cons}
 use Rattle.std.proofs.lemmas.Slice.{between_is}
 use Rattle.std.proofs.lemmas.Bool.{eq-eqb}
 use Rattle.bd_space.specs.declared.space.DeathNotification.{DeathNotification}
-use Rattle.bd_space.specs.declared.step.ObjectId.{ObjectId}
+use Rattle.bd_space.specs.declared.step.Identity.{Identity}
 use Rattle.bd_space.specs.Words.{same}
 use Rattle.bd_space.specs.Deaths.{is_notification, is_uncleared_on}
 use Rattle.bd_ways.specs.Ranges.{IsPartOf}
@@ -59,7 +59,7 @@ pub only_of : (q : DeathNotification → Bool) (ys xs : List DeathNotification) 
 only_of q ys xs h = rw (count_of q ys xs h, find_of q q ys xs (λ x e. e) h) refl
 
 -- the uncleared ones on a name have its key
-pub on_name : (p : ℕ) (o : ObjectId) (k : Key) (ys xs : List DeathNotification)
+pub on_name : (p : ℕ) (o : Identity) (k : Key) (ys xs : List DeathNotification)
     → k ≡ name_key p o → IsPartOf (has k) ys xs → IsPartOf (is_uncleared_on p o) ys xs
 on_name p o k ys xs is part =
     let h = subst (λ (j : Key). IsPartOf (has j) ys xs) is part in

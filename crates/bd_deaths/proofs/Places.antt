@@ -81,10 +81,10 @@ empty : (ys : List DeathNotification) → group ys ≡ None → ys ≡ []
 empty [] h = refl
 empty (y ∷ ys) h = absurd (cc)
 
-single : (x : DeathNotification) (ys : List DeathNotification) (g : Sharers) → x.made < 2 ^ 32 → group (x ∷ ys) ≡ Some g
+single : (x : DeathNotification) (ys : List DeathNotification) (g : Sharers) → x.made < 2 ^ 64 → group (x ∷ ys) ≡ Some g
     → g.count ≡ 1 → (x.made ≡ g.sum) × (ys ≡ [])
 single x [] g fits h one =
-    let is : (0 + x.made) % 2 ^ 32 ≡ g.sum = cc in (sym (sum_of_one x.made fits) ∙ is, refl)
+    let is : (0 + x.made) % 2 ^ 64 ≡ g.sum = cc in (sym (sum_of_one x.made fits) ∙ is, refl)
 single x (y ∷ ys) g fits h one =
     let is : length (x ∷ y ∷ ys) ≡ g.count = cc in absurd (omega (arith, is, one))
 
@@ -106,12 +106,12 @@ nothing_implies q r (x ∷ xs) h = let g = no_head (q x) _ h in (λ e. absurd (c
 
 -- one passes, of the place that its group says
 one_implies : (q : DeathNotification → Bool) (g : Sharers) → g.count ≡ 1 → (xs : List DeathNotification)
-    → All (λ x. x.made < 2 ^ 32) xs → group (filter q xs) ≡ Some g → Implies q (is_notification g.sum) xs
+    → All (λ x. x.made < 2 ^ 64) xs → group (filter q xs) ≡ Some g → Implies q (is_notification g.sum) xs
 one_implies q g one [] fit h = tt
 one_implies q g one (x ∷ xs) fit h = by (q x) refl h (one_implies q g one xs (All-tail fits x xs fit))
   where
     fits : DeathNotification → Type 0
-    fits y = y.made < 2 ^ 32
+    fits y = y.made < 2 ^ 64
 
     by : (b : Bool) → q x ≡ b → group (cond b (x ∷ filter q xs) (filter q xs)) ≡ Some g
         → (group (filter q xs) ≡ Some g → Implies q (is_notification g.sum) xs)
@@ -122,7 +122,7 @@ one_implies q g one (x ∷ xs) fit h = by (q x) refl h (one_implies q g one xs (
     by false e h further = (λ t. absurd (cc), further h)
 
 pub within_one : (q : DeathNotification → Bool) (g : Sharers) → g.count ≡ 1 → (i j : ℕ) (xs : List DeathNotification)
-    → All (λ x. x.made < 2 ^ 32) xs → group (filter q xs) ≡ Some g
+    → All (λ x. x.made < 2 ^ 64) xs → group (filter q xs) ≡ Some g
     → IsWithin (is_notification g.sum) i j xs → IsWithin q i j xs
 within_one q g one i j xs fit h w = within_fewer q (is_notification g.sum) xs i j (one_implies q g one xs fit h) w
 

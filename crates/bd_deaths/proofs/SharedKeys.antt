@@ -34,7 +34,7 @@ module _ {K : Type 0} (eq : K → K → Bool) (alike : (a b : K) → eq a b ≡ 
 
   module _ (g h : K → Option Sharers) (xs : List DeathNotification)
       (stood : (k : K) → g k ≡ group (filter (on k) xs)) where
-    pub one_more : (x : DeathNotification) → length xs + 1 < 2 ^ 64 → x.made < 2 ^ 32
+    pub one_more : (x : DeathNotification) → length xs + 1 < 2 ^ 64 → x.made < 2 ^ 64
         → ((k : K) → h k ≡ cond (eq (of x) k) (Some (with_one x.made (g (of x)))) (g k))
         → (k : K) → h k ≡ group (filter (on k) (xs ++ x ∷ []))
     one_more x few fits puts k = puts k ∙ at (eq (of x) k) refl
@@ -46,7 +46,7 @@ module _ {K : Type 0} (eq : K → K → Bool) (alike : (a b : K) → eq a b ≡ 
             ∙ sym (group_push (on k) xs x few fits true e)
         at false e = stood k ∙ sym (group_push (on k) xs x few fits false e)
 
-    pub one_less : (x : DeathNotification) (i : ℕ) → i < length xs → get_or xs i x ≡ x → x.made < 2 ^ 32
+    pub one_less : (x : DeathNotification) (i : ℕ) → i < length xs → get_or xs i x ≡ x → x.made < 2 ^ 64
         → ((k : K) → h k ≡ cond (eq (of x) k) (without_one x.made (g (of x))) (g k))
         → (k : K) → h k ≡ group (filter (on k) (remove xs i))
     one_less x i within there fits takes k = takes k ∙ at (eq (of x) k) refl
@@ -56,7 +56,7 @@ module _ {K : Type 0} (eq : K → K → Bool) (alike : (a b : K) → eq a b ≡ 
         at true e =
             ap (λ s. without_one x.made s) (ap g (alike (of x) k e) ∙ stood k)
             ∙ ap (λ y. without_one y.made (group (filter (on k) xs))) (sym there)
-            ∙ group_remove (on k) xs i x within (subst (λ y. y.made < 2 ^ 32) (sym there) fits) (ap (on k) there ∙ e)
+            ∙ group_remove (on k) xs i x within (subst (λ y. y.made < 2 ^ 64) (sym there) fits) (ap (on k) there ∙ e)
         at false e = stood k ∙ ap group (sym (filter_remove (on k) xs i x within (ap (on k) there ∙ e)))
 
 -- ---- what is left of a key
@@ -72,7 +72,7 @@ set_left made (Some g) now h = sym h
 pub by_kind : (s : Sharing) (xs : List DeathNotification)
     → ((k : NameKey) → get same_name s.names k ≡ group (filter (has (Name k)) xs))
     → ((k : WordKey) → look s.cookies k ≡ group (filter (has (Cookie k)) xs))
-    → All (λ x. x.made < 2 ^ 32) xs → AreShared s xs
+    → All (λ x. x.made < 2 ^ 64) xs → AreShared s xs
 by_kind s xs names cookies fit = record { groups = at; places = fit }
   where
     at : (k : Key) → group_at s k ≡ group (filter (has k) xs)

@@ -8,7 +8,7 @@ use Rattle.std.proofs.lemmas.Bool.{eqb-true, and_parts, or_cases, or_left, or_ri
 use Rattle.std.proofs.Math.Bool.{and-false, or-false}
 use Rattle.bd_groups.specs.declared.groups.Groups.{Groups}
 use Rattle.bd_groups.specs.Members.{members}
-use Rattle.bd_space.specs.declared.step.ObjectId.{ObjectId}
+use Rattle.bd_space.specs.declared.step.Identity.{Identity}
 use Rattle.bd_space.specs.declared.space.Object.{Object}
 use Rattle.bd_space.specs.declared.space.DeathNotification.{DeathNotification}
 use Rattle.bd_space.specs.Words.{changed, same}
@@ -25,16 +25,16 @@ use Rattle.bd_deaths.proofs.Listed.{place_in}
 use Rattle.bd_deaths.proofs.Telling.{told_at, queued, same_places, more_places}
 
 -- the place is listed with one of these objects
-abbrev pub visited : Groups ℕ → List ObjectId → ℕ → Bool
+abbrev pub visited : Groups ℕ → List Identity → ℕ → Bool
 visited g os n = list_any (λ o. has_place (members g (object_group o)) n) os
 
-visited_more : (g : Groups ℕ) (os : List ObjectId) (o : ObjectId) (n : ℕ)
+visited_more : (g : Groups ℕ) (os : List Identity) (o : Identity) (n : ℕ)
     → (visited g os n || has_place (members g (object_group o)) n) ≡ visited g (os ++ o ∷ []) n
 visited_more g os o n =
     ap (λ b. visited g os n || b) (sym (or-false (has_place (members g (object_group o)) n)))
     ∙ sym (list_any-append (λ k. has_place (members g (object_group k)) n) os (o ∷ []))
 
-module _ (g : Groups ℕ) (objects : List Object) (p : ℕ) (os : List ObjectId) (o : ObjectId) where
+module _ (g : Groups ℕ) (objects : List Object) (p : ℕ) (os : List Identity) (o : Identity) where
   -- one object more
   pub object_next : (places : List ℕ) → places ≡ members g (object_group o) → (l : List DeathNotification)
       → queued_at (has_place places) objects p (queued_at (visited g os) objects p l) ≡ queued_at (visited g (os ++ o ∷ [])) objects p l
@@ -61,7 +61,7 @@ module _ (g : Groups ℕ) (objects : List Object) (p : ℕ) (os : List ObjectId)
       ∙ both_put was (visited g os n) (has_place (members g (object_group o)) n) (told_at objects p l n)
       ∙ ap (λ b. was || (b && told_at objects p l n)) (visited_more g os o n)
 
-owned_among : (objects : List Object) (p : ℕ) (o : ObjectId) → owned_in objects p o ≡ true
+owned_among : (objects : List Object) (p : ℕ) (o : Identity) → owned_in objects p o ≡ true
     → is_among (map (λ x. x.id) (filter (λ x. x.owner == p) objects)) o ≡ true
 owned_among [] p o h = absurd (cc)
 owned_among (x ∷ xs) p o h = by (x.owner == p) h (owned_among xs p o)
@@ -78,7 +78,7 @@ owned_among (x ∷ xs) p o h = by (x.owner == p) h (owned_among xs p o)
       | inr s ↦ further s
     ]
 
-visited_one : (g : Groups ℕ) (os : List ObjectId) (o : ObjectId) (n : ℕ) → is_among os o ≡ true
+visited_one : (g : Groups ℕ) (os : List Identity) (o : Identity) (n : ℕ) → is_among os o ≡ true
     → has_place (members g (object_group o)) n ≡ true → visited g os n ≡ true
 visited_one g [] o n h there = absurd (cc)
 visited_one g (k ∷ os) o n h there = elim (or_cases (same o k) (is_among os o) h) [
@@ -86,7 +86,7 @@ visited_one g (k ∷ os) o n h there = elim (or_cases (same o k) (is_among os o)
   | inr s ↦ or_right _ (visited g os n) (visited_one g os o n s there)
 ]
 
-module _ (g : Groups ℕ) (objects : List Object) (p : ℕ) (os : List ObjectId)
+module _ (g : Groups ℕ) (objects : List Object) (p : ℕ) (os : List Identity)
     (has : HasAll os (map (λ x. x.id) (filter (λ x. x.owner == p) objects))) where
   all_visited : (l : List DeathNotification) → All (IsListed g) l → (n : ℕ) → told_at objects p l n ≡ true → visited g os n ≡ true
   all_visited [] all n h = absurd (cc)

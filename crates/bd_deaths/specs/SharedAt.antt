@@ -17,7 +17,7 @@ group_at s (Cookie k) = look s.cookies k
 pub record AreShared (s : Sharing) (l : List DeathNotification) : Type 0 where
   pub groups : (k : Key) → group_at s k ≡ group (filter (has k) l)
   -- so that the sum of one is its place
-  pub places : All (λ x. x.made < 2 ^ 32) l
+  pub places : All (λ x. x.made < 2 ^ 64) l
 
 -- each notification has one key of both kinds
 unfoldable pub key_room : Sharing → ℕ

@@ -21,7 +21,7 @@ use std::ops::Range;
 fn change_in<F: Fn(DeathNotification) -> DeathNotification>(
     slots: &mut Vec<Slot>,
     range: Range<usize>,
-    made: u32,
+    made: u64,
     f: F,
 )
     requires calls { F.IsAlwaysCallable f }
@@ -46,7 +46,7 @@ fn change_in<F: Fn(DeathNotification) -> DeathNotification>(
 }
 
 /// The notification that the item is of.
-fn death_of(kind: WorkKind) -> Option<u32>
+fn death_of(kind: WorkKind) -> Option<u64>
     ensures { result ≡ death_of kind }
 {
     match kind {
@@ -60,7 +60,7 @@ impl DeathList {
 
     /// Marks the notification as cleared.
     #[tactic(auto, unfolding(crate::specs::Room::list_room, crate::specs::Room::list_count))]
-    pub(crate) fn mark_cleared(&mut self, made: u32)
+    pub(crate) fn mark_cleared(&mut self, made: u64)
         ensures stands { Makes (AreIn self.old) (AreIn self.new)
             (λ l. changed (deaths_of.is_notification made) (λ x. record x { cleared = true }) l) }
         ensures uses { ListUses self.old self.new 0 }
@@ -76,7 +76,7 @@ impl DeathList {
 
     // The notification is this far; one that is told is found by a look from then on.
     #[tactic(auto, unfolding(crate::specs::Room::list_room, crate::specs::Room::list_count))]
-    fn turn_phase(&mut self, made: u32, phase: Phase)
+    fn turn_phase(&mut self, made: u64, phase: Phase)
         ensures stands { Makes (AreIn self.old) (AreIn self.new)
             (λ l. changed (deaths_of.is_notification made) (λ x. record x { phase = phase }) l) }
         ensures uses { ListUses self.old self.new 0 }
@@ -93,7 +93,7 @@ impl DeathList {
     }
 
     // Up to where a look by cookie went, if it went along the slots to the notification of this place, which ends here.
-    fn walked_to(&self, made: u32, end: usize) -> usize
+    fn walked_to(&self, made: u64, end: usize) -> usize
         ensures { result ≤ end }
     {
         match made_in(self.made_part(made), made) {
@@ -104,7 +104,7 @@ impl DeathList {
 
     /// The notification is this far. Of one that was told, and was looked for along the slots, the next look begins behind it.
     #[tactic(auto, unfolding(crate::specs::Room::list_room, crate::specs::Room::list_count))]
-    pub(crate) fn set_phase(&mut self, made: u32, phase: Phase)
+    pub(crate) fn set_phase(&mut self, made: u64, phase: Phase)
         ensures stands { Makes (AreIn self.old) (AreIn self.new)
             (λ l. changed (deaths_of.is_notification made) (λ x. record x { phase = phase }) l) }
         ensures uses { ListUses self.old self.new 0 }
@@ -117,7 +117,7 @@ impl DeathList {
     }
 
     /// The notification goes.
-    pub(crate) fn remove(&mut self, made: u32)
+    pub(crate) fn remove(&mut self, made: u64)
         ensures stands { Makes (AreIn self.old) (AreIn self.new)
             (λ l. filter (λ x. not (deaths_of.is_notification made x)) l) }
         ensures uses { ListUses self.old self.new 0 }

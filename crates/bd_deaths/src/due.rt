@@ -19,7 +19,7 @@ use crate::slot::Slot;
 use crate::table::DeathTable;
 use bd_groups::Members;
 use bd_nodes::NodeTable;
-use bd_space::{DeathNotification, ObjectId, Phase};
+use bd_space::{DeathNotification, Identity, Phase};
 use std::alloc::{AllocError, Global};
 
 fn is_armed(phase: Phase) -> bool
@@ -29,28 +29,28 @@ fn is_armed(phase: Phase) -> bool
 }
 
 // Whether the end of the process is to be told by this notification.
-fn is_due(nodes: &NodeTable, p: u32, x: &DeathNotification) -> bool
+fn is_due(nodes: &NodeTable, p: u64, x: &DeathNotification) -> bool
     ensures { Tells (NodesAre nodes.now) result (λ objects. due.is_due objects p x.now) }
 {
     is_armed(x.phase) && nodes.owns(p, x.object)
 }
 
 // Whether the end of the process is to be told to another by this notification.
-fn is_told(nodes: &NodeTable, p: u32, x: &DeathNotification) -> bool
+fn is_told(nodes: &NodeTable, p: u64, x: &DeathNotification) -> bool
     ensures { Tells (NodesAre nodes.now) result (λ objects. not (x.now.process == p) && due.is_due objects p x.now) }
 {
     x.process != p && is_due(nodes, p, x)
 }
 
 // Whether this one is due, which was made at this place and hasn't gone.
-fn is_due_at(nodes: &NodeTable, p: u32, made: u32, s: &Slot) -> bool
+fn is_due_at(nodes: &NodeTable, p: u64, made: u64, s: &Slot) -> bool
     ensures { Tells (NodesAre nodes.now) result (λ objects. spec.on (due.is_due_at objects p made) s.now) }
 {
     s.live && made == s.death.made && is_due(nodes, p, &s.death)
 }
 
 // Whether one of these is due that was made at this place.
-fn has_due(slots: &[Slot], nodes: &NodeTable, p: u32, made: u32) -> bool
+fn has_due(slots: &[Slot], nodes: &NodeTable, p: u64, made: u64) -> bool
     ensures { Tells (NodesAre nodes.now) result
         (λ objects. list_any (due.is_due_at objects p made) (spec.lives slots.now)) }
 {
@@ -63,14 +63,14 @@ fn has_due(slots: &[Slot], nodes: &NodeTable, p: u32, made: u32) -> bool
 }
 
 // Whether it is this place, where one is given.
-fn is_place(place: Option<u32>, made: u32) -> bool
+fn is_place(place: Option<u64>, made: u64) -> bool
     ensures { result ≡ due.is_place place made }
 {
     place.is_none_or(|n| n == made)
 }
 
 // Whether the end of the process is to be told to another by this one, which was made at such a place and hasn't gone.
-fn is_told_by(nodes: &NodeTable, p: u32, place: Option<u32>, s: &Slot) -> bool
+fn is_told_by(nodes: &NodeTable, p: u64, place: Option<u64>, s: &Slot) -> bool
     ensures { Tells (NodesAre nodes.now) result
         (λ objects. spec.on (λ x. due.is_place place x.made && (not (x.process == p) && due.is_due objects p x)) s.now) }
 {
@@ -81,8 +81,8 @@ fn is_told_by(nodes: &NodeTable, p: u32, place: Option<u32>, s: &Slot) -> bool
 fn push_due(
     slots: &[Slot],
     nodes: &NodeTable,
-    p: u32,
-    place: Option<u32>,
+    p: u64,
+    place: Option<u64>,
     told: &mut Vec<DeathNotification>,
 ) -> Result<(), AllocError>
     ensures put { OnOk result (Tells (NodesAre nodes.now) told.new.items
@@ -102,7 +102,7 @@ impl DeathList {
     ghost use Rattle.bd_deaths.specs.{Stands.{AreIn}, Room.{ListUses}};
 
     // The notifications of this place are queued, if one of them is due.
-    fn queue_at(&mut self, nodes: &NodeTable, p: u32, made: u32)
+    fn queue_at(&mut self, nodes: &NodeTable, p: u64, made: u64)
         ensures stands { (objects : List Object) (l : List declared.DeathNotification) → NodesAre nodes.now objects
             → AreIn self.old l → AreIn self.new (due.queued_at (λ n. made == n) objects p l) }
         ensures uses { ListUses self.old self.new 0 }
@@ -113,7 +113,7 @@ impl DeathList {
     }
 
     // The notifications that are due are queued, of these places.
-    fn queue_all(&mut self, nodes: &NodeTable, p: u32, places: Members<'_, u32>)
+    fn queue_all(&mut self, nodes: &NodeTable, p: u64, places: Members<'_, u64>)
         ensures stands { (objects : List Object) (l : List declared.DeathNotification) → NodesAre nodes.now objects
             → AreIn self.old l → AreIn self.new (due.queued_at (due.has_place places.entry) objects p l) }
         ensures uses { ListUses self.old self.new 0 }
@@ -128,7 +128,7 @@ impl DeathList {
         &self,
         alloc: Global,
         nodes: &NodeTable,
-        p: u32,
+        p: u64,
     ) -> Result<Vec<DeathNotification>, AllocError>
         ensures due { IfOk result (λ v. (objects : List Object) (l : List declared.DeathNotification)
             → NodesAre nodes.now objects → AreIn self.now l → v.items ≡ due.due_in objects p l) }
@@ -144,8 +144,8 @@ impl DeathList {
         &self,
         alloc: Global,
         nodes: &NodeTable,
-        p: u32,
-        places: &[u32],
+        p: u64,
+        places: &[u64],
     ) -> Result<Vec<DeathNotification>, AllocError>
         requires order { self.now.in_order ≡ true }
         requires rising { IsStrictlyIncreasing places.now }
@@ -167,7 +167,7 @@ impl DeathTable {
 
     /// Queues the notifications by which the end of the process is to be told, which owns these nodes.
     #[tactic(auto, unfolding(crate::specs::Room::death_room, crate::specs::Room::death_count))]
-    pub fn queue_due(&mut self, nodes: &NodeTable, p: u32)
+    pub fn queue_due(&mut self, nodes: &NodeTable, p: u64)
         ensures stands { (objects : List Object) (l : List declared.DeathNotification) → NodesAre nodes.now objects
             → DeathsAre self.old l → DeathsAre self.new
             (changed (due.is_queued_in l objects p) (λ x. record x { phase = Queued }) l) }
@@ -182,9 +182,9 @@ impl DeathTable {
     fn due_on(
         &self,
         nodes: &NodeTable,
-        p: u32,
-        o: ObjectId,
-        touched: &mut Vec<u32>,
+        p: u64,
+        o: Identity,
+        touched: &mut Vec<u64>,
     ) -> Result<(), AllocError>
         ensures put { OnOk result ((objects : List Object) (l : List declared.DeathNotification)
             → NodesAre nodes.now objects → AreIn self.now.list l → (n : ℕ) → due.has_place touched.new.items n
@@ -204,8 +204,8 @@ impl DeathTable {
     fn push_due_places(
         &self,
         nodes: &NodeTable,
-        p: u32,
-        touched: &mut Vec<u32>,
+        p: u64,
+        touched: &mut Vec<u64>,
     ) -> Result<(), AllocError>
         ensures all { OnOk result ((objects : List Object) (l : List declared.DeathNotification)
             → NodesAre nodes.now objects → DeathsAre self.now l → due.HasDue touched.new.items objects p l) }
@@ -218,7 +218,7 @@ impl DeathTable {
     }
 
     // The places of the notifications that are due, rising.
-    fn due_places(&self, alloc: Global, nodes: &NodeTable, p: u32) -> Result<Vec<u32>, AllocError>
+    fn due_places(&self, alloc: Global, nodes: &NodeTable, p: u64) -> Result<Vec<u64>, AllocError>
         ensures rising { IfOk result (λ v. IsStrictlyIncreasing v.items) }
         ensures all { IfOk result (λ v. (objects : List Object) (l : List declared.DeathNotification)
             → NodesAre nodes.now objects → DeathsAre self.now l → due.HasDue v.items objects p l) }
@@ -237,7 +237,7 @@ impl DeathTable {
         &self,
         alloc: Global,
         nodes: &NodeTable,
-        p: u32,
+        p: u64,
     ) -> Result<Vec<DeathNotification>, AllocError>
         ensures due { IfOk result (λ v. (objects : List Object) (l : List declared.DeathNotification)
             → NodesAre nodes.now objects → DeathsAre self.now l → v.items ≡ due.due_in objects p l) }

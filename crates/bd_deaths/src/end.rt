@@ -12,7 +12,7 @@ impl DeathList {
     ghost use Rattle.bd_deaths.specs.{Stands.{AreIn}, Room.{ListUses}};
 
     // The process's notifications of this place go.
-    fn remove_at(&mut self, p: u32, made: u32)
+    fn remove_at(&mut self, p: u64, made: u64)
         ensures stands { Makes (AreIn self.old) (AreIn self.new) (λ l. filter (λ x. not (due.is_own_at p made x)) l) }
         ensures uses { ListUses self.old self.new 0 }
     {
@@ -21,7 +21,7 @@ impl DeathList {
     }
 
     // The process's notifications of these places go.
-    fn remove_each(&mut self, p: u32, places: Members<'_, u32>)
+    fn remove_each(&mut self, p: u64, places: Members<'_, u64>)
         ensures stands { Makes (AreIn self.old) (AreIn self.new)
             (λ l. filter (λ x. not (due.has_place places.entry x.made && (x.process == p))) l) }
         ensures uses { ListUses self.old self.new 0 }
@@ -37,7 +37,7 @@ impl DeathTable {
 
     /// The notifications of the process go.
     #[tactic(auto, unfolding(crate::specs::Room::death_room, crate::specs::Room::death_count))]
-    pub fn remove_process(&mut self, p: u32)
+    pub fn remove_process(&mut self, p: u64)
         ensures stands { Makes (DeathsAre self.old) (DeathsAre self.new) (λ l. filter (λ x. not (x.process == p)) l) }
         ensures uses { Uses self.old self.new 0 }
     {

@@ -3,29 +3,29 @@
 ghost use Rattle.std.specs.{Prelude.{◌≡◌}, Cmp.Rules.{hashing}};
 ghost use Rattle.std.specs.Hash as fed;
 ghost use Rattle.std.proofs.Common.{rules};
-ghost use Rattle.bd_keys.specs.Numbers.{pair, wide};
+ghost use Rattle.bd_keys.specs.Numbers.{mixed};
 ghost use Rattle.bd_deaths.specs.Keys as keys;
 
-use bd_keys::{WordKey, pair, wide};
-use bd_space::{DeathNotification, ObjectId};
+use bd_keys::{WordKey, mixed};
+use bd_space::{DeathNotification, Identity};
 use std::hash::{Hash, Hasher};
 
 /// A process and an object.
 #[derive(Clone, Copy, PartialEq, Eq)]
 pub(crate) struct NameKey {
-    pub(crate) process: u32,
-    pub(crate) place: u32,
+    pub(crate) process: u64,
+    pub(crate) place: u64,
     pub(crate) index: u32,
 }
 
 // One write, as `bd_keys` says.
 impl Hash for NameKey {
-    ghost hash_input = { λ k. fed.u128 (wide k.process (pair k.place k.index)) };
+    ghost hash_input = { λ k. fed.u128 (mixed k.process k.place k.index) };
 
     ghost respects_eq = { Prim.search (hashing, rules) };
 
     fn hash<H: Hasher>(&self, state: &mut H) {
-        state.write_u128(wide(self.process, pair(self.place, self.index)));
+        state.write_u128(mixed(self.process, self.place, self.index));
     }
 }
 
@@ -42,10 +42,10 @@ pub(crate) enum Key {
 pub(crate) struct Sharers {
     pub(crate) count: usize,
     // The sum of their places, which wraps. So what goes needs no search for who is left: the sum of one is its place.
-    pub(crate) sum: u32,
+    pub(crate) sum: u64,
 }
 
-pub(crate) fn name_key(p: u32, o: ObjectId) -> Key
+pub(crate) fn name_key(p: u64, o: Identity) -> Key
     ensures { result ≡ keys.name_key p o }
 {
     Key::Name(NameKey {
@@ -55,7 +55,7 @@ pub(crate) fn name_key(p: u32, o: ObjectId) -> Key
     })
 }
 
-pub(crate) fn cookie_key(p: u32, cookie: u64) -> Key
+pub(crate) fn cookie_key(p: u64, cookie: u64) -> Key
     ensures { result ≡ keys.cookie_key p cookie }
 {
     Key::Cookie(WordKey {
@@ -84,7 +84,7 @@ pub(crate) fn cookie_of(x: &DeathNotification) -> WordKey
 }
 
 /// With one more, of this place.
-pub(crate) fn with_one(sharers: Option<Sharers>, made: u32) -> Sharers
+pub(crate) fn with_one(sharers: Option<Sharers>, made: u64) -> Sharers
     ensures { result ≡ keys.with_one made sharers }
 {
     match sharers {
@@ -100,7 +100,7 @@ pub(crate) fn with_one(sharers: Option<Sharers>, made: u32) -> Sharers
 }
 
 /// Without one, of this place: nothing where it was the last.
-pub(crate) fn without_one(sharers: Option<Sharers>, made: u32) -> Option<Sharers>
+pub(crate) fn without_one(sharers: Option<Sharers>, made: u64) -> Option<Sharers>
     ensures { result ≡ keys.without_one made sharers }
 {
     match sharers {

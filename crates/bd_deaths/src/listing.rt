@@ -11,11 +11,11 @@ ghost use Rattle.bd_deaths.specs.Slots as spec;
 use crate::slot::Slot;
 use crate::table::DeathTable;
 use bd_groups::{Group, Groups};
-use bd_space::{DeathNotification, ObjectId};
+use bd_space::{DeathNotification, Identity};
 use std::alloc::AllocError;
 
 /// The group of an object.
-pub(crate) fn group_of(o: ObjectId) -> Group
+pub(crate) fn group_of(o: Identity) -> Group
     ensures { result ≡ keys.object_group o }
 {
     Group::Object {
@@ -25,7 +25,7 @@ pub(crate) fn group_of(o: ObjectId) -> Group
 }
 
 /// The notification's place comes into the groups of its process and its object.
-pub(crate) fn push_place(groups: &mut Groups<u32>, x: &DeathNotification)
+pub(crate) fn push_place(groups: &mut Groups<u64>, x: &DeathNotification)
     requires { 2 ≤ group_room groups.old }
     ensures listed { IsListed groups.new x.now }
     ensures kept { Makes (IsListed groups.old) (IsListed groups.new) (λ y. y) }
@@ -36,7 +36,7 @@ pub(crate) fn push_place(groups: &mut Groups<u32>, x: &DeathNotification)
 }
 
 /// The places of those of these notifications that haven't gone come into the groups.
-fn push_places(groups: &mut Groups<u32>, slots: &[Slot])
+fn push_places(groups: &mut Groups<u64>, slots: &[Slot])
     requires { 2 * length slots.now ≤ group_room groups.old }
     ensures listed { All (IsListed groups.new) (spec.lives slots.now) }
     ensures uses { group_room groups.old ≤ group_room groups.new + 2 * length slots.now }
@@ -53,7 +53,7 @@ impl DeathTable {
 
     // Groups of the notifications that are there, without the places of those that went, with room for so many members
     // more.
-    fn renewed(&self, more: usize) -> Result<Groups<u32>, AllocError>
+    fn renewed(&self, more: usize) -> Result<Groups<u64>, AllocError>
         ensures listed { IfOk result (λ g. (l : List declared.DeathNotification) → AreIn self.now.list l → All (IsListed g) l) }
         ensures room { IfOk result (λ g. more ≤ group_room g) }
     {

@@ -11,29 +11,29 @@ use crate::list::DeathList;
 use crate::look::is_uncleared_on;
 use crate::slot::Slot;
 use crate::table::DeathTable;
-use bd_space::{DeathNotification, ObjectId};
+use bd_space::{DeathNotification, Identity};
 
 /// Whether the notification is on `p`'s name of `o`.
-fn is_at(p: u32, o: ObjectId, x: &DeathNotification) -> bool
+fn is_at(p: u64, o: Identity, x: &DeathNotification) -> bool
     ensures { result ≡ local.at_name p o x.now.process x.now.object }
 {
     x.process == p && x.object == o
 }
 
 /// Whether the notification stays, where the name is there or not.
-fn stays_at(named: bool, p: u32, o: ObjectId, x: &DeathNotification) -> bool
+fn stays_at(named: bool, p: u64, o: Identity, x: &DeathNotification) -> bool
     ensures { result ≡ (not (local.at_name p o x.now.process x.now.object) || (x.now.cleared || named)) }
 {
     !is_at(p, o, x) || x.cleared || named
 }
 
-fn is_death_at(slots: &[Slot], p: u32, o: ObjectId, made: u32) -> bool
+fn is_death_at(slots: &[Slot], p: u64, o: Identity, made: u64) -> bool
     ensures { result ≡ list_any (spec.on (λ x. (x.made == made) && local.at_name p o x.process x.object)) slots.now }
 {
     slots.iter().any(|s| s.live && (s.death.made == made && is_at(p, o, &s.death)))
 }
 
-fn death_stays(slots: &[Slot], named: bool, p: u32, o: ObjectId, made: u32) -> bool
+fn death_stays(slots: &[Slot], named: bool, p: u64, o: Identity, made: u64) -> bool
     ensures { result ≡ list_any (spec.on (λ x. (x.made == made)
         && (not (local.at_name p o x.process x.object) || (x.cleared || named)))) slots.now }
 {
@@ -44,7 +44,7 @@ impl DeathList {
     ghost use Rattle.bd_deaths.specs.{Stands.{AreIn}, Room.{ListUses}};
 
     // The uncleared notifications on the name go.
-    fn remove_uncleared(&mut self, p: u32, o: ObjectId)
+    fn remove_uncleared(&mut self, p: u64, o: Identity)
         ensures stands { Makes (AreIn self.old) (AreIn self.new)
             (λ l. filter (λ x. not (deaths_of.is_uncleared_on p o x)) l) }
         ensures uses { ListUses self.old self.new 0 }
@@ -59,7 +59,7 @@ impl DeathTable {
     ghost use Rattle.bd_deaths.specs.{Stands.{DeathsAre}, Room.{Uses}};
 
     /// Whether an uncleared notification is on the name.
-    pub fn has_uncleared(&self, p: u32, o: ObjectId) -> bool
+    pub fn has_uncleared(&self, p: u64, o: Identity) -> bool
         ensures { Tells (DeathsAre self.now) result
             (λ l. list_any (λ x. local.at_name p o x.process x.object && not x.cleared) l) }
     {
@@ -67,14 +67,14 @@ impl DeathTable {
     }
 
     /// Whether any notification is on the name, also a cleared one. Looks at none.
-    pub fn has_on(&self, p: u32, o: ObjectId) -> bool
+    pub fn has_on(&self, p: u64, o: Identity) -> bool
         ensures { Tells (DeathsAre self.now) result (λ l. list_any (λ x. local.at_name p o x.process x.object) l) }
     {
         self.list.has_key(name_key(p, o))
     }
 
     /// Whether the notification that was made there is on the name.
-    pub fn is_on(&self, p: u32, o: ObjectId, made: u32) -> bool
+    pub fn is_on(&self, p: u64, o: Identity, made: u64) -> bool
         ensures { Tells (DeathsAre self.now) result
             (λ l. list_any (λ x. (x.made == made) && local.at_name p o x.process x.object) l) }
     {
@@ -82,7 +82,7 @@ impl DeathTable {
     }
 
     /// Whether the notification that was made there stays, where the name is there or not.
-    pub fn stays(&self, named: bool, p: u32, o: ObjectId, made: u32) -> bool
+    pub fn stays(&self, named: bool, p: u64, o: Identity, made: u64) -> bool
         ensures { Tells (DeathsAre self.now) result
             (λ l. list_any (λ x. x.made == made) (filter (λ x. not (local.at_name p o x.process x.object) || (x.cleared || named)) l)) }
     {
@@ -91,7 +91,7 @@ impl DeathTable {
 
     /// The uncleared notifications on the name go, unless the name is there.
     #[tactic(auto, unfolding(crate::specs::Room::death_room, crate::specs::Room::death_count))]
-    pub fn remove_unnamed(&mut self, named: bool, p: u32, o: ObjectId)
+    pub fn remove_unnamed(&mut self, named: bool, p: u64, o: Identity)
         ensures stands { Makes (DeathsAre self.old) (DeathsAre self.new)
             (λ l. filter (λ x. not (local.at_name p o x.process x.object) || (x.cleared || named)) l) }
         ensures uses { Uses self.old self.new 0 }

@@ -19,7 +19,7 @@ use bd_space::DeathNotification;
 use std::ops::Range;
 
 /// Between which slots those of this place lie, of slots in the order of their places.
-fn range_in(slots: &[Slot], made: u32) -> Range<usize>
+fn range_in(slots: &[Slot], made: u64) -> Range<usize>
     ensures from { result.start ≤ result.end }
     ensures to { result.end ≤ length slots.now }
     ensures within { IsRising 0 (spec.deaths_in slots.now)
@@ -35,7 +35,7 @@ fn range_in(slots: &[Slot], made: u32) -> Range<usize>
 
 impl DeathList {
     /// Between which slots those of this place lie.
-    pub(crate) fn made_range(&self, made: u32) -> Range<usize>
+    pub(crate) fn made_range(&self, made: u64) -> Range<usize>
         ensures from { result.start ≤ result.end }
         ensures to { result.end ≤ vec_len self.now.slots }
         ensures within { (l : List declared.DeathNotification) → AreIn self.now l
@@ -101,7 +101,7 @@ impl DeathList {
     }
 
     /// Between which slots the told notifications of the process with this cookie lie.
-    fn told_range(&self, p: u32, cookie: u64) -> Range<usize>
+    fn told_range(&self, p: u64, cookie: u64) -> Range<usize>
         ensures from { result.start ≤ result.end }
         ensures to { result.end ≤ vec_len self.now.slots }
         ensures within { (l : List declared.DeathNotification) → AreIn self.now l
@@ -115,7 +115,7 @@ impl DeathList {
     }
 
     /// A part of the slots with all notifications of this place.
-    pub(crate) fn made_part(&self, made: u32) -> &[Slot]
+    pub(crate) fn made_part(&self, made: u64) -> &[Slot]
         ensures { (l : List declared.DeathNotification) → AreIn self.now l
             → IsPartOf (deaths_of.is_notification made) (spec.lives result.now) l }
     {
@@ -133,7 +133,7 @@ impl DeathList {
     }
 
     /// A part of the slots with all told notifications of the process with this cookie.
-    pub(crate) fn told_part(&self, p: u32, cookie: u64) -> &[Slot]
+    pub(crate) fn told_part(&self, p: u64, cookie: u64) -> &[Slot]
         ensures { (l : List declared.DeathNotification) → AreIn self.now l
             → IsPartOf (deaths_of.is_told_with p cookie) (spec.lives result.now) l }
     {

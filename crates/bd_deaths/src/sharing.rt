@@ -39,7 +39,7 @@ fn add_name(names: &mut HashMap<NameKey, Sharers>, x: &DeathNotification)
         then Some (keys.with_one x.now.made (get keys.same_name names.old (keys.name_of x.now)))
         else get keys.same_name names.old k) }
     ensures room { spare names.old ≤ spare names.new + 1 }
-    ensures fits { x.now.made < 2 ^ 32 }
+    ensures fits { x.now.made < 2 ^ 64 }
 {
     let key = name_of(x);
     let more = with_one(names.get(&key).copied(), x.made);

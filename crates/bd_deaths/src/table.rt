@@ -18,7 +18,7 @@ pub struct DeathTable {
     pub(crate) list: DeathList,
     // The place of each, by its process and by its object. The places of some that went stay, until the groups are
     // made anew.
-    pub(crate) groups: Groups<u32>,
+    pub(crate) groups: Groups<u64>,
 }
 
 impl Drop for DeathTable {
@@ -70,7 +70,7 @@ impl DeathTable {
 
     /// Marks the notification as cleared.
     #[tactic(auto, unfolding(crate::specs::Room::death_room, crate::specs::Room::death_count))]
-    pub fn mark_cleared(&mut self, made: u32)
+    pub fn mark_cleared(&mut self, made: u64)
         ensures stands { Makes (DeathsAre self.old) (DeathsAre self.new)
             (λ l. changed (deaths_of.is_notification made) (λ x. record x { cleared = true }) l) }
         ensures uses { Uses self.old self.new 0 }
@@ -80,7 +80,7 @@ impl DeathTable {
 
     /// The notification is this far.
     #[tactic(auto, unfolding(crate::specs::Room::death_room, crate::specs::Room::death_count))]
-    pub fn set_phase(&mut self, made: u32, phase: Phase)
+    pub fn set_phase(&mut self, made: u64, phase: Phase)
         ensures stands { Makes (DeathsAre self.old) (DeathsAre self.new)
             (λ l. changed (deaths_of.is_notification made) (λ x. record x { phase = phase }) l) }
         ensures uses { Uses self.old self.new 0 }
@@ -91,7 +91,7 @@ impl DeathTable {
 
     /// The notification goes.
     #[tactic(auto, unfolding(crate::specs::Room::death_room, crate::specs::Room::death_count))]
-    pub fn remove(&mut self, made: u32)
+    pub fn remove(&mut self, made: u64)
         ensures stands { Makes (DeathsAre self.old) (DeathsAre self.new)
             (λ l. filter (λ x. not (deaths_of.is_notification made x)) l) }
         ensures uses { Uses self.old self.new 0 }

@@ -1,5 +1,5 @@
 -- Which buffers end by a step, told after the step.
-use Rattle.std.proofs.Common.{◌≡◌, ℕ, List, ◌∷◌, map, filter, refl, ap, sym, subst, ◌∙◌}
+use Rattle.std.proofs.Common.{◌≡◌, ℕ, List, map, filter, refl, ap, sym, subst, ◌∙◌}
 use Rattle.bd_space.specs.declared.step.Step.{Step}
 use Rattle.bd_space.specs.declared.step.StepAnswer.{StepAnswer}
 use Rattle.bd_space.specs.declared.step.Entry.{Entry}

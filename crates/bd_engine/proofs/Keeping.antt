@@ -5,14 +5,14 @@ use Rattle.std.proofs.Math.Bool.{or-true}
 use Rattle.std.proofs.lemmas.List.{get_or_push}
 use Rattle.std.proofs.lemmas.List.Folds.{list_all-append}
 use Rattle.std.proofs.Math.Seq.{set-append_seam, take-append_seam}
-use Rattle.std.proofs.lemmas.Bool.{lt-ltb, leb-false}
+use Rattle.std.proofs.lemmas.Bool.{lt-ltb, le-leb, leb-true, leb-false}
 use Rattle.bd_space.specs.declared.step.Step.{Step}
 use Rattle.bd_space.specs.declared.step.StepAnswer.{StepAnswer}
 use Rattle.bd_space.specs.declared.step.Entry.{Entry}
 use Rattle.bd_space.specs.Space.{Space, opening}
 use Rattle.bd_space.specs.Names.{has_number_past_limit}
 use Rattle.bd_space.specs.Steps.{change, step, counted}
-use Rattle.bd_space.specs.Histories.{History, Follows as EntriesFollow, EntryFollows, next, after, space_after, extended, is_at_limit, history_of}
+use Rattle.bd_space.specs.Histories.{History, Follows as EntriesFollow, EntryFollows, next, after, space_after, extended, is_at_limit, is_at_end, history_of}
 use Rattle.bd_buffers.specs.WindowsStand.{WindowsOf}
 use Rattle.bd_step.specs.declared.tables.Tables.{Tables}
 use Rattle.bd_step.specs.Stands.{Before, Within}
@@ -65,7 +65,7 @@ counted_stands t z h =
     }
 
 -- a live engine whose tables made the step, and count it
-pub follows_step : (h : History) (old new : Live) (t : Tables) (seat : ℕ) (x : Step) (answer : StepAnswer) → Follows old h → seat < h.seats → length h.entries < 4294967295
+pub follows_step : (h : History) (old new : Live) (t : Tables) (seat : ℕ) (x : Step) (answer : StepAnswer) → Follows old h → seat < h.seats → length h.entries < 18446744073709551615
     → answer ≡ (change (space_after h) seat x).answer → Within t (change (space_after h) seat x).space
     → new.seats ≡ old.seats → new.tables.value ≡ record t { steps = t.steps + 1 } → Follows new (extended h seat x answer)
 unfolding space_after counted change
@@ -101,9 +101,26 @@ full_at_length h seat x e = ap (λ b. b || has_number_past_limit (step (space_af
 pub short_of_full : (h k : History) (b : Bool) → b ≡ nat_le 4294967295 (length k.entries) → b ≡ false → h ≡ k → length h.entries < 4294967295
 short_of_full h k b is fewer same = leb-false _ _ (ap (λ (z : History). nat_le 4294967295 (length z.entries)) same ∙ sym is ∙ fewer)
 
-pub full_by_number : (h : History) (seat : ℕ) (x : Step) → has_number_past_limit (change (space_after h) seat x).space.names ≡ true → is_at_limit h seat (Some x) ≡ true
-unfolding is_at_limit counted
-full_by_number h seat x e = ap (λ b. nat_le 4294967295 (length h.entries) || b) e ∙ or-true (nat_le 4294967295 (length h.entries))
+-- of an engine that keeps no history
+pub end_at_length : (h : History) (seat : ℕ) (x : Step) → nat_le 18446744073709551615 (length h.entries) ≡ true → is_at_end h seat (Some x) ≡ true
+unfolding is_at_end
+end_at_length h seat x e = ap (λ b. b || has_number_past_limit (step (space_after h) seat x).space.names) e
+
+pub end_by_number : (h : History) (seat : ℕ) (x : Step) → has_number_past_limit (change (space_after h) seat x).space.names ≡ true → is_at_end h seat (Some x) ≡ true
+unfolding is_at_end counted
+end_by_number h seat x e = ap (λ b. nat_le 18446744073709551615 (length h.entries) || b) e ∙ or-true (nat_le 18446744073709551615 (length h.entries))
+
+-- whoever has no place of 64 bits left has none of 32
+pub limit_at_end : (h : History) (seat : ℕ) (x : Step) → is_at_end h seat (Some x) ≡ true → is_at_limit h seat (Some x) ≡ true
+unfolding is_at_end is_at_limit
+limit_at_end h seat x e = either (nat_le 18446744073709551615 (length h.entries)) (has_number_past_limit (step (space_after h) seat x).space.names) refl e
+  where
+    either : (long past : Bool) → nat_le 18446744073709551615 (length h.entries) ≡ long → (long || past) ≡ true → (nat_le 4294967295 (length h.entries) || past) ≡ true
+    either true past is e =
+        let far = leb-true _ _ is in
+        let long : nat_le 4294967295 (length h.entries) ≡ true = le-leb 4294967295 (length h.entries) (omega (arith, far)) in
+        ap (λ b. b || past) long
+    either false past is e = ap (λ b. nat_le 4294967295 (length h.entries) || b) e ∙ or-true (nat_le 4294967295 (length h.entries))
 
 -- ---- an engine, which holds the entries
 

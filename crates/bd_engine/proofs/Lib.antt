@@ -7,3 +7,5 @@ pub mod Courses
 pub mod Runs
 pub mod Reaching
 pub mod Handles
+pub mod Begun
+pub mod Short

@@ -4,5 +4,6 @@ pub mod Readiness
 pub mod Reached
 pub mod Writing
 pub mod Looks
+pub mod Begun
 pub use Rattle.bd_step.specs.Ending
 pub use Rattle.bd_step.specs.declared.step_error.StepError

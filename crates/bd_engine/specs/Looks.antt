@@ -1,13 +1,15 @@
 -- What the calls that read an engine answer of the space of its history.
 use Rattle.std.specs.Prelude.{ℕ, ◌≡◌, ◌<◌, ◌≤◌, nat_le, Bool, true, List, Option, Some, None, find, is_some, option_map, option_and_then}
-use Rattle.bd_ways.specs.Words.{list_any, ObjectId, OfThread, is_some_and, Space}
+use Rattle.bd_ways.specs.Words.{list_any, Identity, OfThread, is_some_and, Space}
 use Rattle.bd_space.specs.Seats.{thread_in, process_with_pid}
 use Rattle.bd_space.specs.References.{object_in, is_asking}
 use Rattle.bd_space.specs.Names.{named, number_in}
 use Rattle.bd_space.specs.Windows.{buffers_of}
+use Rattle.bd_space.specs.Returns.{buffer_in}
 use Rattle.bd_space.specs.Frames.{innermost, serves}
 use Rattle.bd_space.specs.Todo.{work_on}
 use Rattle.bd_holds.specs.Carried.{carried_in}
+use Rattle.bd_engine.specs.declared.narrow.BufferLook.{BufferLook}
 use Rattle.bd_todo.specs.TodoList.{first_reply_in}
 
 -- the process of the live thread of a seat
@@ -23,7 +25,7 @@ abbrev pub next_process : Space → ℕ → Option ℕ
 next_process s from = option_map (λ q. q.made) (find (λ q. nat_le from q.made) s.processes)
 
 -- what the number names for the live process with this pid
-abbrev pub named_by : Space → ℕ → ℕ → Option ObjectId
+abbrev pub named_by : Space → ℕ → ℕ → Option Identity
 named_by s pid n = option_and_then (λ q. named s q.made n) (process_with_pid s.processes pid)
 
 -- the least number from this one on that names something for the live process with this pid
@@ -33,7 +35,7 @@ IsNextHandle s pid from (Some n) =
     (from ≤ n) × (is_some (named_by s pid n) ≡ true) × ((m : ℕ) → from ≤ m → m < n → named_by s pid m ≡ None)
 
 -- the process that owns an object of the space
-abbrev pub owner_of : Space → ObjectId → Option ℕ
+abbrev pub owner_of : Space → Identity → Option ℕ
 owner_of s o = option_map (λ x. x.owner) (object_in s.objects o)
 
 -- where the innermost frame of a thread was made, and whether the thread serves it
@@ -45,12 +47,17 @@ abbrev pub first_reply : Space → ℕ → Option ℕ
 first_reply s seat = first_reply_in (work_on s.todo (Some (OfThread seat)))
 
 -- whether the process has a name for the object
-abbrev pub knows : Space → ℕ → ObjectId → Bool
+abbrev pub knows : Space → ℕ → Identity → Bool
 knows s p o = is_some (number_in s.names p o)
 
 -- the objects that the live buffer made there carries
-abbrev pub carried : Space → ℕ → List ObjectId
+abbrev pub carried : Space → ℕ → List Identity
 carried s made = carried_in s.references made
+
+-- what is told of the live buffer made there, where places have 32 bits
+abbrev pub buffer_of : Space → ℕ → Option BufferLook
+buffer_of s made =
+    option_map (λ b. record { receiver = b.receiver; target = b.target; handed = b.handed; carried = carried s made }) (buffer_in s.buffers made)
 
 -- the first live buffer of the process that was made at this place or behind it
 abbrev pub next_buffer : Space → ℕ → ℕ → Option ℕ

@@ -2,7 +2,7 @@
 
 ghost use Rattle.std.specs.Prelude.{◌≡◌, ◌<◌, [], true, Some, IfOk, IfErr, OnOk, OnErr, filter};
 ghost use Rattle.bd_keys.specs.Tables.{Makes, Tells};
-ghost use Rattle.bd_space.specs.Histories.{History, HasPlace, space_after, extended, is_at_limit};
+ghost use Rattle.bd_space.specs.Histories.{History, HasLivePlace, space_after, extended, is_at_end};
 ghost use Rattle.bd_space.specs.Steps as steps;
 ghost use Rattle.bd_step.specs.{Refusals.{FullOnly, MemoryOnly}, Ending.{is_gone, ended_between, HasEndings}};
 ghost use Rattle.bd_engine.specs.{Follows.{Follows}, Reached.{KeepsTold}};
@@ -16,15 +16,15 @@ use bd_step::StepError;
 impl Live {
     // Where buffers were made among which are all that the step of the seat ends. A full history is found before any memory
     // is asked for.
-    fn list_endings(&self, seat: u32, step: &Step, places: &mut Vec<u32>) -> Result<(), StepError>
+    fn list_endings(&self, seat: u32, step: &Step, places: &mut Vec<u64>) -> Result<(), StepError>
         requires none { places.old.items ≡ [] }
         ensures listed { OnOk result ((h : History) → Follows self.now h
             → HasEndings places.new.items (space_after h) (steps.change (space_after h) seat step.now).space) }
         ensures full { IfErr result (λ why. (h : History) → Follows self.now h
-            → FullOnly why (is_at_limit h seat (Some step.now) ≡ true)) }
-        ensures memory { IfErr result (λ why. (h : History) → Follows self.now h → MemoryOnly why (HasPlace h)) }
+            → FullOnly why (is_at_end h seat (Some step.now) ≡ true)) }
+        ensures memory { IfErr result (λ why. (h : History) → Follows self.now h → MemoryOnly why (HasLivePlace h)) }
     {
-        if self.tables().steps == u32::MAX {
+        if self.tables().steps == u64::MAX {
             return Err(StepError::HistoryFull);
         }
         match self.tables().list_endings(seat, step, places) {
@@ -34,7 +34,7 @@ impl Live {
     }
 
     // Whether no live buffer was made there.
-    fn is_gone(&self, made: u32) -> bool
+    fn is_gone(&self, made: u64) -> bool
         ensures { Tells (Follows self.now) result (λ h. is_gone (space_after h).buffers made) }
     {
         match self.buffer(made) {
@@ -44,7 +44,7 @@ impl Live {
     }
 
     // Only those of these places stay at which no live buffer was made.
-    fn keep_gone(&self, places: &mut Vec<u32>)
+    fn keep_gone(&self, places: &mut Vec<u64>)
         ensures { Tells (Follows self.now) places.new.items (λ h. filter (is_gone (space_after h).buffers) places.old.items) }
     {
         places.retain(|made| self.is_gone(*made));
@@ -58,7 +58,7 @@ impl Live {
         &mut self,
         seat: u32,
         step: Step,
-        ended: &mut Vec<u32>,
+        ended: &mut Vec<u64>,
     ) -> Result<Entry, StepError>
         requires { seat < self.old.seats }
         // The entry is of this step.
@@ -76,9 +76,9 @@ impl Live {
         ensures none { OnErr result (ended.new.items ≡ []) }
         // When a full history is the reason.
         ensures full { IfErr result (λ why. (h : History) → Follows self.old h
-            → FullOnly why (is_at_limit h seat (Some step) ≡ true)) }
+            → FullOnly why (is_at_end h seat (Some step) ≡ true)) }
         // Want of memory isn't said of a full history.
-        ensures memory { IfErr result (λ why. (h : History) → Follows self.old h → MemoryOnly why (HasPlace h)) }
+        ensures memory { IfErr result (λ why. (h : History) → Follows self.old h → MemoryOnly why (HasLivePlace h)) }
         // It has as many seats as before.
         ensures seats { self.new.seats ≡ self.old.seats }
         // Whatever was told of the todo lists is known still.

@@ -3,10 +3,10 @@
 ghost use Rattle.std.specs.Prelude.{◌≡◌, ◌<◌, true, [], length, IfOk, IfErr, IsTrue, OnOk, OnErr, MatchResult, Ok, Some};
 ghost use Rattle.bd_keys.specs.Tables.{Makes, Tells};
 ghost use Rattle.bd_space.specs.Histories as histories;
-ghost use Rattle.bd_space.specs.Histories.{History, HasPlace, history_of};
+ghost use Rattle.bd_space.specs.Histories.{History, HasLivePlace, history_of};
 ghost use Rattle.bd_space.specs.Steps as steps;
 ghost use Rattle.bd_step.specs.{Plain.{IsBrief}, declared.answer.Brief.TheVariants.{Got}};
-ghost use Rattle.bd_engine.specs.{Follows.{Follows}, Reached.{KeepsTold}};
+ghost use Rattle.bd_engine.specs.{Begun.{refusals}, Follows.{Follows}, Reached.{KeepsTold}};
 ghost use Rattle.bd_engine.specs.Refusals.{FullOnly, MemoryOnly, IsLiveSeats, IsLiveSeatFault};
 
 use crate::tables::HasTables;
@@ -15,8 +15,8 @@ use bd_step::{Brief, StepError, Tables};
 use bd_uapi::Fault;
 use std::alloc::{AllocError, Global};
 
-/// What a history has come to, without the history: its entries are handed out, and not kept. It makes at most 4294967295
-/// steps; then it is full.
+/// What a history has come to, without the history: its entries are handed out, and not kept. It makes at most
+/// 18446744073709551615 steps, more than any machine does; then it is full.
 pub struct Live {
     pub(crate) seats: u32,
     // Behind a pointer, so that whoever hands an engine on moves few bytes.
@@ -60,6 +60,22 @@ impl Live {
         }
     }
 
+    /// A live engine that is as after so many refused steps: nothing is in its space, and the next step has that place. It serves
+    /// tests of what is far behind the first step. Errors: as `new`.
+    pub fn begun_at(alloc: Global, seats: u32, steps: u64) -> Result<Live, Fault>
+        ensures follows { IfOk result (λ l. Follows l (refusals seats steps)) }
+        ensures seats { IfOk result (λ l. l.seats ≡ seats) }
+        ensures fault { MatchResult result (λ _. IsLiveSeats seats) (λ f. IsLiveSeatFault seats f) }
+    {
+        match Live::new(alloc, seats) {
+            Ok(mut live) => {
+                live.tables.steps = steps;
+                Ok(live)
+            }
+            Err(fault) => Err(fault),
+        }
+    }
+
     /// How many seats there are, 1 to 65536.
     pub fn seats(&self) -> u32
         ensures field { result ≡ self.now.seats }
@@ -69,7 +85,7 @@ impl Live {
     }
 
     /// How many steps were made.
-    pub fn len(&self) -> u32
+    pub fn len(&self) -> u64
         ensures { Tells (Follows self.now) result (λ h. length h.entries) }
     {
         self.tables().steps
@@ -115,8 +131,8 @@ impl Live {
             (λ h. histories.extended h entry.old.seat entry.old.step entry.new.answer)) }
         ensures err { OnErr result (Makes (Follows self.old) (Follows self.new) (λ h. h)) }
         ensures full { IfErr result (λ why. (h : History) → Follows self.old h
-            → FullOnly why (histories.is_at_limit h entry.old.seat (Some entry.old.step) ≡ true)) }
-        ensures memory { IfErr result (λ why. (h : History) → Follows self.old h → MemoryOnly why (HasPlace h)) }
+            → FullOnly why (histories.is_at_end h entry.old.seat (Some entry.old.step) ≡ true)) }
+        ensures memory { IfErr result (λ why. (h : History) → Follows self.old h → MemoryOnly why (HasLivePlace h)) }
         ensures seats { self.new.seats ≡ self.old.seats }
         ensures told { KeepsTold self.old self.new }
     {
@@ -134,7 +150,7 @@ impl Live {
     }
 
     /// Makes one step, and hands out its entry, which has the answer. It is the only copy: drop it, and nothing tells that
-    /// the step was made. Errors: 4294967295 steps were made, which is found before any memory is asked for; memory was
+    /// the step was made. Errors: 18446744073709551615 steps were made, which is found before any memory is asked for; memory was
     /// refused; or a name would have to be numbered above 4294967294.
     pub fn step(&mut self, seat: u32, step: Step) -> Result<Entry, StepError>
         requires { seat < self.old.seats }
@@ -149,9 +165,9 @@ impl Live {
         ensures err { OnErr result (Makes (Follows self.old) (Follows self.new) (λ h. h)) }
         // When a full history is the reason.
         ensures full { IfErr result (λ why. (h : History) → Follows self.old h
-            → FullOnly why (histories.is_at_limit h seat (Some step) ≡ true)) }
+            → FullOnly why (histories.is_at_end h seat (Some step) ≡ true)) }
         // Want of memory isn't said of a full history.
-        ensures memory { IfErr result (λ why. (h : History) → Follows self.old h → MemoryOnly why (HasPlace h)) }
+        ensures memory { IfErr result (λ why. (h : History) → Follows self.old h → MemoryOnly why (HasLivePlace h)) }
         // It has as many seats as before.
         ensures seats { self.new.seats ≡ self.old.seats }
         // Whatever was told of the todo lists is known still.

@@ -32,13 +32,13 @@ pub struct WideEngine {
 
 impl Model for WideEngine {
     ghost use Rattle.bd_space.specs.Histories.{History, history_of};
-    ghost use Rattle.bd_engine.specs.Follows.{Follows};
+    ghost use Rattle.bd_engine.specs.Follows.{FollowsShort};
 
     ghost Value = { History };
 
     ghost view = { λ e. history_of e.live.seats e.entries.items };
 
-    ghost invariant = { λ e. Follows e.live (history_of e.live.seats e.entries.items) };
+    ghost invariant = { λ e. FollowsShort e.live (history_of e.live.seats e.entries.items) };
 }
 
 // Written out: one that is derived would be proved again, with that of each table, in every crate that holds an engine.

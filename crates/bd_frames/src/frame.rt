@@ -12,9 +12,9 @@ use bd_space::{Frame, Server};
 pub struct Row {
     pub frame: Frame,
     /// A bound: no older frame of its caller was made later, unless nothing is known of that thread's stack.
-    pub caller: Option<u32>,
+    pub caller: Option<u64>,
     /// The same of its server.
-    pub server: Option<u32>,
+    pub server: Option<u64>,
     /// How many frames have it as their parent.
     pub children: u64,
 }
@@ -40,7 +40,7 @@ pub(crate) fn is_abandoned(row: &Row) -> bool
 }
 
 /// The bound of the older frames of the thread, which takes part in this one.
-pub(crate) fn below_of(seat: u32, row: &Row) -> Option<u32>
+pub(crate) fn below_of(seat: u32, row: &Row) -> Option<u64>
     ensures { result ≡ linked.below_of seat row.now }
 {
     if row.frame.caller == Some(seat) {

@@ -9,7 +9,7 @@ ghost use Rattle.bd_frames.specs.Linked.{IsStack};
 use crate::frame::{Row, takes_part};
 
 /// The index of the frame that was made there: found by halves.
-pub(crate) fn index_of(rows: &[Row], made: u32) -> Option<usize>
+pub(crate) fn index_of(rows: &[Row], made: u64) -> Option<usize>
     ensures within { IfSome result (λ i. i < length rows.now) }
     ensures found { AreRising rows.now → IsAt made rows.now result }
 {
@@ -22,7 +22,7 @@ pub(crate) fn index_of(rows: &[Row], made: u32) -> Option<usize>
 }
 
 /// The row of the frame that was made there, if one was, becomes what `f` makes of it.
-pub(crate) fn turn<F: Fn(Row) -> Row>(rows: &mut Vec<Row>, made: Option<u32>, f: F)
+pub(crate) fn turn<F: Fn(Row) -> Row>(rows: &mut Vec<Row>, made: Option<u64>, f: F)
     requires callable { F.IsAlwaysCallable f }
     ensures rows { (g : declared.Row → declared.Row) → AnswersBy (λ x y. F.post f x y) g → AreRising rows.old.items
         → rows.new.items ≡ map (turned made g) rows.old.items }
@@ -37,7 +37,7 @@ pub(crate) fn turn<F: Fn(Row) -> Row>(rows: &mut Vec<Row>, made: Option<u32>, f:
 }
 
 /// The index of the newest frame in which the thread takes part, of those made up to the bound of its stack.
-pub(crate) fn newest_part(rows: &[Row], seat: u32, bound: Option<u32>) -> Option<usize>
+pub(crate) fn newest_part(rows: &[Row], seat: u32, bound: Option<u64>) -> Option<usize>
     ensures within { IfSome result (λ i. i < length rows.now) }
     ensures newest { AreRising rows.now → IsStack seat bound rows.now → IsNewest seat rows.now result }
 {

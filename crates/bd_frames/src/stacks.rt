@@ -20,9 +20,9 @@ const SEATS: usize = MOST_SEATS as usize;
 /// Bounds of stacks by seat, wherever the seat is.
 #[derive(Debug, Drop)]
 pub struct Bounds {
-    pub(crate) own: HashMap<u32, Option<u32>>,
+    pub(crate) own: HashMap<u32, Option<u64>>,
     // The bound of all threads that have none of their own: they have no frames, unless memory for a bound was refused.
-    pub(crate) rest: Option<u32>,
+    pub(crate) rest: Option<u64>,
 }
 
 /// The stacks of all threads: by seat, a bound of all frames of its thread. Where there is none nothing is known of the stack,
@@ -30,19 +30,19 @@ pub struct Bounds {
 #[derive(Debug, Drop)]
 pub struct Stacks {
     // Of the seats that a driver has: most looks are at these, and take no hash.
-    pub(crate) tops: [Option<u32>; SEATS],
+    pub(crate) tops: [Option<u64>; SEATS],
     pub(crate) others: Bounds,
 }
 
 // A bound of what either bounds.
-fn wider(a: Option<u32>, b: Option<u32>) -> Option<u32>
+fn wider(a: Option<u64>, b: Option<u64>) -> Option<u64>
     ensures { result ≡ linked.wider a b }
 {
     Some(a?.max(b?))
 }
 
 // The bound of a stack onto which the frame comes that was made there, if it is its newest.
-fn raised(bound: Option<u32>, made: u32) -> Option<u32>
+fn raised(bound: Option<u64>, made: u64) -> Option<u64>
     ensures { result ≡ put_top made bound }
 {
     match bound {
@@ -69,14 +69,14 @@ impl Bounds {
         let _refused = self.own.reserve(more);
     }
 
-    fn of(&self, seat: u32) -> Option<u32>
+    fn of(&self, seat: u32) -> Option<u64>
         ensures { result ≡ bound_in self.now seat }
     {
         self.own.get(&seat).copied().unwrap_or(self.rest)
     }
 
     // This is the bound of the thread from now on, or, without memory for it, one of all that have none of their own.
-    fn set(&mut self, seat: u32, bound: Option<u32>)
+    fn set(&mut self, seat: u32, bound: Option<u64>)
         ensures { (s : ℕ) → Covers (if seat == s then bound else bound_in self.old s) (bound_in self.new s) }
     {
         if self.own.len() < self.own.capacity() {
@@ -111,7 +111,7 @@ impl Stacks {
         self.others.reserve(more);
     }
 
-    pub(crate) fn top_of(&self, seat: u32) -> Option<u32>
+    pub(crate) fn top_of(&self, seat: u32) -> Option<u64>
         ensures { result ≡ top_in self.now seat }
     {
         if (seat as usize) < self.tops.len() {
@@ -122,7 +122,7 @@ impl Stacks {
     }
 
     // This is the bound of the thread from now on, or one that covers it.
-    fn set(&mut self, seat: u32, top: Option<u32>)
+    fn set(&mut self, seat: u32, top: Option<u64>)
         ensures { (s : ℕ) → Covers (if seat == s then top else top_in self.old s) (top_in self.new s) }
     {
         if (seat as usize) < self.tops.len() {
@@ -133,12 +133,12 @@ impl Stacks {
     }
 
     /// The frame made there comes onto the stack of the thread, if there is one: the bound of those below it.
-    pub(crate) fn put(&mut self, seat: Option<u32>, made: u32) -> Option<u32>
+    pub(crate) fn put(&mut self, seat: Option<u32>, made: u64) -> Option<u64>
         ensures tops { (s : ℕ) → Covers (if is_some_and seat (λ t. t == s) then put_top made (top_in self.old s) else top_in self.old s)
             (top_in self.new s) }
         ensures below { result ≡ option_and_then (top_in self.old) seat }
-        // A place is a u32.
-        ensures place { made < 2 ^ 32 }
+        // A place is a u64.
+        ensures place { made < 2 ^ 64 }
     {
         let seat = seat?;
         let below = self.top_of(seat);

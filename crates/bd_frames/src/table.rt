@@ -88,7 +88,7 @@ impl FrameTable {
     }
 
     /// The frame of the call made at this place closes.
-    pub fn close(&mut self, made: u32)
+    pub fn close(&mut self, made: u64)
         ensures stands { Makes self.old self.new (λ l. filter (λ f. not (spec.is_frame made f)) l) }
         ensures uses { Uses self.old self.new 0 }
     {
@@ -108,7 +108,7 @@ impl FrameTable {
     }
 
     /// The frame of the call made at this place.
-    pub fn frame(&self, made: u32) -> Option<Frame>
+    pub fn frame(&self, made: u64) -> Option<Frame>
         ensures { Tells self.now result (λ l. find (spec.is_frame made) l) }
     {
         Some(self.rows[index_of(&self.rows, made)?].frame)
@@ -130,7 +130,7 @@ impl FrameTable {
     }
 
     /// The frame of the call made at this place, if it is abandoned.
-    pub fn abandoned_at(&self, made: u32) -> Option<Frame>
+    pub fn abandoned_at(&self, made: u64) -> Option<Frame>
         ensures { Tells self.now result (λ l. abandoned_in l made) }
     {
         let row = self.rows[index_of(&self.rows, made)?];
@@ -138,7 +138,7 @@ impl FrameTable {
     }
 
     /// The first frame that passes on the way from the one made there by parents, innermost first.
-    pub fn first_on_way<F: Fn(Frame) -> bool>(&self, from: Option<u32>, f: F) -> Option<Frame>
+    pub fn first_on_way<F: Fn(Frame) -> bool>(&self, from: Option<u64>, f: F) -> Option<Frame>
         requires callable { F.IsAlwaysCallable f }
         ensures { (q : declared.Frame → Bool) → AnswersBy (λ x b. F.post f x b) q
             → Tells self.now result (λ l. find q (spec.ancestry from (reverse l))) }
@@ -158,7 +158,7 @@ impl FrameTable {
     }
 
     /// The thread of this seat serves the call made there.
-    pub fn serve(&mut self, made: u32, seat: u32)
+    pub fn serve(&mut self, made: u64, seat: u32)
         ensures stands { Makes self.old self.new (λ l. changed (spec.is_frame made) (reading.serve seat) l) }
         ensures uses { Uses self.old self.new 0 }
     {
@@ -182,7 +182,7 @@ impl FrameTable {
     }
 
     /// The call made there has lost who would have served it.
-    pub fn lose(&mut self, made: u32)
+    pub fn lose(&mut self, made: u64)
         ensures stands { Makes self.old self.new (λ l. changed (spec.is_frame made) lost_frame l) }
         ensures uses { Uses self.old self.new 0 }
     {
@@ -207,7 +207,7 @@ impl FrameTable {
     }
 
     /// Where the calls were made that the thread serves, put after what is there. Fails for want of memory alone.
-    pub fn served(&self, seat: u32, served: &mut Vec<u32>) -> Result<(), AllocError>
+    pub fn served(&self, seat: u32, served: &mut Vec<u64>) -> Result<(), AllocError>
         ensures { OnOk result (Tells self.now served.new.items
             (λ l. served.old.items ++ map spec.made_of (filter (λ f. spec.serves seat f.server) l))) }
     {

@@ -13,7 +13,7 @@ use std::alloc::AllocError;
 #[derive(Drop)]
 struct Way {
     end: usize,
-    bound: Option<u32>,
+    bound: Option<u64>,
 }
 
 impl Way {
@@ -34,7 +34,7 @@ impl Way {
 }
 
 /// The thread is gone from its frames, of which this is the bound.
-pub(crate) fn leave_down(rows: &mut Vec<Row>, seat: u32, bound: Option<u32>)
+pub(crate) fn leave_down(rows: &mut Vec<Row>, seat: u32, bound: Option<u64>)
     ensures rows { AreRising rows.old.items → IsStack seat bound rows.old.items → rows.new.items ≡ map (left_row seat) rows.old.items }
     ensures len { vec_len rows.new ≡ vec_len rows.old }
     ensures capacity { vec_capacity rows.new ≡ vec_capacity rows.old }
@@ -53,7 +53,7 @@ pub(crate) fn leave_down(rows: &mut Vec<Row>, seat: u32, bound: Option<u32>)
 }
 
 // Where the frame's call was made, put after what is there, if the thread serves it.
-fn push_if_served(frame: Frame, seat: u32, served: &mut Vec<u32>) -> Result<(), AllocError>
+fn push_if_served(frame: Frame, seat: u32, served: &mut Vec<u64>) -> Result<(), AllocError>
     ensures served { OnOk result (served.new.items
         ≡ served.old.items ++ map spec.made_of (filter (λ f. spec.serves seat f.server) (frame ∷ []))) }
     ensures longer { vec_len served.old ≤ vec_len served.new }
@@ -68,8 +68,8 @@ fn push_if_served(frame: Frame, seat: u32, served: &mut Vec<u32>) -> Result<(), 
 pub(crate) fn push_served_down(
     rows: &[Row],
     seat: u32,
-    bound: Option<u32>,
-    served: &mut Vec<u32>,
+    bound: Option<u64>,
+    served: &mut Vec<u64>,
 ) -> Result<(), AllocError>
     ensures served { AreRising rows.now → IsStack seat bound rows.now
         → OnOk result (served.new.items ≡ served.old.items
@@ -87,7 +87,7 @@ pub(crate) fn push_served_down(
 }
 
 /// The places from this index on in the other order.
-pub(crate) fn reverse_from(places: &mut Vec<u32>, from: usize)
+pub(crate) fn reverse_from(places: &mut Vec<u64>, from: usize)
     requires { from ≤ vec_len places.old }
     ensures { places.new.items ≡ take from places.old.items ++ reverse (drop from places.old.items) }
 {

@@ -5,16 +5,16 @@ ghost use Rattle.std.specs.Hash as fed;
 ghost use Rattle.std.proofs.Common.{rules};
 ghost use Rattle.bd_groups.specs.Group.{spread};
 
-use bd_keys::{pair, wide};
+use bd_keys::tall;
 use std::hash::{Hash, Hasher};
 
 /// What the members of a group have in common: the process or the object that they belong to.
 #[derive(Clone, Copy, Debug, PartialEq, Eq)]
 pub enum Group {
     /// A process, by the place of the step that opened it.
-    Process { made: u32 },
+    Process { made: u64 },
     /// An object, by its identity: the place of the step that made it, and which of those made there it is.
-    Object { place: u32, index: u32 },
+    Object { place: u64, index: u32 },
 }
 
 impl Group {
@@ -23,8 +23,9 @@ impl Group {
         ensures { result ≡ spread self }
     {
         match self {
-            Group::Process { made } => wide(0, u64::from(made)),
-            Group::Object { place, index } => wide(1, pair(place, index)),
+            Group::Process { made } => u128::from(made),
+            Group::Object { place, index } => tall(place, index)
+                + 0x100_0000_0000_0000_0000_0000_0000,
         }
     }
 }

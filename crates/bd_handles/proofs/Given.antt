@@ -3,7 +3,7 @@ use Rattle.std.proofs.Common.{◌≡◌, ℕ, ◌≤◌, Bool, true, not, cond, 
 use Rattle.std.specs.List.{count_by}
 use Rattle.std.specs.Option.{is_some}
 use Rattle.std.proofs.lemmas.Bool.{eq-eqb}
-use Rattle.bd_space.specs.declared.step.ObjectId.{ObjectId}
+use Rattle.bd_space.specs.declared.step.Identity.{Identity}
 use Rattle.bd_space.specs.declared.space.Name.{Name}
 use Rattle.bd_space.specs.Names.{number_in}
 use Rattle.bd_handles.specs.Numbers.{new_number, with_number}
@@ -37,7 +37,7 @@ last_back base all given l m h e k =
 pub one_given : (base given l : List Name) (m : Name) → l ≡ base ++ given → l ++ m ∷ [] ≡ base ++ (given ++ m ∷ [])
 one_given base given l m e = ap (λ xs. xs ++ m ∷ []) e ∙ append_assoc base given (m ∷ [])
 
-pub new_name : (from_zero : Bool) (p n : ℕ) (l : List Name) (o : ObjectId) → number_in l p o ≡ None → n ≡ new_number from_zero p l
+pub new_name : (from_zero : Bool) (p n : ℕ) (l : List Name) (o : Identity) → number_in l p o ≡ None → n ≡ new_number from_zero p l
     → l ++ record { process = p; number = n; object = o } ∷ [] ≡ with_number from_zero p l o
 new_name from_zero p n l o e is =
     ap (λ k. l ++ record { process = p; number = k; object = o } ∷ []) is

@@ -11,7 +11,7 @@ use Rattle.bd_groups.specs.declared.group.Group.TheVariants.{Process}
 use Rattle.bd_groups.specs.declared.groups.Groups.{Groups}
 use Rattle.bd_groups.specs.Group.{same_group}
 use Rattle.bd_groups.specs.Members.{members, IsIn, HasMember}
-use Rattle.bd_space.specs.declared.step.ObjectId.{ObjectId}
+use Rattle.bd_space.specs.declared.step.Identity.{Identity}
 use Rattle.bd_space.specs.declared.space.Name.{Name}
 use Rattle.bd_space.specs.Words.{same}
 use Rattle.bd_space.specs.Names.{named_in}
@@ -38,11 +38,11 @@ listed_filter held keep l h = All-filter keep (λ (m : Name). HasMember held (Pr
 
 -- ---- of the names that are there, each is a member or still to come
 
-abbrev pub Coming : Groups ℕ → List (ObjectKey × ℕ) → ℕ → ObjectId → ℕ → Type 0
+abbrev pub Coming : Groups ℕ → List (ObjectKey × ℕ) → ℕ → Identity → ℕ → Type 0
 Coming held todo p o n = (lookup (is_object_key p o) todo ≡ Some n) ⊎ HasMember held (Process p) n
 
 pub come : (old new : Groups ℕ) (k : ObjectKey) (n : ℕ) (todo left : List (ObjectKey × ℕ)) → HasMember new (Process k.process) n
-    → ((g : Group) (m : ℕ) → HasMember old g m → HasMember new g m) → todo ≡ (k, n) ∷ left → (p : ℕ) (o : ObjectId) (m : ℕ) → Coming old todo p o m → Coming new left p o m
+    → ((g : Group) (m : ℕ) → HasMember old g m → HasMember new g m) → todo ≡ (k, n) ∷ left → (p : ℕ) (o : Identity) (m : ℕ) → Coming old todo p o m → Coming new left p o m
 come old new k n todo left has keeps is p o m (inr h) = inr (keeps (Process p) m h)
 come old new k n todo left has keeps is p o m (inl h) = by (eqb p k.process) (same o k.object) refl (sym (ap (lookup (is_object_key p o)) is) ∙ h)
   where
@@ -52,7 +52,7 @@ come old new k n todo left has keeps is p o m (inl h) = by (eqb p k.process) (sa
     by true false e f = inl f
     by false c e f = inl f
 
-pub all_come : (held : Groups ℕ) (todo : List (ObjectKey × ℕ)) (p : ℕ) (o : ObjectId) (n : ℕ) → todo ≡ [] → Coming held todo p o n → HasMember held (Process p) n
+pub all_come : (held : Groups ℕ) (todo : List (ObjectKey × ℕ)) (p : ℕ) (o : Identity) (n : ℕ) → todo ≡ [] → Coming held todo p o n → HasMember held (Process p) n
 all_come held todo p o n none (inl h) = absurd (let e : None ≡ Some n = sym (ap (lookup (is_object_key p o)) none) ∙ h in cc)
 all_come held todo p o n none (inr h) = h
 
@@ -65,12 +65,12 @@ each_passes key own (x ∷ xs) (suc k) d lt = or_right (key (get_or xs k d) x) (
 own_number : (m : Name) → has_number m.process m.number m ≡ true
 own_number m = rw (eq-eqb m.process m.process refl, eq-eqb m.number m.number refl) refl
 
-listed_number : (t : Names) (held : Groups ℕ) (l : List Name) → Named t l → ((p : ℕ) (o : ObjectId) (n : ℕ) → number_at t.numbers p o ≡ Some n → HasMember held (Process p) n)
-    → (p n : ℕ) (o : Option ObjectId) → named_in l p n ≡ o → is_some o ≡ true → HasMember held (Process p) n
+listed_number : (t : Names) (held : Groups ℕ) (l : List Name) → Named t l → ((p : ℕ) (o : Identity) (n : ℕ) → number_at t.numbers p o ≡ Some n → HasMember held (Process p) n)
+    → (p n : ℕ) (o : Option Identity) → named_in l p n ≡ o → is_some o ≡ true → HasMember held (Process p) n
 listed_number t held l h all p n None e some = absurd (cc)
 listed_number t held l h all p n (Some o) e some = all p o n (sym (h.numbers_are p o) ∙ number_of_it l h.sound p n o e)
 
-pub listed_all : (t : Names) (held : Groups ℕ) (l : List Name) → Named t l → ((p : ℕ) (o : ObjectId) (n : ℕ) → number_at t.numbers p o ≡ Some n → HasMember held (Process p) n) → Listed held l
+pub listed_all : (t : Names) (held : Groups ℕ) (l : List Name) → Named t l → ((p : ℕ) (o : Identity) (n : ℕ) → number_at t.numbers p o ≡ Some n → HasMember held (Process p) n) → Listed held l
 listed_all t held l h all = λ k d lt.
     let m : Name = get_or l k d in
     listed_number t held l h all m.process m.number (named_in l m.process m.number) refl

@@ -7,7 +7,7 @@ use Rattle.std.proofs.lemmas.Bool.{eqb-true, eq-eqb, and_parts, and_from}
 use Rattle.std.specs.Cmp.{both_ways}
 use Rattle.bd_keys.proofs.Found.{found_passes}
 use Rattle.bd_keys.proofs.Options.{none_mapped}
-use Rattle.bd_space.specs.declared.step.ObjectId.{ObjectId}
+use Rattle.bd_space.specs.declared.step.Identity.{Identity}
 use Rattle.bd_space.specs.declared.space.Name.{Name}
 use Rattle.bd_space.specs.Words.{same}
 use Rattle.bd_space.specs.Names.{named_in, number_in}
@@ -36,7 +36,7 @@ module _ (names : List Name) (m : Name) (h : Sound names) (free : named_in names
   free_at : (p n : ℕ) → has_number p n m ≡ true → named_in names p n ≡ None
   free_at p n t = let k = and_parts (eqb m.process p) (eqb m.number n) t in rw (← eqb-true m.process p k.0, ← eqb-true m.number n k.1) free
 
-  new_at : (p : ℕ) (o : ObjectId) → has_object p o m ≡ true → number_in names p o ≡ None
+  new_at : (p : ℕ) (o : Identity) → has_object p o m ≡ true → number_in names p o ≡ None
   new_at p o t = let k = and_parts (eqb m.process p) (same m.object o) t in rw (← eqb-true m.process p k.0, ← same_eq m.object o k.1) new
 
   pub came_sound : Sound (names ++ m ∷ [])
@@ -50,7 +50,7 @@ module _ (names : List Name) (m : Name) (h : Sound names) (free : named_in names
       ap (λ x. option_map (λ (k : Name). k.object) x) (find_push (has_number p n) names m)
       ∙ map_push (λ (k : Name). k.object) (find (has_number p n) names) m (has_number p n m) (free_at p n)
 
-  pub came_number : (p : ℕ) (o : ObjectId) → number_in (names ++ m ∷ []) p o ≡ cond (has_object p o m) (Some m.number) (number_in names p o)
+  pub came_number : (p : ℕ) (o : Identity) → number_in (names ++ m ∷ []) p o ≡ cond (has_object p o m) (Some m.number) (number_in names p o)
   came_number p o =
       ap (λ x. option_map (λ (k : Name). k.number) x) (find_push (has_object p o) names m)
       ∙ map_push (λ (k : Name). k.number) (find (has_object p o) names) m (has_object p o m) (new_at p o)
@@ -85,11 +85,11 @@ none_goes f key names e =
     let none = none_count key names (none_mapped f (find key names) e) in
     none_dropped key names (omega arith)
 
-turned_both : (a b : ℕ) (c d : ObjectId) → (eqb a b && same d c) ≡ (eqb b a && same c d)
+turned_both : (a b : ℕ) (c d : Identity) → (eqb a b && same d c) ≡ (eqb b a && same c d)
 turned_both a b c d = ap (λ x. x && same d c) (turned a b) ∙ ap (λ x. eqb b a && x) (same_turned d c)
 
 -- the one name of p for the object
-module _ (names : List Name) (h : Sound names) (p : ℕ) (o : ObjectId) where
+module _ (names : List Name) (h : Sound names) (p : ℕ) (o : Identity) where
   abbrev keep : Name → Bool
   keep m = not (has_object p o m)
 
@@ -123,14 +123,14 @@ module _ (names : List Name) (h : Sound names) (p : ℕ) (o : ObjectId) where
     pub gone_object : (q k : ℕ) → named_in (filter keep names) q k ≡ cond (eqb p q && eqb n k) None (named_in names q k)
     gone_object q k = gone_found (λ (m : Name). m.object) (has_number q k) keep (eqb p q && eqb n k) names (h.one_number q k) (λ m e. ap not (same_name q k m e))
 
-    of_both : (q : ℕ) (x : ObjectId) (m : Name) → has_object q x m ≡ true → has_object p o m ≡ (eqb p q && same o x)
+    of_both : (q : ℕ) (x : Identity) (m : Name) → has_object q x m ≡ true → has_object p o m ≡ (eqb p q && same o x)
     of_both q x m t =
         let k = and_parts (eqb m.process q) (same m.object x) t in
         let mp : m.process ≡ q = eqb-true m.process q k.0 in
         let mo : m.object ≡ x = same_eq m.object x k.1 in
         rw (mp, mo) (turned_both q p o x)
 
-    pub gone_number : (q : ℕ) (x : ObjectId) → number_in (filter keep names) q x ≡ cond (eqb p q && same o x) None (number_in names q x)
+    pub gone_number : (q : ℕ) (x : Identity) → number_in (filter keep names) q x ≡ cond (eqb p q && same o x) None (number_in names q x)
     gone_number q x = gone_found (λ (m : Name). m.number) (has_object q x) keep (eqb p q && same o x) names (h.one_name q x) (λ m e. ap not (of_both q x m (found_passes (has_object q x) names m e)))
 
 -- ---- the name with a number of p
@@ -140,7 +140,7 @@ module _ (names : List Name) (h : Sound names) (p n : ℕ) where
   pub no_number : named_in names p n ≡ None → filter (λ m. not (has_number p n m)) names ≡ names
   no_number e = none_goes (λ (k : Name). k.object) (has_number p n) names e
 
-  module _ (o : ObjectId) (has : named_in names p n ≡ Some o) where
+  module _ (o : Identity) (has : named_in names p n ≡ Some o) where
     numbered : (m : Name) × (find (has_number p n) names ≡ Some m) × (m.object ≡ o)
     numbered = some_map (λ (k : Name). k.object) (find (has_number p n) names) o has
 

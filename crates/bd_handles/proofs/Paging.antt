@@ -5,7 +5,7 @@ use Rattle.std.specs.Int.RustNames.{bit_or}
 use Rattle.std.specs.Option.{is_some}
 use Rattle.std.proofs.lemmas.Bool.{eqb-true, eqb-false, eq-eqb, ne_eqb}
 use Rattle.std.proofs.lemmas.Nat.Bits.{bit_at-zero, bit_at_set_same, bit_at_set_other, bit_at_clear_same, bit_at_clear_other}
-use Rattle.bd_space.specs.declared.step.ObjectId.{ObjectId}
+use Rattle.bd_space.specs.declared.step.Identity.{Identity}
 use Rattle.bd_handles.specs.declared.page.Page.{Page}
 use Rattle.bd_handles.specs.declared.pages.Pages.{Pages}
 use Rattle.bd_handles.specs.Bits.{bit_of, word_at}
@@ -17,20 +17,20 @@ use Rattle.bd_handles.proofs.Marking.{MarkedIn}
 -- ---- one place of a page
 
 -- what a place names, by its bit and what lies there
-abbrev pub chosen : ℕ → List ObjectId → ℕ → Option ObjectId
-chosen used objects j = cond {A = Option ObjectId} (eqb (bit_at used j) 1) (Some (get_or objects j (record { place = 0; index = 0 }))) None
+abbrev pub chosen : ℕ → List Identity → ℕ → Option Identity
+chosen used objects j = cond {A = Option Identity} (eqb (bit_at used j) 1) (Some (get_or objects j (record { place = 0; index = 0 }))) None
 
-pub none_chosen : (used : ℕ) (objects : List ObjectId) → used ≡ 0 → (j : ℕ) → chosen used objects j ≡ None
+pub none_chosen : (used : ℕ) (objects : List Identity) → used ≡ 0 → (j : ℕ) → chosen used objects j ≡ None
 none_chosen used objects e j =
-    ap (λ b. cond {A = Option ObjectId} (eqb b 1) (Some (get_or objects j (record { place = 0; index = 0 }))) None) (ap (λ u. bit_at u j) e ∙ bit_at-zero j)
+    ap (λ b. cond {A = Option Identity} (eqb b 1) (Some (get_or objects j (record { place = 0; index = 0 }))) None) (ap (λ u. bit_at u j) e ∙ bit_at-zero j)
 
-pub put_chosen : (used : ℕ) (objects : List ObjectId) (i j : ℕ) (o : ObjectId) → i < 64 → i < length objects
+pub put_chosen : (used : ℕ) (objects : List Identity) (i j : ℕ) (o : Identity) → i < 64 → i < length objects
     → chosen (bit_or used (1 * 2 ^ i % 2 ^ 64)) (set objects i o) j ≡ cond (eqb i j) (Some o) (chosen used objects j)
 put_chosen used objects i j o lt within = at (eqb i j) refl
   where
     here : chosen (bit_or used (1 * 2 ^ i % 2 ^ 64)) (set objects i o) i ≡ Some o
     here =
-        ap (λ b. cond {A = Option ObjectId} (eqb b 1) (Some (get_or (set objects i o) i (record { place = 0; index = 0 }))) None) (bit_at_set_same w64 used i lt)
+        ap (λ b. cond {A = Option Identity} (eqb b 1) (Some (get_or (set objects i o) i (record { place = 0; index = 0 }))) None) (bit_at_set_same w64 used i lt)
         ∙ ap (λ x. Some x) (get_or-set_same objects i o (record { place = 0; index = 0 }) within)
 
     at : (b : Bool) → eqb i j ≡ b → chosen (bit_or used (1 * 2 ^ i % 2 ^ 64)) (set objects i o) j ≡ cond b (Some o) (chosen used objects j)
@@ -38,29 +38,29 @@ put_chosen used objects i j o lt within = at (eqb i j) refl
     at false e =
         let apart = eqb-false i j e in
         let other : j ≢ i = λ k. apart (sym k) in
-        ap (λ b. cond {A = Option ObjectId} (eqb b 1) (Some (get_or (set objects i o) j (record { place = 0; index = 0 }))) None) (bit_at_set_other w64 used i lt j other)
-        ∙ ap (λ x. cond {A = Option ObjectId} (eqb (bit_at used j) 1) (Some x) None) (get_or-set_other objects i j o (record { place = 0; index = 0 }) other)
+        ap (λ b. cond {A = Option Identity} (eqb b 1) (Some (get_or (set objects i o) j (record { place = 0; index = 0 }))) None) (bit_at_set_other w64 used i lt j other)
+        ∙ ap (λ x. cond {A = Option Identity} (eqb (bit_at used j) 1) (Some x) None) (get_or-set_other objects i j o (record { place = 0; index = 0 }) other)
 
-pub take_chosen : (used : ℕ) (objects : List ObjectId) (i j : ℕ) → i < 64 → j < 64
+pub take_chosen : (used : ℕ) (objects : List Identity) (i j : ℕ) → i < 64 → j < 64
     → chosen (bit_and used (2 ^ 64 - 1 - 1 * 2 ^ i % 2 ^ 64)) objects j ≡ cond (eqb i j) None (chosen used objects j)
 take_chosen used objects i j lt small = at (eqb i j) refl
   where
     here : chosen (bit_and used (2 ^ 64 - 1 - 1 * 2 ^ i % 2 ^ 64)) objects i ≡ None
-    here = ap (λ b. cond {A = Option ObjectId} (eqb b 1) (Some (get_or objects i (record { place = 0; index = 0 }))) None) (bit_at_clear_same w64 used i lt)
+    here = ap (λ b. cond {A = Option Identity} (eqb b 1) (Some (get_or objects i (record { place = 0; index = 0 }))) None) (bit_at_clear_same w64 used i lt)
 
     at : (b : Bool) → eqb i j ≡ b → chosen (bit_and used (2 ^ 64 - 1 - 1 * 2 ^ i % 2 ^ 64)) objects j ≡ cond b None (chosen used objects j)
     at true e = subst (λ k. chosen (bit_and used (2 ^ 64 - 1 - 1 * 2 ^ i % 2 ^ 64)) objects k ≡ None) (eqb-true i j e) here
     at false e =
         let apart = eqb-false i j e in
         let other : j ≢ i = λ k. apart (sym k) in
-        ap (λ b. cond {A = Option ObjectId} (eqb b 1) (Some (get_or objects j (record { place = 0; index = 0 }))) None) (bit_at_clear_other w64 used i lt j small other)
+        ap (λ b. cond {A = Option Identity} (eqb b 1) (Some (get_or objects j (record { place = 0; index = 0 }))) None) (bit_at_clear_other w64 used i lt j small other)
 
 -- ---- a bit is set where something is named
 
-one_bit : (b : ℕ) (o : Option ObjectId) → b < 2 → is_some o ≡ true → b ≡ cond (is_some (cond {A = Option ObjectId} (eqb b 1) o None)) 1 0
+one_bit : (b : ℕ) (o : Option Identity) → b < 2 → is_some o ≡ true → b ≡ cond (is_some (cond {A = Option Identity} (eqb b 1) o None)) 1 0
 one_bit b o lt there = at (eqb b 1) refl
   where
-    at : (t : Bool) → eqb b 1 ≡ t → b ≡ cond (is_some (cond {A = Option ObjectId} t o None)) 1 0
+    at : (t : Bool) → eqb b 1 ≡ t → b ≡ cond (is_some (cond {A = Option Identity} t o None)) 1 0
     at true e = eqb-true b 1 e ∙ sym (ap (λ t. cond {A = ℕ} t 1 0) there)
     at false e = let ne = eqb-false b 1 e in omega arith
 
@@ -70,7 +70,7 @@ bit_named (Some x) j = one_bit (bit_at x.used j) (Some (get_or x.objects j (reco
 
 -- ---- one page changes
 
-module _ (old new : ℕ → ℕ → Option Page) (p i : ℕ) (page : Option Page) (value : Option ObjectId)
+module _ (old new : ℕ → ℕ → Option Page) (p i : ℕ) (page : Option Page) (value : Option Identity)
     (pages : (q v : ℕ) → new q v ≡ cond (eqb p q && eqb (i / 64) v) page (old q v))
     (places : (j : ℕ) → j < 64 → place_in page j ≡ cond (eqb (i % 64) j) value (place_in (old p (i / 64)) j)) where
   same_place : (k : ℕ) → i / 64 ≡ k / 64 → eqb (i % 64) (k % 64) ≡ eqb i k
@@ -87,15 +87,15 @@ module _ (old new : ℕ → ℕ → Option Page) (p i : ℕ) (page : Option Page
   here k d =
       ap (λ x. place_in x (k % 64)) (pages p (k / 64) ∙ rw (eq-eqb p p refl, eq-eqb (i / 64) (k / 64) d) refl)
       ∙ places (k % 64) (omega arith)
-      ∙ ap (λ c. cond {A = Option ObjectId} c value (place_in (old p (i / 64)) (k % 64))) (same_place k d)
-      ∙ ap (λ w. cond {A = Option ObjectId} (eqb i k) value (place_in (old p w) (k % 64))) d
+      ∙ ap (λ c. cond {A = Option Identity} c value (place_in (old p (i / 64)) (k % 64))) (same_place k d)
+      ∙ ap (λ w. cond {A = Option Identity} (eqb i k) value (place_in (old p w) (k % 64))) d
 
   in_page : (k : ℕ) (c : Bool) → eqb (i / 64) (k / 64) ≡ c → place_in (new p (k / 64)) (k % 64) ≡ cond (eqb i k) value (place_in (old p (k / 64)) (k % 64))
   in_page k true e = here k (eqb-true (i / 64) (k / 64) e)
   in_page k false e =
       let ne : i / 64 ≢ k / 64 = eqb-false (i / 64) (k / 64) e in
       let apart : i ≢ k = (λ s. ne (ap (λ x. x / 64) s)) in
-      away p k (rw (eq-eqb p p refl, e) refl) ∙ ap (λ c. cond {A = Option ObjectId} c value (place_in (old p (k / 64)) (k % 64))) (sym (ne_eqb i k apart))
+      away p k (rw (eq-eqb p p refl, e) refl) ∙ ap (λ c. cond {A = Option Identity} c value (place_in (old p (k / 64)) (k % 64))) (sym (ne_eqb i k apart))
 
   of_process : (q k : ℕ) (c : Bool) → eqb p q ≡ c → place_in (new q (k / 64)) (k % 64) ≡ cond (c && eqb i k) value (place_in (old q (k / 64)) (k % 64))
   of_process q k true e =
@@ -118,7 +118,7 @@ IsFilled page = (x : Page) → page ≡ Some x → 0 < x.used
 pub filled_word : (page : Option Page) → word_in page ≢ 0 → IsFilled page
 filled_word page h x e = (let ne : x.used ≢ 0 = subst (λ o. word_in o ≢ 0) e h in omega (arith, ne))
 
-pub filled_named : (page : Option Page) (j : ℕ) (o : ObjectId) → place_in page j ≡ Some o → IsFilled page
+pub filled_named : (page : Option Page) (j : ℕ) (o : Identity) → place_in page j ≡ Some o → IsFilled page
 filled_named page j o named = filled_word page (λ e. (
     let one : bit_at (word_in page) j ≡ 1 = bit_named page j ∙ ap (λ x. cond {A = ℕ} (is_some x) 1 0) named in
     let none : bit_at (word_in page) j ≡ 0 = ap (λ u. bit_at u j) e ∙ bit_at-zero j in

@@ -1,6 +1,6 @@
 -- The keys of a process's numbers and objects, and what the maps of names say of them.
 use Rattle.std.specs.Prelude.{ℕ, ◌==◌, ◌&&◌, Bool, Option}
-use Rattle.bd_ways.specs.Words.{ObjectId, same}
+use Rattle.bd_ways.specs.Words.{Identity, same}
 use Rattle.std.specs.HashMap.{HashMap, get_by}
 use Rattle.bd_handles.specs.declared.keys.NumberKey.{NumberKey}
 use Rattle.bd_handles.specs.declared.keys.ObjectKey.{ObjectKey}
@@ -8,8 +8,8 @@ use Rattle.bd_handles.specs.declared.keys.ObjectKey.{ObjectKey}
 abbrev pub is_number_key : ℕ → ℕ → NumberKey → Bool
 is_number_key p n k = (p == k.process) && (n == k.number)
 
-abbrev pub is_object_key : ℕ → ObjectId → ObjectKey → Bool
+abbrev pub is_object_key : ℕ → Identity → ObjectKey → Bool
 is_object_key p o k = (p == k.process) && same o k.object
 
-abbrev pub number_at : {S : Type 0} → HashMap ObjectKey ℕ S → ℕ → ObjectId → Option ℕ
+abbrev pub number_at : {S : Type 0} → HashMap ObjectKey ℕ S → ℕ → Identity → Option ℕ
 number_at numbers p o = get_by (is_object_key p o) numbers

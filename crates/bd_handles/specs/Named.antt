@@ -1,6 +1,6 @@
 -- What the pages and numbers of names stand for.
 use Rattle.std.specs.Prelude.{ℕ, ◌≡◌, ◌<◌, ◌-◌, ◌^◌, ◌==◌, List, false, if◌then◌else◌, min}
-use Rattle.bd_ways.specs.Words.{ObjectId, Name}
+use Rattle.bd_ways.specs.Words.{Identity, Name}
 use Rattle.std.specs.HashMap.{spare}
 use Rattle.std.specs.List.{All}
 use Rattle.bd_groups.specs.declared.groups.Groups.{Groups}
@@ -20,7 +20,7 @@ place_of n = if n == 0 then 4294967295 else n - 1
 pub record Named (t : Names) (l : List Name) : Type 0 where
   pub sound : Sound l
   pub objects_are : (p n : ℕ) → n < 2 ^ 32 → named_in l p n ≡ object_at t.pages.pages p (place_of n)
-  pub numbers_are : (p : ℕ) (o : ObjectId) → number_in l p o ≡ number_at t.numbers p o
+  pub numbers_are : (p : ℕ) (o : Identity) → number_in l p o ≡ number_at t.numbers p o
   pub full_are : FullAre t.pages
   pub fits : has_number_past_limit l ≡ false
 

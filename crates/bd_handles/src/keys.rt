@@ -4,53 +4,53 @@ ghost use Rattle.std.specs.Prelude.{ℕ, ◌≡◌, ◌==◌, ◌≤◌, ◌<◌
 ghost use Rattle.std.specs.Cmp.Rules.{hashing};
 ghost use Rattle.std.specs.Hash as fed;
 ghost use Rattle.std.{specs.HashMap.{spare}, proofs.Common.{rules}};
-ghost use Rattle.bd_keys.specs.Numbers.{pair, wide};
-ghost use Rattle.bd_space.specs.declared.step.ObjectId as declared;
+ghost use Rattle.bd_keys.specs.Numbers.{mixed, pair};
+ghost use Rattle.bd_space.specs.declared.step.Identity as declared;
 ghost use Rattle.bd_space.specs.Words.{same};
 ghost use Rattle.bd_handles.specs.Keys.{number_at};
 
-use bd_keys::{insert_reserved, pair, wide};
-use bd_space::ObjectId;
+use bd_keys::{insert_reserved, mixed, tall};
+use bd_space::Identity;
 use std::collections::HashMap;
 use std::hash::{Hash, Hasher};
 
 /// The key of a page of names, or of a word of bits: the process, and the page's or the word's number there.
 #[derive(Clone, Copy, PartialEq, Eq)]
 pub struct NumberKey {
-    pub process: u32,
+    pub process: u64,
     pub number: u32,
 }
 
 // One write, as `bd_keys` says.
 impl Hash for NumberKey {
-    ghost hash_input = { λ k. fed.u64 (pair k.process k.number) };
+    ghost hash_input = { λ k. fed.u128 (pair k.process k.number) };
 
     ghost respects_eq = { Prim.search (hashing, rules) };
 
     fn hash<H: Hasher>(&self, state: &mut H) {
-        state.write_u64(pair(self.process, self.number));
+        state.write_u128(tall(self.process, self.number));
     }
 }
 
 /// The key of a name by its object: the process that has the name, and the object.
 #[derive(Clone, Copy, PartialEq, Eq)]
 pub struct ObjectKey {
-    pub process: u32,
-    pub object: ObjectId,
+    pub process: u64,
+    pub object: Identity,
 }
 
 impl Hash for ObjectKey {
-    ghost hash_input = { λ k. fed.u128 (wide k.process (pair k.object.place k.object.index)) };
+    ghost hash_input = { λ k. fed.u128 (mixed k.process k.object.place k.object.index) };
 
     ghost respects_eq = { Prim.search (hashing, rules) };
 
     fn hash<H: Hasher>(&self, state: &mut H) {
-        state.write_u128(wide(self.process, pair(self.object.place, self.object.index)));
+        state.write_u128(mixed(self.process, self.object.place, self.object.index));
     }
 }
 
 /// The number by which the process names the object, if it does.
-pub fn number_of(numbers: &HashMap<ObjectKey, u32>, p: u32, o: ObjectId) -> Option<u32>
+pub fn number_of(numbers: &HashMap<ObjectKey, u32>, p: u64, o: Identity) -> Option<u32>
     ensures { result ≡ number_at numbers.now p o }
 {
     numbers
@@ -62,9 +62,9 @@ pub fn number_of(numbers: &HashMap<ObjectKey, u32>, p: u32, o: ObjectId) -> Opti
 }
 
 /// The object has this number of the process from now on.
-pub fn insert_number(numbers: &mut HashMap<ObjectKey, u32>, p: u32, o: ObjectId, n: u32)
+pub fn insert_number(numbers: &mut HashMap<ObjectKey, u32>, p: u64, o: Identity, n: u32)
     requires { 0 < spare numbers.old }
-    ensures at { (q : ℕ) (x : declared.ObjectId) → number_at numbers.new q x
+    ensures at { (q : ℕ) (x : declared.Identity) → number_at numbers.new q x
         ≡ (if (p == q) && same o x then Some n else number_at numbers.old q x) }
     ensures spare { spare numbers.old ≤ spare numbers.new + 1 }
 {
@@ -76,8 +76,8 @@ pub fn insert_number(numbers: &mut HashMap<ObjectKey, u32>, p: u32, o: ObjectId,
 }
 
 /// The object has no number of the process from now on.
-pub fn remove_number(numbers: &mut HashMap<ObjectKey, u32>, p: u32, o: ObjectId)
-    ensures at { (q : ℕ) (x : declared.ObjectId) → number_at numbers.new q x
+pub fn remove_number(numbers: &mut HashMap<ObjectKey, u32>, p: u64, o: Identity)
+    ensures at { (q : ℕ) (x : declared.Identity) → number_at numbers.new q x
         ≡ (if (p == q) && same o x then None else number_at numbers.old q x) }
     ensures spare { spare numbers.old ≤ spare numbers.new }
 {

@@ -11,7 +11,7 @@ ghost use Rattle.bd_handles.specs.{Sound.{has_number, has_object}, Named.{Named,
 use crate::keys::{ObjectKey, insert_number, number_of, remove_number};
 use crate::pages::Pages;
 use bd_groups::Members;
-use bd_space::{Name, ObjectId};
+use bd_space::{Identity, Name};
 use std::alloc::{AllocError, Global};
 use std::collections::HashMap;
 
@@ -60,21 +60,21 @@ impl Names {
     }
 
     /// The object that the number names for the process.
-    pub fn named(&self, p: u32, n: u32) -> Option<ObjectId>
+    pub fn named(&self, p: u64, n: u32) -> Option<Identity>
         ensures { Tells (Named self.now) result (λ l. names_of.named_in l p n) }
     {
         self.pages.at(p, place_of(n))
     }
 
     // Whether the number is this one or past it, and names something for the process.
-    fn is_named_from(&self, p: u32, from: u32, n: u32) -> bool
+    fn is_named_from(&self, p: u64, from: u32, n: u32) -> bool
         ensures { Tells (Named self.now) result (λ l. nat_le from n && is_some (names_of.named_in l p n)) }
     {
         from <= n && self.named(p, n).is_some()
     }
 
     /// The least number from this one on that names something for the process. Those that do are among these.
-    pub fn next_among(&self, p: u32, from: u32, numbers: Members<'_, u32>) -> Option<u32>
+    pub fn next_among(&self, p: u64, from: u32, numbers: Members<'_, u32>) -> Option<u32>
         ensures { (l : List declared.Name) → Named self.now l → HasNumbers numbers.entry p l
             → IsNextNumber l p from result }
     {
@@ -88,14 +88,14 @@ impl Names {
     }
 
     /// The number by which the process names the object, if it does.
-    pub fn number_of(&self, p: u32, o: ObjectId) -> Option<u32>
+    pub fn number_of(&self, p: u64, o: Identity) -> Option<u32>
         ensures { Tells (Named self.now) result (λ l. names_of.number_in l p o) }
     {
         number_of(&self.numbers, p, o)
     }
 
     // The least number from 1 on that the process doesn't use, if it is within the limit.
-    fn free_from_one(&self, p: u32) -> Option<u32>
+    fn free_from_one(&self, p: u64) -> Option<u32>
         ensures { (l : List declared.Name) → Named self.now l → let free = numbers.free_number_from l p 1 in
             MatchOption result (4294967294 < free) (λ n. (n ≡ free) × (n ≤ 4294967294)) }
     {
@@ -106,7 +106,7 @@ impl Names {
     }
 
     // The least number from 0 on that the process doesn't use, if it is within the limit.
-    fn free_from_zero(&self, p: u32) -> Option<u32>
+    fn free_from_zero(&self, p: u64) -> Option<u32>
         ensures { (l : List declared.Name) → Named self.now l → let free = numbers.free_number_from l p 0 in
             MatchOption result (4294967294 < free) (λ n. (n ≡ free) × (n ≤ 4294967294)) }
     {
@@ -117,7 +117,7 @@ impl Names {
     }
 
     /// The number for a new name of the process, if it is within the limit.
-    pub fn free_number(&self, from_zero: bool, p: u32) -> Option<u32>
+    pub fn free_number(&self, from_zero: bool, p: u64) -> Option<u32>
         ensures { (l : List declared.Name) → Named self.now l → let free = numbers.new_number from_zero p l in
             MatchOption result (4294967294 < free) (λ n. (n ≡ free) × (n ≤ 4294967294)) }
     {
@@ -141,7 +141,7 @@ impl Names {
     }
 
     // The process's name of the object goes, which has this number.
-    fn remove(&mut self, p: u32, o: ObjectId, n: u32)
+    fn remove(&mut self, p: u64, o: Identity, n: u32)
         ensures stands { (l : List declared.Name) → Named self.old l → names_of.number_in l p o ≡ Some n
             → Named self.new (filter (λ m. not (has_object p o m)) l) }
         ensures uses { index_room self.old ≤ index_room self.new }
@@ -151,7 +151,7 @@ impl Names {
     }
 
     /// The process's name of the object goes, if it has one.
-    pub fn remove_object(&mut self, p: u32, o: ObjectId)
+    pub fn remove_object(&mut self, p: u64, o: Identity)
         ensures stands { Makes (Named self.old) (Named self.new) (λ l. filter (λ m. not (has_object p o m)) l) }
         ensures uses { index_room self.old ≤ index_room self.new }
     {
@@ -162,7 +162,7 @@ impl Names {
     }
 
     // The process's name with this number goes, if it has one.
-    fn remove_number(&mut self, p: u32, n: u32)
+    fn remove_number(&mut self, p: u64, n: u32)
         ensures stands { Makes (Named self.old) (Named self.new) (λ l. filter (λ m. not (has_number p n m)) l) }
         ensures uses { index_room self.old ≤ index_room self.new }
     {
@@ -173,7 +173,7 @@ impl Names {
     }
 
     /// All names of the process go, whose numbers are among these.
-    pub fn remove_process(&mut self, p: u32, numbers: Members<'_, u32>)
+    pub fn remove_process(&mut self, p: u64, numbers: Members<'_, u32>)
         ensures stands { (l : List declared.Name) → Named self.old l → HasNumbers numbers.entry p l
             → Named self.new (filter (λ m. not (m.process == p)) l) }
         ensures uses { index_room self.old ≤ index_room self.new }

@@ -3,14 +3,14 @@
 ghost use Rattle.std.specs.Prelude.{ℕ, ◌≡◌, ◌==◌, ◌<◌, Some, None, if◌then◌else◌};
 ghost use Rattle.bd_handles.specs.Page.{place_at};
 
-use bd_space::ObjectId;
+use bd_space::Identity;
 
 /// A bit for each place that names something, and what it names.
 #[derive(Drop)]
 pub struct Page {
     pub(crate) used: u64,
     // What lies at a place without its bit says nothing.
-    pub(crate) objects: [ObjectId; 64],
+    pub(crate) objects: [Identity; 64],
 }
 
 impl Page {
@@ -20,12 +20,12 @@ impl Page {
     {
         Page {
             used: 0,
-            objects: [ObjectId { place: 0, index: 0 }; 64],
+            objects: [Identity { place: 0, index: 0 }; 64],
         }
     }
 
     /// What the place names.
-    pub fn at(&self, i: u32) -> Option<ObjectId>
+    pub fn at(&self, i: u32) -> Option<Identity>
         requires { i < 64 }
         ensures { result ≡ place_at self.now i }
     {
@@ -37,7 +37,7 @@ impl Page {
     }
 
     /// The place names the object from now on.
-    pub fn insert(&mut self, i: u32, o: ObjectId)
+    pub fn insert(&mut self, i: u32, o: Identity)
         requires { i < 64 }
         ensures { (j : ℕ) → j < 64 → place_at self.new j ≡ (if i == j then Some o else place_at self.old j) }
     {

@@ -7,11 +7,11 @@ ghost use Rattle.bd_handles.specs.Page.{page_at, object_at, used_at, AreFilled};
 use crate::keys::NumberKey;
 use crate::page::Page;
 use bd_keys::insert_reserved;
-use bd_space::ObjectId;
+use bd_space::Identity;
 use std::collections::HashMap;
 
 /// What the place names for the process.
-pub fn object_of(pages: &HashMap<NumberKey, Page>, p: u32, i: u32) -> Option<ObjectId>
+pub fn object_of(pages: &HashMap<NumberKey, Page>, p: u64, i: u32) -> Option<Identity>
     ensures { result ≡ object_at pages.now p i }
 {
     match pages.get(&NumberKey {
@@ -24,7 +24,7 @@ pub fn object_of(pages: &HashMap<NumberKey, Page>, p: u32, i: u32) -> Option<Obj
 }
 
 /// The word of a page of the process.
-pub fn used_of(pages: &HashMap<NumberKey, Page>, p: u32, w: u32) -> u64
+pub fn used_of(pages: &HashMap<NumberKey, Page>, p: u64, w: u32) -> u64
     ensures { result ≡ used_at pages.now p w }
 {
     match pages.get(&NumberKey {
@@ -37,7 +37,7 @@ pub fn used_of(pages: &HashMap<NumberKey, Page>, p: u32, w: u32) -> u64
 }
 
 /// The process's place names the object from now on. The word of its page.
-pub fn insert_object(pages: &mut HashMap<NumberKey, Page>, p: u32, i: u32, o: ObjectId) -> u64
+pub fn insert_object(pages: &mut HashMap<NumberKey, Page>, p: u64, i: u32, o: Identity) -> u64
     requires { 0 < spare pages.old }
     ensures at { (q k : ℕ) → object_at pages.new q k ≡ (if (p == q) && (i == k) then Some o else object_at pages.old q k) }
     ensures others { (q v : ℕ) → ((p == q) && (i / 64 == v)) ≡ false → page_at pages.new q v ≡ page_at pages.old q v }
@@ -65,7 +65,7 @@ pub fn insert_object(pages: &mut HashMap<NumberKey, Page>, p: u32, i: u32, o: Ob
 }
 
 // The process's place names nothing from now on. The word of its page.
-fn remove_place(pages: &mut HashMap<NumberKey, Page>, p: u32, i: u32) -> u64
+fn remove_place(pages: &mut HashMap<NumberKey, Page>, p: u64, i: u32) -> u64
     ensures at { (q k : ℕ) → object_at pages.new q k ≡ (if (p == q) && (i == k) then None else object_at pages.old q k) }
     ensures others { (q v : ℕ) → ((p == q) && (i / 64 == v)) ≡ false → page_at pages.new q v ≡ page_at pages.old q v }
     ensures word { result ≡ used_at pages.new p (i / 64) }
@@ -84,7 +84,7 @@ fn remove_place(pages: &mut HashMap<NumberKey, Page>, p: u32, i: u32) -> u64
 }
 
 // A page that names nothing goes.
-fn remove_page(pages: &mut HashMap<NumberKey, Page>, p: u32, w: u32)
+fn remove_page(pages: &mut HashMap<NumberKey, Page>, p: u64, w: u32)
     requires { used_at pages.old p w ≡ 0 }
     ensures at { (q k : ℕ) → object_at pages.new q k ≡ object_at pages.old q k }
     ensures gone { (q v : ℕ) → page_at pages.new q v ≡ (if (p == q) && (w == v) then None else page_at pages.old q v) }
@@ -97,7 +97,7 @@ fn remove_page(pages: &mut HashMap<NumberKey, Page>, p: u32, w: u32)
 }
 
 /// The process's place names nothing from now on.
-pub fn remove_object(pages: &mut HashMap<NumberKey, Page>, p: u32, i: u32)
+pub fn remove_object(pages: &mut HashMap<NumberKey, Page>, p: u64, i: u32)
     ensures at { (q k : ℕ) → object_at pages.new q k ≡ (if (p == q) && (i == k) then None else object_at pages.old q k) }
     ensures others { (q v : ℕ) → ((p == q) && (i / 64 == v)) ≡ false → page_at pages.new q v ≡ page_at pages.old q v }
     ensures filled { AreFilled pages.old → AreFilled pages.new }

@@ -7,7 +7,7 @@ use crate::keys::NumberKey;
 use crate::page::Page;
 use crate::paged::{insert_object, object_of, remove_object, used_of};
 use crate::words::Words;
-use bd_space::ObjectId;
+use bd_space::Identity;
 use std::alloc::{AllocError, Global};
 use std::collections::HashMap;
 
@@ -46,14 +46,14 @@ impl Pages {
     }
 
     /// What the place names for the process.
-    pub fn at(&self, p: u32, i: u32) -> Option<ObjectId>
+    pub fn at(&self, p: u64, i: u32) -> Option<Identity>
         ensures { result ≡ object_at self.now.pages p i }
     {
         object_of(&self.pages, p, i)
     }
 
     /// The process's least place below the limit that names nothing.
-    pub fn least(&self, p: u32) -> Option<u32>
+    pub fn least(&self, p: u64) -> Option<u32>
         ensures first { FullAre self.now
             → MatchOption result ((j : ℕ) → j < 4294967294 → is_some (object_at self.now.pages p j) ≡ true)
             (λ i. (is_some (object_at self.now.pages p i) ≡ false)
@@ -70,7 +70,7 @@ impl Pages {
     }
 
     /// The process's place, which names nothing, names the object from now on.
-    pub fn insert(&mut self, p: u32, i: u32, o: ObjectId)
+    pub fn insert(&mut self, p: u64, i: u32, o: Identity)
         requires { 1 ≤ page_room self.old }
         ensures at { (q k : ℕ) → object_at self.new.pages q k
             ≡ (if (p == q) && (i == k) then Some o else object_at self.old.pages q k) }
@@ -83,7 +83,7 @@ impl Pages {
     }
 
     /// The process's place names nothing from now on.
-    pub fn remove(&mut self, p: u32, i: u32)
+    pub fn remove(&mut self, p: u64, i: u32)
         ensures at { (q k : ℕ) → object_at self.new.pages q k
             ≡ (if (p == q) && (i == k) then None else object_at self.old.pages q k) }
         ensures full { FullAre self.old → FullAre self.new }

@@ -15,7 +15,7 @@ use crate::held::reserve_held;
 use crate::names::Names;
 use crate::numbers::NumbersFull;
 use bd_groups::{Group, Groups};
-use bd_space::{Name, ObjectId};
+use bd_space::{Identity, Name};
 use std::alloc::{AllocError, Global};
 
 /// The names of all processes. Those given since the table was last settled can be taken back.
@@ -61,7 +61,7 @@ impl NameTable {
     }
 
     /// The object that the number names for the process.
-    pub fn named(&self, p: u32, n: u32) -> Option<ObjectId>
+    pub fn named(&self, p: u64, n: u32) -> Option<Identity>
         ensures { Tells self.now result (λ l. names_of.named_in l p n) }
     {
         self.names.named(p, n)
@@ -69,7 +69,7 @@ impl NameTable {
 
     /// The least number from this one on that names something for the process. Where this one itself names nothing, it takes a look
     /// for each number that is noted for the process, those of names that are gone too.
-    pub fn next_number(&self, p: u32, from: u32) -> Option<u32>
+    pub fn next_number(&self, p: u64, from: u32) -> Option<u32>
         ensures { Knows self.now (λ l. IsNextNumber l p from result) }
     {
         if self.names.named(p, from).is_some() {
@@ -80,14 +80,14 @@ impl NameTable {
     }
 
     /// The number by which the process names the object, if it does.
-    pub fn number_of(&self, p: u32, o: ObjectId) -> Option<u32>
+    pub fn number_of(&self, p: u64, o: Identity) -> Option<u32>
         ensures { Tells self.now result (λ l. names_of.number_in l p o) }
     {
         self.names.number_of(p, o)
     }
 
     /// Whether the process has a name for the object.
-    pub fn has(&self, p: u32, o: ObjectId) -> bool
+    pub fn has(&self, p: u64, o: Identity) -> bool
         ensures { Tells self.now result (λ l. notices.is_name_of l p o) }
     {
         self.names.number_of(p, o).is_some()
@@ -96,7 +96,7 @@ impl NameTable {
     /// The process has a name for the object afterwards: the one that it had, or else with the least number that it
     /// doesn't use, from 0 or from 1.
     #[tactic(auto, unfolding(crate::specs::Stands::name_room))]
-    pub fn give(&mut self, from_zero: bool, p: u32, o: ObjectId) -> Result<(), NumbersFull>
+    pub fn give(&mut self, from_zero: bool, p: u64, o: Identity) -> Result<(), NumbersFull>
         requires { 1 ≤ name_room self.old }
         ensures ok { OnOk result (Makes self.old self.new (λ l. with_number from_zero p l o)) }
         ensures err { OnErr result (Makes self.old self.new (λ l. l)) }
@@ -111,7 +111,7 @@ impl NameTable {
 
     // Names an object that has no name.
     #[tactic(auto, unfolding(crate::specs::Stands::name_room))]
-    fn give_new(&mut self, from_zero: bool, p: u32, o: ObjectId) -> Result<(), NumbersFull>
+    fn give_new(&mut self, from_zero: bool, p: u64, o: Identity) -> Result<(), NumbersFull>
         requires { 1 ≤ name_room self.old }
         ensures ok { OnOk result ((base l : List declared.Name) → NamesSince self.old base l → names_of.number_in l p o ≡ None
             → NamesSince self.new base (with_number from_zero p l o)) }
@@ -168,7 +168,7 @@ impl NameTable {
 
     /// Takes out the process's name of the object, if it has one.
     #[tactic(auto, unfolding(crate::specs::Stands::name_room))]
-    pub fn remove(&mut self, p: u32, o: ObjectId)
+    pub fn remove(&mut self, p: u64, o: Identity)
         ensures stands { tables.Makes (NamesAre self.old) (NamesAre self.new)
             (λ l. filter (λ m. not ((m.process == p) && words.same m.object o)) l) }
         ensures uses { Uses self.old self.new 0 }
@@ -178,7 +178,7 @@ impl NameTable {
 
     /// Takes out all names of a process, when it ends.
     #[tactic(auto, unfolding(crate::specs::Stands::name_room))]
-    pub fn remove_process(&mut self, p: u32)
+    pub fn remove_process(&mut self, p: u64)
         ensures stands { tables.Makes (NamesAre self.old) (NamesAre self.new) (λ l. filter (λ m. not (m.process == p)) l) }
         ensures uses { Uses self.old self.new 0 }
     {

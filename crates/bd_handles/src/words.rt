@@ -39,7 +39,7 @@ impl Words {
     }
 
     // The process's word with this number: 0 where none is stored.
-    fn word(&self, p: u32, w: u32) -> u64
+    fn word(&self, p: u64, w: u32) -> u64
         ensures { result ≡ word_at self.now p w }
     {
         match self.words.get(&NumberKey {
@@ -52,7 +52,7 @@ impl Words {
     }
 
     // A word is set, which may be a new one.
-    fn raise(&mut self, p: u32, w: u32, x: u64)
+    fn raise(&mut self, p: u64, w: u32, x: u64)
         requires room { 0 < spare self.old.words }
         requires filled { 0 < x }
         ensures words { (q v : ℕ) → word_at self.new q v ≡ (if (p == q) && (w == v) then x else word_at self.old q v) }
@@ -66,7 +66,7 @@ impl Words {
     }
 
     // A word becomes 0.
-    fn forget(&mut self, p: u32, w: u32)
+    fn forget(&mut self, p: u64, w: u32)
         ensures words { (q v : ℕ) → word_at self.new q v ≡ (if (p == q) && (w == v) then 0 else word_at self.old q v) }
         ensures spare { spare self.old.words ≤ spare self.new.words }
     {
@@ -77,7 +77,7 @@ impl Words {
     }
 
     // A word that isn't 0 is set.
-    fn replace(&mut self, p: u32, w: u32, x: u64)
+    fn replace(&mut self, p: u64, w: u32, x: u64)
         requires there { word_at self.old p w ≢ 0 }
         requires filled { 0 < x }
         ensures words { (q v : ℕ) → word_at self.new q v ≡ (if (p == q) && (w == v) then x else word_at self.old q v) }
@@ -93,7 +93,7 @@ impl Words {
     }
 
     /// The number comes into the process's set.
-    pub fn set(&mut self, p: u32, i: u32)
+    pub fn set(&mut self, p: u64, i: u32)
         requires { 0 < spare self.old.words }
         ensures bits { (q j : ℕ) → bit_of (word_at self.new) q j
             ≡ (if (p == q) && (i == j) then 1 else bit_of (word_at self.old) q j) }
@@ -104,7 +104,7 @@ impl Words {
     }
 
     /// The number goes out of the process's set.
-    pub fn clear(&mut self, p: u32, i: u32)
+    pub fn clear(&mut self, p: u64, i: u32)
         ensures bits { (q j : ℕ) → bit_of (word_at self.new) q j
             ≡ (if (p == q) && (i == j) then 0 else bit_of (word_at self.old) q j) }
         ensures spare { spare self.old.words ≤ spare self.new.words }
@@ -122,7 +122,7 @@ impl Words {
     }
 
     /// The least number below 2 ^ 26 that isn't in the process's set.
-    pub fn first_clear(&self, p: u32) -> Option<u32>
+    pub fn first_clear(&self, p: u64) -> Option<u32>
         ensures { MatchOption result ((j : ℕ) → j < 2 ^ 26 → bit_of (word_at self.now) p j ≡ 1)
             (λ i. (i < 2 ^ 26) × (bit_of (word_at self.now) p i ≡ 0) × ((j : ℕ) → j < i → bit_of (word_at self.now) p j ≡ 1)) }
     {

@@ -4,7 +4,7 @@ use Rattle.std.specs.List.{list_any}
 use Rattle.std.proofs.Math.Bool.{or-false, and-true, and-false, and_comm}
 use Rattle.std.proofs.lemmas.Bool.{and_parts}
 use mathlib.Core.Bool.{beq}
-use Rattle.bd_space.specs.declared.step.ObjectId.{ObjectId}
+use Rattle.bd_space.specs.declared.step.Identity.{Identity}
 use Rattle.bd_space.specs.declared.space.Reference.{Reference}
 use Rattle.bd_space.specs.declared.space.Holder.{Holder}
 use Rattle.bd_space.specs.declared.space.Holder.TheVariants as holders
@@ -66,12 +66,12 @@ and_or true b c = refl
 and_or false b c = refl
 
 -- of one use, and of one strength
-of_one_use : (o : ObjectId) (kind : Kind) (r : Reference) (held : Kind)
+of_one_use : (o : Identity) (kind : Kind) (r : Reference) (held : Kind)
     → same_use (to_use o kind) (to_use r.object held) ≡ (same r.object o && same_kind held kind)
 unfolding same_use
 of_one_use o kind r held = use_sym (to_use o kind) (to_use r.object held)
 
-of_key : (o : ObjectId) (kind : Kind) (r : Reference) (held : Kind) (h : Bool) → h ≡ same_kind held kind → (strong : Bool)
+of_key : (o : Identity) (kind : Kind) (r : Reference) (held : Kind) (h : Bool) → h ≡ same_kind held kind → (strong : Bool)
     → ((of_strength strong r && same r.object o) && h) ≡ same_key (count_key r.object held r.strong) (count_key o kind strong)
 unfolding same_use same_key
 of_key o kind r held h is strong =
@@ -91,27 +91,27 @@ either_strength k u = by (same_use (use_of k) u) k.strong ∙ use_sym (use_of k)
     by false s = refl
 
 -- what a process asked for, and what the owner is to acknowledge
-pub asking_key : (p : ℕ) (o : ObjectId) (strong : Bool) (r : Reference)
+pub asking_key : (p : ℕ) (o : Identity) (strong : Bool) (r : Reference)
     → is_asking p o strong r ≡ same_key (use_key r) (count_key o (Asked p) strong)
 asking_key p o strong r =
     ap (λ s. (s && same r.object o) && is_asked_by p r.holder) (sym (strength strong r))
     ∙ of_key o (Asked p) r (kind_of r.holder) (is_asked_by p r.holder) (asked_kind p r.holder) strong
 
-pub shaking_key : (o : ObjectId) (strong : Bool) (r : Reference)
+pub shaking_key : (o : Identity) (strong : Bool) (r : Reference)
     → is_shaking o strong r ≡ same_key (use_key r) (count_key o Handshake strong)
 shaking_key o strong r =
     ap (λ s. (s && same r.object o) && is_handshake r.holder) (sym (strength strong r))
     ∙ of_key o Handshake r (kind_of r.holder) (is_handshake r.holder) (shaken_kind r.holder) strong
 
 -- all that refer to the object, and strongly
-pub key_of_total : (o : ObjectId) (r : Reference) → same r.object o ≡ same_use (to_use o Any) (use_of (total_key r))
+pub key_of_total : (o : Identity) (r : Reference) → same r.object o ≡ same_use (to_use o Any) (use_of (total_key r))
 key_of_total o r = sym (and-true (same r.object o)) ∙ sym (of_one_use o Any r Any)
 
-pub strong_key : (o : ObjectId) (r : Reference) → (r.strong && same r.object o) ≡ same_key (total_key r) (count_key o Any true)
+pub strong_key : (o : Identity) (r : Reference) → (r.strong && same r.object o) ≡ same_key (total_key r) (count_key o Any true)
 strong_key o r = sym (and-true (r.strong && same r.object o)) ∙ of_key o Any r Any true refl true
 
 -- those that give the process a name
-naming_key : (p : ℕ) (o : ObjectId) (r : Reference) (strong : Bool)
+naming_key : (p : ℕ) (o : Identity) (r : Reference) (strong : Bool)
     → (of_strength strong r && same r.object o && gives_name_to p r.holder) ≡ names_with p o strong r
 naming_key p o r strong =
     let to = of_strength strong r && same r.object o in
@@ -120,11 +120,11 @@ naming_key p o r strong =
     ∙ ap (λ b. b || (to && same_kind kind (Carried p))) (of_key o (Asked p) r kind (same_kind kind (Asked p)) refl strong)
     ∙ ap (λ b. same_key (use_key r) (count_key o (Asked p) strong) || b) (of_key o (Carried p) r kind (same_kind kind (Carried p)) refl strong)
 
-pub naming_strongly : (p : ℕ) (o : ObjectId) (r : Reference)
+pub naming_strongly : (p : ℕ) (o : Identity) (r : Reference)
     → (r.strong && same r.object o && gives_name_to p r.holder) ≡ names_with p o true r
 naming_strongly p o r = naming_key p o r true
 
-pub naming : (p : ℕ) (o : ObjectId) (r : Reference) → (same r.object o && gives_name_to p r.holder) ≡ names p o r
+pub naming : (p : ℕ) (o : Identity) (r : Reference) → (same r.object o && gives_name_to p r.holder) ≡ names p o r
 naming p o r =
     let kind = kind_of r.holder in
     ap (λ n. same r.object o && n) (named_kind p r.holder) ∙ and_or (same r.object o) (same_kind kind (Asked p)) (same_kind kind (Carried p))
@@ -166,11 +166,11 @@ shaken_free b holders.Manager h = refl
 shaken_free b (holders.Carried c q) h = absurd (cc)
 shaken_free b (holders.Target c q) h = absurd (cc)
 
-pub asked_apart : (p : ℕ) (o : ObjectId) (strong : Bool) (b : ℕ) (r : Reference)
+pub asked_apart : (p : ℕ) (o : Identity) (strong : Bool) (b : ℕ) (r : Reference)
     → is_asking p o strong r ≡ true → is_of_buffer b r.holder ≡ false
 asked_apart p o strong b r h = asked_free p b r.holder (and_parts (beq r.strong strong && same r.object o) (is_asked_by p r.holder) h).1
 
-pub shaken_apart : (o : ObjectId) (strong : Bool) (b : ℕ) (r : Reference)
+pub shaken_apart : (o : Identity) (strong : Bool) (b : ℕ) (r : Reference)
     → is_shaking o strong r ≡ true → is_of_buffer b r.holder ≡ false
 shaken_apart o strong b r h = shaken_free b r.holder (and_parts (beq r.strong strong && same r.object o) (is_handshake r.holder) h).1
 
@@ -184,7 +184,7 @@ owner_kinds true (holders.Target b q) = refl
 owner_kinds true holders.Handshake = refl
 owner_kinds true holders.Manager = refl
 
-pub owner_uses : (o : ObjectId) (r : Reference)
+pub owner_uses : (o : Identity) (r : Reference)
     → (not (is_of_use (to_use o Handshake) r) && not (is_of_use (to_use o Manager) r)) ≡ not (same r.object o && is_of_owner r.holder)
 owner_uses o r =
     ap (λ b. not b && not (is_of_use (to_use o Manager) r)) (of_one_use o Handshake r (kind_of r.holder))

@@ -9,7 +9,7 @@ use Rattle.bd_keys.proofs.Lists.{any_same}
 use Rattle.bd_groups.specs.declared.groups.Groups.{Groups}
 use Rattle.bd_groups.specs.declared.group.Group.TheVariants.{Process}
 use Rattle.bd_groups.specs.Members.{members, IsIn}
-use Rattle.bd_space.specs.declared.step.ObjectId.{ObjectId}
+use Rattle.bd_space.specs.declared.step.Identity.{Identity}
 use Rattle.bd_space.specs.declared.space.Reference.{Reference}
 use Rattle.bd_space.specs.declared.space.Holder.{Holder}
 use Rattle.bd_space.specs.declared.space.Holder.TheVariants as holders
@@ -99,11 +99,11 @@ module _ (p : ℕ) (uses : Counts) (users : Groups UseKey) (l : List Reference) 
       ∙ any_counted (λ u. true) ∙ any_same (λ r. goes p r && true) (goes p) l (λ r. and-true (goes p r))
 
   -- those uses tell to which objects such references are
-  pub just_dropped : (ids : List ObjectId) (o : ObjectId)
+  pub just_dropped : (ids : List Identity) (o : Identity)
       → is_among (ids ++ map (λ (u : UseKey). u.object) (filter (is_counted uses) (members users (Process p)))) o
       ≡ is_among (ids ++ map (λ (r : Reference). r.object) (filter (goes p) l)) o
   just_dropped ids o =
-      let is = λ (j : ObjectId). same o j in
+      let is = λ (j : Identity). same o j in
       let us = members users (Process p) in
       let object = λ (r : Reference). r.object in
       let object_of = λ (u : UseKey). u.object in

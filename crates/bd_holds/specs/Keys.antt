@@ -1,7 +1,7 @@
 -- By what references are counted and found.
-use Rattle.std.specs.Prelude.{ℕ, ◌==◌, ◌+◌, ◌*◌, ◌^◌, Bool, ◌&&◌, ◌||◌, Option, Some, None, List}
-use Rattle.bd_ways.specs.Words.{beq, list_any, ObjectId, Reference, Holder, is_some_and}
-use Rattle.bd_keys.specs.Numbers.{pair}
+use Rattle.std.specs.Prelude.{ℕ, ◌==◌, ◌+◌, ◌*◌, ◌%◌, ◌^◌, Bool, ◌&&◌, ◌||◌, Option, Some, None, List}
+use Rattle.bd_ways.specs.Words.{beq, list_any, Identity, Reference, Holder, is_some_and}
+use Rattle.bd_keys.specs.Numbers.{mixed}
 use Rattle.bd_space.specs.declared.space.Holder.TheVariants as holders
 use Rattle.bd_holds.specs.declared.keys.Kind.{Kind}
 use Rattle.bd_holds.specs.declared.keys.Kind.TheVariants as kinds
@@ -32,10 +32,10 @@ kind_of (holders.Target b p) = kinds.Target p
 kind_of holders.Handshake = kinds.Handshake
 kind_of holders.Manager = kinds.Manager
 
-abbrev pub to_use : ObjectId → Kind → UseKey
+abbrev pub to_use : Identity → Kind → UseKey
 to_use o kind = record { object = o; kind = kind }
 
-abbrev pub count_key : ObjectId → Kind → Bool → CountKey
+abbrev pub count_key : Identity → Kind → Bool → CountKey
 count_key o kind strong = record { object = o; kind = kind; strong = strong }
 
 -- by its kind, and among all
@@ -54,11 +54,11 @@ abbrev pub is_of_use : UseKey → Reference → Bool
 is_of_use u r = same_use u (use_of (use_key r))
 
 -- it gives the process a name: the process asked for it, or a buffer in its window carries it
-abbrev pub names : ℕ → ObjectId → Reference → Bool
+abbrev pub names : ℕ → Identity → Reference → Bool
 names p o r = is_of_use (to_use o (kinds.Asked p)) r || is_of_use (to_use o (kinds.Carried p)) r
 
 -- the same, in one strength
-abbrev pub names_with : ℕ → ObjectId → Bool → Reference → Bool
+abbrev pub names_with : ℕ → Identity → Bool → Reference → Bool
 names_with p o strong r =
     same_key (use_key r) (count_key o (kinds.Asked p) strong)
     || same_key (use_key r) (count_key o (kinds.Carried p) strong)
@@ -84,15 +84,15 @@ any_use u = record u { kind = kinds.Any }
 abbrev pub is_one_of : List UseKey → UseKey → Bool
 is_one_of us u = list_any (λ x. same_use x u) us
 
--- another number for each kind, below 2 ^ 35
+-- a number for each kind, by which it is hashed
 abbrev pub kind_word : Kind → ℕ
-kind_word (kinds.Asked p) = p
-kind_word (kinds.Carried p) = 2 ^ 32 + p
-kind_word (kinds.Target p) = 2 * 2 ^ 32 + p
-kind_word kinds.Handshake = 3 * 2 ^ 32
-kind_word kinds.Manager = 4 * 2 ^ 32
-kind_word kinds.Any = 5 * 2 ^ 32
+kind_word (kinds.Asked p) = (p * 8) % 2 ^ 64
+kind_word (kinds.Carried p) = ((p * 8) % 2 ^ 64 + 1) % 2 ^ 64
+kind_word (kinds.Target p) = ((p * 8) % 2 ^ 64 + 2) % 2 ^ 64
+kind_word kinds.Handshake = 3
+kind_word kinds.Manager = 4
+kind_word kinds.Any = 5
 
--- another number for each use, by which it is hashed
+-- a number for each use, by which it is hashed
 abbrev pub use_spread : UseKey → ℕ
-use_spread u = pair u.object.index u.object.place + kind_word u.kind * 2 ^ 64
+use_spread u = mixed (kind_word u.kind) u.object.place u.object.index

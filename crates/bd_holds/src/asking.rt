@@ -7,20 +7,20 @@ ghost use Rattle.bd_space.specs.References as refer;
 
 use crate::keys::{Kind, count_key};
 use crate::table::ReferenceTable;
-use bd_space::ObjectId;
+use bd_space::Identity;
 
 impl ReferenceTable {
     ghost use Rattle.bd_holds.specs.{Stands.{ReferencesAre}, Room.{reference_room}};
 
     /// Whether the process asked for the object in this strength.
-    pub fn is_asked(&self, p: u32, o: ObjectId, strong: bool) -> bool
+    pub fn is_asked(&self, p: u64, o: Identity, strong: bool) -> bool
         ensures { Tells (ReferencesAre self.now) result (λ l. list_any (refer.is_asking p o strong) l) }
     {
         self.tallies.has(o, Kind::Asked(p), strong)
     }
 
     /// Whether the owner is to acknowledge the object in this strength.
-    pub fn is_shaken(&self, o: ObjectId, strong: bool) -> bool
+    pub fn is_shaken(&self, o: Identity, strong: bool) -> bool
         ensures { Tells (ReferencesAre self.now) result (λ l. list_any (refer.is_shaking o strong) l) }
     {
         self.tallies.has(o, Kind::Handshake, strong)
@@ -28,7 +28,7 @@ impl ReferenceTable {
 
     /// The least reference of this strength goes that the process asked for, if there is one.
     #[tactic(auto, unfolding(crate::specs::Room::reference_room))]
-    pub fn drop_asked(&mut self, p: u32, o: ObjectId, strong: bool)
+    pub fn drop_asked(&mut self, p: u64, o: Identity, strong: bool)
         ensures stands { Makes (ReferencesAre self.old) (ReferencesAre self.new)
             (λ l. without_first (refer.is_asking p o strong) l) }
         ensures uses { reference_room self.old ≤ reference_room self.new }
@@ -39,7 +39,7 @@ impl ReferenceTable {
 
     /// The least reference of this strength goes that stands for an acknowledgement, if there is one.
     #[tactic(auto, unfolding(crate::specs::Room::reference_room))]
-    pub fn drop_shaken(&mut self, o: ObjectId, strong: bool)
+    pub fn drop_shaken(&mut self, o: Identity, strong: bool)
         ensures stands { Makes (ReferencesAre self.old) (ReferencesAre self.new)
             (λ l. without_first (refer.is_shaking o strong) l) }
         ensures uses { reference_room self.old ≤ reference_room self.new }

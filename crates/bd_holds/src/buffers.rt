@@ -6,12 +6,12 @@ ghost use Rattle.bd_space.specs.References as refer;
 
 use crate::held::HeldReferences;
 use crate::table::ReferenceTable;
-use bd_space::ObjectId;
+use bd_space::Identity;
 use std::alloc::AllocError;
 
 fn push_objects(
     references: HeldReferences<'_>,
-    touched: &mut Vec<ObjectId>,
+    touched: &mut Vec<Identity>,
 ) -> Result<(), AllocError>
     ensures { OnOk result (touched.new.items ≡ touched.old.items ++ map (λ r. r.object) references.entry) }
 {
@@ -26,7 +26,7 @@ impl ReferenceTable {
 
     /// The references go that the buffer held.
     #[tactic(auto, unfolding(crate::specs::Room::reference_room))]
-    pub fn remove_buffer(&mut self, b: u32)
+    pub fn remove_buffer(&mut self, b: u64)
         ensures stands { Makes (ReferencesAre self.old) (ReferencesAre self.new)
             (λ l. filter (λ r. not (refer.is_of_buffer b r.holder)) l) }
         ensures uses { reference_room self.old ≤ reference_room self.new }
@@ -36,7 +36,7 @@ impl ReferenceTable {
     }
 
     /// The objects to which the buffer refers, put after what is there. Fails for want of memory alone.
-    pub fn referred(&self, b: u32, touched: &mut Vec<ObjectId>) -> Result<(), AllocError>
+    pub fn referred(&self, b: u64, touched: &mut Vec<Identity>) -> Result<(), AllocError>
         ensures { OnOk result (Tells (ReferencesAre self.now) touched.new.items (λ l. touched.old.items ++ map (λ r. r.object) (filter
             (λ r. refer.is_of_buffer b r.holder) l))) }
     {

@@ -2,15 +2,15 @@
 
 ghost use Rattle.std.specs.{Prelude.{◌≡◌, List}, Iterator.{YieldsFirst, item_count}};
 ghost use Rattle.bd_keys.specs.Tables.{Tells};
-ghost use Rattle.bd_space.specs.{declared.step.ObjectId.{ObjectId}};
+ghost use Rattle.bd_space.specs.{declared.step.Identity.{Identity}};
 ghost use Rattle.bd_holds.specs.Carried.{is_carried_by, carried_in};
 
 use crate::held::HeldReferences;
 use crate::table::ReferenceTable;
-use bd_space::{Holder, ObjectId};
+use bd_space::{Holder, Identity};
 use std::marker::Model;
 
-fn is_carried_by(made: u32, holder: Holder) -> bool
+fn is_carried_by(made: u64, holder: Holder) -> bool
     ensures { result ≡ is_carried_by made holder }
 {
     matches!(holder, Holder::Carried(b, _) if b == made)
@@ -19,25 +19,25 @@ fn is_carried_by(made: u32, holder: Holder) -> bool
 /// The objects that a buffer carries, one for each object of its parcel, in their order.
 #[derive(Drop)]
 pub struct CarriedObjects<'a> {
-    made: u32,
+    made: u64,
     // Those that are still to be looked at.
     references: HeldReferences<'a>,
 }
 
 impl<'a> Model for CarriedObjects<'a> {
-    ghost Value = { List ObjectId };
+    ghost Value = { List Identity };
 
     ghost view = { λ c. carried_in c.references c.made };
 }
 
 impl Iterator for CarriedObjects<'_> {
-    type Item = ObjectId;
+    type Item = Identity;
 
     ghost next_gives = { YieldsFirst (λ s. s) };
 
     ghost remaining = { item_count (λ s. s) };
 
-    fn next(&mut self) -> Option<ObjectId> {
+    fn next(&mut self) -> Option<Identity> {
         while let Some(reference) = self.references.next() {
             if is_carried_by(self.made, reference.holder) {
                 return Some(reference.object);
@@ -51,7 +51,7 @@ impl ReferenceTable {
     ghost use Rattle.bd_holds.specs.Stands.{ReferencesAre};
 
     /// The objects that the buffer made there carries, one for each object of its parcel, in their order.
-    pub fn carried(&self, b: u32) -> CarriedObjects<'_>
+    pub fn carried(&self, b: u64) -> CarriedObjects<'_>
         ensures { Tells (ReferencesAre self.now) result (λ l. carried_in l b) }
     {
         CarriedObjects {

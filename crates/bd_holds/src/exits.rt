@@ -10,7 +10,7 @@ ghost use Rattle.bd_space.specs.References as refer;
 use crate::table::ReferenceTable;
 use crate::users::push_counted;
 use bd_groups::Group;
-use bd_space::ObjectId;
+use bd_space::Identity;
 use std::alloc::AllocError;
 
 impl ReferenceTable {
@@ -19,7 +19,7 @@ impl ReferenceTable {
 
     /// The references go that go with the process: it asked for them, or they lie in its window.
     #[tactic(auto, unfolding(crate::specs::Room::reference_room))]
-    pub fn remove_with_process(&mut self, p: u32)
+    pub fn remove_with_process(&mut self, p: u64)
         ensures stands { Makes (ReferencesAre self.old) (ReferencesAre self.new)
             (λ l. filter (λ r. not (refer.is_asked_by p r.holder || refer.is_in_window p r.holder)) l) }
         ensures uses { reference_room self.old ≤ reference_room self.new }
@@ -30,7 +30,7 @@ impl ReferenceTable {
 
     /// The references go that an owner has to its own object: what it is to acknowledge, and the context manager's.
     #[tactic(auto, unfolding(crate::specs::Room::reference_room))]
-    pub fn remove_of_owner(&mut self, o: ObjectId)
+    pub fn remove_of_owner(&mut self, o: Identity)
         ensures stands { Makes (ReferencesAre self.old) (ReferencesAre self.new)
             (λ l. filter (λ r. not (words.same r.object o && refer.is_of_owner r.holder)) l) }
         ensures uses { reference_room self.old ≤ reference_room self.new }
@@ -42,8 +42,8 @@ impl ReferenceTable {
     /// some order. Fails for want of memory alone.
     pub fn dropped_with_process(
         &self,
-        p: u32,
-        touched: &mut Vec<ObjectId>,
+        p: u64,
+        touched: &mut Vec<Identity>,
     ) -> Result<(), AllocError>
         ensures all { OnOk result ((l : List Reference) → ReferencesAre self.now l → HasAll touched.new.items
             (touched.old.items ++ map (λ r. r.object)

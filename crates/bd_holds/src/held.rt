@@ -11,7 +11,7 @@ use std::marker::Model;
 
 /// What a buffer holds there.
 #[tactic(auto, unfolding(crate::specs::Keys::same_item))]
-pub(crate) fn item_in(held: &HashMap<ItemKey, Reference>, b: u32, i: u64) -> Option<Reference>
+pub(crate) fn item_in(held: &HashMap<ItemKey, Reference>, b: u64, i: u64) -> Option<Reference>
     ensures { result ≡ gather.item_in held.now b i }
 {
     held.get(&ItemKey {
@@ -22,7 +22,7 @@ pub(crate) fn item_in(held: &HashMap<ItemKey, Reference>, b: u32, i: u64) -> Opt
 }
 
 /// The index at which the buffer's next reference comes in.
-pub(crate) fn end_of(ends: &HashMap<u32, u64>, b: u32) -> u64
+pub(crate) fn end_of(ends: &HashMap<u64, u64>, b: u64) -> u64
     ensures { result ≡ gather.end_in ends.now b }
 {
     match ends.get(&b) {
@@ -35,7 +35,7 @@ pub(crate) fn end_of(ends: &HashMap<u32, u64>, b: u32) -> u64
 #[derive(Drop)]
 pub(crate) struct HeldReferences<'a> {
     pub(crate) held: &'a HashMap<ItemKey, Reference>,
-    pub(crate) buffer: u32,
+    pub(crate) buffer: u64,
     // Where the next one may be, and where all are done.
     pub(crate) index: u64,
     pub(crate) end: u64,
@@ -67,7 +67,7 @@ impl Iterator for HeldReferences<'_> {
 }
 
 /// Whether the buffer holds anything.
-pub(crate) fn is_used(held: &HashMap<ItemKey, Reference>, b: u32, end: u64) -> bool
+pub(crate) fn is_used(held: &HashMap<ItemKey, Reference>, b: u64, end: u64) -> bool
     ensures { result ≡ gather.is_used (gather.gathered (gather.item_in held.now b) 0 end) }
 {
     let mut references = HeldReferences {

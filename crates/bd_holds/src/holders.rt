@@ -7,7 +7,7 @@ ghost use Rattle.bd_space.specs.References as refer;
 use bd_space::Holder;
 
 /// The buffer with which it ends.
-pub(crate) fn buffer_of_holder(holder: Holder) -> Option<u32>
+pub(crate) fn buffer_of_holder(holder: Holder) -> Option<u64>
     ensures { result ≡ refer.buffer_of_holder holder }
 {
     match holder {
@@ -18,7 +18,7 @@ pub(crate) fn buffer_of_holder(holder: Holder) -> Option<u32>
 }
 
 /// The process in whose window that buffer lies.
-pub(crate) fn window_of(holder: Holder) -> Option<u32>
+pub(crate) fn window_of(holder: Holder) -> Option<u64>
     ensures { (p : ℕ) → refer.is_in_window p holder ≡ is_some_and result (λ q. q == p) }
 {
     match holder {
@@ -28,7 +28,7 @@ pub(crate) fn window_of(holder: Holder) -> Option<u32>
 }
 
 /// Whether it lies in the process's window.
-pub(crate) fn is_in_window(p: u32, holder: Holder) -> bool
+pub(crate) fn is_in_window(p: u64, holder: Holder) -> bool
     ensures { result ≡ refer.is_in_window p holder }
 {
     window_of(holder) == Some(p)

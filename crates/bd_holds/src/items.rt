@@ -20,9 +20,9 @@ use std::collections::HashMap;
 pub(crate) struct Items {
     pub(crate) held: HashMap<ItemKey, Reference>,
     // The index at which the next reference of a buffer comes in.
-    pub(crate) ends: HashMap<u32, u64>,
+    pub(crate) ends: HashMap<u64, u64>,
     // By process the buffers that hold something in its window, and buffers that did.
-    pub(crate) windows: Groups<u32>,
+    pub(crate) windows: Groups<u64>,
     pub(crate) alloc: Global,
     ghost listed: { AreWindows held ends windows },
     ghost ended: { AreEnds held ends },
@@ -41,7 +41,7 @@ impl Drop for Items {
 
 // A reference comes in.
 #[tactic(auto, unfolding(crate::specs::Keys::same_item))]
-fn put(held: &mut HashMap<ItemKey, Reference>, b: u32, i: u64, r: Reference)
+fn put(held: &mut HashMap<ItemKey, Reference>, b: u64, i: u64, r: Reference)
     requires { 0 < spare held.old }
     ensures items { (c j : ℕ) → item_in held.new c j ≡ (if (b == c) && (i == j) then Some r else item_in held.old c j) }
     ensures spare { spare held.old ≤ spare held.new + 1 }
@@ -54,7 +54,7 @@ fn put(held: &mut HashMap<ItemKey, Reference>, b: u32, i: u64, r: Reference)
 }
 
 // The buffer's next index is set.
-fn set_end(ends: &mut HashMap<u32, u64>, b: u32, i: u64)
+fn set_end(ends: &mut HashMap<u64, u64>, b: u64, i: u64)
     requires { 0 < spare ends.old }
     ensures ends { (c : ℕ) → end_in ends.new c ≡ (if b == c then i else end_in ends.old c) }
     ensures put { (c : ℕ) → get_by (λ d. c == d) ends.new ≡ (if b == c then Some i else get_by (λ d. c == d) ends.old) }
@@ -65,7 +65,7 @@ fn set_end(ends: &mut HashMap<u32, u64>, b: u32, i: u64)
 
 // What the buffer holds at these indexes goes.
 #[tactic(auto, unfolding(crate::specs::Keys::same_item))]
-fn clear_to(held: &mut HashMap<ItemKey, Reference>, b: u32, end: u64)
+fn clear_to(held: &mut HashMap<ItemKey, Reference>, b: u64, end: u64)
     ensures others { (c j : ℕ) → (b == c) ≡ false → item_in held.new c j ≡ item_in held.old c j }
     ensures gone { (j : ℕ) → j < end → item_in held.new b j ≡ None }
     ensures above { (j : ℕ) → end ≤ j → item_in held.new b j ≡ item_in held.old b j }
@@ -112,7 +112,7 @@ impl Items {
     }
 
     /// The buffer holds one reference more, after its others.
-    pub(crate) fn push(&mut self, b: u32, r: Reference)
+    pub(crate) fn push(&mut self, b: u64, r: Reference)
         requires { 1 ≤ item_room self.old }
         ensures items { (c : ℕ) → end_at self.old b < 2 ^ 64 - 1
             → items_of self.new c ≡ (if b == c then items_of self.old c ++ r ∷ [] else items_of self.old c) }
@@ -142,7 +142,7 @@ impl Items {
     }
 
     /// The references that the buffer holds, in order.
-    pub(crate) fn of(&self, b: u32) -> HeldReferences<'_>
+    pub(crate) fn of(&self, b: u64) -> HeldReferences<'_>
         ensures { result ≡ items_of self.now b }
     {
         HeldReferences {
@@ -154,7 +154,7 @@ impl Items {
     }
 
     /// The buffer holds nothing any more.
-    pub(crate) fn clear(&mut self, b: u32)
+    pub(crate) fn clear(&mut self, b: u64)
         ensures items { (c : ℕ) → items_of self.new c ≡ (if b == c then [] else items_of self.old c) }
         ensures ends { (c : ℕ) → end_at self.new c ≤ end_at self.old c }
         ensures uses { item_room self.old ≤ item_room self.new }
@@ -164,7 +164,7 @@ impl Items {
     }
 
     /// What lies in the window goes from all buffers.
-    pub(crate) fn remove_window(&mut self, p: u32)
+    pub(crate) fn remove_window(&mut self, p: u64)
         ensures items { (c : ℕ) → items_of self.new c
             ≡ filter (λ r. not (refer.is_in_window p r.holder)) (items_of self.old c) }
         ensures ends { (c : ℕ) → end_at self.new c ≤ end_at self.old c }

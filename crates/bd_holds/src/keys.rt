@@ -1,24 +1,24 @@
 //! By what references are counted and found.
 
-ghost use Rattle.std.specs.{Prelude.{◌≡◌, ◌<◌, ◌^◌}, Cmp.Rules.{hashing}};
+ghost use Rattle.std.specs.{Prelude.{◌≡◌}, Cmp.Rules.{hashing}};
 ghost use Rattle.std.specs.Hash as fed;
 ghost use Rattle.std.proofs.Common.{rules};
-ghost use Rattle.bd_keys.specs.Numbers.{wide};
+ghost use Rattle.bd_keys.specs.Numbers.{mixed};
 ghost use Rattle.bd_holds.specs.Keys as keys;
 
-use bd_keys::{pair, wide};
-use bd_space::{Holder, ObjectId, Reference};
+use bd_keys::mixed;
+use bd_space::{Holder, Identity, Reference};
 use std::hash::{Hash, Hasher};
 
 /// What a reference is for.
 #[derive(Clone, Copy, PartialEq, Eq)]
 pub(crate) enum Kind {
     /// The process asked for it.
-    Asked(u32),
+    Asked(u64),
     /// A buffer in the process's window carries it.
-    Carried(u32),
+    Carried(u64),
     /// A buffer in the process's window was sent to it.
-    Target(u32),
+    Target(u64),
     /// The owner is to acknowledge it.
     Handshake,
     /// It is the context manager's.
@@ -30,14 +30,14 @@ pub(crate) enum Kind {
 /// References to one object, of one kind, whatever their strength.
 #[derive(Clone, Copy, PartialEq, Eq)]
 pub(crate) struct UseKey {
-    pub(crate) object: ObjectId,
+    pub(crate) object: Identity,
     pub(crate) kind: Kind,
 }
 
 /// Those of one strength.
 #[derive(Clone, Copy)]
 pub(crate) struct CountKey {
-    pub(crate) object: ObjectId,
+    pub(crate) object: Identity,
     pub(crate) kind: Kind,
     pub(crate) strong: bool,
 }
@@ -45,7 +45,7 @@ pub(crate) struct CountKey {
 /// Which of its references a buffer holds there.
 #[derive(Clone, Copy, PartialEq, Eq)]
 pub(crate) struct ItemKey {
-    pub(crate) buffer: u32,
+    pub(crate) buffer: u64,
     pub(crate) index: u64,
 }
 
@@ -53,15 +53,14 @@ impl Kind {
     // Another number for each kind.
     fn word(self) -> u64
         ensures value { result ≡ keys.kind_word self }
-        ensures small { result < 2 ^ 35 }
     {
         match self {
-            Kind::Asked(p) => u64::from(p),
-            Kind::Carried(p) => 0x1_0000_0000 + u64::from(p),
-            Kind::Target(p) => 0x2_0000_0000 + u64::from(p),
-            Kind::Handshake => 0x3_0000_0000,
-            Kind::Manager => 0x4_0000_0000,
-            Kind::Any => 0x5_0000_0000,
+            Kind::Asked(p) => p.wrapping_mul(8),
+            Kind::Carried(p) => p.wrapping_mul(8).wrapping_add(1),
+            Kind::Target(p) => p.wrapping_mul(8).wrapping_add(2),
+            Kind::Handshake => 3,
+            Kind::Manager => 4,
+            Kind::Any => 5,
         }
     }
 }
@@ -71,8 +70,7 @@ impl UseKey {
     fn spread(self) -> u128
         ensures { result ≡ keys.use_spread self }
     {
-        let object = pair(self.object.index, self.object.place);
-        u128::from(object) + u128::from(self.kind.word()) * 0x1_0000_0000_0000_0000
+        mixed(self.kind.word(), self.object.place, self.object.index)
     }
 }
 
@@ -88,17 +86,17 @@ impl Hash for UseKey {
 }
 
 impl Hash for ItemKey {
-    ghost hash_input = { λ k. fed.u128 (wide k.buffer k.index) };
+    ghost hash_input = { λ k. fed.u128 (mixed k.buffer k.index 0) };
 
     ghost respects_eq = { Prim.search (hashing, rules) };
 
     fn hash<H: Hasher>(&self, state: &mut H) {
-        state.write_u128(wide(self.buffer, self.index));
+        state.write_u128(mixed(self.buffer, self.index, 0));
     }
 }
 
 /// References to this object, of this kind.
-pub(crate) fn to_use(o: ObjectId, kind: Kind) -> UseKey
+pub(crate) fn to_use(o: Identity, kind: Kind) -> UseKey
     ensures { result ≡ keys.to_use o kind }
 {
     UseKey { object: o, kind }
@@ -124,7 +122,7 @@ fn kind_of(holder: Holder) -> Kind
 }
 
 /// The key of these references.
-pub(crate) fn count_key(o: ObjectId, kind: Kind, strong: bool) -> CountKey
+pub(crate) fn count_key(o: Identity, kind: Kind, strong: bool) -> CountKey
     ensures { result ≡ keys.count_key o kind strong }
 {
     CountKey {
@@ -149,7 +147,7 @@ pub(crate) fn total_key(r: Reference) -> CountKey
 }
 
 /// The process that asked for it, or in whose window it lies.
-pub(crate) fn process_of(kind: Kind) -> Option<u32>
+pub(crate) fn process_of(kind: Kind) -> Option<u64>
     ensures { result ≡ keys.process_of kind }
 {
     match kind {

@@ -20,7 +20,7 @@ use crate::keys::{
 use crate::leaving::{remove_use, remove_uses};
 use crate::users::{push_new_user, reserve_users};
 use bd_groups::{Group, Groups};
-use bd_space::{ObjectId, Reference};
+use bd_space::{Identity, Reference};
 use std::alloc::{AllocError, Global};
 
 /// Counters of all references.
@@ -77,7 +77,7 @@ impl Tallies {
     }
 
     /// Whether there is one of this kind, in this strength.
-    pub(crate) fn has(&self, o: ObjectId, kind: Kind, strong: bool) -> bool
+    pub(crate) fn has(&self, o: Identity, kind: Kind, strong: bool) -> bool
         ensures { Tells (Tallied self.now) result
             (λ l. list_any (λ r. keys.same_key (keys.use_key r) (keys.count_key o kind strong)) l) }
     {
@@ -85,14 +85,14 @@ impl Tallies {
     }
 
     // Whether there is one of this kind, in either strength.
-    fn has_either(&self, o: ObjectId, kind: Kind) -> bool
+    fn has_either(&self, o: Identity, kind: Kind) -> bool
         ensures { Tells (Tallied self.now) result (λ l. list_any (keys.is_of_use (keys.to_use o kind)) l) }
     {
         !self.uses.both(to_use(o, kind)).is_empty()
     }
 
     /// How many there are of any kind.
-    pub(crate) fn total(&self, o: ObjectId) -> Count
+    pub(crate) fn total(&self, o: Identity) -> Count
         ensures any { Tells (Tallied self.now) (not (is_empty result))
             (λ l. list_any (λ r. keys.same_use (keys.to_use o kinds.Any) (keys.use_of (keys.total_key r))) l) }
         ensures strong { Tells (Tallied self.now) (nat_lt 0 result.strong)
@@ -102,14 +102,14 @@ impl Tallies {
     }
 
     /// Whether there is one that gives the process a name.
-    pub(crate) fn names(&self, p: u32, o: ObjectId) -> bool
+    pub(crate) fn names(&self, p: u64, o: Identity) -> bool
         ensures { Tells (Tallied self.now) result (λ l. list_any (keys.names p o) l) }
     {
         self.has_either(o, Kind::Asked(p)) || self.has_either(o, Kind::Carried(p))
     }
 
     /// The same, in one strength.
-    pub(crate) fn names_with(&self, p: u32, o: ObjectId, strong: bool) -> bool
+    pub(crate) fn names_with(&self, p: u64, o: Identity, strong: bool) -> bool
         ensures { Tells (Tallied self.now) result (λ l. list_any (keys.names_with p o strong) l) }
     {
         self.has(o, Kind::Asked(p), strong) || self.has(o, Kind::Carried(p), strong)
@@ -159,7 +159,7 @@ impl Tallies {
     }
 
     /// Those of a process go.
-    pub(crate) fn remove_with_process(&mut self, p: u32)
+    pub(crate) fn remove_with_process(&mut self, p: u64)
         ensures stands { Makes (Tallied self.old) (Tallied self.new)
             (λ l. filter (λ r. not (refer.is_asked_by p r.holder || refer.is_in_window p r.holder)) l) }
         ensures uses { tally_room self.old ≤ tally_room self.new }
@@ -170,7 +170,7 @@ impl Tallies {
     }
 
     /// Those go that an owner has to its own object.
-    pub(crate) fn remove_of_owner(&mut self, o: ObjectId)
+    pub(crate) fn remove_of_owner(&mut self, o: Identity)
         ensures stands { Makes (Tallied self.old) (Tallied self.new)
             (λ l. filter (λ r. not (same r.object o && refer.is_of_owner r.holder)) l) }
         ensures uses { tally_room self.old ≤ tally_room self.new }

@@ -12,7 +12,7 @@ use crate::count::Count;
 use crate::counts::Counts;
 use crate::keys::{UseKey, process_of};
 use bd_groups::{Group, Groups, Members};
-use bd_space::ObjectId;
+use bd_space::Identity;
 use std::alloc::{AllocError, Global};
 
 // The use comes in for its process, if it has one.
@@ -80,7 +80,7 @@ pub(crate) fn reserve_users(
 pub(crate) fn push_counted(
     uses: &Counts,
     listed: Members<'_, UseKey>,
-    touched: &mut Vec<ObjectId>,
+    touched: &mut Vec<Identity>,
 ) -> Result<(), AllocError>
     ensures pushed { OnOk result (touched.new.items
         ≡ touched.old.items ++ map (λ u. u.object) (filter (is_counted uses.now) listed.entry)) }

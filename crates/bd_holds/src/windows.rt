@@ -18,7 +18,7 @@ use std::collections::HashMap;
 
 /// The buffer comes in for the process in whose window it holds something, if there is one. A buffer's references come
 /// one after the other: mostly it came in last, and then not again.
-pub(crate) fn list_window(windows: &mut Groups<u32>, b: u32, holder: Holder)
+pub(crate) fn list_window(windows: &mut Groups<u64>, b: u64, holder: Holder)
     requires { 1 ≤ group_room windows.old }
     ensures has { (p : ℕ) → refer.is_in_window p holder ≡ true → has_buffer windows.new p b ≡ true }
     ensures keeps { (p c : ℕ) → has_buffer windows.old p c ≡ true → has_buffer windows.new p c ≡ true }
@@ -36,10 +36,10 @@ pub(crate) fn list_window(windows: &mut Groups<u32>, b: u32, holder: Holder)
 // The buffers alone that hold something in a window.
 fn renewed(
     held: &HashMap<ItemKey, Reference>,
-    ends: &HashMap<u32, u64>,
+    ends: &HashMap<u64, u64>,
     alloc: Global,
     more: usize,
-) -> Result<Groups<u32>, AllocError>
+) -> Result<Groups<u64>, AllocError>
     ensures are { IfOk result (λ windows. AreWindows held.now ends.now windows) }
     ensures few { IfOk result (λ windows. member_count windows ≤ hash_map_len held.now) }
     ensures room { IfOk result (λ windows. more ≤ group_room windows) }
@@ -53,9 +53,9 @@ fn renewed(
 
 /// Room for so many references more.
 pub(crate) fn reserve_windows(
-    windows: &mut Groups<u32>,
+    windows: &mut Groups<u64>,
     held: &HashMap<ItemKey, Reference>,
-    ends: &HashMap<u32, u64>,
+    ends: &HashMap<u64, u64>,
     alloc: Global,
     more: usize,
 ) -> Result<(), AllocError>
@@ -75,7 +75,7 @@ pub(crate) fn reserve_windows(
 
 // What the buffer holds there goes if it lies in the window.
 #[tactic(auto, unfolding(crate::specs::Keys::same_item))]
-fn remove_at(held: &mut HashMap<ItemKey, Reference>, b: u32, i: u64, p: u32)
+fn remove_at(held: &mut HashMap<ItemKey, Reference>, b: u64, i: u64, p: u64)
     ensures items { (c j : ℕ) → gather.item_in held.new c j ≡ (if (b == c) && (i == j)
         then kept (λ r. not (refer.is_in_window p r.holder)) (gather.item_in held.old c j)
         else gather.item_in held.old c j) }
@@ -92,7 +92,7 @@ fn remove_at(held: &mut HashMap<ItemKey, Reference>, b: u32, i: u64, p: u32)
 }
 
 // What the buffer holds in the window at these indexes goes.
-fn remove_to(held: &mut HashMap<ItemKey, Reference>, b: u32, end: u64, p: u32)
+fn remove_to(held: &mut HashMap<ItemKey, Reference>, b: u64, end: u64, p: u64)
     ensures others { (c j : ℕ) → (b == c) ≡ false → gather.item_in held.new c j ≡ gather.item_in held.old c j }
     ensures kept { (j : ℕ) → j < end
         → gather.item_in held.new b j ≡ kept (λ r. not (refer.is_in_window p r.holder)) (gather.item_in held.old b j) }
@@ -105,7 +105,7 @@ fn remove_to(held: &mut HashMap<ItemKey, Reference>, b: u32, end: u64, p: u32)
 }
 
 // What the buffer holds in the window goes. A buffer that holds nothing is forgotten.
-fn remove_in(held: &mut HashMap<ItemKey, Reference>, ends: &mut HashMap<u32, u64>, b: u32, p: u32)
+fn remove_in(held: &mut HashMap<ItemKey, Reference>, ends: &mut HashMap<u64, u64>, b: u64, p: u64)
     ensures items { (c : ℕ) → gather.held_in held.new ends.new c ≡ (if b == c
         then filter (λ r. not (refer.is_in_window p r.holder)) (gather.held_in held.old ends.old c)
         else gather.held_in held.old ends.old c) }
@@ -124,9 +124,9 @@ fn remove_in(held: &mut HashMap<ItemKey, Reference>, ends: &mut HashMap<u32, u64
 /// What these buffers hold in the window goes. Those that hold nothing are forgotten.
 pub(crate) fn remove_in_each(
     held: &mut HashMap<ItemKey, Reference>,
-    ends: &mut HashMap<u32, u64>,
-    buffers: Members<'_, u32>,
-    p: u32,
+    ends: &mut HashMap<u64, u64>,
+    buffers: Members<'_, u64>,
+    p: u64,
 )
     ensures items { (c : ℕ) → gather.held_in held.new ends.new c ≡ (if list_any (λ b. b == c) buffers.entry
         then filter (λ r. not (refer.is_in_window p r.holder)) (gather.held_in held.old ends.old c)

@@ -9,3 +9,4 @@ pub mod Whole
 pub mod Cuts
 pub mod Unread
 pub mod Stepping
+pub mod Laying

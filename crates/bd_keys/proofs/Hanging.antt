@@ -40,12 +40,12 @@ three_more n x y a e =
     ∙ sym (mod-pow-add y 3 n) in
     subst (λ m. Agree m x y) (add_comm 3 n) sum
 
--- past its 97 bits a number has no more
-past_all : (k : WordKey) (n : ℕ) → 97 ≤ n → k.word < 2 ^ 64 → k.process < 2 ^ 32 → spread k < 2 ^ n
+-- past its 128 bits a number has no more
+past_all : (k : WordKey) (n : ℕ) → 128 ≤ n → k.word < 2 ^ 64 → k.process < 2 ^ 64 → spread k < 2 ^ n
 past_all k n past word process = omega (arith, spread_below k word process, pow_mono past)
 
 module _ (ns : List Node) (t : IsTree ns) (k : WordKey) (some : 0 < length ns)
-    (new : place_in (keys ns) k ≡ None) (word : k.word < 2 ^ 64) (process : k.process < 2 ^ 32) where
+    (new : place_in (keys ns) k ≡ None) (word : k.word < 2 ^ 64) (process : k.process < 2 ^ 64) where
   abbrev grown : List Node
   grown = hung ns k ++ hanging ns k ∷ []
 
@@ -99,8 +99,8 @@ module _ (ns : List Node) (t : IsTree ns) (k : WordKey) (some : 0 < length ns)
   stuck = next_none ns (end_of ns k) k (end_of_last ns t some k) other
 
   -- past all bits of a number the keys would be the same
-  shallow : parent.bit < 97
-  shallow = elim (cases_lt parent.bit 97) [
+  shallow : parent.bit < 128
+  shallow = elim (cases_lt parent.bit 128) [
     | inl less ↦ less
     | inr past ↦
         let o = t.nodes (end_of ns k) inside in
@@ -230,13 +230,13 @@ module _ (ns : List Node) (t : IsTree ns) (k : WordKey) (some : 0 < length ns)
       here = elim (toward_linked parent (spread k) (length ns) (spread k) eight) [ inl s ↦ s.1 | inr s ↦ absurd (s.0 refl) ]
 
   -- the walk to the new key goes on from where it ended
-  end_new : (f i : ℕ) → i < length ns → f + (node_at ns i).bit / 3 ≡ 34 → end_from ns f i k ≡ end_of ns k
+  end_new : (f i : ℕ) → i < length ns → f + (node_at ns i).bit / 3 ≡ 44 → end_from ns f i k ≡ end_of ns k
       → end_from grown f i k ≡ length ns
   unfolding end_from
   end_new zero i h b e = absurd (omega (arith, b, (t.nodes i h).bit))
   end_new (suc f) i h b e = at (λ c less d g. end_new f c less d g) (next ns i k) refl e
     where
-      at : ((c : ℕ) → c < length ns → f + (node_at ns c).bit / 3 ≡ 34 → end_from ns f c k ≡ end_of ns k
+      at : ((c : ℕ) → c < length ns → f + (node_at ns c).bit / 3 ≡ 44 → end_from ns f c k ≡ end_of ns k
           → end_from grown f c k ≡ length ns)
           → (o : Option ℕ) → next ns i k ≡ o → onward i (λ n. end_from ns f n k) o ≡ end_of ns k
           → end_from grown (suc f) i k ≡ length ns
@@ -248,11 +248,11 @@ module _ (ns : List Node) (t : IsTree ns) (k : WordKey) (some : 0 < length ns)
 
   own_old : (i : ℕ) → i < length ns → end_of grown (node_at ns i).key ≡ i
   unfolding end_of
-  own_old i h = end_kept 34 0 (node_at ns i).key i some (t.own i h) refl
+  own_old i h = end_kept 44 0 (node_at ns i).key i some (t.own i h) refl
 
   own_new : end_of grown k ≡ length ns
   unfolding end_of
-  own_new = end_new 34 0 some (omega (arith, t.root)) refl
+  own_new = end_new 44 0 some (omega (arith, t.root)) refl
 
   pub grown_tree : length ns < 2 ^ 32 → IsTree grown
   grown_tree room = record {
@@ -286,10 +286,10 @@ module _ (ns : List Node) (t : IsTree ns) (k : WordKey) (some : 0 < length ns)
 
 root_own : (k : WordKey) → end_of (leaf k 0 ∷ []) k ≡ 0
 unfolding end_of
-root_own k = end_none (leaf k 0 ∷ []) 33 0 k (next_own (leaf k 0 ∷ []) 0 k (word_self k))
+root_own k = end_none (leaf k 0 ∷ []) 43 0 k (next_own (leaf k 0 ∷ []) 0 k (word_self k))
 
 -- the first key makes the root
-pub root_tree : (k : WordKey) → k.word < 2 ^ 64 → k.process < 2 ^ 32 → IsTree (leaf k 0 ∷ [])
+pub root_tree : (k : WordKey) → k.word < 2 ^ 64 → k.process < 2 ^ 64 → IsTree (leaf k 0 ∷ [])
 root_tree k word process = record {
   count = omega arith;
   root = refl;

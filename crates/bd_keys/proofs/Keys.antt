@@ -1,5 +1,5 @@
 -- Keys, and their test.
-use Rattle.std.proofs.Common.{◌≡◌, ◌+◌, ◌^◌, ◌<◌, ◌==◌, true, refl, arith}
+use Rattle.std.proofs.Common.{◌≡◌, ◌+◌, ◌%◌, ◌^◌, ◌<◌, ◌==◌, true, refl, arith}
 use Rattle.std.proofs.lemmas.Bool.{eqb-true, eq-eqb, and_parts}
 use Rattle.std.proofs.lemmas.Nat.{same_from_place}
 use Rattle.bd_keys.specs.declared.key.WordKey.{WordKey}
@@ -19,9 +19,9 @@ word_self a = rw (eq-eqb a.process a.process refl, eq-eqb a.word a.word refl) re
 -- another number for each key
 pub spread_eq : (a b : WordKey) → a.word < 2 ^ 64 → b.word < 2 ^ 64 → spread a ≡ spread b → a ≡ b
 spread_eq a b h g e =
-    let k = same_from_place a.process a.word b.process b.word (2 ^ 64 + 1) (omega (arith, h)) (omega (arith, g))
+    let k = same_from_place a.process ((a.word + a.process) % 2 ^ 64) b.process ((b.word + b.process) % 2 ^ 64) (2 ^ 64) (omega arith) (omega arith)
     (omega (arith, e)) in
-    key_is a b k.0 k.1
+    key_is a b k.0 (omega (arith, h, g, k.0, k.1))
 
-pub spread_below : (k : WordKey) → k.word < 2 ^ 64 → k.process < 2 ^ 32 → spread k < 2 ^ 97
+pub spread_below : (k : WordKey) → k.word < 2 ^ 64 → k.process < 2 ^ 64 → spread k < 2 ^ 128
 spread_below k h g = omega (arith, h, g)

@@ -110,13 +110,13 @@ module _ (ns : List Node) (t : IsTree ns) where
       at again (Some j) e = again j (step_inside i k j h e)
 
   -- a node further at each step, the walk ends before its steps are used up
-  end_last : (f i : ℕ) (k : WordKey) → i < length ns → f + (node_at ns i).bit / 3 ≡ 34
+  end_last : (f i : ℕ) (k : WordKey) → i < length ns → f + (node_at ns i).bit / 3 ≡ 44
       → next ns (end_from ns f i k) k ≡ None
   unfolding end_from
   end_last zero i k h b = absurd (omega (arith, b, (t.nodes i h).bit))
   end_last (suc f) i k h b = at (λ j l d. end_last f j k l d) (next ns i k) refl
     where
-      at : ((j : ℕ) → j < length ns → f + (node_at ns j).bit / 3 ≡ 34 → next ns (end_from ns f j k) k ≡ None)
+      at : ((j : ℕ) → j < length ns → f + (node_at ns j).bit / 3 ≡ 44 → next ns (end_from ns f j k) k ≡ None)
           → (o : Option ℕ) → next ns i k ≡ o → next ns (onward i (λ j. end_from ns f j k) o) k ≡ None
       at again None e = e
       at again (Some j) e = again j (step_inside i k j h e) (omega (arith, b, step_deeper i k j h e))
@@ -138,18 +138,18 @@ module _ (ns : List Node) (t : IsTree ns) where
 
   pub end_of_inside : 0 < length ns → (k : WordKey) → end_of ns k < length ns
   unfolding end_of
-  end_of_inside h k = end_inside 34 0 k h
+  end_of_inside h k = end_inside 44 0 k h
 
   pub end_of_last : 0 < length ns → (k : WordKey) → next ns (end_of ns k) k ≡ None
   unfolding end_of
-  end_of_last h k = end_last 34 0 k h (omega (arith, t.root))
+  end_of_last h k = end_last 44 0 k h (omega (arith, t.root))
 
   pub end_of_agrees : 0 < length ns → (k : WordKey)
       → Agree (node_at ns (end_of ns k)).bit (spread (node_at ns (end_of ns k)).key) (spread k)
   unfolding end_of
   end_of_agrees h k =
       let none : Agree 0 (spread (node_at ns 0).key) (spread k) = omega arith in
-      end_agrees 34 0 k h (subst (λ n. Agree n (spread (node_at ns 0).key) (spread k)) (sym t.root) none)
+      end_agrees 44 0 k h (subst (λ n. Agree n (spread (node_at ns 0).key) (spread k)) (sym t.root) none)
 
   -- a key's walk ends at its place
   pub end_own : (k : WordKey) (j : ℕ) → place_in (keys ns) k ≡ Some j → (j < length ns) × (end_of ns k ≡ j)
@@ -198,12 +198,12 @@ module _ (ns : List Node) (t : IsTree ns) where
 
   -- a walk, step by step: so many steps are left at a node that the walk ends where it is to end
   abbrev pub OnTheWay : WordKey → ℕ → Type 0
-  OnTheWay k i = (f : ℕ) → f + (node_at ns i).bit / 3 ≡ 34 → end_from ns f i k ≡ end_of ns k
+  OnTheWay k i = (f : ℕ) → f + (node_at ns i).bit / 3 ≡ 44 → end_from ns f i k ≡ end_of ns k
 
   pub walk_begins : (k : WordKey) → OnTheWay k 0
   unfolding end_of
   walk_begins k f b =
-      let all : f ≡ 34 = omega (arith, b, t.root) in
+      let all : f ≡ 44 = omega (arith, b, t.root) in
       ap (λ n. end_from ns n 0 k) all
 
   pub walk_goes : (k : WordKey) (i j : ℕ) → i < length ns → next ns i k ≡ Some j → OnTheWay k i → OnTheWay k j
@@ -213,11 +213,11 @@ module _ (ns : List Node) (t : IsTree ns) where
   pub walk_ends : (k : WordKey) (i : ℕ) → i < length ns → next ns i k ≡ None → OnTheWay k i → i ≡ end_of ns k
   walk_ends k i h e w =
       let o = t.nodes i h in
-      sym (end_none ns (33 - (node_at ns i).bit / 3) i k e)
-      ∙ w (suc (33 - (node_at ns i).bit / 3)) (omega (arith, o.bit))
+      sym (end_none ns (43 - (node_at ns i).bit / 3) i k e)
+      ∙ w (suc (43 - (node_at ns i).bit / 3)) (omega (arith, o.bit))
 
   pub walk_falls : (k : WordKey) (i j : ℕ) → i < length ns → next ns i k ≡ Some j
-      → 34 - (node_at ns j).bit / 3 < 34 - (node_at ns i).bit / 3
+      → 44 - (node_at ns j).bit / 3 < 44 - (node_at ns i).bit / 3
   walk_falls k i j h e = let o = t.nodes i h in omega (arith, o.bit, step_deeper i k j h e)
 
 -- in an empty tree there is none

@@ -10,11 +10,11 @@ Agree n x y = x % 2 ^ n ≡ y % 2 ^ n
 
 -- a node as it stands among the others
 pub record IsNode (ns : List Node) (n : Node) : Type 0 where
-  -- a number has 97 bits, so those that agree up to here are the same
-  pub bit : n.bit ≤ 99
+  -- a number has 128 bits, so those that agree up to here are the same
+  pub bit : n.bit ≤ 130
   pub children : length n.children ≡ 8
   pub word : n.key.word < 2 ^ 64
-  pub process : n.key.process < 2 ^ 32
+  pub process : n.key.process < 2 ^ 64
   -- there is a node where a number goes to, three bits further
   pub within : (x : ℕ) → toward n x ≢ 0 → toward n x < length ns
   pub deeper : (x : ℕ) → toward n x ≢ 0 → (node_at ns (toward n x)).bit ≡ n.bit + 3

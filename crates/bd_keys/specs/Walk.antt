@@ -47,7 +47,7 @@ end_from ns zero i k = i
 end_from ns (suc f) i k = onward i (λ j. end_from ns f j k) (next ns i k)
 
 unfoldable pub end_of : List Node → WordKey → ℕ
-end_of ns k = end_from ns 34 0 k
+end_of ns k = end_from ns 44 0 k
 
 -- the nodes once the next one, of this key, is linked to the one that it comes under
 abbrev pub hung : List Node → WordKey → List Node

@@ -7,16 +7,17 @@ ghost use Rattle.bd_keys.specs.Keys.{spread};
 /// one process, or of none.
 #[derive(Clone, Copy, PartialEq, Eq)]
 pub struct WordKey {
-    pub process: u32,
+    pub process: u64,
     pub word: u64,
 }
 
 impl WordKey {
-    /// A number of 97 bits, another for each key. Its low bits tell the words of one process apart as well as the
+    /// A number of 128 bits, another for each key. Its low bits tell the words of one process apart as well as the
     /// processes with one word.
     pub(crate) fn spread(self) -> u128
         ensures { result ≡ spread self }
     {
-        u128::from(self.word) + u128::from(self.process) * 0x1_0000_0000_0000_0001
+        let low = self.word.wrapping_add(self.process);
+        u128::from(low) + u128::from(self.process) * 0x1_0000_0000_0000_0000
     }
 }

@@ -1,5 +1,5 @@
 //! Values found by process and word (a ptr, a cookie, a pointer, a pid): whoever chooses the words, no look-up takes
-//! more than 34 steps.
+//! more than 44 steps.
 #![tactic(auto)]
 
 mod key;
@@ -13,6 +13,6 @@ mod treed;
 
 pub use key::WordKey;
 pub use map::WordMap;
-pub use numbers::{pair, wide};
+pub use numbers::{mixed, pair, tall, wide};
 pub use reserved::insert_reserved;
 pub use room::room_anew;

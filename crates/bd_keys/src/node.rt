@@ -31,15 +31,18 @@ impl Node {
 
     // Which child a key goes to from here.
     fn way(&self, k: WordKey) -> usize
-        requires { self.now.bit < 128 }
         ensures { result ≡ way self.now (spread k) }
     {
-        ((k.spread() >> self.bit) % 8) as usize
+        let number = k.spread();
+        // Past its 128 bits a number has no more.
+        if self.bit > 127 {
+            return 0;
+        }
+        ((number >> self.bit) % 8) as usize
     }
 
     /// The child that a key goes to, or 0.
     pub(crate) fn toward(&self, k: WordKey) -> u32
-        requires { self.now.bit < 128 }
         ensures { result ≡ toward self.now (spread k) }
     {
         self.children[self.way(k)]
@@ -47,7 +50,6 @@ impl Node {
 
     /// A child comes where a key goes.
     pub(crate) fn link(&mut self, k: WordKey, child: u32)
-        requires { self.old.bit < 128 }
         ensures { self.new ≡ linked self.old (spread k) child }
     {
         let way = self.way(k);

@@ -27,7 +27,7 @@ fn next(nodes: &[Node], at: usize, k: WordKey) -> Option<usize>
 }
 
 // Where the walk to a key ends: at its own node, or at the one that a new node of the key comes under. Each node is
-// three bits further than the one before, so there are 34 at most.
+// three bits further than the one before, so there are 44 at most.
 fn end(nodes: &[Node], k: WordKey) -> usize
     requires root { 0 < length nodes.now }
     requires tree { IsTree nodes.now }

@@ -1,6 +1,6 @@
 -- For every law: what an accepted transaction, reply or asking has tested.
 use Rattle.bd_laws.proofs.words.Logic.{arith, ◌≡◌, ◌==◌, ℕ, Bool, false, Option, Some, None, Ok, ◌⊎◌, refl, sym, subst, option_map, option_and_then_some, eqb-true}
-use Rattle.bd_laws.proofs.words.Types.{TransactionData, DeadOwner, ObjectId, Parcel, Process, Thread, Actor, Callee, Frame, Object}
+use Rattle.bd_laws.proofs.words.Types.{TransactionData, DeadOwner, Identity, Parcel, Process, Thread, Actor, Callee, Frame, Object}
 use Rattle.bd_laws.proofs.words.Space.{same, ok_or, Space, actor, process_in, thread_in, object_in, Delivery, sending_of, transaction_check, callee_of, target_of, owner_of, handle_of, is_one_way, caller_cause, reply_check, caller_of, ask_check}
 use Rattle.bd_laws.specs.Lists.{In}
 use Rattle.bd_laws.proofs.Lists.{find_in}
@@ -8,27 +8,27 @@ use Rattle.bd_laws.proofs.Tests.{same_eq, and_then_ok, found_ok}
 use Rattle.bd_laws.proofs.Sendings.{HasName, named_has}
 
 -- the object is found in the space, with its live owner
-pub record Owned (s : Space) (o : ObjectId) (q : Process) : Type 0 where
+pub record Owned (s : Space) (o : Identity) (q : Process) : Type 0 where
   pub object : Object
   pub here : In object s.objects
   pub id : object.id ≡ o
   pub lives : process_in s.processes object.owner ≡ Some q
 
-owned : (s : Space) (o : ObjectId) (q : Process) → owner_of s o ≡ Some q → Owned s o q
+owned : (s : Space) (o : Identity) (q : Process) → owner_of s o ≡ Some q → Owned s o q
 unfolding owner_of
 owned s o q h =
     option_and_then_some (λ (x : Object). process_in s.processes x.owner) (object_in s.objects o) q h
     (λ x e f. let l = find_in (λ (y : Object). same y.id o) x s.objects e in record { object = x; here = l.0; id = same_eq x.id o l.1; lives = f })
 
 pub record Transacts (s : Space) (a : Actor) (d : TransactionData) (parcel : Option Parcel) (v : Delivery) : Type 0 where
-  pub object : ObjectId
+  pub object : Identity
   pub target : v.target ≡ Some object
   pub named : target_of s a.process.made (handle_of d) ≡ Ok object
   pub owned : Owned s object v.receiver
   pub sends : sending_of s a.process.made d parcel ≡ Ok v.sending
   pub one_way : v.one_way ≡ is_one_way d
 
-found_callee : (s : Space) (o : ObjectId) (q : Option Process) (c : Callee) → owner_of s o ≡ q
+found_callee : (s : Space) (o : Identity) (q : Option Process) (c : Callee) → owner_of s o ≡ q
     → ok_or (option_map (λ (p : Process). let x : Callee = record { object = o; process = p } in x) q) DeadOwner ≡ Ok c → Owned s c.object c.process
 found_callee s o None c e h = absurd (cc)
 found_callee s o (Some q) c e h = search (arith, owned)
@@ -64,7 +64,7 @@ reply_checked s a d parcel f v h = search arith
 -- ---- asking
 
 -- what is asked for is the manager's object, by 0, or what the process has a name for
-pub asked_checked : (s : Space) (p n : ℕ) (strong : Bool) (o : ObjectId) → ask_check s p n strong ≡ Ok o → ((n ≡ 0) × (s.manager ≡ Some o)) ⊎ HasName s.names p o
+pub asked_checked : (s : Space) (p n : ℕ) (strong : Bool) (o : Identity) → ask_check s p n strong ≡ Ok o → ((n ≡ 0) × (s.manager ≡ Some o)) ⊎ HasName s.names p o
 unfolding ask_check
 asked_checked s p n strong o h = search (arith, found_ok, eqb-true, named_has)
 

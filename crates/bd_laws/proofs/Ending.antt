@@ -1,6 +1,6 @@
 -- For the engine, by FollowingIsLocal: after the end of a process it is enough to look at what it touched.
 use Rattle.bd_laws.proofs.words.Logic.{arith, ◌≡◌, ℕ, ◌==◌, Bool, true, false, cond, not, ◌&&◌, ◌||◌, List, [], ◌∷◌, length, ◌⊎◌, inl, inr, refl, ap, sym, subst, ◌∙◌, list_any, eqb-true, eq-eqb}
-use Rattle.bd_laws.proofs.words.Types.{ObjectId, Object, Reference, Name, Frame, DeathNotification, Queued, Work, TodoList, OfThread, OfProcess}
+use Rattle.bd_laws.proofs.words.Types.{Identity, Object, Reference, Name, Frame, DeathNotification, Queued, Work, TodoList, OfThread, OfProcess}
 use Rattle.bd_laws.proofs.words.Space.{changed, Space, lives_in, owned_in, owe, is_on, same_list, is_name_of, follow, settle, is_notification, with_phase, thread_goes, is_lost_reference, is_unread_on, unread_frame, threads_go, without_process, tell_death, tell_deaths, is_armed, is_dropped_with, ObjectTest, no_name, follow_of, close_among, left_objects, seats_in, lists_in, lost_with_process, objects_ended, frames_ended}
 use Rattle.bd_space.specs.declared.space.WorkKind.TheVariants as work
 use Rattle.bd_laws.proofs.words.Laws.{In, IsTidy, IsFramed}
@@ -22,7 +22,7 @@ use Rattle.bd_laws.proofs.Machine.Fields.{follow_of_frames as follow_frames}
 
 -- ---- what telling of deaths adds
 
-told_notices : (y : Space) → KeptOnDeaths (λ z. (w : Work) (o : ObjectId) → In w z.todo → w.kind ≡ work.Notice o → In w y.todo)
+told_notices : (y : Space) → KeptOnDeaths (λ z. (w : Work) (o : Identity) → In w z.todo → w.kind ≡ work.Notice o → In w y.todo)
 unfolding owe
 told_notices y = record {
   others = λ z ds h. h;
@@ -150,7 +150,7 @@ module _ (s : Space) (p : ℕ) (h : IsTidy s) where
   unowned : (x : Object) → In x s.objects → objects_ended s p x.id ≡ false → x.owner ≡ p → ⊥
   unowned x l none e = search (arith, any_in, and_both)
 
-  unleft : (o : ObjectId) → objects_ended s p o ≡ false → left_objects gone lists s o ≡ false
+  unleft : (o : Identity) → objects_ended s p o ≡ false → left_objects gone lists s o ≡ false
   unleft o none = search (arith, neither)
 
   -- where a notification goes, so does its item: both are the process's
@@ -194,7 +194,7 @@ module _ (s : Space) (p : ℕ) (h : IsTidy s) where
 
   -- Of ExitProcess: other processes keep their names. Where its own objects, those of the lists and references that it loses,
   -- and its threads' frames are looked at, nothing else has to be
-  pub ending_local : (b : ObjectTest) (c : ℕ → Bool) → ((o : ObjectId) → objects_ended s p o ≡ true → b o ≡ true) → ((m : ℕ) → frames_ended s p m ≡ true → c m ≡ true)
+  pub ending_local : (b : ObjectTest) (c : ℕ → Bool) → ((o : Identity) → objects_ended s p o ≡ true → b o ≡ true) → ((m : ℕ) → frames_ended s p m ≡ true → c m ≡ true)
       → settle (follow ended) ≡ close_among (length ended.frames) c (follow_of no_name b ended)
   unfolding IsFramed
   ending_local b c objects among =

@@ -1,6 +1,6 @@
 -- FollowingIsLocal: where references go, a look at their names and objects is enough.
 use Rattle.bd_laws.proofs.words.Logic.{arith, ◌≡◌, ℕ, Bool, true, false, not, ◌&&◌, ◌||◌, List, [], ◌∷◌, Option, Some, None, inr, refl, ap, sym, subst, ◌∙◌, filter, list_any, eqb-true, eq-eqb}
-use Rattle.bd_laws.proofs.words.Types.{ObjectId, Process, Object, Reference}
+use Rattle.bd_laws.proofs.words.Types.{Identity, Process, Object, Reference}
 use Rattle.bd_laws.proofs.words.Space.{same, is_some_and, without_first, Space, lives_in, object_in, owned_in, held_in, strong_in, gives_name_to, wants_notice, drop_asked, acknowledge, turns_of, completed, NameTest, ObjectTest, follow_of, at_name, no_name, at_object, names_of_references, objects_of_references}
 use Rattle.bd_laws.proofs.words.Laws.{In, Elsewhere, IsSettled, NoneRipe, IsQuiet, IsFollowed}
 use Rattle.bd_laws.proofs.Lists.{find_in, filter_in, any_in}
@@ -13,16 +13,16 @@ use Rattle.bd_laws.proofs.Machine.Fields.{follow_of_frames}
 
 -- of what isn't touched the references say the same
 pub record SameSaid (a : NameTest) (b : ObjectTest) (references changed : List Reference) : Type 0 where
-  pub named : (p : ℕ) (o : ObjectId) → a p o ≡ false
+  pub named : (p : ℕ) (o : Identity) → a p o ≡ false
       → list_any (λ (r : Reference). same r.object o && gives_name_to p r.holder) changed ≡ list_any (λ (r : Reference). same r.object o && gives_name_to p r.holder) references
-  pub held : (o : ObjectId) → b o ≡ false → held_in changed o ≡ held_in references o
-  pub strong : (o : ObjectId) → b o ≡ false → strong_in changed o ≡ strong_in references o
+  pub held : (o : Identity) → b o ≡ false → held_in changed o ≡ held_in references o
+  pub strong : (o : Identity) → b o ≡ false → strong_in changed o ≡ strong_in references o
 
 wants_same : (a : NameTest) (b : ObjectTest) (processes : List Process) (references changed : List Reference) (x : Object) → SameSaid a b references changed → b x.id ≡ false
     → wants_notice processes changed x ≡ wants_notice processes references x
 wants_same a b processes references changed x k none = search arith
 
-pub found_same : (b : ObjectTest) (objects : List Object) (o : ObjectId) (p q : Object → Bool) → b o ≡ false → ((x : Object) → b x.id ≡ false → p x ≡ q x)
+pub found_same : (b : ObjectTest) (objects : List Object) (o : Identity) (p q : Object → Bool) → b o ≡ false → ((x : Object) → b x.id ≡ false → p x ≡ q x)
     → is_some_and (object_in objects o) q ≡ true → is_some_and (object_in objects o) p ≡ true
 found_same b objects o p q none k h = at (object_in objects o) refl h
   where
@@ -59,8 +59,8 @@ module _ {A : Type 0} where
 -- the names and objects of those that come or go are touched
 module _ (a : NameTest) (b : ObjectTest) (references changed : List Reference) (Differs : Reference → Type 0)
     (any_same : (p : Reference → Bool) → ((r : Reference) → Differs r → p r ≡ false) → list_any p changed ≡ list_any p references)
-    (named : (r : Reference) (p : ℕ) (o : ObjectId) → Differs r → (same r.object o && gives_name_to p r.holder) ≡ true → a p o ≡ true)
-    (held : (r : Reference) (o : ObjectId) → Differs r → same r.object o ≡ true → b o ≡ true) where
+    (named : (r : Reference) (p : ℕ) (o : Identity) → Differs r → (same r.object o && gives_name_to p r.holder) ≡ true → a p o ≡ true)
+    (held : (r : Reference) (o : Identity) → Differs r → same r.object o ≡ true → b o ≡ true) where
   pub said_by : SameSaid a b references changed
   said_by = search arith
 
@@ -75,7 +75,7 @@ unfolding completed
 completed_local a b z h unripe settled = search (arith, ripen_still, follow_local, settle_still, follow_of_frames)
 
 -- Of BC_RELEASE and BC_DECREFS: one name and its object are looked at
-pub dropped_local : (s : Space) (p : ℕ) (o : ObjectId) (strong : Bool) → IsQuiet s
+pub dropped_local : (s : Space) (p : ℕ) (o : Identity) (strong : Bool) → IsQuiet s
     → completed (drop_asked s p o strong) ≡ follow_of (at_name p o) (at_object o) (drop_asked s p o strong)
 unfolding drop_asked
 dropped_local s p o strong h = search (arith, completed_local, elsewhere_said, any_without, and_both, eq_same, same_eq, eq-eqb, eqb-true)
@@ -83,7 +83,7 @@ dropped_local s p o strong h = search (arith, completed_local, elsewhere_said, a
 -- ---- an acknowledgement: no name, one object
 
 -- What follows BC_INCREFS_DONE and BC_ACQUIRE_DONE is looked for at the acknowledged object alone.
-pub acknowledged_local : (s : Space) (o : ObjectId) (strong : Bool) → IsQuiet s
+pub acknowledged_local : (s : Space) (o : Identity) (strong : Bool) → IsQuiet s
     → completed (acknowledge s o strong) ≡ follow_of no_name (at_object o) (acknowledge s o strong)
 unfolding acknowledge
 acknowledged_local s o strong h = search (arith, completed_local, elsewhere_said, any_without, both, eq_same, same_eq)

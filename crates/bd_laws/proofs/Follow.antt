@@ -1,6 +1,6 @@
 -- FollowingIsLocal: with nothing pending elsewhere, a look at what was touched does all that follows.
 use Rattle.bd_laws.proofs.words.Logic.{arith, ◌≡◌, ℕ, ◌==◌, Bool, true, false, cond, not, ◌&&◌, ◌||◌, List, [], ◌∷◌, inl, inr, refl, ap, sym, subst, ◌∙◌, filter, find, list_any, fold, eqb-true}
-use Rattle.bd_laws.proofs.words.Types.{ObjectId, Object, DeathNotification, Work, WorkKind, OfProcess}
+use Rattle.bd_laws.proofs.words.Types.{Identity, Object, DeathNotification, Work, WorkKind, OfProcess}
 use Rattle.bd_laws.proofs.words.Space.{is_some_and, Space, object_in, objects_go, names_go, wants_notice, has_notice_in, with_notice, still_due, deaths_go, work_goes, notify, follow, NameTest, ObjectTest, names_go_of, objects_go_of, deaths_go_of, is_touched, work_goes_of, notify_of, follow_of}
 use Rattle.bd_space.specs.declared.space.WorkKind.TheVariants as work
 use Rattle.bd_laws.proofs.words.Laws.{In, Elsewhere}
@@ -29,7 +29,7 @@ module _ (a : NameTest) (b : ObjectTest) (z : Space) (h : Elsewhere a b z) where
   here : Space
   here = deaths_go_of a (objects_go_of b (names_go_of a z))
 
-  due_notice : (o : ObjectId) → b o ≡ false → is_some_and (object_in z.objects o) (wants_notice z.processes z.references) ≡ true
+  due_notice : (o : Identity) → b o ≡ false → is_some_and (object_in z.objects o) (wants_notice z.processes z.references) ≡ true
       → is_some_and (object_in here.objects o) (wants_notice here.processes here.references) ≡ true
   unfolding here deaths_go_of objects_go_of names_go_of
   due_notice o none k = search (arith, find_kept)
@@ -61,7 +61,7 @@ module _ (a : NameTest) (b : ObjectTest) (z : Space) (h : Elsewhere a b z) where
   there : Space
   there = work_goes_of a b z.deaths here
 
-  standing : (o : ObjectId) → b o ≡ false → has_notice_in z.todo o ≡ true → has_notice_in there.todo o ≡ true
+  standing : (o : Identity) → b o ≡ false → has_notice_in z.todo o ≡ true → has_notice_in there.todo o ≡ true
   unfolding there work_goes_of here deaths_go_of objects_go_of names_go_of
   standing o none has = search (arith, any_found, any_in, filter_in)
 

@@ -1,7 +1,7 @@
 -- For the engine, by FollowingIsLocal: after a BC_FREE_BUFFER it is enough to look at what the buffer's references stood
 -- for, and at a one-way call's object.
 use Rattle.bd_laws.proofs.words.Logic.{arith, ◌≡◌, ℕ, ◌==◌, Bool, true, false, cond, not, ◌&&◌, List, [], ◌∷◌, ◌++◌, Option, Some, None, inl, inr, refl, ap, sym, subst, ◌∙◌, filter, find, list_any, cons_option}
-use Rattle.bd_laws.proofs.words.Types.{ObjectId, DeathNotification, Reference, Buffer, Turn, Work, WorkKind, TodoList, OfProcess}
+use Rattle.bd_laws.proofs.words.Types.{Identity, DeathNotification, Reference, Buffer, Turn, Work, WorkKind, TodoList, OfProcess}
 use Rattle.bd_laws.proofs.words.Space.{same, Space, is_of_buffer, owe, with_work, is_notice, is_call, without_buffer, is_made_at, turn_of, turns_of, is_ripe, completed, NameTest, ObjectTest, follow_of, notify_of, work_goes_of, deaths_go_of, objects_go_of, names_go_of, ripen_of, first_due, names_of_references, objects_of_references}
 use Rattle.bd_space.specs.declared.space.WorkKind.TheVariants as work
 use Rattle.bd_laws.proofs.words.Laws.{In, Elsewhere, IsSettled, NoneRipe, IsQuiet}
@@ -24,7 +24,7 @@ pub owed_unripe : (z : Space) (list : TodoList) (kind : WorkKind) → IsUnripe z
 unfolding owe
 owed_unripe z list kind h = unripe_kept z.todo (with_work z.steps z.todo list kind) (turns_of z.buffers) [] h (λ t l. any_more (λ (w : Work). is_call t.made w.kind) z.todo _)
 
-pub owed_elsewhere : (a : NameTest) (b : ObjectTest) (z : Space) (list : TodoList) (kind : WorkKind) → ((o : ObjectId) → kind ≡ work.Notice o → ⊥)
+pub owed_elsewhere : (a : NameTest) (b : ObjectTest) (z : Space) (list : TodoList) (kind : WorkKind) → ((o : Identity) → kind ≡ work.Notice o → ⊥)
     → ((n : ℕ) → kind ≡ work.Death n → list_any (λ (x : DeathNotification). x.made == n) z.deaths ≡ true) → Elsewhere a b z → Elsewhere a b (record z { todo = with_work z.steps z.todo list kind })
 owed_elsewhere a b z list kind other told h = record {
   names = h.names;
@@ -39,7 +39,7 @@ pub owe_elsewhere : (a : NameTest) (b : ObjectTest) (z : Space) (list : TodoList
     → Elsewhere a b (record z { todo = with_work z.steps z.todo list kind })
 owe_elsewhere a b z list kind plain = owed_elsewhere a b z list kind plain.0 (λ n e. absurd (plain.1 n e))
 
-pub ripen_of_elsewhere : (a : NameTest) (b : ObjectTest) (o : ObjectId) (z : Space) → Elsewhere a b z → Elsewhere a b (ripen_of o z)
+pub ripen_of_elsewhere : (a : NameTest) (b : ObjectTest) (o : Identity) (z : Space) → Elsewhere a b z → Elsewhere a b (ripen_of o z)
 unfolding ripen_of
 ripen_of_elsewhere a b o z h = at (find (λ (t : Turn). same t.target o) (turns_of z.buffers))
   where
@@ -51,12 +51,12 @@ ripen_of_elsewhere a b o z h = at (find (λ (t : Turn). same t.target o) (turns_
     at None = h
     at (Some t) = if_due t (not t.handed && not (list_any (λ (w : Work). is_call t.made w.kind) z.todo))
 
-follow_of_frames : (a : NameTest) (b : ObjectTest) (o : ObjectId) (z : Space) → (follow_of a b (ripen_of o z)).frames ≡ z.frames
+follow_of_frames : (a : NameTest) (b : ObjectTest) (o : Identity) (z : Space) → (follow_of a b (ripen_of o z)).frames ≡ z.frames
 unfolding follow_of notify_of work_goes_of deaths_go_of objects_go_of names_go_of ripen_of
 follow_of_frames a b o z = search arith
 
 -- nothing is pending but on one object, whose one-way calls may be ripe
-pub completed_ripe : (a : NameTest) (b : ObjectTest) (o : ObjectId) (z : Space) → Elsewhere a b z → NoneRipeBut o z.todo [] (turns_of z.buffers) → IsSettled z.frames
+pub completed_ripe : (a : NameTest) (b : ObjectTest) (o : Identity) (z : Space) → Elsewhere a b z → NoneRipeBut o z.todo [] (turns_of z.buffers) → IsSettled z.frames
     → completed z ≡ follow_of a b (ripen_of o z)
 unfolding completed
 completed_ripe a b o z h unripe settled = search (arith, ripen_local, follow_local, ripen_of_elsewhere, settle_still, follow_of_frames)
@@ -64,10 +64,10 @@ completed_ripe a b o z h unripe settled = search (arith, ripen_local, follow_loc
 -- ---- buffers that go
 
 -- older calls on other objects are the same
-abbrev SameBut : ObjectId → List Turn → List Turn → Type 0
-SameBut o more less = (i : ObjectId) → same i o ≡ false → list_any (λ (u : Turn). same u.target i) less ≡ list_any (λ (u : Turn). same u.target i) more
+abbrev SameBut : Identity → List Turn → List Turn → Type 0
+SameBut o more less = (i : Identity) → same i o ≡ false → list_any (λ (u : Turn). same u.target i) less ≡ list_any (λ (u : Turn). same u.target i) more
 
-module _ (o : ObjectId) (todo : List Work) where
+module _ (o : Identity) (todo : List Work) where
   same_push : (more less : List Turn) (t : Turn) → SameBut o more less → SameBut o (more ++ t ∷ []) (less ++ t ∷ [])
   same_push more less t h i none = search (arith, any_append)
 
@@ -98,7 +98,7 @@ abbrev pub references_of_buffer : Space → ℕ → List Reference
 references_of_buffer s made = filter (λ r. is_of_buffer made r.holder) s.references
 
 -- the buffers of that place, if one-way calls', are on this object
-pub freed_local : (s : Space) (made : ℕ) (o : ObjectId) → IsQuiet s → ((c : Buffer) → In c s.buffers → is_made_at made c ≡ true → (t : Turn) → turn_of c ≡ Some t → same t.target o ≡ true)
+pub freed_local : (s : Space) (made : ℕ) (o : Identity) → IsQuiet s → ((c : Buffer) → In c s.buffers → is_made_at made c ≡ true → (t : Turn) → turn_of c ≡ Some t → same t.target o ≡ true)
     → completed (without_buffer s made)
     ≡ follow_of (names_of_references (references_of_buffer s made)) (objects_of_references (references_of_buffer s made)) (ripen_of o (without_buffer s made))
 unfolding without_buffer

@@ -1,6 +1,6 @@
 -- For the engine, by FollowingIsLocal: after the end of a thread it is enough to look at what it touched.
 use Rattle.bd_laws.proofs.words.Logic.{arith, ◌≡◌, ℕ, ◌==◌, Bool, true, false, not, ◌&&◌, ◌||◌, List, [], ◌∷◌, length, inl, refl, ap, sym, subst, ◌∙◌, filter, list_any, eqb-true}
-use Rattle.bd_laws.proofs.words.Types.{ObjectId, Object, Reference, Name, Thread, Holder, Carried, DeathNotification, Work, TodoList, OfThread}
+use Rattle.bd_laws.proofs.words.Types.{Identity, Object, Reference, Name, Thread, Holder, Carried, DeathNotification, Work, TodoList, OfThread}
 use Rattle.bd_laws.proofs.words.Space.{same, is_some_and, Space, lives_in, object_in, owned_in, held_in, gives_name_to, buffer_of_holder, is_on, is_notice, hands_out, wants_notice, is_name_of, follow, settle, thread_goes, is_lost_with, NameTest, ObjectTest, follow_of, close_among, left_objects, lost_with_thread, names_left, objects_left, frames_left}
 use Rattle.bd_space.specs.declared.space.WorkKind.TheVariants as work
 use Rattle.bd_laws.proofs.words.Laws.{In, Elsewhere, IsFollowed, IsTidy, IsFramed}
@@ -24,26 +24,26 @@ pub record Parts (a : NameTest) (b : ObjectTest) (s z : Space) : Type 0 where
   pub fewer : (r : Reference) → In r z.references → In r s.references
   pub stay : (r : Reference) → In r s.references → b r.object ≡ false → In r z.references
   pub named : (m : Name) → In m z.names → a m.process m.object ≡ false → (r : Reference) → In r s.references → same r.object m.object ≡ true → gives_name_to m.process r.holder ≡ true → In r z.references
-  pub less : (w : Work) (o : ObjectId) → In w z.todo → w.kind ≡ work.Notice o → In w s.todo
-  pub more : (w : Work) (o : ObjectId) → In w s.todo → is_notice o w.kind ≡ true → b o ≡ false → In w z.todo
+  pub less : (w : Work) (o : Identity) → In w z.todo → w.kind ≡ work.Notice o → In w s.todo
+  pub more : (w : Work) (o : Identity) → In w s.todo → is_notice o w.kind ≡ true → b o ≡ false → In w z.todo
   pub deaths : (d : DeathNotification) → In d z.deaths → a d.process d.object ≡ false → (d.cleared || is_name_of z.names d.process d.object) ≡ true
   pub tellings : (w : Work) (n : ℕ) → In w z.todo → w.kind ≡ work.Death n → list_any (λ (x : DeathNotification). x.made == n) z.deaths ≡ true
 
 module _ (a : NameTest) (b : ObjectTest) (s z : Space) (h : IsFollowed s) (k : Parts a b s z) where
-  any_same : (p : Reference → Bool) (o : ObjectId) → ((r : Reference) → p r ≡ true → same r.object o ≡ true) → b o ≡ false → list_any p z.references ≡ list_any p s.references
+  any_same : (p : Reference → Bool) (o : Identity) → ((r : Reference) → p r ≡ true → same r.object o ≡ true) → b o ≡ false → list_any p z.references ≡ list_any p s.references
   any_same p o at none =
       equal_tests (list_any p z.references) (list_any p s.references)
       (λ e. let r = any_found p z.references e in any_in p r.0 s.references (k.fewer r.0 r.1) r.2)
       (λ e. let r = any_found p s.references e in
       any_in p r.0 z.references (k.stay r.0 r.1 (subst (λ i. b i ≡ false) (sym (same_eq r.0.object o (at r.0 r.2))) none)) r.2)
 
-  held_same : (o : ObjectId) → b o ≡ false → held_in z.references o ≡ held_in s.references o
+  held_same : (o : Identity) → b o ≡ false → held_in z.references o ≡ held_in s.references o
   held_same o none = search (arith, any_same)
 
   wants_same : (x : Object) → In x s.objects → b x.id ≡ false → wants_notice z.processes z.references x ≡ wants_notice s.processes s.references x
   wants_same x l none = search (arith, any_same, both)
 
-  due_same : (o : ObjectId) → b o ≡ false → is_some_and (object_in s.objects o) (wants_notice s.processes s.references) ≡ true → is_some_and (object_in z.objects o) (wants_notice z.processes z.references) ≡ true
+  due_same : (o : Identity) → b o ≡ false → is_some_and (object_in s.objects o) (wants_notice s.processes s.references) ≡ true → is_some_and (object_in z.objects o) (wants_notice z.processes z.references) ≡ true
   due_same o none due = search (arith, find_in, wants_same)
 
   pub parts_elsewhere : Elsewhere a b z
@@ -66,7 +66,7 @@ module _ (a : NameTest) (b : ObjectTest) (s z : Space) (h : IsFollowed s) (k : P
 pub not_more : (a b : Bool) → (a ≡ true → b ≡ true) → b ≡ false → a ≡ false
 not_more a b h none = search arith
 
-pub elsewhere_more : (a c : NameTest) (b d : ObjectTest) (z : Space) → ((p : ℕ) (o : ObjectId) → a p o ≡ true → c p o ≡ true) → ((o : ObjectId) → b o ≡ true → d o ≡ true) → Elsewhere a b z → Elsewhere c d z
+pub elsewhere_more : (a c : NameTest) (b d : ObjectTest) (z : Space) → ((p : ℕ) (o : Identity) → a p o ≡ true → c p o ≡ true) → ((o : Identity) → b o ≡ true → d o ≡ true) → Elsewhere a b z → Elsewhere c d z
 elsewhere_more a c b d z more_names more_objects h = record {
   names = λ m l none. h.names m l (not_more _ _ (more_names m.process m.object) none);
   objects = λ x l none. h.objects x l (not_more _ _ (more_objects x.id) none);
@@ -81,7 +81,7 @@ elsewhere_more a c b d z more_names more_objects h = record {
 pub untouched_reference : (s : Space) (gone : Reference → Bool) (lists : List TodoList) (r : Reference) → In r s.references → left_objects gone lists s r.object ≡ false → gone r ≡ false
 untouched_reference s gone lists r l none = search (arith, to_false, any_in)
 
-pub untouched_notice : (s : Space) (gone : Reference → Bool) (lists : List TodoList) (w : Work) (o : ObjectId) → In w s.todo → is_notice o w.kind ≡ true → left_objects gone lists s o ≡ false
+pub untouched_notice : (s : Space) (gone : Reference → Bool) (lists : List TodoList) (w : Work) (o : Identity) → In w s.todo → is_notice o w.kind ≡ true → left_objects gone lists s o ≡ false
     → list_any (λ (l : TodoList). is_on l w) lists ≡ false
 untouched_notice s gone lists w o l e none = search (arith, any_in, and_both)
 
@@ -115,12 +115,12 @@ module _ (s : Space) (seat : ℕ) (h : IsTidy s) where
 
   -- Of ExitThread: where the names and objects of lost references, the objects of lost Notices, and the thread's frames are
   -- looked at, nothing else has to be
-  pub leaving_local : (a : NameTest) (b : ObjectTest) (c : ℕ → Bool) → ((p : ℕ) (o : ObjectId) → names_left s seat p o ≡ true → a p o ≡ true) → ((o : ObjectId) → objects_left s seat o ≡ true → b o ≡ true)
+  pub leaving_local : (a : NameTest) (b : ObjectTest) (c : ℕ → Bool) → ((p : ℕ) (o : Identity) → names_left s seat p o ≡ true → a p o ≡ true) → ((o : Identity) → objects_left s seat o ≡ true → b o ≡ true)
       → ((m : ℕ) → frames_left s seat m ≡ true → c m ≡ true) → settle (follow (thread_goes s seat)) ≡ close_among (length (thread_goes s seat).frames) c (follow_of a b (thread_goes s seat))
   leaving_local a b c names objects among = search (arith, follow_frames, parts_elsewhere, left_parts, abandoned_touched, left, follow_local, settle_among, one_left)
 
   -- the names to look at are the process's, and their objects are looked at too
-  pub left_names : (t : Thread) → In t s.threads → t.seat ≡ seat → (p : ℕ) (o : ObjectId) → names_left s seat p o ≡ true → (t.process ≡ p) × (objects_left s seat o ≡ true)
+  pub left_names : (t : Thread) → In t s.threads → t.seat ≡ seat → (p : ℕ) (o : Identity) → names_left s seat p o ≡ true → (t.process ≡ p) × (objects_left s seat o ≡ true)
   left_names t here at p o e =
       let test = λ (r : Reference). same r.object o && gives_name_to p r.holder in
       let r = any_found test (filter gone s.references) e in

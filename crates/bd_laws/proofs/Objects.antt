@@ -1,7 +1,7 @@
 -- SpacesAreTidy, and ObjectsAreKept, which is proved from it: objects stay in the space as long as anything refers to them,
 -- and no two have one identity.
 use Rattle.bd_laws.proofs.words.Logic.{◌≡◌, ℕ, suc, Bool, true, false, cond, List, [], ◌∷◌, Option, Some, None, inl, inr, refl, ap, sym, subst, ◌∙◌, arith, list_all, flat_map, is_some}
-use Rattle.bd_laws.proofs.words.Types.{ObjectId, Process, Object, Reference, Manager, Name, Work, OfThread, Step, Entry}
+use Rattle.bd_laws.proofs.words.Types.{Identity, Process, Object, Reference, Manager, Name, Work, OfThread, Step, Entry}
 use Rattle.bd_laws.proofs.words.Space.{changed, same, Space, reference_of, held_in, object_in, stays_in, objects_go, names_go, read_by, handshakes, handshakes_for, shakes, told_of, is_told_by, returns_of, returns_of_object, with_thread, with_process, with_manager, opening, closed, ripen, follow, change, counted, next, with_spam_detection}
 use Rattle.bd_space.specs.declared.space.WorkKind.TheVariants as work
 use Rattle.bd_laws.proofs.words.Laws.{In, Here, Earlier, Kept, KeptBefore}
@@ -19,7 +19,7 @@ pub use Rattle.bd_laws.proofs.KeptBefore.ObjectsKept.{later, replied_kept, trans
 pub managed_kept : (s : Space) (p : ℕ) → KeptBefore s → IsKeptWhole (with_manager s p)
 unfolding with_manager
 managed_kept s p h =
-    let o : ObjectId = record { place = s.steps; index = 0 } in
+    let o : Identity = record { place = s.steps; index = 0 } in
     let x : Object = record { id = o; owner = p; ptr = 0; cookie = 0; told_weak = true; told_strong = true } in
     let r = reference_of s.steps 0 o true Manager in
     let none : Kept s.steps None s.objects s.references = record { refs = h.kept.refs; manages = λ y e. absurd (cc); below = h.kept.below; in_order = h.kept.in_order } in
@@ -38,7 +38,7 @@ managed_kept s p h =
 
 -- ---- reading
 
-no_object : (s : Space) (references : List Reference) (o : ObjectId) (found : Option Object) (n k : ℕ) (r : Reference) → object_in s.objects o ≡ found
+no_object : (s : Space) (references : List Reference) (o : Identity) (found : Option Object) (n k : ℕ) (r : Reference) → object_in s.objects o ≡ found
     → In r (handshakes_for n k o (flat_map shakes (returns_of_object references found))) → Here s.objects r.object
 no_object s references o None n k r e l = absurd l
 no_object s references o (Some x) n k r e l =
@@ -55,7 +55,7 @@ handshakes_here s ws k r l =
 pub told_id : (references : List Reference) (b : Bool) (x : Object) → (cond b (told_of references x) x).id ≡ x.id
 told_id references b x = search arith
 
-pub told_here : (s : Space) (ws : List Work) (o : ObjectId) → Here s.objects o → Here (changed (λ x. is_told_by ws x.id) (told_of s.references) s.objects) o
+pub told_here : (s : Space) (ws : List Work) (o : Identity) → Here s.objects o → Here (changed (λ x. is_told_by ws x.id) (told_of s.references) s.objects) o
 told_here s ws o h = (_, changed_in (λ (x : Object). is_told_by ws x.id) (told_of s.references) h.0 s.objects h.1, told_id s.references (is_told_by ws h.0.id) h.0 ∙ h.2)
 
 pub read_kept : (s : Space) (seat : ℕ) (ws : List Work) → IsKept s → IsKept (read_by s seat ws)
@@ -68,7 +68,7 @@ read_kept s seat ws h =
       refs = λ r l. told_here s ws r.object (all.refs r l);
       manages = all.manages;
       below = λ x l. let z = in_changed told f x s.objects l in
-          let e : x.id.place ≡ z.0.id.place = ap (λ (y : Object). y.id.place) z.2 ∙ ap (λ (i : ObjectId). i.place) (told_id s.references (told z.0) z.0) in
+          let e : x.id.place ≡ z.0.id.place = ap (λ (y : Object). y.id.place) z.2 ∙ ap (λ (i : Identity). i.place) (told_id s.references (told z.0) z.0) in
           let lt = h.below z.0 z.1 in omega arith;
       in_order = pairs_changed Earlier told f (λ x y d. rw (told_id s.references (told x) x, told_id s.references (told y) y) d) s.objects h.in_order;
     }
@@ -129,7 +129,7 @@ opening_kept = search arith
 
 -- ---- the laws
 
-pub here_found : (objects : List Object) (o : ObjectId) → Here objects o → is_some (object_in objects o) ≡ true
+pub here_found : (objects : List Object) (o : Identity) → Here objects o → is_some (object_in objects o) ≡ true
 here_found objects o h = find_some (λ (x : Object). same x.id o) h.0 objects h.1 (eq_same h.0.id o h.2)
 
 pub references_here : (z : Space) → KeptBefore z → list_all (λ r. is_some (object_in z.objects r.object)) z.references ≡ true
@@ -141,7 +141,7 @@ names_here z h =
     (λ m l. let r = h.named m l in let x = h.kept.refs r.0 r.1 in here_found z.objects m.object (x.0, x.1, x.2 ∙ r.2))
 
 -- what isn't in the space isn't referred to
-pub gone_unheld : (z : Space) → KeptBefore z → (o : ObjectId) → is_some (object_in z.objects o) ≡ false → held_in z.references o ≡ false
+pub gone_unheld : (z : Space) → KeptBefore z → (o : Identity) → is_some (object_in z.objects o) ≡ false → held_in z.references o ≡ false
 gone_unheld z h o gone = to_false (held_in z.references o) (λ e.
     let r = any_found (λ (r : Reference). same r.object o) z.references e in
     let x = h.kept.refs r.0 r.1 in

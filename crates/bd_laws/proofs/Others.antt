@@ -1,7 +1,7 @@
 -- For the engine, by FollowingIsLocal: after the short commands (references asked for, the loop, death notifications) it is
 -- enough to look at what they touched.
 use Rattle.bd_laws.proofs.words.Logic.{fold, arith, ◌≡◌, ℕ, ◌==◌, Bool, true, false, not, ◌||◌, List, [], ◌∷◌, ◌++◌, None, Ok, inl, inr, refl, sym, subst, ◌∙◌, list_any, eq-eqb}
-use Rattle.bd_laws.proofs.words.Types.{ObjectId, Reference, Asked, Buffer, Work, DeathNotification, Phase, Queued, OfProcess}
+use Rattle.bd_laws.proofs.words.Types.{Identity, Reference, Asked, Buffer, Work, DeathNotification, Phase, Queued, OfProcess}
 use Rattle.bd_laws.proofs.words.Space.{with_name, Space, reference_of, owned_in, assign_numbers, owe, turns_of, turn_of, is_name_of, ask, request_check, requested, with_death, with_looping, without_buffer, is_made_at, is_of_buffer, completed, ObjectTest, follow_of, no_name, at_name, at_object, names_of_references, objects_of_references}
 use Rattle.bd_space.specs.declared.space.WorkKind.TheVariants as work
 use Rattle.bd_laws.proofs.words.Laws.{In, Elsewhere, IsSettled, NoneRipe, IsQuiet, IsFollowed}
@@ -30,7 +30,7 @@ looping_local s seat looping h = search (arith, nothing_local)
 
 -- ---- BC_INCREFS and BC_ACQUIRE
 
-module _ (s : Space) (p : ℕ) (o : ObjectId) (strong : Bool) (h : IsQuiet s) where
+module _ (s : Space) (p : ℕ) (o : Identity) (strong : Bool) (h : IsQuiet s) where
   abbrev asked : Reference
   asked = reference_of s.steps 0 o strong (Asked p)
 
@@ -68,7 +68,7 @@ pub deaths_followed : (s : Space) (ds : List DeathNotification) → IsQuiet s �
     → ((w : Work) (n : ℕ) → In w s.todo → w.kind ≡ work.Death n → list_any (λ (x : DeathNotification). x.made == n) ds ≡ true) → IsFollowed (record s { deaths = ds })
 deaths_followed s ds quiet stands told = search (arith, stands)
 
-module _ (s : Space) (p n cookie : ℕ) (o : ObjectId) (h : IsQuiet s) (check : request_check s p n ≡ Ok o) where
+module _ (s : Space) (p n cookie : ℕ) (o : Identity) (h : IsQuiet s) (check : request_check s p n ≡ Ok o) where
   has_name : is_name_of s.names p o ≡ true
   unfolding request_check
   has_name = search (arith, unless_ok, named_has, found_ok, any_in, and_both, eq-eqb, eq_same)

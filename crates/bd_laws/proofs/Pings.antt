@@ -1,7 +1,7 @@
 -- For the engine, by FollowingIsLocal: what the delivery of a BC_TRANSACTION may rest on; and where nothing is touched
 -- nothing follows.
 use Rattle.bd_laws.proofs.words.Logic.{arith, ◌≡◌, ℕ, ◌==◌, Bool, true, false, ◌&&◌, List, [], ◌∷◌, ◌++◌, Option, Some, None, Ok, ◌⊎◌, inl, inr, refl, ap, filter, list_any, option_to_list}
-use Rattle.bd_laws.proofs.words.Types.{TransactionData, FlatObject, ObjectId, Parcel, Object, DeathNotification, Item, Resolved, Actor, WorkKind}
+use Rattle.bd_laws.proofs.words.Types.{TransactionData, FlatObject, Identity, Parcel, Object, DeathNotification, Item, Resolved, Actor, WorkKind}
 use Rattle.bd_laws.proofs.words.Space.{Space, strongly_named, Sending, resolve, new_object, sending_of, Delivery, transaction_check, target_of, ObjectTest, no_name, objects_of_items, is_touched, names_go_of, objects_go_of, deaths_go_of, work_goes_of, notify_of, follow_of}
 use Rattle.bd_space.specs.declared.space.WorkKind.TheVariants as work
 use Rattle.bd_ways.proofs.Ranges.{all_stay}
@@ -23,7 +23,7 @@ no_death : (deaths : List DeathNotification) (n : ℕ) → list_any (λ (x : Dea
 no_death [] n = refl
 no_death (x ∷ xs) n = search (arith, no_death xs n)
 
-module _ (b : ObjectTest) (none : (o : ObjectId) → b o ≡ false) where
+module _ (b : ObjectTest) (none : (o : Identity) → b o ≡ false) where
   untouched : (deaths : List DeathNotification) (kind : WorkKind) → is_touched no_name b deaths kind ≡ false
   untouched deaths (work.Notice o) = none o
   untouched deaths (work.Death n) = no_death deaths n

@@ -1,7 +1,7 @@
 -- For the engine, by FollowingIsLocal: after a BC_TRANSACTION with objects it is enough to look at these, and for a one-way
 -- call at its target.
 use Rattle.bd_laws.proofs.words.Logic.{arith, ◌≡◌, ℕ, Bool, true, false, List, [], ◌∷◌, ◌++◌, Some, None, inl, inr, refl, ap, sym, subst, ◌∙◌, find, append-nil, list_any, cons_option}
-use Rattle.bd_laws.proofs.words.Types.{TransactionData, ObjectId, Frame, Buffer, Turn, Actor, Work, OfThread}
+use Rattle.bd_laws.proofs.words.Types.{TransactionData, Identity, Frame, Buffer, Turn, Actor, Work, OfThread}
 use Rattle.bd_laws.proofs.words.Space.{same, Space, assign_numbers, goes_to, is_gone, owe, is_call, turn_of, turns_of, is_abandoned, Delivery, delivered, own_notices, add_buffer, with_carried, refer, make_objects, buffer_of, transacted, called, call_out, completed, ObjectTest, follow_of, ripen_of, no_name, objects_of_items, is_spam}
 use Rattle.bd_space.specs.declared.space.WorkKind.TheVariants as work
 use Rattle.bd_laws.proofs.words.Laws.{In, KeptBefore, Elsewhere, IsSettled, NoneRipe}
@@ -19,7 +19,7 @@ turns_push : (bs : List Buffer) (b : Buffer) → turns_of (bs ++ b ∷ []) ≡ t
 turns_push [] b = refl
 turns_push (c ∷ cs) b = search (arith, turns_push cs b)
 
-but_push : (o : ObjectId) (todo : List Work) (ts older : List Turn) (t : Turn) → same t.target o ≡ true → NoneRipe todo older ts → NoneRipeBut o todo older (ts ++ t ∷ [])
+but_push : (o : Identity) (todo : List Work) (ts older : List Turn) (t : Turn) → same t.target o ≡ true → NoneRipe todo older ts → NoneRipeBut o todo older (ts ++ t ∷ [])
 but_push o todo [] older t e h = ((λ none. absurd (cc)), tt)
 but_push o todo (u ∷ us) older t e h = ((λ none. h.0), but_push o todo us (older ++ u ∷ []) t e h.1)
 
@@ -49,7 +49,7 @@ module _ (s : Space) (a : Actor) (d : TransactionData) (v : Delivery) (h : IsCal
   abbrev pub new_buffer : Buffer
   new_buffer = buffer_of (with_carried s v) a d v
 
-  turn_one_way : (o : ObjectId) → v.one_way ≡ true → v.target ≡ Some o
+  turn_one_way : (o : Identity) → v.one_way ≡ true → v.target ≡ Some o
       → (t : Turn) × (turn_of new_buffer ≡ Some t) × (same t.target o ≡ true)
   turn_one_way o one target =
       (record { made = new_buffer.made; receiver = v.receiver.made; target = o; handed = false }, rw (one, target) refl, eq_same o o refl)
@@ -112,7 +112,7 @@ module _ (s : Space) (a : Actor) (d : TransactionData) (v : Delivery) (h : IsCal
   transacted_is b e = search arith
 
   -- one-way: sent objects are looked at, and the target's oldest call may ripen
-  pub one_way_local : IsSettled s.frames → (o : ObjectId) → v.one_way ≡ true → v.target ≡ Some o
+  pub one_way_local : IsSettled s.frames → (o : Identity) → v.one_way ≡ true → v.target ≡ Some o
       → completed (transacted s a d v) ≡ follow_of no_name sent (ripen_of o (transacted s a d v))
   one_way_local settled o one target =
       let is = transacted_is true one in

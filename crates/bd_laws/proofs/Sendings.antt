@@ -1,6 +1,6 @@
 -- For every law: what a parcel's sender sends: objects that are there, or that the sending makes.
 use Rattle.bd_laws.proofs.words.Logic.{◌≡◌, ℕ, ◌<◌, ◌==◌, Bool, true, false, ◌&&◌, List, [], ◌∷◌, ◌++◌, Option, Some, None, Ok, ◌⊎◌, inl, inr, refl, sym, subst, length, find, arith, length-append, append-nil, option_to_list, option_map, eqb-true}
-use Rattle.bd_laws.proofs.words.Types.{TransactionData, FlatObject, ObjectId, Parcel, Object, Name, Item, Resolved, is_own}
+use Rattle.bd_laws.proofs.words.Types.{TransactionData, FlatObject, Identity, Parcel, Object, Name, Item, Resolved, is_own}
 use Rattle.bd_laws.proofs.words.Space.{Space, own_in, named, strongly_named, Sending, new_object, resolve, resolve_all, sending_of}
 use Rattle.bd_parcel.specs.Reading.{object_at}
 use Rattle.bd_laws.proofs.words.Laws.{In, Pairs, Earlier}
@@ -9,16 +9,16 @@ use Rattle.bd_laws.proofs.Tests.{both, and_then_ok}
 use Rattle.bd_laws.proofs.Earlier.{index_earlier}
 
 -- p's own object, in the list
-abbrev pub Owns : List Object → ℕ → ObjectId → Type 0
+abbrev pub Owns : List Object → ℕ → Identity → Type 0
 Owns objects p o = (x : Object) × In x objects × (x.id ≡ o) × (x.owner ≡ p)
 
 -- p has a name for the object
-abbrev pub HasName : List Name → ℕ → ObjectId → Type 0
+abbrev pub HasName : List Name → ℕ → Identity → Type 0
 HasName names p o = (m : Name) × In m names × (m.process ≡ p) × (m.object ≡ o)
 
 -- ---- names
 
-pub named_has : (s : Space) (p n : ℕ) (o : ObjectId) → named s p n ≡ Some o → HasName s.names p o
+pub named_has : (s : Space) (p n : ℕ) (o : Identity) → named s p n ≡ Some o → HasName s.names p o
 unfolding named
 named_has s p n o h = at (find (λ (m : Name). (m.process == p) && (m.number == n)) s.names) refl h
   where
@@ -31,7 +31,7 @@ named_has s p n o h = at (find (λ (m : Name). (m.process == p) && (m.number == 
 -- ---- resolving
 
 -- the sent object is the sender's own, or the sender has a name for it
-abbrev pub Sent : Space → ℕ → List Object → ObjectId → Type 0
+abbrev pub Sent : Space → ℕ → List Object → Identity → Type 0
 Sent s p made o = Owns (s.objects ++ made) p o ⊎ HasName s.names p o
 
 -- the objects made so far, at this step
@@ -51,14 +51,14 @@ pub record Resolves (s : Space) (p : ℕ) (made : List Object) (own : Bool) (r :
 made_none : (s : Space) (p : ℕ) (made : List Object) → Made s p made → Made s p (made ++ [])
 made_none s p made h = search (arith, append-nil)
 
-abbrev pub resolved : ObjectId → Option Object → Resolved
+abbrev pub resolved : Identity → Option Object → Resolved
 resolved o new = record { object = o; new = new }
 
 -- an object of a parcel is made, or known by its ptr, or the sender has a name for it
 module _ (s : Space) (p : ℕ) (made : List Object) (x : FlatObject) (R : Bool → Resolved → Type 0)
     (makes : own_in (s.objects ++ made) p x.binder ≡ None → R true (resolved (new_object s.steps p made x).id (Some (new_object s.steps p made x))))
     (knows : (o : Object) → own_in (s.objects ++ made) p x.binder ≡ Some o → R true (resolved o.id None))
-    (names : (o : ObjectId) → HasName s.names p o → R false (resolved o None)) where
+    (names : (o : Identity) → HasName s.names p o → R false (resolved o None)) where
   pub resolved_by : (r : Resolved) → resolve s p made x ≡ Ok r → R (is_own x.kind) r
   unfolding resolve named strongly_named
   resolved_by r = search (arith, named_has)
@@ -84,7 +84,7 @@ pub record Sends (s : Space) (p : ℕ) (made : List Object) (items : List Item) 
   pub sent : (i : Item) → In i items → Sent s p made i.object
   pub makes : Made s p made
 
-owns_more : (s : Space) (p : ℕ) (made more : List Object) (o : ObjectId) → Owns (s.objects ++ made) p o → Owns (s.objects ++ (made ++ more)) p o
+owns_more : (s : Space) (p : ℕ) (made more : List Object) (o : Identity) → Owns (s.objects ++ made) p o → Owns (s.objects ++ (made ++ more)) p o
 owns_more s p made more o w =
     (w.0, elim (in_append w.0 s.objects made w.1) [ inl k ↦ in_left w.0 s.objects (made ++ more) k | inr k ↦ in_right w.0 s.objects (made ++ more) (in_left w.0 made more k) ], w.2, w.3)
 

@@ -1,6 +1,6 @@
 -- Work items between two steps: what tells them apart, and where they stand.
 use Rattle.std.specs.Prelude.{◌≡◌, true, List, ℕ, ◌<◌, Some}
-use Rattle.bd_ways.specs.Words.{ObjectId, Work, Thread, Reference, Buffer, Carried, OfThread, OfProcess, DeathNotification, Queued, Space}
+use Rattle.bd_ways.specs.Words.{Identity, Work, Thread, Reference, Buffer, Carried, OfThread, OfProcess, DeathNotification, Queued, Space}
 use Rattle.bd_space.specs.declared.space.WorkKind.TheVariants as work
 use Rattle.bd_space.specs.Todo.{is_item, hands_out, notice_of}
 use Rattle.bd_laws.specs.Lists.{In, Pairs}
@@ -45,7 +45,7 @@ IsInWindows s = AllInWindows s.references s.buffers
 
 -- Where both items are Notices they are of two objects.
 abbrev pub Apart : Work → Work → Type 0
-Apart v w = (o : ObjectId) → notice_of v.kind ≡ Some o → notice_of w.kind ≡ Some o → ⊥
+Apart v w = (o : Identity) → notice_of v.kind ≡ Some o → notice_of w.kind ≡ Some o → ⊥
 
 -- of each object there is one Notice at most
 abbrev pub Once : List Work → Type 0

@@ -1,6 +1,6 @@
 -- The laws of every history that the engine rests on.
 use Rattle.std.specs.Prelude.{ℕ, ◌≡◌, ◌&&◌, ◌||◌, Bool, true, List, filter, ◌⊎◌}
-use Rattle.bd_ways.specs.Words.{list_any, ObjectId, Turn, Work, same, Space}
+use Rattle.bd_ways.specs.Words.{list_any, Identity, Turn, Work, same, Space}
 use Rattle.bd_space.specs.Frames.{innermost_in}
 use Rattle.bd_space.specs.Todo.{is_call}
 use Rattle.bd_space.specs.Turns.{turns_of}
@@ -23,7 +23,7 @@ abbrev pub is_out : List Work → Turn → Bool
 is_out todo t = t.handed || list_any (λ w. is_call t.made w.kind) todo
 
 -- the object's one-way calls that are due or handed out, and whose buffers live
-abbrev pub out_on : ObjectId → Space → List Turn
+abbrev pub out_on : Identity → Space → List Turn
 out_on o s = filter (λ t. same t.target o && is_out s.todo t) (turns_of s.buffers)
 
 -- ---- between two steps, also of entries that no engine would make

@@ -1,6 +1,6 @@
 -- Nothing is pending: what follows a change has nothing left to do.
 use Rattle.std.specs.Prelude.{◌≡◌, ℕ, ◌==◌, true, false, ◌||◌, List, [], ◌∷◌, ◌++◌, None, find}
-use Rattle.bd_ways.specs.Words.{list_any, ObjectId, Object, Name, DeathNotification, Work, Turn, Frame, is_some_and, Space}
+use Rattle.bd_ways.specs.Words.{list_any, Identity, Object, Name, DeathNotification, Work, Turn, Frame, is_some_and, Space}
 use Rattle.bd_space.specs.declared.space.WorkKind.TheVariants as work
 use Rattle.bd_space.specs.References.{object_in, stays_in}
 use Rattle.bd_space.specs.Names.{is_named_in}
@@ -17,7 +17,7 @@ pub record Elsewhere (a : NameTest) (b : ObjectTest) (z : Space) : Type 0 where
   pub names : (m : Name) → In m z.names → a m.process m.object ≡ false → is_named_in z.objects z.references m.process m.object ≡ true
   pub objects : (x : Object) → In x z.objects → b x.id ≡ false → stays_in z.processes z.references x ≡ true
   pub deaths : (d : DeathNotification) → In d z.deaths → a d.process d.object ≡ false → (d.cleared || is_name_of z.names d.process d.object) ≡ true
-  pub notices : (w : Work) (o : ObjectId) → In w z.todo → w.kind ≡ work.Notice o → b o ≡ false → is_some_and (object_in z.objects o) (wants_notice z.processes z.references) ≡ true
+  pub notices : (w : Work) (o : Identity) → In w z.todo → w.kind ≡ work.Notice o → b o ≡ false → is_some_and (object_in z.objects o) (wants_notice z.processes z.references) ≡ true
   pub tellings : (w : Work) (n : ℕ) → In w z.todo → w.kind ≡ work.Death n → list_any (λ (x : DeathNotification). x.made == n) z.deaths ≡ true
   pub made : (x : Object) → In x z.objects → b x.id ≡ false → wants_notice z.processes z.references x ≡ true → has_notice_in z.todo x.id ≡ true
 

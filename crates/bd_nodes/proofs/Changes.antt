@@ -4,7 +4,7 @@ use Rattle.bd_keys.proofs.Found.{found_passes}
 use Rattle.bd_keys.specs.declared.key.WordKey.{WordKey}
 use Rattle.bd_keys.specs.Keys.{same_word}
 use Rattle.bd_keys.proofs.Keys.{word_eq, word_self}
-use Rattle.bd_space.specs.declared.step.ObjectId.{ObjectId}
+use Rattle.bd_space.specs.declared.step.Identity.{Identity}
 use Rattle.bd_space.specs.declared.space.Object.{Object}
 use Rattle.bd_space.specs.Words.{same}
 use Rattle.bd_space.specs.References.{object_in}
@@ -29,7 +29,7 @@ len_new (Ok old) n m was ok e l none = l ∙ ap (λ o. m + (if is_some o then 0 
 len_new (Err e) n m was ok f l none = absurd (cc)
 
 -- an own object is found by its identity
-pub by_own : (objects : List Object) (k : WordKey) (o : ObjectId) → AreDistinct id_key same objects
+pub by_own : (objects : List Object) (k : WordKey) (o : Identity) → AreDistinct id_key same objects
     → option_map (λ (x : Object). x.id) (find (λ x. same_word (own_key x) k) objects) ≡ Some o
     → object_in objects o ≡ find (λ x. same_word (own_key x) k) objects
 by_own objects k o d h = at (find test objects) refl h
@@ -46,7 +46,7 @@ by_own objects k o d h = at (find test objects) refl h
         ∙ sym e
 
 -- of all own objects, the one with the identity goes
-pub only_own : (objects : List Object) (o : ObjectId) (x : Object) → AreDistinct id_key same objects
+pub only_own : (objects : List Object) (o : Identity) (x : Object) → AreDistinct id_key same objects
     → AreDistinct own_key same_word objects → object_in objects o ≡ Some x
     → (l : WordKey) (y : Object) → find (λ z. same_word (own_key z) l) objects ≡ Some y
     → not (same y.id o) ≡ not (same_word (own_key x) l)

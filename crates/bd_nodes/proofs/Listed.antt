@@ -9,7 +9,7 @@ use Rattle.bd_keys.proofs.Found.{found_passes}
 use Rattle.bd_keys.proofs.Lists.{any_same}
 use Rattle.bd_groups.specs.declared.groups.Groups.{Groups}
 use Rattle.bd_groups.specs.Members.{IsIn, members}
-use Rattle.bd_space.specs.declared.step.ObjectId.{ObjectId}
+use Rattle.bd_space.specs.declared.step.Identity.{Identity}
 use Rattle.bd_space.specs.declared.space.Object.{Object}
 use Rattle.bd_space.specs.Words.{same}
 use Rattle.bd_ways.specs.Local.{is_among}
@@ -54,7 +54,7 @@ any_filter p r (x ∷ xs) = by (r x) (any_filter p r xs)
 
 -- ---- identities
 
-pub in_among : (os : List ObjectId) (o : ObjectId) → IsIn o os → is_among os o ≡ true
+pub in_among : (os : List Identity) (o : Identity) → IsIn o os → is_among os o ≡ true
 in_among [] o h = absurd h
 in_among (p ∷ os) o (inl e) = ap (λ b. b || is_among os o) (subst (λ q. same o q ≡ true) e (same_self o))
 in_among (p ∷ os) o (inr h) = late (same o p) (in_among os o h)
@@ -64,7 +64,7 @@ in_among (p ∷ os) o (inr h) = late (same o p) (in_among os o h)
     late false h = h
 
 -- An identity is among those of a list that pass if it passes and is among the list.
-among_filter : (q : ObjectId → Bool) (os : List ObjectId) (o : ObjectId)
+among_filter : (q : Identity → Bool) (os : List Identity) (o : Identity)
     → is_among (filter q os) o ≡ (q o && is_among os o)
 among_filter q os o = any_filter (same o) q os ∙ all os
   where
@@ -76,7 +76,7 @@ among_filter q os o = any_filter (same o) q os ∙ all os
     out true m = refl
     out false m = refl
 
-    all : (ps : List ObjectId) → list_any (λ p. q p && same o p) ps ≡ (q o && is_among ps o)
+    all : (ps : List Identity) → list_any (λ p. q p && same o p) ps ≡ (q o && is_among ps o)
     all [] = sym (none (q o))
     all (p ∷ ps) = by (same o p) refl (all ps)
       where
@@ -86,7 +86,7 @@ among_filter q os o = any_filter (same o) q os ∙ all os
         by false e h = rw (none (q p)) h
 
 -- the identities of a process's objects
-pub owned_among : (objects : List Object) (p : ℕ) (o : ObjectId)
+pub owned_among : (objects : List Object) (p : ℕ) (o : Identity)
     → is_among (map (λ (x : Object). x.id) (filter (λ x. x.owner == p) objects)) o ≡ owned_in objects p o
 owned_among objects p o =
     any_map (same o) (λ (x : Object). x.id) (filter (λ x. x.owner == p) objects)
@@ -99,13 +99,13 @@ owned_among objects p o =
     swapped false true = refl
     swapped false false = refl
 
-pub owns_one : (objects : List Object) (p : ℕ) (o : ObjectId) → owned_in objects p o ≡ true
+pub owns_one : (objects : List Object) (p : ℕ) (o : Identity) → owned_in objects p o ≡ true
     → list_any (λ (x : Object). x.owner == p) objects ≡ true
 owns_one objects p o h = any_weaker _ _ objects (λ x e. (and_parts (same x.id o) (x.owner == p) e).1) h
 
 -- A list that has all objects of a process, and maybe others, has just those of the process once it is sifted by its ownership.
-pub owned_listed : (objects : List Object) (p : ℕ) (before listed : List ObjectId)
-    → ((o : ObjectId) → owned_in objects p o ≡ true → is_among listed o ≡ true) → (o : ObjectId)
+pub owned_listed : (objects : List Object) (p : ℕ) (before listed : List Identity)
+    → ((o : Identity) → owned_in objects p o ≡ true → is_among listed o ≡ true) → (o : Identity)
     → is_among (before ++ filter (owned_in objects p) listed) o
     ≡ is_among (before ++ map (λ (x : Object). x.id) (filter (λ x. x.owner == p) objects)) o
 owned_listed objects p before listed all o =
@@ -123,7 +123,7 @@ some_one None h = absurd (cc)
 some_one (Some x) h = (x, refl)
 
 -- A table lists each object under the process that owns it.
-pub owned_is_listed : (t : NodeTable) (objects : List Object) (p : ℕ) (o : ObjectId) → NodesAre t objects
+pub owned_is_listed : (t : NodeTable) (objects : List Object) (p : ℕ) (o : Identity) → NodesAre t objects
     → owned_in objects p o ≡ true → is_among (members t.owned (owner_group p)) o ≡ true
 owned_is_listed t objects p o n h =
     let is_it = λ (x : Object). same x.id o && x.owner == p in
@@ -141,8 +141,8 @@ owned_is_listed t objects p o n h =
 -- ---- changes
 
 -- with what is at one key, where it is listed
-pub lists_put : {S T : Type 0} (m : HashMap ObjectId Object S) (n : HashMap ObjectId Object T) (g h : Groups ObjectId)
-    (k : ObjectId) (v : Option Object) → Puts same (get same m) (get same n) k v
+pub lists_put : {S T : Type 0} (m : HashMap Identity Object S) (n : HashMap Identity Object T) (g h : Groups Identity)
+    (k : Identity) (v : Option Object) → Puts same (get same m) (get same n) k v
     → ((x : Object) → IsListed g x → IsListed h x) → IfSome v (IsListed h) → Lists m g → Lists n h
 lists_put m n g h k v puts kept new lists = λ l.
     subst (λ o. IfSome o (IsListed h)) (sym (puts l)) (by l (same k l))
@@ -151,6 +151,6 @@ lists_put m n g h k v puts kept new lists = λ l.
     stays None is = is
     stays (Some x) is = kept x is
 
-    by : (l : ObjectId) (b : Bool) → IfSome (cond b v (get same m l)) (IsListed h)
+    by : (l : Identity) (b : Bool) → IfSome (cond b v (get same m l)) (IsListed h)
     by l true = new
     by l false = stays (get same m l) (lists l)

@@ -1,11 +1,11 @@
 -- By what an object is found: its identity, or its owner and the ptr by which that knows it.
 use Rattle.std.specs.Prelude.{ℕ, Bool, Option, Some, None, cond}
-use Rattle.bd_ways.specs.Words.{ObjectId, Object}
+use Rattle.bd_ways.specs.Words.{Identity, Object}
 use Rattle.bd_keys.specs.declared.key.WordKey.{WordKey}
 use Rattle.bd_groups.specs.declared.group.Group.{Group}
 use Rattle.bd_groups.specs.declared.group.Group.TheVariants as groups
 
-abbrev pub id_key : Object → ObjectId
+abbrev pub id_key : Object → Identity
 id_key x = x.id
 
 abbrev pub own_key : Object → WordKey

@@ -1,6 +1,6 @@
 -- Objects that are new.
 use Rattle.std.specs.Prelude.{◌≡◌, true, List, [], ◌∷◌, ◌++◌, None}
-use Rattle.bd_ways.specs.Words.{ObjectId, Object}
+use Rattle.bd_ways.specs.Words.{Identity, Object}
 use Rattle.bd_space.specs.References.{object_in, own_in}
 use Rattle.bd_ways.specs.Local.{is_among}
 
@@ -14,5 +14,5 @@ AreNewIn objects [] = Unit {0}
 AreNewIn objects (x ∷ xs) = IsNewIn objects x × AreNewIn (objects ++ x ∷ []) xs
 
 -- Each identity of the second list stands in the first, too.
-abbrev pub HasAll : List ObjectId → List ObjectId → Type 0
-HasAll these others = (o : ObjectId) → is_among others o ≡ true → is_among these o ≡ true
+abbrev pub HasAll : List Identity → List Identity → Type 0
+HasAll these others = (o : Identity) → is_among others o ≡ true → is_among these o ≡ true

@@ -1,6 +1,6 @@
 -- What a table of objects stands for: the list of the objects of a space.
 use Rattle.std.specs.Prelude.{◌≡◌, Bool, List, [], ◌∷◌, Option, None, find, length, option_map}
-use Rattle.bd_ways.specs.Words.{ObjectId, Object}
+use Rattle.bd_ways.specs.Words.{Identity, Object}
 use Rattle.std.specs.HashMap.{HashMap, get, hash_map_len}
 use Rattle.std.specs.Option.{IfSome}
 use Rattle.bd_keys.specs.Keys.{same_word}
@@ -21,12 +21,12 @@ abbrev pub Finds : {A K V : Type 0} → (K → K → Bool) → (A → K) → (A 
 Finds {K = K} eq key shown m xs = (k : K) → m k ≡ option_map shown (find (λ x. eq (key x) k) xs)
 
 -- the object is listed among those of its owner
-abbrev pub IsListed : Groups ObjectId → Object → Type 0
+abbrev pub IsListed : Groups Identity → Object → Type 0
 IsListed g x = HasMember g (owner_group x.owner) x.id
 
 -- Each object of the map is listed among those of its owner.
-abbrev pub Lists : {S : Type 0} → HashMap ObjectId Object S → Groups ObjectId → Type 0
-Lists m g = (k : ObjectId) → IfSome (get same_id m k) (IsListed g)
+abbrev pub Lists : {S : Type 0} → HashMap Identity Object S → Groups Identity → Type 0
+Lists m g = (k : Identity) → IfSome (get same_id m k) (IsListed g)
 
 pub record NodesAre (t : NodeTable) (objects : List Object) : Type 0 where
   pub found : Finds same_id id_key (λ x. x) (get same_id t.objects) objects

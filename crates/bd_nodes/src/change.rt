@@ -6,7 +6,7 @@ ghost use Rattle.bd_space.specs.Words as words;
 
 use crate::key::{own_key, owner_group};
 use crate::table::NodeTable;
-use bd_space::{Object, ObjectId};
+use bd_space::{Identity, Object};
 
 impl NodeTable {
     ghost use Rattle.bd_space.specs.declared.space.Object.{Object};
@@ -39,7 +39,7 @@ impl NodeTable {
 
     /// Notes what the object's owner was told last: whether the object is held, and whether strongly.
     #[tactic(auto, unfolding(crate::specs::Room::node_room, crate::specs::Room::node_count))]
-    pub fn set_told(&mut self, o: ObjectId, weak: bool, strong: bool)
+    pub fn set_told(&mut self, o: Identity, weak: bool, strong: bool)
         ensures stands { Makes (NodesAre self.old) (NodesAre self.new)
             (λ objects. words.changed (λ x. words.same x.id o) (λ x. record x { told_weak = weak; told_strong = strong }) objects) }
         ensures uses { Uses self.old self.new 0 }
@@ -52,7 +52,7 @@ impl NodeTable {
 
     /// Takes the object out, if it is there. Its identity stays in its owner's list until that is made anew.
     #[tactic(auto, unfolding(crate::specs::Room::node_room, crate::specs::Room::node_count))]
-    pub fn remove(&mut self, o: ObjectId)
+    pub fn remove(&mut self, o: Identity)
         ensures stands { Makes (NodesAre self.old) (NodesAre self.new)
             (λ objects. filter (λ x. not (words.same x.id o)) objects) }
         ensures uses { Uses self.old self.new 0 }

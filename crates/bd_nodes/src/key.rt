@@ -18,7 +18,7 @@ pub(crate) fn own_key(x: &Object) -> WordKey
 }
 
 /// The group in which the identities of a process's objects are listed.
-pub(crate) fn owner_group(p: u32) -> Group
+pub(crate) fn owner_group(p: u64) -> Group
     ensures { result ≡ keys.owner_group p }
 {
     Group::Process { made: p }

@@ -5,7 +5,7 @@ ghost use Rattle.std.specs.{Prelude.{◌≡◌, ◌==◌, ◌++◌, true, map, f
 use crate::key::owner_group;
 use crate::table::NodeTable;
 use bd_groups::Members;
-use bd_space::ObjectId;
+use bd_space::Identity;
 use std::alloc::AllocError;
 
 impl NodeTable {
@@ -13,7 +13,7 @@ impl NodeTable {
     ghost use Rattle.bd_nodes.specs.{Stands.{NodesAre}, New.{HasAll}};
 
     /// Identities: those of all objects that the process owns, and maybe of objects that went.
-    pub fn listed(&self, p: u32) -> Members<'_, ObjectId>
+    pub fn listed(&self, p: u64) -> Members<'_, Identity>
         ensures all { (objects : List Object) → NodesAre self.now objects
             → HasAll result (map (λ x. x.id) (filter (λ x. x.owner == p) objects)) }
     {
@@ -21,7 +21,7 @@ impl NodeTable {
     }
 
     /// Puts the objects that the process owns to what is there, in some order. Fails for want of memory alone.
-    pub fn owned_by(&self, p: u32, touched: &mut Vec<ObjectId>) -> Result<(), AllocError>
+    pub fn owned_by(&self, p: u64, touched: &mut Vec<Identity>) -> Result<(), AllocError>
         ensures all { OnOk result ((objects : List Object) → NodesAre self.now objects → HasAll touched.new.items
             (touched.old.items ++ map (λ x. x.id) (filter (λ x. x.owner == p) objects))) }
         // Nothing else is there.

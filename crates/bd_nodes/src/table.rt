@@ -6,17 +6,17 @@ ghost use Rattle.bd_keys.specs.Tables.{Tells};
 use crate::key::owner_group;
 use bd_groups::Groups;
 use bd_keys::WordMap;
-use bd_space::{Object, ObjectId};
+use bd_space::{Identity, Object};
 use std::alloc::{AllocError, Global};
 use std::collections::HashMap;
 
 /// The objects of all processes.
 pub struct NodeTable {
-    pub(crate) objects: HashMap<ObjectId, Object>,
+    pub(crate) objects: HashMap<Identity, Object>,
     // Each object's identity, by its owner and ptr. A process picks its ptrs: whatever it picks, a look stays short.
-    pub(crate) owns: WordMap<ObjectId>,
+    pub(crate) owns: WordMap<Identity>,
     // Each object's identity among those of its owner. Some may be of objects that went.
-    pub(crate) owned: Groups<ObjectId>,
+    pub(crate) owned: Groups<Identity>,
     pub(crate) alloc: Global,
 }
 
@@ -76,7 +76,7 @@ impl NodeTable {
 
     // The objects of each process in new memory, without those that went, and with room for so many more.
     #[tactic(auto, unfolding(crate::specs::Room::node_count))]
-    fn renewed(&self, more: usize) -> Result<Groups<ObjectId>, AllocError>
+    fn renewed(&self, more: usize) -> Result<Groups<Identity>, AllocError>
         ensures lists { IfOk result (Lists self.now.objects) }
         ensures few { IfOk result (λ g. member_count g ≤ node_count self.now) }
         ensures room { IfOk result (λ g. more ≤ group_room g) }

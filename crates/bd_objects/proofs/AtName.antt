@@ -2,7 +2,7 @@
 use Rattle.std.proofs.Common.{◌≡◌, ℕ, Bool, true, false, not, ◌&&◌, ◌||◌, cond, List, [], ◌∷◌, filter, refl, ap, sym, ◌∙◌}
 use Rattle.std.specs.List.{list_any}
 use Rattle.std.proofs.lemmas.Bool.{and_parts, eqb-true}
-use Rattle.bd_space.specs.declared.step.ObjectId.{ObjectId}
+use Rattle.bd_space.specs.declared.step.Identity.{Identity}
 use Rattle.bd_space.specs.declared.space.Object.{Object}
 use Rattle.bd_space.specs.declared.space.Reference.{Reference}
 use Rattle.bd_space.specs.declared.space.Name.{Name}
@@ -43,13 +43,13 @@ module _ {A : Type 0} (chosen stays : A → Bool) where
 
 -- ---- names
 
-pub named_at : (objects : List Object) (refs : List Reference) (p : ℕ) (o : ObjectId) (b : Bool) → b ≡ is_named_in objects refs p o
+pub named_at : (objects : List Object) (refs : List Reference) (p : ℕ) (o : Identity) (b : Bool) → b ≡ is_named_in objects refs p o
     → (m : Name) → at_name p o m.process m.object ≡ true → is_named_in objects refs m.process m.object ≡ b
 named_at objects refs p o b e m h = let k = and_parts _ _ h in rw (eqb-true m.process p k.0, same_eq m.object o k.1) (sym e)
 
 -- ---- death notifications
 
-module _ (names : List Name) (p : ℕ) (o : ObjectId) where
+module _ (names : List Name) (p : ℕ) (o : Identity) where
   abbrev at : DeathNotification → Bool
   at x = at_name p o x.process x.object
 

@@ -1,7 +1,7 @@
 -- The references of a buffer, one item after the other.
 use Rattle.std.proofs.Common.{◌≡◌, ℕ, suc, ◌+◌, ◌<◌, List, [], ◌∷◌, ◌++◌, Option, None, Some, take, length, get_or, refl, ap, sym, ◌∙◌, append_assoc, arith}
 use Rattle.std.proofs.lemmas.List.{take_more, length-take-le}
-use Rattle.bd_space.specs.declared.step.ObjectId.{ObjectId}
+use Rattle.bd_space.specs.declared.step.Identity.{Identity}
 use Rattle.bd_space.specs.declared.space.Item.{Item}
 use Rattle.bd_space.specs.declared.space.Reference.{Reference}
 use Rattle.bd_space.specs.declared.space.Holder.TheVariants.{Carried}
@@ -10,7 +10,7 @@ use Rattle.bd_uapi.specs.Kinds.{is_strong_kind}
 use Rattle.bd_space.specs.Delivery.{buffer_references}
 
 module _ (place q : ℕ) where
-  abbrev held : ℕ → List Item → Option ObjectId → List Reference
+  abbrev held : ℕ → List Item → Option Identity → List Reference
   held k items target = buffer_references place q k items target
 
   abbrev carried : ℕ → Item → Reference
@@ -23,7 +23,7 @@ module _ (place q : ℕ) where
   same k = omega arith
 
   -- the target's comes last
-  pub with_target : (items : List Item) (k : ℕ) (target : Option ObjectId) → held k items target ≡ held k items None ++ held (k + length items) [] target
+  pub with_target : (items : List Item) (k : ℕ) (target : Option Identity) → held k items target ≡ held k items None ++ held (k + length items) [] target
   with_target [] k None = refl
   with_target [] k (Some o) = ap (λ n. held n [] (Some o)) (same k)
   with_target (x ∷ xs) k target =

@@ -3,7 +3,7 @@ use Rattle.std.proofs.Common.{◌≡◌, ℕ, ◌==◌, Bool, true, false, ◌&&
 use Rattle.std.specs.List.{list_any}
 use Rattle.std.proofs.lemmas.Bool.{and_parts, or_left, or_right, or_cases}
 use Rattle.std.proofs.lemmas.List.Folds.{list_any-append}
-use Rattle.bd_space.specs.declared.step.ObjectId.{ObjectId}
+use Rattle.bd_space.specs.declared.step.Identity.{Identity}
 use Rattle.bd_space.specs.declared.space.Object.{Object}
 use Rattle.bd_space.specs.declared.space.Reference.{Reference}
 use Rattle.bd_space.specs.Words.{same}
@@ -13,11 +13,11 @@ use Rattle.bd_space.specs.ProcessExits.{is_dropped_with}
 use Rattle.bd_nodes.specs.New.{HasAll}
 use Rattle.bd_space.proofs.Identities.{same_eq, same_self}
 
-among_append : (xs ys : List ObjectId) (o : ObjectId) → is_among (xs ++ ys) o ≡ (is_among xs o || is_among ys o)
+among_append : (xs ys : List Identity) (o : Identity) → is_among (xs ++ ys) o ≡ (is_among xs o || is_among ys o)
 among_append xs ys o = list_any-append (λ i. same o i) xs ys
 
 -- in a list of those that pass
-module _ {A : Type 0} (p : A → Bool) (key : A → ObjectId) (o : ObjectId) where
+module _ {A : Type 0} (p : A → Bool) (key : A → Identity) (o : Identity) where
   put : (x : A) (xs : List A) → p x ≡ true → same o (key x) ≡ true → is_among (map key (filter p (x ∷ xs))) o ≡ true
   put x xs e h = rw e (or_left _ _ h)
 
@@ -32,13 +32,13 @@ module _ {A : Type 0} (p : A → Bool) (key : A → ObjectId) (o : ObjectId) whe
       by false e h = inr h
 
 module _ (p : ℕ) (objects : List Object) where
-  abbrev owned : List ObjectId
+  abbrev owned : List Identity
   owned = map (λ x. x.id) (filter (λ x. x.owner == p) objects)
 
   abbrev goes_anyway : Reference → Bool
   goes_anyway r = is_asked_by p r.holder || is_in_window p r.holder
 
-  pub among_owned : (xs : List Object) (o : ObjectId) → owned_in xs p o ≡ true → is_among (map (λ x. x.id) (filter (λ x. x.owner == p) xs)) o ≡ true
+  pub among_owned : (xs : List Object) (o : Identity) → owned_in xs p o ≡ true → is_among (map (λ x. x.id) (filter (λ x. x.owner == p) xs)) o ≡ true
   among_owned [] o h = absurd (cc)
   among_owned (x ∷ xs) o h = elim (or_cases (same x.id o && (x.owner == p)) (owned_in xs p o) h) [
     | inl e ↦ (let k = and_parts (same x.id o) (x.owner == p) e in
@@ -52,7 +52,7 @@ module _ (p : ℕ) (objects : List Object) where
     | inr k ↦ inr (and_parts _ _ k).0
   ]
 
-  among_dropped : (rs : List Reference) (o : ObjectId) → is_among (map (λ r. r.object) (filter (is_dropped_with objects p) rs)) o ≡ true
+  among_dropped : (rs : List Reference) (o : Identity) → is_among (map (λ r. r.object) (filter (is_dropped_with objects p) rs)) o ≡ true
       → (is_among (map (λ r. r.object) (filter goes_anyway rs)) o ≡ true) ⊎ (is_among owned o ≡ true)
   among_dropped [] o h = absurd (cc)
   among_dropped (r ∷ rs) o h = elim (taken (is_dropped_with objects p) (λ r. r.object) o r rs h) [
@@ -66,7 +66,7 @@ module _ (p : ℕ) (objects : List Object) where
     ])
   ]
 
-  pub has_dropped : (refs : List Reference) (old mid new : List ObjectId) → HasAll mid (old ++ owned) → HasAll new (mid ++ map (λ r. r.object) (filter goes_anyway refs))
+  pub has_dropped : (refs : List Reference) (old mid new : List Identity) → HasAll mid (old ++ owned) → HasAll new (mid ++ map (λ r. r.object) (filter goes_anyway refs))
       → HasAll new ((old ++ owned) ++ map (λ r. r.object) (filter (is_dropped_with objects p) refs))
   has_dropped refs old mid new h g = λ o e.
       let first = λ (k : is_among (old ++ owned) o ≡ true). g o (among_append mid _ o ∙ or_left _ _ (h o k)) in
@@ -79,7 +79,7 @@ module _ (p : ℕ) (objects : List Object) where
       ]
 
   -- nothing else is dropped
-  dropped_anyway : (rs : List Reference) (o : ObjectId) → is_among (map (λ r. r.object) (filter goes_anyway rs)) o ≡ true
+  dropped_anyway : (rs : List Reference) (o : Identity) → is_among (map (λ r. r.object) (filter goes_anyway rs)) o ≡ true
       → is_among (map (λ r. r.object) (filter (is_dropped_with objects p) rs)) o ≡ true
   dropped_anyway [] o h = absurd (cc)
   dropped_anyway (r ∷ rs) o h = elim (taken goes_anyway (λ r. r.object) o r rs h) [
@@ -87,7 +87,7 @@ module _ (p : ℕ) (objects : List Object) where
     | inr k ↦ further (is_dropped_with objects p) (λ r. r.object) o r rs (dropped_anyway rs o k)
   ]
 
-  pub only_dropped : (refs : List Reference) (old mid new : List ObjectId) → HasAll (old ++ owned) mid → HasAll (mid ++ map (λ r. r.object) (filter goes_anyway refs)) new
+  pub only_dropped : (refs : List Reference) (old mid new : List Identity) → HasAll (old ++ owned) mid → HasAll (mid ++ map (λ r. r.object) (filter goes_anyway refs)) new
       → HasAll ((old ++ owned) ++ map (λ r. r.object) (filter (is_dropped_with objects p) refs)) new
   only_dropped refs old mid new h g = λ o e.
       among_append (old ++ owned) _ o

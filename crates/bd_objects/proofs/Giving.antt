@@ -7,7 +7,7 @@ use Rattle.std.proofs.lemmas.Bool.{lt-ltb, or_right}
 use Rattle.std.proofs.lemmas.List.Folds.{fold-map, list_any-append}
 use Rattle.std.proofs.lemmas.List.Sums.{fold_more}
 use Rattle.std.proofs.lemmas.List.Elements.{filter-append}
-use Rattle.bd_space.specs.declared.step.ObjectId.{ObjectId}
+use Rattle.bd_space.specs.declared.step.Identity.{Identity}
 use Rattle.bd_space.specs.declared.space.Item.{Item}
 use Rattle.bd_space.specs.declared.space.Name.{Name}
 use Rattle.bd_space.specs.declared.space.Object.{Object}
@@ -27,7 +27,7 @@ by_cases false true xs ys = refl
 by_cases false false xs ys = refl
 
 -- what a number names has a number
-named_has : (p n : ℕ) (o : ObjectId) (ns : List Name) → named_in ns p n ≡ Some o → is_some (number_in ns p o) ≡ true
+named_has : (p n : ℕ) (o : Identity) (ns : List Name) → named_in ns p n ≡ Some o → is_some (number_in ns p o) ≡ true
 named_has p n o [] h = absurd (cc)
 named_has p n o (m ∷ ns) h = at (m.process == p) (m.number == n) (same m.object o) refl h (named_has p n o ns)
   where
@@ -40,26 +40,26 @@ named_has p n o (m ∷ ns) h = at (m.process == p) (m.number == n) (same m.objec
     at true false false f h rest = rest h
     at false b c f h rest = rest h
 
-pub is_named : (x : Option ObjectId) (o : ObjectId) → option_eq same x (Some o) ≡ true → x ≡ Some o
+pub is_named : (x : Option Identity) (o : Identity) → option_eq same x (Some o) ≡ true → x ≡ Some o
 is_named None o h = absurd (cc)
 is_named (Some y) o h = ap (λ z. Some z) (same_eq y o h)
 
 -- so none is given
-pub known_stays : (own : Bool) (manager : Option ObjectId) (p n : ℕ) (ns : List Name) (o : ObjectId) → named_in ns p n ≡ Some o → with_name_unless own manager p ns o ≡ ns
+pub known_stays : (own : Bool) (manager : Option Identity) (p n : ℕ) (ns : List Name) (o : Identity) → named_in ns p n ≡ Some o → with_name_unless own manager p ns o ≡ ns
 known_stays true manager p n ns o h = refl
 known_stays false manager p n ns o h = ap (λ b. cond b ns (ns ++ record { process = p; number = new_number (is_managers manager o) p ns; object = o } ∷ [])) (named_has p n o ns h)
 
-module _ (manager : Option ObjectId) (objects : List Object) (p : ℕ) where
-  abbrev other : List Name → ObjectId → List Name
+module _ (manager : Option Identity) (objects : List Object) (p : ℕ) where
+  abbrev other : List Name → Identity → List Name
   other ns o = with_other_name manager objects p ns o
 
   abbrev pub give : List Name → Item → List Name
   give ns x = other ns x.object
 
-  pub same_name : (refs : List Reference) (ns : List Name) (o : ObjectId) → is_referred refs p o ≡ true → other ns o ≡ with_name manager objects refs p ns o
+  pub same_name : (refs : List Reference) (ns : List Name) (o : Identity) → is_referred refs p o ≡ true → other ns o ≡ with_name manager objects refs p ns o
   same_name refs ns o h = rw h (by_cases (owned_in objects p o) (is_some (number_in ns p o)) _ _)
 
-  pub same_names : (refs : List Reference) (os : List ObjectId) (ns : List Name) → AreReferred refs p os → fold (with_other_name manager objects p) ns os ≡ fold (with_name manager objects refs p) ns os
+  pub same_names : (refs : List Reference) (os : List Identity) (ns : List Name) → AreReferred refs p os → fold (with_other_name manager objects p) ns os ≡ fold (with_name manager objects refs p) ns os
   same_names refs [] ns h = refl
   same_names refs (o ∷ os) ns h = ap (λ ms. fold (with_other_name manager objects p) ms os) (same_name refs ns o h.0) ∙ same_names refs os (with_name manager objects refs p ns o) h.1
 
@@ -111,11 +111,11 @@ module _ (manager : Option ObjectId) (objects : List Object) (p : ℕ) where
         let one : has_number_past_limit (filter q (n ∷ [])) ≡ true = rw (e, lt-ltb 4294967294 n.number h) refl in
         rw (filter-append q ms (n ∷ []), list_any-append (λ m. nat_lt 4294967294 m.number) (filter q ms) (filter q (n ∷ []))) (or_right _ _ one)
 
-  named : (refs : List Reference) (o : ObjectId) → owned_in objects p o ≡ false → is_referred refs p o ≡ true → is_named_in objects refs p o ≡ true
+  named : (refs : List Reference) (o : Identity) → owned_in objects p o ≡ false → is_referred refs p o ≡ true → is_named_in objects refs p o ≡ true
   named refs o e h = rw (e, h) refl
 
   -- the name that would be needed stays, since a reference carries it
-  pub past_one : (refs : List Reference) (ms : List Name) (o : ObjectId) → owned_in objects p o ≡ false → is_referred refs p o ≡ true → IsFull (is_managers manager o) p ms o
+  pub past_one : (refs : List Reference) (ms : List Name) (o : Identity) → owned_in objects p o ≡ false → is_referred refs p o ≡ true → IsFull (is_managers manager o) p ms o
       → IsPastLimit objects refs (other ms o)
   past_one refs ms o e h f =
       let q = λ (m : Name). is_named_in objects refs m.process m.object in
@@ -137,7 +137,7 @@ module _ (manager : Option ObjectId) (objects : List Object) (p : ℕ) where
       (past_at q xs ns i d h (past_one refs _ _ e (referred_at refs xs i d h r) f))
 
 -- those that are made count alike
-pub owned_alike : (objects made kept : List Object) (p : ℕ) (o : ObjectId) → owned_in kept p o ≡ owned_in made p o → owned_in (objects ++ kept) p o ≡ owned_in (objects ++ made) p o
+pub owned_alike : (objects made kept : List Object) (p : ℕ) (o : Identity) → owned_in kept p o ≡ owned_in made p o → owned_in (objects ++ kept) p o ≡ owned_in (objects ++ made) p o
 owned_alike objects made kept p o e =
     let owns = λ (x : Object). same x.id o && (x.owner == p) in
     list_any-append owns objects kept ∙ ap (λ b. owned_in objects p o || b) e ∙ sym (list_any-append owns objects made)

@@ -4,7 +4,7 @@ use Rattle.std.specs.List.{flat_map}
 use Rattle.std.proofs.lemmas.Bool.{and_parts, or_left, or_right, or_cases}
 use Rattle.std.proofs.lemmas.List.Folds.{list_any-append}
 use Rattle.bd_uapi.specs.declared.command.Return.TheVariants as br
-use Rattle.bd_space.specs.declared.step.ObjectId.{ObjectId}
+use Rattle.bd_space.specs.declared.step.Identity.{Identity}
 use Rattle.bd_space.specs.declared.space.Object.{Object}
 use Rattle.bd_space.specs.declared.space.Reference.{Reference}
 use Rattle.bd_space.specs.declared.space.Work.{Work}
@@ -37,7 +37,7 @@ owed_is false false c d ptr cookie = rest_none c d ptr cookie
 -- ---- references whose objects these references hold
 
 module _ (refs : List Reference) where
-  strong_held : (rs : List Reference) (o : ObjectId) → strong_in rs o ≡ true → held_in rs o ≡ true
+  strong_held : (rs : List Reference) (o : Identity) → strong_in rs o ≡ true → held_in rs o ≡ true
   strong_held [] o h = absurd (cc)
   strong_held (r ∷ rs) o h = elim (or_cases (r.strong && same r.object o) (strong_in rs o) h) [
     | inl e ↦ or_left _ _ (and_parts r.strong (same r.object o) e).1
@@ -56,14 +56,14 @@ module _ (refs : List Reference) where
   backed_append [] more h k = k
   backed_append (r ∷ rs) more h k = (h.0, backed_append rs more h.1 k)
 
-  backed_held : (rs : List Reference) (o : ObjectId) → AreBacked rs → held_in rs o ≡ true → held_in refs o ≡ true
+  backed_held : (rs : List Reference) (o : Identity) → AreBacked rs → held_in rs o ≡ true → held_in refs o ≡ true
   backed_held [] o b h = absurd (cc)
   backed_held (r ∷ rs) o b h = elim (or_cases (same r.object o) (held_in rs o) h) [
     | inl e ↦ subst (λ i. held_in refs i ≡ true) (same_eq r.object o e) b.0.held
     | inr e ↦ backed_held rs o b.1 e
   ]
 
-  backed_strong : (rs : List Reference) (o : ObjectId) → AreBacked rs → strong_in rs o ≡ true → strong_in refs o ≡ true
+  backed_strong : (rs : List Reference) (o : Identity) → AreBacked rs → strong_in rs o ≡ true → strong_in refs o ≡ true
   backed_strong [] o b h = absurd (cc)
   backed_strong (r ∷ rs) o b h = elim (or_cases (r.strong && same r.object o) (strong_in rs o) h) [
     | inl e ↦ (let k = and_parts r.strong (same r.object o) e in subst (λ i. strong_in refs i ≡ true) (same_eq r.object o k.1) (b.0.strong k.0))
@@ -81,14 +81,14 @@ module _ (refs : List Reference) where
     list_any-append (λ r. r.strong && same r.object o) refs rs ∙ absorbed _ _ (backed_strong rs o b),
   )
 
-  backed_owed : (place k : ℕ) (o : ObjectId) (weak strong : Bool) → (weak ≡ true → held_in refs o ≡ true) → (strong ≡ true → strong_in refs o ≡ true)
+  backed_owed : (place k : ℕ) (o : Identity) (weak strong : Bool) → (weak ≡ true → held_in refs o ≡ true) → (strong ≡ true → strong_in refs o ≡ true)
       → AreBacked (handshakes_for place k o (owed weak strong))
   backed_owed place k o true true h g = (record { held = h refl; strong = λ e. absurd (cc) }, (record { held = h refl; strong = g }, tt))
   backed_owed place k o true false h g = (record { held = h refl; strong = λ e. absurd (cc) }, tt)
   backed_owed place k o false true h g = (record { held = strong_held refs o (g refl); strong = g }, tt)
   backed_owed place k o false false h g = tt
 
-  found_same : (objects : List Object) (o : ObjectId) (x : Object) → object_in objects o ≡ Some x → same x.id o ≡ true
+  found_same : (objects : List Object) (o : Identity) (x : Object) → object_in objects o ≡ Some x → same x.id o ≡ true
   found_same [] o x h = absurd (cc)
   found_same (y ∷ ys) o x h = by (same y.id o) refl h (λ k. found_same ys o x k)
     where
@@ -96,7 +96,7 @@ module _ (refs : List Reference) where
       by true e h rest = let is : y ≡ x = cc in subst (λ z. same z.id o ≡ true) is e
       by false e h rest = rest h
 
-  backed_object : (place k : ℕ) (objects : List Object) (o : ObjectId) (ox : Option Object) → object_in objects o ≡ ox
+  backed_object : (place k : ℕ) (objects : List Object) (o : Identity) (ox : Option Object) → object_in objects o ≡ ox
       → AreBacked (handshakes_for place k o (flat_map shakes (returns_of_object refs ox)))
   backed_object place k objects o None e = tt
   backed_object place k objects o (Some x) e =
@@ -131,11 +131,11 @@ alike_returns these others h None = refl
 alike_returns these others h (Some x) = rw ((h x.id).0, (h x.id).1) refl
 
 -- those of a notice's object
-length_for : (place k : ℕ) (o : ObjectId) (bs : List Bool) → length (handshakes_for place k o bs) ≡ length bs
+length_for : (place k : ℕ) (o : Identity) (bs : List Bool) → length (handshakes_for place k o bs) ≡ length bs
 length_for place k o [] = refl
 length_for place k o (b ∷ bs) = ap suc (length_for place (k + 1) o bs)
 
-pub handshakes_notice : (s : Space) (l : List Reference) (place k : ℕ) (o : ObjectId) (kind : WorkKind) (bs : List Bool) → kind ≡ work.Notice o → s.steps ≡ place → HoldsAlike s.references l
+pub handshakes_notice : (s : Space) (l : List Reference) (place k : ℕ) (o : Identity) (kind : WorkKind) (bs : List Bool) → kind ≡ work.Notice o → s.steps ≡ place → HoldsAlike s.references l
     → flat_map shakes (returns_of_object l (object_in s.objects o)) ≡ bs → (handshakes_for place k o bs ≡ handshakes_of s k kind) × (length bs ≡ length (handshakes_of s k kind))
 unfolding returns_of
 handshakes_notice s l place k o kind bs e at h owes =

@@ -4,7 +4,7 @@ use Rattle.std.specs.Prelude.{count_by}
 use Rattle.std.specs.List.{list_any}
 use Rattle.std.proofs.lemmas.Bool.{and_parts, and_from, eqb-true, eq-eqb}
 use Rattle.bd_keys.proofs.Found.{found_passes}
-use Rattle.bd_space.specs.declared.step.ObjectId.{ObjectId}
+use Rattle.bd_space.specs.declared.step.Identity.{Identity}
 use Rattle.bd_space.specs.declared.space.Process.{Process}
 use Rattle.bd_space.specs.declared.space.Object.{Object}
 use Rattle.bd_space.specs.declared.space.Reference.{Reference}
@@ -48,7 +48,7 @@ implied_any q r (x ∷ xs) i h = by (q x) refl h (implied_any q r xs i.1)
 
 -- ---- the only one
 
-module _ (p : ℕ) (o : ObjectId) where
+module _ (p : ℕ) (o : Identity) where
   abbrev at : DeathNotification → Bool
   at y = at_name p o y.process y.object
 
@@ -149,7 +149,7 @@ module _ (p : ℕ) (o : ObjectId) where
 
 -- ---- which it is
 
-module _ (s : Space) (p : ℕ) (o : ObjectId) where
+module _ (s : Space) (p : ℕ) (o : Identity) where
   pub none_named : is_name_of s.names p o ≡ true → None ≡ only_lost s p o
   none_named named = rw named refl
 

@@ -1,7 +1,7 @@
 -- What a process has as owner of its objects goes object by object.
 use Rattle.std.proofs.Common.{◌≡◌, ℕ, Bool, true, false, not, ◌&&◌, ◌||◌, cond, List, [], ◌∷◌, filter, refl, ap, sym, ◌∙◌}
 use Rattle.std.proofs.Math.Bool.{and-false, and-true}
-use Rattle.bd_space.specs.declared.step.ObjectId.{ObjectId}
+use Rattle.bd_space.specs.declared.step.Identity.{Identity}
 use Rattle.bd_space.specs.declared.space.Object.{Object}
 use Rattle.bd_space.specs.declared.space.Reference.{Reference}
 use Rattle.bd_space.specs.Words.{same}
@@ -38,15 +38,15 @@ module _ (p : ℕ) (objects : List Object) where
   abbrev pub is_own : Reference → Bool
   is_own r = owned_in objects p r.object && is_of_owner r.holder
 
-  abbrev pub goes_at : ObjectId → Reference → Bool
+  abbrev pub goes_at : Identity → Reference → Bool
   goes_at o r = is_own r && same r.object o
 
-  abbrev pub goes_among : List ObjectId → Reference → Bool
+  abbrev pub goes_among : List Identity → Reference → Bool
   goes_among os r = is_own r && is_among os r.object
 
   -- ---- one object
 
-  pub at_owned : (o : ObjectId) → owned_in objects p o ≡ true → (l : List Reference)
+  pub at_owned : (o : Identity) → owned_in objects p o ≡ true → (l : List Reference)
       → filter (λ r. not (same r.object o && is_of_owner r.holder)) l ≡ filter (λ r. not (goes_at o r)) l
   at_owned o own = alike _ _ (λ r. ap not (by r (same r.object o) refl))
     where
@@ -54,7 +54,7 @@ module _ (p : ℕ) (objects : List Object) where
       by r true e = ap (λ w. w && is_of_owner r.holder) (sym (ap (owned_in objects p) (same_eq r.object o e) ∙ own)) ∙ sym (and-true (is_own r))
       by r false e = sym (and-false (is_own r))
 
-  pub at_another_s : (o : ObjectId) → owned_in objects p o ≡ false → (l : List Reference) → filter (λ r. not (goes_at o r)) l ≡ l
+  pub at_another_s : (o : Identity) → owned_in objects p o ≡ false → (l : List Reference) → filter (λ r. not (goes_at o r)) l ≡ l
   at_another_s o other = all_stay _ (λ r. ap not (by r (same r.object o) refl))
     where
       by : (r : Reference) (b : Bool) → same r.object o ≡ b → (is_own r && b) ≡ false
@@ -68,14 +68,14 @@ module _ (p : ℕ) (objects : List Object) where
   parts true false a = refl
   parts false s a = refl
 
-  pub next_goes : (o : ObjectId) (os : List ObjectId) (l : List Reference)
+  pub next_goes : (o : Identity) (os : List Identity) (l : List Reference)
       → filter (λ r. not (goes_among os r)) (filter (λ r. not (goes_at o r)) l) ≡ filter (λ r. not (goes_among (o ∷ os) r)) l
   next_goes o os = both_filters _ _ _ (λ r. parts (is_own r) (same r.object o) (is_among os r.object))
 
   pub none_left : (l : List Reference) → filter (λ r. not (goes_among [] r)) l ≡ l
   none_left = all_stay _ (λ r. ap not (and-false (is_own r)))
 
-  pub all_owned : (os : List ObjectId) → ((o : ObjectId) → owned_in objects p o ≡ true → is_among os o ≡ true) → (l : List Reference)
+  pub all_owned : (os : List Identity) → ((o : Identity) → owned_in objects p o ≡ true → is_among os o ≡ true) → (l : List Reference)
       → filter (λ r. not (goes_among os r)) l ≡ filter (λ r. not (is_own r)) l
   all_owned os has = alike _ _ (λ r. ap not (by r (owned_in objects p r.object) refl))
     where

@@ -1,7 +1,7 @@
 -- Owners that are told what is so, one work item after the other.
 use Rattle.std.proofs.Common.{◌≡◌, ℕ, ◌+◌, ◌<◌, Bool, None, List, [], take, length, get_or, refl, ap, sym, ◌∙◌, ◌||◌}
 use Rattle.std.proofs.lemmas.List.Folds.{list_any_more}
-use Rattle.bd_space.specs.declared.step.ObjectId.{ObjectId}
+use Rattle.bd_space.specs.declared.step.Identity.{Identity}
 use Rattle.bd_space.specs.declared.space.Object.{Object}
 use Rattle.bd_space.specs.declared.space.Reference.{Reference}
 use Rattle.bd_space.specs.declared.space.Work.{Work}
@@ -14,7 +14,7 @@ use Rattle.bd_objects.specs.Reading.{HoldsAlike}
 use Rattle.bd_deaths.proofs.Changes.{none, same_tests, twice}
 use Rattle.bd_objects.proofs.Changes.{same_changes}
 
-pub told_one : (refs : List Reference) (o : ObjectId) (weak strong : Bool) (objects : List Object) → weak ≡ held_in refs o → strong ≡ strong_in refs o
+pub told_one : (refs : List Reference) (o : Identity) (weak strong : Bool) (objects : List Object) → weak ≡ held_in refs o → strong ≡ strong_in refs o
     → changed (λ x. same x.id o) (λ x. record x { told_weak = weak; told_strong = strong }) objects ≡ changed (λ x. same x.id o) (told_of refs) objects
 told_one refs o weak strong objects e g =
     same_changes (λ (x : Object). same x.id o) (λ (x : Object). record x { told_weak = weak; told_strong = strong }) (told_of refs)
@@ -24,8 +24,8 @@ pub told_none : (refs : List Reference) (objects : List Object) → objects ≡ 
 told_none refs objects = sym (none (told_of refs) (λ (x : Object). is_told_by [] x.id) objects (λ x. refl))
 
 -- no object is that of an item which is no notice
-pub told_nobody : (refs : List Reference) (objects : List Object) → objects ≡ changed (λ (x : Object). is_some_and {A = ObjectId} None (same x.id)) (told_of refs) objects
-told_nobody refs objects = sym (none (told_of refs) (λ (x : Object). is_some_and {A = ObjectId} None (same x.id)) objects (λ x. refl))
+pub told_nobody : (refs : List Reference) (objects : List Object) → objects ≡ changed (λ (x : Object). is_some_and {A = Identity} None (same x.id)) (told_of refs) objects
+told_nobody refs objects = sym (none (told_of refs) (λ (x : Object). is_some_and {A = Identity} None (same x.id)) objects (λ x. refl))
 
 pub told_more : (refs : List Reference) (objects : List Object) (ws : List Work) (i : ℕ) (d : Work) → i < length ws
     → changed (λ x. is_some_and (notice_of (get_or ws i d).kind) (same x.id)) (told_of refs) (changed (λ x. is_told_by (take i ws) x.id) (told_of refs) objects)

@@ -1,7 +1,7 @@
 -- What an object table stands for: the objects of a space, with the references to them, their names and death
 -- notifications, each in a table of its own.
 use Rattle.std.specs.Prelude.{ℕ, ◌≡◌, List, Option}
-use Rattle.bd_ways.specs.Words.{ObjectId, Object, Reference, Name, DeathNotification, Space}
+use Rattle.bd_ways.specs.Words.{Identity, Object, Reference, Name, DeathNotification, Space}
 use Rattle.bd_ways.specs.Tables.{IsAt}
 use Rattle.bd_processes.specs.declared.table.ProcessTable.{ProcessTable}
 use Rattle.bd_processes.specs.Stands.{ProcessesAre}
@@ -32,9 +32,9 @@ abbrev pub HasProcesses : ProcessTable → Space → Type 0
 HasProcesses processes s = ProcessesAre processes s.processes
 
 -- this is the context manager's object
-abbrev pub HasManager : Option ObjectId → Space → Type 0
+abbrev pub HasManager : Option Identity → Space → Type 0
 HasManager manager s = s.manager ≡ manager
 
 -- both
-abbrev pub IsAtWith : ℕ → Option ObjectId → Space → Type 0
+abbrev pub IsAtWith : ℕ → Option Identity → Space → Type 0
 IsAtWith place manager s = IsAt place s × HasManager manager s

@@ -10,11 +10,11 @@ ghost use Rattle.bd_handles.specs.Stands.{NamesAre};
 use crate::naming::give_asked_name;
 use crate::table::ObjectTable;
 use bd_handles::{NameTable, NumbersFull};
-use bd_space::{Holder, Identity, Object, ObjectId, Reference};
+use bd_space::{Holder, Identity, Object, Origin, Reference};
 use bd_uapi::Note;
 
 /// The object that the process means by the number: 0 is the context manager's while there is one.
-fn asked_in(manager: Option<ObjectId>, names: &NameTable, p: u32, n: u32) -> Option<ObjectId>
+fn asked_in(manager: Option<Identity>, names: &NameTable, p: u64, n: u32) -> Option<Identity>
     ensures { tables.Tells (NamesAre names.now) result
         (λ l. if n == 0 then first_of (manager ∷ named_in_list l p 0 ∷ []) else named_in_list l p n) }
 {
@@ -34,11 +34,11 @@ impl ObjectTable {
     #[tactic(auto, unfolding(bd_space::specs::Asking::ask_check, bd_space::specs::Names::named))]
     pub fn ask_check(
         &self,
-        manager: Option<ObjectId>,
-        p: u32,
+        manager: Option<Identity>,
+        p: u64,
         n: u32,
         strong: bool,
-    ) -> Result<ObjectId, Note>
+    ) -> Result<Identity, Note>
         ensures { TellsWhere (StandsFor self.now) (HasManager manager) result (λ s. asking.ask_check s p n strong) }
     {
         let o = asked_in(manager, &self.names, p, n).ok_or(Note::NoSuchNumber)?;
@@ -57,11 +57,11 @@ impl ObjectTable {
     #[tactic(auto, unfolding(bd_space::specs::Asking::ask, bd_space::specs::Names::assign_numbers, bd_space::specs::Names::names_go, crate::specs::Room::rooms))]
     pub fn ask(
         &mut self,
-        place: u32,
-        manager: Option<ObjectId>,
-        p: u32,
+        place: u64,
+        manager: Option<Identity>,
+        p: u64,
         n: u32,
-        o: ObjectId,
+        o: Identity,
         strong: bool,
     ) -> Result<(), NumbersFull>
         requires references { 1 ≤ reference_room self.old }
@@ -76,7 +76,7 @@ impl ObjectTable {
         self.sure_room = self.sure_room.saturating_sub(1);
         give_asked_name(&mut self.names, manager, &self.nodes, p, n, o)?;
         self.references.push(Reference {
-            id: Identity { place, index: 0 },
+            id: Origin { place, index: 0 },
             object: o,
             strong,
             holder: Holder::Asked(p),
@@ -87,7 +87,7 @@ impl ObjectTable {
     /// The object of which the process drops a reference of this strength. Errors: no such number, or it asked for
     /// none.
     #[tactic(auto, unfolding(bd_space::specs::Asking::drop_check, bd_space::specs::Names::named))]
-    pub fn drop_check(&self, p: u32, n: u32, strong: bool) -> Result<ObjectId, Note>
+    pub fn drop_check(&self, p: u64, n: u32, strong: bool) -> Result<Identity, Note>
         ensures { Tells (StandsFor self.now) result (λ s. asking.drop_check s p n strong) }
     {
         let o = self.names.named(p, n).ok_or(Note::NoSuchNumber)?;
@@ -99,7 +99,7 @@ impl ObjectTable {
 
     /// The least reference of this strength goes that the process asked for.
     #[tactic(auto, unfolding(bd_space::specs::Asking::drop_asked, crate::specs::Room::rooms))]
-    pub fn drop_asked(&mut self, p: u32, o: ObjectId, strong: bool)
+    pub fn drop_asked(&mut self, p: u64, o: Identity, strong: bool)
         ensures stands { Makes (StandsFor self.old) (StandsFor self.new) (λ s. asking.drop_asked s p o strong) }
         ensures uses { UsesNothing self.old self.new }
     {
@@ -109,7 +109,7 @@ impl ObjectTable {
     /// The own object that the process acknowledges, by ptr and cookie. Errors: it has no such object, or that waits
     /// for no acknowledgement of this strength.
     #[tactic(auto, unfolding(bd_space::specs::Asking::done_check))]
-    pub fn done_check(&self, p: u32, ptr: u64, cookie: u64, strong: bool) -> Result<Object, Note>
+    pub fn done_check(&self, p: u64, ptr: u64, cookie: u64, strong: bool) -> Result<Object, Note>
         ensures { Tells (StandsFor self.now) result (λ s. asking.done_check s p ptr cookie strong) }
     {
         let x = self
@@ -124,7 +124,7 @@ impl ObjectTable {
 
     /// The reference goes that stood for the acknowledgement.
     #[tactic(auto, unfolding(bd_space::specs::Asking::acknowledge, crate::specs::Room::rooms))]
-    pub fn acknowledge(&mut self, o: ObjectId, strong: bool)
+    pub fn acknowledge(&mut self, o: Identity, strong: bool)
         ensures stands { Makes (StandsFor self.old) (StandsFor self.new) (λ s. asking.acknowledge s o strong) }
         ensures uses { UsesNothing self.old self.new }
     {

@@ -12,7 +12,7 @@ use crate::naming::give_names;
 use crate::table::ObjectTable;
 use bd_handles::NumbersFull;
 use bd_holds::ReferenceTable;
-use bd_space::{Holder, Identity, Item, Object, ObjectId, Reference};
+use bd_space::{Holder, Identity, Item, Object, Origin, Reference};
 use bd_uapi::{FlatObject, ObjectKind};
 
 /// As its owner sees the object.
@@ -48,11 +48,11 @@ fn as_handle(x: &FlatObject, n: u32) -> FlatObject
 }
 
 /// The reference by which the buffer of this place, in the process's window, holds an item's object.
-fn carried_reference(place: u32, q: u32, index: usize, x: &Item) -> Reference
+fn carried_reference(place: u64, q: u64, index: usize, x: &Item) -> Reference
     ensures { result ∷ [] ≡ delivery.buffer_references place q index (x.now ∷ []) None }
 {
     Reference {
-        id: Identity {
+        id: Origin {
             place,
             index: index as u64,
         },
@@ -63,7 +63,7 @@ fn carried_reference(place: u32, q: u32, index: usize, x: &Item) -> Reference
 }
 
 /// One reference an item, held by the buffer of this place in the process's window.
-fn add_carried(references: &mut ReferenceTable, place: u32, q: u32, items: &[Item])
+fn add_carried(references: &mut ReferenceTable, place: u64, q: u64, items: &[Item])
     requires { length items.now ≤ room_in references.old }
     ensures stands { Makes (ReferencesAre references.old) (ReferencesAre references.new)
         (λ l. l ++ delivery.buffer_references place q 0 items.now None) }
@@ -77,10 +77,10 @@ fn add_carried(references: &mut ReferenceTable, place: u32, q: u32, items: &[Ite
 /// The reference to the object that a transaction goes to.
 fn add_target(
     references: &mut ReferenceTable,
-    place: u32,
-    q: u32,
+    place: u64,
+    q: u64,
     index: usize,
-    target: Option<ObjectId>,
+    target: Option<Identity>,
 )
     requires { 1 ≤ room_in references.old }
     ensures stands { Makes (ReferencesAre references.old) (ReferencesAre references.new)
@@ -89,7 +89,7 @@ fn add_target(
 {
     if let Some(o) = target {
         references.push(Reference {
-            id: Identity {
+            id: Origin {
                 place,
                 index: index as u64,
             },
@@ -102,10 +102,10 @@ fn add_target(
 
 fn add_references(
     references: &mut ReferenceTable,
-    place: u32,
-    q: u32,
+    place: u64,
+    q: u64,
     items: &[Item],
-    target: Option<ObjectId>,
+    target: Option<Identity>,
 )
     requires { length items.now + 1 ≤ room_in references.old }
     ensures stands { Makes (ReferencesAre references.old) (ReferencesAre references.new)
@@ -123,7 +123,7 @@ impl ObjectTable {
     ghost use Rattle.bd_objects.specs.Room.{Uses, delivery_room, object_room, reference_room, name_room};
 
     /// The flat object as the process is to see it: its own by ptr and cookie, anybody else's by its number.
-    pub fn translated(&self, q: u32, x: &Item) -> FlatObject
+    pub fn translated(&self, q: u64, x: &Item) -> FlatObject
         ensures { Tells (StandsFor self.now) result (λ s. translations.translated s.objects s.names q x.now) }
     {
         match self.nodes.own_object(q, x.object) {
@@ -139,12 +139,12 @@ impl ObjectTable {
     #[tactic(auto, unfolding(bd_space::specs::Delivery::make_objects, bd_space::specs::Delivery::refer, bd_space::specs::Names::assign_numbers, bd_space::specs::Names::names_go, crate::specs::Room::rooms))]
     pub fn deliver(
         &mut self,
-        place: u32,
-        manager: Option<ObjectId>,
-        receiver: u32,
+        place: u64,
+        manager: Option<Identity>,
+        receiver: u64,
         made: &[Object],
         items: &[Item],
-        target: Option<ObjectId>,
+        target: Option<Identity>,
     ) -> Result<(), NumbersFull>
         requires objects { length made.now ≤ object_room self.old }
         requires references { length items.now + 1 ≤ reference_room self.old }

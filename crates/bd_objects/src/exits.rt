@@ -11,11 +11,11 @@ ghost use Rattle.bd_holds.specs.{Stands.{ReferencesAre}, Room.{reference_room}};
 use crate::table::ObjectTable;
 use bd_holds::ReferenceTable;
 use bd_nodes::NodeTable;
-use bd_space::ObjectId;
+use bd_space::Identity;
 use std::alloc::AllocError;
 
 // The references go that the process has as owner of this object, if it owns it.
-fn remove_of_owner(references: &mut ReferenceTable, nodes: &NodeTable, p: u32, o: ObjectId)
+fn remove_of_owner(references: &mut ReferenceTable, nodes: &NodeTable, p: u64, o: Identity)
     ensures stands { (objects : List Object) (l : List Reference) → NodesAre nodes.now objects
         → ReferencesAre references.old l → ReferencesAre references.new
         (filter (λ r. not ((owned_in objects p r.object && is_of_owner r.holder) && same r.object o)) l) }
@@ -27,7 +27,7 @@ fn remove_of_owner(references: &mut ReferenceTable, nodes: &NodeTable, p: u32, o
 }
 
 // The references go that the process has as owner of its objects.
-fn remove_of_owned(references: &mut ReferenceTable, nodes: &NodeTable, p: u32)
+fn remove_of_owned(references: &mut ReferenceTable, nodes: &NodeTable, p: u64)
     ensures stands { (objects : List Object) (l : List Reference) → NodesAre nodes.now objects
         → ReferencesAre references.old l → ReferencesAre references.new
         (filter (λ r. not (owned_in objects p r.object && is_of_owner r.holder)) l) }
@@ -46,7 +46,7 @@ impl ObjectTable {
 
     /// The references, names and death notifications go that go with the process.
     #[tactic(auto, unfolding(bd_space::specs::ProcessExits::without_process, crate::specs::Room::rooms))]
-    pub fn without_process(&mut self, p: u32)
+    pub fn without_process(&mut self, p: u64)
         ensures stands { Makes (StandsFor self.old) (StandsFor self.new) (λ s. process_exits.without_process s p) }
         ensures uses { UsesNothing self.old self.new }
     {
@@ -58,7 +58,7 @@ impl ObjectTable {
 
     /// Puts the objects that the process owns, and those of the references that go with it, to what is there, in some
     /// order. Fails for want of memory alone.
-    pub fn touched_by_end(&self, p: u32, touched: &mut Vec<ObjectId>) -> Result<(), AllocError>
+    pub fn touched_by_end(&self, p: u64, touched: &mut Vec<Identity>) -> Result<(), AllocError>
         ensures all { OnOk result ((s : Space) → StandsFor self.now s → HasAll touched.new.items
             ((touched.old.items ++ map (λ x. x.id) (filter (λ x. x.owner == p) s.objects))
             ++ map (λ r. r.object) (filter (process_exits.is_dropped_with s.objects p) s.references))) }

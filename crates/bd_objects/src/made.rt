@@ -38,7 +38,7 @@ fn first_few(objects: &[Object]) -> &[Object]
 }
 
 /// The process's own object with this ptr.
-fn own_in(objects: &[Object], p: u32, ptr: u64) -> Option<Object>
+fn own_in(objects: &[Object], p: u64, ptr: u64) -> Option<Object>
     ensures { result ≡ refer.own_in objects.now p ptr }
 {
     objects
@@ -106,7 +106,7 @@ impl Made {
     }
 
     /// The process's own object with this ptr.
-    pub fn find_own(&self, p: u32, ptr: u64) -> Option<Object>
+    pub fn find_own(&self, p: u64, ptr: u64) -> Option<Object>
         ensures { result ≡ refer.own_in (made_items self.now) p ptr }
     {
         match own_in(first_few(self.as_slice()), p, ptr) {

@@ -8,7 +8,7 @@ ghost use Rattle.bd_space.specs.Space.{Space};
 ghost use Rattle.bd_handles.specs.Numbers.{IsNextNumber};
 
 use crate::table::ObjectTable;
-use bd_space::ObjectId;
+use bd_space::Identity;
 
 impl ObjectTable {
     ghost use Rattle.bd_ways.specs.Tables.{Tells};
@@ -16,7 +16,7 @@ impl ObjectTable {
 
     /// The object that the number names for the process.
     #[tactic(auto, unfolding(bd_space::specs::Names::named))]
-    pub fn named(&self, p: u32, n: u32) -> Option<ObjectId>
+    pub fn named(&self, p: u64, n: u32) -> Option<Identity>
         ensures { Tells (StandsFor self.now) result (λ s. names_of.named s p n) }
     {
         self.names.named(p, n)
@@ -24,21 +24,21 @@ impl ObjectTable {
 
     /// The least number from this one on that names something for the process. Where this one itself names nothing, it takes a look
     /// for each number that is noted for the process, those of names that are gone too.
-    pub fn next_number(&self, p: u32, from: u32) -> Option<u32>
+    pub fn next_number(&self, p: u64, from: u32) -> Option<u32>
         ensures { (s : Space) → StandsFor self.now s → IsNextNumber s.names p from result }
     {
         self.names.next_number(p, from)
     }
 
     /// Whether the process is to have a name for the object: it is another's, and a reference carries the name.
-    pub(crate) fn is_named(&self, p: u32, o: ObjectId) -> bool
+    pub(crate) fn is_named(&self, p: u64, o: Identity) -> bool
         ensures { Tells (StandsFor self.now) result (λ s. names_of.is_named_in s.objects s.references p o) }
     {
         !self.nodes.owns(p, o) && self.references.refers(p, o)
     }
 
     /// The same, where a strong reference carries it.
-    fn is_strongly_named(&self, p: u32, o: ObjectId) -> bool
+    fn is_strongly_named(&self, p: u64, o: Identity) -> bool
         ensures { Tells (StandsFor self.now) result
             (λ s. not (refer.owned_in s.objects p o)
             && list_any (λ r. r.strong && same r.object o && refer.gives_name_to p r.holder) s.references) }
@@ -48,7 +48,7 @@ impl ObjectTable {
 
     /// The object that the number names for the process, where the process refers to it strongly.
     #[tactic(auto, unfolding(bd_space::specs::Names::strongly_named))]
-    pub fn strongly_named(&self, p: u32, n: u32) -> Option<ObjectId>
+    pub fn strongly_named(&self, p: u64, n: u32) -> Option<Identity>
         ensures { Tells (StandsFor self.now) result (λ s. names_of.strongly_named s p n) }
     {
         let o = self.names.named(p, n)?;
@@ -60,7 +60,7 @@ impl ObjectTable {
     }
 
     /// The process's number of the object.
-    pub fn number_of(&self, p: u32, o: ObjectId) -> Option<u32>
+    pub fn number_of(&self, p: u64, o: Identity) -> Option<u32>
         ensures { Tells (StandsFor self.now) result (λ s. names_of.number_in s.names p o) }
     {
         self.names.number_of(p, o)

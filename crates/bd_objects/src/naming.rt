@@ -7,7 +7,7 @@ ghost use Rattle.bd_keys.specs.Tables.{Makes, Tells};
 ghost use Rattle.bd_space.specs.References as refer;
 ghost use Rattle.bd_space.specs.Names as names_of;
 ghost use Rattle.bd_space.specs.{Parcels.{object_of_item}, declared.space.Name.{Name}, declared.space.Object.{Object}};
-ghost use Rattle.bd_space.specs.{declared.space.Reference.{Reference}, declared.step.ObjectId.{ObjectId}};
+ghost use Rattle.bd_space.specs.{declared.space.Reference.{Reference}, declared.step.Identity.{Identity}};
 ghost use Rattle.bd_nodes.specs.Stands.{NodesAre};
 ghost use Rattle.bd_handles.specs.Stands as handles;
 ghost use Rattle.bd_handles.specs.{Stands.{NamesAre, name_room, Uses}, Numbers.{IsFull}};
@@ -15,9 +15,9 @@ ghost use Rattle.bd_objects.specs.{Naming.{with_name_unless, with_other_name, Ar
 
 use bd_handles::{NameTable, NumbersFull};
 use bd_nodes::NodeTable;
-use bd_space::{Item, Object, ObjectId};
+use bd_space::{Identity, Item, Object};
 
-fn is_managers(manager: Option<ObjectId>, o: ObjectId) -> bool
+fn is_managers(manager: Option<Identity>, o: Identity) -> bool
     ensures { result ≡ names_of.is_managers manager o }
 {
     match manager {
@@ -29,10 +29,10 @@ fn is_managers(manager: Option<ObjectId>, o: ObjectId) -> bool
 /// Gives the process a number for the object, unless that is its own or has one: 0 is for the context manager's object.
 pub(crate) fn give_name(
     names: &mut NameTable,
-    manager: Option<ObjectId>,
+    manager: Option<Identity>,
     own: bool,
-    p: u32,
-    o: ObjectId,
+    p: u64,
+    o: Identity,
 ) -> Result<(), NumbersFull>
     requires { 1 ≤ name_room names.old }
     ensures ok { OnOk result (handles.Makes names.old names.new (λ l. with_name_unless own manager p l o)) }
@@ -50,11 +50,11 @@ pub(crate) fn give_name(
 /// The same for a process that asked for the object by a number: where that is the object's already, nothing else is looked at.
 pub(crate) fn give_asked_name(
     names: &mut NameTable,
-    manager: Option<ObjectId>,
+    manager: Option<Identity>,
     nodes: &NodeTable,
-    p: u32,
+    p: u64,
     n: u32,
-    o: ObjectId,
+    o: Identity,
 ) -> Result<(), NumbersFull>
     requires { 1 ≤ name_room names.old }
     ensures ok { OnOk result ((objects : List Object) (l : List Name) → NodesAre nodes.now objects
@@ -72,27 +72,27 @@ pub(crate) fn give_asked_name(
     Ok(())
 }
 
-fn has_own(made: &[Object], p: u32) -> bool
+fn has_own(made: &[Object], p: u64) -> bool
     ensures { result ≡ list_any (λ x. x.owner == p) made.now }
 {
     made.iter().any(|x| x.owner == p)
 }
 
-fn owned_in(made: &[Object], p: u32, o: ObjectId) -> bool
+fn owned_in(made: &[Object], p: u64, o: Identity) -> bool
     ensures { result ≡ refer.owned_in made.now p o }
 {
     made.iter().any(|x| x.id == o && x.owner == p)
 }
 
 /// Those that are being made, if any of them is the process's own: of a delivery to another there is none.
-fn made_by<'a>(made: &'a [Object], p: u32) -> &'a [Object]
-    ensures { (o : ObjectId) → refer.owned_in result.now p o ≡ refer.owned_in made.now p o }
+fn made_by<'a>(made: &'a [Object], p: u64) -> &'a [Object]
+    ensures { (o : Identity) → refer.owned_in result.now p o ≡ refer.owned_in made.now p o }
 {
     if has_own(made, p) { made } else { &made[..0] }
 }
 
 /// Whether the process owns the object, one of these or one of those that are being made.
-fn is_own(nodes: &NodeTable, made: &[Object], p: u32, o: ObjectId) -> bool
+fn is_own(nodes: &NodeTable, made: &[Object], p: u64, o: Identity) -> bool
     ensures { Tells (NodesAre nodes.now) result (λ objects. refer.owned_in (objects ++ made.now) p o) }
 {
     nodes.owns(p, o) || owned_in(made, p, o)
@@ -102,10 +102,10 @@ fn is_own(nodes: &NodeTable, made: &[Object], p: u32, o: ObjectId) -> bool
 /// number past the limit would be needed.
 pub(crate) fn give_names(
     names: &mut NameTable,
-    manager: Option<ObjectId>,
+    manager: Option<Identity>,
     nodes: &NodeTable,
     made: &[Object],
-    p: u32,
+    p: u64,
     items: &[Item],
 ) -> Result<(), NumbersFull>
     requires { length items.now ≤ name_room names.old }

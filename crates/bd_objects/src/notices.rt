@@ -25,7 +25,7 @@ pub(crate) fn stays(hold: Hold, lives: bool, x: &Object) -> bool
 }
 
 /// The owner, if it lives and is to be told.
-pub(crate) fn owner_to_tell(hold: Hold, lives: bool, x: &Object) -> Option<u32>
+pub(crate) fn owner_to_tell(hold: Hold, lives: bool, x: &Object) -> Option<u64>
     ensures { result ≡ when (lives && differs hold.is_held hold.is_strong x.now) x.now.owner }
 {
     if lives && differs(hold, x) {

@@ -5,12 +5,12 @@ ghost use Rattle.bd_space.specs.References as refer;
 
 use crate::table::ObjectTable;
 use bd_processes::ProcessTable;
-use bd_space::{Holder, Identity, Object, ObjectId, Reference};
+use bd_space::{Holder, Identity, Object, Origin, Reference};
 
-fn managed(place: u32) -> ObjectId
+fn managed(place: u64) -> Identity
     ensures { result ≡ record { place = place; index = 0 } }
 {
-    ObjectId { place, index: 0 }
+    Identity { place, index: 0 }
 }
 
 impl ObjectTable {
@@ -21,21 +21,21 @@ impl ObjectTable {
     ghost use Rattle.bd_objects.specs.Room.{Uses, nothing, object_room, reference_room};
 
     /// The object with this identity.
-    pub fn object(&self, o: ObjectId) -> Option<Object>
+    pub fn object(&self, o: Identity) -> Option<Object>
         ensures { Tells (StandsFor self.now) result (λ s. refer.object_in s.objects o) }
     {
         self.nodes.object(o)
     }
 
     /// Whether the process owns the object.
-    pub fn owns(&self, p: u32, o: ObjectId) -> bool
+    pub fn owns(&self, p: u64, o: Identity) -> bool
         ensures { Tells (StandsFor self.now) result (λ s. refer.owned_in s.objects p o) }
     {
         self.nodes.owns(p, o)
     }
 
     /// Whether the object's owner lives. Takes the live processes.
-    pub fn owner_lives(&self, processes: &ProcessTable, o: ObjectId) -> bool
+    pub fn owner_lives(&self, processes: &ProcessTable, o: Identity) -> bool
         ensures { TellsWhere (StandsFor self.now) (HasProcesses processes.now) result
             (λ s. is_some_and (refer.object_in s.objects o) (λ x. lives_in s.processes x.owner)) }
     {
@@ -46,7 +46,7 @@ impl ObjectTable {
     }
 
     /// The process's own object with this ptr.
-    pub fn own_with_ptr(&self, p: u32, ptr: u64) -> Option<Object>
+    pub fn own_with_ptr(&self, p: u64, ptr: u64) -> Option<Object>
         ensures { Tells (StandsFor self.now) result (λ s. refer.own_in s.objects p ptr) }
     {
         self.nodes.own_with_ptr(p, ptr)
@@ -56,7 +56,7 @@ impl ObjectTable {
     /// told. Who the manager is, is the caller's to keep. Of a space where the process has no object with ptr 0, and
     /// none was made here.
     #[tactic(auto, unfolding(bd_space::specs::Steps::with_manager, crate::specs::Room::rooms))]
-    pub fn with_manager(&mut self, place: u32, p: u32)
+    pub fn with_manager(&mut self, place: u64, p: u64)
         requires objects { 1 ≤ object_room self.old }
         requires references { 1 ≤ reference_room self.old }
         ensures stands { MakesWhere (StandsFor self.old) (IsNewManager place p) (StandsFor self.new)
@@ -74,7 +74,7 @@ impl ObjectTable {
             told_strong: true,
         });
         self.references.push(Reference {
-            id: Identity { place, index: 0 },
+            id: Origin { place, index: 0 },
             object: id,
             strong: true,
             holder: Holder::Manager,
@@ -82,7 +82,7 @@ impl ObjectTable {
     }
 
     /// The context manager's object that is left when the process has ended.
-    pub fn manager_without(&self, manager: Option<ObjectId>, p: u32) -> Option<ObjectId>
+    pub fn manager_without(&self, manager: Option<Identity>, p: u64) -> Option<Identity>
         ensures { Tells (StandsFor self.now) result
             (λ s. option_and_then (λ o. if refer.owned_in s.objects p o then None else Some o) manager) }
     {

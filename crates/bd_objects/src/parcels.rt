@@ -11,7 +11,7 @@ ghost use Rattle.bd_objects.specs.Made.{made_items};
 use crate::made::Made;
 use crate::table::ObjectTable;
 use bd_nodes::NodeTable;
-use bd_space::{Object, ObjectId, Resolved};
+use bd_space::{Identity, Object, Resolved};
 use bd_uapi::{Cause, FlatObject, ObjectKind};
 
 /// The handle is the low half.
@@ -22,7 +22,7 @@ fn handle_in(binder: u64) -> u32
 }
 
 /// The process's own object with this ptr, one of these or one of those that are being made.
-fn own_or_made(nodes: &NodeTable, made: &Made, p: u32, ptr: u64) -> Option<Object>
+fn own_or_made(nodes: &NodeTable, made: &Made, p: u64, ptr: u64) -> Option<Object>
     ensures { Tells (NodesAre nodes.now) result (λ objects. refer.own_in (objects ++ made_items made.now) p ptr) }
 {
     match nodes.own_with_ptr(p, ptr) {
@@ -31,12 +31,12 @@ fn own_or_made(nodes: &NodeTable, made: &Made, p: u32, ptr: u64) -> Option<Objec
     }
 }
 
-fn new_object(place: u32, p: u32, made: &[Object], x: &FlatObject) -> Object
+fn new_object(place: u64, p: u64, made: &[Object], x: &FlatObject) -> Object
     requires { length made.now < 2 ^ 32 }
     ensures { result ≡ parcels.new_object place p made.now x.now }
 {
     Object {
-        id: ObjectId {
+        id: Identity {
             place,
             index: made.len() as u32,
         },
@@ -48,7 +48,7 @@ fn new_object(place: u32, p: u32, made: &[Object], x: &FlatObject) -> Object
     }
 }
 
-fn resolve_handle(o: Option<ObjectId>) -> Result<Resolved, Cause>
+fn resolve_handle(o: Option<Identity>) -> Result<Resolved, Cause>
     ensures { result ≡ parcels.resolve_handle o }
 {
     match o {
@@ -67,8 +67,8 @@ impl ObjectTable {
     #[tactic(auto, unfolding(bd_space::specs::Parcels::resolve, bd_space::specs::Names::named))]
     pub fn resolve(
         &self,
-        place: u32,
-        p: u32,
+        place: u64,
+        p: u64,
         made: &Made,
         x: &FlatObject,
     ) -> Result<Resolved, Cause>

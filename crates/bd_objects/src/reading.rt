@@ -18,7 +18,7 @@ ghost use Rattle.bd_objects.specs.Reading.{owed, HoldsAlike};
 use crate::table::ObjectTable;
 use bd_holds::{Hold, ReferenceTable};
 use bd_nodes::NodeTable;
-use bd_space::{Holder, Identity, Object, ObjectId, Reference, Work, WorkKind};
+use bd_space::{Holder, Identity, Object, Origin, Reference, Work, WorkKind};
 use bd_uapi::Return;
 
 /// The return, where it is to be read.
@@ -49,7 +49,7 @@ fn notice_returns_of(references: &ReferenceTable, x: &Object) -> [Option<Return>
 }
 
 /// The object that the notice is on.
-fn notice_of(kind: WorkKind) -> Option<ObjectId>
+fn notice_of(kind: WorkKind) -> Option<Identity>
     ensures { result ≡ notice_of kind }
 {
     match kind {
@@ -86,7 +86,7 @@ fn tell_owners(nodes: &mut NodeTable, references: &ReferenceTable, taken: &[Work
 }
 
 /// Whether the owner is to acknowledge the object weakly, and strongly, once it has read what it is to be told.
-fn acknowledgements(nodes: &NodeTable, references: &ReferenceTable, o: ObjectId) -> (bool, bool)
+fn acknowledgements(nodes: &NodeTable, references: &ReferenceTable, o: Identity) -> (bool, bool)
     ensures { (objects : List Object) (l : List Reference) → NodesAre nodes.now objects
         → ReferencesAre references.now l
         → flat_map reading.shakes (returns.returns_of_object l (refer.object_in objects o)) ≡ owed result.0 result.1 }
@@ -106,9 +106,9 @@ fn acknowledgements(nodes: &NodeTable, references: &ReferenceTable, o: ObjectId)
 /// The references that stand for these acknowledgements, of this index and the next. Gives the index after them.
 fn add_acknowledgements(
     references: &mut ReferenceTable,
-    place: u32,
+    place: u64,
     index: u64,
-    o: ObjectId,
+    o: Identity,
     weak: bool,
     strong: bool,
 ) -> u64
@@ -131,11 +131,11 @@ fn add_acknowledgements(
     next
 }
 
-fn handshake(place: u32, index: u64, o: ObjectId, strong: bool) -> Reference
+fn handshake(place: u64, index: u64, o: Identity, strong: bool) -> Reference
     ensures { result ≡ refer.reference_of place index o strong Handshake }
 {
     Reference {
-        id: Identity { place, index },
+        id: Origin { place, index },
         object: o,
         strong,
         holder: Holder::Handshake,
@@ -148,7 +148,7 @@ fn handshake(place: u32, index: u64, o: ObjectId, strong: bool) -> Reference
 fn add_handshakes_of(
     references: &mut ReferenceTable,
     nodes: &NodeTable,
-    place: u32,
+    place: u64,
     index: u64,
     kind: WorkKind,
 ) -> u64
@@ -169,7 +169,7 @@ fn add_handshakes_of(
 }
 
 /// The references that stand for what is left to be acknowledged.
-fn add_handshakes(references: &mut ReferenceTable, nodes: &NodeTable, place: u32, taken: &[Work])
+fn add_handshakes(references: &mut ReferenceTable, nodes: &NodeTable, place: u64, taken: &[Work])
     requires { 2 * length taken.now ≤ room_in references.old }
     ensures stands { (s : Space) → NodesAre nodes.now s.objects → IsAt place s
         → ReferencesAre references.old s.references
@@ -188,7 +188,7 @@ impl ObjectTable {
 
     /// What the owner of the object is told: `BR_INCREFS`, `BR_ACQUIRE`, `BR_RELEASE` and `BR_DECREFS`, each if it is
     /// to be told that.
-    pub fn notice_returns(&self, o: ObjectId) -> [Option<Return>; 4]
+    pub fn notice_returns(&self, o: Identity) -> [Option<Return>; 4]
         ensures { Tells (StandsFor self.now) (flat_map option_to_list result)
             (λ s. returns.returns_of_object s.references (refer.object_in s.objects o)) }
     {
@@ -201,7 +201,7 @@ impl ObjectTable {
     /// The references, told values and death notifications after these work items were read by the step of this place:
     /// a reference stands for each acknowledgement that is owed, owners know what is so, and the deaths are told.
     #[tactic(auto, unfolding(bd_space::specs::ReadItems::read_by, crate::specs::Room::rooms))]
-    pub fn read_by(&mut self, place: u32, taken: &[Work])
+    pub fn read_by(&mut self, place: u64, taken: &[Work])
         requires { 2 * length taken.now ≤ reference_room self.old }
         ensures stands { (seat : ℕ) → MakesWhere (StandsFor self.old) (IsAt place) (StandsFor self.new)
             (λ s. reading.read_by s seat taken.now) }

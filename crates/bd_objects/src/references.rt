@@ -5,7 +5,7 @@ ghost use Rattle.bd_space.specs.References as refer;
 
 use crate::table::ObjectTable;
 use bd_holds::CarriedObjects;
-use bd_space::ObjectId;
+use bd_space::Identity;
 use std::alloc::AllocError;
 
 impl ObjectTable {
@@ -15,7 +15,7 @@ impl ObjectTable {
     ghost use Rattle.bd_objects.specs.{Stands.{StandsFor}, Room.{UsesNothing}};
 
     /// The objects that the buffer made there carries, one for each object of its parcel, in their order.
-    pub fn carried(&self, made: u32) -> CarriedObjects<'_>
+    pub fn carried(&self, made: u64) -> CarriedObjects<'_>
         ensures { Tells (StandsFor self.now) result (λ s. carried_in s.references made) }
     {
         self.references.carried(made)
@@ -23,7 +23,7 @@ impl ObjectTable {
 
     /// The references go that a buffer held.
     #[tactic(auto, unfolding(bd_space::specs::Freeing::without_buffer, crate::specs::Room::rooms))]
-    pub fn without_buffer(&mut self, made: u32)
+    pub fn without_buffer(&mut self, made: u64)
         ensures stands { Makes (StandsFor self.old) (StandsFor self.new) (λ s. freeing.without_buffer s made) }
         ensures uses { UsesNothing self.old self.new }
     {
@@ -31,7 +31,7 @@ impl ObjectTable {
     }
 
     /// The objects to which a buffer refers, put after what is there. Fails for want of memory alone.
-    pub fn referred(&self, made: u32, touched: &mut Vec<ObjectId>) -> Result<(), AllocError>
+    pub fn referred(&self, made: u64, touched: &mut Vec<Identity>) -> Result<(), AllocError>
         ensures { OnOk result (Tells (StandsFor self.now) touched.new.items
             (λ s. touched.old.items
             ++ map (λ r. r.object) (filter (λ r. refer.is_of_buffer made r.holder) s.references))) }

@@ -17,8 +17,8 @@ use std::alloc::{AllocError, Global};
 /// The turns of a line where none are given.
 const TURNS: u32 = 100_000_000;
 
-// The line of the kit that everything here is proved with is that of `rt version`.
-const VERSION: &str = "1.0, proved with rattle-kit-13f logic dac8208d650f15bf";
+// By which kit a program was proved, and whether it was, only a note beside its file can tell.
+const VERSION: &str = "2.0.0";
 
 const ABOUT: &str = "Plays scripts against a driver of Binder transactions, and judges journals";
 

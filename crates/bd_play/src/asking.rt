@@ -27,7 +27,7 @@ pub fn ask<H: AllocGlobal + Files + Input + Clock + Eprint, W: Write, E: Write>(
     let Inquiry { source, question } = inquiry;
     match judged_in(rt, source) {
         Ok(Judged::History(record)) => status_of(answer(rt.alloc(), &record, question, out), err),
-        Ok(Judged::Unlawful { at, .. }) => print_unlawful(at, out),
+        Ok(Judged::Unlawful { at, .. }) => print_unlawful(u64::from(at), out),
         Err(fault) => tell(fault, err),
     }
 }

@@ -7,7 +7,6 @@ ghost use Rattle.bd_play.specs.Inquiries.{AsksFound, AskedBy, IsNumberAt, IsSour
 use crate::commands::Making;
 use crate::sources::Source;
 use bd_player::Question;
-use bd_space::ObjectId;
 use clap::{Arg, ArgAction, ArgMatches, value_parser};
 use std::alloc::Global;
 
@@ -127,10 +126,10 @@ pub fn with_inquiries<'a>(alloc: Global, command: Making<'a>) -> Making<'a> {
         .command(turns_command(alloc))
 }
 
-// The object that a text names.
-fn object_in(text: &str) -> Option<ObjectId> {
+// The one-way calls on the object that a text names.
+fn turns_on(text: &str) -> Option<Question> {
     let (place, index) = text.split_once('.')?;
-    Some(ObjectId {
+    Some(Question::Turns {
         place: place.parse::<u32>().ok()?,
         index: index.parse::<u32>().ok()?,
     })
@@ -160,9 +159,7 @@ fn question_in(name: &str, matches: &ArgMatches<'_>) -> Option<Question> {
         "call-of-reply" => Some(Question::CallOfReply {
             place: number_in(matches, "place")?,
         }),
-        "turns" => Some(Question::Turns {
-            object: object_in(matches.get_str("object")?)?,
-        }),
+        "turns" => turns_on(matches.get_str("object")?),
         _ => None,
     }
 }

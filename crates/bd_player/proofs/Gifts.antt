@@ -5,7 +5,7 @@ use Rattle.std.specs.List.{slice_get}
 use Rattle.std.proofs.lemmas.List.{length-append, length-take-le, map-append, append_assoc, append-nil}
 use Rattle.std.proofs.lemmas.Option.{slice_get-get_or}
 use Rattle.bd_space.specs.declared.step.Entry.{Entry}
-use Rattle.bd_space.specs.declared.step.ObjectId.{ObjectId}
+use Rattle.bd_space.specs.declared.step.Identity.{Identity}
 use Rattle.bd_space.specs.Histories.{History, space_after}
 use Rattle.bd_audit.specs.Gifts.{Stands, IsChainFrom, IsGiftChain, IsChainOf}
 use Rattle.bd_audit.specs.Replays.{beginning, with_entry}
@@ -107,12 +107,12 @@ all_given i es places gifts done s = by s.rest s.all s.rises
 inside : (es : List Entry) (i : ℕ) (before : List Entry) (e : Entry) → Stands es i before e → i < length es
 inside es i before e s = let all = ap length s.all in let parts = length-append before (e ∷ s.rest) in let at = s.at in omega (arith, all, parts, at)
 
-rise_from : (es : List Entry) (o : ObjectId) (p k : ℕ) (places : List ℕ) (q : ℕ) → IsChainFrom es o p k places q → Rise k es places
+rise_from : (es : List Entry) (o : Identity) (p k : ℕ) (places : List ℕ) (q : ℕ) → IsChainFrom es o p k places q → Rise k es places
 rise_from es o p k [] q chain = tt
 rise_from es o p k (i ∷ places) q chain =
     (chain.1, inside es i chain.2.0 chain.2.1 chain.2.2, rise_from es o chain.0 (i + 1) places q chain.3)
 
-rise : (es : List Entry) (o : ObjectId) (places : List ℕ) (q : ℕ) → IsGiftChain es o places q → Rise 0 es places
+rise : (es : List Entry) (o : Identity) (places : List ℕ) (q : ℕ) → IsGiftChain es o places q → Rise 0 es places
 rise es o [] q chain = absurd chain
 rise es o (i ∷ places) q chain =
     let there : i < length es = elim chain.1 [

@@ -1,7 +1,7 @@
 -- What is said of a journal that was cut off, and when that is so.
 use Rattle.std.specs.Prelude.{◌≡◌, ℕ, List, length, Option, IfSome}
 use Rattle.bd_space.specs.declared.record.Record.{Record}
-use Rattle.bd_space.specs.Histories.{IsHistory, history_in}
+use Rattle.bd_space.specs.Histories.{IsLawful, history_in}
 use Rattle.bd_journal.specs.Cut.{HasHeading, IsCut}
 use Rattle.bd_player.specs.Verdicts.{Holds}
 use Rattle.bd_player.specs.declared.{cuts.Whole.{Whole}, verdicts.Verdict.{Verdict}}
@@ -12,9 +12,9 @@ use Rattle.bd_player.specs.declared.faults.ProgramFault.TheVariants.{Journal, Me
 abbrev pub IsWhole : List ℕ → Whole → Type 0
 IsWhole bytes w = (left : List ℕ) × IsCut bytes w.record left × (w.left ≡ length left)
 
--- with the status 0 the entries that are whole in the bytes, where they are known, are a history
+-- with the status 0 the entries that are whole in the bytes, where they are known, are lawful
 abbrev pub IsLawfulCutAt0 : Option (List ℕ) → ℕ → Type 0
-IsLawfulCutAt0 known status = status ≡ 0 → IfSome known (λ bytes. (r : Record) × (left : List ℕ) × IsCut bytes r left × IsHistory (history_in r))
+IsLawfulCutAt0 known status = status ≡ 0 → IfSome known (λ bytes. (r : Record) × (left : List ℕ) × IsCut bytes r left × IsLawful (history_in r))
 
 -- the verdict holds of the entries that are whole in the bytes, and so many bytes are left
 abbrev pub IsCutVerdict : List ℕ → Verdict → ℕ → Type 0

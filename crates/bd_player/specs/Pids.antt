@@ -3,7 +3,7 @@ use Rattle.std.specs.Prelude.{ℕ, ◌+◌, List, Option, Some, None, option_and
 use Rattle.std.specs.Option.{option_or}
 use Rattle.std.specs.List.{slice_get}
 use Rattle.bd_space.specs.declared.step.Entry.{Entry}
-use Rattle.bd_space.specs.declared.step.ObjectId.{ObjectId}
+use Rattle.bd_space.specs.declared.step.Identity.{Identity}
 use Rattle.bd_space.specs.declared.step.Step.{Step}
 use Rattle.bd_space.specs.declared.step.Step.TheVariants.{Open}
 use Rattle.bd_space.specs.Returns.{buffer_in}
@@ -21,7 +21,7 @@ abbrev pub pid_at : List Entry → ℕ → Option ℕ
 pid_at es place = option_and_then (λ e. pid_opened e.step) (slice_get es place)
 
 -- the pid of the process that owns an object
-abbrev pub owner_pid : Space → List Entry → ObjectId → Option ℕ
+abbrev pub owner_pid : Space → List Entry → Identity → Option ℕ
 owner_pid s es o = option_and_then (pid_at es) (owner_of s o)
 
 -- the pid of the process of a seat's thread

@@ -2,12 +2,12 @@
 use Rattle.std.specs.Prelude.{◌≡◌, ℕ, List, length, Option, IfSome}
 use Rattle.bd_engine.specs.Refusals.{IsLiveSeats}
 use Rattle.bd_space.specs.declared.record.Record.{Record}
-use Rattle.bd_space.specs.Histories.{IsHistory, history_in}
+use Rattle.bd_space.specs.Histories.{IsHistory, IsLawful, history_in}
 use Rattle.bd_journal.specs.{Cut.{HasHeading}, Spelling.{Tells}}
 use Rattle.bd_journal.specs.declared.fault.ReadError.{ReadError}
 use Rattle.bd_journal.specs.declared.fault.ReadError.TheVariants.{Malformed}
 use Rattle.bd_journal.specs.declared.fault.ReadError.TheVariants as read
-use Rattle.bd_audit.specs.Replays.{StopsAt}
+use Rattle.bd_audit.specs.Replays.{IsLawfulUpTo, StopsAt}
 use Rattle.bd_player.specs.declared.faults.ProgramFault.{ProgramFault}
 use Rattle.bd_player.specs.declared.faults.ProgramFault.TheVariants.{Journal, Memory}
 use Rattle.bd_player.specs.declared.verdicts.Verdict.{Verdict}
@@ -16,14 +16,16 @@ use Rattle.bd_player.specs.declared.verdicts.Judged.{Judged}
 use Rattle.bd_player.specs.declared.verdicts.Judged.TheVariants as judged
 use Rattle.bd_player.specs.declared.verdicts.Judged.TheVariants.{History}
 
+-- The record is lawful, or stops being so at this place. A journal of version one or two has fewer than 2^32 entries: one whose
+-- entries are lawful is that of a history.
 abbrev pub Holds : Record → Verdict → Type 0
-Holds r (Lawful entries) = IsHistory (history_in r) × (entries ≡ length r.entries)
-Holds r (Unlawful at) = (IsHistory (history_in r) → ⊥) × StopsAt (history_in r) at
+Holds r (Lawful entries) = IsLawful (history_in r) × (entries ≡ length r.entries)
+Holds r (Unlawful at) = (IsLawful (history_in r) → ⊥) × IsLawfulUpTo (history_in r) at
 
 -- what is said of the record holds, and it is handed out as it is; it has 1 to 65536 seats
 abbrev pub IsJudged : Record → Judged → Type 0
 IsJudged r (History h) = (h ≡ r) × IsLiveSeats r.seats × IsHistory (history_in r)
-IsJudged r (judged.Unlawful found at) = (found ≡ r) × IsLiveSeats r.seats × Holds r (Unlawful at)
+IsJudged r (judged.Unlawful found at) = (found ≡ r) × IsLiveSeats r.seats × (IsHistory (history_in r) → ⊥) × StopsAt (history_in r) at
 
 -- What is said is of the record that the bytes spell, and holds of it.
 abbrev pub Judges : List ℕ → Judged → Type 0
@@ -60,9 +62,9 @@ IsVerdict bytes v = (r : Record) × Tells bytes r × Holds r v
 abbrev pub IsKnownVerdict : Option (List ℕ) → Verdict → Type 0
 IsKnownVerdict known v = IfSome known (λ bytes. IsVerdict bytes v)
 
--- with the status 0 the bytes, where they are known, spell a history
+-- with the status 0 the bytes, where they are known, spell lawful entries
 abbrev pub IsLawfulAt0 : Option (List ℕ) → ℕ → Type 0
-IsLawfulAt0 known status = status ≡ 0 → IfSome known (λ bytes. (r : Record) × Tells bytes r × IsHistory (history_in r))
+IsLawfulAt0 known status = status ≡ 0 → IfSome known (λ bytes. (r : Record) × Tells bytes r × IsLawful (history_in r))
 
 -- what is handed out as a history is one, and another record stops being one where it is said to
 abbrev pub IsAsSaid : Judged → Type 0

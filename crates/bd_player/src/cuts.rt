@@ -82,7 +82,7 @@ fn cut_verdict_from<R: Read, P: Watch>(
     }
 }
 
-/// Judges what is whole of a journal: whether its entries are a history, or else the first that doesn't follow from those
+/// Judges what is whole of a journal: whether its entries are lawful, or else the first that doesn't follow from those
 /// before. It tells how far it is, in bytes.
 #[tactic(auto, using(crate::proofs::Kept::cut_judged, crate::proofs::Kept::cut_not_judged))]
 pub fn check_cut<R: Read, P: Watch, W: Write, E: Write>(
@@ -92,7 +92,7 @@ pub fn check_cut<R: Read, P: Watch, W: Write, E: Write>(
     out: &mut W,
     err: &mut E,
 ) -> u8
-    // The status is 0 only where the entries that are whole are a history.
+    // The status is 0 only where the entries that are whole are lawful.
     ensures { IsLawfulCutAt0 (R.remaining journal.old) result }
 {
     match cut_verdict_from(alloc, journal, watch) {

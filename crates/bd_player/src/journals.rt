@@ -39,7 +39,7 @@ pub fn print_lawful<W: Write>(entries: usize, out: &mut W) -> u8 {
 }
 
 /// Prints that a journal is unlawful, and up to where it isn't. The status is then that of a fault.
-pub fn print_unlawful<W: Write>(at: u32, out: &mut W) -> u8
+pub fn print_unlawful<W: Write>(at: u64, out: &mut W) -> u8
     ensures { 1 ≤ result }
 {
     print("unlawful", at as usize, out, FAULT)
@@ -93,14 +93,14 @@ pub fn judged_watched<R: Read, P: Watch>(
     }
 }
 
-/// Judges a journal: whether its entries are a history, or else the first that doesn't follow from those before.
+/// Judges a journal: whether its entries are lawful, or else the first that doesn't follow from those before.
 pub fn check_journal<R: Read, W: Write, E: Write>(
     alloc: Global,
     journal: &mut R,
     out: &mut W,
     err: &mut E,
 ) -> u8
-    // The status is 0 only where the journal is that of a history.
+    // The status is 0 only where the entries are lawful.
     ensures { IsLawfulAt0 (R.remaining journal.old) result }
 {
     check_watched(alloc, journal, &mut Unwatched, out, err)

@@ -33,7 +33,7 @@ fn verdict_of(judgment: Judgment) -> Verdict
     }
 }
 
-/// Judges the bytes of a journal as they are read: whether its entries are a history, or else the first that doesn't follow
+/// Judges the bytes of a journal as they are read: whether its entries are lawful, or else the first that doesn't follow
 /// from those before. No entry is kept. It tells how far it is.
 ///
 /// # Errors

@@ -8,10 +8,10 @@ ghost use Rattle.bd_player.specs.Pids as spec;
 use crate::untold::Untold;
 use bd_audit::advance;
 use bd_engine::{Looks, WideEngine};
-use bd_space::{Entry, ObjectId, Step};
+use bd_space::{Entry, Identity, ObjectId, Step};
 
 /// The pid of the process that was opened at a place.
-pub(crate) fn pid_at(entries: &[Entry], place: u32) -> Option<u32>
+pub(crate) fn pid_at(entries: &[Entry], place: u64) -> Option<u32>
     ensures { result ≡ spec.pid_at entries.now place }
 {
     match &entries.get(place as usize)?.step {
@@ -24,21 +24,21 @@ pub(crate) fn pid_at(entries: &[Entry], place: u32) -> Option<u32>
 pub(crate) fn owner_of(engine: &WideEngine, entries: &[Entry], object: ObjectId) -> Option<u32>
     ensures { result ≡ spec.owner_pid (space_after engine.now) entries.now object }
 {
-    pid_at(entries, engine.owner(object)?)
+    pid_at(entries, Looks::owner(engine, Identity::from(object))?)
 }
 
 /// The pid of the process of a seat's thread.
 pub(crate) fn pid_of(engine: &WideEngine, entries: &[Entry], seat: u32) -> Option<u32>
     ensures { result ≡ spec.pid_of (space_after engine.now) entries.now seat }
 {
-    pid_at(entries, engine.process_of(seat)?)
+    pid_at(entries, Looks::process_of(engine, seat)?)
 }
 
 /// The pid of the process in whose window the buffer made at a place lies.
 pub(crate) fn receiver_of(engine: &WideEngine, entries: &[Entry], place: u32) -> Option<u32>
     ensures { result ≡ spec.receiver_of (space_after engine.now) entries.now place }
 {
-    pid_at(entries, engine.buffer(place)?.receiver)
+    pid_at(entries, Looks::buffer(engine, u64::from(place))?.receiver)
 }
 
 /// Makes the step of an entry. The pid of the process that made it: that of the seat's thread before it, or else after it.

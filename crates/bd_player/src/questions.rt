@@ -18,8 +18,8 @@ pub enum Question {
     Chain { pid: u32, handle: u32 },
     /// Which call the reading at this place answers.
     CallOfReply { place: u32 },
-    /// The one-way calls on an object.
-    Turns { object: ObjectId },
+    /// The one-way calls on an object: the step that made it, and which of that step's objects it is.
+    Turns { place: u32, index: u32 },
 }
 
 // Whether every place that the question names is one of the history.
@@ -27,8 +27,7 @@ fn is_within(question: Question, record: &Record) -> bool {
     let len = record.entries.as_slice().len();
     match question {
         Question::Chain { .. } => true,
-        Question::CallOfReply { place } => (place as usize) < len,
-        Question::Turns { object } => (object.place as usize) < len,
+        Question::CallOfReply { place } | Question::Turns { place, .. } => (place as usize) < len,
     }
 }
 
@@ -52,8 +51,8 @@ pub fn answer<W: Write>(
     match question {
         Question::Chain { pid, handle } => tell_chain(alloc, record, pid, handle, out),
         Question::CallOfReply { place } => tell_answered(alloc, record, place, out),
-        Question::Turns { object } => {
-            tell_turns(alloc, record, object, out)?;
+        Question::Turns { place, index } => {
+            tell_turns(alloc, record, ObjectId { place, index }, out)?;
             Ok(true)
         }
     }

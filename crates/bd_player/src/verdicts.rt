@@ -15,15 +15,15 @@ use std::alloc::Global;
 /// What is said of a journal that can be read.
 #[derive(Clone, Copy, Debug, PartialEq, Eq)]
 pub enum Verdict {
-    /// Its entries are a history.
+    /// Its entries are lawful: each answer follows from the entries before.
     Lawful {
         /// How many entries it has.
         entries: usize,
     },
-    /// Its entries aren't a history.
+    /// One of its entries doesn't follow from those before.
     Unlawful {
-        /// The place of the first entry that doesn't follow from those before, from 0.
-        at: u32,
+        /// The place of the first that doesn't, from 0.
+        at: u64,
     },
 }
 
@@ -75,7 +75,7 @@ pub(crate) fn judgment_on<P: Watch>(
     }
 }
 
-/// Judges the bytes of a journal: whether its entries are a history, or else the first that doesn't follow from those
+/// Judges the bytes of a journal: whether its entries are lawful, or else the first that doesn't follow from those
 /// before. No entry is kept.
 ///
 /// # Errors

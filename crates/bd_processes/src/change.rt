@@ -26,7 +26,7 @@ impl ProcessTable {
 
     /// Takes out the process with this identity; all others stay.
     #[tactic(auto, unfolding(crate::specs::Room::process_room))]
-    pub fn remove(&mut self, made: u32)
+    pub fn remove(&mut self, made: u64)
         ensures stands { Makes (ProcessesAre self.old) (ProcessesAre self.new)
             (λ processes. filter (λ q. not (q.made == made)) processes) }
         ensures uses { process_room self.old ≤ process_room self.new }
@@ -39,7 +39,7 @@ impl ProcessTable {
 
     /// This process is told of its own one-way flooding, or no longer. Takes no memory.
     #[tactic(auto, unfolding(crate::specs::Room::process_room))]
-    pub fn set_spam_detection(&mut self, made: u32, on: bool)
+    pub fn set_spam_detection(&mut self, made: u64, on: bool)
         ensures stands { Makes (ProcessesAre self.old) (ProcessesAre self.new)
             (λ processes. changed (λ q. q.made == made) (detecting on) processes) }
         ensures uses { process_room self.old ≤ process_room self.new }

@@ -9,7 +9,7 @@ ghost use Rattle.bd_processes.specs.Order.{IsRising};
 use bd_space::Process;
 
 /// The index of the process with this identity. Found by halves.
-pub(crate) fn index_of(processes: &[Process], made: u32) -> Option<usize>
+pub(crate) fn index_of(processes: &[Process], made: u64) -> Option<usize>
     ensures within { IfSome result (λ i. i < length processes.now) }
     ensures found { IsRising processes.now → MatchOption result
         (All (λ q. (q.made == made) ≡ false) processes.now)
@@ -19,7 +19,7 @@ pub(crate) fn index_of(processes: &[Process], made: u32) -> Option<usize>
 }
 
 /// The process with this identity.
-pub(crate) fn made_at(processes: &[Process], made: u32) -> Option<Process>
+pub(crate) fn made_at(processes: &[Process], made: u64) -> Option<Process>
     ensures found { IsRising processes.now → result ≡ seats.process_in processes.now made }
     ensures pid { list_all (λ q. is_pid q.pid) processes.now ≡ true → IfSome result (λ q. is_pid q.pid ≡ true) }
 {
@@ -28,7 +28,7 @@ pub(crate) fn made_at(processes: &[Process], made: u32) -> Option<Process>
 }
 
 /// The first process that was opened at this place or behind it. Found by halves.
-pub(crate) fn first_from(processes: &[Process], from: u32) -> Option<Process>
+pub(crate) fn first_from(processes: &[Process], from: u64) -> Option<Process>
     ensures { IsRising processes.now → result ≡ find (λ q. nat_le from q.made) processes.now }
 {
     let i = processes.partition_point(|q| q.made < from);

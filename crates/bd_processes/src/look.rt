@@ -14,7 +14,7 @@ impl ProcessTable {
     ghost use Rattle.bd_processes.specs.Stands.{ProcessesAre};
 
     /// The index of the process with this identity.
-    pub(crate) fn index_of(&self, made: u32) -> Option<usize>
+    pub(crate) fn index_of(&self, made: u64) -> Option<usize>
         ensures within { IfSome result (λ i. i < length self.now.list.items) }
         ensures found { (processes : List Process) → ProcessesAre self.now processes → MatchOption result
             (All (λ q. (q.made == made) ≡ false) processes)
@@ -24,7 +24,7 @@ impl ProcessTable {
     }
 
     /// The process with this identity.
-    pub fn made_at(&self, made: u32) -> Option<Process>
+    pub fn made_at(&self, made: u64) -> Option<Process>
         ensures found { Tells (ProcessesAre self.now) result (λ processes. seats.process_in processes made) }
         ensures pid { IfSome result (λ q. is_pid q.pid ≡ true) }
     {
@@ -40,14 +40,14 @@ impl ProcessTable {
     }
 
     /// The first process that was opened at this place or behind it.
-    pub fn next_from(&self, from: u32) -> Option<Process>
+    pub fn next_from(&self, from: u64) -> Option<Process>
         ensures { Tells (ProcessesAre self.now) result (λ processes. find (λ q. nat_le from q.made) processes) }
     {
         list::first_from(self.list.as_slice(), from)
     }
 
     /// Whether the process with this identity lives.
-    pub fn lives(&self, made: u32) -> bool
+    pub fn lives(&self, made: u64) -> bool
         ensures { Tells (ProcessesAre self.now) result (λ processes. seats.lives_in processes made) }
     {
         self.made_at(made).is_some()

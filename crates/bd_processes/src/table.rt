@@ -14,7 +14,7 @@ pub struct ProcessTable {
     // In the order in which they were opened, so that an identity is found by halves.
     pub(crate) list: Vec<Process>,
     // Each one's identity, by its pid. Peers choose the pids.
-    pub(crate) by_pid: WordMap<u32>,
+    pub(crate) by_pid: WordMap<u64>,
     // No pid is out of range.
     ghost pids_fit: { list_all (λ q. is_pid q.pid) list.items ≡ true },
 }

@@ -1,12 +1,12 @@
 -- Death notifications: what BC_REQUEST_DEATH_NOTIFICATION, BC_CLEAR_DEATH_NOTIFICATION and BC_DEAD_BINDER_DONE check and change.
 use Rattle.std.specs.Prelude.{ℕ, ◌==◌, Bool, true, false, not, ◌&&◌, List, [], ◌∷◌, ◌++◌, Option, Result, find, filter, is_some, if◌then◌else◌}
-use Rattle.bd_space.specs.{Words.{Note, ObjectId, DeathNotification, Phase, Armed, Queued, Told, Done, OfProcess, OfThread, WorkKind, is_some_and, same, ok_or, unless, when, and_then, changed, Space}, Seats.lives_in, References.object_in, Names.named, Todo.owe}
+use Rattle.bd_space.specs.{Words.{Note, Identity, DeathNotification, Phase, Armed, Queued, Told, Done, OfProcess, OfThread, WorkKind, is_some_and, same, ok_or, unless, when, and_then, changed, Space}, Seats.lives_in, References.object_in, Names.named, Todo.owe}
 
 -- the uncleared notification that stands on a process's name of the object
-abbrev pub is_uncleared_on : ℕ → ObjectId → DeathNotification → Bool
+abbrev pub is_uncleared_on : ℕ → Identity → DeathNotification → Bool
 is_uncleared_on p o x = not x.cleared && (x.process == p) && same x.object o
 
-abbrev pub uncleared_in : List DeathNotification → ℕ → ObjectId → Option DeathNotification
+abbrev pub uncleared_in : List DeathNotification → ℕ → Identity → Option DeathNotification
 uncleared_in deaths p o = find (is_uncleared_on p o) deaths
 
 abbrev pub is_notification : ℕ → DeathNotification → Bool
@@ -20,17 +20,17 @@ with_phase s made phase = record s { deaths = changed (is_notification made) (λ
 
 -- ---- asking
 
-unfoldable pub request_check : Space → ℕ → ℕ → Result ObjectId Note
+unfoldable pub request_check : Space → ℕ → ℕ → Result Identity Note
 request_check s p n =
     and_then (ok_or (named s p n) Note.NoSuchNumber)
     (λ o. unless (when (is_some (uncleared_in s.deaths p o)) Note.AlreadyAsked) o)
 
-unfoldable pub with_death : Space → ℕ → ObjectId → ℕ → Phase → Space
+unfoldable pub with_death : Space → ℕ → Identity → ℕ → Phase → Space
 with_death s p o cookie phase =
     record s { deaths = s.deaths ++ record { made = s.steps; process = p; object = o; cookie = cookie; phase = phase; cleared = false } ∷ [] }
 
 -- armed while the owner lives; else the process is told at once
-unfoldable pub requested : Space → ℕ → ObjectId → ℕ → Space
+unfoldable pub requested : Space → ℕ → Identity → ℕ → Space
 requested s p o cookie =
     if is_some_and (object_in s.objects o) (λ x. lives_in s.processes x.owner) then with_death s p o cookie Armed
     else owe (with_death s p o cookie Queued) (OfProcess p) (WorkKind.Death s.steps)

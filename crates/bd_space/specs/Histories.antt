@@ -38,12 +38,22 @@ abbrev pub Follows : Space → List Entry → Type 0
 Follows s [] = Unit {0}
 Follows s (e ∷ es) = EntryFollows s e × Follows (next s e) es
 
--- the most steps that a history has
+-- the most steps that a history has, whose places have 32 bits
 abbrev pub most_steps : ℕ
 most_steps = 4294967295
 
 pub record IsHistory (h : History) : Type 0 where
   pub short : length h.entries ≤ most_steps
+  pub seats : list_all (λ e. nat_lt e.seat h.seats) h.entries ≡ true
+  pub follows : Follows opening h.entries
+
+-- the most steps of a lawful history, whose places have 64 bits
+abbrev pub most_lawful_steps : ℕ
+most_lawful_steps = 18446744073709551615
+
+-- as a history, but for how many steps it may have
+pub record IsLawful (h : History) : Type 0 where
+  pub short : length h.entries ≤ most_lawful_steps
   pub seats : list_all (λ e. nat_lt e.seat h.seats) h.entries ≡ true
   pub follows : Follows opening h.entries
 
@@ -53,7 +63,7 @@ extended h seat x answer = history_of h.seats (h.entries ++ record { seat = seat
 
 -- ---- the page of a history
 
--- the seat's live thread finds something on the list that it reads
+-- the seat has a live thread, and something is due on the list that this reads
 abbrev pub is_ready : Space → ℕ → Bool
 is_ready s seat = is_some_and (thread_in s.threads seat) (λ t. not (none_due (list_to_read s t)))
 
@@ -75,3 +85,12 @@ HasPlace h = length h.entries < most_steps
 unfoldable pub is_at_limit : History → ℕ → Option Step → Bool
 is_at_limit h seat x =
     nat_le most_steps (length h.entries) || is_some_and x (λ y. has_number_past_limit (step (space_after h) seat y).space.names)
+
+-- one step more has a place of 64 bits
+abbrev pub HasLivePlace : History → Type 0
+HasLivePlace h = length h.entries < most_lawful_steps
+
+-- no place of 64 bits is left, or this step would need a number past the limit
+unfoldable pub is_at_end : History → ℕ → Option Step → Bool
+is_at_end h seat x =
+    nat_le most_lawful_steps (length h.entries) || is_some_and x (λ y. has_number_past_limit (step (space_after h) seat y).space.names)

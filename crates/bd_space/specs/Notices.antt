@@ -1,13 +1,13 @@
 -- What owners are told of their objects: two values an object, and a notice exactly while they differ from what is so.
 use Rattle.std.specs.Prelude.{ℕ, ◌==◌, Bool, true, not, ◌&&◌, ◌||◌, List, filter, fold, if◌then◌else◌}
-use Rattle.bd_space.specs.{Words.{list_any, beq, ObjectId, Process, Object, Reference, Name, Work, DeathNotification, TodoList, OfProcess, WorkKind, same, is_some_and, Space}, Seats.lives_in, References.{held_in, strong_in, object_in, objects_go}, Names.names_go, Todo.{with_work, is_notice}}
+use Rattle.bd_space.specs.{Words.{list_any, beq, Identity, Process, Object, Reference, Name, Work, DeathNotification, TodoList, OfProcess, WorkKind, same, is_some_and, Space}, Seats.lives_in, References.{held_in, strong_in, object_in, objects_go}, Names.names_go, Todo.{with_work, is_notice}}
 
 -- the owner lives, and what it was told isn't what is so
 abbrev pub wants_notice : List Process → List Reference → Object → Bool
 wants_notice processes references x =
     lives_in processes x.owner && (not (beq x.told_weak (held_in references x.id)) || not (beq x.told_strong (strong_in references x.id)))
 
-abbrev pub has_notice_in : List Work → ObjectId → Bool
+abbrev pub has_notice_in : List Work → Identity → Bool
 has_notice_in todo o = list_any (λ w. is_notice o w.kind) todo
 
 -- a notice that is missing is made on this list
@@ -18,7 +18,7 @@ with_notice place processes references list todo x =
 -- ---- what follows after every change: names, objects, death notifications and notices
 
 -- an uncleared death notification goes with the name that it stands on
-abbrev pub is_name_of : List Name → ℕ → ObjectId → Bool
+abbrev pub is_name_of : List Name → ℕ → Identity → Bool
 is_name_of names p o = list_any (λ m. (m.process == p) && same m.object o) names
 
 unfoldable pub deaths_go : Space → Space

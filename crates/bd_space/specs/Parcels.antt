@@ -1,10 +1,10 @@
 -- What a parcel sends: its objects, each known to the sender or made by the sending, or the first cause against it; and how its
 -- receiver is to see them.
 use Rattle.std.specs.Prelude.{ℕ, ◌%◌, ◌^◌, ◌==◌, Bool, false, not, ◌&&◌, List, [], ◌∷◌, ◌++◌, length, Option, Some, None, Result, Ok, Err, if◌then◌else◌, find, fold, unwrap_or}
-use Rattle.bd_space.specs.Words.{TransactionData, FlatObject, Binder, WeakBinder, Handle, WeakHandle, Cause, WalkFault, offsets_in, fault_in, object_at, ObjectId, Parcel, Object, Item, Resolved, option_to_list, and_then, Space, is_strong_kind, object_bytes, Name, same, overwritten}
+use Rattle.bd_space.specs.Words.{TransactionData, FlatObject, Binder, WeakBinder, Handle, WeakHandle, Cause, WalkFault, offsets_in, fault_in, object_at, Identity, Parcel, Object, Item, Resolved, option_to_list, and_then, Space, is_strong_kind, object_bytes, Name, same, overwritten}
 use Rattle.bd_space.specs.{References.own_in, Names.{named, strongly_named, number_in}}
 
-abbrev pub object_of_item : Item → ObjectId
+abbrev pub object_of_item : Item → Identity
 object_of_item x = x.object
 
 -- what is sent: the parcel's bytes, the objects that its sender makes by it, and all its objects in their order
@@ -33,7 +33,7 @@ resolve_own s p made x =
       | Some o ↦ if o.cookie == x.cookie then Ok (record { object = o.id; new = None }) else Err Cause.OtherCookie
     ]
 
-abbrev pub resolve_handle : Option ObjectId → Result Resolved Cause
+abbrev pub resolve_handle : Option Identity → Result Resolved Cause
 resolve_handle None = Err Cause.NotHeld
 resolve_handle (Some o) = Ok (record { object = o; new = None })
 

@@ -1,6 +1,6 @@
 -- A read: the items that it takes, what reading them changes, and its step.
 use Rattle.std.specs.Prelude.{ℕ, ◌+◌, ◌-◌, ◌==◌, nat_lt, Bool, true, false, List, [], ◌∷◌, ◌++◌, length, map, Option, Some, None, option_and_then, if◌then◌else◌}
-use Rattle.bd_space.specs.Words.{list_any, flat_map, Return, ObjectId, Object, Reference, Frame, Buffer, Work, DeathNotification, Handshake, Serving, WorkKind, Told, first_of, is_some_and, same, changed, Space, Fault, StepAnswer, when, Actor}
+use Rattle.bd_space.specs.Words.{list_any, flat_map, Return, Identity, Object, Reference, Frame, Buffer, Work, DeathNotification, Handshake, Serving, WorkKind, Told, first_of, is_some_and, same, changed, Space, Fault, StepAnswer, when, Actor}
 use Rattle.bd_space.specs.{References.{reference_of, held_in, strong_in}, Todo.{notice_of, death_of, hands_out, is_call, without_taken, list_to_read}, Notices.follow, Outcomes.{Outcome, refused}, Freeing.is_made_at, Returns.{buffer_in, returns_of, bytes_read, stream_of}}
 
 -- nothing is read after a BR_TRANSACTION, BR_REPLY or BR_DEAD_BINDER
@@ -19,7 +19,7 @@ taken s left (w ∷ ws) =
 
 -- ---- what changes
 
--- the buffer that is handed over, if any
+-- the buffer that the first of these items that hands one over speaks of, if it lives
 unfoldable pub buffer_taken : Space → List Work → Option Buffer
 buffer_taken s ws = option_and_then (buffer_in s.buffers) (first_of (map (λ w. hands_out w.kind) ws))
 
@@ -29,7 +29,7 @@ shakes (Return.Increfs ptr cookie) = false ∷ []
 shakes (Return.Acquire ptr cookie) = true ∷ []
 shakes _ = []
 
-abbrev pub handshakes_for : ℕ → ℕ → ObjectId → List Bool → List Reference
+abbrev pub handshakes_for : ℕ → ℕ → Identity → List Bool → List Reference
 handshakes_for place k o [] = []
 handshakes_for place k o (strong ∷ rest) = reference_of place k o strong Handshake ∷ handshakes_for place (k + 1) o rest
 
@@ -42,7 +42,7 @@ handshakes s k [] = []
 handshakes s k (w ∷ ws) = let hs = handshakes_of s k w.kind in hs ++ handshakes s (k + length hs) ws
 
 -- an owner that is told knows what is so
-abbrev pub is_told_by : List Work → ObjectId → Bool
+abbrev pub is_told_by : List Work → Identity → Bool
 is_told_by ws o = list_any (λ w. is_some_and (notice_of w.kind) (same o)) ws
 
 abbrev pub told_of : List Reference → Object → Object

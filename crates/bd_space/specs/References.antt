@@ -1,23 +1,23 @@
 -- References to objects: what each is for, and which objects they keep.
 use Rattle.std.specs.Prelude.{ℕ, ◌==◌, Bool, true, false, ◌&&◌, ◌||◌, List, find, filter, Option, Some, None}
-use Rattle.bd_space.specs.{Words.{list_any, beq, ObjectId, Process, Object, Reference, Holder, Asked, Carried, Target, Handshake, Manager, same, is_some_and, Space}, Seats.lives_in}
+use Rattle.bd_space.specs.{Words.{list_any, beq, Identity, Process, Object, Reference, Holder, Asked, Carried, Target, Handshake, Manager, same, is_some_and, Space}, Seats.lives_in}
 
 -- what the step at this place refers to is counted from 0
-abbrev pub reference_of : ℕ → ℕ → ObjectId → Bool → Holder → Reference
+abbrev pub reference_of : ℕ → ℕ → Identity → Bool → Holder → Reference
 reference_of place index o strong holder = record { id = record { place = place; index = index }; object = o; strong = strong; holder = holder }
 
 -- an object is held with any reference, and strong with a strong one
-abbrev pub held_in : List Reference → ObjectId → Bool
+abbrev pub held_in : List Reference → Identity → Bool
 held_in references o = list_any (λ r. same r.object o) references
 
-abbrev pub strong_in : List Reference → ObjectId → Bool
+abbrev pub strong_in : List Reference → Identity → Bool
 strong_in references o = list_any (λ r. r.strong && same r.object o) references
 
-abbrev pub object_in : List Object → ObjectId → Option Object
+abbrev pub object_in : List Object → Identity → Option Object
 object_in objects o = find (λ x. same x.id o) objects
 
 -- p owns the object
-abbrev pub owned_in : List Object → ℕ → ObjectId → Bool
+abbrev pub owned_in : List Object → ℕ → Identity → Bool
 owned_in objects p o = list_any (λ x. same x.id o && (x.owner == p)) objects
 
 -- p's object with this ptr
@@ -70,9 +70,9 @@ is_of_owner Manager = true
 is_of_owner _ = false
 
 -- p asked for the object, in this strength
-abbrev pub is_asking : ℕ → ObjectId → Bool → Reference → Bool
+abbrev pub is_asking : ℕ → Identity → Bool → Reference → Bool
 is_asking p o strong r = beq r.strong strong && same r.object o && is_asked_by p r.holder
 
 -- the owner is to acknowledge the object, in this strength
-abbrev pub is_shaking : ObjectId → Bool → Reference → Bool
+abbrev pub is_shaking : Identity → Bool → Reference → Bool
 is_shaking o strong r = beq r.strong strong && same r.object o && is_handshake r.holder

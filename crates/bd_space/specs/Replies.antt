@@ -12,12 +12,12 @@ reply_check s a d parcel f =
     and_then (ok_or (caller_of s f) Cause.CallerGone)
     (λ c. and_then (sending_of s a.process.made d parcel) (placed_for s d c.process None false))
 
--- the frame closes, and the caller has a reply to read
+-- the frame closes, who replied has a completion to read, and a caller that lives the reply
 unfoldable pub replied : Space → Actor → TransactionData → Frame → Delivery → Space
 replied s a d f v =
     tell_caller (owe (delivered (closed s f.made) a d v) (OfThread a.thread.seat) (WorkKind.Complete false)) f (WorkKind.Reply s.steps)
 
--- a refused reply closes the frame too, and a caller that lives is told
+-- a refused reply closes the frame too: who replied has a completion to read, and a caller that lives a failed reply
 unfoldable pub reply_refused : Space → ℕ → Frame → Space
 reply_refused s seat f = tell_caller (closed (owe s (OfThread seat) (WorkKind.Refusal Return.TransactionComplete)) f.made) f (WorkKind.Verdict Return.FailedReply)
 

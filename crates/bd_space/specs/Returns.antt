@@ -10,7 +10,7 @@ unfoldable pub sender_pid : Space → ℕ → ℕ
 sender_pid s made =
     unwrap_or (option_map (λ a. a.process.pid) (option_and_then (actor s) (option_and_then (λ f. f.caller) (find (is_frame made) s.frames)))) 0
 
--- a call is on an object, a reply on none
+-- a call has its object's ptr and cookie; a reply, or a call whose object is gone, has 0 in their place
 unfoldable pub data_of : Space → Buffer → TransactionData
 data_of s b = let target = option_and_then (object_in s.objects) b.target in record {
   target = unwrap_or (option_map (λ o. o.ptr) target) 0;

@@ -2,7 +2,7 @@
 use Rattle.std.specs.Prelude.{ℕ, ◌≡◌, ◌≢◌, ◌⊎◌, true, List, [], ◌∷◌, ◌++◌, length, Option, Some, zero, suc, ◌<◌, take, None}
 use Rattle.bd_space.specs.{Words.{Step, StepAnswer, Entry, Request, Answer, Space, Command, Fault}, Steps.step, Histories.{History, space_after, is_at_limit, history_of, HasPlace}, Writes.{commands_of, step_of_command, Run, write, written, run_of_written}}
 
--- ---- a write that memory or the full history stops after some of its commands
+-- ---- a write that want of memory or the full history stops after the first n of its commands
 
 -- the run of the first n of its commands, with this fault as the stop
 unfoldable pub write_first : Space → ℕ → List ℕ → List ℕ → ℕ → Fault → Run

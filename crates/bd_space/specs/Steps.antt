@@ -1,12 +1,12 @@
 -- Every step of a space.
 use Rattle.std.specs.Prelude.{ℕ, suc, ◌%◌, ◌==◌, nat_le, Bool, true, false, not, ◌&&◌, ◌||◌, [], ◌∷◌, ◌++◌, Option, Some, None, is_some}
-use Rattle.bd_space.specs.Words.{Note, Fault, ObjectId, Step, StepAnswer, Process, Manager, when, first_of, ok_or, Space, Actor, Command, Parcel, changed}
+use Rattle.bd_space.specs.Words.{Note, Fault, Identity, Step, StepAnswer, Process, Manager, when, first_of, ok_or, Space, Actor, Command, Parcel, changed}
 use Rattle.bd_space.specs.{Seats.{actor, thread_in, process_with_pid}, References.{reference_of, own_in}, Outcomes.{Outcome, refused, accepted, by_check}, Spam.spam_step, Transactions.transaction_step, Replies.reply_step}
 use Rattle.bd_space.specs.{Freeing.free_step, Asking.{ask_check, ask, drop_check, drop_asked, done_check, acknowledge}, Deaths.{request_check, requested, clear_check, cleared, told_death, death_done}, ReadItems.read_step, ThreadExits.exit_thread_step, ProcessExits.exit_process_step}
 
 -- ---- the step of a command
 
--- the thread has entered the loop, or left it
+-- the thread of the seat is in the loop from now on, or out of it
 unfoldable pub with_looping : Space → ℕ → Bool → Space
 with_looping s seat looping = record s { threads = changed (λ t. t.seat == seat) (λ t. record t { looping = looping }) s.threads }
 
@@ -77,7 +77,7 @@ is_manager_busy s p = is_some s.manager || is_some (own_in s.objects p 0)
 -- its object has ptr 0 and cookie 0, and is told
 unfoldable pub with_manager : Space → ℕ → Space
 with_manager s p =
-    let o : ObjectId = record { place = s.steps; index = 0 } in
+    let o : Identity = record { place = s.steps; index = 0 } in
     record s {
       manager = Some o;
       objects = s.objects ++ record { id = o; owner = p; ptr = 0; cookie = 0; told_weak = true; told_strong = true } ∷ [];

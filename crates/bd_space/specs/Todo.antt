@@ -1,8 +1,8 @@
 -- Work items: what is still to be read, and by whom.
 use Rattle.std.specs.Prelude.{ℕ, ◌==◌, Bool, true, false, not, ◌&&◌, List, [], ◌∷◌, ◌++◌, Option, Some, None, filter, count_by, is_none, if◌then◌else◌}
-use Rattle.bd_space.specs.{Words.{list_any, ObjectId, Thread, Frame, Work, TodoList, OfThread, OfProcess, WorkKind, same, same_identity, Space}, Frames.innermost_in}
+use Rattle.bd_space.specs.{Words.{list_any, Identity, Thread, Frame, Work, TodoList, OfThread, OfProcess, WorkKind, same, same_origin, Space}, Frames.innermost_in}
 
--- one work item more: its identity is the step's place and the count of items that the step has made before it
+-- one work item more: its identity is the step's place, and how many items of that step stand there already
 abbrev pub with_work : ℕ → List Work → TodoList → WorkKind → List Work
 with_work place todo list kind =
     todo ++ record { id = record { place = place; index = count_by (λ w. w.id.place == place) todo }; list = list; kind = kind } ∷ []
@@ -53,11 +53,11 @@ abbrev pub is_call : ℕ → WorkKind → Bool
 is_call b (WorkKind.Call c) = c == b
 is_call b _ = false
 
-abbrev pub is_notice : ObjectId → WorkKind → Bool
+abbrev pub is_notice : Identity → WorkKind → Bool
 is_notice o (WorkKind.Notice p) = same p o
 is_notice o _ = false
 
-abbrev pub notice_of : WorkKind → Option ObjectId
+abbrev pub notice_of : WorkKind → Option Identity
 notice_of (WorkKind.Notice o) = Some o
 notice_of _ = None
 
@@ -73,7 +73,7 @@ hands_out _ = None
 
 -- one item: an item is told by its list and its identity
 abbrev pub is_item : Work → Work → Bool
-is_item v w = same_identity v.id w.id && is_on w.list v
+is_item v w = same_origin v.id w.id && is_on w.list v
 
 -- the items that were taken go
 abbrev pub without_taken : List Work → List Work → List Work

@@ -1,6 +1,6 @@
 -- The step of BC_TRANSACTION.
 use Rattle.std.specs.Prelude.{ℕ, ◌%◌, ◌^◌, ◌==◌, Bool, true, false, ◌&&◌, [], ◌∷◌, ◌++◌, Option, Some, None, Result, Ok, Err, is_some, is_none, option_map, option_and_then, if◌then◌else◌}
-use Rattle.bd_space.specs.Words.{TransactionData, Return, Cause, ObjectId, Parcel, Process, Callee, Pending, OfThread, WorkKind, when, first_of, ok_or, unless, and_then, Space, Actor}
+use Rattle.bd_space.specs.Words.{TransactionData, Return, Cause, Identity, Parcel, Process, Callee, Pending, OfThread, WorkKind, when, first_of, ok_or, unless, and_then, Space, Actor}
 use Rattle.bd_space.specs.{Seats.process_in, References.{object_in, owned_in}, Names.strongly_named, Frames.{innermost, served_innermost, goes_to, made_of}, Todo.{owe, has_unread}, Parcels.sending_of, Delivery.{Delivery, delivered, placed_for}, Spam.is_spam, Outcomes.{Outcome, accepted, stopped}}
 
 abbrev pub is_one_way : TransactionData → Bool
@@ -12,15 +12,16 @@ handle_of d = d.target % 2 ^ 32
 
 -- ---- whom it goes to
 
--- 0 is the context manager's object, which its own process may not call; else the handle has to be strongly named
-abbrev pub not_own : Space → ℕ → ObjectId → Result ObjectId Cause
+-- the object, unless the process owns it
+abbrev pub not_own : Space → ℕ → Identity → Result Identity Cause
 not_own s p o = unless (when (owned_in s.objects p o) Cause.OwnManager) o
 
-unfoldable pub target_of : Space → ℕ → ℕ → Result ObjectId Cause
+-- 0 is the context manager's object, which its own process may not call; any other handle has to be strongly named
+unfoldable pub target_of : Space → ℕ → ℕ → Result Identity Cause
 target_of s p handle =
     if handle == 0 then and_then (ok_or s.manager Cause.NoManager) (not_own s p) else ok_or (strongly_named s p handle) Cause.NotStronglyNamed
 
-unfoldable pub owner_of : Space → ObjectId → Option Process
+unfoldable pub owner_of : Space → Identity → Option Process
 owner_of s o = option_and_then (λ x. process_in s.processes x.owner) (object_in s.objects o)
 
 unfoldable pub callee_of : Space → ℕ → ℕ → Result Callee Cause

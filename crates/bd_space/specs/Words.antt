@@ -6,8 +6,8 @@ pub use Rattle.bd_uapi.specs.{declared.command.{Command.Command, Return.Return, 
 pub use Rattle.bd_uapi.specs.declared.object.{FlatObject.FlatObject, ObjectKind.TheVariants.Binder, ObjectKind.TheVariants.WeakBinder, ObjectKind.TheVariants.Handle, ObjectKind.TheVariants.WeakHandle}
 pub use Rattle.bd_codec.specs.{Reading.command_at, Spelling.return_bytes}
 pub use Rattle.bd_parcel.specs.{Parcels.offsets_in, Parcels.fault_in, Reading.object_at, declared.fault.WalkFault.WalkFault}
-pub use Rattle.bd_space.specs.declared.{record.Record.Record, step.Answer.Answer, step.Entry.Entry, step.ObjectId.ObjectId, step.Parcel.Parcel, step.Request.Request, step.Step.Step, step.StepAnswer.StepAnswer, step.Stop.Stop}
-pub use Rattle.bd_space.specs.declared.space.{Actor.Actor, Buffer.Buffer, Callee.Callee, DeathNotification.DeathNotification, Frame.Frame, Identity.Identity, Item.Item, Name.Name, Object.Object}
+pub use Rattle.bd_space.specs.declared.{record.Record.Record, step.Answer.Answer, step.Entry.Entry, step.Identity.Identity, step.Parcel.Parcel, step.Request.Request, step.Step.Step, step.StepAnswer.StepAnswer, step.Stop.Stop}
+pub use Rattle.bd_space.specs.declared.space.{Actor.Actor, Buffer.Buffer, Callee.Callee, DeathNotification.DeathNotification, Frame.Frame, Origin.Origin, Item.Item, Name.Name, Object.Object}
 pub use Rattle.bd_space.specs.declared.space.{Process.Process, Reference.Reference, Resolved.Resolved, Thread.Thread, Turn.Turn, Work.Work, WorkKind.WorkKind, Holder.Holder, Phase.Phase, Server.Server, TodoList.TodoList}
 pub use Rattle.bd_space.specs.declared.space.{Holder.TheVariants.{Asked, Carried, Target, Handshake, Manager}, Phase.TheVariants.{Armed, Queued, Told, Done}, Server.TheVariants.{Pending, Serving, Gone}, TodoList.TheVariants.{OfThread, OfProcess}}
 pub use Rattle.bd_space.specs.Space.{Space, opening}
@@ -52,12 +52,12 @@ abbrev pub overwritten : List ℕ → ℕ → List ℕ → List ℕ
 overwritten xs at ys = take at xs ++ ys ++ drop (at + length ys) xs
 
 -- the two are one object
-abbrev pub same : ObjectId → ObjectId → Bool
+abbrev pub same : Identity → Identity → Bool
 same a b = (a.place == b.place) && (a.index == b.index)
 
 -- the two are one reference, or one work item
-abbrev pub same_identity : Identity → Identity → Bool
-same_identity a b = (a.place == b.place) && (a.index == b.index)
+abbrev pub same_origin : Origin → Origin → Bool
+same_origin a b = (a.place == b.place) && (a.index == b.index)
 
 -- each element that passes the test is changed
 abbrev pub changed : {A : Type 0} → (A → Bool) → (A → A) → List A → List A

@@ -2,14 +2,16 @@
 #![tactic(auto)]
 
 mod bytes;
+mod ids;
 mod record;
 mod space;
 mod step;
 
 pub use bytes::{Bytes, Notes};
+pub use ids::{ObjectId, narrow};
 pub use record::{Entries, Record};
 pub use space::{
-    Actor, Buffer, Callee, DeathNotification, Frame, Holder, Identity, Item, Name, Object, Phase,
+    Actor, Buffer, Callee, DeathNotification, Frame, Holder, Item, Name, Object, Origin, Phase,
     Process, Reference, Resolved, Server, Thread, TodoList, Turn, Work, WorkKind,
 };
-pub use step::{Answer, Entry, ObjectId, Parcel, Request, Step, StepAnswer, Stop};
+pub use step::{Answer, Entry, Identity, Parcel, Request, Step, StepAnswer, Stop};

@@ -1,14 +1,14 @@
 //! The members of the object space, as plain data.
 
 use crate::bytes::Bytes;
-use crate::step::ObjectId;
+use crate::step::Identity;
 use bd_uapi::{FlatObject, Return, TransactionFlags};
 
 /// A live process. Its name is the place of its Open.
 #[derive(Clone, Copy, Debug, PartialEq, Eq)]
 pub struct Process {
     /// The place of its Open.
-    pub made: u32,
+    pub made: u64,
     /// Its pid, 1 to 2147483647.
     pub pid: u32,
     /// Its effective user id.
@@ -23,11 +23,11 @@ pub struct Process {
 #[derive(Clone, Copy, Debug, PartialEq, Eq)]
 pub struct Thread {
     /// The place of its Open or Attach.
-    pub made: u32,
+    pub made: u64,
     /// The number of the seat that has it; where there is a driver, one of the driver's seats.
     pub seat: u32,
     /// The place of its process's Open.
-    pub process: u32,
+    pub process: u64,
     /// Whether it has entered the loop.
     pub looping: bool,
 }
@@ -36,9 +36,9 @@ pub struct Thread {
 #[derive(Clone, Copy, Debug, PartialEq, Eq)]
 pub struct Object {
     /// Its identity.
-    pub id: ObjectId,
+    pub id: Identity,
     /// The process that owns it, live or not.
-    pub owner: u32,
+    pub owner: u64,
     /// By which its owner knows it.
     pub ptr: u64,
     /// What its owner gave with it.
@@ -51,9 +51,9 @@ pub struct Object {
 
 /// The place of the step that made a reference or a work item, and which of that step's it is, from 0.
 #[derive(Clone, Copy, Debug, PartialEq, Eq)]
-pub struct Identity {
+pub struct Origin {
     /// The place of the step.
-    pub place: u32,
+    pub place: u64,
     /// Which of that step's it is.
     pub index: u64,
 }
@@ -62,11 +62,11 @@ pub struct Identity {
 #[derive(Clone, Copy, Debug, PartialEq, Eq)]
 pub enum Holder {
     /// The process asked for it.
-    Asked(u32),
+    Asked(u64),
     /// The buffer made there carries it, in the window of a process.
-    Carried(u32, u32),
+    Carried(u64, u64),
     /// The buffer made there was sent to it, in the window of a process.
-    Target(u32, u32),
+    Target(u64, u64),
     /// The owner was told of it, and hasn't acknowledged that.
     Handshake,
     /// It is the context manager's.
@@ -77,9 +77,9 @@ pub enum Holder {
 #[derive(Clone, Copy, Debug, PartialEq, Eq)]
 pub struct Reference {
     /// Its identity.
-    pub id: Identity,
+    pub id: Origin,
     /// What it keeps.
-    pub object: ObjectId,
+    pub object: Identity,
     /// Whether it is a strong one.
     pub strong: bool,
     /// Who refers to it.
@@ -90,11 +90,11 @@ pub struct Reference {
 #[derive(Clone, Copy, Debug, PartialEq, Eq)]
 pub struct Name {
     /// Who knows the object by it: the place of that process's Open.
-    pub process: u32,
+    pub process: u64,
     /// The handle, as commands and parcels of this process have it.
     pub number: u32,
     /// What is known by it.
-    pub object: ObjectId,
+    pub object: Identity,
 }
 
 /// Who serves an open call.
@@ -112,24 +112,24 @@ pub enum Server {
 #[derive(Clone, Copy, Debug, PartialEq, Eq)]
 pub struct Frame {
     /// The place of its transaction.
-    pub made: u32,
+    pub made: u64,
     /// The seat of the calling thread, unless that has ended.
     pub caller: Option<u32>,
     /// Who serves it.
     pub server: Server,
     /// The frame that its caller was in.
-    pub parent: Option<u32>,
+    pub parent: Option<u64>,
 }
 
 /// A live buffer and what it hands over. Its name is the place of the transaction or reply that made it.
 #[derive(Drop, Debug)]
 pub struct Buffer {
     /// The place of its transaction or reply.
-    pub made: u32,
+    pub made: u64,
     /// The process whose window it lies in.
-    pub receiver: u32,
+    pub receiver: u64,
     /// The process that sent it, live or not.
-    pub sender: u32,
+    pub sender: u64,
     /// Where it begins in the window.
     pub start: u32,
     /// How much of the window it takes.
@@ -139,7 +139,7 @@ pub struct Buffer {
     /// Whether it was handed out.
     pub handed: bool,
     /// The object that a transaction goes to.
-    pub target: Option<ObjectId>,
+    pub target: Option<Identity>,
     /// The code, as written.
     pub code: u32,
     /// The flags, as written.
@@ -156,11 +156,11 @@ pub struct Buffer {
 #[derive(Clone, Copy, Debug, PartialEq, Eq)]
 pub struct Turn {
     /// The place of its transaction.
-    pub made: u32,
+    pub made: u64,
     /// The process whose window its buffer lies in.
-    pub receiver: u32,
+    pub receiver: u64,
     /// The object that it goes to.
-    pub target: ObjectId,
+    pub target: Identity,
     /// Whether it was handed out.
     pub handed: bool,
 }
@@ -171,14 +171,14 @@ pub enum TodoList {
     /// The thread's of this seat.
     OfThread(u32),
     /// The process's.
-    OfProcess(u32),
+    OfProcess(u64),
 }
 
 /// What is still to be read.
 #[derive(Clone, Copy, Debug, PartialEq, Eq)]
 pub enum WorkKind {
     /// The references to an own object have changed: `BR_INCREFS` and so on.
-    Notice(ObjectId),
+    Notice(Identity),
     /// The transaction or reply was accepted: `BR_TRANSACTION_COMPLETE`.
     Complete {
         /// Its sender asked for reports, and floods the receiver with one-way calls: `BR_ONEWAY_SPAM_SUSPECT` instead.
@@ -187,13 +187,13 @@ pub enum WorkKind {
     /// The transaction or reply was refused.
     Refusal(Return),
     /// A call, by its buffer: `BR_TRANSACTION`.
-    Call(u32),
+    Call(u64),
     /// A reply, by its buffer: `BR_REPLY`.
-    Reply(u32),
+    Reply(u64),
     /// An accepted call failed: `BR_DEAD_REPLY` or `BR_FAILED_REPLY`.
     Verdict(Return),
     /// The owner of an object has ended, by the notification: `BR_DEAD_BINDER`.
-    Death(u32),
+    Death(u64),
     /// A death notification was cleared, by its cookie: `BR_CLEAR_DEATH_NOTIFICATION_DONE`.
     Cleared(u64),
 }
@@ -202,7 +202,7 @@ pub enum WorkKind {
 #[derive(Clone, Copy, Debug, PartialEq, Eq)]
 pub struct Work {
     /// Its identity.
-    pub id: Identity,
+    pub id: Origin,
     /// Where it is read.
     pub list: TodoList,
     /// What it is.
@@ -226,11 +226,11 @@ pub enum Phase {
 #[derive(Clone, Copy, Debug, PartialEq, Eq)]
 pub struct DeathNotification {
     /// The place of its request.
-    pub made: u32,
+    pub made: u64,
     /// The process that asked for it.
-    pub process: u32,
+    pub process: u64,
     /// Whose owner's death is to be told.
-    pub object: ObjectId,
+    pub object: Identity,
     /// What the process gave with it.
     pub cookie: u64,
     /// How far it is.
@@ -252,7 +252,7 @@ pub struct Actor {
 #[derive(Clone, Copy, Debug, PartialEq, Eq)]
 pub struct Callee {
     /// What the target names: for handle 0 the context manager's object.
-    pub object: ObjectId,
+    pub object: Identity,
     /// Its owner.
     pub process: Process,
 }
@@ -265,14 +265,14 @@ pub struct Item {
     /// What stands there.
     pub flat: FlatObject,
     /// Which of the space's objects this names, as its sender knows it.
-    pub object: ObjectId,
+    pub object: Identity,
 }
 
 /// Which object is sent, and that object itself where the sending makes it.
 #[derive(Clone, Copy, Debug, PartialEq, Eq)]
 pub struct Resolved {
     /// What the receiver will know, whether it was there before or is made.
-    pub object: ObjectId,
+    pub object: Identity,
     /// The object that is to be made, if it is.
     pub new: Option<Object>,
 }

@@ -6,29 +6,29 @@ ghost use Rattle.std.proofs.Common.{rules};
 ghost use Rattle.bd_keys.specs.Numbers.{pair};
 
 use crate::bytes::{Bytes, Notes};
-use bd_keys::pair;
+use bd_keys::tall;
 use bd_uapi::{Cause, Command, Fault, Note};
 use std::alloc::AllocError;
 use std::hash::{Hash, Hasher};
 
-/// An identity: the place of the step that made a thing in the history, and which of that step's things of its
-/// kind it is, from 0.
+/// An object's identity: the place of the step that made it, and which of that step's objects it is. Where a history has an
+/// end, an [`ObjectId`](crate::ObjectId) has the same value in fewer bits.
 #[derive(Clone, Copy, Debug, PartialEq, Eq)]
-pub struct ObjectId {
+pub struct Identity {
     /// The place of the step, from 0.
-    pub place: u32,
+    pub place: u64,
     /// Which of that step's objects it is, from 0.
     pub index: u32,
 }
 
 // One write, as `bd_keys` says.
-impl Hash for ObjectId {
-    ghost hash_input = { λ o. fed.u64 (pair o.place o.index) };
+impl Hash for Identity {
+    ghost hash_input = { λ o. fed.u128 (pair o.place o.index) };
 
     ghost respects_eq = { Prim.search (hashing, rules) };
 
     fn hash<H: Hasher>(&self, state: &mut H) {
-        state.write_u64(pair(self.place, self.index));
+        state.write_u128(tall(self.place, self.index));
     }
 }
 

@@ -3,7 +3,7 @@
 use Rattle.std.proofs.Common.{◌≡◌, ℕ, Bool, true, false, Option, Some, None, length, refl, ap, sym, ◌∙◌}
 use Rattle.std.specs.Prelude.{if◌then◌else◌}
 use Rattle.bd_uapi.specs.declared.command.TransactionData.{TransactionData}
-use Rattle.bd_space.specs.declared.step.ObjectId.{ObjectId}
+use Rattle.bd_space.specs.declared.step.Identity.{Identity}
 use Rattle.bd_space.specs.declared.space.Frame.{Frame}
 use Rattle.bd_space.specs.declared.space.Actor.{Actor}
 use Rattle.bd_space.specs.Space.{Space}
@@ -31,7 +31,7 @@ use Rattle.bd_step.proofs.New.{sending_new}
 use Rattle.bd_step.proofs.Finding.{found_lives}
 use Rattle.bd_step.proofs.Stacked.{tidy_takes}
 
-pub ripened_ordered : (target : Option ObjectId) (s : Space) → Pairs Earlier s.objects → Pairs Earlier (ripen_next target s).objects
+pub ripened_ordered : (target : Option Identity) (s : Space) → Pairs Earlier s.objects → Pairs Earlier (ripen_next target s).objects
 unfolding ripen_of
 ripened_ordered None s h = h
 ripened_ordered (Some o) s h = h
@@ -59,7 +59,7 @@ module _ (s : Space) (a : Actor) (d : TransactionData) (v : Delivery) (p : IsSen
       at true one =
           let t = transaction_checked s a d p.checked.0 v p.checked.1 in
           one_way_local s a d v (calm s p.tidy.quiet) p.tidy.before.objects (transaction_delivers s a d p.checked.0 v p.tidy.before.objects p.checked.1) p.tidy.quiet.settled t.object one t.target
-          ∙ ap (λ (o : Option ObjectId). follow_of no_name (objects_of_items v.sending.items) (ripen_next o (transacted s a d v))) (sym t.target)
+          ∙ ap (λ (o : Option Identity). follow_of no_name (objects_of_items v.sending.items) (ripen_next o (transacted s a d v))) (sym t.target)
       at false two = two_way_local s a d v (calm s p.tidy.quiet) p.tidy.before.objects (transaction_delivers s a d p.checked.0 v p.tidy.before.objects p.checked.1) p.tidy.quiet.settled two
 
 -- ---- a reply

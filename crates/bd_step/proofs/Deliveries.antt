@@ -10,7 +10,7 @@ use Rattle.bd_step.specs.Deliveries.{OnlyWorks}
 use Rattle.std.proofs.lemmas.List.Sums.{fold_more}
 use Rattle.bd_uapi.specs.declared.object.FlatObject.{FlatObject}
 use Rattle.bd_uapi.specs.Records.{object_bytes}
-use Rattle.bd_space.specs.declared.step.ObjectId.{ObjectId}
+use Rattle.bd_space.specs.declared.step.Identity.{Identity}
 use Rattle.bd_space.specs.declared.space.Object.{Object}
 use Rattle.bd_space.specs.declared.space.Item.{Item}
 use Rattle.bd_space.specs.declared.space.Work.{Work}
@@ -60,17 +60,17 @@ translated_more s q base bytes new items k d flat lt e is so_far =
 
 -- ---- objects, references and names
 
-abbrev delivered : Space → ℕ → List Object → List Item → Option ObjectId → Space
+abbrev delivered : Space → ℕ → List Object → List Item → Option Identity → Space
 delivered s q made items target = assign_numbers (refer (make_objects s made) q items target) q (map object_of_item items)
 
-known_is : (s : Space) (v : Delivery) (q : ℕ) (made : List Object) (items : List Item) (target : Option ObjectId)
+known_is : (s : Space) (v : Delivery) (q : ℕ) (made : List Object) (items : List Item) (target : Option Identity)
     → q ≡ v.receiver.made → made ≡ v.sending.made → items ≡ v.sending.items → target ≡ v.target → delivered s q made items target ≡ with_carried s v
 unfolding with_carried
 known_is s v q made items target a b c e =
     ap (λ (x : ℕ). delivered s x made items target) a ∙ ap (λ (x : List Object). delivered s v.receiver.made x items target) b
     ∙ ap (λ (x : List Item). delivered s v.receiver.made v.sending.made x target) c ∙ ap (delivered s v.receiver.made v.sending.made v.sending.items) e
 
-pub known_stands : (t : Tables) (os : ObjectTable) (s : Space) (v : Delivery) (q : ℕ) (made : List Object) (items : List Item) (target : Option ObjectId)
+pub known_stands : (t : Tables) (os : ObjectTable) (s : Space) (v : Delivery) (q : ℕ) (made : List Object) (items : List Item) (target : Option Identity)
     → q ≡ v.receiver.made → made ≡ v.sending.made → items ≡ v.sending.items → target ≡ v.target
     → Before t s → objects.StandsFor os (delivered s q made items target) → Before (record t { objects = os }) (with_carried s v)
 unfolding assign_numbers refer make_objects
@@ -78,7 +78,7 @@ known_stands t os s v q made items target a b c e h k =
     let P : Space → Type 0 = λ z. Before (record t { objects = os }) z in
     subst P (known_is s v q made items target a b c e) (with_objects s.steps t s os _ _ _ s.deaths h k)
 
-pub known_full : (s : Space) (v : Delivery) (q : ℕ) (made : List Object) (items : List Item) (target : Option ObjectId)
+pub known_full : (s : Space) (v : Delivery) (q : ℕ) (made : List Object) (items : List Item) (target : Option Identity)
     → q ≡ v.receiver.made → made ≡ v.sending.made → items ≡ v.sending.items → target ≡ v.target
     → has_number_past_limit (names_go (delivered s q made items target)).names ≡ true → has_number_past_limit (names_go (with_carried s v)).names ≡ true
 known_full s v q made items target a b c e full =

@@ -1,7 +1,7 @@
 -- What follows from an exit, where all that it touches was gathered.
 use Rattle.std.proofs.Common.{◌≡◌, ℕ, ◌==◌, true, List, length, ap, sym, subst, ◌∙◌}
 use Rattle.std.proofs.lemmas.Bool.{eq-eqb}
-use Rattle.bd_space.specs.declared.step.ObjectId.{ObjectId}
+use Rattle.bd_space.specs.declared.step.Identity.{Identity}
 use Rattle.bd_space.specs.declared.space.Frame.{Frame}
 use Rattle.bd_space.specs.declared.space.Actor.{Actor}
 use Rattle.bd_space.specs.Words.{same}
@@ -36,10 +36,10 @@ looked_at a x z = (let y = follow_of a (is_among x.objects.items) z in close_amo
 same_count : (a : NameTest) (x : Exit) (z : Space) → close_among (length z.frames) (is_place_among x.frames.items) (follow_of a (is_among x.objects.items) z) ≡ looked_at a x z
 same_count a x z = ap (λ (fs : List Frame). close_among (length fs) (is_place_among x.frames.items) (follow_of a (is_among x.objects.items) z)) (sym (follow_frames a (is_among x.objects.items) z))
 
-named_among : (p q : ℕ) (os : List ObjectId) (o : ObjectId) → p ≡ q → is_among os o ≡ true → names_among p os q o ≡ true
+named_among : (p q : ℕ) (os : List Identity) (o : Identity) → p ≡ q → is_among os o ≡ true → names_among p os q o ≡ true
 named_among p q os o is e =
-    let i = any_found (λ (i : ObjectId). same o i) os e in
-    any_in (λ (i : ObjectId). at_name p i q o) i.0 os i.1 (and_both (q == p) (same o i.0) (eq-eqb q p (sym is)) i.2)
+    let i = any_found (λ (i : Identity). same o i) os e in
+    any_in (λ (i : Identity). at_name p i q o) i.0 os i.1 (and_both (q == p) (same o i.0) (eq-eqb q p (sym is)) i.2)
 
 pub thread_exits : (s : Space) (a : Actor) (x : Exit) → IsBy a s → HasThread x s a.thread.seat
     → settle (follow (thread_goes s a.thread.seat)) ≡ looked_at (names_among a.thread.process x.objects.items) x (thread_goes s a.thread.seat)
@@ -66,22 +66,22 @@ ordered_process : (s : Space) (p : ℕ) → IsTidy s → Pairs Earlier (tell_dea
 ordered_process s p tidy = subst (Pairs Earlier) (sym (ended_parts s p tidy).objects) tidy.before.objects.kept.in_order
 
 -- from the exit to what follows from it
-pub thread_ends : (t u v : Tables) (s : Space) (a : Actor) (x : Exit) (os : List ObjectId) (ms : List ℕ) → os ≡ x.objects.items → ms ≡ x.frames.items → IsBy a s → HasThread x s a.thread.seat
+pub thread_ends : (t u v : Tables) (s : Space) (a : Actor) (x : Exit) (os : List Identity) (ms : List ℕ) → os ≡ x.objects.items → ms ≡ x.frames.items → IsBy a s → HasThread x s a.thread.seat
     → Within t (thread_goes s a.thread.seat) → MakesOfOrdered t u (follow_of (names_among a.thread.process os) (is_among os))
     → MakesWithin u v (λ z. close_among (length z.frames) (is_place_among ms) z) → Within v (settle (follow (thread_goes s a.thread.seat)))
 thread_ends t u v s a x os ms e f by has h follows closes =
     let z = thread_goes s a.thread.seat in
     subst (Within v) (sym (thread_exits s a x by has))
     (subst (λ (ns : List ℕ). Within v (let y = follow_of (names_among a.thread.process x.objects.items) (is_among x.objects.items) z in close_among (length y.frames) (is_place_among ns) y)) f
-    (subst (λ (is : List ObjectId). Within v (let y = follow_of (names_among a.thread.process is) (is_among is) z in close_among (length y.frames) (is_place_among ms) y)) e
+    (subst (λ (is : List Identity). Within v (let y = follow_of (names_among a.thread.process is) (is_among is) z in close_among (length y.frames) (is_place_among ms) y)) e
     (closes _ (follows z h (ordered_thread s a.thread.seat by.tidy)))))
 
-pub process_ends : (t u v : Tables) (s : Space) (p : ℕ) (x : Exit) (os : List ObjectId) (ms : List ℕ) → os ≡ x.objects.items → ms ≡ x.frames.items → IsTidy s → HasProcess x s (seats_in s p) p
+pub process_ends : (t u v : Tables) (s : Space) (p : ℕ) (x : Exit) (os : List Identity) (ms : List ℕ) → os ≡ x.objects.items → ms ≡ x.frames.items → IsTidy s → HasProcess x s (seats_in s p) p
     → Within t (tell_deaths (without_process (threads_go s p) p) p) → MakesOfOrdered t u (follow_of no_name (is_among os))
     → MakesWithin u v (λ z. close_among (length z.frames) (is_place_among ms) z) → Within v (settle (follow (tell_deaths (without_process (threads_go s p) p) p)))
 process_ends t u v s p x os ms e f tidy has h follows closes =
     let z = tell_deaths (without_process (threads_go s p) p) p in
     subst (Within v) (sym (process_exits s p x tidy has))
     (subst (λ (ns : List ℕ). Within v (let y = follow_of no_name (is_among x.objects.items) z in close_among (length y.frames) (is_place_among ns) y)) f
-    (subst (λ (is : List ObjectId). Within v (let y = follow_of no_name (is_among is) z in close_among (length y.frames) (is_place_among ms) y)) e
+    (subst (λ (is : List Identity). Within v (let y = follow_of no_name (is_among is) z in close_among (length y.frames) (is_place_among ms) y)) e
     (closes _ (follows z h (ordered_process s p tidy)))))

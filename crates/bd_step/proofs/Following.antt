@@ -5,7 +5,7 @@ use Rattle.std.proofs.Math.Bool.{or-true, or-false, and-true}
 use Rattle.std.proofs.Math.Path.{fun_ext}
 use Rattle.std.proofs.lemmas.Bool.{eqb-true}
 use Rattle.std.proofs.lemmas.List.{take_more}
-use Rattle.bd_space.specs.declared.step.ObjectId.{ObjectId}
+use Rattle.bd_space.specs.declared.step.Identity.{Identity}
 use Rattle.bd_space.specs.declared.space.Object.{Object}
 use Rattle.bd_space.specs.declared.space.Name.{Name}
 use Rattle.bd_space.specs.declared.space.DeathNotification.{DeathNotification}
@@ -133,7 +133,7 @@ module _ {A : Type 0} (p q : A → Bool) where
       at true k = or-true _
       at false k = k
 
-module _ (p : ℕ) (o : ObjectId) (s : Space) where
+module _ (p : ℕ) (o : Identity) (s : Space) where
   abbrev stays : List DeathNotification → WorkKind → Bool
   stays deaths k = not (is_touched (at_name p o) (λ i. false) s.deaths k) || still_due s.processes s.objects s.references deaths k
 
@@ -151,14 +151,14 @@ module _ (p : ℕ) (o : ObjectId) (s : Space) where
 
 -- ---- one name more
 
-named_next : (p : ℕ) (os : List ObjectId) (k : ℕ) (d : ObjectId) → k < length os
+named_next : (p : ℕ) (os : List Identity) (k : ℕ) (d : Identity) → k < length os
     → names_among p (take (k + 1) os) ≡ (λ q i. names_among p (take k os) q i || at_name p (get_or os k d) q i)
 named_next p os k d lt = fun_ext (λ q. fun_ext (λ i.
-    ap (λ (xs : List ObjectId). names_among p xs q i) (take_more os k d lt)
+    ap (λ (xs : List Identity). names_among p xs q i) (take_more os k d lt)
     ∙ any_append (λ x. at_name p x q i) (take k os) (get_or os k d ∷ [])
     ∙ ap (λ b. names_among p (take k os) q i || b) (or-false (at_name p (get_or os k d) q i))))
 
-pub named_one : (p : ℕ) (o : ObjectId) → names_among p (o ∷ []) ≡ at_name p o
+pub named_one : (p : ℕ) (o : Identity) → names_among p (o ∷ []) ≡ at_name p o
 named_one p o = fun_ext (λ q. fun_ext (λ i. or-false (at_name p o q i)))
 
 module _ (a b : NameTest) (s : Space) where
@@ -178,7 +178,7 @@ module _ (a b : NameTest) (s : Space) where
   deaths_gone = filter (λ x. not (b x.process x.object) || (x.cleared || is_name_of both_gone x.process x.object)) first_deaths
 
   -- a name that goes at the second look, and was there after the first
-  named_still : (p : ℕ) (o : ObjectId) → b p o ≡ false → is_name_of first p o ≡ true → is_name_of both_gone p o ≡ true
+  named_still : (p : ℕ) (o : Identity) → b p o ≡ false → is_name_of first p o ≡ true → is_name_of both_gone p o ≡ true
   named_still p o none has =
       let m = any_found (λ (m : Name). (m.process == p) && same m.object o) first has in
       let t = both (m.0.process == p) (same m.0.object o) m.2 in
@@ -186,7 +186,7 @@ module _ (a b : NameTest) (s : Space) where
       any_in (λ (m : Name). (m.process == p) && same m.object o) m.0 _
       (filter_in (λ (m : Name). not (b m.process m.object) || is_named_in s.objects s.references m.process m.object) m.0 first m.1 (rw at refl)) m.2
 
-  named_before : (p : ℕ) (o : ObjectId) → is_name_of both_gone p o ≡ true → is_name_of first p o ≡ true
+  named_before : (p : ℕ) (o : Identity) → is_name_of both_gone p o ≡ true → is_name_of first p o ≡ true
   named_before p o has =
       let m = any_found (λ (m : Name). (m.process == p) && same m.object o) both_gone has in
       any_in (λ (m : Name). (m.process == p) && same m.object o) m.0 first
@@ -275,7 +275,7 @@ module _ (a b : NameTest) (s : Space) where
       ∙ ap (λ ds. out both_gone ds (todo_if ds)) (twice _ _ _ s.deaths (λ x. death_stays (a x.process x.object) (b x.process x.object) x.cleared _ _ (named_before x.process x.object) (named_still x.process x.object)))
       ∙ ap (out both_gone deaths_gone) (twice _ _ _ s.todo (λ w. kinds_then w.kind)))
 
-pub names_next : (p : ℕ) (os : List ObjectId) (k : ℕ) (d : ObjectId) (s : Space) → k < length os
+pub names_next : (p : ℕ) (os : List Identity) (k : ℕ) (d : Identity) (s : Space) → k < length os
     → names_followed (at_name p (get_or os k d)) (names_followed (names_among p (take k os)) s) ≡ names_followed (names_among p (take (k + 1) os)) s
 names_next p os k d s lt = names_then (names_among p (take k os)) (at_name p (get_or os k d)) s ∙ ap (λ a. names_followed a s) (sym (named_next p os k d lt))
 

@@ -7,7 +7,7 @@ use Rattle.std.proofs.Math.Path.{fun_ext}
 use Rattle.std.proofs.lemmas.List.Elements.{filter_agree}
 use Rattle.std.proofs.lemmas.List.{take_more}
 use Rattle.std.proofs.lemmas.List.Sums.{fold_more}
-use Rattle.bd_space.specs.declared.step.ObjectId.{ObjectId}
+use Rattle.bd_space.specs.declared.step.Identity.{Identity}
 use Rattle.bd_space.specs.declared.space.Object.{Object}
 use Rattle.bd_space.specs.declared.space.Name.{Name}
 use Rattle.bd_space.specs.declared.space.Item.{Item}
@@ -36,21 +36,21 @@ use Rattle.bd_step.proofs.Following.{keeps_all, keeps_none, twice, either_or, du
 
 -- ---- one object more
 
-among_next : (os : List ObjectId) (k : ℕ) (d : ObjectId) → k < length os
+among_next : (os : List Identity) (k : ℕ) (d : Identity) → k < length os
     → is_among (take (k + 1) os) ≡ (λ i. is_among (take k os) i || at_object (get_or os k d) i)
 among_next os k d lt = fun_ext (λ i.
-    ap (λ (xs : List ObjectId). is_among xs i) (take_more os k d lt)
+    ap (λ (xs : List Identity). is_among xs i) (take_more os k d lt)
     ∙ any_append (λ x. at_object x i) (take k os) (get_or os k d ∷ [])
     ∙ ap (λ b. is_among (take k os) i || b) (or-false (at_object (get_or os k d) i)))
 
-pub among_one : (o : ObjectId) → is_among (o ∷ []) ≡ at_object o
+pub among_one : (o : Identity) → is_among (o ∷ []) ≡ at_object o
 among_one o = fun_ext (λ i. or-false (at_object o i))
 
 -- the objects of a parcel, and those of whose Notices these are
 pub among_items : (items : List Item) → is_among (map object_of_item items) ≡ objects_of_items items
 among_items items = fun_ext (λ o. each o items)
   where
-    sides : (a b : ObjectId) → same a b ≡ same b a
+    sides : (a b : Identity) → same a b ≡ same b a
     sides a b = at (same a b) refl (same b a) refl
       where
         at : (c : Bool) → same a b ≡ c → (d : Bool) → same b a ≡ d → c ≡ d
@@ -59,18 +59,18 @@ among_items items = fun_ext (λ o. each o items)
         at false e true f = let yes_it = eq_same a b (sym (same_eq b a f)) in absurd (cc)
         at false e false f = refl
 
-    each : (o : ObjectId) (items : List Item) → is_among (map object_of_item items) o ≡ objects_of_items items o
+    each : (o : Identity) (items : List Item) → is_among (map object_of_item items) o ≡ objects_of_items items o
     each o [] = refl
     each o (x ∷ xs) = ap (λ b. b || is_among (map object_of_item xs) o) (sides o x.object) ∙ ap (λ b. same x.object o || b) (each o xs)
 
 pub among_noticed : (ws : List Work) → is_among (filter_map (λ w. notice_of w.kind) ws) ≡ is_told_by ws
 among_noticed ws = fun_ext (λ o. each o ws)
   where
-    each : (o : ObjectId) (ws : List Work) → is_among (filter_map (λ w. notice_of w.kind) ws) o ≡ is_told_by ws o
+    each : (o : Identity) (ws : List Work) → is_among (filter_map (λ w. notice_of w.kind) ws) o ≡ is_told_by ws o
     each o [] = refl
     each o (w ∷ ws) = at (notice_of w.kind) (each o ws)
       where
-        at : (n : Option ObjectId) → is_among (filter_map (λ w. notice_of w.kind) ws) o ≡ is_told_by ws o
+        at : (n : Option Identity) → is_among (filter_map (λ w. notice_of w.kind) ws) o ≡ is_told_by ws o
             → is_among (cons_option n (filter_map (λ w. notice_of w.kind) ws)) o ≡ (is_some_and n (same o) || is_told_by ws o)
         at None e = e
         at (Some p) e = ap (λ b. same o p || b) e
@@ -103,7 +103,7 @@ module _ (b c : ObjectTest) (s : Space) where
   stays_if false n h e = absurd (cc)
 
   -- those that stay for the first test aren't lost by the second
-  found_still : (o : ObjectId) → b o ≡ true → object_in both_gone o ≡ object_in first o
+  found_still : (o : Identity) → b o ≡ true → object_in both_gone o ≡ object_in first o
   found_still o e = find_kept (λ (x : Object). same x.id o) (λ (x : Object). not (c x.id) || stays_in s.processes s.references x) first
       (λ x l is.
       let stays = stays_if (b x.id) _ (in_filter (λ (x : Object). not (b x.id) || stays_in s.processes s.references x) x s.objects l).1 (ap b (same_eq x.id o is) ∙ e) in
@@ -122,7 +122,7 @@ module _ (b c : ObjectTest) (s : Space) where
       sym (ap (λ os. left os (filter (λ (w : Work). notice_stays either (left os s.todo) w.kind) s.todo)) (twice _ _ _ s.objects (λ x. either_or (b x.id) (c x.id) (stays_in s.processes s.references x)))
       ∙ ap (left both_gone) (twice _ _ _ s.todo (λ w. kinds w.kind)))
 
-pub shed_next : (os : List ObjectId) (k : ℕ) (d : ObjectId) (s : Space) → k < length os
+pub shed_next : (os : List Identity) (k : ℕ) (d : Identity) (s : Space) → k < length os
     → shed_of (at_object (get_or os k d)) (shed_of (is_among (take k os)) s) ≡ shed_of (is_among (take (k + 1) os)) s
 shed_next os k d s lt = shed_then (is_among (take k os)) (at_object (get_or os k d)) s ∙ ap (λ b. shed_of b s) (sym (among_next os k d lt))
 
@@ -133,7 +133,7 @@ shed_none s =
     (keeps_all (λ (x : Object). true) s.objects (λ x. refl))
     ∙ ap (λ (ws : List Work). let z : Space = record s { todo = ws } in z) (keeps_all (λ (w : Work). notice_stays (is_among []) s w.kind) s.todo (λ w. unlooked_stays s w.kind))
 
-module _ (o : ObjectId) (s : Space) where
+module _ (o : Identity) (s : Space) where
   abbrev here : Space
   here = objects_go_of (at_object o) s
 
@@ -143,7 +143,7 @@ module _ (o : ObjectId) (s : Space) where
   kinds_stay b e (work.Notice i) = at (same i o) refl
     where
       at : (c : Bool) → same i o ≡ c → (not c || is_some_and (object_in here.objects i) (wants_notice s.processes s.references)) ≡ (b || not c)
-      at true j = ap (λ (q : ObjectId). is_some_and (object_in here.objects q) (wants_notice s.processes s.references)) (same_eq i o j) ∙ e ∙ sym (or-false b)
+      at true j = ap (λ (q : Identity). is_some_and (object_in here.objects q) (wants_notice s.processes s.references)) (same_eq i o j) ∙ e ∙ sym (or-false b)
       at false j = sym (or-true b)
   kinds_stay b e _ = sym (or-true b)
 
@@ -177,7 +177,7 @@ module _ (s : Space) where
       at true true e = rw e refl
       at true false e = rw made refl
 
-  module _ (o : ObjectId) (q : ObjectTest) (after : (i : ObjectId) → q i ≡ true → is_earlier i o ≡ false) where
+  module _ (o : Identity) (q : ObjectTest) (after : (i : Identity) → q i ≡ true → is_earlier i o ≡ false) where
     -- none of these is o, so that only the others' test counts
     none_at : (xs : List Object) → ((x : Object) → In x xs → same x.id o ≡ false) → (todo : List Work)
         → fold tell todo (filter (λ x. same x.id o || q x.id) xs) ≡ fold tell (fold tell todo (filter (λ x. same x.id o) xs)) (filter (λ x. q x.id) xs)
@@ -219,7 +219,7 @@ module _ (s : Space) where
         at false e false f more = more
 
   -- o's object is the only one of its identity
-  told_found : (xs : List Object) (o : ObjectId) → Pairs Earlier xs → (todo : List Work)
+  told_found : (xs : List Object) (o : Identity) → Pairs Earlier xs → (todo : List Work)
       → fold tell todo (filter (λ x. same x.id o) xs) ≡ elim (object_in xs o) as (λ (f : Option Object). List Work) [ None ↦ todo | Some x ↦ tell todo x ]
   told_found [] o h todo = refl
   told_found (x ∷ xs) o h todo = at (same x.id o) refl (told_found xs o h.1 todo)
@@ -232,10 +232,10 @@ module _ (s : Space) where
           (later_others o (λ i. false) (λ i k. absurd (cc)) x xs h.0 (ap (is_earlier x.id) (sym (same_eq x.id o e)) ∙ never_earlier x.id)))
       at false e more = more
 
-  after_all : (o : ObjectId) (os : List ObjectId) → ((i : ObjectId) → In i os → NotLater o i) → (i : ObjectId) → is_among os i ≡ true → is_earlier i o ≡ false
+  after_all : (o : Identity) (os : List Identity) → ((i : Identity) → In i os → NotLater o i) → (i : Identity) → is_among os i ≡ true → is_earlier i o ≡ false
   after_all o os h i e = let x = any_found (λ x. at_object x i) os e in ap (λ k. is_earlier k o) (same_eq i x.0 x.2) ∙ h x.0 x.1
 
-  pub told_in_order : (os : List ObjectId) (todo : List Work) → Pairs NotLater os → Pairs Earlier s.objects
+  pub told_in_order : (os : List Identity) (todo : List Work) → Pairs NotLater os → Pairs Earlier s.objects
       → fold (told_at s) todo os ≡ fold tell todo (filter (λ x. is_among os x.id) s.objects)
   told_in_order [] todo h k = ap (fold tell todo) (sym (keeps_none (λ (x : Object). false) s.objects (λ x l. refl)))
   told_in_order (o ∷ os) todo h k =
@@ -245,7 +245,7 @@ module _ (s : Space) where
 
 -- ---- one more object's Notice
 
-pub told_next : (os : List ObjectId) (k : ℕ) (d : ObjectId) (s : Space) → k < length os
+pub told_next : (os : List Identity) (k : ℕ) (d : Identity) (s : Space) → k < length os
     → record s { todo = told_at s (told_of (take k os) s).todo (get_or os k d) } ≡ told_of (take (k + 1) os) s
 unfolding told_of
 told_next os k d s lt = ap (λ (ws : List Work). let z : Space = record s { todo = ws } in z) (sym (fold_more (told_at s) s.todo os k d lt))
@@ -268,7 +268,7 @@ follow_shed b s =
     followed : List Name → List DeathNotification → List Work → Space
     followed ns ds ws = record s { names = ns; objects = objects; deaths = ds; todo = fold (tell s) ws (filter (λ x. b x.id) objects) }
 
-pub objects_followed : (os : List ObjectId) (s : Space) → Pairs NotLater os → Pairs Earlier s.objects → told_of os (shed_of (is_among os) s) ≡ follow_of no_name (is_among os) s
+pub objects_followed : (os : List Identity) (s : Space) → Pairs NotLater os → Pairs Earlier s.objects → told_of os (shed_of (is_among os) s) ≡ follow_of no_name (is_among os) s
 unfolding told_of shed_of objects_go_of notify_of
 objects_followed os s h k =
     ap (λ (ws : List Work). let z : Space = record (shed_of (is_among os) s) { todo = ws } in z)
@@ -276,7 +276,7 @@ objects_followed os s h k =
     ∙ sym (follow_shed (is_among os) s)
 
 -- where they are one
-pub one_followed : (os : List ObjectId) (d : ObjectId) (s : Space) → length os ≡ 1 → followed_at (get_or os 0 d) s ≡ told_of os (shed_of (is_among os) s)
+pub one_followed : (os : List Identity) (d : Identity) (s : Space) → length os ≡ 1 → followed_at (get_or os 0 d) s ≡ told_of os (shed_of (is_among os) s)
 one_followed [] d s e = absurd (omega (arith, e))
 one_followed (o ∷ []) d s e = ap (λ b. told_of (o ∷ []) (shed_of b s)) (sym (among_one o))
 one_followed (o ∷ p ∷ os) d s e = absurd (omega (arith, e))
@@ -301,13 +301,13 @@ owner_wanted (Some x) w b e = at (w x) e
     at false k = k
 
 -- so its Notice is made if it is missing, or there is none to make
-pub told_owner : (s : Space) (todo : List Work) (o : ObjectId) (x : Object) (p : ℕ) → object_in s.objects o ≡ Some x → x.owner ≡ p
+pub told_owner : (s : Space) (todo : List Work) (o : Identity) (x : Object) (p : ℕ) → object_in s.objects o ≡ Some x → x.owner ≡ p
     → with_notice s.steps s.processes s.references (OfProcess p) todo x ≡ told_at s todo o
 told_owner s todo o x p e owns =
     ap (λ q. with_notice s.steps s.processes s.references (OfProcess q) todo x) (sym owns)
     ∙ ap (λ (f : Option Object). elim f as (λ (f : Option Object). List Work) [ None ↦ todo | Some x ↦ with_notice s.steps s.processes s.references (OfProcess x.owner) todo x ]) (sym e)
 
-pub told_nobody : (s : Space) (todo : List Work) (o : ObjectId) → option_and_then (λ x. when (wants_notice s.processes s.references x) x.owner) (object_in s.objects o) ≡ None
+pub told_nobody : (s : Space) (todo : List Work) (o : Identity) → option_and_then (λ x. when (wants_notice s.processes s.references x) x.owner) (object_in s.objects o) ≡ None
     → todo ≡ told_at s todo o
 told_nobody s todo o e = at (object_in s.objects o) (owner_wanted (object_in s.objects o) (wants_notice s.processes s.references) false (ap is_some e))
   where

@@ -5,7 +5,7 @@ use Rattle.std.specs.Prelude.{if◌then◌else◌}
 use Rattle.std.specs.Option.{option_map}
 use Rattle.std.proofs.lemmas.Bool.{eqb-true, eq-eqb}
 use Rattle.bd_uapi.specs.declared.fault.Note.TheVariants.{NotHandedOut}
-use Rattle.bd_space.specs.declared.step.ObjectId.{ObjectId}
+use Rattle.bd_space.specs.declared.step.Identity.{Identity}
 use Rattle.bd_space.specs.declared.space.Buffer.{Buffer}
 use Rattle.bd_space.specs.declared.space.Reference.{Reference}
 use Rattle.bd_space.specs.declared.space.Turn.{Turn}
@@ -51,7 +51,7 @@ module _ (s : Space) (made : ℕ) (tidy : IsTidy s) where
       at None f = let some = find_some (is_made_at made) c s.buffers l e in absurd (cc)
       at (Some b) f = let k = find_in (is_made_at made) b s.buffers f in ap (λ x. Some x) (one_made b c k.0 l k.1 e)
 
-  target : (o : Option ObjectId) → turn_target_at s made ≡ o → (c : Buffer) → In c s.buffers → is_made_at made c ≡ true → turn_target (Some c) ≡ o
+  target : (o : Option Identity) → turn_target_at s made ≡ o → (c : Buffer) → In c s.buffers → is_made_at made c ≡ true → turn_target (Some c) ≡ o
   target o is c l e = ap turn_target (sym (found c l e)) ∙ is
 
   gone_elsewhere : Elsewhere (names_of_references (references_of_buffer s made)) (objects_of_references (references_of_buffer s made)) (without_buffer s made)
@@ -60,7 +60,7 @@ module _ (s : Space) (made : ℕ) (tidy : IsTidy s) where
       let e = elsewhere_said _ _ s _ tidy.quiet.followed (filtered_said (λ (r : Reference). is_of_buffer made r.holder) s.references) in
       record { names = e.names; objects = e.objects; deaths = e.deaths; notices = e.notices; tellings = e.tellings; made = e.made }
 
-  freed_follows : (o : Option ObjectId) → turn_target_at s made ≡ o → completed (without_buffer s made) ≡ follow (ripen_next o (without_buffer s made))
+  freed_follows : (o : Option Identity) → turn_target_at s made ≡ o → completed (without_buffer s made) ≡ follow (ripen_next o (without_buffer s made))
   freed_follows None is =
       freed_two_way s made tidy.quiet (λ c l e. none (turn_of c) (target None is c l e)) ∙ sym (follow_local _ _ (without_buffer s made) gone_elsewhere)
     where
@@ -71,13 +71,13 @@ module _ (s : Space) (made : ℕ) (tidy : IsTidy s) where
       freed_local s made o tidy.quiet (λ c l e t turn. eq_same t.target o (some (ap (option_map (λ t. t.target)) (sym turn) ∙ target (Some o) is c l e)))
       ∙ sym (follow_local _ _ (ripen_of o (without_buffer s made)) (ripen_of_elsewhere _ _ o (without_buffer s made) gone_elsewhere))
     where
-      some : {a b : ObjectId} → Some a ≡ Some b → a ≡ b
+      some : {a b : Identity} → Some a ≡ Some b → a ≡ b
       some h = cc
 
 -- ---- the buffer's references are of these objects, and in its receiver's window
 
 -- where more is looked at, nothing is pending elsewhere either
-more_elsewhere : (a c : NameTest) (b e : ObjectTest) (z : Space) → ((p : ℕ) (o : ObjectId) → c p o ≡ false → a p o ≡ false) → ((o : ObjectId) → e o ≡ false → b o ≡ false)
+more_elsewhere : (a c : NameTest) (b e : ObjectTest) (z : Space) → ((p : ℕ) (o : Identity) → c p o ≡ false → a p o ≡ false) → ((o : Identity) → e o ≡ false → b o ≡ false)
     → Elsewhere a b z → Elsewhere c e z
 more_elsewhere a c b e z names objects h = record {
   names = λ m l none. h.names m l (names m.process m.object none);
@@ -96,14 +96,14 @@ window_name q made (Asked p) e f = absurd (cc)
 window_name q made Handshake e f = absurd (cc)
 window_name q made Manager e f = absurd (cc)
 
-module _ (s : Space) (p made : ℕ) (os : List ObjectId) (k : IsFreeing p made os s) where
-  referred_object : (o : ObjectId) → objects_of_references (references_of_buffer s made) o ≡ true → is_among os o ≡ true
+module _ (s : Space) (p made : ℕ) (os : List Identity) (k : IsFreeing p made os s) where
+  referred_object : (o : Identity) → objects_of_references (references_of_buffer s made) o ≡ true → is_among os o ≡ true
   referred_object o e =
       let r = any_found (λ (r : Reference). same r.object o) (references_of_buffer s made) e in
       ap (λ (b : ObjectTest). b o) k.touches.among
       ∙ any_in (λ i. at_object i o) r.0.object (referred s made) (map_in (λ (r : Reference). r.object) r.0 (references_of_buffer s made) r.1) (eq_same o r.0.object (sym (same_eq r.0.object o r.2)))
 
-  referred_name : (q : ℕ) (o : ObjectId) → names_of_references (references_of_buffer s made) q o ≡ true → names_among p os q o ≡ true
+  referred_name : (q : ℕ) (o : Identity) → names_of_references (references_of_buffer s made) q o ≡ true → names_among p os q o ≡ true
   referred_name q o e =
       let r = any_found (λ (r : Reference). same r.object o && gives_name_to q r.holder) (references_of_buffer s made) e in
       let t = both (same r.0.object o) (gives_name_to q r.0.holder) r.2 in
@@ -113,22 +113,22 @@ module _ (s : Space) (p made : ℕ) (os : List ObjectId) (k : IsFreeing p made o
       let x = any_found (λ i. at_object i o) os (referred_object o (any_in (λ (r : Reference). same r.object o) r.0 (references_of_buffer s made) r.1 t.0)) in
       any_in (λ i. at_name p i q o) x.0 os x.1 (and_both (q == p) (same o x.0) (eq-eqb q p (sym its ∙ k.is_its)) x.2)
 
-  freed_elsewhere : (turn : Option ObjectId) → Elsewhere (names_among p os) (is_among os) (ripen_next turn (without_buffer s made))
+  freed_elsewhere : (turn : Option Identity) → Elsewhere (names_among p os) (is_among os) (ripen_next turn (without_buffer s made))
   freed_elsewhere turn =
       at turn (more_elsewhere _ (names_among p os) _ (is_among os) (without_buffer s made)
       (λ q o none. to_false _ (λ e. let yes = referred_name q o e in cc)) (λ o none. to_false _ (λ e. let yes = referred_object o e in cc)) (gone_elsewhere s made k.tidy))
     where
-      at : (turn : Option ObjectId) → Elsewhere (names_among p os) (is_among os) (without_buffer s made) → Elsewhere (names_among p os) (is_among os) (ripen_next turn (without_buffer s made))
+      at : (turn : Option Identity) → Elsewhere (names_among p os) (is_among os) (without_buffer s made) → Elsewhere (names_among p os) (is_among os) (ripen_next turn (without_buffer s made))
       at None h = h
       at (Some o) h = ripen_of_elsewhere (names_among p os) (is_among os) o (without_buffer s made) h
 
-  pub freed_followed : (turn : Option ObjectId) → turn_target_at s made ≡ turn
+  pub freed_followed : (turn : Option Identity) → turn_target_at s made ≡ turn
       → completed (without_buffer s made) ≡ follow_of (names_among p os) (is_among os) (ripen_next turn (without_buffer s made))
   freed_followed turn e =
       freed_follows s made k.tidy turn e ∙ follow_local (names_among p os) (is_among os) (ripen_next turn (without_buffer s made)) (freed_elsewhere turn)
 
 -- freeing leaves the objects
-pub freed_ordered : (s : Space) (made : ℕ) (turn : Option ObjectId) → Pairs Earlier s.objects → Pairs Earlier (ripen_next turn (without_buffer s made)).objects
+pub freed_ordered : (s : Space) (made : ℕ) (turn : Option Identity) → Pairs Earlier s.objects → Pairs Earlier (ripen_next turn (without_buffer s made)).objects
 unfolding without_buffer
 freed_ordered s made turn h = ripened_ordered turn (without_buffer s made) h
 

@@ -5,7 +5,7 @@ use Rattle.std.proofs.lemmas.Bool.{eqb-true, eq-eqb}
 use Rattle.std.proofs.lemmas.List.{append-nil}
 use Rattle.std.proofs.lemmas.Option.{slice_get-get_or}
 use Rattle.std.proofs.lemmas.List.Folds.{list_any-append}
-use Rattle.bd_space.specs.declared.step.ObjectId.{ObjectId}
+use Rattle.bd_space.specs.declared.step.Identity.{Identity}
 use Rattle.bd_space.specs.declared.space.Object.{Object}
 use Rattle.bd_space.specs.declared.space.Reference.{Reference}
 use Rattle.bd_space.specs.declared.space.Frame.{Frame}
@@ -83,13 +83,13 @@ grows_refl x = record { objects = λ o h. h; frames = λ m h. h }
 pub grows_then : (x y z : Exit) → Grows x y → Grows y z → Grows x z
 grows_then x y z h k = record { objects = λ o i. k.objects o (h.objects o i); frames = λ m i. k.frames m (h.frames m i) }
 
-among_before : (xs ys : List ObjectId) → HasAll (xs ++ ys) xs
+among_before : (xs ys : List Identity) → HasAll (xs ++ ys) xs
 among_before xs ys o h = list_any-append (λ i. same o i) xs ys ∙ or_left (is_among xs o) (is_among ys o) h
 
-among_after : (xs ys : List ObjectId) → HasAll (xs ++ ys) ys
+among_after : (xs ys : List Identity) → HasAll (xs ++ ys) ys
 among_after xs ys o h = list_any-append (λ i. same o i) xs ys ∙ or_right (is_among xs o) (is_among ys o) h
 
-pub grows_by : (x y : Exit) (os : List ObjectId) (ms : List ℕ) → y.objects.items ≡ x.objects.items ++ os → y.frames.items ≡ x.frames.items ++ ms → Grows x y
+pub grows_by : (x y : Exit) (os : List Identity) (ms : List ℕ) → y.objects.items ≡ x.objects.items ++ os → y.frames.items ≡ x.frames.items ++ ms → Grows x y
 grows_by x y os ms e f = record {
   objects = λ o h. ap (λ xs. is_among xs o) e ∙ among_before x.objects.items os o h;
   frames = λ m h. ap (λ ms. is_place_among ms m) f ∙ list_any-append (λ n. n == m) x.frames.items ms ∙ or_left _ (is_place_among ms m) h;
@@ -110,17 +110,17 @@ more_thread x y s seat h k = record {
 
 -- ---- an item
 
-among_new : (x : Exit) (xs ys : List ObjectId) (o : ObjectId) → x.objects.items ≡ xs ++ ys → is_among ys o ≡ true → HasObject x o
+among_new : (x : Exit) (xs ys : List Identity) (o : Identity) → x.objects.items ≡ xs ++ ys → is_among ys o ≡ true → HasObject x o
 among_new x xs ys o e h = ap (λ zs. is_among zs o) e ∙ among_after xs ys o h
 
 place_new : (x : Exit) (ms ns : List ℕ) (m : ℕ) → x.frames.items ≡ ms ++ ns → is_place_among ns m ≡ true → HasFrame x m
 place_new x ms ns m e h = ap (λ zs. is_place_among zs m) e ∙ list_any-append (λ n. n == m) ms ns ∙ or_right (is_place_among ms m) _ h
 
-map_among : {A : Type 0} (f : A → ObjectId) (p : A → Bool) (xs : List A) (x : A) → In x xs → p x ≡ true → is_among (map f (filter p xs)) (f x) ≡ true
-map_among f p xs x l e = any_in (λ (o : ObjectId). same (f x) o) (f x) (map f (filter p xs)) (map_in f x (filter p xs) (filter_in p x xs l e)) (eq_same (f x) (f x) refl)
+map_among : {A : Type 0} (f : A → Identity) (p : A → Bool) (xs : List A) (x : A) → In x xs → p x ≡ true → is_among (map f (filter p xs)) (f x) ≡ true
+map_among f p xs x l e = any_in (λ (o : Identity). same (f x) o) (f x) (map f (filter p xs)) (map_in f x (filter p xs) (filter_in p x xs l e)) (eq_same (f x) (f x) refl)
 
 module _ (s : Space) (old new : Exit) where
-  pub notice_gathered : (o : ObjectId) → new.objects.items ≡ old.objects.items ++ o ∷ [] → HasWork new s (work.Notice o)
+  pub notice_gathered : (o : Identity) → new.objects.items ≡ old.objects.items ++ o ∷ [] → HasWork new s (work.Notice o)
   notice_gathered o e = record {
     notice = λ i t. among_new new old.objects.items (o ∷ []) i e (or_left (same i o) false (eq_same i o (sym (same_eq o i t))));
     handed = λ b r f l t. absurd (cc);
@@ -207,7 +207,7 @@ module _ (x : Exit) (s : Space) where
           (ap (λ o. is_some_and o (λ c. c == b)) f ∙ eq-eqb b b refl)
 
   left_has : (gone : Reference → Bool) (lists : List TodoList) → ((r : Reference) → In r s.references → gone r ≡ true → HasObject x r.object) → ((l : TodoList) → In l lists → HasList x s l)
-      → (o : ObjectId) → left_objects gone lists s o ≡ true → HasObject x o
+      → (o : Identity) → left_objects gone lists s o ≡ true → HasObject x o
   left_has gone lists refs has o e = at (list_any (λ (r : Reference). same r.object o && gone r) s.references) refl e
     where
       at : (b : Bool) → list_any (λ (r : Reference). same r.object o && gone r) s.references ≡ b → (b || list_any (λ (w : Work). is_notice o w.kind && list_any (λ (l : TodoList). is_on l w) lists) s.todo) ≡ true → HasObject x o
@@ -242,7 +242,7 @@ module _ (x : Exit) (s : Space) where
     its_list l (inl e) = subst (HasList x s) e h.list
     its_list l (inr none) = absurd none
 
-    pub thread_objects : (o : ObjectId) → objects_left s seat o ≡ true → HasObject x o
+    pub thread_objects : (o : Identity) → objects_left s seat o ≡ true → HasObject x o
     thread_objects o e = left_has (λ (r : Reference). is_lost_reference s.todo (OfThread seat) r) (OfThread seat ∷ []) (λ r l f. lost_has (OfThread seat) h.list r l f) its_list o e
 
     pub thread_frames : (m : ℕ) → frames_left s seat m ≡ true → HasFrame x m
@@ -265,7 +265,7 @@ module _ (x : Exit) (s : Space) where
         at true f t = h.dropped r l f
         at false f t = let u = any_found (λ t. is_lost_reference s.todo (OfThread t) r) (seats_in s p) t in lost_has (OfThread u.0) (h.threads u.0 u.1).list r l u.2
 
-    pub process_objects : (o : ObjectId) → objects_ended s p o ≡ true → HasObject x o
+    pub process_objects : (o : Identity) → objects_ended s p o ≡ true → HasObject x o
     process_objects o e = at (owned_in s.objects p o) refl e
       where
         at : (b : Bool) → owned_in s.objects p o ≡ b → (b || left_objects (lost_with_process s p) (lists_in s p) s o) ≡ true → HasObject x o

@@ -9,7 +9,7 @@ use Rattle.bd_uapi.specs.declared.fault.Cause.{Cause}
 use Rattle.bd_uapi.specs.declared.fault.Note.{Note}
 use Rattle.bd_uapi.specs.declared.fault.Note.TheVariants.{NoneTold}
 use Rattle.bd_space.specs.Words.{ok_or}
-use Rattle.bd_space.specs.declared.step.ObjectId.{ObjectId}
+use Rattle.bd_space.specs.declared.step.Identity.{Identity}
 use Rattle.bd_space.specs.declared.step.Parcel.{Parcel}
 use Rattle.bd_space.specs.declared.step.Step.{Step}
 use Rattle.bd_space.specs.declared.step.Step.TheVariants as step_of
@@ -134,15 +134,15 @@ checked_live : {A : Type 0} (s : Space) (f : A → Space) (r : Result A Note) �
 checked_live s f (Err n) same = all_live s.buffers
 checked_live s f (Ok x) same = completed_live s (f x) (same_live s.buffers _ (same x))
 
-asked_buffers : (s : Space) (p : ℕ) (o : ObjectId) (strong : Bool) → (ask s p o strong).buffers ≡ s.buffers
+asked_buffers : (s : Space) (p : ℕ) (o : Identity) (strong : Bool) → (ask s p o strong).buffers ≡ s.buffers
 unfolding ask assign_numbers
 asked_buffers s p o strong = refl
 
-dropped_buffers : (s : Space) (p : ℕ) (o : ObjectId) (strong : Bool) → (drop_asked s p o strong).buffers ≡ s.buffers
+dropped_buffers : (s : Space) (p : ℕ) (o : Identity) (strong : Bool) → (drop_asked s p o strong).buffers ≡ s.buffers
 unfolding drop_asked
 dropped_buffers s p o strong = refl
 
-acknowledged_buffers : (s : Space) (o : ObjectId) (strong : Bool) → (acknowledge s o strong).buffers ≡ s.buffers
+acknowledged_buffers : (s : Space) (o : Identity) (strong : Bool) → (acknowledge s o strong).buffers ≡ s.buffers
 unfolding acknowledge
 acknowledged_buffers s o strong = refl
 

@@ -6,7 +6,7 @@ use Rattle.bd_uapi.specs.declared.command.TransactionData.{TransactionData}
 use Rattle.bd_uapi.specs.declared.object.FlatObject.{FlatObject}
 use Rattle.bd_uapi.specs.declared.fault.Fault.{Fault}
 use Rattle.bd_uapi.specs.declared.fault.Note.TheVariants.{NoSuchNumber, AlreadyAsked}
-use Rattle.bd_space.specs.declared.step.ObjectId.{ObjectId}
+use Rattle.bd_space.specs.declared.step.Identity.{Identity}
 use Rattle.bd_space.specs.declared.step.Parcel.{Parcel}
 use Rattle.bd_space.specs.declared.space.Object.{Object}
 use Rattle.bd_space.specs.declared.space.Item.{Item}
@@ -37,14 +37,14 @@ is_none (Some x) h = absurd (cc)
 -- ---- objects
 
 -- no object has an identity that each differs from
-object_none : (objects : List Object) (o : ObjectId) → ((x : Object) → In x objects → x.id ≡ o → ⊥) → object_in objects o ≡ None
+object_none : (objects : List Object) (o : Identity) → ((x : Object) → In x objects → x.id ≡ o → ⊥) → object_in objects o ≡ None
 object_none objects o h = find_none (λ (x : Object). same x.id o) objects (λ x l. to_false (same x.id o) (λ e. h x l (same_eq x.id o e)))
 
 -- objects are of earlier steps
-earlier : (s : Space) (i : ℕ) → IsTidy s → (x : Object) → In x s.objects → x.id ≡ (let o : ObjectId = record { place = s.steps; index = i } in o) → ⊥
+earlier : (s : Space) (i : ℕ) → IsTidy s → (x : Object) → In x s.objects → x.id ≡ (let o : Identity = record { place = s.steps; index = i } in o) → ⊥
 earlier s i tidy x l e =
     let lt = tidy.before.objects.kept.below x l in
-    let at : x.id.place ≡ s.steps = ap (λ (o : ObjectId). o.place) e in
+    let at : x.id.place ≡ s.steps = ap (λ (o : Identity). o.place) e in
     omega arith
 
 are_new_push : (objects made : List Object) (o : Object) → AreNewIn objects made → IsNewIn (objects ++ made) o → AreNewIn objects (made ++ o ∷ [])
@@ -63,7 +63,7 @@ module _ (s : Space) (p : ℕ) (tidy : IsTidy s) where
       let o = new_object s.steps p made x in (
         object_none (s.objects ++ made) o.id (λ y l e. elim (in_append y s.objects made l) [
           | inl i ↦ earlier s (length made) tidy y i e
-          | inr i ↦ (let lt = h.index y i in let at : y.id.index ≡ length made = ap (λ (o : ObjectId). o.index) e in omega arith)
+          | inr i ↦ (let lt = h.index y i in let at : y.id.index ≡ length made = ap (λ (o : Identity). o.index) e in omega arith)
         ]),
         none,
       )
@@ -103,10 +103,10 @@ unfolding IsQueued
 unnotified s place at tidy =
     find_none (is_notification place) s.deaths (λ x l. to_false (x.made == place) (λ e. let lt = tidy.queued.fresh x l in let is = eqb-true x.made place e in omega arith))
 
-pub new_death : (s : Space) (place p n : ℕ) (o : ObjectId) → s.steps ≡ place → IsTidy s → request_check s p n ≡ Ok o → IsNewDeath place p o s
+pub new_death : (s : Space) (place p n : ℕ) (o : Identity) → s.steps ≡ place → IsTidy s → request_check s p n ≡ Ok o → IsNewDeath place p o s
 unfolding request_check
 new_death s place p n o at tidy check =
-    let c = and_then_ok (ok_or (named s p n) NoSuchNumber) (λ (o : ObjectId). unless (when (is_some (uncleared_in s.deaths p o)) AlreadyAsked) o) o check in
+    let c = and_then_ok (ok_or (named s p n) NoSuchNumber) (λ (o : Identity). unless (when (is_some (uncleared_in s.deaths p o)) AlreadyAsked) o) o check in
     let k = unless_ok (when (is_some (uncleared_in s.deaths p c.0)) AlreadyAsked) c.0 o c.2 in
     record {
       at = at;

@@ -1,6 +1,6 @@
 -- What follows from a reading between two steps: a look at the objects of its Notices does it all.
 use Rattle.std.proofs.Common.{◌≡◌, ℕ, List, Some, ap, sym, subst, ◌∙◌}
-use Rattle.bd_space.specs.declared.step.ObjectId.{ObjectId}
+use Rattle.bd_space.specs.declared.step.Identity.{Identity}
 use Rattle.bd_space.specs.declared.space.Thread.{Thread}
 use Rattle.bd_space.specs.declared.space.TodoList.{TodoList}
 use Rattle.bd_space.specs.declared.space.Work.{Work}
@@ -19,7 +19,7 @@ use Rattle.bd_step.specs.Taking.{IsReading}
 pub read_ordered : (s : Space) (seat : ℕ) (ws : List Work) → IsTidy s → Pairs Earlier (read_by s seat ws).objects
 read_ordered s seat ws tidy = (read_kept s seat ws (later s tidy.before.objects).kept).in_order
 
-pub read_followed : (s : Space) (t : Thread) (list : TodoList) (seat left : ℕ) (os : List ObjectId) → IsReading t list s → is_among os ≡ is_told_by (taken s left (work_on s.todo (Some list)))
+pub read_followed : (s : Space) (t : Thread) (list : TodoList) (seat left : ℕ) (os : List Identity) → IsReading t list s → is_among os ≡ is_told_by (taken s left (work_on s.todo (Some list)))
     → (let z = read_by s seat (taken s left (work_on s.todo (Some list))) in follow_of no_name (is_among os) z ≡ follow z)
 read_followed s t list seat left os r are =
     ap (λ (b : ObjectTest). follow_of no_name b (read_by s seat (taken s left (work_on s.todo (Some list))))) are

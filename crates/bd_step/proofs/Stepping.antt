@@ -6,7 +6,7 @@ use Rattle.bd_uapi.specs.declared.command.Return.{Return}
 use Rattle.bd_uapi.specs.declared.fault.Cause.{Cause}
 use Rattle.bd_uapi.specs.declared.fault.Cause.TheVariants.{NoManager, DeadOwner, CallerGone}
 use Rattle.bd_uapi.specs.declared.command.Return.TheVariants.{FailedReply, TransactionComplete}
-use Rattle.bd_space.specs.declared.step.ObjectId.{ObjectId}
+use Rattle.bd_space.specs.declared.step.Identity.{Identity}
 use Rattle.bd_space.specs.declared.step.Parcel.{Parcel}
 use Rattle.bd_space.specs.declared.space.Process.{Process}
 use Rattle.bd_space.specs.declared.space.Frame.{Frame}
@@ -42,30 +42,30 @@ if_lives ps made (Some q) e = found_lives ps made q (sym e)
 
 -- ---- whom a transaction goes to
 
-abbrev callee : ObjectId → Process → Callee
+abbrev callee : Identity → Process → Callee
 callee o q = record { object = o; process = q }
 
-abbrev with_owner : Space → ObjectId → Result Callee Cause
+abbrev with_owner : Space → Identity → Result Callee Cause
 with_owner s o = ok_or (option_map (callee o) (owner_of s o)) DeadOwner
 
-pub target_manager : (s : Space) (p handle : ℕ) (o : ObjectId) → handle ≡ 0 → s.manager ≡ Some o → not_own s p o ≡ target_of s p handle
+pub target_manager : (s : Space) (p handle : ℕ) (o : Identity) → handle ≡ 0 → s.manager ≡ Some o → not_own s p o ≡ target_of s p handle
 unfolding target_of
 target_manager s p handle o e m =
-    ap (λ (x : Option ObjectId). and_then (ok_or x NoManager) (not_own s p)) (sym m) ∙ rw e refl
+    ap (λ (x : Option Identity). and_then (ok_or x NoManager) (not_own s p)) (sym m) ∙ rw e refl
 
-pub owner_dead : (s : Space) (p handle : ℕ) (o : ObjectId) → Ok o ≡ target_of s p handle → None ≡ owner_of s o → Err DeadOwner ≡ callee_of s p handle
+pub owner_dead : (s : Space) (p handle : ℕ) (o : Identity) → Ok o ≡ target_of s p handle → None ≡ owner_of s o → Err DeadOwner ≡ callee_of s p handle
 unfolding callee_of
 owner_dead s p handle o e k =
-    ap (λ (x : Option Process). ok_or (option_map (λ (q : Process). callee o q) x) DeadOwner) k ∙ ap (λ (r : Result ObjectId Cause). and_then r (with_owner s)) e
+    ap (λ (x : Option Process). ok_or (option_map (λ (q : Process). callee o q) x) DeadOwner) k ∙ ap (λ (r : Result Identity Cause). and_then r (with_owner s)) e
 
-pub owner_lives : (s : Space) (p handle : ℕ) (o : ObjectId) (q : Process) → Ok o ≡ target_of s p handle → Some q ≡ owner_of s o → Ok (callee o q) ≡ callee_of s p handle
+pub owner_lives : (s : Space) (p handle : ℕ) (o : Identity) (q : Process) → Ok o ≡ target_of s p handle → Some q ≡ owner_of s o → Ok (callee o q) ≡ callee_of s p handle
 unfolding callee_of
 owner_lives s p handle o q e k =
-    ap (λ (x : Option Process). ok_or (option_map (λ (q : Process). callee o q) x) DeadOwner) k ∙ ap (λ (r : Result ObjectId Cause). and_then r (with_owner s)) e
+    ap (λ (x : Option Process). ok_or (option_map (λ (q : Process). callee o q) x) DeadOwner) k ∙ ap (λ (r : Result Identity Cause). and_then r (with_owner s)) e
 
 pub no_target : (s : Space) (p handle : ℕ) (x : Cause) → Err x ≡ target_of s p handle → Err x ≡ callee_of s p handle
 unfolding callee_of
-no_target s p handle x e = ap (λ (r : Result ObjectId Cause). and_then r (with_owner s)) e
+no_target s p handle x e = ap (λ (r : Result Identity Cause). and_then r (with_owner s)) e
 
 -- ---- the whole test of a transaction
 

@@ -1,6 +1,6 @@
 -- What is gathered before an exit, so that all that it touches is among it.
 use Rattle.std.specs.Prelude.{ℕ, ◌≡◌, ◌==◌, true, List, Some}
-use Rattle.bd_ways.specs.Words.{ObjectId, Object, Reference, Frame, Work, WorkKind, TodoList, OfThread, OfProcess, Space}
+use Rattle.bd_ways.specs.Words.{Identity, Object, Reference, Frame, Work, WorkKind, TodoList, OfThread, OfProcess, Space}
 use Rattle.bd_space.specs.References.{is_of_buffer}
 use Rattle.bd_space.specs.Frames.{serves}
 use Rattle.bd_space.specs.Todo.{work_on, hands_out, is_call, is_notice}
@@ -11,7 +11,7 @@ use Rattle.bd_nodes.specs.New.{HasAll}
 use Rattle.bd_calls.specs.Closing.{is_place_among}
 use Rattle.bd_step.specs.declared.exit.Exit.{Exit}
 
-abbrev pub HasObject : Exit → ObjectId → Type 0
+abbrev pub HasObject : Exit → Identity → Type 0
 HasObject x o = is_among x.objects.items o ≡ true
 
 abbrev pub HasFrame : Exit → ℕ → Type 0
@@ -24,7 +24,7 @@ pub record Grows (old new : Exit) : Type 0 where
 
 -- of a work item: its notice's object, the objects to which the buffer refers that it hands over, and its call's frame
 pub record HasWork (x : Exit) (s : Space) (kind : WorkKind) : Type 0 where
-  pub notice : (o : ObjectId) → is_notice o kind ≡ true → HasObject x o
+  pub notice : (o : Identity) → is_notice o kind ≡ true → HasObject x o
   pub handed : (b : ℕ) (r : Reference) → hands_out kind ≡ Some b → In r s.references → is_of_buffer b r.holder ≡ true → HasObject x r.object
   pub call : (m : ℕ) → is_call m kind ≡ true → HasFrame x m
 

@@ -1,6 +1,6 @@
 -- What follows from a change at chosen names and objects alone.
 use Rattle.std.specs.Prelude.{◌≡◌, false, true, Bool, not, ◌||◌, List, [], ◌∷◌, filter, fold, None, Some}
-use Rattle.bd_ways.specs.Words.{ObjectId, Work, WorkKind, OfProcess, is_some_and, Space}
+use Rattle.bd_ways.specs.Words.{Identity, Work, WorkKind, OfProcess, is_some_and, Space}
 use Rattle.bd_space.specs.declared.space.WorkKind.TheVariants as work
 use Rattle.bd_space.specs.References.{object_in}
 use Rattle.bd_space.specs.Notices.{wants_notice, with_notice}
@@ -32,15 +32,15 @@ unfoldable pub shed_of : ObjectTest → Space → Space
 shed_of b s = let z = objects_go_of b s in record z { todo = filter (λ w. notice_stays b z w.kind) z.todo }
 
 -- the object's Notice is made on its owner's list, if it is missing
-abbrev pub told_at : Space → List Work → ObjectId → List Work
+abbrev pub told_at : Space → List Work → Identity → List Work
 told_at s todo o = elim (object_in s.objects o) [ None ↦ todo | Some x ↦ with_notice s.steps s.processes s.references (OfProcess x.owner) todo x ]
 
 -- one object's after the other's
-unfoldable pub told_of : List ObjectId → Space → Space
+unfoldable pub told_of : List Identity → Space → Space
 told_of os s = record s { todo = fold (told_at s) s.todo os }
 
 -- one object is shed, and then told of if it stays
-abbrev pub followed_at : ObjectId → Space → Space
+abbrev pub followed_at : Identity → Space → Space
 followed_at o s = told_of (o ∷ []) (shed_of (at_object o) s)
 
 -- a change within a step makes what f makes of each space whose objects stand in the order in which they were made
@@ -48,6 +48,6 @@ abbrev pub MakesOfOrdered : Tables → Tables → (Space → Space) → Type 0
 MakesOfOrdered old new f = (s : Space) → Within old s → Pairs Earlier s.objects → Within new (f s)
 
 -- these are the objects that the test is true of, in the order in which they were made
-pub record AreTouched (b : ObjectTest) (os : List ObjectId) : Type 0 where
+pub record AreTouched (b : ObjectTest) (os : List Identity) : Type 0 where
   pub in_order : Pairs NotLater os
   pub among : is_among os ≡ b

@@ -1,6 +1,6 @@
 -- What the tables of an engine stand for: a space.
 use Rattle.std.specs.Prelude.{ℕ, ◌≡◌, ◌+◌, ◌≤◌, true, List, Option}
-use Rattle.bd_ways.specs.Words.{ObjectId, Process, Space}
+use Rattle.bd_ways.specs.Words.{Identity, Process, Space}
 use Rattle.bd_space.specs.Names.{has_number_past_limit}
 use Rattle.bd_ways.specs.Tables as tables
 use Rattle.bd_laws.specs.Tidy.{IsTidy}
@@ -17,7 +17,7 @@ use Rattle.bd_buffers.specs.WindowsStand.{WindowsOf}
 use Rattle.bd_step.specs.declared.tables.Tables.{Tables}
 
 -- the place of the next step, the live processes, the context manager's object
-pub record Own (steps : ℕ) (processes : List Process) (manager : Option ObjectId) (steps' : ℕ) (processes' : ProcessTable) (manager' : Option ObjectId) : Type 0 where
+pub record Own (steps : ℕ) (processes : List Process) (manager : Option Identity) (steps' : ℕ) (processes' : ProcessTable) (manager' : Option Identity) : Type 0 where
   pub steps_are : steps ≡ steps'
   pub processes_are : ProcessesAre processes' processes
   pub manager_is : manager ≡ manager'

@@ -22,7 +22,7 @@ use crate::step_error::StepError;
 use crate::tables::{NOTHING, Tables};
 use crate::touched::in_order;
 use bd_parcel::put_object;
-use bd_space::{Actor, Buffer, Bytes, Item, ObjectId, Process, Turn};
+use bd_space::{Actor, Buffer, Bytes, Identity, Item, Process, Turn};
 use bd_uapi::Note;
 use std::alloc::AllocError;
 
@@ -43,7 +43,7 @@ fn turn_of(b: &Buffer) -> Option<Turn>
 }
 
 // The object on which a buffer is a one-way call.
-fn turn_target(buffer: Option<&Buffer>) -> Option<ObjectId>
+fn turn_target(buffer: Option<&Buffer>) -> Option<Identity>
     ensures { result ≡ freed.turn_target (option_copied buffer.entry) }
 {
     match buffer {
@@ -54,7 +54,7 @@ fn turn_target(buffer: Option<&Buffer>) -> Option<ObjectId>
 
 impl Tables {
     // The items' objects as the process is to see them, written over the data.
-    fn translate(&self, q: u32, bytes: &mut [u8], items: &[Item])
+    fn translate(&self, q: u64, bytes: &mut [u8], items: &[Item])
         requires { All (IsInside bytes.old) items.now }
         ensures { Tells self.now bytes.new (λ s. translations.translation s q bytes.old items.now) }
     {
@@ -65,7 +65,7 @@ impl Tables {
     }
 
     // The data as the process is to see it.
-    pub(crate) fn translation(&self, q: u32, bytes: Bytes, items: &[Item]) -> Bytes
+    pub(crate) fn translation(&self, q: u64, bytes: Bytes, items: &[Item]) -> Bytes
         requires { All (IsInside bytes) items.now }
         ensures translated { Tells self.now result (λ s. translations.translation s q bytes items.now) }
         ensures len { length result ≡ length bytes }
@@ -91,7 +91,7 @@ impl Tables {
     }
 
     // The buffer that the process may free by this pointer.
-    fn free_check(&self, p: u32, pointer: u64) -> Result<u32, Note>
+    fn free_check(&self, p: u64, pointer: u64) -> Result<u64, Note>
         ensures { (s : Space) (q : Process) → Within self.now s → process_in s.processes p ≡ Some q
             → result ≡ freed_buffer (freeing.buffer_at_pointer s p pointer) }
     {
@@ -108,7 +108,7 @@ impl Tables {
     }
 
     // The buffer goes, with the references that it held and its turn.
-    fn remove_buffer(&mut self, made: u32)
+    fn remove_buffer(&mut self, made: u64)
         ensures stands { MakesWithin self.old self.new (λ s. freeing.without_buffer s made) }
         ensures uses { UsesNothing self.old self.new }
         ensures told { KeepsTold self.old self.new }
@@ -119,14 +119,14 @@ impl Tables {
     }
 
     // The object on which the buffer made there is a one-way call.
-    fn turn_target_at(&self, made: u32) -> Option<ObjectId>
+    fn turn_target_at(&self, made: u64) -> Option<Identity>
         ensures { TellsWithin self.now result (λ s. freed.turn_target_at s made) }
     {
         turn_target(self.windows.buffer(made))
     }
 
     // The objects that the buffer refers to in the order in which they were made, and room for what follows at them.
-    fn ready_to_free(&mut self, made: u32) -> Result<Vec<ObjectId>, AllocError>
+    fn ready_to_free(&mut self, made: u64) -> Result<Vec<Identity>, AllocError>
         ensures stands { IsKept self.old self.new }
         ensures in_order { IfOk result (λ os. Pairs NotLater os.items) }
         ensures touched { IfOk result
@@ -143,7 +143,7 @@ impl Tables {
 
     // The process's buffer goes, and what follows from that: a call may ripen on its target, and the process's names go, and
     // the objects, that it alone kept. No call is abandoned by it.
-    fn release_buffer(&mut self, p: u32, made: u32, touched: &[ObjectId])
+    fn release_buffer(&mut self, p: u64, made: u64, touched: &[Identity])
         requires in_order { Pairs NotLater touched.now }
         requires room { CanFollow self.old (length touched.now + 2) }
         ensures stands { (s : Space) → Within self.old s → freed.IsFreeing p made touched.now s

@@ -6,11 +6,11 @@ ghost use Rattle.bd_calls.specs.{Closing.{is_place_among}, Room.{work_room, fram
 ghost use Rattle.bd_step.specs.{Stands.{Uses, MakesWithin, KeepsTold}, Freed.{ripen_next}};
 
 use crate::tables::Tables;
-use bd_space::ObjectId;
+use bd_space::Identity;
 
 impl Tables {
     /// The oldest one-way call on the object becomes due if it is ripe, where there is an object.
-    pub(crate) fn ripen_next(&mut self, object: Option<ObjectId>)
+    pub(crate) fn ripen_next(&mut self, object: Option<Identity>)
         requires { 1 ≤ work_room self.old.calls }
         ensures stands { MakesWithin self.old self.new (ripen_next object) }
         ensures uses { Uses self.old self.new 0 0 0 1 }
@@ -22,7 +22,7 @@ impl Tables {
     }
 
     /// The call made there closes if it is abandoned, then the one in which it was made, and so on.
-    pub(crate) fn close_up(&mut self, made: Option<u32>)
+    pub(crate) fn close_up(&mut self, made: Option<u64>)
         requires { frame_count self.old.calls ≤ work_room self.old.calls }
         ensures stands { MakesWithin self.old self.new (λ s. close_up (length s.frames) made s) }
         ensures told { KeepsTold self.old self.new }
@@ -31,7 +31,7 @@ impl Tables {
     }
 
     /// Of the chosen calls those close that are abandoned, oldest first, and then the ones in which they were made.
-    pub(crate) fn close_among(&mut self, chosen: &mut [u32])
+    pub(crate) fn close_among(&mut self, chosen: &mut [u64])
         requires { frame_count self.old.calls ≤ work_room self.old.calls }
         ensures stands { MakesWithin self.old self.new (λ s. close_among (length s.frames) (is_place_among chosen.old) s) }
         ensures told { KeepsTold self.old self.new }

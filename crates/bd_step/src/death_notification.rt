@@ -22,7 +22,7 @@ use crate::answer::Plain;
 use crate::step_error::StepError;
 use crate::tables::{NOTHING, Tables};
 use bd_objects::Room;
-use bd_space::{Actor, DeathNotification, ObjectId, Phase, TodoList, WorkKind};
+use bd_space::{Actor, DeathNotification, Identity, Phase, TodoList, WorkKind};
 use bd_uapi::Note;
 
 fn is_out(phase: Phase) -> bool
@@ -36,7 +36,7 @@ fn is_out(phase: Phase) -> bool
 
 impl Tables {
     // A notification comes in, this far.
-    fn add_death(&mut self, p: u32, o: ObjectId, cookie: u64, phase: Phase)
+    fn add_death(&mut self, p: u64, o: Identity, cookie: u64, phase: Phase)
         requires { 1 ≤ death_room self.old.objects }
         ensures stands { MakesWhere (Within self.old) (IsNewDeath self.old.steps p o) (Within self.new)
             (λ s. deaths.with_death s p o cookie phase) }
@@ -47,7 +47,7 @@ impl Tables {
     }
 
     // A notification comes in whose process is told at once.
-    fn add_told_death(&mut self, p: u32, o: ObjectId, cookie: u64)
+    fn add_told_death(&mut self, p: u64, o: Identity, cookie: u64)
         requires deaths { 1 ≤ death_room self.old.objects }
         requires works { 1 ≤ work_room self.old.calls }
         ensures stands { MakesWhere (Within self.old) (IsNewDeath self.old.steps p o) (Within self.new)
@@ -60,7 +60,7 @@ impl Tables {
     }
 
     // A notification comes in: armed while the object's owner lives; else the process is told at once.
-    fn add_request(&mut self, p: u32, o: ObjectId, cookie: u64)
+    fn add_request(&mut self, p: u64, o: Identity, cookie: u64)
         requires deaths { 1 ≤ death_room self.old.objects }
         requires works { 1 ≤ work_room self.old.calls }
         ensures stands { MakesWhere (Within self.old) (IsNewDeath self.old.steps p o) (Within self.new)
@@ -189,7 +189,7 @@ impl Tables {
     }
 
     /// The end of the process is told by the armed notifications on its objects: by these.
-    pub(crate) fn tell_deaths(&mut self, due: &[DeathNotification], p: u32)
+    pub(crate) fn tell_deaths(&mut self, due: &[DeathNotification], p: u64)
         requires { length due.now ≤ work_room self.old.calls }
         ensures stands { (s : Space) → Within self.old s → due.now ≡ filter (is_due s.objects p) s.deaths
             → Within self.new (exits.tell_deaths s p) }

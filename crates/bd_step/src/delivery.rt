@@ -22,7 +22,7 @@ use crate::tables::Tables;
 use crate::touched::in_order;
 use bd_buffers::needed;
 use bd_objects::{NumbersFull, Room};
-use bd_space::{Actor, Buffer, Item, Object, ObjectId, Parcel, Process, TodoList};
+use bd_space::{Actor, Buffer, Identity, Item, Object, Parcel, Process, TodoList};
 use bd_uapi::{Cause, TransactionData};
 use std::alloc::{AllocError, Global};
 use std::marker::Model;
@@ -31,7 +31,7 @@ use std::marker::Model;
 #[derive(Drop)]
 pub(crate) struct Delivery {
     receiver: Process,
-    target: Option<ObjectId>,
+    target: Option<Identity>,
     one_way: bool,
     parcel: Parcel,
     made: Vec<Object>,
@@ -53,21 +53,21 @@ impl Model for Delivery {
 
 impl Delivery {
     /// To which process.
-    pub(crate) fn receiver(&self) -> u32
+    pub(crate) fn receiver(&self) -> u64
         ensures { result ≡ self.now.receiver.made }
     {
         self.receiver.made
     }
 
     /// On which object.
-    pub(crate) fn target(&self) -> Option<ObjectId>
+    pub(crate) fn target(&self) -> Option<Identity>
         ensures { result ≡ self.now.target }
     {
         self.target
     }
 
     /// The object that it calls one-way.
-    pub(crate) fn one_way_target(&self) -> Option<ObjectId>
+    pub(crate) fn one_way_target(&self) -> Option<Identity>
         ensures { result ≡ (if self.now.one_way then self.now.target else None) }
     {
         if self.one_way { self.target } else { None }
@@ -95,7 +95,7 @@ impl Delivery {
     }
 }
 
-fn objects_of(alloc: Global, items: &[Item]) -> Result<Vec<ObjectId>, AllocError>
+fn objects_of(alloc: Global, items: &[Item]) -> Result<Vec<Identity>, AllocError>
     ensures { IfOk result (λ os. os.items ≡ map parcels.object_of_item items.now) }
 {
     items.iter().map(|x| x.object).collect(alloc)
@@ -105,21 +105,21 @@ impl Tables {
     // Where the sending goes in its receiver's window. Its parcel is copied only where there is a place for it.
     fn placed_for(
         &self,
-        data: &TransactionData,
+        sent: &TransactionData,
         receiver: Process,
-        target: Option<ObjectId>,
+        target: Option<Identity>,
         one_way: bool,
         sending: Sending<'_>,
     ) -> Result<Result<Delivery, Cause>, AllocError>
-        requires { IsSound data.now sending }
+        requires { IsSound sent.now sending }
         ensures computed { IfOk result
             (λ r. (s : Space) → Before self.now s → process_in s.processes receiver.made ≡ Some receiver
-            → r ≡ spec.placed_for s data.now receiver target one_way sending.entry) }
-        ensures deliverable { IfOk result (λ r. IfOk r (IsDeliverable self.now data.now)) }
+            → r ≡ spec.placed_for s sent.now receiver target one_way sending.entry) }
+        ensures deliverable { IfOk result (λ r. IfOk r (IsDeliverable self.now sent.now)) }
     {
         match self
             .windows
-            .start_for(receiver.made, one_way, data.data_size, data.offsets_size)
+            .start_for(receiver.made, one_way, sent.data_size, sent.offsets_size)
         {
             Err(cause) => Ok(Err(cause)),
             Ok(start) => {
@@ -143,21 +143,21 @@ impl Tables {
     pub(crate) fn sent_to(
         &self,
         actor: Actor,
-        data: &TransactionData,
+        sent: &TransactionData,
         parcel: &Option<Parcel>,
         receiver: Process,
-        target: Option<ObjectId>,
+        target: Option<Identity>,
         one_way: bool,
     ) -> Result<Result<Delivery, Cause>, AllocError>
         ensures computed { IfOk result
             (λ r. (s : Space) → Before self.now s → process_in s.processes receiver.made ≡ Some receiver
-            → r ≡ words.and_then (parcels.sending_of s actor.process.made data.now parcel.now)
-            (spec.placed_for s data.now receiver target one_way)) }
-        ensures deliverable { IfOk result (λ r. IfOk r (IsDeliverable self.now data.now)) }
+            → r ≡ words.and_then (parcels.sending_of s actor.process.made sent.now parcel.now)
+            (spec.placed_for s sent.now receiver target one_way)) }
+        ensures deliverable { IfOk result (λ r. IfOk r (IsDeliverable self.now sent.now)) }
     {
-        match self.sending_of(actor.process.made, data, parcel)? {
+        match self.sending_of(actor.process.made, sent, parcel)? {
             Err(cause) => Ok(Err(cause)),
-            Ok(sending) => self.placed_for(data, receiver, target, one_way, sending),
+            Ok(sending) => self.placed_for(sent, receiver, target, one_way, sending),
         }
     }
 
@@ -167,7 +167,7 @@ impl Tables {
     pub(crate) fn reserve_delivery(
         &mut self,
         delivery: &Delivery,
-    ) -> Result<Vec<ObjectId>, AllocError>
+    ) -> Result<Vec<Identity>, AllocError>
         ensures stands { IsKept self.old self.new }
         ensures deliverable { (d : TransactionData) → IsDeliverable self.old d delivery.now → IsDeliverable self.new d delivery.now }
         ensures ready { OnOk result (IsReady self.new delivery.now) }
@@ -194,9 +194,9 @@ impl Tables {
     }
 
     // The buffer of a delivery.
-    fn buffer_of(&self, actor: Actor, data: &TransactionData, delivery: Delivery) -> Buffer
-        requires { IsDeliverable self.now data.now delivery }
-        ensures buffer { Tells self.now result (λ s. spec.buffer_of s actor data.now delivery) }
+    fn buffer_of(&self, actor: Actor, sent: &TransactionData, delivery: Delivery) -> Buffer
+        requires { IsDeliverable self.now sent.now delivery }
+        ensures buffer { Tells self.now result (λ s. spec.buffer_of s actor sent.now delivery) }
         ensures receiver { result.receiver ≡ delivery.receiver.made }
         ensures sized { result.size ≡ room.needed (length result.bytes) (length result.offsets) }
         ensures can_add { CanAdd self.now.windows result.receiver result.one_way result.size result.start }
@@ -216,12 +216,12 @@ impl Tables {
             receiver: receiver.made,
             sender: actor.process.made,
             start,
-            size: needed(data.data_size, data.offsets_size),
+            size: needed(sent.data_size, sent.offsets_size),
             one_way,
             handed: false,
             target,
-            code: data.code,
-            flags: data.flags,
+            code: sent.code,
+            flags: sent.flags,
             euid: actor.process.euid,
             bytes: self.translation(receiver.made, bytes, items.as_slice()),
             offsets,
@@ -326,18 +326,18 @@ impl Tables {
     }
 
     // Puts the notices and the buffer in, where the names are known.
-    fn fill(&mut self, actor: Actor, data: &TransactionData, delivery: Delivery)
-        requires deliverable { IsDeliverable self.old data.now delivery }
+    fn fill(&mut self, actor: Actor, sent: &TransactionData, delivery: Delivery)
+        requires deliverable { IsDeliverable self.old sent.now delivery }
         requires turns { 1 ≤ call_rooms.turn_room self.old.calls }
         requires works { length delivery.sending.items ≤ call_rooms.work_room self.old.calls }
         requires room { 1 ≤ buffer_room self.old.windows delivery.receiver.made }
         ensures stands { Begins self.old self.new
-            (λ s. spec.own_notices (spec.add_buffer s (spec.buffer_of s actor data.now delivery)) actor.thread.seat delivery.sending.items) }
+            (λ s. spec.own_notices (spec.add_buffer s (spec.buffer_of s actor sent.now delivery)) actor.thread.seat delivery.sending.items) }
         ensures spends { Spends self.old self.new 0 0 1 (length delivery.sending.items) }
         ensures told { KeepsTold self.old self.new }
     {
         self.own_notices(actor.thread.seat, delivery.items());
-        let buffer = self.buffer_of(actor, data, delivery);
+        let buffer = self.buffer_of(actor, sent, delivery);
         self.add_buffer(buffer);
     }
 
@@ -346,12 +346,12 @@ impl Tables {
     pub(crate) fn delivered(
         &mut self,
         actor: Actor,
-        data: &TransactionData,
+        sent: &TransactionData,
         delivery: Delivery,
     ) -> Result<(), NumbersFull>
-        requires deliverable { IsDeliverable self.old data.now delivery }
+        requires deliverable { IsDeliverable self.old sent.now delivery }
         requires ready { IsReady self.old delivery }
-        ensures ok { OnOk result (Delivers self.old self.new delivery (λ s. spec.delivered s actor data.now delivery)) }
+        ensures ok { OnOk result (Delivers self.old self.new delivery (λ s. spec.delivered s actor sent.now delivery)) }
         ensures err { OnErr result (IsKept self.old self.new) }
         ensures full { OnErr result (PassesLimit self.old (λ s. names_go (spec.with_carried s delivery))) }
         ensures spends { OnOk result (Spends self.old self.new (length delivery.sending.made) 0 1 (length delivery.sending.items)) }
@@ -360,7 +360,7 @@ impl Tables {
         match self.deliver_objects(&delivery) {
             Err(full) => Err(full),
             Ok(()) => {
-                self.fill(actor, data, delivery);
+                self.fill(actor, sent, delivery);
                 Ok(())
             }
         }

@@ -15,7 +15,7 @@ use std::alloc::AllocError;
 
 impl Tables {
     // Where the buffer was made that the seat's process knows by this pointer, if there is one.
-    fn list_freed(&self, seat: u32, pointer: u64, places: &mut Vec<u32>) -> Result<(), AllocError>
+    fn list_freed(&self, seat: u32, pointer: u64, places: &mut Vec<u64>) -> Result<(), AllocError>
         requires none { places.old.items ≡ [] }
         ensures { OnOk result ((h : History) (parcel : Option Parcel) → Before self.now (space_after h)
             → HasEndings places.new.items (space_after h)
@@ -31,7 +31,7 @@ impl Tables {
     }
 
     // Where the live buffers were made that the seat's process has received.
-    fn list_received(&self, seat: u32, places: &mut Vec<u32>) -> Result<(), AllocError>
+    fn list_received(&self, seat: u32, places: &mut Vec<u64>) -> Result<(), AllocError>
         requires none { places.old.items ≡ [] }
         ensures thread { OnOk result ((h : History) → Before self.now (space_after h)
             → HasEndings places.new.items (space_after h) (steps.change (space_after h) seat step_of.ExitThread).space) }
@@ -49,7 +49,7 @@ impl Tables {
         &self,
         seat: u32,
         command: &Command,
-        places: &mut Vec<u32>,
+        places: &mut Vec<u64>,
     ) -> Result<(), AllocError>
         requires none { places.old.items ≡ [] }
         ensures { OnOk result ((h : History) (parcel : Option Parcel) → Before self.now (space_after h)
@@ -68,7 +68,7 @@ impl Tables {
         &self,
         seat: u32,
         step: &Step,
-        places: &mut Vec<u32>,
+        places: &mut Vec<u64>,
     ) -> Result<(), AllocError>
         requires none { places.old.items ≡ [] }
         ensures { OnOk result ((h : History) → Before self.now (space_after h)

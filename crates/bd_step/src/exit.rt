@@ -10,14 +10,14 @@ ghost use Rattle.bd_step.specs.Exits.{Grows, HasWork, HasList, HasThread, HasThr
 
 use crate::tables::Tables;
 use crate::touched::in_order;
-use bd_space::{DeathNotification, ObjectId, TodoList, WorkKind};
+use bd_space::{DeathNotification, Identity, TodoList, WorkKind};
 use std::alloc::{AllocError, Global};
 
 /// The objects to look at, at their names too, the calls that may have lost their server, and by what the end is told.
 #[derive(Drop)]
 pub(crate) struct Exit {
-    objects: Vec<ObjectId>,
-    frames: Vec<u32>,
+    objects: Vec<Identity>,
+    frames: Vec<u64>,
     deaths: Vec<DeathNotification>,
 }
 
@@ -32,7 +32,7 @@ impl Exit {
     }
 
     /// The objects, in the order in which they were made.
-    pub(crate) fn objects(&self) -> &[ObjectId]
+    pub(crate) fn objects(&self) -> &[Identity]
         ensures { result.now ≡ self.now.objects.items }
     {
         self.objects.as_slice()
@@ -46,7 +46,7 @@ impl Exit {
     }
 
     /// The calls, in any order.
-    pub(crate) fn into_frames(self) -> Vec<u32>
+    pub(crate) fn into_frames(self) -> Vec<u64>
         ensures { result.items ≡ self.frames.items }
     {
         self.frames
@@ -132,7 +132,7 @@ impl Tables {
     }
 
     /// What the end of a process touches whose threads have these seats, with room for what follows.
-    pub(crate) fn begin_process_exit(&mut self, seats: &[u32], p: u32) -> Result<Exit, AllocError>
+    pub(crate) fn begin_process_exit(&mut self, seats: &[u32], p: u64) -> Result<Exit, AllocError>
         ensures stands { IsKept self.old self.new }
         ensures has { IfOk result (λ x. (s : Space) → Before self.old s → HasProcess x s seats.now p) }
         ensures in_order { IfOk result (λ x. Pairs NotLater x.objects.items) }

@@ -14,7 +14,7 @@ use bd_space::{Actor, Frame, Server};
 
 impl Tables {
     /// A two-way call to the process makes a frame and is due at once.
-    pub(crate) fn call_out(&mut self, seat: u32, process: u32)
+    pub(crate) fn call_out(&mut self, seat: u32, process: u64)
         requires frames { 1 ≤ frame_room self.old.calls }
         requires works { 1 ≤ work_room self.old.calls }
         ensures stands { MakesOfStacked self.old self.new (λ s. transactions.call_out s seat process) }
@@ -25,7 +25,7 @@ impl Tables {
     }
 
     /// The frame closes.
-    pub(crate) fn close(&mut self, made: u32)
+    pub(crate) fn close(&mut self, made: u64)
         ensures stands { Makes self.old self.new (λ s. frames.closed s made) }
         ensures spends { SpendsNothing self.old self.new }
         ensures told { KeepsTold self.old self.new }
@@ -46,7 +46,7 @@ impl Tables {
     }
 
     // The seat of the thread that called, if the call is two-way and the thread still lives.
-    pub(crate) fn waiting_seat(&self, made: u32) -> Option<u32>
+    pub(crate) fn waiting_seat(&self, made: u64) -> Option<u32>
         ensures { TellsBefore self.now result (λ s. option_and_then (λ f. f.caller) (find (is_frame made) s.frames)) }
     {
         match self.calls.frame(made) {

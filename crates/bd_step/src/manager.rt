@@ -10,19 +10,19 @@ use crate::answer::Plain;
 use crate::step_error::StepError;
 use crate::tables::{NOTHING, Tables};
 use bd_objects::Room;
-use bd_space::{Actor, ObjectId};
+use bd_space::{Actor, Identity};
 use bd_uapi::Fault;
 
 impl Tables {
     // Whether there is a context manager, or the process has an object with ptr 0.
-    fn is_manager_busy(&self, p: u32) -> bool
+    fn is_manager_busy(&self, p: u64) -> bool
         ensures { TellsBefore self.now result (λ s. steps.is_manager_busy s p) }
     {
         self.manager.is_some() || self.objects.own_with_ptr(p, 0).is_some()
     }
 
     // The process becomes the context manager.
-    fn with_manager(&mut self, p: u32)
+    fn with_manager(&mut self, p: u64)
         requires objects { 1 ≤ object_room self.old.objects }
         requires references { 1 ≤ reference_room self.old.objects }
         ensures stands { MakesWhere (Within self.old) (IsNewManager self.old.steps p) (Within self.new)
@@ -30,7 +30,7 @@ impl Tables {
         ensures told { KeepsTold self.old self.new }
     {
         self.objects.with_manager(self.steps, p);
-        self.manager = Some(ObjectId {
+        self.manager = Some(Identity {
             place: self.steps,
             index: 0,
         });

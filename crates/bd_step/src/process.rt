@@ -38,7 +38,7 @@ fn is_window(window: u32) -> bool
 
 impl Tables {
     /// The live process with this identity.
-    pub fn process(&self, made: u32) -> Option<Process>
+    pub fn process(&self, made: u64) -> Option<Process>
         ensures found { Tells self.now result (λ s. seats.process_in s.processes made) }
         ensures pid { IfSome result (λ q. steps.is_pid q.pid ≡ true) }
     {
@@ -142,7 +142,7 @@ impl Tables {
     }
 
     // All goes that is the process's.
-    fn without_process(&mut self, p: u32)
+    fn without_process(&mut self, p: u64)
         ensures stands { MakesWithin self.old self.new (λ s. exits.without_process s p) }
         ensures uses { UsesNothing self.old self.new }
         ensures told { KeepsTold self.old self.new }
@@ -155,7 +155,7 @@ impl Tables {
     }
 
     // The seats of a process's threads, and what its end touches, with room for what follows.
-    fn begin_exit(&mut self, p: u32) -> Result<(Vec<u32>, Exit), AllocError>
+    fn begin_exit(&mut self, p: u64) -> Result<(Vec<u32>, Exit), AllocError>
         ensures stands { IsKept self.old self.new }
         ensures seats { IfOk result (λ x. TellsBefore self.old x.0.items (λ s. seats_in s p)) }
         ensures has { IfOk result (λ x. (s : Space) → Before self.old s → HasProcess x.1 s (seats_in s p) p) }
@@ -171,7 +171,7 @@ impl Tables {
     }
 
     // A process ends, with its threads, and that is told by these notifications.
-    fn end_process(&mut self, seats: &[u32], due: &[DeathNotification], p: u32)
+    fn end_process(&mut self, seats: &[u32], due: &[DeathNotification], p: u64)
         requires { length due.now ≤ work_room self.old.calls }
         ensures stands { (s : Space) → Within self.old s
             → seats.now ≡ map exits.seat_of (filter (λ t. t.process == p) s.threads)

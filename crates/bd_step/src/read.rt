@@ -20,7 +20,7 @@ use crate::tables::{NOTHING, Tables};
 use crate::touched::in_order;
 use bd_codec::write_return;
 use bd_objects::Room;
-use bd_space::{Actor, Buffer, Bytes, ObjectId, StepAnswer, Thread, TodoList, Work, WorkKind};
+use bd_space::{Actor, Buffer, Bytes, Identity, StepAnswer, Thread, TodoList, Work, WorkKind};
 use bd_todo::hands_out;
 use bd_uapi::{Fault, Return};
 use std::alloc::{AllocError, Global};
@@ -91,7 +91,7 @@ fn ends_read(kind: WorkKind) -> bool
 }
 
 // The buffer that is handed over by reading these.
-fn handed_by(works: &[Work]) -> Option<u32>
+fn handed_by(works: &[Work]) -> Option<u64>
     ensures { result ≡ first_of (map (λ w. todo.hands_out w.kind) works.now) }
 {
     for work in works {
@@ -103,7 +103,7 @@ fn handed_by(works: &[Work]) -> Option<u32>
     None
 }
 
-fn notice_of(kind: WorkKind) -> Option<ObjectId>
+fn notice_of(kind: WorkKind) -> Option<Identity>
     ensures { result ≡ todo.notice_of kind }
 {
     match kind {
@@ -113,7 +113,7 @@ fn notice_of(kind: WorkKind) -> Option<ObjectId>
 }
 
 // The objects of whose notices these are.
-fn noticed(alloc: Global, works: &[Work]) -> Result<Vec<ObjectId>, AllocError>
+fn noticed(alloc: Global, works: &[Work]) -> Result<Vec<Identity>, AllocError>
     ensures { IfOk result (λ os. os.items ≡ filter_map (λ w. todo.notice_of w.kind) works.now) }
 {
     works
@@ -123,7 +123,7 @@ fn noticed(alloc: Global, works: &[Work]) -> Result<Vec<ObjectId>, AllocError>
 }
 
 // Where the buffer was made.
-fn made_of(buffer: Option<&Buffer>) -> Option<u32>
+fn made_of(buffer: Option<&Buffer>) -> Option<u64>
     ensures { result ≡ option_map made_of_buffer (option_copied buffer.entry) }
 {
     match buffer {
@@ -265,7 +265,7 @@ impl Tables {
 
     // The thread of a seat has read these work items, by which the buffer made there is handed over.
     #[inline(always)]
-    fn read_by(&mut self, seat: u32, works: &[Work], made: Option<u32>)
+    fn read_by(&mut self, seat: u32, works: &[Work], made: Option<u64>)
         requires { 2 * length works.now ≤ reference_room self.old.objects }
         ensures stands { (s : Space) → Within self.old s → made ≡ option_map made_of_buffer (spec.buffer_taken s works.now)
             → Within self.new (spec.read_by s seat works.now) }

@@ -12,12 +12,12 @@ use crate::answer::Plain;
 use crate::step_error::StepError;
 use crate::tables::{NOTHING, Tables};
 use bd_objects::{NumbersFull, Room};
-use bd_space::{Actor, ObjectId};
+use bd_space::{Actor, Identity};
 
 impl Tables {
     // The reference comes in that the process asks for, and a name with it, and what follows at the object; or nothing,
     // where a number past the limit would be needed.
-    fn add_asked(&mut self, p: u32, n: u32, o: ObjectId, strong: bool) -> Result<(), StepError>
+    fn add_asked(&mut self, p: u64, n: u32, o: Identity, strong: bool) -> Result<(), StepError>
         requires references { 1 ≤ reference_room self.old.objects }
         requires names { 1 ≤ name_room self.old.objects }
         requires works { 1 ≤ work_room self.old.calls }
@@ -65,7 +65,7 @@ impl Tables {
     }
 
     // The reference goes that the process asked for, and what follows at its name and at the object.
-    fn release_asked(&mut self, p: u32, o: ObjectId, strong: bool)
+    fn release_asked(&mut self, p: u64, o: Identity, strong: bool)
         requires { 1 ≤ work_room self.old.calls }
         ensures stands { MakesOfTidy self.old self.new (λ s. completed (asking.drop_asked s p o strong)) }
         ensures told { KeepsTold self.old self.new }
@@ -98,7 +98,7 @@ impl Tables {
     }
 
     // The reference goes that stood for an acknowledgement, and what follows at the object.
-    fn release_handshake(&mut self, o: ObjectId, strong: bool)
+    fn release_handshake(&mut self, o: Identity, strong: bool)
         requires { 1 ≤ work_room self.old.calls }
         ensures stands { MakesOfTidy self.old self.new (λ s. completed (asking.acknowledge s o strong)) }
         ensures told { KeepsTold self.old self.new }

@@ -27,17 +27,17 @@ impl Tables {
     fn reply_check(
         &self,
         actor: Actor,
-        data: &TransactionData,
+        sent: &TransactionData,
         parcel: &Option<Parcel>,
         f: &Frame,
     ) -> Result<Result<Delivery, Cause>, AllocError>
         ensures computed { IfOk result
-            (λ r. TellsBefore self.now r (λ s. spec.reply_check s actor data.now parcel.now f.now)) }
-        ensures deliverable { IfOk result (λ r. IfOk r (IsDeliverable self.now data.now)) }
+            (λ r. TellsBefore self.now r (λ s. spec.reply_check s actor sent.now parcel.now f.now)) }
+        ensures deliverable { IfOk result (λ r. IfOk r (IsDeliverable self.now sent.now)) }
     {
         match self.caller_of(f) {
             None => Ok(Err(Cause::CallerGone)),
-            Some(caller) => self.sent_to(actor, data, parcel, caller.process, None, false),
+            Some(caller) => self.sent_to(actor, sent, parcel, caller.process, None, false),
         }
     }
 
@@ -59,21 +59,21 @@ impl Tables {
     fn replied(
         &mut self,
         actor: Actor,
-        data: &TransactionData,
+        sent: &TransactionData,
         f: Frame,
         delivery: Delivery,
     ) -> Result<(), StepError>
-        requires deliverable { IsDeliverable self.old data.now delivery }
+        requires deliverable { IsDeliverable self.old sent.now delivery }
         requires ready { IsReady self.old delivery }
-        ensures ok { OnOk result (Delivers self.old self.new delivery (λ s. spec.replied s actor data.now f delivery)) }
+        ensures ok { OnOk result (Delivers self.old self.new delivery (λ s. spec.replied s actor sent.now f delivery)) }
         ensures err { OnErr result (IsKept self.old self.new) }
-        ensures full { OnErr result (PassesLimit self.old (λ s. names_go (spec.replied s actor data.now f delivery))) }
+        ensures full { OnErr result (PassesLimit self.old (λ s. names_go (spec.replied s actor sent.now f delivery))) }
         ensures follow { OnOk result (CanFollow self.new (length delivery.sending.items)) }
         // There is room by then, so that nothing else is a reason.
         ensures limit { IfErr result (λ why. why ≡ StepError.HistoryFull) }
         ensures told { KeepsTold self.old self.new }
     {
-        match self.delivered(actor, data, delivery) {
+        match self.delivered(actor, sent, delivery) {
             Err(NumbersFull) => Err(StepError::HistoryFull),
             Ok(()) => {
                 self.answered(actor.thread.seat, f);
@@ -87,20 +87,20 @@ impl Tables {
     pub(crate) fn answer(
         &mut self,
         actor: Actor,
-        data: &TransactionData,
+        sent: &TransactionData,
         f: Frame,
         delivery: Delivery,
     ) -> Result<Plain, StepError>
-        requires { IsDeliverable self.old data.now delivery }
-        ensures step { IsStep self.old self.new (IsReplying actor data.now f delivery)
-            (λ s. outcomes.accepted (spec.replied s actor data.now f delivery)) result }
+        requires { IsDeliverable self.old sent.now delivery }
+        ensures step { IsStep self.old self.new (IsReplying actor sent.now f delivery)
+            (λ s. outcomes.accepted (spec.replied s actor sent.now f delivery)) result }
         ensures told { KeepsTold self.old self.new }
     {
         let parent = f.parent;
         let Ok(touched) = self.reserve_delivery(&delivery) else {
             return Err(StepError::NoMemory);
         };
-        match self.replied(actor, data, f, delivery) {
+        match self.replied(actor, sent, f, delivery) {
             Err(why) => Err(why),
             Ok(()) => {
                 self.follow_objects(touched.as_slice());
@@ -141,18 +141,18 @@ impl Tables {
     fn reply_to(
         &mut self,
         actor: Actor,
-        data: &TransactionData,
+        sent: &TransactionData,
         parcel: &Option<Parcel>,
         f: Frame,
     ) -> Result<Plain, StepError>
         ensures step { IsStep self.old self.new (IsServing actor.thread.seat f)
-            (λ s. spec.reply_to s actor data.now parcel.now (Some f)) result }
+            (λ s. spec.reply_to s actor sent.now parcel.now (Some f)) result }
         ensures told { KeepsTold self.old self.new }
     {
-        match self.reply_check(actor, data, parcel, &f) {
+        match self.reply_check(actor, sent, parcel, &f) {
             Err(_) => Err(StepError::NoMemory),
             Ok(Err(cause)) => self.stop_reply(actor.thread.seat, cause, f),
-            Ok(Ok(v)) => self.answer(actor, data, f, v),
+            Ok(Ok(v)) => self.answer(actor, sent, f, v),
         }
     }
 
@@ -160,15 +160,15 @@ impl Tables {
     pub(crate) fn reply(
         &mut self,
         actor: Actor,
-        data: &TransactionData,
+        sent: &TransactionData,
         parcel: &Option<Parcel>,
     ) -> Result<Plain, StepError>
-        ensures step { IsStep self.old self.new (IsBy actor) (λ s. spec.reply_step s actor data.now parcel.now) result }
+        ensures step { IsStep self.old self.new (IsBy actor) (λ s. spec.reply_step s actor sent.now parcel.now) result }
         ensures told { KeepsTold self.old self.new }
     {
         match self.calls.served_innermost(actor.thread.seat) {
             None => self.stop(actor.thread.seat, Cause::NoCall, Return::FailedReply),
-            Some(f) => self.reply_to(actor, data, parcel, f),
+            Some(f) => self.reply_to(actor, sent, parcel, f),
         }
     }
 }

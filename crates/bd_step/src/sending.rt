@@ -56,10 +56,10 @@ fn cause_of_walk(fault: WalkFault) -> Cause
 }
 
 // Whether the parcel was cut from its area with the sizes that its record says.
-fn has_sizes(data: &TransactionData, parcel: &Parcel) -> bool
-    ensures { result ≡ parcels.has_sizes data.now parcel.now }
+fn has_sizes(sent: &TransactionData, parcel: &Parcel) -> bool
+    ensures { result ≡ parcels.has_sizes sent.now parcel.now }
 {
-    parcel.bytes.len() as u64 == data.data_size && parcel.offsets.len() as u64 == data.offsets_size
+    parcel.bytes.len() as u64 == sent.data_size && parcel.offsets.len() as u64 == sent.offsets_size
 }
 
 // One object more.
@@ -90,7 +90,7 @@ impl Tables {
     // The objects of a walked parcel, one after the other.
     fn resolve_all<'a>(
         &self,
-        p: u32,
+        p: u64,
         parcel: &'a Parcel,
         objects: &Objects<'_>,
     ) -> Result<Result<Sending<'a>, Cause>, AllocError>
@@ -126,7 +126,7 @@ impl Tables {
     // A parcel whose offsets are whole.
     fn resolve_walked<'a>(
         &self,
-        p: u32,
+        p: u64,
         parcel: &'a Parcel,
     ) -> Result<Result<Sending<'a>, Cause>, AllocError>
         requires { length parcel.now.offsets % 8 ≡ 0 }
@@ -156,17 +156,17 @@ impl Tables {
     #[tactic(auto, unfolding(bd_space::specs::Parcels::sending_of))]
     pub(crate) fn sending_of<'a>(
         &self,
-        p: u32,
-        data: &TransactionData,
+        p: u64,
+        sent: &TransactionData,
         parcel: &'a Option<Parcel>,
     ) -> Result<Result<Sending<'a>, Cause>, AllocError>
-        ensures computed { IfOk result (λ r. Tells self.now r (λ s. parcels.sending_of s p data.now parcel.now)) }
-        ensures sound { IfOk result (λ r. IfOk r (IsSound data.now)) }
+        ensures computed { IfOk result (λ r. Tells self.now r (λ s. parcels.sending_of s p sent.now parcel.now)) }
+        ensures sound { IfOk result (λ r. IfOk r (IsSound sent.now)) }
     {
         let Some(q) = parcel else {
             return Ok(Err(Cause::OutsideArea));
         };
-        if !has_sizes(data, q) {
+        if !has_sizes(sent, q) {
             return Ok(Err(Cause::OutsideArea));
         }
         if q.offsets.len() % 8 != 0 {

@@ -22,7 +22,7 @@ impl Tables {
     }
 
     /// Whether a call that was just delivered to this process is reported to its sender as flooding.
-    pub(crate) fn is_spam(&self, actor: Actor, receiver: u32, one_way: bool) -> bool
+    pub(crate) fn is_spam(&self, actor: Actor, receiver: u64, one_way: bool) -> bool
         ensures { (s : Space) (q : Process) → Within self.now s → process_in s.processes receiver ≡ Some q
             → result ≡ (actor.process.spam_detection && one_way
             && spec.floods q.window (buffers_of s.buffers receiver) actor.process.made) }

@@ -6,7 +6,7 @@ use bd_buffers::Windows;
 use bd_calls::CallTable;
 use bd_objects::{ObjectTable, Room};
 use bd_processes::ProcessTable;
-use bd_space::ObjectId;
+use bd_space::Identity;
 use std::alloc::{AllocError, Global};
 
 /// For a step that makes nothing among the objects.
@@ -20,11 +20,11 @@ pub(crate) const NOTHING: Room = Room {
 /// The tables of an engine.
 pub struct Tables {
     /// How many steps there were: the place of the next. A step leaves it as it is; who keeps the tables counts.
-    pub steps: u32,
+    pub steps: u64,
     /// The live processes.
     pub processes: ProcessTable,
     /// The context manager's object.
-    pub manager: Option<ObjectId>,
+    pub manager: Option<Identity>,
     /// Objects, and what refers to them.
     pub objects: ObjectTable,
     /// Threads, and what they do and have to read.

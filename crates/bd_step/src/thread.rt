@@ -95,7 +95,7 @@ impl Tables {
     }
 
     // A thread comes in, for a seat that has none.
-    pub(crate) fn add_thread(&mut self, seat: u32, process: u32)
+    pub(crate) fn add_thread(&mut self, seat: u32, process: u64)
         requires { 1 ≤ thread_room self.old.calls }
         ensures stands { (n : ℕ) → MakesWhere (StandsAt n self.old) (λ s. seats.thread_in s.threads seat ≡ None)
             (StandsAt n self.new) (λ s. steps.with_thread s seat process) }

@@ -10,12 +10,12 @@ ghost use Rattle.bd_step.specs.Stands.{Within, Uses, MakesWithin, TellsWithin, U
 ghost use Rattle.bd_step.specs.Following.{deaths_followed, deaths_withdrawn, followed_at, names_followed, shed_of, told_of, AreTouched, MakesOfOrdered};
 
 use crate::tables::Tables;
-use bd_space::{ObjectId, TodoList};
+use bd_space::{Identity, TodoList};
 
 /// The objects in the order in which they were made.
 // Put into its callers: mostly there is nothing to be sorted.
 #[inline(always)]
-pub(crate) fn in_order(mut objects: Vec<ObjectId>) -> Vec<ObjectId>
+pub(crate) fn in_order(mut objects: Vec<Identity>) -> Vec<Identity>
     ensures touched { AreTouched (is_among objects.items) result.items }
     ensures len { length result.items ≡ length objects.items }
 {
@@ -29,7 +29,7 @@ pub(crate) fn in_order(mut objects: Vec<ObjectId>) -> Vec<ObjectId>
 impl Tables {
     // The work items go of the death notifications that go with the process's name of the object, which is gone: where just
     // one does, no other item is looked at.
-    fn withdraw_deaths(&mut self, p: u32, o: ObjectId)
+    fn withdraw_deaths(&mut self, p: u64, o: Identity)
         ensures stands { MakesWithin self.old self.new (deaths_withdrawn (at_name p o)) }
         ensures uses { UsesNothing self.old self.new }
         ensures told { KeepsTold self.old self.new }
@@ -45,7 +45,7 @@ impl Tables {
     }
 
     // The death notifications go whose name of the object is gone, and their work items.
-    fn follow_deaths(&mut self, p: u32, o: ObjectId)
+    fn follow_deaths(&mut self, p: u64, o: Identity)
         ensures stands { MakesWithin self.old self.new (deaths_followed (at_name p o)) }
         ensures uses { UsesNothing self.old self.new }
         ensures told { KeepsTold self.old self.new }
@@ -58,7 +58,7 @@ impl Tables {
     }
 
     // The process's name of the object goes with the references that it rests on, and its death notifications with it.
-    fn follow_name(&mut self, p: u32, o: ObjectId)
+    fn follow_name(&mut self, p: u64, o: Identity)
         ensures stands { MakesWithin self.old self.new (names_followed (at_name p o)) }
         ensures uses { UsesNothing self.old self.new }
         ensures told { KeepsTold self.old self.new }
@@ -69,7 +69,7 @@ impl Tables {
 
     // This object goes if nothing keeps it, and its notice if that has nothing left to say. Returns the live owner that is
     // then to be told of it.
-    fn remove_unkept(&mut self, o: ObjectId) -> Option<u32>
+    fn remove_unkept(&mut self, o: Identity) -> Option<u64>
         ensures stands { MakesWithin self.old self.new (shed_of (at_object o)) }
         ensures owner { TellsWithin self.old result
             (λ s. owner_due s (object_in (shed_of (at_object o) s).objects o)) }
@@ -84,7 +84,7 @@ impl Tables {
     }
 
     // The owner, if there is one to be told of the object, gets its notice, if that is missing.
-    fn tell_owner(&mut self, owner: Option<u32>, o: ObjectId)
+    fn tell_owner(&mut self, owner: Option<u64>, o: Identity)
         requires { 1 ≤ work_room self.old.calls }
         ensures stands { (s : Space) → owner ≡ owner_due s (object_in s.objects o) → Within self.old s
             → Within self.new (told_of (o ∷ []) s) }
@@ -98,7 +98,7 @@ impl Tables {
     }
 
     // Of these objects those go that nothing keeps, and the notices that have nothing left to say.
-    fn remove_each_unkept(&mut self, touched: &[ObjectId])
+    fn remove_each_unkept(&mut self, touched: &[Identity])
         ensures stands { MakesWithin self.old self.new (shed_of (is_among touched.now)) }
         ensures uses { UsesNothing self.old self.new }
         ensures told { KeepsTold self.old self.new }
@@ -109,7 +109,7 @@ impl Tables {
     }
 
     // The notices that are missing are made on their owners' lists, in this order of the objects.
-    fn notify_objects(&mut self, touched: &[ObjectId])
+    fn notify_objects(&mut self, touched: &[Identity])
         requires { length touched.now ≤ work_room self.old.calls }
         ensures stands { MakesWithin self.old self.new (told_of touched.now) }
         ensures uses { Uses self.old self.new 0 0 0 (length touched.now) }
@@ -122,7 +122,7 @@ impl Tables {
     }
 
     // The object is shed, and its owner told of it if it stays.
-    fn follow_object(&mut self, o: ObjectId)
+    fn follow_object(&mut self, o: Identity)
         requires { 1 ≤ work_room self.old.calls }
         ensures stands { MakesWithin self.old self.new (followed_at o) }
         ensures uses { Uses self.old self.new 0 0 0 1 }
@@ -133,7 +133,7 @@ impl Tables {
     }
 
     /// What follows at these objects, given in the order in which they were made.
-    pub(crate) fn follow_objects(&mut self, touched: &[ObjectId])
+    pub(crate) fn follow_objects(&mut self, touched: &[Identity])
         requires in_order { Pairs NotLater touched.now }
         requires room { length touched.now ≤ work_room self.old.calls }
         ensures stands { MakesOfOrdered self.old self.new (follow_of no_name (is_among touched.now)) }
@@ -151,7 +151,7 @@ impl Tables {
 
     /// What follows at the process's names of these objects, given in the order in which they were made, and then at the
     /// objects themselves.
-    pub(crate) fn follow_among(&mut self, p: u32, touched: &[ObjectId])
+    pub(crate) fn follow_among(&mut self, p: u64, touched: &[Identity])
         requires in_order { Pairs NotLater touched.now }
         requires room { length touched.now ≤ work_room self.old.calls }
         ensures stands { MakesOfOrdered self.old self.new (follow_of (names_among p touched.now) (is_among touched.now)) }

@@ -20,21 +20,21 @@ use crate::step_error::StepError;
 use crate::tables::Tables;
 use bd_calls::serves;
 use bd_objects::NumbersFull;
-use bd_space::{Actor, Callee, Frame, ObjectId, Parcel, Process, WorkKind};
+use bd_space::{Actor, Callee, Frame, Identity, Parcel, Process, WorkKind};
 use bd_uapi::{Cause, Return, TransactionData};
 use std::alloc::AllocError;
 
-fn is_one_way(data: &TransactionData) -> bool
-    ensures { result ≡ spec.is_one_way data.now }
+fn is_one_way(sent: &TransactionData) -> bool
+    ensures { result ≡ spec.is_one_way sent.now }
 {
-    data.flags.is_one_way()
+    sent.flags.is_one_way()
 }
 
 // The handle is the low half of the target.
-fn handle_of(data: &TransactionData) -> u32
-    ensures { result ≡ spec.handle_of data.now }
+fn handle_of(sent: &TransactionData) -> u32
+    ensures { result ≡ spec.handle_of sent.now }
 {
-    (data.target % 0x1_0000_0000) as u32
+    (sent.target % 0x1_0000_0000) as u32
 }
 
 // The thread is in a frame, and doesn't serve it.
@@ -59,7 +59,7 @@ fn refusal(cause: Cause) -> Return
 
 impl Tables {
     // The context manager's own process may not call its object 0.
-    fn not_own(&self, p: u32, o: ObjectId) -> Result<ObjectId, Cause>
+    fn not_own(&self, p: u64, o: Identity) -> Result<Identity, Cause>
         ensures { Tells self.now result (λ s. spec.not_own s p o) }
     {
         if self.objects.owns(p, o) {
@@ -71,7 +71,7 @@ impl Tables {
 
     // The object that a handle calls.
     #[tactic(auto, unfolding(bd_space::specs::Transactions::target_of))]
-    fn target_of(&self, p: u32, handle: u32) -> Result<ObjectId, Cause>
+    fn target_of(&self, p: u64, handle: u32) -> Result<Identity, Cause>
         ensures { Tells self.now result (λ s. spec.target_of s p handle) }
     {
         if handle == 0 {
@@ -89,7 +89,7 @@ impl Tables {
 
     // The live process that owns an object.
     #[tactic(auto, unfolding(bd_space::specs::Transactions::owner_of))]
-    fn owner_of(&self, o: ObjectId) -> Option<Process>
+    fn owner_of(&self, o: Identity) -> Option<Process>
         ensures owner { Tells self.now result (λ s. spec.owner_of s o) }
         ensures lives { (n : ℕ) (s : Space) → StandsAt n self.now s
             → IfSome result (λ q. process_in s.processes q.made ≡ Some q) }
@@ -100,7 +100,7 @@ impl Tables {
 
     // Whom a transaction goes to.
     #[tactic(auto, unfolding(bd_space::specs::Transactions::callee_of))]
-    fn callee_of(&self, p: u32, handle: u32) -> Result<Callee, Cause>
+    fn callee_of(&self, p: u64, handle: u32) -> Result<Callee, Cause>
         ensures callee { Tells self.now result (λ s. spec.callee_of s p handle) }
         ensures lives { (n : ℕ) (s : Space) → StandsAt n self.now s
             → IfOk result (λ c. process_in s.processes c.process.made ≡ Some c.process) }
@@ -143,23 +143,23 @@ impl Tables {
     fn transaction_check(
         &self,
         actor: Actor,
-        data: &TransactionData,
+        sent: &TransactionData,
         parcel: &Option<Parcel>,
     ) -> Result<Result<Delivery, Cause>, AllocError>
         ensures computed { IfOk result
-            (λ r. TellsBeforeOfStacked self.now r (λ s. spec.transaction_check s actor data.now parcel.now)) }
-        ensures deliverable { IfOk result (λ r. IfOk r (IsDeliverable self.now data.now)) }
+            (λ r. TellsBeforeOfStacked self.now r (λ s. spec.transaction_check s actor sent.now parcel.now)) }
+        ensures deliverable { IfOk result (λ r. IfOk r (IsDeliverable self.now sent.now)) }
     {
-        let callee = match self.callee_of(actor.process.made, handle_of(data)) {
+        let callee = match self.callee_of(actor.process.made, handle_of(sent)) {
             Err(cause) => return Ok(Err(cause)),
             Ok(callee) => callee,
         };
-        let one_way = is_one_way(data);
+        let one_way = is_one_way(sent);
         match self.call_cause(actor.thread.seat, one_way) {
             Some(cause) => Ok(Err(cause)),
             None => self.sent_to(
                 actor,
-                data,
+                sent,
                 parcel,
                 callee.process,
                 Some(callee.object),
@@ -170,7 +170,7 @@ impl Tables {
 
     // A two-way call is due at once, a one-way call once it is ripe; its writer reads that it was taken, and whether it
     // floods.
-    fn called(&mut self, seat: u32, receiver: u32, one_way: bool, spam: bool)
+    fn called(&mut self, seat: u32, receiver: u64, one_way: bool, spam: bool)
         requires frames { 1 ≤ frame_room self.old.calls }
         requires works { 2 ≤ work_room self.old.calls }
         ensures stands { MakesOfStacked self.old self.new
@@ -188,14 +188,14 @@ impl Tables {
     fn transacted(
         &mut self,
         actor: Actor,
-        data: &TransactionData,
+        sent: &TransactionData,
         delivery: Delivery,
     ) -> Result<(), StepError>
-        requires deliverable { IsDeliverable self.old data.now delivery }
+        requires deliverable { IsDeliverable self.old sent.now delivery }
         requires ready { IsReady self.old delivery }
-        ensures ok { OnOk result (DeliversCall self.old self.new delivery (λ s. spec.transacted s actor data.now delivery)) }
+        ensures ok { OnOk result (DeliversCall self.old self.new delivery (λ s. spec.transacted s actor sent.now delivery)) }
         ensures err { OnErr result (IsKept self.old self.new) }
-        ensures full { OnErr result (PassesLimit self.old (λ s. names_go (spec.transacted s actor data.now delivery))) }
+        ensures full { OnErr result (PassesLimit self.old (λ s. names_go (spec.transacted s actor sent.now delivery))) }
         ensures follow { OnOk result (CanFollow self.new (length delivery.sending.items + 1)) }
         // There is room by then, so that nothing else is a reason.
         ensures limit { IfErr result (λ why. why ≡ StepError.HistoryFull) }
@@ -203,7 +203,7 @@ impl Tables {
     {
         let receiver = delivery.receiver();
         let one_way = delivery.is_one_way();
-        match self.delivered(actor, data, delivery) {
+        match self.delivered(actor, sent, delivery) {
             Err(NumbersFull) => Err(StepError::HistoryFull),
             Ok(()) => {
                 let spam = self.is_spam(actor, receiver, one_way);
@@ -218,19 +218,19 @@ impl Tables {
     fn transact(
         &mut self,
         actor: Actor,
-        data: &TransactionData,
+        sent: &TransactionData,
         delivery: Delivery,
     ) -> Result<Plain, StepError>
-        requires { IsDeliverable self.old data.now delivery }
-        ensures step { IsStep self.old self.new (IsSending actor data.now delivery)
-            (λ s. outcomes.accepted (spec.transacted s actor data.now delivery)) result }
+        requires { IsDeliverable self.old sent.now delivery }
+        ensures step { IsStep self.old self.new (IsSending actor sent.now delivery)
+            (λ s. outcomes.accepted (spec.transacted s actor sent.now delivery)) result }
         ensures told { KeepsTold self.old self.new }
     {
         let target = delivery.one_way_target();
         let Ok(touched) = self.reserve_delivery(&delivery) else {
             return Err(StepError::NoMemory);
         };
-        match self.transacted(actor, data, delivery) {
+        match self.transacted(actor, sent, delivery) {
             Err(why) => Err(why),
             Ok(()) => {
                 self.ripen_next(target);
@@ -244,16 +244,16 @@ impl Tables {
     pub(crate) fn transaction(
         &mut self,
         actor: Actor,
-        data: &TransactionData,
+        sent: &TransactionData,
         parcel: &Option<Parcel>,
     ) -> Result<Plain, StepError>
-        ensures step { IsStep self.old self.new (IsBy actor) (λ s. spec.transaction_step s actor data.now parcel.now) result }
+        ensures step { IsStep self.old self.new (IsBy actor) (λ s. spec.transaction_step s actor sent.now parcel.now) result }
         ensures told { KeepsTold self.old self.new }
     {
-        match self.transaction_check(actor, data, parcel) {
+        match self.transaction_check(actor, sent, parcel) {
             Err(_) => Err(StepError::NoMemory),
             Ok(Err(cause)) => self.stop(actor.thread.seat, cause, refusal(cause)),
-            Ok(Ok(v)) => self.transact(actor, data, v),
+            Ok(Ok(v)) => self.transact(actor, sent, v),
         }
     }
 }

@@ -71,7 +71,7 @@ fn offsets_start(b: &Buffer) -> u64
 
 impl Tables {
     // That thread, with its process.
-    fn waiting_actor(&self, made: u32) -> Option<Actor>
+    fn waiting_actor(&self, made: u64) -> Option<Actor>
         ensures found { TellsBefore self.now result
             (λ s. option_and_then (seats.actor s) (option_and_then (λ f. f.caller) (find (is_frame made) s.frames))) }
         ensures pid { IfSome result (λ a. is_pid a.process.pid ≡ true) }
@@ -84,7 +84,7 @@ impl Tables {
 
     // Its pid, else 0.
     #[tactic(auto, unfolding(bd_space::specs::Returns::sender_pid))]
-    fn sender_pid(&self, made: u32) -> u32
+    fn sender_pid(&self, made: u64) -> u32
         ensures found { TellsBefore self.now result (λ s. spec.sender_pid s made) }
         ensures fits { result ≤ 2147483647 }
     {
@@ -139,7 +139,7 @@ impl Tables {
     }
 
     // The record of the buffer made there, if it lives.
-    fn record_at(&self, made: u32) -> Option<TransactionData>
+    fn record_at(&self, made: u64) -> Option<TransactionData>
         ensures { TellsBefore self.now result (λ s. option_map (spec.data_of s) (spec.buffer_in s.buffers made)) }
     {
         match self.windows.buffer(made) {

@@ -82,7 +82,7 @@ fn called(rt: &(impl Abort + Alloc<A = Global>)) -> Result<Live, Fail> {
 }
 
 // Makes the server's step. Whether it was made, and accepted.
-fn serves(live: &mut Live, step: Step, ended: &mut Vec<u32>) -> bool {
+fn serves(live: &mut Live, step: Step, ended: &mut Vec<u64>) -> bool {
     if SERVER >= live.seats() {
         return false;
     }

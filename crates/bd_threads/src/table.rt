@@ -135,7 +135,7 @@ impl ThreadTable {
     }
 
     /// The seats of a process's threads. Fails for want of memory alone, and never where there are none.
-    pub fn seats_of(&self, alloc: Global, process: u32) -> Result<Vec<u32>, AllocError>
+    pub fn seats_of(&self, alloc: Global, process: u64) -> Result<Vec<u32>, AllocError>
         ensures seats { IfOk result (λ v. v.items
             ≡ map seat_of (filter (λ t. t.process == process) (listed self.now))) }
         // Memory was asked for: there was a seat to put into it.

@@ -1,7 +1,7 @@
 -- The table as a whole: a work item comes, or some go.
 use Rattle.std.proofs.Common.{◌≡◌, ℕ, ◌<◌, ◌≤◌, ◌==◌, nat_lt, Bool, not, cond, true, Some, None, List, [], ◌∷◌, ◌++◌, length, filter, count_by, refl, sym, ap, ◌∙◌, subst, arith}
 use Rattle.bd_space.specs.{declared.space.Work.{Work}, declared.space.TodoList.{TodoList}, declared.space.WorkKind.{WorkKind}}
-use Rattle.bd_space.specs.{Todo.{with_work, is_on, is_notice, is_call, death_of}, declared.step.ObjectId.{ObjectId}}
+use Rattle.bd_space.specs.{Todo.{with_work, is_on, is_notice, is_call, death_of}, declared.step.Identity.{Identity}}
 use Rattle.bd_space.specs.Words.{without_first, is_some_and}
 use Rattle.bd_todo.specs.{declared.table.WorkTable.{WorkTable}, declared.spots.Sought.{Sought}}
 use Rattle.bd_todo.specs.{declared.spots.Sought.TheVariants.{Notice, Call, Death}, Rows.{works}, Spots.{is_sought, count_at}}
@@ -40,7 +40,7 @@ all_at t place l h same = h.registered.at_last ∙ ap (λ n. count_by (λ (w : W
 
 -- ---- what is looked up
 
-notice_key : (o : ObjectId) (kind : WorkKind) → is_notice o kind ≡ is_sought (Notice o.place o.index) kind
+notice_key : (o : Identity) (kind : WorkKind) → is_notice o kind ≡ is_sought (Notice o.place o.index) kind
 notice_key o (kinds.Notice p) = refl
 notice_key o _ = refl
 
@@ -52,7 +52,7 @@ death_key : (m : ℕ) (kind : WorkKind) → is_some_and (death_of kind) (λ n. n
 death_key m (kinds.Death n) = refl
 death_key m _ = refl
 
-pub notice_goes : (o : ObjectId) (l : List Work) → filter (λ w. not (is_sought (Notice o.place o.index) w.kind)) l ≡ filter (λ w. not (is_notice o w.kind)) l
+pub notice_goes : (o : Identity) (l : List Work) → filter (λ w. not (is_sought (Notice o.place o.index) w.kind)) l ≡ filter (λ w. not (is_notice o w.kind)) l
 notice_goes o l = sym (λ i. filter (λ (w : Work). not (notice_key o w.kind i)) l)
 
 pub death_goes : (m : ℕ) (l : List Work) → filter (λ w. not (is_sought (Death m) w.kind)) l ≡ filter (λ w. not (is_some_and (death_of w.kind) (λ n. n == m))) l
@@ -62,7 +62,7 @@ pub has_sought_is : (t : WorkTable) (k : Sought) (l : List Work) → WorksAre t 
 unfolding Registered
 has_sought_is t k l h = ap (nat_lt 0) (h.registered.counted k) ∙ any_counted (λ (w : Work). is_sought k w.kind) l
 
-pub has_notice_is : (t : WorkTable) (o : ObjectId) (l : List Work) → WorksAre t l → nat_lt 0 (count_at t.register.spots (Notice o.place o.index)) ≡ list_any (λ w. is_notice o w.kind) l
+pub has_notice_is : (t : WorkTable) (o : Identity) (l : List Work) → WorksAre t l → nat_lt 0 (count_at t.register.spots (Notice o.place o.index)) ≡ list_any (λ w. is_notice o w.kind) l
 has_notice_is t o l h = has_sought_is t (Notice o.place o.index) l h ∙ sym (λ i. list_any (λ (w : Work). notice_key o w.kind i) l)
 
 pub has_call_is : (t : WorkTable) (b : ℕ) (l : List Work) → WorksAre t l → nat_lt 0 (count_at t.register.spots (Call b)) ≡ list_any (λ w. is_call b w.kind) l

@@ -1,7 +1,7 @@
 -- The keys of lists.
 use Rattle.std.specs.Prelude.{ℕ, Bool}
 use Rattle.bd_ways.specs.Words.{TodoList, OfThread, OfProcess}
-use Rattle.bd_keys.specs.Numbers.{pair}
+use Rattle.bd_keys.specs.Numbers.{wide}
 use Rattle.bd_todo.specs.{declared.heads.ListKey.{ListKey}, declared.heads.ListKey.TheVariants.{Thread, Process}}
 use Rattle.bd_todo.specs.contracts.heads.ListKeyPartialEq.TheImpl as keys
 
@@ -10,8 +10,8 @@ same_key = (keys.ghosts).eq
 
 -- a number of 33 bits, another for each key
 abbrev pub spread : ListKey → ℕ
-spread (Thread t) = pair 0 t
-spread (Process p) = pair 1 p
+spread (Thread t) = t
+spread (Process p) = wide 1 p
 
 abbrev pub list_key : TodoList → ListKey
 list_key (OfThread t) = Thread t

@@ -1,11 +1,11 @@
 -- What a register says of all work items: each part by how many of them pass a test.
 use Rattle.std.specs.{Prelude.{ℕ, ◌≡◌, ◌+◌, ◌*◌, ◌<◌, ◌≤◌, ◌==◌, true, List, count_by}, HashMap.{spare}}
-use Rattle.bd_ways.specs.Words.{Identity, Work}
+use Rattle.bd_ways.specs.Words.{Origin, Work}
 use Rattle.bd_space.specs.Todo.{is_item}
 use Rattle.bd_todo.specs.{declared.spots.Sought.{Sought}, declared.register.Register.{Register}, Spots.{count_at, is_sought}}
 
 -- identities in their order, by the place first
-abbrev pub rank : Identity → ℕ
+abbrev pub rank : Origin → ℕ
 rank i = i.place * 18446744073709551616 + i.index
 
 pub record AreCounted (t : Register) (todo : List Work) : Type 0 where

@@ -1,8 +1,8 @@
 -- What work items are looked up by, and how many are looked up so.
-use Rattle.std.specs.{Prelude.{ℕ, ◌≡◌, Bool, List, count_by, Option, Some, None, option_map, unwrap_or}, HashMap.{get_by}}
+use Rattle.std.specs.{Prelude.{ℕ, ◌≡◌, ◌+◌, ◌^◌, Bool, List, count_by, Option, Some, None, option_map, unwrap_or}, HashMap.{get_by}}
 use Rattle.bd_ways.specs.Words.{is_some_and, Work, WorkKind}
 use Rattle.bd_space.specs.declared.space.WorkKind.TheVariants as work
-use Rattle.bd_keys.specs.Numbers.{pair, wide}
+use Rattle.bd_keys.specs.Numbers.{pair}
 use Rattle.bd_todo.specs.{declared.spots.Sought.{Sought}, declared.spots.Sought.TheVariants.{Notice, Call, Death}, declared.spots.Spots.{Spots}}
 use Rattle.bd_todo.specs.contracts.spots.SoughtPartialEq.TheImpl as sought
 
@@ -11,9 +11,9 @@ same_sought = (sought.ghosts).eq
 
 -- a number of 66 bits, another for each key
 abbrev pub spread : Sought → ℕ
-spread (Notice p i) = wide 0 (pair p i)
-spread (Call b) = wide 1 b
-spread (Death n) = wide 2 n
+spread (Notice p i) = pair p i
+spread (Call b) = b + 2 ^ 104
+spread (Death n) = n + 2 ^ 105
 
 abbrev pub sought_of : WorkKind → Option Sought
 sought_of (work.Notice o) = Some (Notice o.place o.index)

@@ -10,7 +10,7 @@ use crate::work::reply_of;
 use bd_chains::Numbering;
 use bd_space::{TodoList, Work};
 
-fn first_reply_among(works: Works<'_>) -> Option<u32>
+fn first_reply_among(works: Works<'_>) -> Option<u64>
     ensures { result ≡ replies.first_reply_in works.entry }
 {
     for work in works {
@@ -47,7 +47,7 @@ impl WorkTable {
     }
 
     /// Where the first reply on a list was made.
-    pub fn first_reply(&self, list: TodoList) -> Option<u32>
+    pub fn first_reply(&self, list: TodoList) -> Option<u64>
         ensures { Tells self.now result (λ l. replies.first_reply_in (spec.work_on l (Some list))) }
     {
         first_reply_among(self.works_on(list))

@@ -8,7 +8,7 @@ ghost use Rattle.bd_space.specs.Todo.{same_list};
 ghost use Rattle.bd_todo.specs.Keys as keys;
 
 use bd_chains::{Numbering, Numbers};
-use bd_keys::pair;
+use bd_keys::wide;
 use bd_space::TodoList;
 use bd_uapi::MOST_SEATS;
 use std::alloc::{AllocError, Global};
@@ -18,29 +18,29 @@ use std::hash::{Hash, Hasher};
 #[derive(Clone, Copy, Debug, PartialEq, Eq)]
 pub enum ListKey {
     Thread { seat: u32 },
-    Process { process: u32 },
+    Process { process: u64 },
 }
 
 impl ListKey {
     /// A number of 33 bits, another for each key.
-    pub(crate) fn spread(self) -> u64
+    pub(crate) fn spread(self) -> u128
         ensures { result ≡ keys.spread self }
     {
         match self {
-            ListKey::Thread { seat } => pair(0, seat),
-            ListKey::Process { process } => pair(1, process),
+            ListKey::Thread { seat } => u128::from(seat),
+            ListKey::Process { process } => wide(1, process),
         }
     }
 }
 
 // One write, as `bd_keys` says.
 impl Hash for ListKey {
-    ghost hash_input = { λ k. fed.u64 (keys.spread k) };
+    ghost hash_input = { λ k. fed.u128 (keys.spread k) };
 
     ghost respects_eq = { Prim.search (hashing, rules) };
 
     fn hash<H: Hasher>(&self, state: &mut H) {
-        state.write_u64(self.spread());
+        state.write_u128(self.spread());
     }
 }
 

@@ -28,7 +28,7 @@ pub fn front(queues: &Queues, list: TodoList) -> Option<usize>
 }
 
 // A work item that was made at this place is in the slot.
-fn is_made_at(queues: &Queues, x: usize, place: u32) -> bool
+fn is_made_at(queues: &Queues, x: usize, place: u64) -> bool
     ensures { result ≡ is_some_and (work_at queues.now x) (λ w. w.id.place == place) }
 {
     match queues.chains.get(x) {
@@ -38,7 +38,7 @@ fn is_made_at(queues: &Queues, x: usize, place: u32) -> bool
 }
 
 /// How many were made at this place. Goes over all slots.
-pub fn count_at(queues: &Queues, place: u32) -> u64
+pub fn count_at(queues: &Queues, place: u64) -> u64
     ensures { Tells (Stands queues.now) result (λ todo. count_by (λ w. w.id.place == place) todo) }
 {
     let mut count: u64 = 0;

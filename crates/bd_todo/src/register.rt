@@ -6,7 +6,7 @@ ghost use Rattle.bd_space.specs.declared.space.Work.{Work};
 ghost use Rattle.bd_todo.specs.Registered.{rank, Registered, register_room};
 
 use crate::spots::{Spots, sought_of};
-use bd_space::{Identity, Work};
+use bd_space::{Origin, Work};
 use std::alloc::{AllocError, Global};
 
 /// What is known of all work items together.
@@ -15,13 +15,13 @@ pub struct Register {
     // Notices, calls and deaths, whatever their lists.
     pub(crate) spots: Spots,
     // No work item was made at a later place than the last one, and so many were made at its place.
-    pub(crate) last: Identity,
+    pub(crate) last: Origin,
     pub(crate) count: u64,
     // Their identities rise, up to the last: then no two are called the same.
     pub(crate) rises: bool,
 }
 
-fn is_before(a: Identity, b: Identity) -> bool
+fn is_before(a: Origin, b: Origin) -> bool
     ensures { result ≡ nat_lt (rank a) (rank b) }
 {
     a.place < b.place || (a.place == b.place && a.index < b.index)
@@ -34,7 +34,7 @@ impl Register {
     {
         Register {
             spots: Spots::new(alloc),
-            last: Identity { place: 0, index: 0 },
+            last: Origin { place: 0, index: 0 },
             count: 0,
             rises: true,
         }

@@ -8,8 +8,8 @@ ghost use Rattle.bd_todo.specs.declared.spots.Sought as declared;
 ghost use Rattle.bd_todo.specs.declared.spots.Sought.TheVariants as sought;
 ghost use Rattle.bd_todo.specs.Spots.{same_sought, spread, sought_of, is_sought, is_key, count_at};
 
-use bd_keys::{pair, wide};
-use bd_space::{ObjectId, WorkKind};
+use bd_keys::tall;
+use bd_space::{Identity, WorkKind};
 use std::alloc::{AllocError, Global};
 use std::collections::HashMap;
 use std::hash::{Hash, Hasher};
@@ -17,9 +17,9 @@ use std::hash::{Hash, Hasher};
 /// What a work item is looked up by.
 #[derive(Clone, Copy, Debug, PartialEq, Eq)]
 pub enum Sought {
-    Notice { place: u32, index: u32 },
-    Call { buffer: u32 },
-    Death { made: u32 },
+    Notice { place: u64, index: u32 },
+    Call { buffer: u64 },
+    Death { made: u64 },
 }
 
 impl Sought {
@@ -28,9 +28,9 @@ impl Sought {
         ensures { result ≡ spread self }
     {
         match self {
-            Sought::Notice { place, index } => wide(0, pair(place, index)),
-            Sought::Call { buffer } => wide(1, u64::from(buffer)),
-            Sought::Death { made } => wide(2, u64::from(made)),
+            Sought::Notice { place, index } => tall(place, index),
+            Sought::Call { buffer } => u128::from(buffer) + 0x100_0000_0000_0000_0000_0000_0000,
+            Sought::Death { made } => u128::from(made) + 0x200_0000_0000_0000_0000_0000_0000,
         }
     }
 }
@@ -62,7 +62,7 @@ pub struct Spots {
 }
 
 /// The notice of the object.
-pub fn sought_notice(object: ObjectId) -> Sought
+pub fn sought_notice(object: Identity) -> Sought
     ensures { result ≡ sought.Notice object.place object.index }
 {
     Sought::Notice {

@@ -17,7 +17,7 @@ use crate::register::Register;
 use crate::spots::{Sought, is_sought, sought_notice};
 use crate::work::{is_item, keeps_from_calling};
 use bd_chains::{Lists, Numbering};
-use bd_space::{Identity, ObjectId, TodoList, Work, WorkKind};
+use bd_space::{Identity, Origin, TodoList, Work, WorkKind};
 use std::alloc::{AllocError, Global};
 
 /// The work items of a driver: each is still to be read, on its list.
@@ -54,7 +54,7 @@ impl WorkTable {
     }
 
     // How many were made at this place.
-    fn index_at(&self, place: u32) -> u64
+    fn index_at(&self, place: u64) -> u64
         ensures { Tells self.now result (λ l. count_by (λ w. w.id.place == place) l) }
     {
         if place == self.register.last.place {
@@ -82,8 +82,8 @@ impl WorkTable {
     }
 
     // Whether a work item that is called so is in the slot.
-    fn is_called_at(&self, x: usize, id: Identity) -> bool
-        ensures { result ≡ words.is_some_and (work_at self.now.queues x) (λ w. words.same_identity w.id id) }
+    fn is_called_at(&self, x: usize, id: Origin) -> bool
+        ensures { result ≡ words.is_some_and (work_at self.now.queues x) (λ w. words.same_origin w.id id) }
     {
         match self.queues.chains.get(x) {
             Some(work) => work.id == id,
@@ -128,14 +128,14 @@ impl WorkTable {
     }
 
     /// A work item comes onto a list, made at this place. Takes no memory.
-    pub fn push(&mut self, place: u32, list: TodoList, kind: WorkKind)
+    pub fn push(&mut self, place: u64, list: TodoList, kind: WorkKind)
         requires { 1 ≤ work_room self.old }
         ensures stands { Makes self.old self.new (λ l. spec.with_work place l list kind) }
         ensures uses { work_room self.old ≤ work_room self.new + 1 }
     {
         let index = self.index_at(place);
         let work = Work {
-            id: Identity { place, index },
+            id: Origin { place, index },
             list,
             kind,
         };
@@ -151,14 +151,14 @@ impl WorkTable {
     }
 
     /// Whether the notice of an object is on any list.
-    pub fn has_notice(&self, object: ObjectId) -> bool
+    pub fn has_notice(&self, object: Identity) -> bool
         ensures { Tells self.now result (λ l. notices.has_notice_in l object) }
     {
         self.register.spots.has(sought_notice(object))
     }
 
     /// Whether the call of a buffer is on any list.
-    pub fn has_call(&self, buffer: u32) -> bool
+    pub fn has_call(&self, buffer: u64) -> bool
         ensures { Tells self.now result (λ l. list_any (λ w. spec.is_call buffer w.kind) l) }
     {
         self.register.spots.has(Sought::Call { buffer })
@@ -210,7 +210,7 @@ impl WorkTable {
     }
 
     /// The notice of an object goes.
-    pub fn withdraw_notice(&mut self, object: ObjectId)
+    pub fn withdraw_notice(&mut self, object: Identity)
         ensures stands { Makes self.old self.new (λ l. filter (λ w. not (spec.is_notice object w.kind)) l) }
         ensures uses { work_room self.old ≤ work_room self.new }
     {
@@ -218,7 +218,7 @@ impl WorkTable {
     }
 
     /// The work item of a death notification goes.
-    pub fn withdraw_death(&mut self, made: u32)
+    pub fn withdraw_death(&mut self, made: u64)
         ensures stands { Makes self.old self.new (λ l. filter (λ w. not (words.is_some_and (spec.death_of w.kind) (λ n. n == made))) l) }
         ensures uses { work_room self.old ≤ work_room self.new }
     {

@@ -17,14 +17,14 @@ pub(crate) fn keeps_from_calling(kind: WorkKind) -> bool
 }
 
 /// A work item is the call of this buffer.
-pub fn is_call(buffer: u32, kind: WorkKind) -> bool
+pub fn is_call(buffer: u64, kind: WorkKind) -> bool
     ensures { result ≡ spec.is_call buffer kind }
 {
     matches!(kind, WorkKind::Call(b) if b == buffer)
 }
 
 /// The buffer that is handed over by reading a work item of this kind.
-pub fn hands_out(kind: WorkKind) -> Option<u32>
+pub fn hands_out(kind: WorkKind) -> Option<u64>
     ensures { result ≡ spec.hands_out kind }
 {
     match kind {
@@ -34,7 +34,7 @@ pub fn hands_out(kind: WorkKind) -> Option<u32>
 }
 
 // Where the reply of this kind was made.
-pub(crate) fn reply_of(kind: WorkKind) -> Option<u32>
+pub(crate) fn reply_of(kind: WorkKind) -> Option<u64>
     ensures { result ≡ replies.reply_of kind }
 {
     match kind {

@@ -1,7 +1,7 @@
 -- The calls of a table with their slots and the numbers of their lists.
 use Rattle.std.specs.{Prelude.{ℕ, ◌≡◌, ◌==◌, Bool, false, List, Option, map, find, AllPairs, option_map}, HashMap.{get}}
-use Rattle.bd_ways.specs.Words.{Turn, ObjectId}
-use Rattle.bd_space.specs.contracts.step.ObjectIdPartialEq.TheImpl as objects
+use Rattle.bd_ways.specs.Words.{Turn, Identity}
+use Rattle.bd_space.specs.contracts.step.IdentityPartialEq.TheImpl as objects
 use Rattle.bd_chains.specs.{Rows.{Row}, Lists.{Shows}}
 use Rattle.bd_turns.specs.{declared.spot.Mark.{Mark}, declared.spot.Spot.{Spot}, declared.table.TurnTable.{TurnTable}, Spots.{spot_at, mark_of}}
 use Rattle.bd_turns.specs.Turn.{hand_turn}
@@ -27,19 +27,19 @@ abbrev pub hand_entry : Entry → Entry
 hand_entry e = record e { turn = hand_turn e.turn }
 
 -- the calls of an object are one list, and those in a process's window
-abbrev pub by_object : Turn → ObjectId
+abbrev pub by_object : Turn → Identity
 by_object t = t.target
 
 abbrev pub by_window : Mark → ℕ
 by_window m = m.receiver
 
-abbrev pub same_object : ObjectId → ObjectId → Bool
+abbrev pub same_object : Identity → Identity → Bool
 same_object = (objects.ghosts).eq
 
 abbrev pub same_window : ℕ → ℕ → Bool
 same_window p q = p == q
 
-abbrev pub object_number : TurnTable → ObjectId → Option ℕ
+abbrev pub object_number : TurnTable → Identity → Option ℕ
 object_number t = get same_object t.objects.numbers.all
 
 abbrev pub window_number : TurnTable → ℕ → Option ℕ

@@ -8,8 +8,8 @@ use std::collections::HashMap;
 /// A call in its process's window: what it is found by, and whose window it is.
 #[derive(Clone, Copy)]
 pub struct Mark {
-    pub made: u32,
-    pub receiver: u32,
+    pub made: u64,
+    pub receiver: u64,
 }
 
 /// The slots of a call, among its object's and among those in its window.
@@ -20,7 +20,7 @@ pub struct Spot {
 }
 
 /// Where the call made at this place stands.
-pub fn spot_at(spots: &HashMap<u32, Spot>, made: u32) -> Option<Spot>
+pub fn spot_at(spots: &HashMap<u64, Spot>, made: u64) -> Option<Spot>
     ensures { result ≡ spec.spot_at spots.now made }
 {
     spots.get(&made).copied()

@@ -11,20 +11,20 @@ ghost use Rattle.bd_turns.specs.{Turn.{hand_turn}, Room.{Uses, turn_room}};
 use crate::spot::{Mark, Spot, spot_at};
 use bd_chains::{Lists, Numbers};
 use bd_keys::insert_reserved;
-use bd_space::{ObjectId, Turn};
+use bd_space::{Identity, Turn};
 use std::alloc::{AllocError, Global};
 use std::collections::HashMap;
 
 /// The one-way calls of a driver whose buffers live.
 pub struct TurnTable {
     // Of each object, the oldest first.
-    pub(crate) objects: Lists<Numbers<ObjectId>, Turn>,
+    pub(crate) objects: Lists<Numbers<Identity>, Turn>,
     // In each process's window.
-    pub(crate) windows: Lists<Numbers<u32>, Mark>,
+    pub(crate) windows: Lists<Numbers<u64>, Mark>,
     // By where they were made.
-    pub(crate) spots: HashMap<u32, Spot>,
+    pub(crate) spots: HashMap<u64, Spot>,
     // The object whose call went last: of all objects' lists this one alone may be open with nothing on it.
-    pub(crate) last: ObjectId,
+    pub(crate) last: Identity,
 }
 
 impl Drop for TurnTable {
@@ -51,7 +51,7 @@ impl TurnTable {
             objects: Lists::new(alloc, Numbers::new(alloc)),
             windows: Lists::new(alloc, Numbers::new(alloc)),
             spots: HashMap::new(alloc),
-            last: ObjectId { place: 0, index: 0 },
+            last: Identity { place: 0, index: 0 },
         }
     }
 
@@ -85,14 +85,14 @@ impl TurnTable {
     }
 
     /// The oldest one-way call on an object.
-    pub fn oldest_on(&self, object: ObjectId) -> Option<Turn>
+    pub fn oldest_on(&self, object: Identity) -> Option<Turn>
         ensures { Tells self.now result (λ l. find (λ t. same t.target object) l) }
     {
         self.objects.front(object)
     }
 
     /// The one-way call made at this place is handed out, if there is one.
-    pub fn hand_out(&mut self, made: u32)
+    pub fn hand_out(&mut self, made: u64)
         ensures stands { Makes self.old self.new (λ l. changed (λ t. t.made == made) hand_turn l) }
         ensures uses { Uses self.old self.new 0 }
     {
@@ -109,7 +109,7 @@ impl TurnTable {
 
     // A call of this object went. If nothing is on its list now, that is closed when another object's call goes: mostly
     // the next to come is the same object's, and finds it open.
-    fn leave(&mut self, object: ObjectId)
+    fn leave(&mut self, object: Identity)
         ensures objects { tables.Makes (CallsShow self.old) (CallsShow self.new) (λ rs. rs) }
         ensures windows { self.new.windows ≡ self.old.windows }
         ensures spots { self.new.spots ≡ self.old.spots }
@@ -123,7 +123,7 @@ impl TurnTable {
     }
 
     /// The one-way call made at this place goes, if there is one.
-    pub fn remove(&mut self, made: u32)
+    pub fn remove(&mut self, made: u64)
         ensures stands { Makes self.old self.new (λ l. filter (λ t. not (t.made == made)) l) }
         ensures uses { Uses self.old self.new 0 }
     {
@@ -136,7 +136,7 @@ impl TurnTable {
     }
 
     // One after the other goes, until there is none in the window.
-    fn pop_received(&mut self, process: u32)
+    fn pop_received(&mut self, process: u64)
         ensures stands { Makes self.old self.new (λ l. filter (λ t. not (t.receiver == process)) l) }
         ensures uses { Uses self.old self.new 0 }
     {
@@ -149,7 +149,7 @@ impl TurnTable {
     }
 
     /// The one-way calls in a process's window go.
-    pub fn remove_received(&mut self, process: u32)
+    pub fn remove_received(&mut self, process: u64)
         ensures stands { Makes self.old self.new (λ l. filter (λ t. not (t.receiver == process)) l) }
         ensures uses { Uses self.old self.new 0 }
     {

@@ -1,6 +1,6 @@
 -- The consequences of a change, worked out at chosen names, objects and frames alone.
 use Rattle.std.specs.Prelude.{ℕ, zero, suc, ◌==◌, Bool, false, not, ◌&&◌, ◌||◌, List, filter, fold, Option, None, Some, find, if◌then◌else◌}
-use Rattle.bd_ways.specs.Words.{list_any, ObjectId, Work, DeathNotification, OfProcess, WorkKind, Return, same, is_some_and, Space, Reference, Item, Turn}
+use Rattle.bd_ways.specs.Words.{list_any, Identity, Work, DeathNotification, OfProcess, WorkKind, Return, same, is_some_and, Space, Reference, Item, Turn}
 use Rattle.bd_space.specs.Frames.{is_frame, closed}
 use Rattle.bd_space.specs.Settle.{is_abandoned}
 use Rattle.bd_space.specs.References.{stays_in, gives_name_to}
@@ -11,10 +11,10 @@ use Rattle.bd_space.specs.Notices.{is_name_of, still_due, with_notice}
 
 -- tests of names, each by its process and object, and of objects
 abbrev pub NameTest : Type 0
-NameTest = ℕ → ObjectId → Bool
+NameTest = ℕ → Identity → Bool
 
 abbrev pub ObjectTest : Type 0
-ObjectTest = ObjectId → Bool
+ObjectTest = Identity → Bool
 
 unfoldable pub names_go_of : NameTest → Space → Space
 names_go_of a s = record s { names = filter (λ m. not (a m.process m.object) || is_named_in s.objects s.references m.process m.object) s.names }
@@ -50,25 +50,25 @@ first_due place todo None = todo
 first_due place todo (Some t) =
     if not t.handed && not (list_any (λ w. is_call t.made w.kind) todo) then with_work place todo (OfProcess t.receiver) (WorkKind.Call t.made) else todo
 
-unfoldable pub ripen_of : ObjectId → Space → Space
+unfoldable pub ripen_of : Identity → Space → Space
 ripen_of o s = record s { todo = first_due s.steps s.todo (find (λ t. same t.target o) (turns_of s.buffers)) }
 
 -- ---- tests
 
-abbrev pub at_name : ℕ → ObjectId → NameTest
+abbrev pub at_name : ℕ → Identity → NameTest
 at_name p o q i = (q == p) && same i o
 
 abbrev pub no_name : NameTest
 no_name q i = false
 
-abbrev pub at_object : ObjectId → ObjectTest
+abbrev pub at_object : Identity → ObjectTest
 at_object o i = same i o
 
 -- these objects, and p's names of them
-abbrev pub is_among : List ObjectId → ObjectTest
+abbrev pub is_among : List Identity → ObjectTest
 is_among os i = list_any (λ o. at_object o i) os
 
-abbrev pub names_among : ℕ → List ObjectId → NameTest
+abbrev pub names_among : ℕ → List Identity → NameTest
 names_among p os q i = list_any (λ o. at_name p o q i) os
 
 -- all that these references refer to, and its names

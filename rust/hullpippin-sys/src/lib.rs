@@ -327,10 +327,10 @@ pub const HULLPIPPIN_TEXT_RETURN: u32 = 6;
 pub struct hullpippin_answer {
     /// HULLPIPPIN_HANDED .. HULLPIPPIN_BACK.
     pub kind: u32,
-    /// The place of its first step in the history.
-    pub from: u32,
+    /// The place of its first step in the history; a driver's are below 4294967295.
+    pub from: u64,
     /// The place behind its last.
-    pub to: u32,
+    pub to: u64,
     /// Wrote: write_consumed, how many bytes of the stream were run.
     pub consumed: u32,
     /// Wrote: how many of the commands changed nothing, each with a note.
@@ -393,9 +393,9 @@ pub struct hullpippin_request {
 #[repr(C)]
 #[derive(Clone, Copy, Debug, Default, PartialEq, Eq)]
 pub struct hullpippin_verdict_on {
-    /// Whether its entries are a history.
+    /// Whether each of its entries follows from those before: up to 4294967295 of them are a history then.
     pub lawful: bool,
-    /// How many of them are one, from the first on: all of them where it is lawful.
+    /// How many do, from the first on: all of them where it is lawful.
     pub entries: usize,
 }
 
@@ -421,7 +421,7 @@ pub struct hullpippin_todo_list {
     /// HULLPIPPIN_LIST_OF_THREAD ..
     pub kind: u32,
     /// Of a thread: its seat; of a process: the place of its open; any list: 0.
-    pub number: u32,
+    pub number: u64,
 }
 
 /// That of a seat's thread.
@@ -438,7 +438,7 @@ pub const HULLPIPPIN_ANY_LIST: u32 = 2;
 #[derive(Clone, Copy, Debug, Default, PartialEq, Eq)]
 pub struct hullpippin_object_id {
     /// The place of the step that made it.
-    pub place: u32,
+    pub place: u64,
     /// Which of that step's objects it is, from 0.
     pub index: u32,
 }
@@ -448,7 +448,7 @@ pub struct hullpippin_object_id {
 #[derive(Clone, Copy, Debug, Default, PartialEq, Eq)]
 pub struct hullpippin_process {
     /// The place of its open, by which it is named.
-    pub made: u32,
+    pub made: u64,
     /// Its pid.
     pub pid: u32,
     /// Its effective user id.
@@ -464,9 +464,9 @@ pub struct hullpippin_process {
 #[derive(Clone, Copy, Debug, Default, PartialEq, Eq)]
 pub struct hullpippin_thread {
     /// The place of its open or attach.
-    pub made: u32,
+    pub made: u64,
     /// Its process.
-    pub process: u32,
+    pub process: u64,
     /// It has entered the loop.
     pub looping: bool,
 }
@@ -476,7 +476,7 @@ pub struct hullpippin_thread {
 #[derive(Clone, Copy, Debug, Default, PartialEq, Eq)]
 pub struct hullpippin_object {
     /// The process that owns it, live or not.
-    pub owner: u32,
+    pub owner: u64,
     /// By which its owner knows it.
     pub ptr: u64,
     /// What its owner gave with it.
@@ -492,9 +492,9 @@ pub struct hullpippin_object {
 #[derive(Clone, Copy, Debug, Default, PartialEq, Eq)]
 pub struct hullpippin_buffer {
     /// The process whose window it lies in.
-    pub receiver: u32,
+    pub receiver: u64,
     /// The process that sent it, live or not.
-    pub sender: u32,
+    pub sender: u64,
     /// Where it begins in the window.
     pub start: u32,
     /// How much of the window it takes.
@@ -524,7 +524,7 @@ pub struct hullpippin_buffer {
 #[derive(Clone, Copy, Debug, Default, PartialEq, Eq)]
 pub struct hullpippin_frame {
     /// The place of its transaction.
-    pub made: u32,
+    pub made: u64,
     /// The thread serves it, and else made it.
     pub serves: bool,
 }
@@ -534,7 +534,7 @@ pub struct hullpippin_frame {
 #[derive(Clone, Copy, Debug, Default, PartialEq, Eq)]
 pub struct hullpippin_death {
     /// The process that asked for it.
-    pub process: u32,
+    pub process: u64,
     /// The object whose owner's death is told.
     pub object: hullpippin_object_id,
     /// What the process gave with it.
@@ -562,7 +562,7 @@ pub const HULLPIPPIN_ACKNOWLEDGED: u32 = 3;
 #[derive(Clone, Copy, Debug, Default, PartialEq, Eq)]
 pub struct hullpippin_work {
     /// The place of the step that made it.
-    pub place: u32,
+    pub place: u64,
     /// Which of that step's it is, from 0.
     pub index: u64,
     /// HULLPIPPIN_NOTICE ..
@@ -574,7 +574,7 @@ pub struct hullpippin_work {
     /// Refusal, verdict: the code of the return.
     pub code: u32,
     /// Call, reply: the buffer; death: the notification.
-    pub made: u32,
+    pub made: u64,
     /// Cleared: the notification's.
     pub cookie: u64,
 }
@@ -1016,15 +1016,15 @@ extern "C" {
     pub fn hullpippin_live_ready(live: *mut hullpippin_live, seat: u32) -> bool;
 
     /// How many steps were made. Takes no memory.
-    pub fn hullpippin_live_len(live: *mut hullpippin_live) -> u32;
+    pub fn hullpippin_live_len(live: *mut hullpippin_live) -> u64;
 
     /// Copies where the buffers were made that ended by the latest step, each the place of its step in the history,
-    /// oldest first, to `out` if all of them fit in `room` numbers, and else nothing. Answers how many there are, 0
+    /// oldest first, to `out` if all of them fit in `room` places, and else nothing. Answers how many there are, 0
     /// where no step was made yet; they stay until the next step that is DONE. A buffer has ended where one made there
     /// lived before the step and none does after it, so a bridge may take back its memory. Only a BC_FREE_BUFFER and
     /// the exits end buffers, and only they take time for it: a BC_FREE_BUFFER looks for one, an exit looks through
     /// those of its own process. Takes no memory.
-    pub fn hullpippin_live_ended(live: *mut hullpippin_live, out: *mut u32, room: usize) -> usize;
+    pub fn hullpippin_live_ended(live: *mut hullpippin_live, out: *mut u64, room: usize) -> usize;
 
     /// Looks whether each of `count` seats has something to read, and notes it. Tells in `changed` for how many of them
     /// that differs from what was noted when the seat was last looked at by this function; at first no seat has
@@ -1068,12 +1068,14 @@ extern "C" {
     pub fn hullpippin_live_entry(live: *mut hullpippin_live, out: *mut u8, room: usize, size: *mut usize) -> u32;
 
     /// The same for what a journal of `count` entries begins with, 16 bytes, or 20 where there are more than 31 seats.
-    /// Where the entries are still to come, begin the file with the heading of 4294967295 entries, and write the right
-    /// one over it at the end, or `count` alone into the four bytes from byte 12, little-endian. Until then no reader
-    /// takes it for a journal.
+    /// Where the entries are still to come, begin the file with the heading of 4294967295 entries, of UINT64_MAX where
+    /// there are more than 31 seats, and write the right one over it at the end, or `count` alone from byte 12 on,
+    /// little-endian, into four bytes, or eight where there are more than 31 seats. Until then no reader takes it for a
+    /// journal. NO_JOURNAL: there are 31 seats or fewer and more than 4294967295 entries, which no journal of so few
+    /// seats counts.
     pub fn hullpippin_live_heading(
         live: *mut hullpippin_live,
-        count: u32,
+        count: u64,
         out: *mut u8,
         room: usize,
         size: *mut usize,
@@ -1083,10 +1085,10 @@ extern "C" {
     pub fn hullpippin_free_live(live: *mut hullpippin_live);
 
     /// The live process that was opened at this place.
-    pub fn hullpippin_live_process(live: *mut hullpippin_live, made: u32, process: *mut hullpippin_process) -> bool;
+    pub fn hullpippin_live_process(live: *mut hullpippin_live, made: u64, process: *mut hullpippin_process) -> bool;
 
     /// The live process with this pid: the place of its open.
-    pub fn hullpippin_live_process_of_pid(live: *mut hullpippin_live, pid: u32, made: *mut u32) -> bool;
+    pub fn hullpippin_live_process_of_pid(live: *mut hullpippin_live, pid: u32, made: *mut u64) -> bool;
 
     /// The live thread of a seat.
     pub fn hullpippin_live_thread(live: *mut hullpippin_live, seat: u32, thread: *mut hullpippin_thread) -> bool;
@@ -1097,7 +1099,7 @@ extern "C" {
     /// An object, by its identity.
     pub fn hullpippin_live_object(
         live: *mut hullpippin_live,
-        place: u32,
+        place: u64,
         index: u32,
         object: *mut hullpippin_object,
     ) -> bool;
@@ -1111,13 +1113,13 @@ extern "C" {
     ) -> bool;
 
     /// The live buffer that was made at this place.
-    pub fn hullpippin_live_buffer(live: *mut hullpippin_live, made: u32, buffer: *mut hullpippin_buffer) -> bool;
+    pub fn hullpippin_live_buffer(live: *mut hullpippin_live, made: u64, buffer: *mut hullpippin_buffer) -> bool;
 
     /// The object of an index, from 0, among those that the live buffer made at this place carries: one for each object
     /// of its parcel, in their order. It goes along them from the first.
     pub fn hullpippin_live_carried(
         live: *mut hullpippin_live,
-        made: u32,
+        made: u64,
         index: usize,
         object: *mut hullpippin_object_id,
     ) -> bool;
@@ -1134,7 +1136,7 @@ extern "C" {
     /// The same on the list of a process, which any of its threads reads that is in the loop.
     pub fn hullpippin_live_unread_of_process(
         live: *mut hullpippin_live,
-        process: u32,
+        process: u64,
         index: usize,
         work: *mut hullpippin_work,
     ) -> bool;
@@ -1143,12 +1145,12 @@ extern "C" {
     pub fn hullpippin_live_innermost(live: *mut hullpippin_live, seat: u32, frame: *mut hullpippin_frame) -> bool;
 
     /// The death notification that was asked for at this place.
-    pub fn hullpippin_live_death(live: *mut hullpippin_live, made: u32, death: *mut hullpippin_death) -> bool;
+    pub fn hullpippin_live_death(live: *mut hullpippin_live, made: u64, death: *mut hullpippin_death) -> bool;
 
     /// The first live process that was opened at the place `from` or behind it: the place of its open. To go through
     /// all that there are, begin with 0, and go on with one more than was told; the same goes for the two looks that
     /// follow.
-    pub fn hullpippin_live_next_process(live: *mut hullpippin_live, from: u32, place: *mut u32) -> bool;
+    pub fn hullpippin_live_next_process(live: *mut hullpippin_live, from: u64, place: *mut u64) -> bool;
 
     /// The least handle, `from` or above it, that names something for the live process with this pid. Where `from`
     /// itself names nothing, it looks at each handle that is noted for the process, those of names that are gone too
@@ -1157,7 +1159,7 @@ extern "C" {
 
     /// The first live buffer of a process, named by the place of its open, that was made at the place `from` or behind
     /// it: where it was made.
-    pub fn hullpippin_live_next_buffer(live: *mut hullpippin_live, process: u32, from: u32, made: *mut u32) -> bool;
+    pub fn hullpippin_live_next_buffer(live: *mut hullpippin_live, process: u64, from: u64, made: *mut u64) -> bool;
 
     /// Reads the command at the head of a stream. Answers 0, or the number of the fault by which none is there, F1 to
     /// F3, and then `command` stays as it was. What comes behind the command isn't looked at.

@@ -99,9 +99,9 @@ pub enum Outcome {
         /// What the request came to.
         answer: Answer,
         /// The place of the request's first step in the history.
-        from: u32,
+        from: u64,
         /// The place behind the request's last step.
-        to: u32,
+        to: u64,
     },
     /// The request wasn't run, for this reason.
     Back(Why),

@@ -35,7 +35,7 @@ pub struct Made {
     /// What the step came to: told as of a seat's request of that name, and of a command as of a write of it alone.
     pub answer: Answer,
     /// How many steps there were before.
-    pub place: u32,
+    pub place: u64,
 }
 
 impl Live {
@@ -137,12 +137,12 @@ impl Live {
     }
 
     /// How many steps were made.
-    pub fn steps(&mut self) -> u32 {
+    pub fn steps(&mut self) -> u64 {
         unsafe { sys::hullpippin_live_len(&mut self.handle) }
     }
 
     /// Where the buffers were made that ended by the latest step, each by the place of its step, oldest first.
-    pub fn ended(&mut self) -> Vec<u32> {
+    pub fn ended(&mut self) -> Vec<u64> {
         self.numbers(|live, out, room| unsafe { sys::hullpippin_live_ended(live, out, room) })
     }
 
@@ -185,7 +185,7 @@ impl Live {
         let found = unsafe { sys::hullpippin_live_reached(&mut self.handle, index, &mut told) };
         debug_assert!(found);
         match told.kind {
-            sys::HULLPIPPIN_LIST_OF_THREAD => Some(TodoList::OfThread(told.number)),
+            sys::HULLPIPPIN_LIST_OF_THREAD => Some(TodoList::OfThread(seat_of(told.number))),
             sys::HULLPIPPIN_LIST_OF_PROCESS => Some(TodoList::OfProcess(told.number)),
             _ => None,
         }
@@ -199,7 +199,7 @@ impl Live {
     }
 
     /// What a journal of so many entries begins with.
-    pub fn heading(&mut self, count: u32) -> Result<Vec<u8>, Error> {
+    pub fn heading(&mut self, count: u64) -> Result<Vec<u8>, Error> {
         let live = &mut self.handle;
         // SAFETY: the bytes are so many.
         copied(|out, room, size| unsafe { sys::hullpippin_live_heading(live, count, out, room, size) })
@@ -211,16 +211,21 @@ impl Live {
     }
 
     /// All the numbers that a call copies, however many.
-    fn numbers(&mut self, copy: impl Fn(*mut sys::hullpippin_live, *mut u32, usize) -> usize) -> Vec<u32> {
+    fn numbers<T: Clone + Default>(&mut self, copy: impl Fn(*mut sys::hullpippin_live, *mut T, usize) -> usize) -> Vec<T> {
         let mut numbers = Vec::new();
         loop {
             let count = copy(&mut self.handle, numbers.as_mut_ptr(), numbers.len());
             if count <= numbers.len() {
                 return numbers;
             }
-            numbers.resize(count, 0);
+            numbers.resize(count, T::default());
         }
     }
+}
+
+/// The seat whose thread's list is told: there are at most 65536.
+fn seat_of(number: u64) -> u32 {
+    number.try_into().expect("the library tells the list of a seat that it has")
 }
 
 impl Fetched for Live {

@@ -9,7 +9,7 @@ use std::iter;
 #[derive(Clone, Copy, Debug, PartialEq, Eq, Hash, PartialOrd, Ord)]
 pub struct ObjectId {
     /// The place of the step that made the object.
-    pub place: u32,
+    pub place: u64,
     /// Which of the objects that this step made it is, from 0.
     pub index: u32,
 }
@@ -24,7 +24,7 @@ impl ObjectId {
 #[derive(Clone, Copy, Debug, PartialEq, Eq, Hash)]
 pub struct Process {
     /// The place of its Open.
-    pub made: u32,
+    pub made: u64,
     /// The pid, which no other live process has.
     pub pid: u32,
     /// The effective user id.
@@ -39,9 +39,9 @@ pub struct Process {
 #[derive(Clone, Copy, Debug, PartialEq, Eq, Hash)]
 pub struct Thread {
     /// The place of its Open or Attach.
-    pub made: u32,
+    pub made: u64,
     /// The process of the thread, by the place of its Open.
-    pub process: u32,
+    pub process: u64,
     /// Whether the thread has entered the loop, in which it reads its process's list, too.
     pub looping: bool,
 }
@@ -50,7 +50,7 @@ pub struct Thread {
 #[derive(Clone, Copy, Debug, PartialEq, Eq, Hash)]
 pub struct Object {
     /// The process that owns it, live or not.
-    pub owner: u32,
+    pub owner: u64,
     /// The pointer by which its owner knows it.
     pub ptr: u64,
     /// The cookie that its owner gave with it.
@@ -65,9 +65,9 @@ pub struct Object {
 #[derive(Clone, Copy, Debug, PartialEq, Eq, Hash)]
 pub struct Buffer {
     /// The process whose window it lies in.
-    pub receiver: u32,
+    pub receiver: u64,
     /// The process that sent it, live or not.
-    pub sender: u32,
+    pub sender: u64,
     /// Where it begins in the window, in bytes.
     pub start: u32,
     /// How many bytes of the window it takes.
@@ -94,7 +94,7 @@ pub struct Buffer {
 #[derive(Clone, Copy, Debug, PartialEq, Eq, Hash)]
 pub struct Frame {
     /// The place of its transaction.
-    pub made: u32,
+    pub made: u64,
     /// Whether the thread serves it; else it made it.
     pub serves: bool,
 }
@@ -116,7 +116,7 @@ pub enum Phase {
 #[derive(Clone, Copy, Debug, PartialEq, Eq, Hash)]
 pub struct DeathNotification {
     /// The process that asked for it, by the place of its Open.
-    pub process: u32,
+    pub process: u64,
     /// The object whose owner's death is told.
     pub object: ObjectId,
     /// The cookie that the process gave with it.
@@ -133,7 +133,7 @@ pub enum TodoList {
     /// The list of this seat's thread.
     OfThread(u32),
     /// The list of the process that was opened at this place.
-    OfProcess(u32),
+    OfProcess(u64),
 }
 
 /// What is still to be read.
@@ -149,15 +149,20 @@ pub enum Work {
     /// What was written was refused: the code of the return.
     Refusal(u32),
     /// A call, by its buffer.
-    Call(u32),
+    Call(u64),
     /// A reply, by its buffer.
-    Reply(u32),
+    Reply(u64),
     /// An accepted call has failed: the code of the return.
     Verdict(u32),
     /// The owner of an object has ended, by the notification.
-    Death(u32),
+    Death(u64),
     /// A death notification was cleared, by its cookie.
     Cleared(u64),
+}
+
+/// Where to look on behind a place.
+fn place_after(place: u64) -> Option<u64> {
+    place.checked_add(1)
 }
 
 impl Phase {
@@ -216,7 +221,7 @@ impl Work {
 ///     live.manager(0)?;
 ///     live.open(1, 200, 2000, 4096)?;
 ///     live.command(1, &Command::Increfs(0))?;
-///     let places: Vec<u32> = live.processes().collect();
+///     let places: Vec<u64> = live.processes().collect();
 ///     let pids: Vec<_> = places.iter().filter_map(|place| live.process(*place)).map(|it| it.pid).collect();
 ///     assert_eq!(pids, [100, 200]);
 ///     assert!(live.handles(200).eq([0]));
@@ -232,15 +237,16 @@ impl Live {
     }
 
     /// All that a look tells which has the first from a number on, one after the other.
-    fn each<'a, F>(&'a mut self, mut look: F) -> impl Iterator<Item = u32> + 'a
+    fn each<'a, T, F>(&'a mut self, after: fn(T) -> Option<T>, mut look: F) -> impl Iterator<Item = T> + 'a
     where
-        F: FnMut(*mut sys::hullpippin_live, u32, *mut u32) -> bool + 'a,
+        T: Copy + Default + 'a,
+        F: FnMut(*mut sys::hullpippin_live, T, *mut T) -> bool + 'a,
     {
-        let mut from = Some(0);
+        let mut from = Some(T::default());
         iter::from_fn(move || {
             let first = from?;
             let next = self.found(|live, next| look(live, first, next))?;
-            from = next.checked_add(1);
+            from = after(next);
             Some(next)
         })
     }
@@ -255,7 +261,7 @@ impl Live {
     }
 
     /// The live process that was opened at this place.
-    pub fn process(&mut self, made: u32) -> Option<Process> {
+    pub fn process(&mut self, made: u64) -> Option<Process> {
         // SAFETY: here and in what follows the handle has an engine, and what is filled is there.
         let told = self.found(|live, told| unsafe { sys::hullpippin_live_process(live, made, told) })?;
         let sys::hullpippin_process { made, pid, euid, window, spam_detection } = told;
@@ -263,23 +269,28 @@ impl Live {
     }
 
     /// The live process with this pid, by the place of its Open.
-    pub fn process_of_pid(&mut self, pid: u32) -> Option<u32> {
+    pub fn process_of_pid(&mut self, pid: u32) -> Option<u64> {
         self.found(|live, made| unsafe { sys::hullpippin_live_process_of_pid(live, pid, made) })
     }
 
     /// The live processes, each by the place of its Open, in the order in which they were opened.
-    pub fn processes(&mut self) -> impl Iterator<Item = u32> + '_ {
-        self.each(|live, from, place| unsafe { sys::hullpippin_live_next_process(live, from, place) })
+    pub fn processes(&mut self) -> impl Iterator<Item = u64> + '_ {
+        self.each(place_after, |live, from, place| unsafe { sys::hullpippin_live_next_process(live, from, place) })
     }
 
     /// The handles that name something for the live process with this pid, from the least on.
     pub fn handles(&mut self, pid: u32) -> impl Iterator<Item = u32> + '_ {
-        self.each(move |live, from, handle| unsafe { sys::hullpippin_live_next_handle(live, pid, from, handle) })
+        let after = |handle: u32| handle.checked_add(1);
+        self.each(after, move |live, from, handle| unsafe {
+            sys::hullpippin_live_next_handle(live, pid, from, handle)
+        })
     }
 
     /// The live buffers of a process, which is named by the place of its Open: where each was made, from the oldest on.
-    pub fn buffers(&mut self, process: u32) -> impl Iterator<Item = u32> + '_ {
-        self.each(move |live, from, made| unsafe { sys::hullpippin_live_next_buffer(live, process, from, made) })
+    pub fn buffers(&mut self, process: u64) -> impl Iterator<Item = u64> + '_ {
+        self.each(place_after, move |live, from, made| unsafe {
+            sys::hullpippin_live_next_buffer(live, process, from, made)
+        })
     }
 
     /// The live thread of a seat, if it has one.
@@ -308,7 +319,7 @@ impl Live {
     }
 
     /// The live buffer that was made at this place.
-    pub fn buffer(&mut self, made: u32) -> Option<Buffer> {
+    pub fn buffer(&mut self, made: u64) -> Option<Buffer> {
         let told = self.found(|live, told| unsafe { sys::hullpippin_live_buffer(live, made, told) })?;
         Some(Buffer {
             receiver: told.receiver,
@@ -328,7 +339,7 @@ impl Live {
 
     /// The objects that the live buffer made at this place carries, one for each object of its parcel, in their order. The library finds
     /// each by going along those before it, so the time grows with the square of how many there are.
-    pub fn carried(&mut self, made: u32) -> Vec<ObjectId> {
+    pub fn carried(&mut self, made: u64) -> Vec<ObjectId> {
         let told = self.all(|live, index, told| unsafe { sys::hullpippin_live_carried(live, made, index, told) });
         told.into_iter().map(ObjectId::told).collect()
     }
@@ -352,7 +363,7 @@ impl Live {
     }
 
     /// The death notification that was asked for at this place.
-    pub fn death(&mut self, made: u32) -> Option<DeathNotification> {
+    pub fn death(&mut self, made: u64) -> Option<DeathNotification> {
         let told = self.found(|live, told| unsafe { sys::hullpippin_live_death(live, made, told) })?;
         Some(DeathNotification {
             process: told.process,

@@ -1,6 +1,6 @@
 -- For NamesHaveGiftChains: each name has a gift chain.
 use Rattle.bd_laws.proofs.words.Logic.{◌≡◌, ℕ, ◌+◌, ◌<◌, ◌≤◌, ◌==◌, Bool, true, cond, ◌&&◌, List, [], ◌∷◌, ◌++◌, Option, Some, Ok, ◌⊎◌, inl, inr, refl, ap, sym, subst, ◌∙◌, length, arith, length-append, append_assoc, append-nil, eq-eqb}
-use Rattle.bd_laws.proofs.words.Types.{ObjectId, Entry, Parcel, Command, Accepted, Actor, Object, Name, Holder, Carried}
+use Rattle.bd_laws.proofs.words.Types.{Identity, Entry, Parcel, Command, Accepted, Actor, Object, Name, Holder, Carried}
 use Rattle.bd_laws.proofs.words.Space.{same, is_some_and, Space, opening, actor, owned_in, named, ask_check, command_step, change, counted, History, after, next, space_after}
 use Rattle.bd_uapi.specs.declared.command.Command.TheVariants as bc
 use Rattle.bd_laws.proofs.words.Laws.{In}
@@ -22,27 +22,27 @@ stands_more es fs i before e h = record { rest = h.rest ++ fs; all = ap (λ xs. 
 stands_below : (es : List Entry) (i : ℕ) (before : List Entry) (e : Entry) → Stands es i before e → i < length es
 stands_below es i before e h = search (arith, length-append)
 
-begins_below : (es : List Entry) (i : ℕ) (o : ObjectId) (r : ℕ) → OwnerGives es i o r ⊎ ManagerGives es i o r → i < length es
+begins_below : (es : List Entry) (i : ℕ) (o : Identity) (r : ℕ) → OwnerGives es i o r ⊎ ManagerGives es i o r → i < length es
 begins_below es i o r (inl g) = stands_below es i g.0 g.1 g.3
 begins_below es i o r (inr g) = stands_below es i g.0 g.1 g.2
 
-chain_from_more : (es fs : List Entry) (o : ObjectId) (is : List ℕ) (p k q : ℕ) → IsChainFrom es o p k is q → IsChainFrom (es ++ fs) o p k is q
+chain_from_more : (es fs : List Entry) (o : Identity) (is : List ℕ) (p k q : ℕ) → IsChainFrom es o p k is q → IsChainFrom (es ++ fs) o p k is q
 chain_from_more es fs o [] p k q h = h
 chain_from_more es fs o (i ∷ is) p k q h =
     (h.0, h.1, (h.2.0, h.2.1, stands_more es fs i h.2.0 h.2.1 h.2.2, h.2.3), chain_from_more es fs o is h.0 (i + 1) q h.3)
 
 -- A gift that begins a chain still does so with more entries behind.
-pub begins_more : (es fs : List Entry) (i : ℕ) (o : ObjectId) (r : ℕ) → OwnerGives es i o r ⊎ ManagerGives es i o r → OwnerGives (es ++ fs) i o r ⊎ ManagerGives (es ++ fs) i o r
+pub begins_more : (es fs : List Entry) (i : ℕ) (o : Identity) (r : ℕ) → OwnerGives es i o r ⊎ ManagerGives es i o r → OwnerGives (es ++ fs) i o r ⊎ ManagerGives (es ++ fs) i o r
 begins_more es fs i o r (inl g) = inl (g.0, g.1, g.2, stands_more es fs i g.0 g.1 g.3, g.4, g.5)
 begins_more es fs i o r (inr g) = inr (g.0, g.1, stands_more es fs i g.0 g.1 g.2, g.3)
 
-chain_more : (es fs : List Entry) (o : ObjectId) (is : List ℕ) (q : ℕ) → IsGiftChain es o is q → IsGiftChain (es ++ fs) o is q
+chain_more : (es fs : List Entry) (o : Identity) (is : List ℕ) (q : ℕ) → IsGiftChain es o is q → IsGiftChain (es ++ fs) o is q
 chain_more es fs o [] q h = h
 chain_more es fs o (i ∷ is) q h = (h.0, begins_more es fs i o h.0 h.1, chain_from_more es fs o is h.0 (i + 1) q h.2)
 
 -- ---- one gift more, at the end
 
-module _ (es : List Entry) (e : Entry) (o : ObjectId) (q r : ℕ) (g : Gives (es ++ e ∷ []) (length es) o q r) where
+module _ (es : List Entry) (e : Entry) (o : Identity) (q r : ℕ) (g : Gives (es ++ e ∷ []) (length es) o q r) where
   chain_from_push : (is : List ℕ) (p k : ℕ) → k ≤ length es → IsChainFrom es o p k is q → IsChainFrom (es ++ e ∷ []) o p k (is ++ length es ∷ []) r
   chain_from_push [] p k le h = (r, le, subst (λ x. Gives (es ++ e ∷ []) (length es) o x r) (sym h) g, refl)
   chain_from_push (i ∷ is) p k le h =
@@ -63,7 +63,7 @@ here es e = record { rest = []; all = refl; at = refl }
 by_actor : (s : Space) (seat : ℕ) (a : Actor) → actor s seat ≡ Some a → is_some_and (actor s seat) (λ b. b.process.made == a.process.made) ≡ true
 by_actor s seat a h = rw h (eq-eqb a.process.made a.process.made refl)
 
-pub owns_test : (objects : List Object) (p : ℕ) (o : ObjectId) → Owns objects p o → owned_in objects p o ≡ true
+pub owns_test : (objects : List Object) (p : ℕ) (o : Identity) → Owns objects p o → owned_in objects p o ≡ true
 owns_test objects p o h = any_in (λ (x : Object). same x.id o && (x.owner == p)) h.0 objects h.1 (and_both (same h.0.id o) (h.0.owner == p) (eq_same h.0.id o h.2) (eq-eqb h.0.owner p h.3))
 
 carried_test : (place q : ℕ) (holder : Holder) → holder ≡ Carried place q → is_carried_to place q holder ≡ true
@@ -76,7 +76,7 @@ sends s place e m at g = search (arith, change, by_actor, either_true, owns_test
 asking_0 : (strong : Bool) (parcel : Option Parcel) → is_asking_0 (Command (cond strong (bc.Acquire 0) (bc.Increfs 0)) parcel) ≡ true
 asking_0 strong parcel = search arith
 
-accepts : (s : Space) (seat : ℕ) (a : Actor) (o : ObjectId) (strong : Bool) (parcel : Option Parcel) → actor s seat ≡ Some a → ask_check s a.process.made 0 strong ≡ Ok o
+accepts : (s : Space) (seat : ℕ) (a : Actor) (o : Identity) (strong : Bool) (parcel : Option Parcel) → actor s seat ≡ Some a → ask_check s a.process.made 0 strong ≡ Ok o
     → (change s seat (Command (cond strong (bc.Acquire 0) (bc.Increfs 0)) parcel)).answer ≡ Accepted
 unfolding change command_step
 accepts s seat a o strong parcel acts check = search arith
@@ -90,7 +90,7 @@ abbrev Chained : List Entry → Space → Type 0
 Chained es s = (m : Name) → In m s.names → (is : List ℕ) × IsGiftChain es m.object is m.process
 
 -- the chain of a name that a process has
-has_chain : (es : List Entry) (s : Space) → Chained es s → (p : ℕ) (o : ObjectId) → HasName s.names p o → (is : List ℕ) × IsGiftChain es o is p
+has_chain : (es : List Entry) (s : Space) → Chained es s → (p : ℕ) (o : Identity) → HasName s.names p o → (is : List ℕ) × IsGiftChain es o is p
 has_chain es s log p o has =
     let c = log has.0 has.1 in
     (c.0, subst (λ x. IsGiftChain es x c.0 p) has.3 (subst (λ x. IsGiftChain es has.0.object c.0 x) has.2 c.1))
@@ -130,7 +130,7 @@ chained_all (e ∷ fs) es s at log =
 none_chained : Chained [] opening
 none_chained = λ m i. absurd i
 
-pub name_chain : (h : History) (p number : ℕ) (o : ObjectId) → named (space_after h) p number ≡ Some o → (is : List ℕ) × IsGiftChain h.entries o is p
+pub name_chain : (h : History) (p number : ℕ) (o : Identity) → named (space_after h) p number ≡ Some o → (is : List ℕ) × IsGiftChain h.entries o is p
 unfolding space_after
 name_chain h p number o e =
     let s = after opening h.entries in

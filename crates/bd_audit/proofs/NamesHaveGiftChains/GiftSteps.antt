@@ -1,7 +1,7 @@
 -- For the public search `gift_chain`, and for no law: the gift by which a name begins, the gifts of a history, and the chain
 -- that they make, found from its end.
 use Rattle.bd_laws.proofs.words.Logic.{◌≡◌, ℕ, ◌+◌, ◌<◌, Bool, true, false, List, [], ◌∷◌, ◌++◌, Option, Some, None, Result, IfOk, IfSome, inl, inr, refl, ap, sym, subst, ◌∙◌, length, take, get_or, reverse, arith, length-append, append-nil, append_assoc, nat_lt, ltb-true, ltb-false, reverse-append, length-take-le, take-append-le, take_all, get_or-append_seam, get_or-append}
-use Rattle.bd_laws.proofs.words.Types.{Fault, ObjectId, Entry}
+use Rattle.bd_laws.proofs.words.Types.{Fault, Identity, Entry}
 use Rattle.bd_laws.proofs.words.Space.{opening, named, History, after, space_after}
 use Rattle.bd_laws.proofs.words.Laws.{In}
 use Rattle.bd_laws.proofs.Lists.{in_left, in_push, in_last}
@@ -50,14 +50,14 @@ receivers_next g k e rs qs place r are at there is pushed =
 
 -- ---- the gift of a step
 
-module _ (es : List Entry) (e : Entry) (o : ObjectId) where
+module _ (es : List Entry) (e : Entry) (o : Identity) where
   pub no_gift : ((q : ℕ) → BeginsAt es e o q → ⊥) → IsGiftOf es e o None
   no_gift h = record { made = tt; every = λ q b. h q b }
 
   pub gift_of : (q : ℕ) → ((r : ℕ) → BeginsAt es e o r → r ≡ q) → IsGiftOf es e o (gift_made es e q o)
   gift_of q one = search (arith, no_gift)
 
-pub ok_gift : (es : List Entry) (e : Entry) (o : ObjectId) (r : Result (Option Gift) Fault) (x : Option Gift) → IfOk r (λ g. g ≡ x) → IsGiftOf es e o x → IfOk r (IsGiftOf es e o)
+pub ok_gift : (es : List Entry) (e : Entry) (o : Identity) (r : Result (Option Gift) Fault) (x : Option Gift) → IfOk r (λ g. g ≡ x) → IsGiftOf es e o x → IfOk r (IsGiftOf es e o)
 ok_gift es e o r x h k = search arith
 
 -- ---- the gifts so far
@@ -75,7 +75,7 @@ follow_front before (x ∷ gs) g h =
     let k = follow_front (before ++ x ∷ []) gs g h.1 in
     ((h.0, k.0), subst (λ xs. Follows xs g) (append_assoc before (x ∷ []) gs) k.1)
 
-module _ (es : List Entry) (e : Entry) (o : ObjectId) (gs : List Gift) (h : AreGifts es o gs) where
+module _ (es : List Entry) (e : Entry) (o : Identity) (gs : List Gift) (h : AreGifts es o gs) where
   -- a name that was there before the step, or one that begins with it
   known_next : (q : ℕ) (P : Type 0) → knows_after (es ++ e ∷ []) q o ≡ true → (HasGift gs q → P) → (BeginsAt es e o q → P) → P
   known_next q P now old new = search arith
@@ -104,7 +104,7 @@ module _ (es : List Entry) (e : Entry) (o : ObjectId) (gs : List Gift) (h : AreG
   }
 
 -- The gifts after one entry more, where an engine has made its step.
-module _ (h k : History) (e : Entry) (o : ObjectId) (gs : List Gift) (gift : Option Gift) (at : k ≡ with_entry h e) (are : AreGifts h.entries o gs) (of : IsGiftOf h.entries e o gift) where
+module _ (h k : History) (e : Entry) (o : Identity) (gs : List Gift) (gift : Option Gift) (at : k ≡ with_entry h e) (are : AreGifts h.entries o gs) (of : IsGiftOf h.entries e o gift) where
   pub gifts_same : gift ≡ None → AreGifts k.entries o gs
   gifts_same is = subst (λ (x : History). AreGifts x.entries o gs) (sym at) (gifts_stay h.entries e o gs are (subst (IsGiftOf h.entries e o) is of))
 
@@ -120,7 +120,7 @@ module _ (h k : History) (e : Entry) (o : ObjectId) (gs : List Gift) (gift : Opt
 abbrev pub LeadsOn : List Gift → List Gift → List ℕ → ℕ → Option ℕ → Type 0
 LeadsOn gs left places q None = IsWay gs (reverse places) q
 LeadsOn gs left places q (Some p) =
-    HasGift left p × ((es : List Entry) (o : ObjectId) → AllGifts es o gs → (h : Gift) → In h left → IsChainFrom es o p (h.place + 1) (reverse places) q)
+    HasGift left p × ((es : List Entry) (o : Identity) → AllGifts es o gs → (h : Gift) → In h left → IsChainFrom es o p (h.place + 1) (reverse places) q)
 
 -- the gifts that are left to look at, and the way so far
 pub record WayBack (gs left : List Gift) (places : List ℕ) (q : ℕ) (next : Option ℕ) : Type 0 where
@@ -170,9 +170,9 @@ module _ (gs left : List Gift) (g : Gift) (places : List ℕ) (q : ℕ) where
 
 -- ---- what the number names
 
-pub holder_knows : (h : History) (pid n p : ℕ) (o : ObjectId) → IsHolder (space_after h) pid n p o → knows_after h.entries p o ≡ true
+pub holder_knows : (h : History) (pid n p : ℕ) (o : Identity) → IsHolder (space_after h) pid n p o → knows_after h.entries p o ≡ true
 unfolding space_after
 holder_knows h pid n p o k = named_knows (space_after h) p n o k.names
 
-pub chain_of : (h g : History) (pid n p : ℕ) (o : ObjectId) (places : List ℕ) → g ≡ h → IsHolder (space_after g) pid n p o → IsGiftChain h.entries o places p → IsChainOf h pid n places
+pub chain_of : (h g : History) (pid n p : ℕ) (o : Identity) (places : List ℕ) → g ≡ h → IsHolder (space_after g) pid n p o → IsGiftChain h.entries o places p → IsChainOf h pid n places
 chain_of h g pid n p o places same_history k chain = search (arith, named)

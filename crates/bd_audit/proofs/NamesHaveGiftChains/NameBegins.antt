@@ -1,6 +1,6 @@
 -- For the public search `gift_chain`: the step at which a name begins, and to whom a step gives. GoneUnheld uses one lemma.
 use Rattle.bd_laws.proofs.words.Logic.{◌≡◌, ℕ, ◌<◌, ◌==◌, Bool, true, false, ◌&&◌, not, List, [], ◌∷◌, ◌++◌, Option, Some, None, inl, inr, refl, ap, sym, subst, ◌∙◌, length, find, arith, length-append, is_some, option_map, option_and_then, option_or, eqb-true, eq-eqb}
-use Rattle.bd_laws.proofs.words.Types.{ObjectId, Entry, Thread, Actor, Name, Buffer, Carried}
+use Rattle.bd_laws.proofs.words.Types.{Identity, Entry, Thread, Actor, Name, Buffer, Carried}
 use Rattle.bd_laws.proofs.words.Space.{same, when, Space, opening, actor, number_in, named, is_made_at, buffer_in, change, counted, History, after, next, space_after}
 use Rattle.bd_engine.specs.Looks.{knows, process_of}
 use Rattle.bd_laws.proofs.words.Laws.{In, IsTidy}
@@ -26,19 +26,19 @@ module _ {A : Type 0} (p : A → Bool) (xs : List A) where
   pub some_found : is_some (find p xs) ≡ true → (x : A) × In x xs × (p x ≡ true) × (find p xs ≡ Some x)
   some_found h = let f = is_some_ok (find p xs) h in let l = find_in p f.0 xs f.1 in (f.0, l.0, l.1, f.1)
 
-number_has : (names : List Name) (p : ℕ) (o : ObjectId) → is_some (number_in names p o) ≡ true → HasName names p o
+number_has : (names : List Name) (p : ℕ) (o : Identity) → is_some (number_in names p o) ≡ true → HasName names p o
 number_has names p o h =
     let m = some_found (λ (m : Name). (m.process == p) && same m.object o) names (sym (is_some_map _ _) ∙ h) in
     let t = both (m.0.process == p) (same m.0.object o) m.2 in
     (m.0, m.1, eqb-true m.0.process p t.0, same_eq m.0.object o t.1)
 
-pub named_knows : (s : Space) (p n : ℕ) (o : ObjectId) → named s p n ≡ Some o → knows s p o ≡ true
+pub named_knows : (s : Space) (p n : ℕ) (o : Identity) → named s p n ≡ Some o → knows s p o ≡ true
 named_knows s p n o h = has_number s.names p o (named_has s p n o h)
 
 actor_process : (s : Space) (seat : ℕ) (a : Actor) → actor s seat ≡ Some a → process_of s seat ≡ Some a.process.made
 actor_process s seat a h = ap (option_map (λ (t : Thread). t.process)) (actor_lives s seat a h).0 ∙ ap (λ n. Some n) (sym (actor_acts s seat a h).own)
 
-actor_giver : (s : Space) (seat : ℕ) (a : Actor) (o : ObjectId) → actor s seat ≡ Some a → giver_in s seat o ≡ when (knows s a.process.made o) a.process.made
+actor_giver : (s : Space) (seat : ℕ) (a : Actor) (o : Identity) → actor s seat ≡ Some a → giver_in s seat o ≡ when (knows s a.process.made o) a.process.made
 actor_giver s seat a o h = ap (option_and_then (λ p. when (knows s p o) p)) (actor_process s seat a h)
 
 -- ---- the step at which a name begins
@@ -73,13 +73,13 @@ module _ (es : List Entry) (e : Entry) where
       actor_giver s e.seat g.by m.object g.acts ∙ ap (λ b. when b p) (subst (λ q. knows s q m.object ≡ false) (sym g.process) new) in
       subst (GivenBy (es ++ e ∷ []) (length es) m.object m.process) (sym none) (inr (es, e, here es e, asks s e m (change s e.seat e.step).space g))
 
-  pub name_given : (o : ObjectId) (q : ℕ) → knows_after es q o ≡ false → knows_after (es ++ e ∷ []) q o ≡ true
+  pub name_given : (o : Identity) (q : ℕ) → knows_after es q o ≡ false → knows_after (es ++ e ∷ []) q o ≡ true
       → GivenBy (es ++ e ∷ []) (length es) o q (giver_in (after opening es) e.seat o)
   unfolding counted
   name_given o q new now = search (arith, change, after_append, number_has, step_naming, has_number, hand_gives, asked_gives)
 
 -- The gift that an engine finds, by what it knows before and after the step, is that of the definition.
-pub gift_is : (h k : History) (e : Entry) (q : ℕ) (o : ObjectId) (knew now : Bool) (n : ℕ) (giver : Option ℕ) → k ≡ with_entry h e → knew ≡ knows (space_after h) q o
+pub gift_is : (h k : History) (e : Entry) (q : ℕ) (o : Identity) (knew now : Bool) (n : ℕ) (giver : Option ℕ) → k ≡ with_entry h e → knew ≡ knows (space_after h) q o
     → now ≡ knows (space_after k) q o → n ≡ length h.entries → giver ≡ giver_in (space_after h) e.seat o
     → when (not knew && now) (let g : Gift = record { receiver = q; place = n; giver = giver } in g) ≡ gift_made h.entries e q o
 unfolding space_after
@@ -87,11 +87,11 @@ gift_is h k e q o knew now n giver at a b c d = rw (a, b, at, c, d) refl
 
 -- ---- more entries
 
-given_more : (es fs : List Entry) (i : ℕ) (o : ObjectId) (q : ℕ) (giver : Option ℕ) → GivenBy es i o q giver → GivenBy (es ++ fs) i o q giver
+given_more : (es fs : List Entry) (i : ℕ) (o : Identity) (q : ℕ) (giver : Option ℕ) → GivenBy es i o q giver → GivenBy (es ++ fs) i o q giver
 given_more es fs i o q None h = begins_more es fs i o q h
 given_more es fs i o q (Some p) h = (h.0, h.1, stands_more es fs i h.0 h.1 h.2, h.3, h.4)
 
-pub gift_more : (es fs : List Entry) (o : ObjectId) (g : Gift) → IsGift es o g → IsGift (es ++ fs) o g
+pub gift_more : (es fs : List Entry) (o : Identity) (g : Gift) → IsGift es o g → IsGift (es ++ fs) o g
 gift_more es fs o g h = (let l = length-append es fs in let below = h.0 in omega (arith, l), given_more es fs g.place o g.receiver g.giver h.1)
 
 -- ---- to whom a step gives
@@ -125,7 +125,7 @@ module _ (es : List Entry) (e : Entry) where
       (ap (option_map (λ (c : Buffer). c.receiver)) none_now, actor_process s e.seat g.by g.acts ∙ ap (λ n. Some n) g.process)
 
   -- a process whose name for the object begins there is the one that receives there; if none does, it asks
-  pub begins_with : (o : ObjectId) (q : ℕ) → BeginsAt es e o q → option_or (receiver_at (next (after opening es) e) (length es)) (process_of (after opening es) e.seat) ≡ Some q
+  pub begins_with : (o : Identity) (q : ℕ) → BeginsAt es e o q → option_or (receiver_at (next (after opening es) e) (length es)) (process_of (after opening es) e.seat) ≡ Some q
   unfolding counted
   begins_with o q begins =
       let s = after opening es in
@@ -143,7 +143,7 @@ module _ (es : List Entry) (e : Entry) where
       receives ∙ ap (λ n. Some n) has.2
 
 -- The receiver that engines find is the only process whose name for the object can begin with the entry.
-pub one_candidate : (h : History) (e : Entry) (o : ObjectId) (receiver asker candidate : Option ℕ) → receiver ≡ receiver_of h.entries e
+pub one_candidate : (h : History) (e : Entry) (o : Identity) (receiver asker candidate : Option ℕ) → receiver ≡ receiver_of h.entries e
     → asker ≡ process_of (space_after h) e.seat → candidate ≡ option_or receiver asker → (q : ℕ) → BeginsAt h.entries e o q → candidate ≡ Some q
 unfolding space_after
 one_candidate h e o receiver asker candidate a b c q begins =

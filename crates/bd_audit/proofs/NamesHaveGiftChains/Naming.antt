@@ -1,6 +1,6 @@
 -- For NamesHaveGiftChains: what a step's new names rest on.
 use Rattle.bd_laws.proofs.words.Logic.{arith, ◌≡◌, ℕ, ◌==◌, Bool, true, false, not, List, [], ◌∷◌, ◌++◌, Option, Some, Ok, inl, inr, refl, ap, sym, subst, ◌∙◌, is_some, option_map, eq-eqb}
-use Rattle.bd_laws.proofs.words.Types.{TransactionData, ObjectId, Parcel, Step, Actor, Frame, Asked, Name, OfThread}
+use Rattle.bd_laws.proofs.words.Types.{TransactionData, Identity, Parcel, Step, Actor, Frame, Asked, Name, OfThread}
 use Rattle.bd_laws.proofs.words.Space.{Space, actor, reference_of, number_in, assign_numbers, owe, closed, ripen, Delivery, delivered, transaction_check, transacted, called, call_out, with_looping, reply_check, replied, without_buffer, ask_check, ask, drop_asked, acknowledge, thread_goes, threads_go, without_process, read_by, change, is_spam}
 use Rattle.bd_space.specs.declared.space.WorkKind.TheVariants as work
 use Rattle.bd_laws.specs.Lists.{In}
@@ -41,10 +41,10 @@ replied_naming s seat x a d parcel f v acts check =
 pub is_some_map : {A B : Type 0} (f : A → B) (o : Option A) → is_some (option_map f o) ≡ is_some o
 is_some_map f o = search arith
 
-pub has_number : (names : List Name) (p : ℕ) (o : ObjectId) → HasName names p o → is_some (number_in names p o) ≡ true
+pub has_number : (names : List Name) (p : ℕ) (o : Identity) → HasName names p o → is_some (number_in names p o) ≡ true
 has_number names p o h = search (arith, is_some_map, find_some, and_both, eq-eqb, eq_same)
 
-ask_naming : (s : Space) (seat : ℕ) (x : Step) (a : Actor) (n : ℕ) (strong : Bool) (o : ObjectId) → actor s seat ≡ Some a → IsAsking x n strong → ask_check s a.process.made n strong ≡ Ok o
+ask_naming : (s : Space) (seat : ℕ) (x : Step) (a : Actor) (n : ℕ) (strong : Bool) (o : Identity) → actor s seat ≡ Some a → IsAsking x n strong → ask_check s a.process.made n strong ≡ Ok o
     → Naming s seat x (ask s a.process.made o strong)
 unfolding ask assign_numbers
 ask_naming s seat x a n strong o acts asks check =

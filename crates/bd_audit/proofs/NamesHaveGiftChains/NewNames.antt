@@ -1,6 +1,6 @@
 -- For NamesHaveGiftChains: names that come, and what comes later in the step.
 use Rattle.bd_laws.proofs.words.Logic.{fold, arith, filter, ◌≡◌, ℕ, ◌+◌, Bool, false, cond, not, ◌&&◌, List, [], ◌∷◌, ◌++◌, Option, Some, Ok, ◌⊎◌, inl, inr, refl, ap, sym, subst, ◌∙◌, map, is_some}
-use Rattle.bd_laws.proofs.words.Types.{TransactionData, ObjectId, Step, Actor, Frame, Process, Object, Reference, Buffer, Carried, Name, Item, is_strong_kind}
+use Rattle.bd_laws.proofs.words.Types.{TransactionData, Identity, Step, Actor, Frame, Process, Object, Reference, Buffer, Carried, Name, Item, is_strong_kind}
 use Rattle.bd_laws.proofs.words.Space.{Space, actor, reference_of, stays_in, objects_go, is_named_in, number_in, free_number, with_name, assign_numbers, names_go, follow, notify, work_goes, deaths_go, Delivery, delivered, buffer_of, own_notices, add_buffer, with_carried, refer, make_objects, buffer_references, object_of_item, ask_check}
 use Rattle.bd_laws.specs.Lists.{In}
 use Rattle.bd_laws.proofs.Lists.{in_right, in_push, in_last, in_filter, filter_in, in_map}
@@ -42,24 +42,24 @@ Naming s seat x z = (m : Name) → In m z.names → Given s seat x z m
 
 -- ---- names that come
 
-module _ (manager : Option ObjectId) (objects : List Object) (references : List Reference) (p : ℕ) where
-  one_name : (b : Bool) (names : List Name) (o : ObjectId) (m : Name) → (is_named_in objects references p o && not (is_some (number_in names p o))) ≡ b
+module _ (manager : Option Identity) (objects : List Object) (references : List Reference) (p : ℕ) where
+  one_name : (b : Bool) (names : List Name) (o : Identity) (m : Name) → (is_named_in objects references p o && not (is_some (number_in names p o))) ≡ b
       → In m (cond b (names ++ record { process = p; number = free_number manager names p o; object = o } ∷ []) names)
       → In m names ⊎ ((m.process ≡ p) × (m.object ≡ o) × (is_some (number_in names p o) ≡ false))
   one_name b names o m e i = search (arith, in_push, not_true, both)
 
-  pub new_name : (names : List Name) (o : ObjectId) (m : Name) → In m (with_name manager objects references p names o)
+  pub new_name : (names : List Name) (o : Identity) (m : Name) → In m (with_name manager objects references p names o)
       → In m names ⊎ ((m.process ≡ p) × (m.object ≡ o) × (is_some (number_in names p o) ≡ false))
   new_name names o m i = one_name (is_named_in objects references p o && not (is_some (number_in names p o))) names o m refl i
 
-  pub new_names : (os : List ObjectId) (names : List Name) (m : Name) → In m (fold (with_name manager objects references p) names os) → In m names ⊎ ((m.process ≡ p) × In m.object os)
+  pub new_names : (os : List Identity) (names : List Name) (m : Name) → In m (fold (with_name manager objects references p) names os) → In m names ⊎ ((m.process ≡ p) × In m.object os)
   new_names [] names m i = inl i
   new_names (o ∷ os) names m i = elim (new_names os (with_name manager objects references p names o) m i) [
     | inl k ↦ elim (new_name names o m k) [ inl j ↦ inl j | inr n ↦ inr (n.0, inl (sym n.1)) ]
     | inr k ↦ inr (k.0, inr k.1)
   ]
 
-pub carried_reference : (b q : ℕ) (items : List Item) (target : Option ObjectId) (k : ℕ) (i : Item) → In i items
+pub carried_reference : (b q : ℕ) (items : List Item) (target : Option Identity) (k : ℕ) (i : Item) → In i items
     → (r : Reference) × In r (buffer_references b q k items target) × (r.object ≡ i.object) × (r.holder ≡ Carried b q)
 carried_reference b q [] target k i l = absurd l
 carried_reference b q (x ∷ xs) target k i (inl e) =
@@ -89,7 +89,7 @@ delivered_naming s frames seat x a d v acts sends =
 
 -- ---- what comes later
 
-owner_stays : (processes : List Process) (objects : List Object) (references : List Reference) (p : ℕ) (o : ObjectId) (r : Reference) → In r references → r.object ≡ o → Owns objects p o
+owner_stays : (processes : List Process) (objects : List Object) (references : List Reference) (p : ℕ) (o : Identity) (r : Reference) → In r references → r.object ≡ o → Owns objects p o
     → Owns (filter (stays_in processes references) objects) p o
 owner_stays processes objects references p o r l e h =
     (h.0, filter_in (stays_in processes references) h.0 objects h.1 (stays processes references h.0 r l (h.2 ∙ sym e)), h.2, h.3)

@@ -1,6 +1,6 @@
 -- For OnlyOwnersHear: what is heard of an object is heard by its owner.
 use Rattle.bd_laws.proofs.words.Logic.{arith, ◌≡◌, ℕ, ◌==◌, Bool, true, false, cond, ◌&&◌, List, [], ◌∷◌, Option, Some, None, ◌⊎◌, inl, inr, refl, find, eqb-true}
-use Rattle.bd_laws.proofs.words.Types.{ObjectId, Step, StepAnswer, Entry, Object, Actor, Work}
+use Rattle.bd_laws.proofs.words.Types.{Identity, Step, StepAnswer, Entry, Object, Actor, Work}
 use Rattle.bd_laws.proofs.words.Space.{same, is_some_and, Space, opening, actor, owned_in, list_to_read, taken, after}
 use Rattle.bd_laws.specs.Lists.{In}
 use Rattle.bd_laws.proofs.Lists.{in_filter, find_in}
@@ -20,7 +20,7 @@ module _ (s : Space) (live : Live s) (sits : SitsIn s) (seat : ℕ) (a : Actor) 
   unfolding list_to_read
   reads_own w q l r = search (arith, eqb-true, actor_seat, actor_process, in_filter)
 
-  module _ (o : ObjectId) where
+  module _ (o : Identity) where
     abbrev IsOwned : Type 0
     IsOwned = owned_in s.objects a.process.made o ≡ true
 
@@ -54,12 +54,12 @@ module _ (s : Space) (live : Live s) (sits : SitsIn s) (seat : ℕ) (a : Actor) 
     by_owner : (x : Step) (answer : StepAnswer) → (heard_by s o a x answer ≡ []) ⊎ IsOwned
     by_owner x answer = search (arith, reads_owned, done_owned)
 
-hears_own : (s : Space) → Live s → SitsIn s → (o : ObjectId) (e : Entry) → (heard_at s o e ≡ []) ⊎ (is_by_owner s o e ≡ true)
+hears_own : (s : Space) → Live s → SitsIn s → (o : Identity) (e : Entry) → (heard_at s o e ≡ []) ⊎ (is_by_owner s o e ≡ true)
 hears_own s live sits o e = at (actor s e.seat) refl
   where
     at : (f : Option Actor) → actor s e.seat ≡ f
         → (elim f as (λ (g : Option Actor). List Event) [ None ↦ [] | Some a ↦ heard_by s o a e.step e.answer ] ≡ []) ⊎ (is_some_and f (λ a. owned_in s.objects a.process.made o) ≡ true)
     at f g = search (arith, by_owner)
 
-pub only_owners : (es : List Entry) (o : ObjectId) (e : Entry) → (heard_at (after opening es) o e ≡ []) ⊎ (is_by_owner (after opening es) o e ≡ true)
+pub only_owners : (es : List Entry) (o : Identity) (e : Entry) → (heard_at (after opening es) o e ≡ []) ⊎ (is_by_owner (after opening es) o e ≡ true)
 only_owners es o e = hears_own (after opening es) (quiet_live (after opening es) (tidy_after es).quiet) (always_sits es) o e

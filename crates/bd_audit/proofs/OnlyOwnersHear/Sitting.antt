@@ -1,6 +1,6 @@
 -- For OnlyOwnersHear: a Notice stands where threads of the process that owns its object read it.
 use Rattle.bd_laws.proofs.words.Logic.{◌++◌, ◌≡◌, ℕ, ◌==◌, Bool, true, false, cond, not, List, Some, inl, inr, refl, ap, sym, ◌∙◌, filter, find, arith, option_map, eqb-true, eq-eqb}
-use Rattle.bd_laws.proofs.words.Types.{ObjectId, Step, Entry, Thread, Object, Work, TodoList, OfThread, OfProcess}
+use Rattle.bd_laws.proofs.words.Types.{Identity, Step, Entry, Thread, Object, Work, TodoList, OfThread, OfProcess}
 use Rattle.bd_laws.proofs.words.Space.{closed, Space, opening, thread_in, objects_go, stays_in, names_go, assign_numbers, is_on, same_list, ripen, work_goes, deaths_go, notify, follow, without_buffer, ask, drop_asked, acknowledge, with_looping, read_by, thread_goes, threads_go, without_process, counted, with_thread, with_process, with_manager, after, next, with_spam_detection}
 use Rattle.bd_space.specs.declared.space.WorkKind.TheVariants as work
 use Rattle.bd_laws.proofs.words.Laws.{Pairs, Differ, KeptBefore, IsTidy}
@@ -93,7 +93,7 @@ managed_sits s p kept live h = λ w o x l e i is. elim (in_push x _ s.objects i)
   | inr new ↦ (
       let old = live w o l e in
       let lt = kept.kept.below old.0 old.1 in
-      let place : s.steps ≡ old.0.id.place = ap (λ (y : Object). y.id.place) new ∙ ap (λ (j : ObjectId). j.place) (is ∙ sym old.2) in absurd (omega arith))
+      let place : s.steps ≡ old.0.id.place = ap (λ (y : Object). y.id.place) new ∙ ap (λ (j : Identity). j.place) (is ∙ sym old.2) in absurd (omega arith))
 ]
 
 abbrev Within : Space → Type 0

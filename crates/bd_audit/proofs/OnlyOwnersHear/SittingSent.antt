@@ -1,6 +1,6 @@
 -- For OnlyOwnersHear: a Notice stands where its owner's threads read it, through work items, transactions and replies.
 use Rattle.bd_laws.proofs.words.Logic.{◌≡◌, ℕ, Bool, true, false, cond, List, ◌++◌, Option, Some, None, Ok, inl, inr, refl, ap, sym, subst, ◌∙◌, filter, arith}
-use Rattle.bd_laws.proofs.words.Types.{TransactionData, ObjectId, Parcel, Thread, Object, Frame, Actor, Item, Work, WorkKind, TodoList, OfThread, OfProcess, is_own}
+use Rattle.bd_laws.proofs.words.Types.{TransactionData, Identity, Parcel, Thread, Object, Frame, Actor, Item, Work, WorkKind, TodoList, OfThread, OfProcess, is_own}
 use Rattle.bd_laws.proofs.words.Space.{same, Space, thread_in, actor, object_in, assign_numbers, goes_to, closed, with_work, owe, notice_of, with_notice, Delivery, delivered, own_notices, add_buffer, with_carried, refer, make_objects, buffer_of, add_notice, withdraw_notice, transaction_check, transacted, called, call_out, reply_check, replied, is_spam}
 use Rattle.bd_space.specs.declared.space.WorkKind.TheVariants as work
 use Rattle.bd_laws.proofs.words.Laws.{In, Pairs, Here, Differ, KeptBefore}
@@ -21,7 +21,7 @@ Reaches threads (OfThread t) q = (x : Thread) × (thread_in threads t ≡ Some x
 
 -- each Notice stands where its object's owner reads
 abbrev pub Sits : List Thread → List Object → List Work → Type 0
-Sits threads objects todo = (w : Work) (o : ObjectId) (x : Object) → In w todo → notice_of w.kind ≡ Some o → In x objects → x.id ≡ o → Reaches threads w.list x.owner
+Sits threads objects todo = (w : Work) (o : Identity) (x : Object) → In w todo → notice_of w.kind ≡ Some o → In x objects → x.id ≡ o → Reaches threads w.list x.owner
 
 abbrev pub SitsIn : Space → Type 0
 SitsIn z = Sits z.threads z.objects z.todo
@@ -97,7 +97,7 @@ delivered_sits s a d v kept live sends differ reach h =
           let old = live w o l e in
           let lt = kept.kept.below old.0 old.1 in
           let at = sends.makes.place x k in
-          let place : x.id.place ≡ old.0.id.place = ap (λ (j : ObjectId). j.place) (is ∙ sym old.2) in absurd (omega arith))
+          let place : x.id.place ≡ old.0.id.place = ap (λ (j : Identity). j.place) (is ∙ sym old.2) in absurd (omega arith))
     ])
 
 called_sits : (z : Space) (seat p : ℕ) (one_way : Bool) → SitsIn z → SitsIn (called z seat p one_way)
@@ -106,7 +106,7 @@ called_sits z seat p true h = h
 called_sits z seat p false h = owe_sits _ (goes_to z seat p) (work.Call z.steps) refl h
 
 -- what the delivery makes differs from what there was
-delivered_differ : (s : Space) (a : Actor) (d : TransactionData) (v : Delivery) → KeptBefore s → Sends s a.process.made v.sending.made v.sending.items → ((o : ObjectId) → v.target ≡ Some o → Here s.objects o)
+delivered_differ : (s : Space) (a : Actor) (d : TransactionData) (v : Delivery) → KeptBefore s → Sends s a.process.made v.sending.made v.sending.items → ((o : Identity) → v.target ≡ Some o → Here s.objects o)
     → Pairs Differ (delivered s a d v).objects
 delivered_differ s a d v kept sends target = in_order_differ (delivered s a d v).objects (delivered_kept s a d v kept sends target).in_order
 

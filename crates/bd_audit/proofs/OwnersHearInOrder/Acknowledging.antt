@@ -1,6 +1,6 @@
 -- For OwnersHearInOrder: an accepted acknowledgement is of what was heard and not yet acknowledged.
 use Rattle.bd_laws.proofs.words.Logic.{◌&&◌, ◌≡◌, ℕ, ◌+◌, suc, ◌≤◌, ◌==◌, Bool, true, false, cond, not, List, [], ◌∷◌, Some, Ok, inl, inr, refl, ap, sym, ◌∙◌, find, arith, list_any, eq-eqb}
-use Rattle.bd_laws.proofs.words.Types.{DeadReply, ObjectId, Process, Actor, Object, Reference}
+use Rattle.bd_laws.proofs.words.Types.{DeadReply, Identity, Process, Actor, Object, Reference}
 use mathlib.Core.Bool.{beq}
 use Rattle.bd_laws.proofs.words.Space.{same, without_first, owe, ripen, follow, Space, actor, lives_in, is_shaking, is_handshake, closed, completed, done_check, acknowledge}
 use Rattle.bd_space.specs.declared.space.WorkKind.TheVariants as work
@@ -20,7 +20,7 @@ use Rattle.bd_audit.proofs.OwnersHearInOrder.Returns.{is_strength, at_each, shak
 
 -- ---- what follows an accepted command
 
-completed_told : (o : ObjectId) (st : Hearing) (z : Space) → Tracks ⊥ o st z → Tracks ⊥ o st (completed z)
+completed_told : (o : Identity) (st : Hearing) (z : Space) → Tracks ⊥ o st z → Tracks ⊥ o st (completed z)
 unfolding completed closed owe ripen
 completed_told o st z h =
     settle_keeps (Tracks ⊥ o st) (λ y f e k. told_keeps (Tracks ⊥ o st) (work.Verdict DeadReply) (λ z t h. h) (closed y f.made) f.caller k)
@@ -55,7 +55,7 @@ waits_true : (b : Bool) (n : ℕ) → suc n ≡ number b → b ≡ true
 waits_true b n h = search arith
 
 -- A Handshake reference of one strength isn't one of the other.
-other_strength : (o : ObjectId) (r : Reference) (b : Bool) → is_shaking o (not b) r ≡ true → is_shaking o b r ≡ false
+other_strength : (o : Identity) (r : Reference) (b : Bool) → is_shaking o (not b) r ≡ true → is_shaking o b r ≡ false
 other_strength o r b h = search (arith, shaking_parts)
 
 abbrev pub is_own_with : ℕ → ℕ → ℕ → Object → Bool
@@ -70,26 +70,26 @@ pub actor_alive : (s : Space) (seat : ℕ) (a : Actor) → actor s seat ≡ Some
 actor_alive s seat a e = any_in (λ (q : Process). q.made == a.process.made) a.process s.processes (actor_acts s seat a e).process (eq-eqb a.process.made a.process.made refl)
 
 -- what is heard after these events, and the space z that they lead to
-pub record HeardAfter (o : ObjectId) (st : Hearing) (n : ℕ) (events : List Event) (z : Space) : Type 0 where
+pub record HeardAfter (o : Identity) (st : Hearing) (n : ℕ) (events : List Event) (z : Space) : Type 0 where
   pub now : Hearing
   pub heard : hears_all st events ≡ Some now
   pub tracks : Tracks ⊥ o now z
   pub fresh : suc n ≤ o.place → now ≡ unheard
 
 -- A step by which nothing is heard leaves what was heard, if it tracks the object still.
-pub silent_after : (o : ObjectId) (st : Hearing) (s z : Space) → HeardBefore o st s → Tracks ⊥ o st z → HeardAfter o st s.steps [] z
+pub silent_after : (o : Identity) (st : Hearing) (s z : Space) → HeardBefore o st s → Tracks ⊥ o st z → HeardAfter o st s.steps [] z
 silent_after o st s z h k = record { now = st; heard = refl; tracks = k; fresh = λ le. h.fresh (omega arith) }
 
-module _ (o : ObjectId) (st : Hearing) (s : Space) (before : Before s) (h : HeardBefore o st s) where
+module _ (o : Identity) (st : Hearing) (s : Space) (before : Before s) (h : HeardBefore o st s) where
   abbrev pub After : List Event → Space → Type 0
   After events z = HeardAfter o st s.steps events z
 
   -- an object of the space is older than the step
   older : (x : Object) → In x s.objects → x.id ≡ o → suc s.steps ≤ o.place → ⊥
-  older x l e le = let lt = before.objects.kept.below x l in let place : x.id.place ≡ o.place = ap (λ (i : ObjectId). i.place) e in absurd (omega arith)
+  older x l e le = let lt = before.objects.kept.below x l in let place : x.id.place ≡ o.place = ap (λ (i : Identity). i.place) e in absurd (omega arith)
 
   -- the acknowledgement of another object changes nothing of this one
-  pub other_done : (i : ObjectId) (strong : Bool) → (i ≡ o → ⊥) → Tracks ⊥ o st (acknowledge s i strong)
+  pub other_done : (i : Identity) (strong : Bool) → (i ≡ o → ⊥) → Tracks ⊥ o st (acknowledge s i strong)
   unfolding acknowledge
   other_done i strong other x l e live =
       tells_same ⊥ ⊥ o s.references _ x st (record {

@@ -1,6 +1,6 @@
 -- For OwnersHearInOrder: in every history the owner of an object hears of it in order.
 use Rattle.bd_laws.proofs.words.Logic.{◌≡◌, ℕ, ◌-◌, ◌==◌, Bool, true, false, cond, not, List, [], ◌∷◌, Option, Some, None, Result, Ok, Err, refl, ap, sym, subst, ◌∙◌, arith, list_any, is_some, eqb-true}
-use Rattle.bd_laws.proofs.words.Types.{Fault, Note, ObjectId, Parcel, Entry, Step, Command, Read, StepAnswer, Actor, Object, Buffer}
+use Rattle.bd_laws.proofs.words.Types.{Fault, Note, Identity, Parcel, Entry, Step, Command, Read, StepAnswer, Actor, Object, Buffer}
 use Rattle.bd_laws.proofs.words.Space.{same, is_some_and, Space, opening, actor, lives_in, is_shaking, list_to_read, follow, Outcome, refused, by_check, done_check, acknowledge, command_step, read_by, taken, buffer_taken, got, read_taking, read_fault, read_step, stream_of, change, counted, by_actor, History, IsHistory, Follows, EntryFollows, next}
 use Rattle.bd_uapi.specs.declared.command.Command as command
 use Rattle.bd_uapi.specs.declared.command.Command.TheVariants as bc
@@ -42,10 +42,10 @@ unanswered x b q d = search arith
 nothing : (b : Bool) → cond b [] [] ≡ (let none : List Event = [] in none)
 nothing b = search arith
 
-quiet_heard : (s : Space) (o : ObjectId) (a : Actor) (x : Step) (answer : StepAnswer) → is_quiet x ≡ true → heard_by s o a x answer ≡ []
+quiet_heard : (s : Space) (o : Identity) (a : Actor) (x : Step) (answer : StepAnswer) → is_quiet x ≡ true → heard_by s o a x answer ≡ []
 quiet_heard s o a x answer q = search (arith, nothing)
 
-module _ (o : ObjectId) (st : Hearing) (s : Space) (tidy : IsTidy s) (h : HeardBefore o st s) (seat : ℕ) (answer : StepAnswer) where
+module _ (o : Identity) (st : Hearing) (s : Space) (tidy : IsTidy s) (h : HeardBefore o st s) (seat : ℕ) (answer : StepAnswer) where
   -- what this seat hears by the step x
   abbrev events : Step → Option Actor → List Event
   events x f = elim f as (λ (g : Option Actor). List Event) [ None ↦ [] | Some a ↦ heard_by s o a x answer ]
@@ -134,7 +134,7 @@ module _ (o : ObjectId) (st : Hearing) (s : Space) (tidy : IsTidy s) (h : HeardB
 
 -- ---- every history
 
-heard_step : (o : ObjectId) (st : Hearing) (s : Space) (e : Entry) → IsTidy s → HeardBefore o st s → EntryFollows s e
+heard_step : (o : Identity) (st : Hearing) (s : Space) (e : Entry) → IsTidy s → HeardBefore o st s → EntryFollows s e
     → (now : Hearing) × (hears_all st (heard_at s o e) ≡ Some now) × HeardBefore o now (next s e)
 unfolding counted
 heard_step o st s e tidy h follows =
@@ -142,13 +142,13 @@ heard_step o st s e tidy h follows =
     let steps = change_steps s e.seat e.step in
     (k.now, k.heard, record { tracks = k.tracks; fresh = λ le. k.fresh (omega arith) })
 
-all_heard : (o : ObjectId) (es : List Entry) (s : Space) (st : Hearing) → IsTidy s → HeardBefore o st s → Follows s es → is_some (hears_all st (heard_from s o es)) ≡ true
+all_heard : (o : Identity) (es : List Entry) (s : Space) (st : Hearing) → IsTidy s → HeardBefore o st s → Follows s es → is_some (hears_all st (heard_from s o es)) ≡ true
 all_heard o [] s st tidy h follows = refl
 all_heard o (e ∷ es) s st tidy h follows =
     let k = heard_step o st s e tidy h follows.0 in
     ap is_some (hears_append (heard_at s o e) (heard_from (next s e) o es) st k.0 k.1) ∙ all_heard o es (next s e) k.0 (step_tidy s e tidy) k.2 follows.1
 
-pub hears_in_order : (h : History) → IsHistory h → (o : ObjectId) → InOrder (heard_of o h)
+pub hears_in_order : (h : History) → IsHistory h → (o : Identity) → InOrder (heard_of o h)
 unfolding heard_of
 hears_in_order h lawful o =
     in_order (heard_from opening o h.entries)

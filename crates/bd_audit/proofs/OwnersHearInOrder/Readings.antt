@@ -1,6 +1,6 @@
 -- For OwnersHearInOrder: a reading tells of an object what goes on from what was heard of it.
 use Rattle.bd_laws.proofs.words.Logic.{◌≡◌, ℕ, suc, ◌+◌, ◌-◌, ◌≤◌, Bool, true, false, cond, ◌&&◌, List, [], ◌∷◌, ◌++◌, Some, inl, inr, refl, ap, sym, subst, ◌∙◌, length, arith, flat_map, filter_map, nat_lt}
-use Rattle.bd_laws.proofs.words.Types.{Return, ObjectId, Object, Reference, Handshake, Work, Thread}
+use Rattle.bd_laws.proofs.words.Types.{Return, Identity, Object, Reference, Handshake, Work, Thread}
 use mathlib.Core.Bool.{beq}
 use Rattle.bd_laws.proofs.words.Space.{changed, same, Space, lives_in, held_in, strong_in, object_in, is_shaking, is_handshake, notice_of, list_to_read, returns_of, returns_of_object, bytes_read, shakes, handshakes, told_of, is_told_by, read_by, taken, ends_read}
 use Rattle.bd_space.specs.declared.space.WorkKind.TheVariants as work
@@ -23,18 +23,18 @@ use Rattle.bd_laws.proofs.FollowingIsLocal.Sent.{strong_held}
 
 -- ---- reading
 
-held_of : (references : List Reference) (o : ObjectId) (r : Reference) → In r references → r.object ≡ o → held_in references o ≡ true
+held_of : (references : List Reference) (o : Identity) (r : Reference) → In r references → r.object ≡ o → held_in references o ≡ true
 held_of references o r l e = any_in (λ (y : Reference). same y.object o) r references l (eq_same r.object o e)
 
-strong_of : (references : List Reference) (o : ObjectId) (r : Reference) → In r references → r.object ≡ o → r.strong ≡ true → strong_in references o ≡ true
+strong_of : (references : List Reference) (o : Identity) (r : Reference) → In r references → r.object ≡ o → r.strong ≡ true → strong_in references o ≡ true
 strong_of references o r l e t = any_in (λ (y : Reference). y.strong && same y.object o) r references l (and_both r.strong (same r.object o) t (eq_same r.object o e))
 
 -- a Handshake keeps its object, in its strength
-shaken_so : (references : List Reference) (o : ObjectId) (b : Bool) → shaken references o b ≡ 1 → cond b (strong_in references o) (held_in references o) ≡ true
+shaken_so : (references : List Reference) (o : Identity) (b : Bool) → shaken references o b ≡ 1 → cond b (strong_in references o) (held_in references o) ≡ true
 shaken_so references o b h = search (arith, any_found, tally_unmet, shaking_parts, strong_of, held_of)
 
 -- where no Handshake refers to the object, no Handshake does so at all
-unheld : (references : List Reference) (o : ObjectId) → ((r : Reference) → In r references → r.holder ≡ Handshake) → ((b : Bool) → shaken references o b ≡ 0)
+unheld : (references : List Reference) (o : Identity) → ((r : Reference) → In r references → r.holder ≡ Handshake) → ((b : Bool) → shaken references o b ≡ 0)
     → (r : Reference) → In r references → r.object ≡ o → ⊥
 unheld references o all none r l e =
     let own = and_both (beq r.strong r.strong) (same r.object o) (own_strength r r.strong refl) (eq_same r.object o e) in
@@ -45,12 +45,12 @@ unheld references o all none r l e =
     own_strength : (r : Reference) (b : Bool) → r.strong ≡ b → beq r.strong b ≡ true
     own_strength r b e = search arith
 
-returns_found : (s : Space) (o : ObjectId) (y : Object) → object_in s.objects o ≡ Some y
+returns_found : (s : Space) (o : Identity) (y : Object) → object_in s.objects o ≡ Some y
     → returns_of s (work.Notice o) ≡ returns_by (held_in s.references y.id) (strong_in s.references y.id) y.told_weak y.told_strong y.ptr y.cookie
 unfolding returns_of
 returns_found s o y e = ap (returns_of_object s.references) e
 
-module _ (o : ObjectId) (st : Hearing) (s : Space) (before : Before s) (live : Live s) (h : HeardBefore o st s) (seat : ℕ) (ws : List Work) where
+module _ (o : Identity) (st : Hearing) (s : Space) (before : Before s) (live : Live s) (h : HeardBefore o st s) (seat : ℕ) (ws : List Work) where
   -- the references after the reading
   abbrev pub references_now : List Reference
   references_now = s.references ++ handshakes s 0 ws
@@ -128,7 +128,7 @@ module _ (o : ObjectId) (st : Hearing) (s : Space) (before : Before s) (live : L
             over = λ e. let was : held_in s.references o ≡ false = subst (λ i. held_in s.references i ≡ false) id (k.over e) in over_now was
                 (λ b. let c = count b in let z = ap (λ (v : Hearing). number (waits v b)) e in let m = tally_append (is_shaking o b) s.references (handshakes s 0 ws) in omega arith);
           })),
-          λ le. absurd (let lt = before.objects.kept.below y here in let place : y.id.place ≡ o.place = ap (λ (i : ObjectId). i.place) id in omega arith),
+          λ le. absurd (let lt = before.objects.kept.below y here in let place : y.id.place ≡ o.place = ap (λ (i : Identity). i.place) id in omega arith),
         )
       where
         over_now : held_in s.references o ≡ false → ((b : Bool) → shaken (handshakes s 0 ws) o b ≡ 0) → held_in references_now o ≡ false

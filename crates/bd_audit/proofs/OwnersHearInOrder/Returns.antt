@@ -1,6 +1,6 @@
 -- For OwnersHearInOrder, OnlyOwnersHear and NoticesAreDue: what a reading tells an owner of one object.
 use Rattle.bd_laws.proofs.words.Logic.{◌≡◌, ℕ, ◌+◌, Bool, true, false, cond, not, ◌&&◌, List, [], ◌∷◌, ◌++◌, Option, Some, None, ◌⊎◌, inl, inr, refl, ap, sym, ◌∙◌, length, append-nil, arith, flat_map, filter_map}
-use Rattle.bd_laws.proofs.words.Types.{Return, ObjectId, Reference, Handshake, Work, WorkKind}
+use Rattle.bd_laws.proofs.words.Types.{Return, Identity, Reference, Handshake, Work, WorkKind}
 use Rattle.bd_laws.proofs.words.Space.{same, is_some_and, Space, reference_of, is_shaking, is_notice, notice_of, returns_of, shakes, handshakes_for, handshakes_of, handshakes, is_told_by}
 use Rattle.bd_uapi.specs.declared.command.Return.TheVariants as br
 use Rattle.bd_space.specs.declared.space.WorkKind.TheVariants as work
@@ -17,14 +17,14 @@ use Rattle.bd_audit.proofs.OwnersHearInOrder.Tracking.{is_weak, is_strong, waits
 
 -- ---- the items that are read
 
-told_notice : (f : Option ObjectId) (o : ObjectId) → is_some_and f (same o) ≡ true → f ≡ Some o
+told_notice : (f : Option Identity) (o : Identity) → is_some_and f (same o) ≡ true → f ≡ Some o
 told_notice f o e = search (arith, same_eq)
 
 -- a return that is to be acknowledged in this strength
 abbrev pub is_strength : Bool → Bool → Bool
 is_strength b c = cond b c (not c)
 
-module _ (o : ObjectId) (b : Bool) where
+module _ (o : Identity) (b : Bool) where
   one_shaking : (n k : ℕ) (c d : Bool) → is_shaking o c (reference_of n k o d Handshake) ≡ is_strength c d
   one_shaking n k c d = search (arith, eq_same)
 
@@ -35,13 +35,13 @@ module _ (o : ObjectId) (b : Bool) where
 middle_false : (x y z : Bool) → y ≡ false → (x && y && z) ≡ false
 middle_false x y z h = search arith
 
-pub shakes_object : (o : ObjectId) (b : Bool) (r : Reference) → (r.object ≡ o → ⊥) → is_shaking o b r ≡ false
+pub shakes_object : (o : Identity) (b : Bool) (r : Reference) → (r.object ≡ o → ⊥) → is_shaking o b r ≡ false
 shakes_object o b r other = search (arith, same_eq, middle_false)
 
-pub notice_is_of : (kind : WorkKind) (o : ObjectId) → is_notice o kind ≡ true → notice_of kind ≡ Some o
+pub notice_is_of : (kind : WorkKind) (o : Identity) → is_notice o kind ≡ true → notice_of kind ≡ Some o
 notice_is_of kind o e = ap notice_of (notice_kind o kind e)
 
-module _ (s : Space) (o : ObjectId) where
+module _ (s : Space) (o : Identity) where
   -- none of them is a Notice of the object
   abbrev pub Silent : List Work → Type 0
   Silent ws = (w : Work) → In w ws → notice_of w.kind ≡ Some o → ⊥
@@ -62,8 +62,8 @@ module _ (s : Space) (o : ObjectId) where
       (λ r l. let x = shaken_by s ws k r l in shakes_object o b r (λ e. h x.item x.here (x.tells ∙ ap (λ i. Some i) (sym (shaken_object s ws r x) ∙ e))))
 
   -- the Handshakes for a Notice of another object, or for no Notice
-  other_shaken : (f : Option ObjectId) (cs : List Bool) (k : ℕ) (b : Bool) → (f ≡ Some o → ⊥)
-      → shaken (elim f as (λ (g : Option ObjectId). List Reference) [ None ↦ [] | Some p ↦ handshakes_for s.steps k p cs ]) o b ≡ 0
+  other_shaken : (f : Option Identity) (cs : List Bool) (k : ℕ) (b : Bool) → (f ≡ Some o → ⊥)
+      → shaken (elim f as (λ (g : Option Identity). List Reference) [ None ↦ [] | Some p ↦ handshakes_for s.steps k p cs ]) o b ≡ 0
   other_shaken None cs k b h = refl
   other_shaken (Some p) cs k b h =
       tally_none (is_shaking o b) (handshakes_for s.steps k p cs) (λ r l. shakes_object o b r (λ e. h (ap (λ i. Some i) (sym (for_object s.steps k p cs r l) ∙ e))))

@@ -1,6 +1,6 @@
 -- For OwnersHearInOrder: what an owner was told of an object agrees with what it has heard of it.
 use Rattle.bd_laws.proofs.words.Logic.{◌≡◌, ℕ, ◌+◌, ◌≤◌, ◌==◌, Bool, true, false, not, ◌&&◌, ◌||◌, List, [], ◌∷◌, Option, Ok, inl, inr, refl, ap, sym, subst, ◌∙◌, filter, arith, eqb-true}
-use Rattle.bd_laws.proofs.words.Types.{TransactionData, ObjectId, Parcel, Step, Process, Actor, Frame, Object, Reference, Asked, Manager, Item, OfThread}
+use Rattle.bd_laws.proofs.words.Types.{TransactionData, Identity, Parcel, Step, Process, Actor, Frame, Object, Reference, Asked, Manager, Item, OfThread}
 use mathlib.Core.Bool.{beq}
 use Rattle.bd_laws.proofs.words.Space.{same, with_looping, Space, lives_in, reference_of, held_in, owned_in, objects_go, is_asking, is_shaking, is_of_buffer, is_handshake, names_go, assign_numbers, closed, owe, ripen, follow, notify, work_goes, deaths_go, Delivery, delivered, own_notices, add_buffer, with_carried, refer, make_objects, buffer_references, transaction_check, transacted, reply_check, replied, ask, drop_asked, without_buffer, thread_goes, is_lost_reference, threads_go, without_process, is_dropped_with, with_thread, with_process, with_manager, is_spam, with_spam_detection}
 use Rattle.bd_space.specs.declared.space.WorkKind.TheVariants as work
@@ -24,7 +24,7 @@ use Rattle.bd_laws.proofs.FollowingIsLocal.Finding.{any_none}
 
 -- ---- parts of a step
 
-module _ (o : ObjectId) (st : Hearing) where
+module _ (o : Identity) (st : Hearing) where
   abbrev pub H : Space → Type 0
   H z = Tracks ⊥ o st z
 
@@ -78,7 +78,7 @@ module _ (o : ObjectId) (st : Hearing) where
   unreferred s k new b = tally_none (is_shaking o b) s.references (λ r l. to_false (is_shaking o b r) (λ e.
       let x = k.kept.refs r l in
       let lt = k.kept.below x.0 x.1 in
-      let is : x.0.id.place ≡ o.place = ap (λ (i : ObjectId). i.place) (x.2 ∙ (shaking_parts o b r e).0) in
+      let is : x.0.id.place ≡ o.place = ap (λ (i : Identity). i.place) (x.2 ∙ (shaking_parts o b r e).0) in
       absurd (omega arith)))
 
   opened_told : (s : Space) (seat pid euid window : ℕ) → Before s → H s → H (with_thread (with_process s pid euid window) seat s.steps)
@@ -100,7 +100,7 @@ module _ (o : ObjectId) (st : Hearing) where
         | inl i ↦ tells_same ⊥ ⊥ o s.references _ x st k (λ n. n) (h.tracks x i e live)
         | inr is ↦ (
             let id : r.object ≡ o = ap (λ (y : Object). y.id) is ∙ e in
-            let place : s.steps ≡ o.place = ap (λ (i : ObjectId). i.place) id in
+            let place : s.steps ≡ o.place = ap (λ (i : Identity). i.place) id in
             let new : s.steps ≤ o.place = omega arith in
             inl (record {
               start = h.fresh new;
@@ -111,7 +111,7 @@ module _ (o : ObjectId) (st : Hearing) where
             }))
       ]
 
-  buffer_unshaken : (b q : ℕ) (items : List Item) (target : Option ObjectId) (k : ℕ) (r : Reference) → In r (buffer_references b q k items target) → is_handshake r.holder ≡ false
+  buffer_unshaken : (b q : ℕ) (items : List Item) (target : Option Identity) (k : ℕ) (r : Reference) → In r (buffer_references b q k items target) → is_handshake r.holder ≡ false
   buffer_unshaken b q [] target k r l = search arith
   buffer_unshaken b q (x ∷ xs) target k r l = search (arith, buffer_unshaken b q xs target (k + 1) r)
 
@@ -123,7 +123,7 @@ module _ (o : ObjectId) (st : Hearing) where
         | inl i ↦ tells_same ⊥ ⊥ o s.references _ x st k (λ n. n) (h.tracks x i e live)
         | inr i ↦ (
             let at : x.id.place ≡ s.steps = sends.makes.place x i in
-            let place : x.id.place ≡ o.place = ap (λ (j : ObjectId). j.place) e in
+            let place : x.id.place ≡ o.place = ap (λ (j : Identity). j.place) e in
             let new : s.steps ≤ o.place = omega arith in
             let start = h.fresh new in
             let untold = sends.makes.untold x i in

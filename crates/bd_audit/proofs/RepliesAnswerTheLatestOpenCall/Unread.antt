@@ -1,7 +1,7 @@
 -- RepliesAnswerTheLatestOpenCall and CallsEndLatestFirst: what a step leaves as it was: the frames, the threads, and what threads
 -- are still to read of their own calls.
 use Rattle.bd_laws.proofs.words.Logic.{◌≡◌, ℕ, ◌<◌, ◌==◌, Bool, true, false, cond, not, List, Some, None, ◌⊎◌, inl, inr, refl, ap, sym, subst, ◌∙◌, map, filter, arith, list_any, eqb-true}
-use Rattle.bd_laws.proofs.words.Types.{TransactionData, ObjectId, Process, Object, Reference, Thread, Work, Frame, Actor, DeathNotification, Pending, Serving, Gone, TodoList, OfThread, OfProcess, WorkKind}
+use Rattle.bd_laws.proofs.words.Types.{TransactionData, Identity, Process, Object, Reference, Thread, Work, Frame, Actor, DeathNotification, Pending, Serving, Gone, TodoList, OfThread, OfProcess, WorkKind}
 use Rattle.bd_laws.proofs.words.Space.{with_looping, without_buffer, Space, owe, is_on, is_call, is_notice, same_list, work_goes, still_due, Delivery, delivered, add_buffer, transacted, called, call_out, read_by, serve, thread_goes, gone_caller, gone_server, unread_server, frame_without, unread_frame, without_process, with_thread}
 use Rattle.bd_space.specs.declared.space.WorkKind.TheVariants as work
 use Rattle.bd_laws.specs.Lists.{In}
@@ -35,7 +35,7 @@ answer_due processes objects references deaths (work.Notice o) h = absurd (cc)
 answer_due processes objects references deaths (work.Death n) h = absurd (cc)
 answer_due processes objects references deaths _ h = refl
 
-no_notice : (o : ObjectId) (kind : WorkKind) → is_answer kind ≡ true → not (is_notice o kind) ≡ true
+no_notice : (o : Identity) (kind : WorkKind) → is_answer kind ≡ true → not (is_notice o kind) ≡ true
 no_notice o (work.Notice p) h = absurd (cc)
 no_notice o _ h = refl
 

@@ -1,7 +1,7 @@
 -- For RepliesReachTheirCallers: a call is handed out once: of each call that is due there is one item, and after that is
 -- taken none comes.
 use Rattle.bd_laws.proofs.words.Logic.{◌≡◌, ℕ, Bool, true, false, not, List, Option, Some, None, ◌⊎◌, inl, inr, refl, ap, sym, subst, ◌∙◌, list_any, eqb-true, arith, ◌-◌, ◌<◌}
-use Rattle.bd_laws.proofs.words.Types.{TransactionData, ObjectId, Step, Entry, Actor, Buffer, Work, OfThread, Command, Read}
+use Rattle.bd_laws.proofs.words.Types.{TransactionData, Identity, Step, Entry, Actor, Buffer, Work, OfThread, Command, Read}
 use Rattle.bd_laws.proofs.words.Space.{Space, owe, is_call, is_item, closed, ripen, follow, Delivery, delivered, transacted, called, call_out, replied, read_by, change, opening, list_to_read, is_one_way, taken, read_taking, counted, after, next}
 use Rattle.bd_laws.proofs.words.Laws.{In, On, Before, IsTidy}
 use Rattle.bd_laws.proofs.Machine.EveryStep.{Keeps, every_step}
@@ -39,7 +39,7 @@ IsDue m todo w = In w todo × (is_call m w.kind ≡ true)
 
 -- the buffer made at m is a one-way call's
 abbrev pub HasTurn : ℕ → List Buffer → Type 0
-HasTurn m buffers = (b : Buffer) × (o : ObjectId) × In b buffers × (b.made ≡ m) × On o b
+HasTurn m buffers = (b : Buffer) × (o : Identity) × In b buffers × (b.made ≡ m) × On o b
 
 abbrev Called : Space → ℕ → List Buffer → List Work → Type 0
 Called s m buffers todo = (w : Work) → IsDue m todo w → In w s.todo ⊎ ((m ≡ s.steps) ⊎ HasTurn m buffers)

@@ -1,7 +1,7 @@
 -- For RepliesReachTheirCallers, RepliesAnswerTheLatestOpenCall and the search `call_of_reply`: the replies that are due,
 -- each on a thread's list, and none with another item's identity. For that, what frames and replies a step makes.
 use Rattle.bd_laws.proofs.words.Logic.{◌≡◌, ℕ, Bool, true, false, List, Some, ◌⊎◌, inl, inr, refl, ap, sym, ◌∙◌, arith, None}
-use Rattle.bd_laws.proofs.words.Types.{TransactionData, Step, Entry, Object, Process, Reference, Frame, Work, Actor, TodoList, OfThread, WorkKind, ObjectId}
+use Rattle.bd_laws.proofs.words.Types.{TransactionData, Step, Entry, Object, Process, Reference, Frame, Work, Actor, TodoList, OfThread, WorkKind, Identity}
 use Rattle.bd_laws.proofs.words.Space.{Space, opening, with_work, owe, goes_to, Delivery, transacted, called, call_out, replied, read_by, change, counted, History, next, space_after, notice_of, death_of, wants_notice, object_in}
 use Rattle.bd_space.specs.declared.space.WorkKind.TheVariants as work
 use Rattle.bd_todo.specs.TodoList.{reply_of}
@@ -22,7 +22,7 @@ use Rattle.bd_laws.proofs.ItemsAreToldApart.Identities.{Indexed, push_indexed}
 -- an item that is a notice which its owner wants, or neither a notice nor a death
 abbrev pub Wanted : List Process → List Object → List Reference → WorkKind → Type 0
 Wanted processes objects references kind =
-    ((o : ObjectId) × (x : Object) × (kind ≡ work.Notice o) × (object_in objects o ≡ Some x) × (wants_notice processes references x ≡ true))
+    ((o : Identity) × (x : Object) × (kind ≡ work.Notice o) × (object_in objects o ≡ Some x) × (wants_notice processes references x ≡ true))
     ⊎ ((notice_of kind ≡ None) × (death_of kind ≡ None))
 
 pub record Fresh (n : ℕ) (processes : List Process) (objects : List Object) (references : List Reference) (todo : List Work) : Type 0 where

@@ -1,7 +1,7 @@
 -- For RepliesReachTheirCallers, RepliesAnswerTheLatestOpenCall and the search `call_of_reply`: which reply a reading takes:
 -- the first on its thread's list, if that isn't the first any more afterwards.
 use Rattle.bd_laws.proofs.words.Logic.{arith, ◌≡◌, ℕ, ◌-◌, Bool, true, not, List, [], ◌∷◌, ◌++◌, length, Option, Some, None, ◌⊎◌, inl, inr, refl, sym, subst, ◌∙◌, filter, list_any}
-use Rattle.bd_laws.proofs.words.Types.{Read, Entry, Object, Process, Reference, Thread, Work, Actor, DeathNotification, TodoList, OfThread, WorkKind, ObjectId, OfProcess}
+use Rattle.bd_laws.proofs.words.Types.{Read, Entry, Object, Process, Reference, Thread, Work, Actor, DeathNotification, TodoList, OfThread, WorkKind, Identity, OfProcess}
 use Rattle.bd_laws.proofs.words.Space.{Space, actor, is_on, list_to_read, is_item, follow, notify, work_goes, deaths_go, still_due, names_go, objects_go, taken, read_by, read_taking, bytes_read, change, counted, next, with_work}
 use Rattle.bd_space.specs.declared.space.WorkKind.TheVariants as work
 use Rattle.bd_todo.specs.TodoList.{reply_of, first_reply_in}
@@ -39,7 +39,7 @@ pushed_first on (x ∷ xs) y h = search (arith, pushed_first on xs y)
 
 -- ---- what follows a reading leaves the replies
 
-noticed_first : (n : ℕ) (on : Work → Bool) (todo : List Work) (list : TodoList) (o : ObjectId) → first_reply_in (filter on (with_work n todo list (work.Notice o))) ≡ first_reply_in (filter on todo)
+noticed_first : (n : ℕ) (on : Work → Bool) (todo : List Work) (list : TodoList) (o : Identity) → first_reply_in (filter on (with_work n todo list (work.Notice o))) ≡ first_reply_in (filter on todo)
 noticed_first n on todo list o = search (arith, pushed_first)
 
 reply_stays : (processes : List Process) (objects : List Object) (references : List Reference) (deaths : List DeathNotification) (kind : WorkKind) (b : ℕ)

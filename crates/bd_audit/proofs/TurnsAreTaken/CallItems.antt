@@ -2,7 +2,7 @@
 -- it is due once at most, on its receiver's list, while its buffer lives and isn't handed out; and what a step makes of its
 -- buffer.
 use Rattle.bd_laws.proofs.words.Logic.{◌≡◌, ℕ, ◌-◌, ◌<◌, Bool, true, false, not, List, [], ◌∷◌, Option, Some, None, Ok, ◌⊎◌, inl, inr, refl, ap, sym, ◌∙◌, filter, arith, list_any, eqb-true}
-use Rattle.bd_laws.proofs.words.Types.{TransactionData, ObjectId, Parcel, Command, Read, Entry, Actor, Frame, Buffer, Work, TodoList, OfThread, WorkKind}
+use Rattle.bd_laws.proofs.words.Types.{TransactionData, Identity, Parcel, Command, Read, Entry, Actor, Frame, Buffer, Work, TodoList, OfThread, WorkKind}
 use Rattle.bd_laws.proofs.words.Space.{Space, actor, owe, with_work, is_call, hands_out, list_to_read, is_item, closed, goes_to, follow, assign_numbers, Delivery, delivered, own_notices, add_buffer, with_carried, refer, make_objects, buffer_of, transaction_check, transacted, called, call_out, is_one_way, reply_check, replied, is_made_at, taken, read_by, buffer_taken, hand_out, handed_buffers, read_fault, change, is_spam, ask, drop_asked, acknowledge, with_looping, without_process, threads_go}
 use Rattle.bd_uapi.specs.declared.command.Command.TheVariants as bc
 use Rattle.bd_space.specs.declared.space.WorkKind.TheVariants as work
@@ -28,7 +28,7 @@ use Rattle.bd_audit.proofs.TurnsAreTaken.CallItemsKept.{Hands, DueOnce, IsOneWay
 module _ (s : Space) (e : Entry) (m : ℕ) where
   -- ---- transactions and replies
 
-  delivers : (y : Space) (a : Actor) (d : TransactionData) (v : Delivery) → ((o : ObjectId) → v.one_way ≡ true → v.target ≡ Some o → CallsOneWay s e o) → Treats s e m y
+  delivers : (y : Space) (a : Actor) (d : TransactionData) (v : Delivery) → ((o : Identity) → v.one_way ≡ true → v.target ≡ Some o → CallsOneWay s e o) → Treats s e m y
       → Treats s e m (delivered y a d v)
   unfolding delivered own_notices add_buffer with_carried assign_numbers refer make_objects
   delivers y a d v calls h = record {
@@ -78,7 +78,7 @@ module _ (s : Space) (e : Entry) (m : ℕ) where
   replies_to z None none h = h
   replies_to z (Some t) none h = hands_other z.buffers z.steps z.todo (OfThread t) (work.Reply s.steps) refl none h
 
-  sends : (y : Space) (a : Actor) (d : TransactionData) (v : Delivery) (spam : Bool) → ((o : ObjectId) → v.one_way ≡ true → v.target ≡ Some o → CallsOneWay s e o) → Treats s e m y
+  sends : (y : Space) (a : Actor) (d : TransactionData) (v : Delivery) (spam : Bool) → ((o : Identity) → v.one_way ≡ true → v.target ≡ Some o → CallsOneWay s e o) → Treats s e m y
       → Treats s e m (owe (delivered y a d v) (OfThread a.thread.seat) (work.Complete spam))
   sends y a d v spam made h = owes (delivered y a d v) (OfThread a.thread.seat) (work.Complete spam) refl (delivers y a d v made h)
 
@@ -102,7 +102,7 @@ module _ (s : Space) (e : Entry) (m : ℕ) where
             let either_way = t.one_way in
             absurd (cc)
 
-        made : (o : ObjectId) → v.one_way ≡ true → v.target ≡ Some o → CallsOneWay s e o
+        made : (o : Identity) → v.one_way ≡ true → v.target ≡ Some o → CallsOneWay s e o
         made o one_way target =
             let is : t.object ≡ o = (let f = t.target in cc) in
             record {
@@ -112,7 +112,7 @@ module _ (s : Space) (e : Entry) (m : ℕ) where
               parcel = parcel;
               command = x;
               one_way = sym t.one_way ∙ one_way;
-              target = t.named ∙ ap (λ (y : ObjectId). Ok y) is;
+              target = t.named ∙ ap (λ (y : Identity). Ok y) is;
               accepted = ap (λ y. (change s e.seat y).answer) x ∙ transaction_accepted s e.seat a d parcel v acts check;
             }
 
@@ -125,7 +125,7 @@ module _ (s : Space) (e : Entry) (m : ℕ) where
         other : IsOneWay e.step → ⊥
         other k = let same_step : Command (bc.Reply d) parcel ≡ Command (bc.Transaction k.0) k.1 = sym x ∙ k.2 in absurd (cc)
 
-        made : (o : ObjectId) → v.one_way ≡ true → v.target ≡ Some o → CallsOneWay s e o
+        made : (o : Identity) → v.one_way ≡ true → v.target ≡ Some o → CallsOneWay s e o
         made o one_way target = let none = (reply_checked s a d parcel f v check).target in absurd (cc)
 
   -- ---- reading

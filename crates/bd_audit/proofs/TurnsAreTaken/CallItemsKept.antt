@@ -1,7 +1,7 @@
 -- For the laws of turns and for RepliesReachTheirCallers: the work items of a one-way call, through the parts of a step that
 -- make none: what goes, and what ripens.
 use Rattle.bd_laws.proofs.words.Logic.{◌≡◌, ℕ, ◌<◌, ◌==◌, Bool, true, false, cond, not, List, [], ◌∷◌, ◌++◌, Option, Some, ◌⊎◌, inl, inr, refl, ap, sym, subst, ◌∙◌, arith, list_any, count_by, eqb-true, eq-eqb}
-use Rattle.bd_laws.proofs.words.Types.{TransactionData, ObjectId, Parcel, Step, Command, Entry, Buffer, Turn, Work, OfProcess}
+use Rattle.bd_laws.proofs.words.Types.{TransactionData, Identity, Parcel, Step, Command, Entry, Buffer, Turn, Work, OfProcess}
 use Rattle.bd_laws.proofs.words.Space.{same, Space, with_work, is_call, hands_out, turn_of, turns_of, is_ripe, ripened, ripen, is_one_way, without_buffer, is_made_at, thread_goes, without_process}
 use Rattle.bd_uapi.specs.declared.command.Command.TheVariants as bc
 use Rattle.bd_space.specs.declared.space.WorkKind.TheVariants as work
@@ -59,7 +59,7 @@ pub record Treated (s : Space) (e : Entry) (m : ℕ) (buffers : List Buffer) (to
   pub once : (m < s.steps) ⊎ IsOneWay e.step → DueOnce m buffers todo
   pub handed : (c : Buffer) → In c buffers → c.made ≡ m → c.handed ≡ true
       → HandedBefore s m ⊎ (list_any (λ w. is_call m w.kind) (items_taken s e.seat e.step) ≡ true)
-  pub made : (o : ObjectId) (c : Buffer) → In c buffers → c.made ≡ s.steps → On o c → CallsOneWay s e o
+  pub made : (o : Identity) (c : Buffer) → In c buffers → c.made ≡ s.steps → On o c → CallsOneWay s e o
 
 abbrev pub Treats : Space → Entry → ℕ → Space → Type 0
 Treats s e m z = Treated s e m z.buffers z.todo

@@ -1,6 +1,6 @@
 -- For TurnsAreTaken and TurnsTellOfCalls: the turns of an object as its log, and what becomes of their buffers.
 use Rattle.bd_laws.proofs.words.Logic.{◌≡◌, ℕ, ◌<◌, Bool, true, false, ◌&&◌, List, Option, Some, None, ◌⊎◌, inl, inr, refl, sym, subst, ◌∙◌, arith, is_some, eqb-true, eq-eqb}
-use Rattle.bd_laws.proofs.words.Types.{ObjectId, Object, Buffer}
+use Rattle.bd_laws.proofs.words.Types.{Identity, Object, Buffer}
 use Rattle.bd_laws.proofs.words.Space.{Space, is_made_at}
 use Rattle.bd_laws.proofs.words.Laws.{In, Pairs, On, Before}
 use Rattle.bd_laws.proofs.Lists.{any_found, any_in}
@@ -15,13 +15,13 @@ use Rattle.bd_audit.specs.TurnCalls.{IsTakenBefore}
 -- ---- the turns of an object
 
 -- no live process owns the object, and none of its one-way calls has a buffer
-pub record Over (o : ObjectId) (s : Space) : Type 0 where
+pub record Over (o : Identity) (s : Space) : Type 0 where
   pub old : o.place < s.steps
   pub owner : (x : Object) → In x s.objects → x.id ≡ o → Lives s.processes x.owner → ⊥
   pub none : (b : Buffer) → In b s.buffers → On o b → ⊥
 
 -- the turn's buffer lives
-pub record Open (o : ObjectId) (t : Turn) (s : Space) (b : Buffer) : Type 0 where
+pub record Open (o : Identity) (t : Turn) (s : Space) (b : Buffer) : Type 0 where
   pub here : In b s.buffers
   pub made : b.made ≡ t.made
   pub on : On o b
@@ -36,7 +36,7 @@ pub record Past (n : ℕ) (t : Turn) : Type 0 where
   pub handed : (p : ℕ) → t.handed ≡ Some p → p < n
   pub ended : (p : ℕ) → t.ended ≡ Some p → p < n
 
-pub record Logged (o : ObjectId) (ts : List Turn) (s : Space) : Type 0 where
+pub record Logged (o : Identity) (ts : List Turn) (s : Space) : Type 0 where
   pub past : (t : Turn) → In t ts → Past s.steps t
   pub live : (t : Turn) → In t ts → t.ended ≡ None → (b : Buffer) × Open o t s b
   pub gone : (t : Turn) → In t ts → (p : ℕ) → t.ended ≡ Some p → (b : Buffer) → In b s.buffers → b.made ≡ t.made → ⊥
@@ -77,7 +77,7 @@ pub ever : (o : Option ℕ) → (o ≡ None → ⊥) → (p : ℕ) × (o ≡ Som
 ever None h = absurd (h refl)
 ever (Some p) h = (p, refl)
 
-module _ (s z : Space) (h : Before s) (turns : Turning z) (p : Passed s z) (o : ObjectId) where
+module _ (s z : Space) (h : Before s) (turns : Turning z) (p : Passed s z) (o : Identity) where
   -- the buffer of a turn that was open, after the step
   pub stays_open : (b c : Buffer) → In b s.buffers → In c z.buffers → c.made ≡ b.made → Became s b c
   stays_open b c i j e = elim (p.from c j) [

@@ -1,7 +1,7 @@
 -- For the public search `oneway_turns`, and for no law: a step changes no turn that has ended, and none after the first that
 -- hasn't ended then.
 use Rattle.bd_laws.proofs.words.Logic.{◌≡◌, ℕ, ◌+◌, zero, suc, ◌<◌, Bool, true, false, not, List, [], ◌∷◌, ◌++◌, Option, None, inl, inr, refl, ap, sym, subst, ◌∙◌, map, length, take, drop, set, get_or, add-one, arith, list_all, filter_map, is_some, take-append-drop, map-append, list_all-map, list_all_more}
-use Rattle.bd_laws.proofs.words.Types.{ObjectId, Entry}
+use Rattle.bd_laws.proofs.words.Types.{Identity, Entry}
 use Rattle.bd_laws.proofs.words.Space.{Space, History, space_after}
 use Rattle.bd_laws.specs.Lists.{In, Pairs}
 use Rattle.bd_laws.proofs.Lists.{in_left, map_in, in_all}
@@ -31,7 +31,7 @@ none_is o h = search arith
 not_noted : (o : Option ℕ) (n : ℕ) (now : Bool) → now ≡ false → noted_at o n now ≡ o
 not_noted o n now h = search arith
 
-module _ (o : ObjectId) (n : ℕ) (z : Space) (ts new : List Turn) (log : Logged o (map (marked n z.buffers) ts ++ new) z) where
+module _ (o : Identity) (n : ℕ) (z : Space) (ts new : List Turn) (log : Logged o (map (marked n z.buffers) ts ++ new) z) where
   abbrev mark : Turn → Turn
   mark = marked n z.buffers
 
@@ -73,7 +73,7 @@ module _ (o : ObjectId) (n : ℕ) (z : Space) (ts new : List Turn) (log : Logged
 
 -- ---- one step more of a history
 
-pub in_turn : (o : ObjectId) (g k : History) (e : Entry) (place m : ℕ) (ts : List Turn) → k ≡ with_entry g e → place ≡ length g.entries → ts ≡ turns_on o g
+pub in_turn : (o : Identity) (g k : History) (e : Entry) (place m : ℕ) (ts : List Turn) → k ≡ with_entry g e → place ≡ length g.entries → ts ≡ turns_on o g
     → list_all has_ended (take m ts) ≡ true → AreInTurn (marked place (space_after k).buffers) m ts
 in_turn o g k e place m ts at p t h =
     let bs = (space_after k).buffers in

@@ -1,7 +1,7 @@
 -- For TurnsAreTaken and TurnsTellOfCalls: what a step makes of the turns of an object: those that were there, in their
 -- order, and one more at most.
 use Rattle.bd_laws.proofs.words.Logic.{◌≡◌, ℕ, suc, Bool, true, false, not, ◌&&◌, List, [], ◌∷◌, ◌++◌, Option, Some, None, ◌⊎◌, inl, inr, refl, ap, sym, subst, ◌∙◌, map, arith, filter_map, cons_option, is_some, eqb-true, cases_Bool}
-use Rattle.bd_laws.proofs.words.Types.{ObjectId, Buffer}
+use Rattle.bd_laws.proofs.words.Types.{Identity, Buffer}
 use Rattle.bd_laws.proofs.words.Space.{same, when, is_some_and, Space, is_made_at, counted}
 use Rattle.bd_laws.proofs.words.Laws.{In, Pairs, Due, Rivals, Waits, On, Before}
 use Rattle.bd_laws.proofs.Lists.{in_append, in_map, in_filter_map, pairs_either}
@@ -14,7 +14,7 @@ use Rattle.bd_audit.specs.declared.turns.Turn.{Turn}
 use Rattle.bd_audit.specs.TurnSearch.{is_call_on, is_live, is_handed, noted_at, marked, turn_made, next_turns}
 use Rattle.bd_audit.proofs.TurnsAreTaken.Logged.{Over, Open, InOrder, Past, Logged, live_found, live_in, handed_found, handed_in, noted_some, noted_none, noted_kept, never, ever, some_case, stays_open, over_after, ended_over}
 
-module _ (s z : Space) (h : Before s) (turns : Turning z) (p : Passed s z) (o : ObjectId) where
+module _ (s z : Space) (h : Before s) (turns : Turning z) (p : Passed s z) (o : Identity) where
   -- ---- turns that were there
 
   module _ (ts : List Turn) (log : Logged o ts s) where
@@ -132,7 +132,7 @@ module _ (s z : Space) (h : Before s) (turns : Turning z) (p : Passed s z) (o : 
     made_when : (b : Bool) (t u : Turn) → when b t ≡ Some u → (b ≡ true) × (t ≡ u)
     made_when b t u e = search arith
 
-    targets : (target : Option ObjectId) → is_some_and target (λ x. same x o) ≡ true → target ≡ Some o
+    targets : (target : Option Identity) → is_some_and target (λ x. same x o) ≡ true → target ≡ Some o
     targets target e = search (arith, same_eq)
 
     new_turn : (t : Turn) → In t (filter_map (turn_made o s.steps) z.buffers) → (c : Buffer) × NewTurn t c

@@ -1,7 +1,7 @@
 -- For TurnsTellOfCalls, RepliesReachTheirCallers and RepliesAnswerTheLatestOpenCall: a call that a reading takes hands its
 -- buffer out, and an accepted one-way transaction makes one.
 use Rattle.bd_laws.proofs.words.Logic.{◌≡◌, ℕ, ◌-◌, Bool, true, false, cond, ◌||◌, List, [], ◌∷◌, length, Option, Some, None, Result, Ok, refl, ap, sym, subst, ◌∙◌, map, nat_lt, list_any, arith, eqb-true, eq-eqb}
-use Rattle.bd_laws.proofs.words.Types.{TransactionData, DeadReply, Cause, ObjectId, Parcel, Step, Command, Read, Accepted, Entry, Actor, Buffer, Work, OfThread, WorkKind}
+use Rattle.bd_laws.proofs.words.Types.{TransactionData, DeadReply, Cause, Identity, Parcel, Step, Command, Read, Accepted, Entry, Actor, Buffer, Work, OfThread, WorkKind}
 use Rattle.bd_laws.proofs.words.Space.{first_of, Space, actor, owe, is_call, hands_out, list_to_read, closed, ripen, follow, assign_numbers, Delivery, delivered, own_notices, add_buffer, with_carried, refer, make_objects, buffer_of, transaction_step, transaction_check, transacted, target_of, handle_of, command_step, completed, taken, ends_read, read_by, buffer_taken, handed_buffers, bytes_read, buffer_in, read_fault, read_step, read_taking, change, is_spam, is_made_at}
 use Rattle.bd_uapi.specs.declared.command.Command.TheVariants as bc
 use Rattle.bd_space.specs.declared.space.WorkKind.TheVariants as work
@@ -118,10 +118,10 @@ completed_buffers z =
     ((follow_after (ripen z)).buffers ∙ (Untouched.ripen_untouched z).buffers)
 
 -- the step makes this object's one-way call
-abbrev pub MakesCall : Space → ObjectId → List Buffer → Type 0
+abbrev pub MakesCall : Space → Identity → List Buffer → Type 0
 MakesCall s o bs = (c : Buffer) × In c bs × (c.made ≡ s.steps) × On o c
 
-delivered_makes : (s : Space) (a : Actor) (d : TransactionData) (v : Delivery) (o : ObjectId) → v.one_way ≡ true → v.target ≡ Some o → MakesCall s o (delivered s a d v).buffers
+delivered_makes : (s : Space) (a : Actor) (d : TransactionData) (v : Delivery) (o : Identity) → v.one_way ≡ true → v.target ≡ Some o → MakesCall s o (delivered s a d v).buffers
 unfolding delivered own_notices add_buffer with_carried assign_numbers refer make_objects
 delivered_makes s a d v o one_way target =
     (buffer_of (with_carried s v) a d v, in_last (buffer_of (with_carried s v) a d v) s.buffers, refl, (one_way, target))
@@ -133,8 +133,8 @@ transacted_buffers s a d v =
     let y = owe z (OfThread a.thread.seat) (work.Complete (is_spam z a v)) in
     (Untouched.called_untouched y a.thread.seat v.receiver.made v.one_way).buffers ∙ (Untouched.owe_untouched z (OfThread a.thread.seat) (work.Complete (is_spam z a v))).buffers
 
-same_object : (r : Result ObjectId Cause) (o p : ObjectId) → r ≡ Ok o → r ≡ Ok p → o ≡ p
-same_object r o p h k = let e : (let q : Result ObjectId Cause = Ok o in q) ≡ Ok p = sym h ∙ k in cc
+same_object : (r : Result Identity Cause) (o p : Identity) → r ≡ Ok o → r ≡ Ok p → o ≡ p
+same_object r o p h k = let e : (let q : Result Identity Cause = Ok o in q) ≡ Ok p = sym h ∙ k in cc
 
 -- what an accepted transaction leaves
 accepted : (s : Space) (seat : ℕ) (a : Actor) (d : TransactionData) (parcel : Option Parcel) → actor s seat ≡ Some a → (change s seat (Command (bc.Transaction d) parcel)).answer ≡ Accepted
@@ -142,7 +142,7 @@ accepted : (s : Space) (seat : ℕ) (a : Actor) (d : TransactionData) (parcel : 
 unfolding change command_step transaction_step
 accepted s seat a d parcel acts h = search arith
 
-pub call_makes : (s : Space) (e : Entry) (o : ObjectId) → CallsOneWay s e o → MakesCall s o (change s e.seat e.step).space.buffers
+pub call_makes : (s : Space) (e : Entry) (o : Identity) → CallsOneWay s e o → MakesCall s o (change s e.seat e.step).space.buffers
 call_makes s e o h =
     let a = h.actor_is in
     let k = accepted s e.seat a h.fields h.parcel h.acts (ap (λ x. (change s e.seat x).answer) (sym h.command) ∙ h.accepted) in

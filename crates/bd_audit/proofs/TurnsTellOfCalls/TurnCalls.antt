@@ -1,7 +1,7 @@
 -- TurnsAreTaken and TurnsTellOfCalls, both proved here: the turns of an object tell of its one-way calls: each of one
 -- accepted transaction, and each such transaction has a turn.
 use Rattle.bd_laws.proofs.words.Logic.{◌≡◌, ℕ, ◌==◌, List, [], ◌∷◌, ◌++◌, Option, Some, inl, inr, refl, ap, sym, subst, ◌∙◌, arith, AllPairs, eqb-true}
-use Rattle.bd_laws.proofs.words.Types.{ObjectId, Entry}
+use Rattle.bd_laws.proofs.words.Types.{Identity, Entry}
 use Rattle.bd_laws.proofs.words.Space.{opening, History}
 use Rattle.bd_laws.proofs.words.Laws.{In, Pairs}
 use Rattle.bd_laws.proofs.Lists.{by_last, pairs_map, pairs_at, at_pairs, any_found}
@@ -17,7 +17,7 @@ use Rattle.bd_audit.proofs.TurnsTellOfCalls.TurnsTelling.{in_slice, slice_in, Te
 
 -- ---- every history
 
-none_telling : (o : ObjectId) → Telling o [] []
+none_telling : (o : Identity) → Telling o [] []
 none_telling o = record {
   log = no_turns o;
   tells = λ t i. absurd i;
@@ -25,11 +25,11 @@ none_telling o = record {
   once = λ t i. absurd i;
 }
 
-always_telling : (o : ObjectId) (es : List Entry) → Telling o es (turns_from o opening [] es)
+always_telling : (o : Identity) (es : List Entry) → Telling o es (turns_from o opening [] es)
 always_telling o es =
     by_last (λ es. Telling o es (turns_from o opening [] es)) (λ es e h. subst (Telling o (es ++ e ∷ [])) (sym (turns_last o es opening [] e)) (step_telling o es e _ h)) (none_telling o) es
 
-pub turns_are : (h : History) (o : ObjectId) → AreTurns h.entries o (turns_on o h)
+pub turns_are : (h : History) (o : Identity) → AreTurns h.entries o (turns_on o h)
 unfolding turns_on
 turns_are h o =
     let k = always_telling o h.entries in
@@ -45,7 +45,7 @@ turns_are h o =
 same_option : (a b : Option ℕ) → ((p : ℕ) → a ≡ Some p → b ≡ Some p) → ((p : ℕ) → b ≡ Some p → a ≡ Some p) → a ≡ b
 same_option a b h k = search arith
 
-same_turn : (es : List Entry) (o : ObjectId) (t u : Turn) → TellsOf es o t → TellsOf es o u → t.made ≡ u.made → t ≡ u
+same_turn : (es : List Entry) (o : Identity) (t u : Turn) → TellsOf es o t → TellsOf es o u → t.made ≡ u.made → t ≡ u
 same_turn es o t u h k is =
     let handed = same_option t.handed u.handed
     (λ p e. k.unhanded p (subst (λ c. At es p (HandsOutCall c)) is (h.handed p e))) (λ p e. h.unhanded p (subst (λ c. At es p (HandsOutCall c)) (sym is) (k.handed p e))) in
@@ -68,7 +68,7 @@ one_list (t ∷ ts) (u ∷ us) h k to from =
     (λ v i. elim (from v (inr i)) [ inl is ↦ (let a = k.0 v i in let made = ap (λ (x : Turn). x.made) (sym first ∙ is) in absurd (omega arith)) | inr j ↦ j ]) in
     ap (λ x. x ∷ ts) first ∙ ap (λ xs. u ∷ xs) rest
 
-module _ (es : List Entry) (o : ObjectId) where
+module _ (es : List Entry) (o : Identity) where
   -- each turn of one list is in the other
   told_in : (ts us : List Turn) → AreTurns es o ts → AreTurns es o us → (t : Turn) → In t ts → In t us
   told_in ts us h k t i =

@@ -2,7 +2,7 @@
 -- object tell of its one-way calls up to there.
 use Rattle.bd_laws.proofs.words.Logic.{◌≡◌, ℕ, zero, suc, ◌<◌, ◌==◌, Bool, true, false, not, List, [], ◌∷◌, ◌++◌, length, take, drop, Option, Some, None, ◌⊎◌, inl, inr, refl, ap, sym, subst, ◌∙◌, map, length-append, arith, list_any, filter_map, slice_get, is_some, eq-eqb, cases_lt}
 use Rattle.std.proofs.Math.Seq.{take-append_seam, drop-append_seam}
-use Rattle.bd_laws.proofs.words.Types.{ObjectId, Entry, Buffer, Work}
+use Rattle.bd_laws.proofs.words.Types.{Identity, Entry, Buffer, Work}
 use Rattle.bd_laws.proofs.words.Space.{same, when, is_some_and, Space, opening, is_call, is_made_at, change, counted, after, next}
 use Rattle.bd_laws.proofs.words.Laws.{In, On, Before}
 use Rattle.bd_laws.proofs.Lists.{in_left, in_right, map_in, filter_map_in, any_found, any_in}
@@ -81,7 +81,7 @@ noted_now o n p now h k e = search arith
 -- ---- one entry more
 
 -- what is known of the turns so far
-pub record Telling (o : ObjectId) (es : List Entry) (ts : List Turn) : Type 0 where
+pub record Telling (o : Identity) (es : List Entry) (ts : List Turn) : Type 0 where
   pub log : Logged o ts (after opening es)
   pub tells : (t : Turn) → In t ts → TellsOf es o t
   pub all : (c : ℕ) → At es c (λ z e. CallsOneWay z e o) → list_any (λ t. t.made == c) ts ≡ true
@@ -91,7 +91,7 @@ counted_once : (z : Space) (m : ℕ) → DueOnce m z.buffers z.todo → DueOnce 
 unfolding counted
 counted_once z m h = h
 
-module _ (o : ObjectId) (es : List Entry) (e : Entry) (ts : List Turn) (k : Telling o es ts) where
+module _ (o : Identity) (es : List Entry) (e : Entry) (ts : List Turn) (k : Telling o es ts) where
   abbrev pub s : Space
   s = after opening es
 

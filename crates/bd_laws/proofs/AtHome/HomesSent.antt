@@ -1,7 +1,7 @@
 -- For SpacesAreTidy and the engine: what is sent stands with its receiver: the buffer that an item on a thread's list hands
 -- over is its process's.
 use Rattle.bd_laws.proofs.words.Logic.{◌≡◌, ℕ, suc, ◌+◌, ◌≤◌, ◌==◌, Bool, true, false, List, [], ◌∷◌, Option, Some, None, Ok, ◌⊎◌, inl, inr, refl, ap, sym, subst, ◌∙◌, arith, option_and_then, eqb-true}
-use Rattle.bd_laws.proofs.words.Types.{TransactionData, ObjectId, Parcel, Process, Thread, Reference, Buffer, Carried, Item, Frame, Actor, Work, TodoList, OfThread, WorkKind}
+use Rattle.bd_laws.proofs.words.Types.{TransactionData, Identity, Parcel, Process, Thread, Reference, Buffer, Carried, Item, Frame, Actor, Work, TodoList, OfThread, WorkKind}
 use Rattle.bd_laws.proofs.words.Space.{is_some_and, Space, actor, thread_in, assign_numbers, closed, goes_to, with_work, owe, hands_out, ripen, Delivery, delivered, own_notices, add_buffer, with_carried, refer, make_objects, buffer_references, transacted, called, call_out, caller_of, reply_check, replied, is_spam}
 use Rattle.bd_space.specs.declared.space.WorkKind.TheVariants as work
 use Rattle.bd_laws.proofs.words.Laws.{In, Pairs, IsInTurn, OtherSeat, Homed, AtHome}
@@ -36,7 +36,7 @@ ripen_h n z = ripen_keeps (Homed n z.threads z.references z.buffers) z (λ td u 
 
 -- ---- what is sent
 
-pub carries : (b q k : ℕ) (items : List Item) (target : Option ObjectId) (r : Reference) (c p : ℕ) → In r (buffer_references b q k items target) → r.holder ≡ Carried c p → (b ≡ c) × (q ≡ p)
+pub carries : (b q k : ℕ) (items : List Item) (target : Option Identity) (r : Reference) (c p : ℕ) → In r (buffer_references b q k items target) → r.holder ≡ Carried c p → (b ≡ c) × (q ≡ p)
 carries b q k [] target r c p l e = search arith
 carries b q k (x ∷ xs) target r c p (inl is) e = let same : Carried b q ≡ Carried c p = ap (λ (x : Reference). x.holder) is ∙ e in (cc, cc)
 carries b q k (x ∷ xs) target r c p (inr l) e = carries b q (k + 1) xs target r c p l e

@@ -1,7 +1,7 @@
 -- What a part of a step that sends nothing leaves of what SpacesAreTidy knows of receivers: it hands over, carries and calls for
 -- nothing more, and threads that are to read something stay. The laws of receivers (Homes, InWindows, OtherCalls) rest on this one walk.
 use Rattle.bd_laws.proofs.words.Logic.{arith, ◌++◌, ◌≡◌, ℕ, Bool, List, Option, Some, None, refl, ap, sym, ◌∙◌, eqb-true, eq-eqb, ◌==◌, false, cond, subst, list_any, inl, inr, [], ◌∷◌}
-use Rattle.bd_laws.proofs.words.Types.{ObjectId, Process, Thread, Object, Reference, Name, DeathNotification, Carried, Step, Buffer, Frame, Work, TodoList, OfThread, WorkKind}
+use Rattle.bd_laws.proofs.words.Types.{Identity, Process, Thread, Object, Reference, Name, DeathNotification, Carried, Step, Buffer, Frame, Work, TodoList, OfThread, WorkKind}
 use Rattle.bd_laws.proofs.words.Space.{Space, thread_in, hands_out, is_asking, is_shaking, assign_numbers, owe, closed, follow, notify, work_goes, deaths_go, objects_go, names_go, without_buffer, ask, drop_asked, acknowledge, with_looping, read_by, thread_goes, threads_go, without_process, tell_deaths, with_thread, with_process, with_manager, with_spam_detection, handed_buffers, serve, hand_out, is_made_at, buffer_taken, is_call, handshakes}
 use Rattle.bd_space.specs.declared.space.WorkKind.TheVariants as work
 use Rattle.bd_laws.proofs.words.Laws.{In, Pairs, OtherSeat, Homed, IsInWindows, OfOthers}
@@ -75,7 +75,7 @@ later_others z y l h w f t i e on m c = let g = l.frames f m in h w g.0 t (l.due
 on_threads : (z y : Space) → z.threads ≡ y.threads → Handing z.todo y.todo → Carries z.references y.references → Received z.buffers y.buffers → Called z.frames y.frames → Later z y
 on_threads z y ts due carried buffers frames = search arith
 
-beside_later : (z : Space) (qs : List Process) (m : Option ObjectId) (os : List Object) (rs : List Reference) (ns : List Name) (ds : List DeathNotification) → Carries rs z.references
+beside_later : (z : Space) (qs : List Process) (m : Option Identity) (os : List Object) (rs : List Reference) (ns : List Name) (ds : List DeathNotification) → Carries rs z.references
     → Later (record z { processes = qs; manager = m; objects = os; references = rs; names = ns; deaths = ds }) z
 beside_later z qs m os rs ns ds k = on_threads _ z refl (λ w b l e. l) k (same_buffers z.buffers) (same_frames z.frames)
 

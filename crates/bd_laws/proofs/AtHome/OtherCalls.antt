@@ -1,6 +1,6 @@
 -- For SpacesAreTidy: no thread is to read a call of its own.
 use Rattle.bd_laws.proofs.words.Logic.{◌≡◌, ℕ, ◌<◌, ◌==◌, Bool, true, false, ◌&&◌, Option, Some, Ok, inl, inr, refl, ap, sym, subst, ◌∙◌, arith, eqb-true, eq-eqb}
-use Rattle.bd_laws.proofs.words.Types.{TransactionData, ObjectId, Parcel, Entry, Process, Thread, Object, Frame, Actor, Work, OfThread, OfProcess}
+use Rattle.bd_laws.proofs.words.Types.{TransactionData, Identity, Parcel, Entry, Process, Thread, Object, Frame, Actor, Work, OfThread, OfProcess}
 use Rattle.bd_laws.proofs.words.Space.{same, Space, opening, actor, owned_in, assign_numbers, strongly_named, closed, goes_to, owe, hands_out, ripen, Delivery, delivered, own_notices, add_buffer, with_carried, refer, make_objects, transaction_check, transacted, called, call_out, target_of, handle_of, replied, counted, next, is_spam}
 use Rattle.bd_space.specs.declared.space.WorkKind.TheVariants as work
 use Rattle.bd_laws.proofs.words.Laws.{In, IsInTurn, AtHome, OfOthers}
@@ -26,7 +26,7 @@ ripen_o z h = fewer (ripen z) z refl (λ w b t l e on. ripen_keeps (λ td. (w : 
 
 -- ---- whom a call goes to doesn't belong to its caller
 
-unowned_target : (s : Space) (p n : ℕ) (o : ObjectId) → target_of s p n ≡ Ok o → owned_in s.objects p o ≡ false
+unowned_target : (s : Space) (p n : ℕ) (o : Identity) → target_of s p n ≡ Ok o → owned_in s.objects p o ≡ false
 unfolding target_of strongly_named
 unowned_target s p n o h = search arith
 

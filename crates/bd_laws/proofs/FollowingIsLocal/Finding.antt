@@ -1,6 +1,6 @@
 -- For FollowingIsLocal and NothingIsPending: what is found in a list to which elements come, and among objects.
 use Rattle.bd_laws.proofs.words.Logic.{arith, ◌≡◌, Bool, true, false, List, [], ◌∷◌, ◌++◌, Option, Some, None, is_some, ap, refl, find, list_any, list_any-append}
-use Rattle.bd_laws.proofs.words.Types.{ObjectId, Object}
+use Rattle.bd_laws.proofs.words.Types.{Identity, Object}
 use Rattle.bd_laws.proofs.words.Space.{same, is_some_and, object_in}
 use Rattle.bd_laws.proofs.words.Laws.{In, Pairs, Differ}
 use Rattle.bd_laws.proofs.Lists.{any_found, find_in, find_some, pairs_either}
@@ -23,12 +23,12 @@ module _ {A : Type 0} (p : A → Bool) where
   find_left (x ∷ xs) ys q h = search (arith, find_left xs ys q)
 
 -- an object that is found passes one test if it passes the other
-pub found_still : (objects : List Object) (o : ObjectId) (p q : Object → Bool) → ((x : Object) → In x objects → x.id ≡ o → p x ≡ true → q x ≡ true)
+pub found_still : (objects : List Object) (o : Identity) (p q : Object → Bool) → ((x : Object) → In x objects → x.id ≡ o → p x ≡ true → q x ≡ true)
     → is_some_and (object_in objects o) p ≡ true → is_some_and (object_in objects o) q ≡ true
 found_still objects o p q k h = search (arith, find_in)
 
 -- an object is found by its identity
-pub find_only : (xs : List Object) (x : Object) (o : ObjectId) → Pairs Differ xs → In x xs → x.id ≡ o → object_in xs o ≡ Some x
+pub find_only : (xs : List Object) (x : Object) (o : Identity) → Pairs Differ xs → In x xs → x.id ≡ o → object_in xs o ≡ Some x
 find_only xs x o h l e = it_is (object_in xs o) (find_some (λ (y : Object). same y.id o) x xs l (eq_same x.id o e)) (λ y f. only y (find_in (λ (y : Object). same y.id o) y xs f))
   where
     it_is : (f : Option Object) → is_some f ≡ true → ((y : Object) → f ≡ Some y → y ≡ x) → f ≡ Some x

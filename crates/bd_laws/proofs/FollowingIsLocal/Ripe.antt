@@ -1,7 +1,7 @@
 -- For FollowingIsLocal, with lemmas for NothingIsPending: nothing is ripe once calls have ripened. To ripen what may be ripe
 -- on one object only, that object's oldest call is enough.
 use Rattle.bd_laws.proofs.words.Logic.{arith, ◌≡◌, ℕ, true, false, List, [], ◌∷◌, ◌++◌, refl, ap, find}
-use Rattle.bd_laws.proofs.words.Types.{ObjectId, Turn, Work}
+use Rattle.bd_laws.proofs.words.Types.{Identity, Turn, Work}
 use Rattle.bd_laws.proofs.words.Space.{same, Space, turns_of, is_ripe, ripened, ripen, first_due, ripen_of}
 use Rattle.bd_laws.proofs.words.Laws.{In, NoneRipe}
 use Rattle.bd_laws.proofs.Lists.{in_left, in_last, in_push, any_found, any_in}
@@ -9,7 +9,7 @@ use Rattle.bd_laws.proofs.Tests.{same_eq, eq_same}
 use Rattle.bd_laws.proofs.FollowingIsLocal.Finding.{any_more}
 
 -- none but those on this object
-abbrev pub NoneRipeBut : ObjectId → List Work → List Turn → List Turn → Type 0
+abbrev pub NoneRipeBut : Identity → List Work → List Turn → List Turn → Type 0
 NoneRipeBut o todo older [] = Unit {0}
 NoneRipeBut o todo older (t ∷ ts) = (same t.target o ≡ false → is_ripe todo older t ≡ false) × NoneRipeBut o todo (older ++ t ∷ []) ts
 
@@ -43,7 +43,7 @@ ripen_none z = ripened_none z.steps (turns_of z.buffers) [] z.todo
 
 -- ---- what ripens on one object
 
-module _ (o : ObjectId) where
+module _ (o : Identity) where
   but_more : (ts older : List Turn) (todo : List Work) (w : Work) → NoneRipeBut o todo older ts → NoneRipeBut o (todo ++ w ∷ []) older ts
   but_more [] older todo w h = tt
   but_more (t ∷ ts) older todo w h = ((λ e. still_unripe todo w older t (h.0 e)), but_more ts (older ++ t ∷ []) todo w h.1)

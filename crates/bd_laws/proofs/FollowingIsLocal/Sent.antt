@@ -1,7 +1,7 @@
 -- For FollowingIsLocal, with lemmas for NothingIsPending: what a delivery leaves pending, at the objects that are sent, and
 -- nowhere else.
 use Rattle.bd_laws.proofs.words.Logic.{fold, ◌≡◌, ℕ, ◌==◌, Bool, true, false, ◌||◌, List, [], ◌∷◌, ◌++◌, Option, Some, ◌⊎◌, inl, inr, refl, sym, ◌∙◌, map, arith, list_any, not, ◌&&◌, ap, filter, list_any-append}
-use Rattle.bd_laws.proofs.words.Types.{TransactionData, ObjectId, Object, Reference, Name, Item, Actor, Work, DeathNotification, WorkKind, TodoList, OfThread}
+use Rattle.bd_laws.proofs.words.Types.{TransactionData, Identity, Object, Reference, Name, Item, Actor, Work, DeathNotification, WorkKind, TodoList, OfThread}
 use Rattle.bd_laws.proofs.words.Space.{buffer_of, same, is_some_and, Space, object_in, held_in, strong_in, is_named_in, with_name, assign_numbers, with_work, is_call, wants_notice, has_notice_in, is_name_of, object_of_item, Delivery, delivered, own_notices, add_buffer, with_carried, refer, make_objects, buffer_references, ObjectTest, no_name, objects_of_items, lives_in, owned_in, stays_in, is_notice, add_notice, withdraw_notice}
 use Rattle.bd_space.specs.declared.space.WorkKind.TheVariants as work
 use Rattle.bd_laws.proofs.words.Laws.{In, KeptBefore, Elsewhere, IsFollowed}
@@ -14,13 +14,13 @@ use Rattle.bd_laws.proofs.FollowingIsLocal.Finding.{any_more, any_same, any_none
 
 -- ---- names that come are named
 
-pub with_names_named : (manager : Option ObjectId) (objects : List Object) (references : List Reference) (p : ℕ) (os : List ObjectId) (names : List Name) (m : Name)
+pub with_names_named : (manager : Option Identity) (objects : List Object) (references : List Reference) (p : ℕ) (os : List Identity) (names : List Name) (m : Name)
     → In m (fold (with_name manager objects references p) names os) → In m names ⊎ (is_named_in objects references m.process m.object ≡ true)
 with_names_named manager objects references p [] names m l = inl l
 with_names_named manager objects references p (o ∷ os) names m l = search (arith, with_names_named manager objects references p os (with_name manager objects references p names o) m l, in_push)
 
 -- names that there were are there still
-pub name_stays : (manager : Option ObjectId) (objects : List Object) (references : List Reference) (p : ℕ) (names : List Name) (o : ObjectId) (q : ℕ) (i : ObjectId)
+pub name_stays : (manager : Option Identity) (objects : List Object) (references : List Reference) (p : ℕ) (names : List Name) (o : Identity) (q : ℕ) (i : Identity)
     → is_name_of names q i ≡ true → is_name_of (with_name manager objects references p names o) q i ≡ true
 name_stays manager objects references p names o q i h = search (arith, any_more)
 
@@ -39,15 +39,15 @@ module _ (b : ObjectTest) (s : Space) (h : IsFollowed s) (kept : KeptBefore s) (
       let r = kept.named m l in
       let x = kept.kept.refs r.0 r.1 in
       let lt = kept.kept.below x.0 x.1 in
-      let place : x.0.id.place ≡ m.object.place = ap (λ (i : ObjectId). i.place) (x.2 ∙ r.2) in
+      let place : x.0.id.place ≡ m.object.place = ap (λ (i : Identity). i.place) (x.2 ∙ r.2) in
       let none : owned_in objects m.process m.object ≡ owned_in s.objects m.process m.object = any_none _ s.objects made (λ y i. to_false _ (λ e.
-      let is : y.id.place ≡ m.object.place = ap (λ (i : ObjectId). i.place) (same_eq y.id m.object (both (same y.id m.object) _ e).0) in
+      let is : y.id.place ≡ m.object.place = ap (λ (i : Identity). i.place) (same_eq y.id m.object (both (same y.id m.object) _ e).0) in
       let at = new y i in absurd (omega arith))) in
       and_both (not (owned_in objects m.process m.object)) _ (rw none t.0) (search (arith, list_any-append, t.1))
 
   -- of an object that isn't touched the references say the same, and for one that comes nothing is to be done
   pub come_elsewhere : ((x : Object) → In x s.objects → b x.id ≡ false → (held_in references x.id ≡ held_in s.references x.id) × (strong_in references x.id ≡ strong_in s.references x.id))
-      → ((x : Object) → In x made → b x.id ≡ false → (stays_in s.processes references x ≡ true) × (wants_notice s.processes references x ≡ false)) → (manager : Option ObjectId)
+      → ((x : Object) → In x made → b x.id ≡ false → (stays_in s.processes references x ≡ true) × (wants_notice s.processes references x ≡ false)) → (manager : Option Identity)
       → Elsewhere no_name b (record s { manager = manager; objects = objects; references = references })
   come_elsewhere untied comes manager = record {
     names = λ m l none. named_still m l;
@@ -84,7 +84,7 @@ module _ (P R : List Work → Type 0) (z : Space) (seat : ℕ) (items : List Ite
 
 -- ---- the whole delivery
 
-pub strong_held : (references : List Reference) (o : ObjectId) → strong_in references o ≡ true → held_in references o ≡ true
+pub strong_held : (references : List Reference) (o : Identity) → strong_in references o ≡ true → held_in references o ≡ true
 strong_held references o e = search (arith, any_found, any_in)
 
 or_more : (a b c : Bool) → (b ≡ true → c ≡ true) → (a || b) ≡ true → (a || c) ≡ true
@@ -94,7 +94,7 @@ or_more a b c k h = search arith
 pub record Delivers (s : Space) (v : Delivery) : Type 0 where
   pub sent : (x : Object) → In x v.sending.made → objects_of_items v.sending.items x.id ≡ true
   pub new : (x : Object) → In x v.sending.made → x.id.place ≡ s.steps
-  pub target : (o : ObjectId) → v.target ≡ Some o → strong_in s.references o ≡ true
+  pub target : (o : Identity) → v.target ≡ Some o → strong_in s.references o ≡ true
 
 module _ (s : Space) (v : Delivery) (h : IsFollowed s) (kept : KeptBefore s) (k : Delivers s v) where
   abbrev pub all_objects : List Object
@@ -107,25 +107,25 @@ module _ (s : Space) (v : Delivery) (h : IsFollowed s) (kept : KeptBefore s) (k 
   is_sent = objects_of_items v.sending.items
 
   -- each new reference is a sent object's or the target's
-  comes : (o : ObjectId) → is_sent o ≡ false → (r : Reference) → In r (buffer_references s.steps v.receiver.made 0 v.sending.items v.target) → same r.object o ≡ true
+  comes : (o : Identity) → is_sent o ≡ false → (r : Reference) → In r (buffer_references s.steps v.receiver.made 0 v.sending.items v.target) → same r.object o ≡ true
       → strong_in s.references o ≡ true
   comes o none r l e = search (arith, buffer_reference, any_in)
 
-  come : (manager : Option ObjectId) → Elsewhere no_name is_sent (record s { manager = manager; objects = all_objects; references = all_references })
+  come : (manager : Option Identity) → Elsewhere no_name is_sent (record s { manager = manager; objects = all_objects; references = all_references })
   come = come_elsewhere is_sent s h kept v.sending.made _ k.new (λ x l. search (arith, any_same, strong_held, comes, both)) (λ x l none. (let yes = k.sent x l in absurd (cc)))
 
   -- ---- the Notices of the sender's own
 
   pub record Todo (todo : List Work) : Type 0 where
-    pub due : (w : Work) (o : ObjectId) → In w todo → w.kind ≡ work.Notice o → is_sent o ≡ false → is_some_and (object_in all_objects o) (wants_notice s.processes all_references) ≡ true
+    pub due : (w : Work) (o : Identity) → In w todo → w.kind ≡ work.Notice o → is_sent o ≡ false → is_some_and (object_in all_objects o) (wants_notice s.processes all_references) ≡ true
     pub tells : (w : Work) (n : ℕ) → In w todo → w.kind ≡ work.Death n → list_any (λ (x : DeathNotification). x.made == n) s.deaths ≡ true
     pub calls : (n : ℕ) → list_any (λ (w : Work). is_call n w.kind) s.todo ≡ true → list_any (λ (w : Work). is_call n w.kind) todo ≡ true
-    pub has : (o : ObjectId) → is_sent o ≡ false → has_notice_in s.todo o ≡ true → has_notice_in todo o ≡ true
+    pub has : (o : Identity) → is_sent o ≡ false → has_notice_in s.todo o ≡ true → has_notice_in todo o ≡ true
 
-  sent_item : (x : Item) (o : ObjectId) → In x v.sending.items → is_sent o ≡ false → same x.object o ≡ true → ⊥
+  sent_item : (x : Item) (o : Identity) → In x v.sending.items → is_sent o ≡ false → same x.object o ≡ true → ⊥
   sent_item x o l none e = search (arith, any_in)
 
-  adds_work : (todo : List Work) (list : TodoList) (kind : WorkKind) → ((o : ObjectId) → kind ≡ work.Notice o → is_sent o ≡ false → ⊥) → ((n : ℕ) → kind ≡ work.Death n → ⊥) → Todo todo
+  adds_work : (todo : List Work) (list : TodoList) (kind : WorkKind) → ((o : Identity) → kind ≡ work.Notice o → is_sent o ≡ false → ⊥) → ((n : ℕ) → kind ≡ work.Death n → ⊥) → Todo todo
       → Todo (with_work s.steps todo list kind)
   adds_work todo list kind none never t = search (arith, in_push, any_more)
 

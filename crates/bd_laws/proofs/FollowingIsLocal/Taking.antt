@@ -1,6 +1,6 @@
 -- For FollowingIsLocal, with lemmas for NothingIsPending: of a reading, only objects whose Notices it takes need a look.
 use Rattle.bd_laws.proofs.words.Logic.{arith, ◌≡◌, ℕ, ◌==◌, true, false, not, ◌&&◌, ◌||◌, List, ◌++◌, refl, ap, sym, subst, ◌∙◌, list_any, list_any-append}
-use Rattle.bd_laws.proofs.words.Types.{ObjectId, Thread, Object, Reference, DeathNotification, Work, WorkKind, Told}
+use Rattle.bd_laws.proofs.words.Types.{Identity, Thread, Object, Reference, DeathNotification, Work, WorkKind, Told}
 use Rattle.bd_laws.proofs.words.Space.{changed, told_of, same, is_some_and, Space, lives_in, object_in, held_in, strong_in, is_item, is_notice, notice_of, list_to_read, without_taken, wants_notice, follow, read_by, taken, handshakes, is_told_by, is_told_of_death, ObjectTest, no_name, follow_of}
 use Rattle.bd_laws.proofs.words.Laws.{In, Elsewhere, IsQuiet, Distinct}
 use Rattle.bd_laws.proofs.Lists.{in_filter, in_changed, any_changed, find_changed, any_found, any_in, find_in}
@@ -29,11 +29,11 @@ module _ (s : Space) (t : Thread) (seat left : ℕ) (h : IsQuiet s) (distinct : 
   abbrev more : List Reference
   more = s.references ++ handshakes s 0 ws
 
-  untold : (o : ObjectId) → told o ≡ false → (r : Reference) → In r (handshakes s 0 ws) → same r.object o ≡ false
+  untold : (o : Identity) → told o ≡ false → (r : Reference) → In r (handshakes s 0 ws) → same r.object o ≡ false
   untold o none r l = search (arith, same_eq, handshake_told)
 
   -- references say of it what they said
-  same_said : (o : ObjectId) → told o ≡ false → (held_in more o ≡ held_in s.references o) × (strong_in more o ≡ strong_in s.references o)
+  same_said : (o : Identity) → told o ≡ false → (held_in more o ≡ held_in s.references o) × (strong_in more o ≡ strong_in s.references o)
   same_said o none = search (arith, any_none, untold)
 
   wants_same : (x : Object) → told x.id ≡ false → wants_notice s.processes more x ≡ wants_notice s.processes s.references x
@@ -43,12 +43,12 @@ module _ (s : Space) (t : Thread) (seat left : ℕ) (h : IsQuiet s) (distinct : 
   was : (x : Object) → In x (changed (λ x. is_told_by ws x.id) (told_of s.references) s.objects) → told x.id ≡ false → In x s.objects
   was x l none = search (arith, in_changed)
 
-  read_due : (o : ObjectId) → told o ≡ false → is_some_and (object_in s.objects o) (wants_notice s.processes s.references) ≡ true
+  read_due : (o : Identity) → told o ≡ false → is_some_and (object_in s.objects o) (wants_notice s.processes s.references) ≡ true
       → is_some_and (object_in (changed (λ x. is_told_by ws x.id) (told_of s.references) s.objects) o) (wants_notice s.processes more) ≡ true
   read_due o none due = search (arith, find_changed, find_in, wants_same)
 
   -- a Notice of an object that wasn't told isn't taken
-  notice_stays : (o : ObjectId) → told o ≡ false → list_any (λ (w : Work). is_notice o w.kind) s.todo ≡ true → list_any (λ (w : Work). is_notice o w.kind) (without_taken ws s.todo) ≡ true
+  notice_stays : (o : Identity) → told o ≡ false → list_any (λ (w : Work). is_notice o w.kind) s.todo ≡ true → list_any (λ (w : Work). is_notice o w.kind) (without_taken ws s.todo) ≡ true
   notice_stays o none has =
       any_filtered (λ (w : Work). is_notice o w.kind) (λ (w : Work). not (list_any (λ (d : Work). is_item w d) ws)) s.todo (λ v l gone. to_false _ (λ e.
       let d = any_found (λ (d : Work). is_item v d) ws (search arith) in

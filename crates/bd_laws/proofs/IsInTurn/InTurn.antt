@@ -1,6 +1,6 @@
 -- For OneAtATime, OneWayCallsAreDueInTurn and SpacesAreTidy: in every history the one-way calls are in turn.
 use Rattle.bd_laws.proofs.words.Logic.{◌≡◌, ℕ, suc, ◌≤◌, true, ◌&&◌, List, [], ◌∷◌, Option, Some, inl, refl, sym, ◌∙◌, filter, length, arith, cons_option, eqb-true}
-use Rattle.bd_laws.proofs.words.Types.{ObjectId, Step, Entry, Buffer, Turn, Work, WorkKind}
+use Rattle.bd_laws.proofs.words.Types.{Identity, Step, Entry, Buffer, Turn, Work, WorkKind}
 use Rattle.bd_laws.proofs.words.Space.{same, Space, opening, is_call, hands_out, turn_of, turns_of, counted, next}
 use Rattle.bd_laws.proofs.words.Laws.{is_out, out_on, In, Pairs, Waits, InTurn, IsInTurn}
 use Rattle.bd_laws.proofs.Lists.{in_filter, any_found, in_filter_map, pairs_map, pairs_filter}
@@ -55,7 +55,7 @@ pub turns_alone : (todo : List Work) (bs : List Buffer) → Pairs (Waits todo) b
 turns_alone todo [] h = tt
 turns_alone todo (b ∷ bs) h = alone_cons todo (turn_of b) b bs refl h.0 (turns_alone todo bs h.1)
 
-pub one_out : (o : ObjectId) (s : Space) → IsInTurn s → length (out_on o s) ≤ 1
+pub one_out : (o : Identity) (s : Space) → IsInTurn s → length (out_on o s) ≤ 1
 one_out o s h =
     let test = λ (t : Turn). same t.target o && is_out s.todo t in
     at_most_one (filter test (turns_of s.buffers))

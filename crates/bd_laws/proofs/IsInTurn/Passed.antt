@@ -1,7 +1,7 @@
 -- For SpacesAreTidy, and for the audit's laws of turns, names, gone objects and replies: within a step each process, object
 -- and buffer was there before, or the step made it.
 use Rattle.bd_laws.proofs.words.Logic.{arith, ◌≡◌, ℕ, ◌==◌, Bool, true, false, List, Some, ◌⊎◌, inl, inr, refl, subst, ◌∙◌}
-use Rattle.bd_laws.proofs.words.Types.{ObjectId, Process, Actor, Object, Buffer, Work, OfProcess}
+use Rattle.bd_laws.proofs.words.Types.{Identity, Process, Actor, Object, Buffer, Work, OfProcess}
 use Rattle.bd_laws.proofs.words.Space.{Space, actor, objects_go, stays_in, names_go, assign_numbers, hands_out, follow, notify, work_goes, deaths_go, ask, drop_asked, acknowledge, with_thread, with_process, with_manager, with_spam_detection}
 use Rattle.bd_laws.proofs.words.Laws.{In, Due, On, OnLists}
 use Rattle.bd_laws.proofs.Lists.{in_push, in_filter, find_in}
@@ -29,7 +29,7 @@ pub record Became (s : Space) (b c : Buffer) : Type 0 where
 pub record New (s : Space) (c : Buffer) : Type 0 where
   pub made : c.made ≡ s.steps
   pub handed : c.handed ≡ false
-  pub owned : (o : ObjectId) → On o c → (x : Object) × In x s.objects × (x.id ≡ o) × (x.owner ≡ c.receiver) × Lives s.processes x.owner
+  pub owned : (o : Identity) → On o c → (x : Object) × In x s.objects × (x.id ≡ o) × (x.owner ≡ c.receiver) × Lives s.processes x.owner
 
 -- The process p has ended: it isn't among the live ones, and no buffer is left in its window.
 pub record Ended (z : Space) (p : ℕ) : Type 0 where
@@ -41,8 +41,8 @@ pub record Passed (s z : Space) : Type 0 where
   pub processes : (q : Process) → In q z.processes → Lives s.processes q.made ⊎ (q.made ≡ s.steps)
   pub objects : (x : Object) → In x z.objects → ((y : Object) × In y s.objects × (x.id ≡ y.id) × (x.owner ≡ y.owner)) ⊎ ((x.id.place ≡ s.steps) × Lives s.processes x.owner)
   pub from : (c : Buffer) → In c z.buffers → ((b : Buffer) × In b s.buffers × Became s b c) ⊎ New s c
-  pub to : (o : ObjectId) (b : Buffer) → In b s.buffers → On o b → ((c : Buffer) × In c z.buffers × Became s b c) ⊎ ((b.handed ≡ true) ⊎ Ended z b.receiver)
-  pub lists : (w : Work) (c : Buffer) (o : ObjectId) → In w z.todo → hands_out w.kind ≡ Some c.made → In c z.buffers → On o c → w.list ≡ OfProcess c.receiver
+  pub to : (o : Identity) (b : Buffer) → In b s.buffers → On o b → ((c : Buffer) × In c z.buffers × Became s b c) ⊎ ((b.handed ≡ true) ⊎ Ended z b.receiver)
+  pub lists : (w : Work) (c : Buffer) (o : Identity) → In w z.todo → hands_out w.kind ≡ Some c.made → In c z.buffers → On o c → w.list ≡ OfProcess c.receiver
 
 pub same_buffer : (s : Space) (b : Buffer) → Became s b b
 same_buffer s b = record { made = refl; receiver = refl; one_way = refl; target = refl; handed = inl refl }
@@ -72,7 +72,7 @@ pub record Going (z y : Space) : Type 0 where
   pub processes : (q : Process) → In q z.processes → In q y.processes
   pub objects : (x : Object) → In x z.objects → In x y.objects
   pub buffers : (c : Buffer) → In c z.buffers → In c y.buffers
-  pub stays : (o : ObjectId) (c : Buffer) → In c y.buffers → On o c → In c z.buffers ⊎ Ended z c.receiver
+  pub stays : (o : Identity) (c : Buffer) → In c y.buffers → On o c → In c z.buffers ⊎ Ended z c.receiver
 
 pub going_passed : (s z y : Space) → Going z y → OnLists z → Passed s y → Passed s z
 going_passed s z y g l h = record {
@@ -93,15 +93,15 @@ passed_after s z y a h = going_passed s z y (search (arith, a.steps, a.processes
 
 -- ---- asking and dropping, which touch references and names alone
 
-pub ask_after : (z : Space) (p : ℕ) (o : ObjectId) (strong : Bool) → After (ask z p o strong) z
+pub ask_after : (z : Space) (p : ℕ) (o : Identity) (strong : Bool) → After (ask z p o strong) z
 unfolding ask assign_numbers
 ask_after z p o strong = record { steps = refl; processes = refl; objects = λ x i. i; buffers = refl; due = λ w m l e. l }
 
-pub drop_asked_after : (z : Space) (p : ℕ) (o : ObjectId) (strong : Bool) → After (drop_asked z p o strong) z
+pub drop_asked_after : (z : Space) (p : ℕ) (o : Identity) (strong : Bool) → After (drop_asked z p o strong) z
 unfolding drop_asked
 drop_asked_after z p o strong = record { steps = refl; processes = refl; objects = λ x i. i; buffers = refl; due = λ w m l e. l }
 
-pub acknowledge_after : (z : Space) (o : ObjectId) (strong : Bool) → After (acknowledge z o strong) z
+pub acknowledge_after : (z : Space) (o : Identity) (strong : Bool) → After (acknowledge z o strong) z
 unfolding acknowledge
 acknowledge_after z o strong = record { steps = refl; processes = refl; objects = λ x i. i; buffers = refl; due = λ w m l e. l }
 

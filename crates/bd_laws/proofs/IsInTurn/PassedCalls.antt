@@ -1,7 +1,7 @@
 -- For SpacesAreTidy and the audit's laws: what transactions, replies, freeing and readings leave of processes, objects and
 -- buffers, and what they make.
 use Rattle.bd_laws.proofs.words.Logic.{◌≡◌, ℕ, ◌==◌, Bool, true, false, cond, [], ◌∷◌, Option, Some, None, Ok, inl, inr, refl, ap, sym, subst, ◌∙◌, arith, eqb-true, List}
-use Rattle.bd_laws.proofs.words.Types.{TransactionData, ObjectId, Parcel, Process, Thread, Actor, Frame, Object, Buffer, Work, TodoList, OfThread, OfProcess, WorkKind}
+use Rattle.bd_laws.proofs.words.Types.{TransactionData, Identity, Parcel, Process, Thread, Actor, Frame, Object, Buffer, Work, TodoList, OfThread, OfProcess, WorkKind}
 use Rattle.bd_laws.proofs.words.Space.{Space, actor, assign_numbers, owe, with_work, hands_out, list_to_read, closed, goes_to, Delivery, delivered, own_notices, add_buffer, with_carried, refer, make_objects, buffer_of, transaction_check, transacted, called, call_out, reply_check, replied, without_buffer, is_made_at, taken, read_by, hand_out, handed_buffers, is_spam}
 use Rattle.bd_space.specs.declared.space.WorkKind.TheVariants as work
 use Rattle.bd_laws.proofs.words.Laws.{In, Due, InTurn, On, OnLists}
@@ -19,7 +19,7 @@ use Rattle.bd_laws.proofs.IsInTurn.Passed.{Lives, Became, New, Passed, same_buff
 
 pub delivered_passed : (s : Space) (fs : List Frame) (a : Actor) (d : TransactionData) (v : Delivery) → InTurn s.steps s.buffers s.todo → OnLists s → Lives s.processes a.process.made
     → Made s a.process.made v.sending.made
-    → ((o : ObjectId) → v.one_way ≡ true → v.target ≡ Some o → (x : Object) × In x s.objects × (x.id ≡ o) × (x.owner ≡ v.receiver.made) × Lives s.processes x.owner)
+    → ((o : Identity) → v.one_way ≡ true → v.target ≡ Some o → (x : Object) × In x s.objects × (x.id ≡ o) × (x.owner ≡ v.receiver.made) × Lives s.processes x.owner)
     → Passed s (delivered (record s { frames = fs }) a d v)
 unfolding delivered own_notices add_buffer with_carried assign_numbers refer make_objects
 delivered_passed s fs a d v turns l lives made owned = record {
@@ -43,8 +43,8 @@ delivered_passed s fs a d v turns l lives made owned = record {
 }
 
 -- a further work item that hands over a buffer that is no one-way call
-handing : (s z : Space) (place : ℕ) (list : TodoList) (kind : WorkKind) (n : ℕ) → hands_out kind ≡ Some n → ((c : Buffer) (o : ObjectId) → In c z.buffers → c.made ≡ n → On o c → ⊥) → OnLists z
-    → (w : Work) (c : Buffer) (o : ObjectId) → In w (with_work place z.todo list kind) → hands_out w.kind ≡ Some c.made → In c z.buffers → On o c → w.list ≡ OfProcess c.receiver
+handing : (s z : Space) (place : ℕ) (list : TodoList) (kind : WorkKind) (n : ℕ) → hands_out kind ≡ Some n → ((c : Buffer) (o : Identity) → In c z.buffers → c.made ≡ n → On o c → ⊥) → OnLists z
+    → (w : Work) (c : Buffer) (o : Identity) → In w (with_work place z.todo list kind) → hands_out w.kind ≡ Some c.made → In c z.buffers → On o c → w.list ≡ OfProcess c.receiver
 handing s z place list kind n hands none l w c o i e j on =
     all_push z.todo _ (λ w. hands_out w.kind ≡ Some c.made → w.list ≡ OfProcess c.receiver) (λ w k e. l w c o k e j on)
     (λ e. absurd (none c o j (let f : Some n ≡ Some c.made = sym hands ∙ e in cc) on)) w i e
@@ -54,7 +54,7 @@ same_going z y e p x b = search arith
 
 -- no one-way call is made by this step
 abbrev pub NoneNew : Space → Type 0
-NoneNew z = (c : Buffer) (o : ObjectId) → In c z.buffers → c.made ≡ z.steps → On o c → ⊥
+NoneNew z = (c : Buffer) (o : Identity) → In c z.buffers → c.made ≡ z.steps → On o c → ⊥
 
 call_out_passed : (s z : Space) (seat p : ℕ) → NoneNew z → Passed s z → Passed s (call_out z seat p)
 unfolding call_out owe
@@ -87,7 +87,7 @@ owe_after z list kind none = untouched_after (owe z list kind) z (Untouched.owe_
 none_after : (z y : Space) → After z y → NoneNew y → NoneNew z
 none_after z y a none c o i made on = none c o (subst (In c) a.buffers i) (made ∙ a.steps) on
 
-owned_by : (s : Space) (o : ObjectId) (q : Process) → Owned s o q → (x : Object) × In x s.objects × (x.id ≡ o) × (x.owner ≡ q.made) × Lives s.processes x.owner
+owned_by : (s : Space) (o : Identity) (q : Process) → Owned s o q → (x : Object) × In x s.objects × (x.id ≡ o) × (x.owner ≡ q.made) × Lives s.processes x.owner
 owned_by s o q h =
     let l = find_in (λ (p : Process). p.made == h.object.owner) q s.processes h.lives in
     let e = eqb-true q.made h.object.owner l.1 in

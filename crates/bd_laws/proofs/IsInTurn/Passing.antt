@@ -1,6 +1,6 @@
 -- For SpacesAreTidy and the audit's laws: what a step leaves of processes, objects and buffers, and what it makes.
 use Rattle.bd_laws.proofs.words.Logic.{◌&&◌, suc, ◌≡◌, ℕ, ◌==◌, Bool, true, false, cond, not, List, [], ◌∷◌, ◌++◌, Some, ◌⊎◌, inl, inr, refl, ap, sym, ◌∙◌, filter, arith, eqb-true, eq-eqb}
-use Rattle.bd_laws.proofs.words.Types.{ObjectId, Step, Entry, Process, Buffer, Turn, Work, TodoList, OfThread, OfProcess}
+use Rattle.bd_laws.proofs.words.Types.{Identity, Step, Entry, Process, Buffer, Turn, Work, TodoList, OfThread, OfProcess}
 use Rattle.bd_laws.proofs.words.Space.{pointer, Space, with_work, hands_out, is_on, closed, turn_of, turns_of, is_ripe, ripened, ripen, follow, buffer_at_pointer, thread_goes, is_lost_with, threads_go, without_process, tell_deaths, change}
 use Rattle.bd_space.specs.declared.space.WorkKind.TheVariants as work
 use Rattle.bd_laws.proofs.words.Laws.{In, InTurn, On, OnLists}
@@ -20,7 +20,7 @@ use Rattle.bd_laws.proofs.IsInTurn.Passed.{Ended, Passed, Going, going_passed, p
 
 -- ---- ripening
 
-pub on_turn : (o : ObjectId) (b : Buffer) → On o b → turn_of b ≡ Some (record { made = b.made; receiver = b.receiver; target = o; handed = b.handed })
+pub on_turn : (o : Identity) (b : Buffer) → On o b → turn_of b ≡ Some (record { made = b.made; receiver = b.receiver; target = o; handed = b.handed })
 on_turn o b on = rw (on.0, on.1) refl
 
 -- a one-way call that ripens stands on its receiver's list

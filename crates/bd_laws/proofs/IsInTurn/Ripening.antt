@@ -1,6 +1,6 @@
 -- For SpacesAreTidy and the laws of one-way calls: these stay in turn as they ripen and as they are read.
 use Rattle.bd_laws.proofs.words.Logic.{◌≡◌, ℕ, suc, ◌-◌, ◌<◌, Bool, true, false, cond, not, List, [], ◌∷◌, ◌++◌, Option, Some, None, ◌⊎◌, inl, inr, refl, ap, sym, subst, ◌∙◌, map, arith, length, append_assoc, list_any, cons_option, option_and_then_some, eqb-true}
-use Rattle.bd_laws.proofs.words.Types.{ObjectId, Buffer, Turn, Thread, Work, OfProcess}
+use Rattle.bd_laws.proofs.words.Types.{Identity, Buffer, Turn, Thread, Work, OfProcess}
 use Rattle.bd_laws.proofs.words.Space.{changed, first_of, Space, with_work, hands_out, list_to_read, without_taken, is_item, turn_of, turns_of, is_ripe, ripened, ripen, is_made_at, buffer_in, bytes_read, taken, buffer_taken, hand_out, handed_buffers, read_by}
 use Rattle.bd_space.specs.declared.space.WorkKind.TheVariants as work
 use Rattle.bd_laws.proofs.words.Laws.{In, Pairs, Due, Out, Waits, InTurn}
@@ -118,7 +118,7 @@ turn_kept : (c : Bool) (b : Buffer) (t : Turn) → turn_of (cond c (hand_out b) 
 turn_kept false b t h = (t, h, refl)
 turn_kept true b t h = let p = turn_parts (hand_out b) t h in again b.one_way b.target refl refl p.3 p.4
   where
-    again : (w : Bool) (o : Option ObjectId) → b.one_way ≡ w → b.target ≡ o → w ≡ true → o ≡ Some t.target → (u : Turn) × (turn_of b ≡ Some u) × (u.target ≡ t.target)
+    again : (w : Bool) (o : Option Identity) → b.one_way ≡ w → b.target ≡ o → w ≡ true → o ≡ Some t.target → (u : Turn) × (turn_of b ≡ Some u) × (u.target ≡ t.target)
     again true (Some x) e f g h = (record { made = b.made; receiver = b.receiver; target = x; handed = b.handed }, rw (e, f) refl, cc)
     again true None e f g h = absurd (cc)
     again false o e f g h = absurd (cc)

@@ -1,7 +1,7 @@
 -- For SpacesAreTidy: a notification has one Death item at most, which stands only while the phase is Queued: what keeps it
 -- so, and that the commands on death notifications do.
 use Rattle.bd_laws.proofs.words.Logic.{arith, ◌≡◌, ℕ, suc, ◌==◌, true, ◌&&◌, Some, inl, inr, refl, sym, ap, ◌∙◌, eqb-true, ◌<◌, Bool, cond, List, ◌++◌, [], ◌∷◌}
-use Rattle.bd_laws.proofs.words.Types.{ObjectId, DeathNotification, Phase, Queued, Armed, Done, OfThread, OfProcess, Work, TodoList}
+use Rattle.bd_laws.proofs.words.Types.{Identity, DeathNotification, Phase, Queued, Armed, Done, OfThread, OfProcess, Work, TodoList}
 use Rattle.bd_laws.proofs.words.Space.{is_some_and, object_in, lives_in, Space, owe, is_notification, requested, with_death, without_death, with_phase, mark_cleared, death_ended, cleared, death_done, is_out, is_told, told_death, is_told_with, changed, with_work}
 use Rattle.bd_space.specs.declared.space.WorkKind.TheVariants as work
 use Rattle.bd_laws.proofs.words.Laws.{In, Queues}
@@ -59,11 +59,11 @@ unborn s h x l e = search arith
 pub now : (s : Space) → Before s → Q (suc s.steps) s
 now s h = record { fresh = λ x l. let lt = h.queues.fresh x l in omega arith; one = h.queues.one; queued = h.queues.queued; once = h.queues.once; sits = h.queues.sits }
 
-with_death_q : (s : Space) (p : ℕ) (o : ObjectId) (cookie : ℕ) (phase : Phase) → Before s → Q (suc s.steps) (with_death s p o cookie phase)
+with_death_q : (s : Space) (p : ℕ) (o : Identity) (cookie : ℕ) (phase : Phase) → Before s → Q (suc s.steps) (with_death s p o cookie phase)
 unfolding with_death
 with_death_q s p o cookie phase h = death_more (suc s.steps) s.todo s.deaths _ (omega arith) (unborn s h) h.silent (now s h)
 
-requested_q : (s : Space) (p : ℕ) (o : ObjectId) (cookie : ℕ) → Before s → Q (suc s.steps) (requested s p o cookie)
+requested_q : (s : Space) (p : ℕ) (o : Identity) (cookie : ℕ) → Before s → Q (suc s.steps) (requested s p o cookie)
 unfolding requested with_death owe
 requested_q s p o cookie h =
     either (Q (suc s.steps)) (is_some_and (object_in s.objects o) (λ x. lives_in s.processes x.owner)) _ _ (with_death_q s p o cookie Armed h)

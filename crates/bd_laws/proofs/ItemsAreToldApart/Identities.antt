@@ -1,7 +1,7 @@
 -- For ItemsAreToldApart, which SpacesAreTidy has as a part: no two work items of one list have one identity.
 use Rattle.bd_laws.proofs.words.Logic.{◌≡◌, ℕ, ◌+◌, ◌<◌, ◌≤◌, ◌==◌, Bool, true, false, cond, List, [], ◌∷◌, inl, inr, refl, ap, sym, ◌∙◌, filter, arith, count_by, eq-eqb, sum_by-append, sum_by-cons}
-use Rattle.bd_laws.proofs.words.Types.{Work, Identity, WorkKind, TodoList}
-use Rattle.bd_laws.proofs.words.Space.{same_identity, with_work, is_item, is_on}
+use Rattle.bd_laws.proofs.words.Types.{Work, Origin, WorkKind, TodoList}
+use Rattle.bd_laws.proofs.words.Space.{same_origin, with_work, is_item, is_on}
 use Rattle.bd_laws.proofs.words.Laws.{In, Distinct, Fresh}
 use Rattle.bd_laws.proofs.Lists.{in_push, in_filter}
 use Rattle.bd_laws.proofs.Tests.{both, both_eq}
@@ -28,7 +28,7 @@ count_work n todo list kind = sum_by-append (λ (w : Work). cond (w.id.place == 
 -- ---- what is kept before the step at n ends
 
 pub item_id : (v w : Work) → is_item v w ≡ true → v.id ≡ w.id
-item_id v w h = let k = both_eq v.id.place v.id.index w.id.place w.id.index (both (same_identity v.id w.id) (is_on w.list v) h).0 in (λ i. record { place = k.0 i; index = k.1 i })
+item_id v w h = let k = both_eq v.id.place v.id.index w.id.place w.id.index (both (same_origin v.id w.id) (is_on w.list v) h).0 in (λ i. record { place = k.0 i; index = k.1 i })
 
 -- this step's items are numbered one after the other, so each below their count
 abbrev pub Indexed : ℕ → List Work → Type 0
@@ -51,8 +51,8 @@ module _ (n : ℕ) (todo : List Work) (list : TodoList) (kind : WorkKind) where
   -- its identity is new
   is_new : Numbered n todo → (w : Work) → In w todo → w.id ≡ new_item.id → ⊥
   is_new h w l e =
-      let lt = h.index w l (ap (λ (x : Identity). x.place) e) in
-      let at : w.id.index ≡ count_at n todo = ap (λ (x : Identity). x.index) e in omega arith
+      let lt = h.index w l (ap (λ (x : Origin). x.place) e) in
+      let at : w.id.index ≡ count_at n todo = ap (λ (x : Origin). x.index) e in omega arith
 
   pub push_indexed : Indexed n todo → Indexed n (with_work n todo list kind)
   push_indexed h w l e =

@@ -1,7 +1,7 @@
 -- For ItemsAreToldApart, which SpacesAreTidy has as a part: work items that a step makes are numbered in their order, so
 -- their identities differ: part by part.
 use Rattle.bd_laws.proofs.words.Logic.{find, filter, ◌≡◌, ℕ, Bool, true, false, List, [], ◌∷◌, ◌++◌, Option, Some, inl, inr, refl, ap, sym, subst, ◌∙◌, arith, eq-eqb}
-use Rattle.bd_laws.proofs.words.Types.{Step, TransactionData, ObjectId, Object, Reference, Frame, Actor, Work, DeathNotification, WorkKind, TodoList, OfThread, OfProcess, Queued}
+use Rattle.bd_laws.proofs.words.Types.{Step, TransactionData, Identity, Object, Reference, Frame, Actor, Work, DeathNotification, WorkKind, TodoList, OfThread, OfProcess, Queued}
 use Rattle.bd_laws.proofs.words.Space.{lives_in, same, is_some_and, Space, object_in, stays_in, objects_go, names_go, assign_numbers, closed, goes_to, with_work, owe, ripen, wants_notice, still_due, deaths_go, work_goes, notify, follow, Delivery, delivered, own_notices, add_buffer, with_carried, refer, make_objects, buffer_references, transacted, called, call_out, replied, request_check, requested, with_death, without_death, with_phase, mark_cleared, death_ended, cleared, death_done, is_out, read_by, thread_goes, threads_go, without_process, tell_deaths, buffer_of, without_buffer, ask, drop_asked, acknowledge, with_looping}
 use Rattle.bd_space.specs.declared.space.WorkKind.TheVariants as work
 use Rattle.bd_laws.proofs.words.Laws.{In, Distinct, Fresh, Told, IsQuiet}
@@ -108,7 +108,7 @@ module _ (s : Space) (a : Actor) (d : TransactionData) (v : Delivery) (h : Told 
   IsDue kind = Due (delivered s a d v) kind
 
   -- a Notice of a sent object that wants one is due
-  notice_due : (j : ObjectId) (o : Object) → object_in objects j ≡ Some o → wants_notice s.processes references o ≡ true → IsDue (work.Notice o.id)
+  notice_due : (j : Identity) (o : Object) → object_in objects j ≡ Some o → wants_notice s.processes references o ≡ true → IsDue (work.Notice o.id)
   unfolding delivered own_notices add_buffer with_carried assign_numbers refer make_objects deaths_go objects_go names_go
   notice_due j o found wants =
       let id : o.id ≡ j = same_eq o.id j (find_in (λ (y : Object). same y.id j) o objects found).1 in

@@ -1,7 +1,7 @@
 -- For SpacesAreTidy and ObjectsAreKept: objects that references hold stay through the changes of a step, and new ones come
 -- last.
 use Rattle.bd_laws.proofs.words.Logic.{◌≡◌, ℕ, suc, ◌+◌, ◌<◌, Bool, false, ◌&&◌, List, [], ◌∷◌, ◌++◌, Option, Some, None, Ok, ◌⊎◌, inl, inr, refl, ap, sym, subst, ◌∙◌, arith}
-use Rattle.bd_laws.proofs.words.Types.{TransactionData, ObjectId, Parcel, Actor, Frame, Object, Reference, Asked, Manager, Item, OfThread}
+use Rattle.bd_laws.proofs.words.Types.{TransactionData, Identity, Parcel, Actor, Frame, Object, Reference, Asked, Manager, Item, OfThread}
 use Rattle.bd_laws.proofs.words.Space.{Space, reference_of, assign_numbers, Delivery, delivered, own_notices, add_buffer, with_carried, refer, make_objects, buffer_references, transaction_check, reply_check, ask_check, ask, drop_asked, acknowledge, without_buffer, thread_goes, threads_go, without_process, owe, closed, transacted, called, replied, is_spam}
 use Rattle.bd_space.specs.declared.space.WorkKind.TheVariants as work
 use Rattle.bd_laws.proofs.words.Laws.{In, Pairs, Here, Earlier, Kept, Named, KeptBefore}
@@ -36,7 +36,7 @@ whole_untouched z y u h = record { kept = kept_untouched z y u h.kept; named = n
 -- ---- references that go
 
 -- some references go, but none of the manager's
-pub fewer : (n : ℕ) (manager : Option ObjectId) (objects : List Object) (more references : List Reference)
+pub fewer : (n : ℕ) (manager : Option Identity) (objects : List Object) (more references : List Reference)
     → ((r : Reference) → In r references → In r more) → ((r : Reference) → In r more → r.holder ≡ Manager → In r references)
     → Kept n manager objects more → Kept n manager objects references
 fewer n manager objects more references less stay h = search arith
@@ -44,11 +44,11 @@ fewer n manager objects more references less stay h = search arith
 pub and_false : (a b c : Bool) → c ≡ false → (a && b && c) ≡ false
 and_false a b c h = search arith
 
-pub drop_asked_kept : (z : Space) (p : ℕ) (o : ObjectId) (strong : Bool) → IsKept z → IsKept (drop_asked z p o strong)
+pub drop_asked_kept : (z : Space) (p : ℕ) (o : Identity) (strong : Bool) → IsKept z → IsKept (drop_asked z p o strong)
 unfolding drop_asked
 drop_asked_kept z p o strong h = search (arith, in_without, without_in)
 
-pub acknowledge_kept : (z : Space) (o : ObjectId) (strong : Bool) → IsKept z → IsKept (acknowledge z o strong)
+pub acknowledge_kept : (z : Space) (o : Identity) (strong : Bool) → IsKept z → IsKept (acknowledge z o strong)
 unfolding acknowledge
 acknowledge_kept z o strong h = search (arith, in_without, without_in)
 
@@ -69,7 +69,7 @@ without_process_kept z p h = search (arith, in_filter, filter_in)
 
 -- ---- references and objects that come
 
-pub grown : (n : ℕ) (manager : Option ObjectId) (objects made : List Object) (references new : List Reference) → Kept n manager objects references
+pub grown : (n : ℕ) (manager : Option Identity) (objects made : List Object) (references new : List Reference) → Kept n manager objects references
     → ((x : Object) → In x made → x.id.place ≡ n) → Pairs Earlier made → ((r : Reference) → In r new → Here (objects ++ made) r.object)
     → Kept (suc n) manager (objects ++ made) (references ++ new)
 grown n manager objects made references new h place in_order here = record {
@@ -84,7 +84,7 @@ grown n manager objects made references new h place in_order here = record {
     joined (x ∷ xs) k d = ((λ y l. elim (in_append y xs made l) [ inl i ↦ k.0 y i | inr i ↦ d x y (inl refl) i ]), joined xs k.1 (λ a b l m. d a b (inr l) m))
 
 -- the references of a buffer: to the objects of its parcel and to its target
-pub buffer_reference : (b q : ℕ) (items : List Item) (target : Option ObjectId) (k : ℕ) (r : Reference) → In r (buffer_references b q k items target)
+pub buffer_reference : (b q : ℕ) (items : List Item) (target : Option Identity) (k : ℕ) (r : Reference) → In r (buffer_references b q k items target)
     → ((i : Item) × In i items × (i.object ≡ r.object)) ⊎ (target ≡ Some r.object)
 buffer_reference b q [] None k r l = absurd l
 buffer_reference b q [] (Some o) k r (inl e) = inr (ap (λ (x : Reference). Some x.object) e)
@@ -92,7 +92,7 @@ buffer_reference b q [] (Some o) k r (inr l) = absurd l
 buffer_reference b q (x ∷ xs) target k r (inl e) = inl (x, inl refl, ap (λ (x : Reference). x.object) e)
 buffer_reference b q (x ∷ xs) target k r (inr l) = search (arith, buffer_reference b q xs target (k + 1) r l)
 
-sent_here : (s : Space) (p : ℕ) (made : List Object) (o : ObjectId) → KeptBefore s → Sent s p made o → Here (s.objects ++ made) o
+sent_here : (s : Space) (p : ℕ) (made : List Object) (o : Identity) → KeptBefore s → Sent s p made o → Here (s.objects ++ made) o
 sent_here s p made o h (inl w) = (w.0, w.1, w.2)
 sent_here s p made o h (inr m) =
     let r = h.named m.0 m.1 in
@@ -100,7 +100,7 @@ sent_here s p made o h (inr m) =
     (x.0, in_left x.0 s.objects made x.1, x.2 ∙ r.2 ∙ m.3)
 
 pub delivered_kept : (s : Space) (a : Actor) (d : TransactionData) (v : Delivery) → KeptBefore s → Sends s a.process.made v.sending.made v.sending.items
-    → ((o : ObjectId) → v.target ≡ Some o → Here s.objects o) → IsKept (delivered s a d v)
+    → ((o : Identity) → v.target ≡ Some o → Here s.objects o) → IsKept (delivered s a d v)
 unfolding delivered own_notices add_buffer with_carried assign_numbers refer make_objects
 delivered_kept s a d v h sends target =
     grown s.steps s.manager s.objects v.sending.made s.references (buffer_references s.steps v.receiver.made 0 v.sending.items v.target) h.kept
@@ -141,12 +141,12 @@ replied_kept s a d parcel f v h check =
     (delivered_kept x a d v (closed_before s f.made h) (closed_sends s f.made a.process.made v.sending.made v.sending.items (sending_sends s a.process.made d parcel v.sending t.sends))
     (λ o e. let none = t.target in absurd (cc))))
 
-asked_here : (s : Space) (p : ℕ) (o : ObjectId) (n : ℕ) → KeptBefore s → ((n ≡ 0) × (s.manager ≡ Some o)) ⊎ HasName s.names p o → Here s.objects o
+asked_here : (s : Space) (p : ℕ) (o : Identity) (n : ℕ) → KeptBefore s → ((n ≡ 0) × (s.manager ≡ Some o)) ⊎ HasName s.names p o → Here s.objects o
 asked_here s p o n h (inl m) = let r = h.kept.manages o m.1 in let x = h.kept.refs r.0 r.1 in (x.0, x.1, x.2 ∙ r.2)
 asked_here s p o n h (inr m) = let r = h.named m.0 m.1 in let x = h.kept.refs r.0 r.1 in (x.0, x.1, x.2 ∙ r.2 ∙ m.3)
 
 -- references to objects that are there
-pub referred : (n : ℕ) (manager : Option ObjectId) (objects : List Object) (references new : List Reference) → Kept n manager objects references
+pub referred : (n : ℕ) (manager : Option Identity) (objects : List Object) (references new : List Reference) → Kept n manager objects references
     → ((r : Reference) → In r new → Here objects r.object) → Kept n manager objects (references ++ new)
 referred n manager objects references new h here = record {
   refs = λ r l. elim (in_append r references new l) [ inl k ↦ h.refs r k | inr k ↦ here r k ];
@@ -155,7 +155,7 @@ referred n manager objects references new h here = record {
   in_order = h.in_order;
 }
 
-pub ask_kept : (s : Space) (p n : ℕ) (strong : Bool) (o : ObjectId) → KeptBefore s → ask_check s p n strong ≡ Ok o → IsKept (ask s p o strong)
+pub ask_kept : (s : Space) (p n : ℕ) (strong : Bool) (o : Identity) → KeptBefore s → ask_check s p n strong ≡ Ok o → IsKept (ask s p o strong)
 unfolding ask assign_numbers
 ask_kept s p n strong o h check =
     referred (suc s.steps) s.manager s.objects s.references (reference_of s.steps 0 o strong (Asked p) ∷ []) (later s h).kept

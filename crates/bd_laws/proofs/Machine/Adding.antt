@@ -1,6 +1,6 @@
 -- For every law: what stays true while a part of a step adds work items one by one: the test is said of the list, and kept
 -- by each item.
-use Rattle.bd_laws.proofs.words.Types.{ObjectId, Item, Process, Object, Reference, Turn, Work, WorkKind, TodoList, OfThread, OfProcess, is_own}
+use Rattle.bd_laws.proofs.words.Types.{Identity, Item, Process, Object, Reference, Turn, Work, WorkKind, TodoList, OfThread, OfProcess, is_own}
 use Rattle.bd_laws.proofs.words.Space.{Space, with_work, owe, is_notice, turns_of, is_ripe, ripened, ripen, wants_notice, has_notice_in, with_notice, notify, object_in, own_notices, add_notice, withdraw_notice}
 use Rattle.std.proofs.Common.{arith, ◌≡◌, ℕ, Bool, true, false, cond, not, List, [], ◌∷◌, ◌++◌, Option, Some, None, filter}
 use Rattle.bd_space.specs.declared.space.WorkKind.TheVariants as work
@@ -40,7 +40,7 @@ module _ (P : List Work → Type 0) where
   unfolding ripen
   ripen_keeps z k h = ripened_keeps z.steps k (turns_of z.buffers) [] z.todo h
 
-  pub own_notices_keeps : (z : Space) (seat : ℕ) (items : List Item) → ((todo : List Work) (o : ObjectId) → P todo → P (filter (λ (w : Work). not (is_notice o w.kind)) todo))
+  pub own_notices_keeps : (z : Space) (seat : ℕ) (items : List Item) → ((todo : List Work) (o : Identity) → P todo → P (filter (λ (w : Work). not (is_notice o w.kind)) todo))
       → ((todo : List Work) (x : Object) → Missing z.processes z.references todo x → P todo → P (with_work z.steps todo (OfThread seat) (work.Notice x.id))) → P z.todo → P (own_notices z seat items).todo
   unfolding own_notices
   own_notices_keeps z seat items takes makes h =

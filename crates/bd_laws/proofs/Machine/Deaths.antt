@@ -1,5 +1,5 @@
 -- For every law: parts of a step that change death notifications, and add work items of them alone.
-use Rattle.bd_laws.proofs.words.Types.{ObjectId, DeathNotification, OfThread, OfProcess}
+use Rattle.bd_laws.proofs.words.Types.{Identity, DeathNotification, OfThread, OfProcess}
 use Rattle.bd_laws.proofs.words.Space.{is_some_and, object_in, lives_in, Space, owe, request_check, with_phase, with_death, without_death, requested, told_death, mark_cleared, death_ended, cleared, death_done, is_out, tell_death, tell_deaths}
 use Rattle.std.proofs.Common.{arith, ◌≡◌, ℕ, Bool, cond, List, Some, Ok}
 use Rattle.bd_space.specs.declared.space.WorkKind.TheVariants as work
@@ -15,7 +15,7 @@ pub either : (R : Space → Type 0) (b : Bool) (z y : Space) → R z → R y →
 either R b z y h k = search arith
 
 module _ (z : Space) (R : Space → Type 0) (k : OnDeaths z R) where
-  pub on_requested : (p : ℕ) (o : ObjectId) (cookie : ℕ) → R (requested z p o cookie)
+  pub on_requested : (p : ℕ) (o : Identity) (cookie : ℕ) → R (requested z p o cookie)
   unfolding requested with_death
   on_requested p o cookie = either R (is_some_and (object_in z.objects o) (λ x. lives_in z.processes x.owner)) _ _ (k.others _) (k.dies _ p z.steps)
 
@@ -33,7 +33,7 @@ module _ (z : Space) (R : Space → Type 0) (k : OnDeaths z R) where
 
 -- what the commands on death notifications leave
 pub record DeathCommands (s : Space) (R : Space → Type 0) : Type 0 where
-  pub requests : (p n cookie : ℕ) (o : ObjectId) → request_check s p n ≡ Ok o → R (requested s p o cookie)
+  pub requests : (p n cookie : ℕ) (o : Identity) → request_check s p n ≡ Ok o → R (requested s p o cookie)
   pub clears : (t : ℕ) (x : DeathNotification) → R (cleared s t x)
   pub dones : (t p cookie : ℕ) (x : DeathNotification) → told_death s p cookie ≡ Some x → R (death_done s t x)
 

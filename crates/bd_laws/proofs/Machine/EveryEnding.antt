@@ -1,6 +1,6 @@
 -- For every law: what holds after every step, from what its parts leave: the walk over them.
 use Rattle.bd_laws.proofs.words.Logic.{arith, ◌≡◌, ℕ, ◌-◌, Bool, true, false, cond, List, Option, Some, None, Result, Ok, refl}
-use Rattle.bd_laws.proofs.words.Types.{TransactionData, Note, Cause, NoCall, ObjectId, Parcel, Step, Open, Attach, SetManager, Command, Read, ExitThread, ExitProcess, Process, Thread, Object, Reference, Frame, Buffer, DeathNotification, Actor, OfThread, Accepted, Noted, NotHandedOut, NoneTold, SetSpam}
+use Rattle.bd_laws.proofs.words.Types.{TransactionData, Note, Cause, NoCall, Identity, Parcel, Step, Open, Attach, SetManager, Command, Read, ExitThread, ExitProcess, Process, Thread, Object, Reference, Frame, Buffer, DeathNotification, Actor, OfThread, Accepted, Noted, NotHandedOut, NoneTold, SetSpam}
 use Rattle.bd_laws.proofs.words.Space.{death_done, ok_or, Space, actor, thread_in, served_innermost, owe, list_to_read, settle, Delivery, transaction_step, transaction_outcome, transaction_check, transacted, refusal, reply_step, reply_to, reply_outcome, reply_check, replied, reply_refused, free_step, free_outcome, buffer_at_pointer, without_buffer, ask_check, ask, drop_asked, acknowledge, request_check, requested, told_death, cleared, command_step, with_looping, follow, read_step, read_taking, read_fault, read_by, taken, thread_goes, exit_thread_step, threads_go, without_process, tell_deaths, exit_process_step, Outcome, completed, by_check, ripen, change, open_step, attach_step, manager_step, is_manager_busy, by_actor, with_thread, with_process, with_manager, spam_step, with_spam_detection}
 use Rattle.bd_uapi.specs.declared.command.Command.TheVariants as bc
 use Rattle.bd_space.specs.declared.space.WorkKind.TheVariants as work
@@ -27,7 +27,7 @@ pub record SetUp (s : Space) (seat : ℕ) (F : Space → Type 0) : Type 0 where
 
 -- What speaks of neither frames nor work items holds after each step of that kind.
 pub set_up_beside : (s : Space) (seat : ℕ) (F : Space → Type 0)
-    → ((qs : List Process) (ts : List Thread) (os : List Object) (rs : List Reference) (m : Option ObjectId) → F (record s { processes = qs; threads = ts; objects = os; references = rs; manager = m }))
+    → ((qs : List Process) (ts : List Thread) (os : List Object) (rs : List Reference) (m : Option Identity) → F (record s { processes = qs; threads = ts; objects = os; references = rs; manager = m }))
     → SetUp s seat F
 unfolding with_thread with_process with_manager with_spam_detection
 set_up_beside s seat F h =
@@ -41,9 +41,9 @@ pub record Changes (s : Space) (seat : ℕ) (x : Step) (M : Space → Type 0) : 
   pub replies : (a : Actor) (d : TransactionData) (parcel : Option Parcel) (f : Frame) (v : Delivery) → x ≡ Command (bc.Reply d) parcel → actor s seat ≡ Some a
       → served_innermost s a.thread.seat ≡ Some f → reply_check s a d parcel f ≡ Ok v → M (replied s a d f v)
   pub frees : (p ptr : ℕ) (b : Buffer) → buffer_at_pointer s p ptr ≡ Some b → b.handed ≡ true → M (without_buffer s b.made)
-  pub asks : (a : Actor) (n : ℕ) (strong : Bool) (o : ObjectId) → actor s seat ≡ Some a → IsAsking x n strong → ask_check s a.process.made n strong ≡ Ok o → M (ask s a.process.made o strong)
-  pub drops : (p : ℕ) (o : ObjectId) (strong : Bool) → M (drop_asked s p o strong)
-  pub acknowledges : (o : ObjectId) (strong : Bool) → IsAcknowledging x strong → M (acknowledge s o strong)
+  pub asks : (a : Actor) (n : ℕ) (strong : Bool) (o : Identity) → actor s seat ≡ Some a → IsAsking x n strong → ask_check s a.process.made n strong ≡ Ok o → M (ask s a.process.made o strong)
+  pub drops : (p : ℕ) (o : Identity) (strong : Bool) → M (drop_asked s p o strong)
+  pub acknowledges : (o : Identity) (strong : Bool) → IsAcknowledging x strong → M (acknowledge s o strong)
   pub loops : (a : Actor) (looping : Bool) → actor s seat ≡ Some a → M (with_looping s a.thread.seat looping)
   pub on_deaths : DeathCommands s M
   pub reads : (a : Actor) (limit : ℕ) → actor s seat ≡ Some a → x ≡ Read limit → read_fault limit (list_to_read s a.thread) ≡ None
@@ -89,17 +89,17 @@ module _ (s : Space) (seat : ℕ) (x : Step) (M F : Space → Type 0) (k : Endin
   frees_at : (p ptr : ℕ) (o : Option Buffer) → buffer_at_pointer s p ptr ≡ o → F (free_outcome s o).space
   frees_at p ptr o e = search (arith, frees_if)
 
-  asks_for : (a : Actor) (n : ℕ) (strong : Bool) (r : Result ObjectId Note) → actor s seat ≡ Some a → IsAsking x n strong → ask_check s a.process.made n strong ≡ r
+  asks_for : (a : Actor) (n : ℕ) (strong : Bool) (r : Result Identity Note) → actor s seat ≡ Some a → IsAsking x n strong → ask_check s a.process.made n strong ≡ r
       → F (by_check s (λ o. ask s a.process.made o strong) r).space
   asks_for a n strong r e i t = search arith
 
-  drops_of : (p : ℕ) (strong : Bool) (r : Result ObjectId Note) → F (by_check s (λ o. drop_asked s p o strong) r).space
+  drops_of : (p : ℕ) (strong : Bool) (r : Result Identity Note) → F (by_check s (λ o. drop_asked s p o strong) r).space
   drops_of p strong r = search arith
 
   acknowledges_of : (strong : Bool) (r : Result Object Note) → IsAcknowledging x strong → F (by_check s (λ x. acknowledge s x.id strong) r).space
   acknowledges_of strong r i = search arith
 
-  requests_of : (p n cookie : ℕ) (r : Result ObjectId Note) → request_check s p n ≡ r → F (by_check s (λ o. requested s p o cookie) r).space
+  requests_of : (p n cookie : ℕ) (r : Result Identity Note) → request_check s p n ≡ r → F (by_check s (λ o. requested s p o cookie) r).space
   requests_of p n cookie r e = search arith
 
   clears_of : (t : ℕ) (r : Result DeathNotification Note) → F (by_check s (cleared s t) r).space

@@ -2,7 +2,7 @@
 -- the changes that parts are made of; then it is told of every part but of those that carry calls: transactions, replies,
 -- readings, turns.
 use Rattle.bd_laws.proofs.words.Logic.{arith, ◌≡◌, ℕ, ◌-◌, Bool, not, List, [], ◌∷◌, ◌++◌, Option, Some, None, Ok, filter}
-use Rattle.bd_laws.proofs.words.Types.{ObjectId, Process, Object, Reference, Name, DeathNotification, Frame, Actor, Parcel, Item, Buffer, Work, Step, Command, Read, Return, DeadReply, TransactionData, TodoList, OfThread, OfProcess, WorkKind}
+use Rattle.bd_laws.proofs.words.Types.{Identity, Process, Object, Reference, Name, DeathNotification, Frame, Actor, Parcel, Item, Buffer, Work, Step, Command, Read, Return, DeadReply, TransactionData, TodoList, OfThread, OfProcess, WorkKind}
 use Rattle.bd_laws.proofs.words.Space.{Space, call_out, is_notice, settle, completed, delivered, own_notices, add_buffer, with_carried, refer, make_objects, buffer_of, owe, closed, follow, notify, work_goes, deaths_go, objects_go, names_go, assign_numbers, ripen, ask, drop_asked, acknowledge, with_looping, without_buffer, with_thread, with_process, with_manager, thread_goes, threads_go, without_process, tell_deaths, Delivery, transacted, transaction_check, replied, reply_check, served_innermost, read_by, taken, list_to_read, read_fault, actor, with_spam_detection}
 use Rattle.bd_space.specs.declared.space.WorkKind.TheVariants as work
 use Rattle.bd_uapi.specs.declared.command.Command.TheVariants as bc
@@ -18,14 +18,14 @@ pub record Table (R : Space → Space → Type 0) (T : WorkKind → Type 0) : Ty
   pub same : (z : Space) → R z z
   pub trans : (z y x : Space) → R z y → R y x → R z x
   -- R speaks of none of these fields.
-  pub beside : (z : Space) (qs : List Process) (m : Option ObjectId) (os : List Object) (rs : List Reference) (ns : List Name) (ds : List DeathNotification)
+  pub beside : (z : Space) (qs : List Process) (m : Option Identity) (os : List Object) (rs : List Reference) (ns : List Name) (ds : List DeathNotification)
       → R (record z { processes = qs; manager = m; objects = os; references = rs; names = ns; deaths = ds }) z
   pub seats : (z : Space) (seat p : ℕ) → R (with_thread z seat p) z
   pub loops : (z : Space) (t : ℕ) (looping : Bool) → R (with_looping z t looping) z
   pub frees : (z : Space) (made : ℕ) → R (without_buffer z made) z
   pub owes : (z : Space) (list : TodoList) (kind : WorkKind) → T kind → R (owe z list kind) z
   pub sheds : (z : Space) → R (work_goes z) z
-  pub notice : (o : ObjectId) → T (work.Notice o)
+  pub notice : (o : Identity) → T (work.Notice o)
   pub death : (made : ℕ) → T (work.Death made)
   pub clear : (cookie : ℕ) → T (work.Cleared cookie)
 
@@ -97,7 +97,7 @@ module _ (R : Space → Space → Type 0) (T : WorkKind → Type 0) (t : Table R
 
   -- ---- what is sent
 
-  module _ (withdraws : (z : Space) (o : ObjectId) → R (record z { todo = filter (λ (w : Work). not (is_notice o w.kind)) z.todo }) z) (arrives : (z : Space) (b : Buffer) → R (add_buffer z b) z)
+  module _ (withdraws : (z : Space) (o : Identity) → R (record z { todo = filter (λ (w : Work). not (is_notice o w.kind)) z.todo }) z) (arrives : (z : Space) (b : Buffer) → R (add_buffer z b) z)
       (complete : (spam : Bool) → T (work.Complete spam)) where
     pub own_notices_by : (z : Space) (seat : ℕ) (items : List Item) → R (own_notices z seat items) z
     unfolding own_notices owe
@@ -165,7 +165,7 @@ pub record Listing (L : List Work → List Work → Type 0) (T : WorkKind → Ty
   pub trans : (xs ys zs : List Work) → L xs ys → L ys zs → L xs zs
   pub push : (todo : List Work) (w : Work) → T w.kind → L (todo ++ w ∷ []) todo
   pub fewer : (p : Work → Bool) (todo : List Work) → L (filter p todo) todo
-  pub notice : (o : ObjectId) → T (work.Notice o)
+  pub notice : (o : Identity) → T (work.Notice o)
   pub death : (made : ℕ) → T (work.Death made)
   pub clear : (cookie : ℕ) → T (work.Cleared cookie)
 

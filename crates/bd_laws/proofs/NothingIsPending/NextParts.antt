@@ -1,7 +1,7 @@
 -- For NothingIsPending: what comes after a quiet space by opening, marking, managing or a refusal is quiet; and no turn
 -- ripens by a reading.
 use Rattle.bd_laws.proofs.words.Logic.{◌≡◌, ℕ, ◌-◌, ◌==◌, Bool, true, false, cond, ◌&&◌, ◌||◌, List, [], ◌∷◌, ◌++◌, Option, Some, None, inl, inr, refl, ap, sym, subst, ◌∙◌, map, length, arith, list_any, cons_option, option_map, list_any-append}
-use Rattle.bd_laws.proofs.words.Types.{Cause, ObjectId, Process, Object, Reference, Manager, Frame, Buffer, Turn, Work, OfThread}
+use Rattle.bd_laws.proofs.words.Types.{Cause, Identity, Process, Object, Reference, Manager, Frame, Buffer, Turn, Work, OfThread}
 use Rattle.bd_laws.proofs.words.Space.{same, changed, first_of, Space, lives_in, reference_of, held_in, owe, hands_out, turn_of, turns_of, wants_notice, settle, reply_refused, refusal, taken, hand_out, serve, bytes_read, with_thread, with_process, with_manager, with_spam_detection}
 use Rattle.bd_space.specs.declared.space.WorkKind.TheVariants as work
 use Rattle.bd_laws.proofs.words.Laws.{In, Differ, KeptBefore, Before, IsSettled, NoneRipe, IsQuiet, On}
@@ -66,7 +66,7 @@ marked_quiet s p on = processes_quiet s _ (λ x l. marked_lives p on s.processes
 -- ---- a new context manager
 
 module _ (s : Space) (p : ℕ) (kept : KeptBefore s) (h : IsQuiet s) where
-  abbrev pub manager_id : ObjectId
+  abbrev pub manager_id : Identity
   manager_id = record { place = s.steps; index = 0 }
 
   abbrev pub manager_object : Object
@@ -79,7 +79,7 @@ module _ (s : Space) (p : ℕ) (kept : KeptBefore s) (h : IsQuiet s) where
   is_older : (x : Object) → In x s.objects → same manager_id x.id ≡ false
   is_older x l = to_false (same manager_id x.id) (λ e.
       let lt = kept.kept.below x l in
-      let place : s.steps ≡ x.id.place = ap (λ (j : ObjectId). j.place) (same_eq manager_id x.id e) in absurd (omega arith))
+      let place : s.steps ≡ x.id.place = ap (λ (j : Identity). j.place) (same_eq manager_id x.id e) in absurd (omega arith))
 
   pub managed_quiet : IsQuiet (with_manager s p)
   unfolding with_manager
@@ -111,7 +111,7 @@ served_settled p seat fs h = search (arith, find_none, in_changed, none_found, a
 module _ (todo more : List Work) where
   -- The two lists of one-way calls are on the same objects.
   abbrev pub SameTargets : List Turn → List Turn → Type 0
-  SameTargets older less = (i : ObjectId) → list_any (λ (u : Turn). same u.target i) less ≡ list_any (λ (u : Turn). same u.target i) older
+  SameTargets older less = (i : Identity) → list_any (λ (u : Turn). same u.target i) less ≡ list_any (λ (u : Turn). same u.target i) older
 
   abbrev pub handed_turn : Turn → Turn
   handed_turn t = record t { handed = true }

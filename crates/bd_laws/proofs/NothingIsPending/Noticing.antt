@@ -1,7 +1,7 @@
 -- For SpacesAreTidy: at most one Notice of an object is due. NothingIsPending uses `follow-wanted`, and as nothing is pending, a
 -- Notice is due only while its object's owner lives.
 use Rattle.bd_laws.proofs.words.Logic.{arith, ◌≡◌, ℕ, true, List, Option, Some, None, inl, inr, refl, ap, sym, subst}
-use Rattle.bd_laws.proofs.words.Types.{ObjectId, Step, Entry, Process, Object, Reference, DeathNotification, Work, WorkKind, TodoList}
+use Rattle.bd_laws.proofs.words.Types.{Identity, Step, Entry, Process, Object, Reference, DeathNotification, Work, WorkKind, TodoList}
 use Rattle.bd_laws.proofs.words.Space.{same, is_some_and, Space, lives_in, object_in, objects_go, names_go, with_work, owe, is_notice, notice_of, wants_notice, still_due, work_goes, deaths_go, notify, follow, read_by, counted, next}
 use Rattle.bd_space.specs.declared.space.WorkKind.TheVariants as work
 use Rattle.bd_laws.proofs.words.Laws.{In, Apart, Once, IsQuiet}
@@ -17,7 +17,7 @@ OnceIn z = Once z.todo
 
 -- ---- work items that come and go
 
-pub notice_is : (kind : WorkKind) (o : ObjectId) → notice_of kind ≡ Some o → is_notice o kind ≡ true
+pub notice_is : (kind : WorkKind) (o : Identity) → notice_of kind ≡ Some o → is_notice o kind ≡ true
 notice_is kind o e = subst (λ k. is_notice o k ≡ true) (sym (notice_named kind o e)) (eq_same o o refl)
 
 once_other : (place : ℕ) (todo : List Work) (list : TodoList) (kind : WorkKind) → notice_of kind ≡ None → Once todo → Once (with_work place todo list kind)
@@ -45,9 +45,9 @@ next_once s e h = every_step s e.seat e.step OnceIn OnceIn (keeps_once s e.seat 
 -- each Notice's object is here, and is to be told
 abbrev pub Wanted : List Process → List Reference → List Object → List Work → Type 0
 Wanted processes references objects todo =
-    (w : Work) (o : ObjectId) → In w todo → notice_of w.kind ≡ Some o → (x : Object) × In x objects × (x.id ≡ o) × (wants_notice processes references x ≡ true)
+    (w : Work) (o : Identity) → In w todo → notice_of w.kind ≡ Some o → (x : Object) × In x objects × (x.id ≡ o) × (wants_notice processes references x ≡ true)
 
-wanted_object : (processes : List Process) (objects : List Object) (references : List Reference) (o : ObjectId)
+wanted_object : (processes : List Process) (objects : List Object) (references : List Reference) (o : Identity)
     → is_some_and (object_in objects o) (wants_notice processes references) ≡ true → (x : Object) × In x objects × (x.id ≡ o) × (wants_notice processes references x ≡ true)
 wanted_object processes objects references o h = at (object_in objects o) refl h
   where
@@ -55,7 +55,7 @@ wanted_object processes objects references o h = at (object_in objects o) refl h
     at None g k = absurd (cc)
     at (Some x) g k = let l = find_in (λ (y : Object). same y.id o) x objects g in (x, l.0, same_eq x.id o l.1, k)
 
-due_wanted : (processes : List Process) (objects : List Object) (references : List Reference) (deaths : List DeathNotification) (kind : WorkKind) (o : ObjectId)
+due_wanted : (processes : List Process) (objects : List Object) (references : List Reference) (deaths : List DeathNotification) (kind : WorkKind) (o : Identity)
     → notice_of kind ≡ Some o → still_due processes objects references deaths kind ≡ true → (x : Object) × In x objects × (x.id ≡ o) × (wants_notice processes references x ≡ true)
 due_wanted processes objects references deaths kind o e h =
     wanted_object processes objects references o (subst (λ k. still_due processes objects references deaths k ≡ true) (notice_named kind o e) h)
@@ -76,7 +76,7 @@ follow_wanted z =
 
 -- each Notice's object is there, and its owner lives
 abbrev pub Live : Space → Type 0
-Live z = (w : Work) (o : ObjectId) → In w z.todo → notice_of w.kind ≡ Some o → (x : Object) × In x z.objects × (x.id ≡ o) × (lives_in z.processes x.owner ≡ true)
+Live z = (w : Work) (o : Identity) → In w z.todo → notice_of w.kind ≡ Some o → (x : Object) × In x z.objects × (x.id ≡ o) × (lives_in z.processes x.owner ≡ true)
 
 pub quiet_live : (z : Space) → IsQuiet z → Live z
 quiet_live z h w o l e =

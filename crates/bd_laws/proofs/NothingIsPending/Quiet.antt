@@ -1,6 +1,6 @@
 -- For NothingIsPending: after a change and what follows from it nothing is pending.
 use Rattle.bd_laws.proofs.words.Logic.{arith, ◌≡◌, ℕ, ◌==◌, true, false, ◌||◌, List, [], ◌∷◌, ◌++◌, Option, Some, None, inl, inr, refl, ap, sym, subst, ◌∙◌, list_any, fold}
-use Rattle.bd_laws.proofs.words.Types.{ObjectId, Object, DeathNotification, Work, Thread, Turn, Buffer, Frame, DeadReply, WorkKind, TodoList, OfProcess, OfThread}
+use Rattle.bd_laws.proofs.words.Types.{Identity, Object, DeathNotification, Work, Thread, Turn, Buffer, Frame, DeadReply, WorkKind, TodoList, OfProcess, OfThread}
 use Rattle.bd_laws.proofs.words.Space.{closed, same, is_some_and, Space, opening, object_in, stays_in, objects_go, names_go, with_work, owe, is_notice, notice_of, is_call, turns_of, is_ripe, ripen, settle, NameTest, ObjectTest, completed, wants_notice, has_notice_in, with_notice, is_name_of, deaths_go, work_goes, notify, follow}
 use Rattle.bd_space.specs.declared.space.WorkKind.TheVariants as work
 use Rattle.bd_laws.proofs.words.Laws.{In, Pairs, Differ, Elsewhere, NoneRipe, IsFollowed, IsQuiet}
@@ -34,7 +34,7 @@ module _ (z : Space) where
   unfolding follow notify work_goes deaths_go objects_go names_go
   follow_differ h = search (arith, pairs_filter)
 
-  follow_notices : Pairs Differ z.objects → (w : Work) (o : ObjectId) → In w (follow z).todo → w.kind ≡ work.Notice o
+  follow_notices : Pairs Differ z.objects → (w : Work) (o : Identity) → In w (follow z).todo → w.kind ≡ work.Notice o
       → is_some_and (object_in (follow z).objects o) (wants_notice (follow z).processes (follow z).references) ≡ true
   follow_notices h w o l e =
       let x = follow_wanted z w o l (ap notice_of e) in
@@ -95,7 +95,7 @@ elsewhere_aside a b z n ts fs bs h = record { names = h.names; objects = h.objec
 
 -- An item of this kind is neither a Notice nor of a death.
 abbrev pub IsPlainKind : WorkKind → Type 0
-IsPlainKind kind = ((o : ObjectId) → kind ≡ work.Notice o → ⊥) × ((n : ℕ) → kind ≡ work.Death n → ⊥)
+IsPlainKind kind = ((o : Identity) → kind ≡ work.Notice o → ⊥) × ((n : ℕ) → kind ≡ work.Death n → ⊥)
 
 pub owe_calm : (z : Space) (list : TodoList) (kind : WorkKind) → IsPlainKind kind → IsCalm z → IsCalm (owe z list kind)
 unfolding owe

@@ -1,7 +1,7 @@
 -- WhomAStepReaches: of another seat a step leaves the thread, and whether it is in a call, unless it tells it so on its own list.
 use Rattle.bd_laws.proofs.words.Logic.{arith, ◌≡◌, ℕ, ◌==◌, ◌-◌, ◌+◌, suc, Bool, true, false, cond, not, ◌&&◌, ◌||◌, List, [], ◌∷◌, ◌++◌, Option, Some, None, Ok, ◌⊎◌, inl, inr, refl, ap, sym, subst, ◌∙◌, filter, map, find, list_any, eqb-true, eq-eqb, count_by, option_or}
 use Rattle.std.proofs.lemmas.List.Folds.{find-append}
-use Rattle.bd_laws.proofs.words.Types.{ObjectId, Process, Thread, Object, Reference, Name, DeathNotification, Frame, Actor, Parcel, Buffer, Work, Step, Command, Read, Return, DeadReply, FailedReply, TransactionComplete, TransactionData, TodoList, OfThread, OfProcess, WorkKind, Server, Pending, Serving, Gone, Cause, Turn}
+use Rattle.bd_laws.proofs.words.Types.{Identity, Process, Thread, Object, Reference, Name, DeathNotification, Frame, Actor, Parcel, Buffer, Work, Step, Command, Read, Return, DeadReply, FailedReply, TransactionComplete, TransactionData, TodoList, OfThread, OfProcess, WorkKind, Server, Pending, Serving, Gone, Cause, Turn}
 use Rattle.bd_laws.proofs.words.Space.{Space, changed, takes_part, calls, serves, is_gone, is_frame, thread_in, actor, closed, owe, tell_caller, is_some_and, with_work, keeps_from_calling, is_on, is_call, still_due, follow, work_goes, notify, names_go, objects_go, deaths_go, ripen, settle, tell_deaths, thread_goes, threads_go, without_process, frame_without, unread_frame, seat_of, call_out, called, delivered, transacted, replied, reply_refused, served_innermost, is_abandoned, Delivery, read_by, taken, list_to_read, serve, is_spam, refusal, with_thread, with_process, with_looping, with_manager, with_spam_detection, without_buffer, ask, drop_asked, acknowledge, assign_numbers, cleared, requested, death_done, change}
 use Rattle.bd_space.specs.declared.space.WorkKind.TheVariants as work
 use Rattle.bd_laws.proofs.words.Laws.{In, Framed, OnPaths, OtherFrame, Pairs}
@@ -93,7 +93,7 @@ module _ (s : Space) (seat t : ℕ) (other : t ≡ seat → ⊥) where
   beside_trans : (z y x : Space) → Beside z y → Beside y x → Beside z x
   beside_trans z y x h k = record { steps = h.steps ∙ k.steps; frames = h.frames ∙ k.frames; threads = h.threads ∙ k.threads; items = λ w l e c. h.items w (k.items w l e c) e c }
 
-  beside_fields : (z : Space) (qs : List Process) (m : Option ObjectId) (os : List Object) (rs : List Reference) (ns : List Name) (bs : List Buffer) (ds : List DeathNotification)
+  beside_fields : (z : Space) (qs : List Process) (m : Option Identity) (os : List Object) (rs : List Reference) (ns : List Name) (bs : List Buffer) (ds : List DeathNotification)
       → Beside (record z { processes = qs; manager = m; objects = os; references = rs; names = ns; buffers = bs; deaths = ds }) z
   beside_fields z qs m os rs ns bs ds = record { steps = refl; frames = refl; threads = refl; items = λ w l e k. l }
 

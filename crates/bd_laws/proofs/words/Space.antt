@@ -50,4 +50,4 @@ unfoldable pub use Rattle.bd_space.specs.Turns.{ripen}
 pub use Rattle.bd_space.specs.Turns.{is_ripe, ripened, turn_of, turns_of}
 unfoldable pub use Rattle.bd_space.specs.Windows.{start_for}
 pub use Rattle.bd_space.specs.Windows.{buffers_of, needed}
-pub use Rattle.bd_space.specs.Words.{and_then, changed, first_of, ok_or, is_some_and, same, same_identity, unless, when, without_first}
+pub use Rattle.bd_space.specs.Words.{and_then, changed, first_of, ok_or, is_some_and, same, same_origin, unless, when, without_first}

@@ -6,7 +6,7 @@ pub use Rattle.bd_space.specs.declared.space.DeathNotification.{DeathNotificatio
 pub use Rattle.bd_space.specs.declared.space.Frame.{Frame}
 pub use Rattle.bd_space.specs.declared.space.Holder.{Holder}
 pub use Rattle.bd_space.specs.declared.space.Holder.TheVariants.{Asked, Carried, Handshake, Manager, Target}
-pub use Rattle.bd_space.specs.declared.space.Identity.{Identity}
+pub use Rattle.bd_space.specs.declared.space.Origin.{Origin}
 pub use Rattle.bd_space.specs.declared.space.Item.{Item}
 pub use Rattle.bd_space.specs.declared.space.Name.{Name}
 pub use Rattle.bd_space.specs.declared.space.Object.{Object}
@@ -25,7 +25,7 @@ pub use Rattle.bd_space.specs.declared.space.Work.{Work}
 pub use Rattle.bd_space.specs.declared.space.WorkKind.{WorkKind}
 pub use Rattle.bd_space.specs.declared.space.WorkKind.TheVariants.{Call, Refusal, Verdict}
 pub use Rattle.bd_space.specs.declared.step.Entry.{Entry}
-pub use Rattle.bd_space.specs.declared.step.ObjectId.{ObjectId}
+pub use Rattle.bd_space.specs.declared.step.Identity.{Identity}
 pub use Rattle.bd_space.specs.declared.step.Parcel.{Parcel}
 pub use Rattle.bd_space.specs.declared.step.Step.{Step}
 pub use Rattle.bd_space.specs.declared.step.Step.TheVariants.{Attach, Command, ExitProcess, ExitThread, Open, Read, SetManager, SetSpam}

@@ -1,5 +1,5 @@
 use Rattle.std.proofs.Common.{◌≡◌, ℕ, ◌+◌, Bool, true, false, List, [], ◌∷◌, ◌++◌, refl, sym, subst, append_assoc}
-use Rattle.bd_space.specs.declared.step.ObjectId.{ObjectId}
+use Rattle.bd_space.specs.declared.step.Identity.{Identity}
 use Rattle.bd_space.specs.declared.space.Reference.{Reference}
 use Rattle.bd_space.specs.declared.space.Holder.TheVariants.{Handshake}
 use Rattle.bd_space.specs.References.{reference_of}
@@ -9,11 +9,11 @@ use Rattle.bd_objects.specs.Reading.{owed}
 use Rattle.bd_objects.proofs.reading.add_acknowledgements.Goals as goal
 use Rattle.bd_objects.proofs.reading.add_acknowledgements.Goals.{then-weak, else-weak}
 
-both : (place k next : ℕ) (o : ObjectId) (weak strong : Bool) (l : List Reference) (a b : Reference) → weak ≡ true → strong ≡ true → a ≡ reference_of place k o false Handshake
+both : (place k next : ℕ) (o : Identity) (weak strong : Bool) (l : List Reference) (a b : Reference) → weak ≡ true → strong ≡ true → a ≡ reference_of place k o false Handshake
     → next ≡ k + 1 → b ≡ reference_of place next o true Handshake → (l ++ a ∷ []) ++ b ∷ [] ≡ l ++ handshakes_for place k o (owed weak strong)
 both place k next o weak strong l a b w s e n g = rw (w, s, e, g, n) (append_assoc l (reference_of place k o false Handshake ∷ []) _)
 
-one : (place k next : ℕ) (o : ObjectId) (weak strong : Bool) (l : List Reference) (b : Reference) → weak ≡ false → strong ≡ true
+one : (place k next : ℕ) (o : Identity) (weak strong : Bool) (l : List Reference) (b : Reference) → weak ≡ false → strong ≡ true
     → next ≡ k → b ≡ reference_of place next o true Handshake → l ++ b ∷ [] ≡ l ++ handshakes_for place k o (owed weak strong)
 one place k next o weak strong l b w s n g = rw (w, s, g, n) refl
 

@@ -1,13 +1,13 @@
 use Rattle.std.proofs.Common.{rules, arith, ◌+◌, ◌≤◌, List, [], ◌∷◌, length, get_or, refl, sym, ◌∙◌}
 use Rattle.std.proofs.Math.Path.{fun_ext}
 use Rattle.std.proofs.lemmas.List.Sorted.{answers_always, list_any-IsPermutation}
-use Rattle.bd_ways.specs.Words.{ObjectId}
+use Rattle.bd_ways.specs.Words.{Identity}
 use Rattle.bd_ways.specs.Local.{at_object}
 use Rattle.bd_laws.specs.{Lists.{Pairs}, Objects.{NotLater}}
 use Rattle.bd_laws.proofs.Earlier.{earlier_cmp, sorted_in_order}
 use Rattle.bd_step.proofs.touched.in_order.Goals as goal
 
-alone : (os : List ObjectId) → length os ≤ 1 → Pairs NotLater os
+alone : (os : List Identity) → length os ≤ 1 → Pairs NotLater os
 alone [] le = search rules
 alone (o ∷ []) le = search rules
 alone (o ∷ p ∷ os) le = let no : ⊥ = omega (arith, le) in absurd no

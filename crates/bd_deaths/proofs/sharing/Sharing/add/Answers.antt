@@ -19,4 +19,4 @@ returns-clause-stands c = λ l h few.
     (λ k. h.groups (Name k)) x few fits c.add_name.ensures.at)
     (one_more same_word word_eq cookie_of (look c.args.self.now.cookies) (look c.add_cookie.new.cookies) l
     (λ k. h.groups (Cookie k)) x few fits c.add_cookie.ensures.at)
-    (All-push (λ (y : DeathNotification). y.made < 2 ^ 32) l x h.places fits)
+    (All-push (λ (y : DeathNotification). y.made < 2 ^ 64) l x h.places fits)

@@ -14,7 +14,7 @@ use Rattle.bd_deaths.proofs.sharing.Sharing.remove.Goals as goal
 pub returns-clause-stands : goal.returns-clause-stands
 returns-clause-stands c = λ l i h within there.
     let x = c.args.x.now in
-    let placed = λ (y : DeathNotification). y.made < 2 ^ 32 in
+    let placed = λ (y : DeathNotification). y.made < 2 ^ 64 in
     let fits = subst placed there (All-get_or placed l i x within h.places) in
     by_kind (record { names = c.remove_name.new.names; cookies = c.remove_cookie.new.cookies }) _
     (one_less same_name name_eq name_of (get same_name c.args.self.now.names) (get same_name c.remove_name.new.names) l

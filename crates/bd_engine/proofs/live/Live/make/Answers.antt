@@ -1,19 +1,19 @@
 use Rattle.std.proofs.Common.{ℕ, ◌≡◌, ◌+◌, ◌≤◌, ◌<◌, length, arith, refl, ap, sym, subst}
 use Rattle.std.proofs.lemmas.Bool.{le-leb}
-use Rattle.bd_space.specs.Histories.{HasPlace, space_after}
+use Rattle.bd_space.specs.Histories.{HasLivePlace, space_after}
 use Rattle.bd_laws.proofs.Always.{always_tidy}
 use Rattle.bd_step.specs.declared.tables.Tables.{Tables}
 use Rattle.bd_step.specs.Stands.{Before}
 use Rattle.bd_laws.proofs.Machine.Steps.{change_steps}
 use Rattle.bd_step.proofs.Refusals.{full_as, memory_if}
-use Rattle.bd_engine.proofs.Keeping.{follows_step, follows_kept, place, full_at_length, full_by_number}
+use Rattle.bd_engine.proofs.Keeping.{follows_step, follows_kept, place, end_at_length, end_by_number}
 use Rattle.bd_calls.specs.Told.{Recalls}
 use Rattle.bd_engine.proofs.live.Live.make.Goals as goal
 
 pub returns-in_default-clause-full : goal.returns-in_default-clause-full
 returns-in_default-clause-full c = λ h follows.
-    let long : 4294967295 ≤ length h.entries = omega (arith, (c.tables.ensures h follows).own.steps_are, place h, c.in_default.ensures) in
-    full_at_length h c.args.entry.now.seat c.args.entry.now.step (le-leb 4294967295 (length h.entries) long)
+    let long : 18446744073709551615 ≤ length h.entries = omega (arith, (c.tables.ensures h follows).own.steps_are, place h, c.in_default.ensures) in
+    end_at_length h c.args.entry.now.seat c.args.entry.now.step (le-leb 18446744073709551615 (length h.entries) long)
 
 pub returns-in-Ok-clause-answer : goal.returns-in-Ok-clause-answer
 returns-in-Ok-clause-answer c = λ h follows.
@@ -27,7 +27,7 @@ returns-in-Ok-clause-follows c = λ h follows.
     let met = c.in-Ok.ensures.step.ok in
     let stands = met.stands s before (always_tidy h) in
     let seated : c.args.entry.now.seat < h.seats = omega (arith, c.requires, follows.seats_are) in
-    let short : length h.entries < 4294967295 = omega (arith, (c.tables.ensures h follows).own.steps_are, place h, c.in-Some.ensures) in
+    let short : length h.entries < 18446744073709551615 = omega (arith, (c.tables.ensures h follows).own.steps_are, place h, c.in-Some.ensures) in
     let counted : c.in-Some.steps ≡ c.change.new.self.steps + 1 =
     omega (arith, c.in-Some.ensures, (c.tables.ensures h follows).own.steps_are, stands.own.steps_are, change_steps s c.args.entry.now.seat c.args.entry.now.step) in
     follows_step h c.args.self.now _ c.change.new.self c.args.entry.now.seat c.args.entry.now.step c.change.new.answer follows seated short
@@ -41,12 +41,12 @@ returns-in-Err-clause-err c = λ h follows.
 pub returns-in-Err-clause-full : goal.returns-in-Err-clause-full
 returns-in-Err-clause-full c = λ h follows.
     let before = subst (λ (t : Tables). Before t (space_after h)) (sym c.deref_mut-tables.ensures.value) follows.stands in
-    full_as c.in-Err.why _ _ (full_by_number h c.args.entry.now.seat c.args.entry.now.step) (c.in-Err.ensures.step.full (space_after h) before (always_tidy h))
+    full_as c.in-Err.why _ _ (end_by_number h c.args.entry.now.seat c.args.entry.now.step) (c.in-Err.ensures.step.full (space_after h) before (always_tidy h))
 
 pub returns-in-Err-clause-memory : goal.returns-in-Err-clause-memory
 returns-in-Err-clause-memory c = λ h follows.
-    let short : length h.entries < 4294967295 = omega (arith, (c.tables.ensures h follows).own.steps_are, place h, c.in-Some.ensures) in
-    memory_if c.in-Err.why (HasPlace h) short
+    let short : length h.entries < 18446744073709551615 = omega (arith, (c.tables.ensures h follows).own.steps_are, place h, c.in-Some.ensures) in
+    memory_if c.in-Err.why (HasLivePlace h) short
 
 pub returns-in-Ok-clause-told : goal.returns-in-Ok-clause-told
 returns-in-Ok-clause-told c = λ told k. c.in-Ok.ensures.told told (subst (λ (t : Tables). Recalls t.calls told) (sym c.deref_mut-tables.ensures.value) k)

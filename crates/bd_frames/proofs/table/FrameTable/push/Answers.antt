@@ -1,10 +1,10 @@
-use Rattle.std.proofs.Common.{rules, ◌≡◌, ◌==◌, ◌+◌, ◌++◌, ◌∷◌, [], ℕ, Bool, true, false, cond, List, Option, Some, None, inl, inr, ◌⊎◌, map, min, refl, subst, ap, sym, ◌∙◌, arith, eqb-true}
-use Rattle.std.proofs.{lemmas.List.{map-append}, lemmas.List.Elements.{All-push}}
+use Rattle.std.proofs.Common.{rules, ◌≡◌, ◌==◌, ◌+◌, ◌++◌, ◌∷◌, [], ℕ, Bool, true, false, cond, List, length, Option, Some, None, inl, inr, ◌⊎◌, map, min, refl, subst, ap, sym, ◌∙◌, arith, eqb-true}
+use Rattle.std.proofs.{lemmas.List.{map-append, length-map}, lemmas.List.Sums.{count_by-le-length}, lemmas.List.Elements.{All-push}}
 use Rattle.std.specs.{List.{count_by}, Option.{option_and_then}}
 use Rattle.bd_space.specs.{Words.{is_some_and}, Frames.{calls, takes_part}}
 use Rattle.bd_frames.specs.{declared.frame.Row.{Row}, Places.{frames_of, place, turned}, Children.{is_child_at, AreChildren}}
 use Rattle.bd_frames.specs.Linked.{IsStack, AreStacks, top_in, put_top}
-use Rattle.bd_frames.proofs.{InOrder.{in_order_push}, Counting.{count_push, count_few, no_child, children_turned}, Alike.{pending_calls}}
+use Rattle.bd_frames.proofs.{InOrder.{in_order_push}, Counting.{count_push, no_child, children_turned}, Alike.{pending_calls}}
 use Rattle.bd_frames.proofs.{Stacking.{From, Comes, itself, stays, put_on, turns, covered}, Standing.{own_rising, frames_kept}}
 use Rattle.bd_frames.proofs.table.FrameTable.push.Goals as goal
 
@@ -36,6 +36,7 @@ returns-clause-stands c = λ l h next.
     let rows = c.turn.ensures.rows more (λ x y e. search rules) (own_rising t l h) in
     let items = c.push_reserved.ensures.items ∙ ap (λ zs. zs ++ r ∷ []) rows in
     let k = l ++ x ∷ [] in
+    let long : length l ≡ length rs = sym (ap length h.items_are) ∙ length-map rs (λ (x : Row). x.frame) in
     record {
       items_are = ap frames_of items ∙ map-append (λ (x : Row). x.frame) ss (r ∷ [])
           ∙ ap (λ fs. fs ++ x ∷ []) (frames_kept x.parent more (λ r. refl) rs ∙ h.items_are);
@@ -45,7 +46,7 @@ returns-clause-stands c = λ l h next.
           (λ r e yes.
           let one = ap {B = ℕ} (λ b. cond b 1 0) yes in
           let p = is_child_at (place r) in
-          omega (arith, e, count_push p l x, one, count_few l x h.in_order next p, c.put-caller.ensures.place))
+          omega (arith, e, count_push p l x, one, count_by-le-length p l, long, t.rows.ok.0))
           (λ m no. let none = ap {B = ℕ} (λ b. cond b 1 0) no in omega (arith, count_push (is_child_at m) l x, none)) h.children_are)
           (no_child l x h.in_order next));
       stacks_are = subst (AreStacks c.put-caller.new.self) (sym items) (λ s.

@@ -3,7 +3,7 @@ use Rattle.std.specs.List.{list_any}
 use Rattle.std.proofs.lemmas.Result.{on_ok_weaker, on_err_weaker}
 use Rattle.bd_groups.specs.declared.group.Group.TheVariants.{Process}
 use Rattle.bd_groups.specs.Members.{members}
-use Rattle.bd_space.specs.declared.step.ObjectId.{ObjectId}
+use Rattle.bd_space.specs.declared.step.Identity.{Identity}
 use Rattle.bd_space.specs.declared.space.Reference.{Reference}
 use Rattle.bd_ways.specs.Local.{is_among}
 use Rattle.bd_holds.specs.declared.keys.UseKey.{UseKey}
@@ -14,11 +14,11 @@ use Rattle.bd_holds.proofs.Listing.{goes, any_dropped, just_dropped}
 use Rattle.bd_holds.proofs.table.ReferenceTable.dropped_with_process.Goals as goal
 
 -- what was put tells of the same objects
-same-objects : (p : ℕ) (t : Tallies) (l : List Reference) (uses : List UseKey) (before ids : List ObjectId) → Tallied t l
+same-objects : (p : ℕ) (t : Tallies) (l : List Reference) (uses : List UseKey) (before ids : List Identity) → Tallied t l
     → uses ≡ members t.users (Process p) → ids ≡ before ++ map (λ u. u.object) (filter (is_counted t.uses) uses)
-    → (o : ObjectId) → is_among ids o ≡ is_among (before ++ map (λ r. r.object) (filter (goes p) l)) o
+    → (o : Identity) → is_among ids o ≡ is_among (before ++ map (λ r. r.object) (filter (goes p) l)) o
 same-objects p t l uses before ids are listed put o =
-    ap (λ (os : List ObjectId). is_among os o) (put ∙ ap (λ (us : List UseKey). before ++ map (λ (u : UseKey). u.object) (filter (is_counted t.uses) us)) listed)
+    ap (λ (os : List Identity). is_among os o) (put ∙ ap (λ (us : List UseKey). before ++ map (λ (u : UseKey). u.object) (filter (is_counted t.uses) us)) listed)
     ∙ just_dropped p t.uses t.users l are.uses_are t.listed before o
 
 pub returns-clause-all : goal.returns-clause-all

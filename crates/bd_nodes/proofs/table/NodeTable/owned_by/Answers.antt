@@ -1,6 +1,6 @@
 use Rattle.std.proofs.Common.{◌≡◌, ◌++◌, ◌==◌, ◌∙◌, map, filter, List, Result, Ok, Err, OnErr, ap, sym}
 use Rattle.std.proofs.lemmas.List.{append-nil}
-use Rattle.bd_space.specs.declared.step.ObjectId.{ObjectId}
+use Rattle.bd_space.specs.declared.step.Identity.{Identity}
 use Rattle.bd_space.specs.declared.space.Object.{Object}
 use Rattle.bd_ways.specs.Local.{is_among}
 use Rattle.bd_space.specs.References.{owned_in}
@@ -18,7 +18,7 @@ returns-in_err-push-clause-grown c = on_err c.from_residual.result (λ objects n
     owns_one objects c.args.p c.in-Some.o (sym (c.owns.ensures objects n) ∙ c.if-owns.true))
 
 -- what the process owns was put, and nothing else
-pushed : (c : In-None) (objects : List Object) → NodesAre c.args.self.now objects → (o : ObjectId)
+pushed : (c : In-None) (objects : List Object) → NodesAre c.args.self.now objects → (o : Identity)
     → is_among c.loop-o.touched.items o
     ≡ is_among (c.args.touched.now.items
     ++ map (λ (x : Object). x.id) (filter (λ x. x.owner == c.args.p) objects)) o

@@ -1,5 +1,5 @@
 use Rattle.std.proofs.Common.{◌≡◌, Bool, true, false, cond, not, List, [], ◌∷◌, None, filter, refl, ap, sym, subst, ◌∙◌}
-use Rattle.bd_space.specs.declared.step.ObjectId.{ObjectId}
+use Rattle.bd_space.specs.declared.step.Identity.{Identity}
 use Rattle.bd_space.specs.declared.space.Object.{Object}
 use Rattle.bd_space.specs.Words.{same}
 use Rattle.bd_space.specs.References.{object_in, stays_in}
@@ -10,7 +10,7 @@ use Rattle.bd_objects.specs.Telling.{owner_due}
 use Rattle.bd_objects.proofs.table.ObjectTable.remove_unused_object.Goals as goal
 
 -- what is left out isn't found
-none_left : (o : ObjectId) (xs : List Object) → object_in (filter (λ x. not (same x.id o)) xs) o ≡ None
+none_left : (o : Identity) (xs : List Object) → object_in (filter (λ x. not (same x.id o)) xs) o ≡ None
 none_left o [] = refl
 none_left o (x ∷ xs) = at (same x.id o) refl (none_left o xs)
   where

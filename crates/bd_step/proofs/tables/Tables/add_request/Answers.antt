@@ -3,7 +3,7 @@ use Rattle.std.specs.Prelude.{if◌then◌else◌}
 use Rattle.bd_space.specs.declared.space.Phase.TheVariants.{Armed, Queued}
 use Rattle.bd_space.specs.declared.space.TodoList.TheVariants.{OfProcess}
 use Rattle.bd_space.specs.declared.space.WorkKind.TheVariants.{Death}
-use Rattle.bd_space.specs.declared.step.ObjectId.{ObjectId}
+use Rattle.bd_space.specs.declared.step.Identity.{Identity}
 use Rattle.bd_space.specs.Space.{Space}
 use Rattle.bd_space.specs.Todo.{owe}
 use Rattle.bd_space.specs.Deaths.{requested, with_death}
@@ -11,7 +11,7 @@ use Rattle.bd_step.specs.Stands.{Within}
 use Rattle.bd_step.proofs.tables.Tables.add_request.Goals as goal
 
 -- the notification that comes in, by whether the owner lives
-abbrev requested_if : Space → ℕ → ObjectId → ℕ → Bool → Space
+abbrev requested_if : Space → ℕ → Identity → ℕ → Bool → Space
 requested_if s p o cookie lives =
     if lives then with_death s p o cookie Armed else owe (with_death s p o cookie Queued) (OfProcess p) (Death s.steps)
 

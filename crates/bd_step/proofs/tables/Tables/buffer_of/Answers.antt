@@ -8,4 +8,4 @@ pub returns-clause-buffer : goal.returns-clause-buffer
 returns-clause-buffer c = λ n s h.
     let v = c.delivery.inside in
     let bytes = c.translation.ensures.translated n s h ∙ ap (λ (xs : List Item). translation s v.receiver.made v.parcel.bytes xs) c.as_slice.ensures.value in
-    buffer_is s c.args.actor c.args.data.now c.args.delivery _ _ _ _ _ c.delivery.view_is h.own.steps_are c.needed.ensures bytes refl
+    buffer_is s c.args.actor c.args.sent.now c.args.delivery _ _ _ _ _ c.delivery.view_is h.own.steps_are c.needed.ensures bytes refl

@@ -10,5 +10,5 @@ unfolding own_notices
 returns-clause-stands c = λ s h.
     let z = own_notices s c.args.actor.thread.seat c.items.result.now in
     let b = c.buffer_of-buffer.ensures.buffer s.steps z (c.own_notices.ensures.stands s.steps s h) in
-    subst (Within c.add_buffer.new.self) (filled_is s c.args.actor c.args.data.now c.args.delivery c.args.actor.thread.seat c.items.result.now c.buffer_of-buffer.result c.items.ensures b)
+    subst (Within c.add_buffer.new.self) (filled_is s c.args.actor c.args.sent.now c.args.delivery c.args.actor.thread.seat c.items.result.now c.buffer_of-buffer.result c.items.ensures b)
     (c.add_buffer.ensures.stands z (c.own_notices.ensures.stands s.steps s h) (sym (ap (λ (x : Buffer). x.made) b)))

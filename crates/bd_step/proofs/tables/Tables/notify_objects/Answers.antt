@@ -1,5 +1,5 @@
 use Rattle.std.proofs.Common.{rules, arith, List, take, take_all, subst}
-use Rattle.bd_space.specs.declared.step.ObjectId.{ObjectId}
+use Rattle.bd_space.specs.declared.step.Identity.{Identity}
 use Rattle.bd_step.specs.Stands.{Within}
 use Rattle.bd_step.specs.Following.{told_of}
 use Rattle.bd_step.proofs.FollowingObjects.{told_next}
@@ -31,4 +31,4 @@ loop-o-preserved c =
 pub returns-clause-stands : goal.returns-clause-stands
 returns-clause-stands c = λ s h.
     let all = take_all c.loop-o.o-index c.args.touched.now (omega (arith, c.loop-o-test.false)) in
-    subst (λ (os : List ObjectId). Within c.loop-o.self (told_of os s)) all (c.loop-o.invariant.stands s h)
+    subst (λ (os : List Identity). Within c.loop-o.self (told_of os s)) all (c.loop-o.invariant.stands s h)

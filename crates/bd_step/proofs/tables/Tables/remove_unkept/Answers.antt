@@ -1,6 +1,6 @@
 use Rattle.std.proofs.Common.{◌≡◌, ℕ, Bool, not, Option, ap, sym, subst, ◌∙◌, ◌+◌}
 use Rattle.std.specs.Option.{is_some}
-use Rattle.bd_space.specs.declared.step.ObjectId.{ObjectId}
+use Rattle.bd_space.specs.declared.step.Identity.{Identity}
 use Rattle.bd_space.specs.Words.{is_some_and}
 use Rattle.bd_space.specs.Space.{Space}
 use Rattle.bd_space.specs.References.{object_in}
@@ -17,13 +17,13 @@ use Rattle.bd_step.proofs.FollowingObjects.{shed_wanted, shed_unwanted, owner_wa
 use Rattle.bd_step.proofs.tables.Tables.remove_unkept.Goals as goal
 
 -- the object went where nothing keeps it
-gone : (t : Tables) (table : ObjectTable) (o : ObjectId) (s : Space) → Within t s → objects.StandsFor table (objects_go_of (at_object o) s)
+gone : (t : Tables) (table : ObjectTable) (o : Identity) (s : Space) → Within t s → objects.StandsFor table (objects_go_of (at_object o) s)
     → Within (record t { objects = table }) (objects_go_of (at_object o) s)
 unfolding objects_go_of
 gone t table o s h k = with_objects (s.steps + 1) t s table (objects_go_of (at_object o) s).objects s.references s.names s.deaths h k
 
 -- there is an owner to tell exactly where a Notice is wanted
-wants : (o : ObjectId) (s : Space) (owner : Option ℕ) (b : Bool) → owner ≡ owner_due s (object_in (objects_go_of (at_object o) s).objects o) → is_some owner ≡ b
+wants : (o : Identity) (s : Space) (owner : Option ℕ) (b : Bool) → owner ≡ owner_due s (object_in (objects_go_of (at_object o) s).objects o) → is_some owner ≡ b
     → is_some_and (object_in (objects_go_of (at_object o) s).objects o) (wants_notice s.processes s.references) ≡ b
 wants o s owner b due is = owner_wanted (object_in (objects_go_of (at_object o) s).objects o) (wants_notice s.processes s.references) b (sym (ap is_some due) ∙ is)
 

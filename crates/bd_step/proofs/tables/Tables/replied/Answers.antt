@@ -4,9 +4,9 @@ use Rattle.bd_step.proofs.Stepping.{replied_full, replied_stands}
 use Rattle.bd_step.proofs.tables.Tables.replied.Goals as goal
 
 pub returns-in-Err-clause-full : goal.returns-in-Err-clause-full
-returns-in-Err-clause-full c = λ s h. replied_full s c.args.actor c.args.data.now c.args.f c.args.delivery (c.in-Err.ensures.full s h)
+returns-in-Err-clause-full c = λ s h. replied_full s c.args.actor c.args.sent.now c.args.f c.args.delivery (c.in-Err.ensures.full s h)
 
 pub returns-in-Ok-clause-ok : goal.returns-in-Ok-clause-ok
 returns-in-Ok-clause-ok c = λ s h new.
-    let z = delivered s c.args.actor c.args.data.now c.args.delivery in
-    replied_stands _ s c.args.actor c.args.data.now c.args.f c.args.delivery (c.answered.ensures.stands (z.steps + 1) z (c.in-Ok.ensures.ok s h new))
+    let z = delivered s c.args.actor c.args.sent.now c.args.delivery in
+    replied_stands _ s c.args.actor c.args.sent.now c.args.f c.args.delivery (c.answered.ensures.stands (z.steps + 1) z (c.in-Ok.ensures.ok s h new))

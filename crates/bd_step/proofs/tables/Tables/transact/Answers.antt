@@ -1,5 +1,5 @@
 use Rattle.std.proofs.Common.{Option, ap, sym, subst, ◌∙◌, refl}
-use Rattle.bd_space.specs.declared.step.ObjectId.{ObjectId}
+use Rattle.bd_space.specs.declared.step.Identity.{Identity}
 use Rattle.bd_space.specs.Transactions.{transacted}
 use Rattle.bd_ways.specs.Local.{ObjectTest, follow_of, no_name, is_among, objects_of_items}
 use Rattle.bd_step.specs.Stands.{Within}
@@ -14,7 +14,7 @@ pub returns-in-Err-clause-step : goal.returns-in-Err-clause-step
 returns-in-Err-clause-step c = record {
   ok = tt;
   err = λ s h. c.in-Err.ensures.err s (c.in-Ok.ensures.stands s h);
-  full = λ s h p. full_if _ _ (numbers_completed (transacted s c.args.actor c.args.data.now c.args.delivery) (c.in-Err.ensures.full s (c.in-Ok.ensures.stands s h)));
+  full = λ s h p. full_if _ _ (numbers_completed (transacted s c.args.actor c.args.sent.now c.args.delivery) (c.in-Err.ensures.full s (c.in-Ok.ensures.stands s h)));
 }
 
 pub returns-clause-step : goal.returns-clause-step
@@ -22,15 +22,15 @@ returns-clause-step c = taken_step _ _ _ _ _ (
     record {
       answered = λ s h p. refl;
       stands = λ s h p.
-          let z = transacted s c.args.actor c.args.data.now c.args.delivery in
+          let z = transacted s c.args.actor c.args.sent.now c.args.delivery in
           let target = c.one_way_target-target.result in
           let sent = objects_of_items c.args.delivery.sending.items in
           let looked = ap is_among c.as_slice.ensures.value ∙ c.in-Ok.ensures.touched.among in
           subst (Within c.follow_objects.new.self)
           (ap (λ (b : ObjectTest). follow_of no_name b (ripen_next target z)) looked
-          ∙ ap (λ (o : Option ObjectId). follow_of no_name sent (ripen_next o z)) c.one_way_target-target.ensures
-          ∙ sym (sent_followed s c.args.actor c.args.data.now c.args.delivery p))
+          ∙ ap (λ (o : Option Identity). follow_of no_name sent (ripen_next o z)) c.one_way_target-target.ensures
+          ∙ sym (sent_followed s c.args.actor c.args.sent.now c.args.delivery p))
           (c.follow_objects.ensures.stands (ripen_next target z)
-          (c.ripen_next.ensures.stands z (c.in-Ok-transacted.ensures.ok s (c.in-Ok.ensures.stands s h) (sent_call s c.args.actor c.args.data.now c.args.delivery p)))
-          (ripened_ordered target z (sent_ordered s c.args.actor c.args.data.now c.args.delivery p)));
+          (c.ripen_next.ensures.stands z (c.in-Ok-transacted.ensures.ok s (c.in-Ok.ensures.stands s h) (sent_call s c.args.actor c.args.sent.now c.args.delivery p)))
+          (ripened_ordered target z (sent_ordered s c.args.actor c.args.sent.now c.args.delivery p)));
     })

@@ -1,6 +1,6 @@
 use Rattle.std.proofs.Common.{ap, Some}
 use Rattle.bd_space.specs.Steps.{with_manager}
-use Rattle.bd_space.specs.declared.step.ObjectId.{ObjectId}
+use Rattle.bd_space.specs.declared.step.Identity.{Identity}
 use Rattle.bd_step.proofs.tables.Tables.with_manager.Goals as goal
 
 pub returns-clause-stands : goal.returns-clause-stands
@@ -9,7 +9,7 @@ returns-clause-stands c = λ s h new. record {
   own = record {
     steps_are = h.own.steps_are;
     processes_are = h.own.processes_are;
-    manager_is = ap (λ place. let o : ObjectId = record { place = place; index = 0 } in Some o) h.own.steps_are;
+    manager_is = ap (λ place. let o : Identity = record { place = place; index = 0 } in Some o) h.own.steps_are;
   };
   objects_stand = c.with_manager.ensures.stands s h.objects_stand new;
   calls_stand = h.calls_stand;

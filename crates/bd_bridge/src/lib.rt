@@ -1,0 +1,21 @@
+//! Who waits for something to read, who of them may have something by now, and who is to be woken.
+#![tactic(auto)]
+
+mod bridge;
+mod engine;
+mod groups;
+mod loopers;
+mod reach;
+mod signal;
+mod suspects;
+#[cfg(test)]
+mod tests;
+mod waiters;
+
+pub use bridge::Bridge;
+pub use engine::{Engine, Reached, TodoList};
+pub use groups::Groups;
+pub use loopers::Loopers;
+pub use signal::Signal;
+pub use suspects::Suspects;
+pub use waiters::{Reading, Waiter, Waiters};

@@ -1,0 +1,49 @@
+//! Who is to be looked at after a step.
+
+ghost use Rattle.std.specs.Prelude.{ℕ, ◌≡◌, ◌<◌, Some, true};
+ghost use Rattle.bd_bridge.specs.{Reached.{is_read_by, names}, Suspects.{is_suspect, has_seat}, Waiting.{at}};
+
+use crate::engine::{Reached, TodoList};
+use crate::suspects::Suspects;
+use crate::waiters::Waiters;
+
+// These seats are suspects from now on.
+fn mark_seats(suspects: &mut Suspects, seats: u32, these: &[u32])
+    ensures marked { (t : ℕ) → t < seats → has_seat these.now t ≡ true → is_suspect suspects.new t ≡ true }
+    ensures kept { (t : ℕ) → is_suspect suspects.old t ≡ true → is_suspect suspects.new t ≡ true }
+{
+    for seat in these {
+        suspects.add(*seat, seats);
+    }
+}
+
+// Those who wait and read a list are.
+fn mark_readers(suspects: &mut Suspects, waiters: &Waiters, list: TodoList)
+    ensures named { (t : ℕ) (w : _) → at waiters.now t ≡ Some w → is_read_by t w.process list ≡ true → is_suspect suspects.new t ≡ true }
+    ensures kept { (t : ℕ) → is_suspect suspects.old t ≡ true → is_suspect suspects.new t ≡ true }
+{
+    match list {
+        TodoList::OfSeat(seat) => {
+            if waiters.get(seat).is_some() {
+                suspects.add(seat, waiters.seats());
+            }
+        }
+        TodoList::OfProcess(process) => {
+            mark_seats(suspects, waiters.seats(), waiters.of_process(process));
+        }
+    }
+}
+
+/// Those who wait and whom a step has reached are suspects from now on.
+pub(crate) fn mark_reached(suspects: &mut Suspects, waiters: &Waiters, reached: &Reached)
+    ensures named { (t : ℕ) (w : _) → at waiters.now t ≡ Some w → names reached.now t w.process ≡ true → is_suspect suspects.new t ≡ true }
+    ensures kept { (t : ℕ) → is_suspect suspects.old t ≡ true → is_suspect suspects.new t ≡ true }
+{
+    if reached.any {
+        suspects.add_all(waiters.seats());
+        return;
+    }
+    for list in &reached.lists {
+        mark_readers(suspects, waiters, *list);
+    }
+}

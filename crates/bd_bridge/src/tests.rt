@@ -1,0 +1,222 @@
+//! Whom a bridge wakes, over an engine that counts what each of four seats has to read.
+
+ghost use Rattle.std.specs.Prelude.{◌≡◌, IfOk};
+ghost use Rattle.bd_bridge.specs.Waiting.{seats_in};
+
+use crate::{Bridge, Engine, Loopers, Reached, Reading, Signal, TodoList};
+use std::alloc::Global;
+use std::test::Fail;
+
+// All seats are of one process, which was opened at this place.
+const PROCESS: u64 = 0x1_0000_0007;
+
+// One thing more for a seat to read, on this list.
+#[derive(Drop)]
+struct Come {
+    list: TodoList,
+    seat: u32,
+}
+
+#[derive(Drop)]
+struct Counts {
+    due: [u32; 4],
+    // How many reads there were.
+    reads: u32,
+}
+
+fn tell(reached: &mut Reached, list: TodoList) {
+    reached.lists.clear();
+    reached.any = reached.lists.push(list).is_err();
+}
+
+// Its worlds know nothing: the tests look at signals.
+impl Engine for Counts {
+    type Step = Come;
+
+    type Answer = ();
+
+    type Read = u32;
+
+    ghost World = { Unit {0} };
+
+    ghost Follows = { λ s h. Unit {0} };
+
+    ghost Sees = { λ h t b. Unit {0} };
+
+    ghost IsOf = { λ h t p. Unit {0} };
+
+    ghost IsCommand = { λ x. Unit {0} };
+
+    ghost stepped = { λ h t x a. h };
+
+    ghost has_read = { λ h t r. h };
+
+    ghost CanWait = { λ h t r. Unit {0} };
+
+    fn is_ready(&self, seat: u32) -> bool {
+        match self.due.get(seat as usize) {
+            Some(due) => *due > 0,
+            None => false,
+        }
+    }
+
+    fn process_of(&self, _seat: u32) -> u64 {
+        PROCESS
+    }
+
+    fn step(&mut self, _seat: u32, step: Come, reached: &mut Reached) {
+        if let Some(due) = self.due.get_mut(step.seat as usize) {
+            *due = due.saturating_add(1);
+        }
+        tell(reached, step.list);
+    }
+
+    fn read(&mut self, seat: u32, _room: u32, reached: &mut Reached) -> u32 {
+        if let Some(due) = self.due.get_mut(seat as usize) {
+            *due = due.saturating_sub(1);
+        }
+        tell(reached, TodoList::OfSeat(seat));
+        self.reads = self.reads.saturating_add(1);
+        self.reads
+    }
+
+    // The first that anybody reads can wait.
+    fn can_wait(&self, _seat: u32, read: &u32) -> bool {
+        *read == 1
+    }
+}
+
+fn new_bridge(alloc: Global) -> Result<Bridge<Counts>, Fail>
+    ensures { IfOk result (λ b. seats_in b.waiters ≡ 4) }
+{
+    let counts = Counts {
+        due: [0; 4],
+        reads: 0,
+    };
+    match Bridge::new(alloc, counts, 4) {
+        Ok(bridge) => Ok(bridge),
+        Err(_) => Err("memory".into()),
+    }
+}
+
+// Settles. What those who wait are told: 10 for a seat that is woken, 20 for one that has read and waits on, 30 for a
+// doorbell that rings, 40 for one that is silent, with the seat; the first ten times as far left as the second, and so on.
+fn told(alloc: Global, bridge: &mut Bridge<Counts>) -> Result<u64, Fail>
+    ensures { seats_in bridge.new.waiters ≡ seats_in bridge.old.waiters }
+{
+    let mut signals = Vec::with_capacity(alloc, 16).ok().ok_or("memory")?;
+    let is_done = bridge.settle(16, &mut signals);
+    let mut all: u64 = 0;
+    for signal in &signals {
+        let one = match signal {
+            Signal::Read { seat, wakes, .. } => (if *wakes { 10 } else { 20 }) + *seat % 10,
+            Signal::Bell { seat, rings } => (if *rings { 30 } else { 40 }) + *seat % 10,
+        };
+        all = all.wrapping_mul(100).wrapping_add(one as u64);
+    }
+    if !is_done {
+        return Err("somebody is left".into());
+    }
+    Ok(all)
+}
+
+const READING: Reading = Reading {
+    room: 256,
+    defers: false,
+};
+
+#[test]
+fn a_read_is_woken_once(rt: HostRuntime) -> Result<(), Fail> {
+    let mut bridge = new_bridge(rt.alloc())?;
+    bridge.wait(rt.alloc(), 1, READING).ok().ok_or("memory")?;
+    bridge.wait(rt.alloc(), 2, READING).ok().ok_or("memory")?;
+    assert_eq!(rt; told(rt.alloc(), &mut bridge)?, 0);
+    bridge.step(
+        3,
+        Come {
+            list: TodoList::OfProcess(PROCESS),
+            seat: 2,
+        },
+    );
+    bridge.step(
+        3,
+        Come {
+            list: TodoList::OfSeat(2),
+            seat: 2,
+        },
+    );
+    assert_eq!(rt; told(rt.alloc(), &mut bridge)?, 12);
+    assert_eq!(rt; told(rt.alloc(), &mut bridge)?, 0);
+    assert!(rt; bridge.waiter(2).is_none());
+    assert!(rt; bridge.waiter(1).is_some());
+    assert_eq!(rt; bridge.suspects(), 0);
+    Ok(())
+}
+
+#[test]
+fn a_doorbell_rings_until_all_is_read(rt: HostRuntime) -> Result<(), Fail> {
+    let mut bridge = new_bridge(rt.alloc())?;
+    bridge.give_doorbell(rt.alloc(), 2).ok().ok_or("memory")?;
+    bridge.step(
+        3,
+        Come {
+            list: TodoList::OfSeat(2),
+            seat: 2,
+        },
+    );
+    assert_eq!(rt; told(rt.alloc(), &mut bridge)?, 32);
+    bridge.wait(rt.alloc(), 2, READING).ok().ok_or("memory")?;
+    assert_eq!(rt; told(rt.alloc(), &mut bridge)?, 1242);
+    bridge.wait(rt.alloc(), 2, READING).ok().ok_or("memory")?;
+    bridge.stop_reading(2);
+    bridge.step(
+        3,
+        Come {
+            list: TodoList::OfSeat(2),
+            seat: 2,
+        },
+    );
+    assert_eq!(rt; told(rt.alloc(), &mut bridge)?, 32);
+    bridge.stop_waiting(2);
+    assert_eq!(rt; told(rt.alloc(), &mut bridge)?, 0);
+    Ok(())
+}
+
+#[test]
+fn what_can_wait_waits(rt: HostRuntime) -> Result<(), Fail> {
+    let mut bridge = new_bridge(rt.alloc())?;
+    let reading = Reading {
+        room: 256,
+        defers: true,
+    };
+    bridge.wait(rt.alloc(), 1, reading).ok().ok_or("memory")?;
+    bridge.step(
+        1,
+        Come {
+            list: TodoList::OfSeat(1),
+            seat: 1,
+        },
+    );
+    assert_eq!(rt; told(rt.alloc(), &mut bridge)?, 21);
+    bridge.step(
+        3,
+        Come {
+            list: TodoList::OfSeat(1),
+            seat: 1,
+        },
+    );
+    assert_eq!(rt; told(rt.alloc(), &mut bridge)?, 11);
+    Ok(())
+}
+
+#[test]
+fn a_process_is_asked_for_threads(rt: HostRuntime) {
+    let mut loopers = Loopers::new();
+    assert!(rt; !loopers.ask(true, false), "none may come");
+    loopers.max = 1;
+    assert!(rt; !loopers.ask(true, true), "somebody waits");
+    assert!(rt; loopers.ask(true, false), "nobody waits");
+    assert!(rt; !loopers.ask(true, false), "one is still to come");
+    loopers.attach();
+    assert!(rt; !loopers.ask(true, false), "no more may come");
+}

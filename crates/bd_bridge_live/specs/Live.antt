@@ -1,0 +1,41 @@
+-- A live engine as a bridge has it: its worlds are the histories that it follows.
+use Rattle.std.specs.Prelude.{ℕ, ◌≡◌, ◌⊎◌, Bool, true, Some, None, Result, Ok, Err}
+use Rattle.bd_space.specs.declared.step.{Step.{Step}, Entry.{Entry}}
+use Rattle.bd_space.specs.declared.space.Thread.{Thread}
+use Rattle.bd_space.specs.Seats.{thread_in}
+use Rattle.bd_space.specs.Histories.{History, space_after, extended, is_ready}
+use Rattle.bd_engine.specs.Follows as engine
+use Rattle.bd_engine.specs.Reached.{Recalls, has_work}
+use Rattle.bd_attached.specs.Threads.{BringsNone}
+use Rattle.bd_bridge_live.specs.Deferring.{may_wait, IsInCall}
+use Rattle.bd_bridge_live.specs.declared.live.{LiveEngine.{LiveEngine}, NotMade.{NotMade}}
+
+-- it follows the history, and, unless it says otherwise, was told of its lists as they are after that
+pub record FollowsTold (e : LiveEngine) (h : History) : Type 0 where
+  pub follows : engine.Follows e.live h
+  pub recalls : e.is_told ≡ true → Recalls e.live (has_work (space_after h))
+
+-- what wasn't made isn't in it
+abbrev pub after_step : History → ℕ → Step → Result Entry NotMade → History
+after_step h seat x (Ok e) = extended h seat x e.answer
+after_step h seat x (Err why) = h
+
+abbrev pub after_read : History → ℕ → Result Entry NotMade → History
+after_read h seat (Ok e) = extended h seat e.step e.answer
+after_read h seat (Err why) = h
+
+-- whether the seat is ready; of a seat whose thread has ended nothing is said
+abbrev pub Sees : History → ℕ → Bool → Type 0
+Sees h t b = (is_ready (space_after h) t ≡ b) ⊎ (thread_in (space_after h).threads t ≡ None)
+
+abbrev pub IsOf : History → ℕ → ℕ → Type 0
+IsOf h t p = (a : Thread) → thread_in (space_after h).threads t ≡ Some a → a.process ≡ p
+
+-- by such a step no thread comes
+abbrev pub IsCommand : Step → Type 0
+IsCommand x = BringsNone x
+
+-- its thread is in a call of its own, and was read nothing but what can wait for the reply
+abbrev pub CanWait : History → ℕ → Result Entry NotMade → Type 0
+CanWait h seat (Ok e) = IsInCall (space_after h) seat × (may_wait e.answer ≡ true)
+CanWait h seat (Err why) = ⊥

@@ -1,0 +1,154 @@
+//! A live engine, and what it was told of its lists.
+
+ghost use Rattle.std.specs.Prelude.{ℕ, ◌≡◌, ◌⊎◌, Bool, true, IfOk};
+ghost use Rattle.bd_space.specs.Histories.{History, space_after};
+ghost use Rattle.bd_engine.specs.Follows as engine;
+ghost use Rattle.bd_engine.specs.Reached.{Recalls, has_work};
+ghost use Rattle.bd_bridge.specs.Reached.{names};
+
+use crate::deferring::may_wait;
+use crate::lists::convert_all;
+use bd_bridge::{Engine, Reached};
+use bd_engine::{Live, Looks, StepError};
+use bd_space::{Entry, Step, TodoList};
+use std::alloc::Global;
+
+/// Why a step wasn't made.
+#[derive(Drop)]
+pub enum NotMade {
+    NoSuchSeat,
+    Refused(StepError),
+}
+
+/// A live engine that tells after each step whose lists that has filled or emptied.
+#[derive(Drop)]
+pub struct LiveEngine {
+    pub live: Live,
+    /// The buffers that ended by the latest step, each by the place of the step that made it, oldest first.
+    pub ended: Vec<u64>,
+    pub(crate) lists: Vec<TodoList>,
+    // What the engine has told of its lists is so before the next step.
+    pub(crate) is_told: bool,
+}
+
+impl LiveEngine {
+    ghost use Rattle.bd_bridge_live.specs.Live.{FollowsTold, after_step, Sees, IsOf};
+    ghost use Rattle.bd_bridge_live.specs.Lists.{AreNamed};
+    ghost use Rattle.bd_bridge_live.specs.Deferring.{IsInCall};
+
+    /// A live engine as it is. Its first step may have reached anybody. Takes no memory.
+    pub fn new(alloc: Global, live: Live) -> LiveEngine
+        ensures follows { (h : History) → engine.Follows live h → FollowsTold result h }
+    {
+        LiveEngine {
+            live,
+            ended: Vec::new(alloc),
+            lists: Vec::new(alloc),
+            is_told: false,
+        }
+    }
+
+    // Tells whose lists were filled or emptied since it last did.
+    fn tell(&mut self, reached: &mut Reached)
+        ensures follows { (h : History) → engine.Follows self.old.live h → engine.Follows self.new.live h }
+        ensures recalls { (h : History) → engine.Follows self.old.live h → self.new.is_told ≡ true → Recalls self.new.live (has_work (space_after h)) }
+        ensures named { (told : _) (h : History) → self.old.is_told ≡ true → Recalls self.old.live told → engine.Follows self.old.live h
+            → AreNamed reached.new told (space_after h) }
+        ensures unknown { (self.old.is_told ≡ true → ⊥) → reached.new.any ≡ true }
+        ensures seats { self.new.live.seats ≡ self.old.live.seats }
+    {
+        reached.any = true;
+        let was_told = self.is_told;
+        self.is_told = false;
+        if let Ok(whole) = self.live.tell_reached(&mut self.lists) {
+            self.is_told = true;
+            let all = convert_all(&self.lists, &mut reached.lists).is_ok();
+            reached.any = !(whole && was_told && all);
+        }
+    }
+
+    // Makes a step, and tells whose lists that has filled or emptied.
+    fn make(&mut self, seat: u32, step: Step, reached: &mut Reached) -> Result<Entry, NotMade>
+        ensures follows { (h : History) → FollowsTold self.old h → FollowsTold self.new (after_step h seat step result) }
+        ensures reaches { (h : History) → FollowsTold self.old h → (t p : ℕ) (b : Bool) → (t ≡ seat → ⊥) → IsOf h t p → Sees h t b
+            → Sees (after_step h seat step result) t b ⊎ (names reached.new t p ≡ true) }
+        ensures step { IfOk result (λ e. e.step ≡ step) }
+    {
+        if seat >= self.live.seats() {
+            return Err(NotMade::NoSuchSeat);
+        }
+        match self.live.step_with_ended(seat, step, &mut self.ended) {
+            Ok(entry) => {
+                self.tell(reached);
+                Ok(entry)
+            }
+            Err(why) => {
+                self.tell(reached);
+                Err(NotMade::Refused(why))
+            }
+        }
+    }
+
+    // Whether a seat's thread is in a call, and in none that it serves inside of that.
+    fn is_in_call(&self, seat: u32) -> bool
+        ensures { result ≡ true → (h : History) → engine.Follows self.now.live h → IsInCall (space_after h) seat }
+    {
+        match self.live.innermost(seat) {
+            Some((_, serves)) => !serves,
+            None => false,
+        }
+    }
+}
+
+impl Engine for LiveEngine {
+    ghost use Rattle.bd_bridge_live.specs.Live.{FollowsTold, after_step, after_read, Sees, IsOf, IsCommand, CanWait};
+    ghost use Rattle.bd_space.specs.Histories.{History};
+
+    type Step = Step;
+
+    type Answer = Result<Entry, NotMade>;
+
+    type Read = Result<Entry, NotMade>;
+
+    ghost World = { History };
+
+    ghost Follows = { FollowsTold };
+
+    ghost Sees = { Sees };
+
+    ghost IsOf = { IsOf };
+
+    ghost IsCommand = { IsCommand };
+
+    ghost stepped = { after_step };
+
+    ghost has_read = { after_read };
+
+    ghost CanWait = { CanWait };
+
+    fn is_ready(&self, seat: u32) -> bool {
+        self.live.is_ready(seat)
+    }
+
+    fn process_of(&self, seat: u32) -> u64 {
+        match self.live.thread(seat) {
+            Some(thread) => thread.process,
+            None => 0,
+        }
+    }
+
+    fn step(&mut self, seat: u32, step: Step, reached: &mut Reached) -> Result<Entry, NotMade> {
+        self.make(seat, step, reached)
+    }
+
+    fn read(&mut self, seat: u32, room: u32, reached: &mut Reached) -> Result<Entry, NotMade> {
+        self.make(seat, Step::Read { limit: room }, reached)
+    }
+
+    fn can_wait(&self, seat: u32, read: &Result<Entry, NotMade>) -> bool {
+        match read {
+            Ok(entry) => may_wait(&entry.answer) && self.is_in_call(seat),
+            Err(_) => false,
+        }
+    }
+}

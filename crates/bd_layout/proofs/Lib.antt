@@ -1,0 +1,9 @@
+pub mod Within
+pub mod Walks
+pub mod Landings
+pub mod Objects
+pub mod Carries
+pub mod Counts
+pub mod Lands
+pub mod Aparts
+pub mod Drives

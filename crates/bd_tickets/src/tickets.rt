@@ -1,0 +1,76 @@
+//! The descriptors of parcels that are on their way.
+
+ghost use Rattle.std.specs.Prelude.{ℕ, ◌≡◌, ◌+◌, true, OnOk, OnErr, IfErr, MatchOption, option_map};
+ghost use Rattle.bd_tickets.specs.Held.{held, count_of, descriptors_of};
+
+use std::alloc::Global;
+
+/// A parcel that is on its way.
+#[derive(Drop)]
+pub struct Parcel {
+    /// The place of the step that sends it.
+    pub step: u64,
+    /// The numbers of its descriptors.
+    pub descriptors: Vec<u32>,
+}
+
+/// The parcels with descriptors that are on their way.
+#[derive(Drop)]
+pub struct Tickets {
+    pub(crate) parcels: Vec<Parcel>,
+}
+
+impl Tickets {
+    /// None. Takes no memory.
+    pub fn new(alloc: Global) -> Tickets
+        ensures { (d : ℕ) → held result d ≡ 0 }
+    {
+        Tickets {
+            parcels: Vec::new(alloc),
+        }
+    }
+
+    /// Whether none is on its way.
+    pub fn is_empty(&self) -> bool
+        ensures { result ≡ true → (d : ℕ) → held self.now d ≡ 0 }
+    {
+        self.parcels.is_empty()
+    }
+
+    /// A parcel goes on its way. Errors: memory was refused; its descriptors come back, and all others are as before.
+    pub fn put(&mut self, step: u64, descriptors: Vec<u32>) -> Result<(), Vec<u32>>
+        ensures ok { OnOk result ((d : ℕ) → held self.new d ≡ held self.old d + count_of d descriptors.items) }
+        ensures back { IfErr result (λ ds. ds.items ≡ descriptors.items) }
+        ensures err { OnErr result ((d : ℕ) → held self.new d ≡ held self.old d) }
+    {
+        match self.parcels.push(Parcel { step, descriptors }) {
+            Ok(()) => Ok(()),
+            Err(refused) => Err(refused.value.descriptors),
+        }
+    }
+
+    /// A parcel has come to its receiver, or ends on its way: its descriptors are the caller's, to be sent on or closed.
+    pub fn take(&mut self, step: u64) -> Option<Vec<u32>>
+        // They are those that it was sent with.
+        ensures which { option_map (λ ds. ds.items) result ≡ descriptors_of step self.old.parcels.items }
+        ensures held { MatchOption result ((d : ℕ) → held self.new d ≡ held self.old d) (λ ds. (d : ℕ) → held self.old d ≡ held self.new d + count_of d ds.items) }
+    {
+        for index in 0..self.parcels.len() {
+            if self.parcels[index].step == step {
+                let parcel = self.parcels.swap_remove(index);
+                return Some(parcel.descriptors);
+            }
+        }
+        None
+    }
+
+    /// Takes the descriptors of any parcel, as at an end.
+    pub fn take_any(&mut self) -> Option<Vec<u32>>
+        ensures { MatchOption result ((d : ℕ) → (held self.new d ≡ held self.old d) × (held self.old d ≡ 0)) (λ ds. (d : ℕ) → held self.old d ≡ held self.new d + count_of d ds.items) }
+    {
+        match self.parcels.pop() {
+            Some(parcel) => Some(parcel.descriptors),
+            None => None,
+        }
+    }
+}
