@@ -19,7 +19,7 @@
 #include <stdint.h>
 
 /* Goes up with each change of this file: a library of another build is refused. */
-#define PROTOCOL_VERSION 7u
+#define PROTOCOL_VERSION 8u
 
 /* The largest window, as the kernel's is. */
 #define WINDOW_MAX (4u << 20)
@@ -78,6 +78,9 @@ enum state_kind { STATE_PROCESS = 1, STATE_THREAD, STATE_HANDLE, STATE_BUFFER };
 
 /* What a field doesn't apply to has 0 there. */
 struct state_record {
+    uint64_t innermost; /* the place in the history of the innermost call that a thread is in; UINT64_MAX: there is none */
+    uint64_t object_place; /* the object that a handle names, or that a buffer's call is on, by this and `object_index` */
+    uint64_t made;      /* the place in the history of the step that made a buffer */
     uint32_t kind;      /* enum state_kind */
     uint32_t process;   /* its pid in the history: the process, or that of the thread, or which has the handle or the buffer */
     uint32_t pid;       /* as the daemon's /proc has it */
@@ -89,14 +92,13 @@ struct state_record {
     uint32_t threads;   /* that have made an ioctl */
     uint32_t max_threads, requested, started; /* by BR_SPAWN_LOOPER */
     uint32_t serving, calling; /* calls that a thread has to answer, and waits for */
-    uint32_t innermost; /* the place in the history of the innermost of these; UINT32_MAX: there is none */
     uint32_t unread;    /* what stands on its list to be read, STATE_UNREAD at most */
     uint32_t handle;
-    uint32_t object_place, object_index; /* the object that a handle names, or that a buffer's call is on */
+    uint32_t object_index;
     uint32_t party;     /* the pid in the history of the object's owner, or of the buffer's sender; 0: that has ended */
-    uint32_t made;      /* the place in the history of the step that made a buffer */
     uint32_t start, size; /* where that lies in the window, and how much of it it takes */
     uint32_t code;      /* of what is in it */
+    uint32_t nothing;
     char comm[16];      /* how its main thread is called, or the thread was when it got its seat; 0 behind it */
 };
 

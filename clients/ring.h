@@ -18,7 +18,7 @@
 #include <stdint.h>
 
 /* The first eight bytes, no 0 behind them. Another layout has another one. */
-#define RING_MAGIC "HPRING01"
+#define RING_MAGIC "HPRING02"
 
 /* Where the slots begin, how long each is, and how many there are. Who reads takes these numbers from the heading. */
 #define RING_HEADING 4096u
@@ -27,10 +27,10 @@
 
 #define RING_DEVICE 64
 #define RING_COMM 16
-#define RING_DATA 240u
+#define RING_DATA 232u
 
-/* No step, no object. */
-#define RING_NONE UINT32_MAX
+/* No step, no object: no place is as large. */
+#define RING_NONE UINT64_MAX
 
 /* What was done, as the first byte of a step in a journal has it (docs/FORMATS.md, "The journal"). */
 enum ring_kind {
@@ -75,6 +75,11 @@ struct ring_counts {
     uint64_t processes;    /* 1384: open files with a window, now */
     uint64_t seats_lent;   /* 1392: threads with a seat, now .. */
     uint64_t most_lent;    /* 1400: .. and most at one time */
+    uint64_t longest_time; /* 1408: nanoseconds of the processor's time that the longest turn took, at most .. */
+    uint64_t longest_open; /* 1416: .. and the longest of those by which clients come, of all devices */
+    uint64_t costly_time;  /* 1424: nanoseconds that all turns of over 50,000 of them took .. */
+    uint64_t put_off;      /* 1432: .. and parcels that had to wait since their client's account had had such a one */
+    uint64_t longest_end;  /* 1440: nanoseconds of the longest turn of those in which ends were seen to */
 };
 
 struct ring_heading {
@@ -114,19 +119,19 @@ struct ring_slot {
     uint32_t code;         /*  52: of a call, as its sender or receiver has it; of an Open: the window's size */
     uint32_t flags;        /*  56: of a call or reply; of a SetSpam: what was set */
     uint32_t other;        /*  60: the pid in the history of who gets the call or reply that was taken, or has sent the one that is read */
-    uint32_t call;         /*  64: the place of the step that has sent the two-way call that is read, or RING_NONE */
-    uint32_t object_place; /*  68: the object that a call that was taken goes to, by the step that made it and an index; or RING_NONE */
-    uint32_t object_index; /*  72 */
-    uint32_t euid;         /*  76: of the sender that a read tells; of an Open: the process's */
-    uint32_t limit;        /*  80: of a read */
-    uint32_t returns;      /*  84: how many bytes of returns a read got */
-    uint64_t data_size;    /*  88: of a call or reply that is sent or read: so long is its data, as the history has it, .. */
-    uint64_t offsets_size; /*  96: .. and so long are its offsets */
-    uint64_t buffer;       /* 104: where the call or reply that is read lies, or the buffer that is given back, in the history's numbers */
-    uint64_t pointer;      /* 112: the `ptr` of an object: the target of a call that is read, or what a command or the last return names */
-    uint64_t cookie;       /* 120: .. and its cookie; or a death notification's */
-    char comm[RING_COMM];  /* 128: the thread's name as its seat was lent to it, 0 behind it; of seat 0: the daemon's */
-    uint8_t data[RING_DATA]; /* 144: the first bytes of the data. What is behind them is of another step */
+    uint64_t call;         /*  64: the place of the step that has sent the two-way call that is read, or RING_NONE */
+    uint64_t object_place; /*  72: the object that a call that was taken goes to, by the step that made it .. ; or RING_NONE */
+    uint32_t object_index; /*  80: .. and an index; 0 where there is none */
+    uint32_t euid;         /*  84: of the sender that a read tells; of an Open: the process's */
+    uint32_t limit;        /*  88: of a read */
+    uint32_t returns;      /*  92: how many bytes of returns a read got */
+    uint64_t data_size;    /*  96: of a call or reply that is sent or read: so long is its data, as the history has it, .. */
+    uint64_t offsets_size; /* 104: .. and so long are its offsets */
+    uint64_t buffer;       /* 112: where the call or reply that is read lies, or the buffer that is given back, in the history's numbers */
+    uint64_t pointer;      /* 120: the `ptr` of an object: the target of a call that is read, or what a command or the last return names */
+    uint64_t cookie;       /* 128: .. and its cookie; or a death notification's */
+    char comm[RING_COMM];  /* 136: the thread's name as its seat was lent to it, 0 behind it; of seat 0: the daemon's */
+    uint8_t data[RING_DATA]; /* 152: the first bytes of the data. What is behind them is of another step */
 };
 
 /* Copies the step N. 1: that is it; 0: it isn't there yet; -1: it isn't any more. */
@@ -142,7 +147,7 @@ static inline int ring_copy(const struct ring_heading *heading, uint64_t n, stru
     return before == wanted && __atomic_load_n(&slot->sequence, __ATOMIC_RELAXED) == wanted ? 1 : -1;
 }
 
-_Static_assert(sizeof(struct ring_counts) == 1408 && sizeof(struct ring_heading) == 1600 && sizeof(struct ring_slot) == RING_SLOT,
+_Static_assert(sizeof(struct ring_counts) == 1448 && sizeof(struct ring_heading) == 1640 && sizeof(struct ring_slot) == RING_SLOT,
                "the layout is what its version says");
 
 #endif

@@ -7,6 +7,7 @@
 
 #include <errno.h>
 #include <fcntl.h>
+#include <inttypes.h>
 #include <stdlib.h>
 #include <string.h>
 #include <sys/mman.h>
@@ -89,6 +90,11 @@ static void print_counts(const struct ring_heading *ring, const char *device)
     printf("turns: %llu, the longest of %llu steps; one client has waited for %llu\n", (unsigned long long)get(&counts->turns),
            (unsigned long long)get(&counts->longest_turn), (unsigned long long)get(&counts->longest_wait));
     printf("looks: %llu\nbytes of parcels: %llu\n", (unsigned long long)get(&counts->looks), (unsigned long long)get(&counts->copied));
+    printf("longest turn: %llu us of the processor's time; by which clients come: %llu us; by which they end: %llu us\n",
+           (unsigned long long)get(&counts->longest_time) / 1000, (unsigned long long)get(&counts->longest_open) / 1000,
+           (unsigned long long)get(&counts->longest_end) / 1000);
+    printf("costly turns: %llu us; parcels put off: %llu\n", (unsigned long long)get(&counts->costly_time) / 1000,
+           (unsigned long long)get(&counts->put_off));
 }
 
 /* Whether so much memory is there, and stays: else a look at it would end this program. */
@@ -220,7 +226,7 @@ static void print_thread(const struct state_record *thread)
     if (thread->calling)
         printf(", calls %u", thread->calling);
     if (thread->innermost != RING_NONE)
-        printf(", the innermost from step %u", thread->innermost);
+        printf(", the innermost from step %" PRIu64, thread->innermost);
     print_unread(thread);
 }
 
@@ -238,7 +244,7 @@ static void print_party(const struct records *records, const char *word, uint32_
 
 static void print_handle(const struct records *records, const struct state_record *handle)
 {
-    printf("  handle %u: object %u.%u", handle->handle, handle->object_place, handle->object_index);
+    printf("  handle %u: object %" PRIu64 ".%u", handle->handle, handle->object_place, handle->object_index);
     print_party(records, "of", handle->party);
     putchar('\n');
 }
@@ -248,9 +254,9 @@ static void print_buffer(const struct records *records, const struct state_recor
     printf("  buffer at %u: %u bytes, %s %#x", buffer->start, buffer->size, buffer->flags & STATE_CALL ? "a call with code" : "a reply with code",
            buffer->code);
     if (buffer->flags & STATE_CALL)
-        printf(" on object %u.%u", buffer->object_place, buffer->object_index);
+        printf(" on object %" PRIu64 ".%u", buffer->object_place, buffer->object_index);
     print_party(records, "from", buffer->party);
-    printf("%s%s, made by step %u\n", buffer->flags & STATE_ONE_WAY ? ", one-way" : "", buffer->flags & STATE_HANDED ? "" : ", unread",
+    printf("%s%s, made by step %" PRIu64 "\n", buffer->flags & STATE_ONE_WAY ? ", one-way" : "", buffer->flags & STATE_HANDED ? "" : ", unread",
            buffer->made);
 }
 

@@ -36,6 +36,14 @@ struct run {
     uint32_t fd_count;
 };
 
+/* What no errno is: the command is to be run in another turn. */
+enum { PUT_OFF = -2 };
+/* Whether a command has changed something. */
+static bool is_done(const struct run *run, int error)
+{
+    return !error && !run->engine->answer.notes;
+}
+
 /* X15: there is no frame that the reply would close. */
 enum { NO_CALL = 15 };
 
@@ -77,27 +85,40 @@ static bool calls_own_manager(const struct run *run, const struct binder_transac
 }
 
 /* Whether the receiver's window may have room for so much. What it surely hasn't isn't copied: the engine refuses it by its size. */
-static bool may_fit(const struct thread *thread, const struct binder_transaction_data_sg *record, bool is_reply)
+static bool may_fit(const struct target *target, const struct binder_transaction_data_sg *record, bool is_reply)
 {
     const struct binder_transaction_data *data = &record->transaction_data;
-    uint64_t room = reach_window(thread, is_reply, data->target.handle);
+    uint64_t room = reach_window(target, is_reply, data->target.handle);
     if (!is_reply && data->flags & TF_ONE_WAY)
         room /= 2;
     return data->data_size <= room && data->offsets_size <= room && record->buffers_size <= room
            && round8(data->data_size) + round8(data->offsets_size) + round8(record->buffers_size) <= room;
 }
 
+/* How many nanoseconds a step takes for an object, and for so many bytes, of a parcel: about, and for the turns alone (turns.c). */
+#define OBJECT_NANOSECONDS 3500u
+#define BYTES_OF_NANOSECOND 2u
+
+static uint64_t price_of(const struct binder_transaction_data_sg *record)
+{
+    const struct binder_transaction_data *data = &record->transaction_data;
+    return data->offsets_size / sizeof(binder_size_t) * OBJECT_NANOSECONDS + (data->data_size + record->buffers_size) / BYTES_OF_NANOSECOND;
+}
+
 /* Has the engine run it: the parcel goes with it, or is let go of. */
-static int send_call(struct run *run, bool is_reply, const struct binder_transaction_data *data, struct parcel *parcel)
+static int send_call(struct run *run, bool is_reply, const struct target *target, const struct binder_transaction_data *data,
+                     struct parcel *parcel)
 {
     struct call_command command = {is_reply ? BC_REPLY : BC_TRANSACTION, *data};
     if (!parcel->is_lost) {
         command.data.data_size = parcel->data_size;
         command.data.offsets_size = parcel->offsets_size;
+    } else if (!command.data.data_size) {
+        command.data.data_size = sizeof(uint64_t); /* which isn't there */
     }
     command.data.data.ptr.buffer = 0;
     command.data.data.ptr.offsets = round8(command.data.data_size);
-    int error = engine_call(run->engine, run->thread->seat, &command, sizeof command, parcel->data, parcel->data_size,
+    int error = engine_call(run->engine, run->thread->seat, target, &command, sizeof command, parcel->data, parcel->data_size,
                             parcel->offsets, parcel->offsets_size);
     if (error || run->engine->answer.stop != HULLPIPPIN_AT_END)
         parcel_refuse(parcel);
@@ -109,29 +130,45 @@ static int send_call(struct run *run, bool is_reply, const struct binder_transac
 static int run_call(struct run *run, uint32_t code, const uint8_t *payload)
 {
     struct parcel parcel;
+    uint32_t made;
     bool is_reply = code == BC_REPLY || code == BC_REPLY_SG;
     struct binder_transaction_data_sg record = {0};
     struct process *process = run->thread->process;
+    parcel_begin(&parcel);
     if (!caller_euid(&process->caller, &parcel.euid))
         return EPERM;
+    if (!owed_take(run->thread))
+        return ENOMEM;
     parcel.tells_euid = parcel.euid != process->euid;
     memcpy(&record, payload, _IOC_SIZE(code));
     if (!is_reply && calls_own_manager(run, &record.transaction_data))
         record.transaction_data.target.handle = NO_HANDLE;
-    parcel.may_have_descriptors = reach_takes_descriptors(run->thread, is_reply, record.transaction_data.target.handle);
-    if (may_fit(run->thread, &record, is_reply))
+    parcel.may_have_descriptors = run->fd_count && reach_takes_descriptors(run->thread, is_reply, record.transaction_data.target.handle);
+    struct target target = reach_target(run->thread, is_reply, record.transaction_data.target.handle);
+    bool may = may_fit(&target, &record, is_reply);
+    if (may && !turns_may_make(&run->engine->loop.turns, price_of(&record)))
+        return PUT_OFF;
+    if (may)
         parcel_fetch(&parcel, run->thread, &record, run->fds, run->fd_count);
     else
-        parcel = (struct parcel){.is_lost = true};
+        parcel.is_lost = true;
     run->engine->copied += parcel.data_size + parcel.offsets_size;
-    const struct process *receiver = reach_target(run->thread, is_reply, record.transaction_data.target.handle);
-    int error = send_call(run, is_reply, &record.transaction_data, &parcel);
+    struct sent *sent = parcel.is_lost ? NULL : sent_new(process, &parcel);
+    if (!owned_take(process, &parcel, &made) || !sent)
+        parcel_lose(&parcel);
+    int error = send_call(run, is_reply, &target, &record.transaction_data, &parcel);
+    bool is_taken = !error && run->engine->answer.stop == HULLPIPPIN_AT_END;
+    owned_note(process, &parcel, made, is_taken);
+    if (sent && is_taken)
+        sent_keep(&run->engine->sent, sent, run->engine->answer.from);
+    else if (sent)
+        sent_free(sent);
     if (error)
         return error;
     note_call(run->thread, is_reply, record.transaction_data.flags & TF_ONE_WAY, &run->engine->answer);
     note_untold(run->thread, is_reply, &run->engine->answer);
     if (run->engine->answer.stop == HULLPIPPIN_AT_END)
-        sendings_note(run->thread, &parcel, receiver);
+        sendings_note(run->thread, &parcel, target.process);
     return 0;
 }
 
@@ -228,7 +265,10 @@ static int run_clearing(struct run *run, const uint8_t *command, uint32_t size)
 {
     if (!run->thread->has_looped)
         return clear_for_process(run, command, size);
+    if (!owed_take(run->thread))
+        return ENOMEM;
     int error = engine_command(run->engine, run->thread->seat, command, size);
+    run->thread->clearings += is_done(run, error);
     run->thread->is_prompt = run->thread->is_prompt || (!error && is_clearing_unread(run));
     return error;
 }
@@ -237,9 +277,36 @@ static int run_clearing(struct run *run, const uint8_t *command, uint32_t size)
 static int run_reference(struct run *run, const uint8_t *command, uint32_t size)
 {
     enum { OWN_MANAGER = 4 }; /* N4 */
+    struct process *process = run->thread->process;
+    uint32_t handle;
+    bool is_new;
+    memcpy(&handle, command + sizeof(uint32_t), sizeof handle);
+    if (!kept_take_handle(process, handle, &is_new))
+        return ENOMEM;
     int error = engine_command(run->engine, run->thread->seat, command, size);
+    kept_note_handle(process, handle, is_new, is_done(run, error));
     bool is_own = !error && run->engine->answer.notes && run->engine->answer.number == OWN_MANAGER;
     return is_own ? EINVAL : error;
+}
+
+static int run_release(struct run *run, const uint8_t *command, uint32_t size)
+{
+    uint32_t handle;
+    memcpy(&handle, command + sizeof(uint32_t), sizeof handle);
+    int error = engine_command(run->engine, run->thread->seat, command, size);
+    if (is_done(run, error))
+        kept_release_handle(run->thread->process, handle);
+    return error;
+}
+
+static int run_asking(struct run *run, const uint8_t *command, uint32_t size)
+{
+    struct process *process = run->thread->process;
+    if (!kept_take_death(process))
+        return ENOMEM;
+    int error = engine_command(run->engine, run->thread->seat, command, size);
+    kept_note_death(process, run->engine->answer.from, is_done(run, error));
+    return error;
 }
 
 static int run_command(struct run *run, uint32_t code, const uint8_t *command)
@@ -261,9 +328,14 @@ static int run_command(struct run *run, uint32_t code, const uint8_t *command)
     case BC_CLEAR_DEATH_NOTIFICATION:
     case BC_DEAD_BINDER_DONE:
         return run_clearing(run, command, size);
+    case BC_REQUEST_DEATH_NOTIFICATION:
+        return run_asking(run, command, size);
     case BC_INCREFS:
     case BC_ACQUIRE:
         return run_reference(run, command, size);
+    case BC_RELEASE:
+    case BC_DECREFS:
+        return run_release(run, command, size);
     default:
         return engine_command(run->engine, run->thread->seat, command, size);
     }
@@ -273,7 +345,7 @@ static int run_command(struct run *run, uint32_t code, const uint8_t *command)
    that: who has it may call again, and need their room. */
 static bool is_to_stop(const struct run *run, const uint8_t *rest, uint32_t left)
 {
-    const struct turns *turns = &run->engine->loop.turns;
+    struct turns *turns = &run->engine->loop.turns;
     uint32_t code = 0;
     memcpy(&code, rest, left < sizeof code ? 0 : sizeof code);
     return turns_is_over(turns) && (code != BC_FREE_BUFFER || turns_has_made_steps(turns));
@@ -293,7 +365,7 @@ int commands_run(struct thread *thread, const uint8_t *stream, uint32_t size, in
             return EINVAL;
         int error = run_command(&run, code, command);
         if (error)
-            return error;
+            return error == PUT_OFF ? 0 : error;
         answer->consumed += sizeof code + _IOC_SIZE(code);
         bool is_over = is_to_stop(&run, stream + answer->consumed, size - answer->consumed);
         if (run.engine->answer.kind == HULLPIPPIN_WROTE && run.engine->answer.stop == HULLPIPPIN_AT_CAUSE) {

@@ -81,18 +81,32 @@ static inline void list_remove(struct list *entry)
 
 /* --- turns.c: whose turn it is. --- */
 
-/* By users, then by their processes, in the order in which they want one: who had a turn comes last. */
+/* By accounts, then by their users, then by the processes of these, in the order in which they want one: who had a turn comes last. */
 struct queuer {
-    struct list in_ring;
+    struct queuer *above;  /* NULL: it is all of them */
+    struct list in_ring;   /* of the one above, where it wants a turn */
+    struct list ring;      /* those below it that want one: a client's are its watches */
+    bool has_turn;         /* the latest, and isn't in the ring again */
     uint64_t owed;  /* nanoseconds that it had beyond its turns: as many turns pass it over */
     uint64_t since; /* when it last wanted no more */
     uint64_t from;  /* how many turns there were when it began to want this one, or was passed over last */
 };
 
+/* An account (account.c), which pays for what its users' turns cost. */
+struct payer {
+    struct queuer queuer;
+    struct list in_bucket;
+    uint64_t account;
+    uint32_t references;
+    struct list costly;    /* its clients that want a costly turn */
+    struct list in_costly; /* among those that have such */
+    uint64_t rests_until;  /* it has no costly turn before */
+};
+
 struct user {
     struct queuer queuer;
     struct list in_bucket;
-    struct list clients; /* a ring: those that want a turn */
+    struct payer *payer;
     uid_t uid;
     uint32_t references;
 };
@@ -101,32 +115,49 @@ struct user {
 struct client {
     struct queuer queuer;
     struct list in_bucket;
-    struct list watches; /* those of it that want a turn */
     struct user *user;
     pid_t pid;
     uint32_t references;
+    uint64_t was_dear;     /* when it last had a turn that was far too long */
+    uint64_t costly_until; /* until then its turns are among the costly ones */
 };
 
 #define TURNS_BUCKETS 256
+/* Account, user, client. */
+#define TURNS_LEVELS 3
+/* So many clients are known that have had the latest turns: one, and two others. */
+#define TURNS_RECENT 3
 
 struct turns {
-    struct list users; /* a ring: those that want a turn */
-    struct list by_uid[TURNS_BUCKETS], by_pid[TURNS_BUCKETS];
+    struct queuer all;
+    struct list costly;      /* accounts with clients that want a costly turn */
+    struct list by_account[TURNS_BUCKETS], by_uid[TURNS_BUCKETS], by_pid[TURNS_BUCKETS];
     struct client *latest;   /* who had the latest turn, and isn't in the ring again; NULL: nobody */
     struct client *ending;   /* whose turns those are by which the daemon sees to ends */
+    struct {
+        const struct client *client; /* which may have gone */
+        uint64_t at;
+    } recent[TURNS_RECENT];
+    bool is_costly;          /* this turn, or the latest */
     uint64_t now, began;     /* nanoseconds: when events were last fetched, and when this turn began */
+    uint64_t latest_step;    /* .. and the latest step, whose time was read; 0: it is older than the last look whether the turn is over */
     uint32_t steps;          /* that were made in this turn */
     uint64_t count;          /* of the turns that were given */
-    uint64_t longest_wait;   /* .. of them to others while one client wanted its own */
+    uint64_t longest_wait;   /* .. of them to others while one client wanted its own, and no costly one */
+    uint64_t put_off;        /* how many steps weren't made in a turn for their price */
+    uint64_t costly_time;    /* nanoseconds that costly turns took in all */
     uint32_t longest_turn;   /* how many steps were made in the longest turn of all */
+    uint64_t asked, used;    /* nanoseconds: when the kernel was last asked for the thread's processor time, and what that was */
+    _Atomic uint64_t longest_time; /* .. of which the longest turn took so much, at most .. */
+    uint64_t longest_end;    /* .. and so much the longest in which ends were seen to */
 };
 
 struct watch;
 
 bool turns_begin(struct turns *turns);
 void turns_end(struct turns *turns);
-/* The client of a user's process, which is the caller's until it is let go of. NULL where there is no memory. */
-struct client *client_hold(struct turns *turns, uid_t uid, pid_t pid);
+/* The client of a process of an account's user, which is the caller's until it is let go of. NULL where there is no memory. */
+struct client *client_hold(struct turns *turns, uint64_t account, uid_t uid, pid_t pid);
 void client_release(struct client *client);
 /* The watch wants a turn, and comes to have it behind those that wanted one before. */
 void turns_want(struct turns *turns, struct watch *watch);
@@ -135,21 +166,40 @@ void turns_want_none(struct watch *watch);
 /* The watch gets its turns among those for ends from now on: however many end at once, others wait for one at a time. */
 void turns_want_end(struct turns *turns, struct watch *watch);
 bool turns_are_ending(const struct turns *turns, const struct watch *watch);
-bool turns_are_wanted(const struct turns *turns);
-/* Gives the next turn; there has to be one that wants it. */
+/* In how many nanoseconds the next turn may be given; NO_TURN: nobody wants one. */
+#define NO_TURN UINT64_MAX
+uint64_t turns_due_in(const struct turns *turns);
+/* Gives the next turn, if one may be given now. */
 void turns_give(struct turns *turns);
+/* Whether a step that takes some nanoseconds may be made in this turn. Else it is to be put off, and who asks for it gets a turn in which
+   it may once that is paid for. */
+bool turns_may_make(struct turns *turns, uint64_t price);
 /* Counts a step that was made in this turn. */
 static inline void turns_count_step(struct turns *turns)
 {
     turns->steps++;
 }
+/* What was done up to now since the latest turn began took as long as a turn does. */
+void turns_note_time(struct turns *turns);
+/* The time, of a step that was made in this turn. */
+uint64_t turns_read_clock(struct turns *turns);
 /* Whether this turn has had its time: what isn't done by then goes on with the next one. */
-bool turns_is_over(const struct turns *turns);
+bool turns_is_over(struct turns *turns);
 /* Whether it has made all the steps that it may, whatever time they took. */
 bool turns_has_made_steps(const struct turns *turns);
 uint64_t nanoseconds(void);
 /* What CLOCK_REALTIME is ahead of CLOCK_MONOTONIC now, in nanoseconds, modulo 2^64. */
 uint64_t realtime_offset(void);
+
+/* --- account.c: with whose a client is counted. --- */
+
+/* Reads whose ids are. */
+void accounts_begin(void);
+void accounts_end(void);
+/* With whose a user's process is counted, be it known by its ids alone .. */
+uint64_t account_of(uid_t uid, gid_t gid);
+/* .. or also by its folder in /proc, which tells of its slice. */
+uint64_t account_in(uid_t uid, gid_t gid, int folder);
 
 /* --- loop.c: one wait for all descriptors. --- */
 
@@ -162,6 +212,7 @@ struct watch {
     struct list in_watches; /* of its client */
     uint32_t waits_for;
     bool is_deaf; /* until its turn: it was heard again while it wanted one already */
+    bool was_heard;
 };
 
 struct loop {
@@ -194,23 +245,45 @@ bool loop_run(struct loop *loop);
 
 /* --- shares.c: how much of what all share one user and one process may have. --- */
 
-enum shared { SHARED_DESCRIPTORS, SHARED_THREADS, SHARED_WINDOWS /* bytes of memory */, SHARED_KINDS };
+enum shared {
+    SHARED_DESCRIPTORS,
+    SHARED_THREADS,
+    SHARED_WINDOWS, /* bytes of memory; what follows the engine keeps, and each takes about THING_BYTES of it */
+    SHARED_CALLS,   /* and replies, until their buffers end: sent.c */
+    SHARED_OWED,    /* to threads: what they wait for or haven't read of their own */
+    SHARED_OBJECTS, /* owned.c */
+    SHARED_HANDLES, /* kept.c */
+    SHARED_DEATHS,  /* that are asked for */
+    SHARED_KINDS
+};
 
 /* What a connection, a thread and a doorbell have of the daemon's descriptors. */
-enum { CONNECTION_DESCRIPTORS = 3, THREAD_DESCRIPTORS = 2, DOORBELL_DESCRIPTORS = 2 };
+enum { CONNECTION_DESCRIPTORS = 3, THREAD_DESCRIPTORS = 3, DOORBELL_DESCRIPTORS = 2 };
 
 struct account;
 
 /* So many seats are there for threads. What is asked of the kernel for it is asked here. */
 void shares_begin(uint32_t seats);
+/* Bytes of memory that the daemon may have. */
+uint64_t shares_memory(void);
 /* Whether it is the daemon's own user, or root. */
 bool user_is_own(uid_t uid);
-/* The account of a user's process, which is the caller's until it is let go of. NULL where there is no memory. */
-struct account *account_hold(uid_t uid, pid_t pid);
+/* The account of a process of a user, whose that counts with (account.c), which is the caller's until it is let go of. NULL where there is
+   no memory. It stays for as long as it has taken anything. */
+struct account *account_hold(uint64_t whose, uid_t uid, pid_t pid);
+/* It is held once more. */
+struct account *account_keep(struct account *account);
 void account_release(struct account *account);
-/* Takes so much, or nothing and answers false where that would be over the share. */
+/* Takes so much, or nothing and answers false where that would be over the share, which is counted. */
 bool account_take(struct account *account, enum shared what, uint64_t amount);
 void account_give(struct account *account, enum shared what, uint64_t amount);
+/* Takes what is there already, be it over the share, in which there is nothing left then. */
+void account_force(struct account *account, enum shared what, uint64_t amount);
+/* That of all that count with the same one as this process. It stays while the process's does. */
+const struct account *account_whole(const struct account *account);
+/* Nobody gets anything more; each is undone by the other. */
+void shares_close(void);
+void shares_open(void);
 
 /* --- filter.c: what the daemon may ask of the kernel. --- */
 
@@ -281,10 +354,14 @@ struct journal {
     struct recorder *recorder; /* NULL: there is no journal */
     const char *path;
     uint32_t seats;
+    uint64_t first; /* the place in the history of its first entry: 0, but in a daemon of the tests */
     uint8_t *entry;
     size_t room;
     bool has_broken_off;
 };
+
+/* How many entries the journal of a device with so few seats can count that it is of version two. */
+extern uint64_t narrow_most;
 
 /* Makes the journal of a device; closed it has to be in either case. The files that it uses are -1 then. */
 bool journal_open(struct journal *journal, struct device *device, hullpippin_live *live, uint32_t seats);
@@ -303,7 +380,7 @@ bool journal_close(struct journal *journal, hullpippin_live *live);
 struct ticket {
     struct list in_list;
     struct account *account; /* the sender's, also once it has ended */
-    uint32_t step;           /* the place in the history of the step that sends the parcel */
+    uint64_t step;           /* the place in the history of the step that sends the parcel */
     uint32_t count;
     int fds[];
 };
@@ -312,10 +389,9 @@ struct ticket {
 struct tickets {
     struct list lists[TICKET_LISTS]; /* by the place of the step that sends the parcel */
     uint32_t count;
-    uint32_t *ended; /* room for the buffers that a step ends */
 };
 
-bool tickets_begin(struct tickets *tickets);
+void tickets_begin(struct tickets *tickets);
 void tickets_end(struct tickets *tickets);
 /* A ticket for a parcel of the engine's next step. It takes the descriptors over; NULL where there is no memory, or they are over the
    sender's share. */
@@ -325,9 +401,37 @@ void ticket_free(struct ticket *ticket);
 /* Keeps a ticket whose step was made, until its parcel is read or has ended. */
 void ticket_keep(struct tickets *tickets, struct ticket *ticket);
 /* The ticket of a step, which is the caller's from then on, or NULL. */
-struct ticket *ticket_take(struct tickets *tickets, uint32_t step);
-/* Frees those whose buffers have ended by the latest step. */
-void tickets_see_ended(struct tickets *tickets, hullpippin_live *live);
+struct ticket *ticket_take(struct tickets *tickets, uint64_t step);
+/* Frees that of a step, if there is one, whose buffer has ended. */
+void ticket_end(struct tickets *tickets, uint64_t step);
+
+/* --- sent.c: what the engine keeps for who sends. --- */
+
+#define SENT_LISTS 16384u
+
+/* A call or reply whose buffer lives. */
+struct sent;
+
+struct sent_all {
+    struct sent **heads; /* by the place of the step that has sent it */
+    uint64_t *ended;     /* room for the buffers that a step ends */
+};
+
+struct parcel;
+struct engine;
+
+bool sent_all_begin(struct sent_all *all);
+void sent_all_end(struct sent_all *all);
+/* For a parcel that the engine is to get; NULL where there is no memory, or it is over the sender's share. */
+struct sent *sent_new(struct process *process, const struct parcel *parcel);
+void sent_free(struct sent *sent);
+/* The engine has it from this step on, until its buffer ends. */
+void sent_keep(struct sent_all *all, struct sent *sent, uint64_t step);
+/* Lets go of those, and of their descriptors, whose buffers have ended by the latest step. */
+void sent_see_ended(struct engine *engine);
+/* Whether the thread may be owed one thing more, in the share of its process; and once it is owed nothing. */
+bool owed_take(struct thread *thread);
+void owed_end(struct thread *thread);
 
 /* --- windows.c: memory that only the daemon writes, as a process's window, which the client maps. --- */
 
@@ -349,6 +453,12 @@ struct ring {
     uint32_t own_process;         /* that the daemon's own seat has opened or attached to last */
 };
 
+/* Where a call or reply goes. */
+struct target {
+    struct process *process;     /* NULL: that isn't known */
+    hullpippin_object_id object; /* of a call */
+};
+
 /* What a step was asked with. */
 struct step {
     enum ring_kind kind;
@@ -360,6 +470,7 @@ struct step {
     const void *command;
     const uint8_t *data;      /* of a command's parcel */
     size_t data_size;
+    const struct target *target; /* of a call or reply */
 };
 
 struct engine;
@@ -372,6 +483,8 @@ void ring_free(struct ring *ring);
 void ring_count_lent(struct ring *ring, uint32_t lent);
 /* Puts a step that the engine has made into its ring, which has to be there. */
 void ring_put(struct engine *engine, const struct step *step, uint64_t time);
+/* Puts there what is counted of turns. */
+void ring_put_turns(struct engine *engine);
 
 /* --- engine.c: the engine of one device name. --- */
 
@@ -399,11 +512,15 @@ struct engine {
     bool has_thread;
     struct inbox inbox;
     struct tickets tickets;
+    struct sent_all sent;
     struct workbench *bench;  /* objects.h */
-    bool is_over;             /* it makes no step any more: its history is full, or it can't go on without memory */
-    uint32_t warnings;        /* of a history that gets full, how many were told */
+    void *reserve;            /* NULL: it is in use, or there is none */
+    bool uses_reserve;
+    bool is_over;             /* it makes no step any more: it can't go on without memory */
 
     /* Whom the steps since that was last settled may have made ready (reach.c). */
+    uint32_t unasked;         /* steps that may have filled lists since the engine was last asked .. */
+    bool has_read;            /* .. and whether one has emptied some */
     struct list reached;      /* processes that are to be looked at .. */
     struct list reached_threads; /* .. and threads */
     struct list resting;      /* all processes with threads that wait for whatever comes to the process */
@@ -411,6 +528,7 @@ struct engine {
     uint32_t resting_count, looked_at_count;
     uint32_t resting_left, looked_at_left; /* how many of these are still to be looked at, from the first on */
     uint64_t steps, looks;
+    uint64_t before; /* steps that earlier engines of the device have made */
     uint64_t copied, trimmed; /* bytes of parcels: all, and those after which memory was last given back */
 
     uint32_t seats;           /* seat 0 is the daemon's own, by which processes begin and end */
@@ -423,7 +541,8 @@ struct engine {
     struct list seatless;     /* threads whose request waits for a seat */
 
     struct process *manager; /* NULL: there is no context manager */
-    uid_t manager_euid;            /* of the first, and so of all .. */
+    hullpippin_object_id manager_object;
+    uid_t manager_euid;            /* of the latest .. */
     bool has_had_manager;          /* .. once there was one */
     bool manager_takes_descriptors;
 
@@ -432,9 +551,8 @@ struct engine {
     uint32_t last_pid;        /* of those that are given where a process's own is taken */
 };
 
-/* How many steps a history can have. */
-extern uint64_t history_most;
-
+/* Where nobody has the device open, and no journal is kept of it, it begins anew: no history, and no memory, is left of who has gone. */
+void engine_begin_anew(struct engine *engine);
 /* A device's engine, with its journal. */
 struct engine *engine_new(struct daemon *daemon, struct device *device);
 void engine_free(struct engine *engine);
@@ -448,6 +566,15 @@ bool engine_start(struct engine *engine);
 void engine_stop(struct engine *engine);
 /* The process is that thread's from now on; false where the device is over. */
 bool engine_hand_over(struct engine *engine, struct process *process);
+
+/* --- reserve.c: memory that is set aside for ends. --- */
+
+/* False where there is none. */
+bool reserve_take(struct engine *engine);
+/* Lets go of it, for the daemon's own steps; from then on nobody gets more in its share, until it is there again. */
+void reserve_use(struct engine *engine);
+void reserve_regain(struct engine *engine);
+void reserve_free(struct engine *engine);
 
 /* --- engine.c --- */
 
@@ -465,9 +592,9 @@ int engine_read(struct engine *engine, uint32_t seat, uint32_t limit);
 int engine_command(struct engine *engine, uint32_t seat, const void *command, size_t size);
 /* No step, for a command of which it is known that it changes nothing: the answer is one that says so. */
 int engine_pass(struct engine *engine);
-/* A transaction or reply, with its parcel. */
-int engine_call(struct engine *engine, uint32_t seat, const void *command, size_t size, const uint8_t *data, size_t data_size,
-                const uint8_t *offsets, size_t offsets_size);
+/* A transaction or reply, with its parcel, and where it goes. */
+int engine_call(struct engine *engine, uint32_t seat, const struct target *target, const void *command, size_t size, const uint8_t *data,
+                size_t data_size, const uint8_t *offsets, size_t offsets_size);
 
 /* --- seats.c --- */
 
@@ -490,6 +617,8 @@ void seat_forget(struct thread *thread);
 
 /* Begins the thread that closes them; signals have to be blocked by now. */
 bool descriptors_begin(void);
+/* Whose descriptors this thread closes from now on, NULL for nobody's; and whose it closed before. */
+struct account *descriptors_close_for(struct account *account);
 /* Closes a descriptor of the daemon's own. */
 void descriptor_close(int *fd);
 /* Closes a descriptor whose other end a client has, without waiting for what the client has put into it. */
@@ -500,11 +629,17 @@ void descriptor_end(int *fd);
 /* So many pid namespaces, one in the other, are told apart. */
 #define NAMESPACES_MAX 8
 
+/* Uids, or gids, of a process. */
+struct ids {
+    uint32_t real, effective, saved;
+};
+
 /* The main thread of a client's process, as the kernel tells of it. */
 struct caller {
+    const struct watch *end;       /* what is heard when the process ends; NULL: nothing is */
     int folder;                    /* a descriptor of the process's folder in /proc */
-    uid_t real, effective, saved;  /* when its effective uid was last seen to be another one */
-    bool may_be_anybody;
+    struct ids users, groups;      /* when one of its effective ones was last seen to be another */
+    bool may_be_anybody, may_be_of_any_group;
     uint32_t depth;                /* how many pid namespaces it is below the daemon's */
     pid_t pids[NAMESPACES_MAX];    /* its pid in the daemon's, and in each on the way to its own */
     ino_t spaces[NAMESPACES_MAX];  /* these namespaces; 0: the daemon's, or one that isn't known */
@@ -518,12 +653,68 @@ void caller_end(struct caller *caller);
 /* The pid that a caller has for another one: 0 where it has none in that one's namespace. */
 pid_t caller_pid_for(const struct caller *caller, const struct caller *other);
 
+/* --- owned.c: objects that a process has made. --- */
+
+struct owned_object {
+    uint64_t place; /* of the step that made it .. */
+    uint32_t index; /* .. and which of that step's it is */
+    bool is_gone;
+    bool takes_descriptors;
+};
+
+struct owned {
+    struct owned_object *all;
+    uint32_t count, gone, room;
+    uint32_t next; /* to be looked at */
+};
+
+struct parcel;
+
+/* Takes room for all that a parcel may make, before the engine gets it: how many these are. False where they are over the share. */
+bool owned_take(struct process *process, const struct parcel *parcel, uint32_t *taken);
+/* Notes those that the engine's latest step has made, and gives back what of so many wasn't needed. */
+void owned_note(struct process *process, const struct parcel *parcel, uint32_t taken, bool is_accepted);
+/* Whether descriptors may be sent to an object; one that isn't known takes them. */
+bool owned_takes_descriptors(const struct process *owner, uint64_t place, uint32_t index);
+void owned_free(struct process *process);
+
+/* --- kept.c: handles and death notifications that a process keeps. --- */
+
+struct kept {
+    uint64_t *handles; /* a bit for each that counts */
+    uint32_t words, next_word;
+    uint64_t *deaths;  /* the places of the steps that asked for them */
+    uint32_t death_count, death_room, next_death;
+};
+
+/* Before a reference is asked for: false where the handle is over the share. Behind it: whether there is one. */
+bool kept_take_handle(struct process *process, uint32_t handle, bool *is_new);
+void kept_note_handle(struct process *process, uint32_t handle, bool is_new, bool is_taken);
+/* A reference was let go of, and perhaps the handle with it. */
+void kept_release_handle(struct process *process, uint32_t handle);
+/* The same for a death notification. */
+bool kept_take_death(struct process *process);
+void kept_note_death(struct process *process, uint64_t step, bool is_taken);
+void kept_free(struct process *process);
+
 /* --- processes.c: an open file is a process. --- */
 
 /* Cookies of death notifications that were taken back, of which whoever of the process reads next in the loop is told. */
 struct cleared {
     binder_uintptr_t *cookies;
     uint32_t count, room;
+};
+
+/* A place in the history, as the library has it. */
+typedef __typeof__(((hullpippin_answer *)0)->from) place_number;
+
+/* How far a process that ends has given back what it has (ends.c). */
+struct giving {
+    bool is_begun, is_done;
+    place_number process; /* that has opened it */
+    place_number from;    /* of the next buffer at the earliest */
+    uint32_t handle;      /* that is next */
+    uint32_t misses;      /* how many before it have named nothing */
 };
 
 struct process {
@@ -534,17 +725,19 @@ struct process {
     struct loop *loop;
     struct client *client;
     struct account *account;
+    uint64_t whose;       /* with whose it is counted (account.c) */
     uint64_t came;        /* nanoseconds: when it connected */
     bool is_refused;      /* its user or process has its share of descriptors already, and it is told so */
     struct list in_engine, in_bucket;
     struct list threads;
-    struct list idle, polling; /* some of its threads (settle.c) */
+    struct list idle, polling; /* some of its threads (settle.c), of the latter those first whose doorbells ring */
     struct list senders;                /* what some of its threads have sent (sendings.c) */
     struct list in_resting, in_reached;
     bool is_ending;           /* it has no place in the engine any more, and its threads are let go of */
     uint32_t objects_let_go;  /* how often it has let go of what may have carried objects */
     pid_t pid;
-    uid_t euid;           /* the effective uid that the client had when it opened the device */
+    uid_t euid;           /* the effective uid that the client had when it connected */
+    gid_t egid;
     struct caller caller;
     uint32_t engine_pid;  /* 0: it has no window, and so isn't in the engine yet */
     struct window window;
@@ -552,8 +745,12 @@ struct process {
     uint32_t max_threads, requested, started; /* for BR_SPAWN_LOOPER: the most threads, those asked for, those that came */
     struct cleared cleared;
     bool detects_spam;    /* it is told of its own one-way flooding; before its mmap: will be */
+    struct giving giving;
+    uint32_t handed_count; /* buffers that the client has */
     uint64_t *handed;     /* two bits for each 8 bytes of the window: a buffer that the client has begins there; it has objects */
     uint8_t *secret;      /* one bit for each: they are part of such a buffer, and are to be cleared with it */
+    struct owned owned;
+    struct kept kept;
 };
 
 void process_accept(struct daemon *daemon, int fd);
@@ -580,6 +777,11 @@ void process_clear_secret(struct process *process, uint64_t place);
 int process_enter(struct process *process);
 int process_leave(struct process *process);
 
+/* --- ends.c: what a process has goes before it. --- */
+
+/* Gives back some of what a process that ends has, as much as a turn has time for. Whether its exit may come now. */
+bool ends_give_some(struct process *process);
+
 /* --- state.c: what a device's processes and threads are at, and what they have. --- */
 
 /* Fills a page with what a device's processes and threads have. It goes on where the page before ended: `from` and `within` are what
@@ -587,6 +789,10 @@ int process_leave(struct process *process);
 void state_tell(struct engine *engine, uint64_t from, uint64_t within, struct state_page *page);
 
 /* --- threads.c: a thread of a client. --- */
+
+/* So much of a page's area is mapped by the daemon, which small parcels come from without a call of the kernel's. */
+#define AREA_MAPPED (UINT64_C(4) << 12)
+#define PAGE_MAPPED (offsetof(struct page, area) + AREA_MAPPED)
 
 /* Descriptors of the latest parcel that the thread has read, and where their numbers go in the window. */
 struct landing {
@@ -624,7 +830,8 @@ struct thread {
     struct process *process;
     struct list in_process, in_watch, in_reached, in_polling, in_seatless;
     bool is_counted;           /* among those that are looked at one by one */
-    struct page *page;
+    struct page *page;         /* PAGE_MAPPED bytes of it are mapped .. */
+    int memory;                /* .. and the rest is read from here */
     uint32_t freed;            /* how many of the page's frees were seen to */
     uint64_t told_tid;
     uint32_t seat;
@@ -637,6 +844,8 @@ struct thread {
     struct writing *writing;   /* a write that takes more than one turn; NULL: none */
     uint32_t refusals;         /* refused commands whose BR_FAILED_REPLY or BR_DEAD_REPLY isn't read yet */
     uint32_t completions;      /* two-way calls of which it isn't read yet that they were taken */
+    uint32_t clearings;        /* death notifications of which it isn't read yet that they were taken back, at most */
+    uint32_t owed;             /* of all these so many count in its process's share */
 
     enum refusal refusal;      /* until it is handed over, nothing that the thread writes is run */
     uint32_t untold;           /* calls and replies whose BR_TRANSACTION_COMPLETE isn't handed over yet */
@@ -709,9 +918,13 @@ struct parcel {
     int fds[DESCRIPTORS_MAX];
 };
 
+/* An empty one, of nobody. */
+void parcel_begin(struct parcel *parcel);
 /* Fetches a parcel from the page; descriptors that it has are taken from `fds`. */
 void parcel_fetch(struct parcel *parcel, struct thread *thread, const struct binder_transaction_data_sg *record, int *fds,
                   uint32_t fd_count);
+/* The engine gets nothing of it, for which it refuses the command. */
+void parcel_lose(struct parcel *parcel);
 /* Closes the descriptors of one that the engine has refused. */
 void parcel_refuse(struct parcel *parcel);
 /* Brings the parcel that the engine's latest read got into the window, and its record to how the client sees it. */
@@ -738,15 +951,25 @@ void returns_clear(struct process *process, binder_uintptr_t cookie);
 
 /* --- reach.c: whom the engine's steps have reached. --- */
 
-/* Follows each step of a seat. */
-void reach_after_step(struct engine *engine, uint32_t seat);
+/* The one comes before each step of a seat, the other follows it. */
+void reach_before_step(struct engine *engine, bool is_read);
+void reach_after_step(struct engine *engine, uint32_t seat, bool is_read);
+/* Asks the engine, and then whether somebody is to be looked at. */
+bool reach_ask(struct engine *engine);
+/* Whether somebody is to be looked at whom the steps have reached. */
+static inline bool reach_is_left(struct engine *engine)
+{
+    if (!list_is_empty(&engine->reached_threads) || !list_is_empty(&engine->reached))
+        return true;
+    return engine->unasked && reach_ask(engine);
+}
 /* The thread, or who waits for what comes to the process, is to be looked at; NULL: nobody. */
 void reach_thread(struct thread *thread);
 void reach_process(struct process *process);
-/* The process that the thread's next call or reply goes to; NULL where that isn't known. */
-struct process *reach_target(const struct thread *thread, bool is_reply, uint32_t handle);
-/* The size of the window that the thread's next call or reply goes to: the largest where that isn't known. */
-uint64_t reach_window(const struct thread *thread, bool is_reply, uint32_t handle);
+/* Where the thread's next call or reply goes. */
+struct target reach_target(const struct thread *thread, bool is_reply, uint32_t handle);
+/* The size of the window that it goes to: the largest where that isn't known. */
+uint64_t reach_window(const struct target *target, bool is_reply, uint32_t handle);
 /* Whether who gets the thread's next call or reply takes descriptors with it, as far as that is known. */
 bool reach_takes_descriptors(const struct thread *thread, bool is_reply, uint32_t handle);
 /* The thread serves one call more, of these flags; its caller is a process, or isn't known. */
@@ -773,14 +996,18 @@ void settle_end(struct process *process);
 /* Answers the reads that can be answered, and puts all doorbells right. Follows each request that makes steps; the
    thread that has made them, if there is one, comes last. */
 void settle(struct engine *engine, struct thread *acting);
-/* Looks at some of those who are still to be looked at: false where none are left. */
+/* Whether some are still to be looked at. */
+bool settle_is_left(struct engine *engine);
+/* Looks at some of them: false where none are left. */
 bool settle_some(struct engine *engine);
 /* A thread of the process that waits in a read for what comes to the process, and isn't this one; NULL where there is none. */
 struct thread *settle_waiting_one(struct process *process, const struct thread *but);
 /* Puts a thread's doorbell right. */
 void settle_doorbell(struct thread *thread);
-/* Settles the doorbells of all threads of a process. */
+/* Settles the doorbells of all threads of a process .. */
 void settle_doorbells(struct process *process);
+/* .. or of those alone that ring, where it can only be that there is less to be read. */
+void settle_rung_doorbells(struct process *process);
 
 /* --- doorbells.c --- */
 
@@ -859,6 +1086,8 @@ struct daemon {
     struct device devices[DEVICES_MAX];
     uint32_t device_count;
     uint32_t seats;
+    bool has_chosen_manager; /* of all but root and the daemon's own user .. */
+    uid_t manager;           /* .. this one alone may be the context manager of a device */
     struct list strangers; /* processes whose device isn't known yet */
     _Atomic bool has_failed; /* a device makes no more steps, which the daemon's status tells in the end */
 };

@@ -35,6 +35,8 @@ void doorbell_set(struct thread *thread, bool rings)
     if (thread->doorbell < 0 || thread->is_rung == rings)
         return;
     thread->is_rung = rings;
+    list_remove(&thread->in_polling);
+    list_append(rings ? thread->process->polling.next : &thread->process->polling, &thread->in_polling);
     ssize_t done = rings ? send(thread->doorbell, &byte, 1, MSG_DONTWAIT | MSG_NOSIGNAL)
                          : recv(thread->doorbell_end, &byte, 1, MSG_DONTWAIT);
     if (done != 1)

@@ -1,11 +1,11 @@
 /* SPDX-License-Identifier: Apache-2.0 OR MIT */
 /*
- * engine.c: the engine of one device name. All steps are made here: each goes to the journal, and a history that can
- * take no more ends the device.
+ * engine.c: the engine of one device name. All steps are made here, and each goes to the journal.
  */
 #include "objects.h"
 
 #include <errno.h>
+#include <malloc.h>
 #include <stdlib.h>
 #include <string.h>
 #include <sys/mman.h>
@@ -48,7 +48,8 @@ struct engine *engine_new(struct daemon *daemon, struct device *device)
         list_begin(&engine->by_pid[i]);
     if (!ring_make(&engine->ring, engine->device, daemon->seats))
         log_line("%s: there is no memory for the latest steps, and nobody can look at them", engine->device);
-    if (engine->bench && tickets_begin(&engine->tickets) && make_seats(engine, daemon->seats)
+    tickets_begin(&engine->tickets);
+    if (engine->bench && reserve_take(engine) && sent_all_begin(&engine->sent) && make_seats(engine, daemon->seats)
         && hullpippin_live_new(engine->seats, &engine->live) == HULLPIPPIN_DONE && begin_journal(engine, device) && engine_start(engine))
         return engine;
     engine_free(engine);
@@ -59,10 +60,10 @@ struct engine *engine_new(struct daemon *daemon, struct device *device)
 static void tell_counts(struct engine *engine)
 {
     const struct turns *turns = &engine->loop.turns;
-    log_line("%s: %u steps", engine->device, hullpippin_live_len(&engine->live));
-    log_line("%s: turns %llu, longest %u steps, waited %llu turns, looks %llu, copied %llu", engine->device,
+    log_line("%s: %llu steps", engine->device, (unsigned long long)engine->steps);
+    log_line("%s: turns %llu, longest %u steps, waited %llu turns, looks %llu, copied %llu, took %llu us at most", engine->device,
              (unsigned long long)turns->count, turns->longest_turn, (unsigned long long)turns->longest_wait,
-             (unsigned long long)engine->looks, (unsigned long long)engine->copied);
+             (unsigned long long)engine->looks, (unsigned long long)engine->copied, (unsigned long long)turns->longest_time / 1000);
 }
 
 void engine_conclude(struct engine *engine)
@@ -72,6 +73,7 @@ void engine_conclude(struct engine *engine)
     ring_conclude(&engine->ring);
     tell_counts(engine);
     hullpippin_free_live(&engine->live);
+    reserve_free(engine);
 }
 
 void engine_free(struct engine *engine)
@@ -80,6 +82,8 @@ void engine_free(struct engine *engine)
     if (engine->live.at)
         engine_conclude(engine);
     tickets_end(&engine->tickets);
+    sent_all_end(&engine->sent);
+    reserve_free(engine);
     ring_free(&engine->ring);
     if (engine->bench)
         munmap(engine->bench, sizeof *engine->bench);
@@ -89,25 +93,47 @@ void engine_free(struct engine *engine)
     free(engine);
 }
 
-uint64_t history_most = UINT32_MAX;
+/* So many steps of a device that nobody has open aren't worth it. */
+#define STEPS_WORTH 4096u
 
-/* Told when so many of a hundred steps that a history can have are made. */
-static const uint32_t warnings[] = {50, 90, 99};
+/* Seats that were lost are free in a new engine. */
+static void find_lost_seats(struct engine *engine)
+{
+    while (engine->lost_count)
+        engine->free_seats[engine->free_count++] = engine->lost_seats[--engine->lost_count];
+}
+
+void engine_begin_anew(struct engine *engine)
+{
+    bool is_worth_it = hullpippin_live_len(&engine->live) > STEPS_WORTH && !engine->journal.recorder && !engine->is_over;
+    if (!is_worth_it || !list_is_empty(&engine->processes))
+        return;
+    engine->before += hullpippin_live_len(&engine->live);
+    hullpippin_free_live(&engine->live);
+    if (hullpippin_live_new(engine->seats, &engine->live) != HULLPIPPIN_DONE) {
+        reserve_use(engine);
+        if (hullpippin_live_new(engine->seats, &engine->live) != HULLPIPPIN_DONE) {
+            engine_end(engine, "there is no memory for a new engine");
+            return;
+        }
+    }
+    find_lost_seats(engine);
+    malloc_trim(0);
+    log_event("%s: nobody has it open, and it begins anew", engine->device);
+}
 
 void engine_end(struct engine *engine, const char *why)
 {
     if (!engine->is_over)
         log_line("%s: %s, the device ends", engine->device, why);
-    engine->is_over = engine->daemon->has_failed = true;
+    engine->is_over = true;
+    engine->daemon->has_failed = true;
 }
 
 static void count_step(struct engine *engine)
 {
     engine->steps++;
     turns_count_step(&engine->loop.turns);
-    if (engine->warnings < sizeof warnings / sizeof *warnings && engine->steps * 100 >= history_most * warnings[engine->warnings])
-        log_line("%s: %u %% of the steps that a history can have are made; then the device ends", engine->device,
-                 warnings[engine->warnings++]);
 }
 
 /* Keeps what was done, for who asks later and who looks now. */
@@ -115,11 +141,20 @@ static void tell_step(struct engine *engine, const struct step *step)
 {
     if (!engine->journal.recorder && !engine->ring.heading)
         return;
-    uint64_t time = nanoseconds();
+    uint64_t time = turns_read_clock(&engine->loop.turns);
     if (engine->journal.recorder)
         journal_append(&engine->journal, &engine->live, time);
     if (engine->ring.heading)
         ring_put(engine, step, time);
+}
+
+/* A buffer ends by being given back, and with a thread or a process. */
+static bool may_end_buffers(const struct step *step)
+{
+    uint32_t code = 0;
+    if (step->kind == RING_COMMAND)
+        memcpy(&code, step->command, sizeof code);
+    return code == BC_FREE_BUFFER || step->kind == RING_EXIT_THREAD || step->kind == RING_EXIT_PROCESS;
 }
 
 /* What a step's status is for the client; a step that was made goes to the journal and the ring. */
@@ -129,14 +164,13 @@ static int stepped(struct engine *engine, const struct step *step, uint32_t stat
     case HULLPIPPIN_DONE:
         tell_step(engine, step);
         count_step(engine);
-        tickets_see_ended(&engine->tickets, &engine->live);
-        reach_after_step(engine, step->seat);
+        if (may_end_buffers(step))
+            sent_see_ended(engine);
+        reach_after_step(engine, step->seat, step->kind == RING_READ);
         return 0;
     case HULLPIPPIN_NO_MEMORY:
+    case HULLPIPPIN_HISTORY_FULL: /* by a handle behind the last of its process: no device makes 2^64 steps */
         return ENOMEM;
-    case HULLPIPPIN_HISTORY_FULL:
-        engine_end(engine, "the history is full");
-        return ENODEV;
     default:
         return EINVAL; /* NO_COMMAND */
     }
@@ -145,12 +179,14 @@ static int stepped(struct engine *engine, const struct step *step, uint32_t stat
 int engine_open(struct engine *engine, uint32_t seat, uint32_t pid, uint32_t euid, uint32_t window)
 {
     const struct step step = {.kind = RING_OPEN, .seat = seat, .pid = pid, .euid = euid, .window = window};
+    reach_before_step(engine, false);
     return stepped(engine, &step, hullpippin_live_open(&engine->live, seat, pid, euid, window, &engine->answer));
 }
 
 int engine_attach(struct engine *engine, uint32_t seat, uint32_t pid)
 {
     const struct step step = {.kind = RING_ATTACH, .seat = seat, .pid = pid};
+    reach_before_step(engine, false);
     return stepped(engine, &step, hullpippin_live_attach(&engine->live, seat, pid, &engine->answer));
 }
 
@@ -163,12 +199,14 @@ int engine_pass(struct engine *engine)
 int engine_set_manager(struct engine *engine, uint32_t seat)
 {
     const struct step step = {.kind = RING_SET_MANAGER, .seat = seat};
+    reach_before_step(engine, false);
     return stepped(engine, &step, hullpippin_live_manager(&engine->live, seat, &engine->answer));
 }
 
 int engine_set_spam(struct engine *engine, uint32_t seat, bool on)
 {
     const struct step step = {.kind = RING_SET_SPAM, .seat = seat, .on = on};
+    reach_before_step(engine, false);
     return stepped(engine, &step, hullpippin_live_set_spam(&engine->live, seat, on, &engine->answer));
 }
 
@@ -176,6 +214,7 @@ int engine_set_spam(struct engine *engine, uint32_t seat, bool on)
 int engine_exit_thread(struct engine *engine, uint32_t seat)
 {
     const struct step step = {.kind = RING_EXIT_THREAD, .seat = seat};
+    reach_before_step(engine, false);
     int error = stepped(engine, &step, hullpippin_live_exit_thread(&engine->live, seat, &engine->answer));
     if (!error && engine->lent[seat])
         engine->lent[seat]->process->objects_let_go++;
@@ -185,6 +224,7 @@ int engine_exit_thread(struct engine *engine, uint32_t seat)
 int engine_exit_process(struct engine *engine, uint32_t seat)
 {
     const struct step step = {.kind = RING_EXIT_PROCESS, .seat = seat};
+    reach_before_step(engine, false);
     return stepped(engine, &step, hullpippin_live_exit_process(&engine->live, seat, &engine->answer));
 }
 
@@ -198,6 +238,7 @@ static void fetch_returns(struct engine *engine, bool are_there)
 int engine_read(struct engine *engine, uint32_t seat, uint32_t limit)
 {
     const struct step step = {.kind = RING_READ, .seat = seat, .limit = limit};
+    reach_before_step(engine, true);
     uint32_t status = hullpippin_live_read(&engine->live, seat, limit, &engine->answer);
     fetch_returns(engine, status == HULLPIPPIN_DONE && engine->answer.kind == HULLPIPPIN_GOT);
     return stepped(engine, &step, status);
@@ -206,14 +247,16 @@ int engine_read(struct engine *engine, uint32_t seat, uint32_t limit)
 int engine_command(struct engine *engine, uint32_t seat, const void *command, size_t size)
 {
     const struct step step = {.kind = RING_COMMAND, .seat = seat, .command = command};
+    reach_before_step(engine, false);
     return stepped(engine, &step, hullpippin_live_command(&engine->live, seat, command, size, HULLPIPPIN_NOWHERE, 0,
                                                          HULLPIPPIN_NOWHERE, 0, &engine->answer));
 }
 
-int engine_call(struct engine *engine, uint32_t seat, const void *command, size_t size, const uint8_t *data, size_t data_size,
-                const uint8_t *offsets, size_t offsets_size)
+int engine_call(struct engine *engine, uint32_t seat, const struct target *target, const void *command, size_t size, const uint8_t *data,
+                size_t data_size, const uint8_t *offsets, size_t offsets_size)
 {
-    const struct step step = {.kind = RING_COMMAND, .seat = seat, .command = command, .data = data, .data_size = data_size};
+    const struct step step = {.kind = RING_COMMAND, .seat = seat, .command = command, .data = data, .data_size = data_size, .target = target};
+    reach_before_step(engine, false);
     return stepped(engine, &step, hullpippin_live_command(&engine->live, seat, command, size,
                                                          data_size ? data : HULLPIPPIN_NOWHERE, data_size,
                                                          offsets_size ? offsets : HULLPIPPIN_NOWHERE, offsets_size,

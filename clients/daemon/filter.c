@@ -36,11 +36,15 @@
 static const uint32_t allowed[] = {
     SYS_futex,
     SYS_epoll_pwait,
+#ifdef SYS_epoll_pwait2
+    SYS_epoll_pwait2,
+#endif
     SYS_sendmsg,
     SYS_recvmsg,
     SYS_sendto,
     SYS_recvfrom,
     SYS_read,
+    SYS_pread64,
     SYS_write,
     SYS_writev,
     SYS_lseek,

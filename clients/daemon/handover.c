@@ -58,17 +58,28 @@ static void inbox_ready(struct watch *watch)
         engine->loop.is_stopped = true;
 }
 
-/* Between two turns: what is to be looked at; or of a device that is over the end of its clients. */
-static bool between(void *context)
+/* Ends a client of a device that is over. */
+static void end_one(struct engine *engine)
 {
-    struct engine *engine = context;
-    if (!engine->is_over)
-        return settle_some(engine);
     if (list_is_empty(&engine->processes))
         engine->loop.is_stopped = true;
     else
         process_end(container_of(engine->processes.next, struct process, in_engine));
-    return true;
+}
+
+/* Between two turns: what is to be looked at; or of a device that is over the end of its clients. */
+static bool between(void *context)
+{
+    struct engine *engine = context;
+    bool has_more = engine->is_over;
+    if (has_more)
+        end_one(engine);
+    else if (settle_is_left(engine)) {
+        has_more = settle_some(engine);
+        turns_note_time(&engine->loop.turns);
+    }
+    ring_put_turns(engine);
+    return has_more;
 }
 
 static void give_memory_back(struct engine *engine)
@@ -86,7 +97,9 @@ static bool idle(void *context)
     seats_regain(engine);
     seats_refuse(engine);
     give_memory_back(engine);
-    return engine->lost_count > 0;
+    engine_begin_anew(engine);
+    reserve_regain(engine);
+    return engine->lost_count > 0 || engine->uses_reserve;
 }
 
 /* Nobody comes any more; who has come meanwhile is told by the end of the connection. */

@@ -40,7 +40,7 @@ static size_t spell_wide_heading(uint32_t seats, uint64_t count, uint8_t *headin
 static size_t spell_heading(const struct journal *journal, hullpippin_live *live, uint64_t count, uint8_t *heading)
 {
     size_t size = 0;
-    uint32_t narrow_count = count == GROWING ? UINT32_MAX : (uint32_t)count;
+    uint64_t narrow_count = count == GROWING ? UINT32_MAX : count;
     if (journal->seats > NARROW_SEATS)
         return spell_wide_heading(journal->seats, count, heading);
     bool is_there = hullpippin_live_heading(live, narrow_count, heading, HEADING_ROOM, &size) == HULLPIPPIN_DONE && size <= HEADING_ROOM;
@@ -74,7 +74,8 @@ static bool begin(struct journal *journal, struct device *device, hullpippin_liv
 
 bool journal_open(struct journal *journal, struct device *device, hullpippin_live *live, uint32_t seats)
 {
-    *journal = (struct journal){.path = device->journal, .seats = seats, .room = FIRST_ROOM, .entry = malloc(FIRST_ROOM)};
+    *journal = (struct journal){.path = device->journal, .seats = seats, .room = FIRST_ROOM, .entry = malloc(FIRST_ROOM),
+                                .first = hullpippin_live_len(live)};
     return begin(journal, device, live);
 }
 
@@ -89,10 +90,22 @@ static bool grow(struct journal *journal, size_t size)
     return true;
 }
 
+uint64_t narrow_most = UINT32_MAX;
+
+/* Whether the latest step's entry can be counted. */
+static bool has_number(const struct journal *journal, hullpippin_live *live)
+{
+    return journal->seats > NARROW_SEATS || hullpippin_live_len(live) - journal->first <= narrow_most;
+}
+
 /* Fetches the latest step's entry: its size, or 0 where it can't be had. */
 static size_t fetch(struct journal *journal, hullpippin_live *live)
 {
     size_t size = 0;
+    if (!has_number(journal, live)) {
+        recorder_break_off(journal->recorder, "a journal of so few seats counts no more entries");
+        return 0;
+    }
     uint32_t status = hullpippin_live_entry(live, journal->entry, journal->room, &size);
     if (status == HULLPIPPIN_DONE && size > journal->room)
         status = grow(journal, size) ? hullpippin_live_entry(live, journal->entry, journal->room, &size) : HULLPIPPIN_NO_MEMORY;
@@ -112,16 +125,16 @@ void journal_append(struct journal *journal, hullpippin_live *live, uint64_t tim
     journal->has_broken_off = !size || !recorder_append(journal->recorder, spans);
 }
 
-/* The longest line without its name: three numbers of ten digits, one of five, and what is between them. */
+/* The longest line without its name: a number of twenty digits, two of ten, one of five, and what is between them. */
 #define LINE_ROOM (64 + ESCAPED * COMM_ROOM)
 
 void journal_note_seat(struct journal *journal, hullpippin_live *live, uint32_t seat, pid_t pid, const struct name *name)
 {
     char line[LINE_ROOM];
-    uint32_t place = hullpippin_live_len(live);
+    unsigned long long place = hullpippin_live_len(live) - journal->first;
     if (!journal->recorder || journal->has_broken_off)
         return;
-    size_t size = (size_t)(name ? sprintf(line, "%u %u %d %d ", place, seat, pid, name->tid) : sprintf(line, "%u %u -", place, seat));
+    size_t size = (size_t)(name ? sprintf(line, "%llu %u %d %d ", place, seat, pid, name->tid) : sprintf(line, "%llu %u -", place, seat));
     size += name ? name_escape(name->comm, line + size) : 0;
     line[size++] = '\n';
     const struct span spans[TRACKS] = {{NULL, 0}, {line, size}, {NULL, 0}};
@@ -133,12 +146,12 @@ bool journal_close(struct journal *journal, hullpippin_live *live)
     bool is_whole = true;
     if (journal->recorder) {
         uint8_t heading[HEADING_ROOM];
-        uint32_t count = hullpippin_live_len(live);
+        uint64_t count = hullpippin_live_len(live) - journal->first;
         size_t size = spell_heading(journal, live, count, heading);
         is_whole = recorder_end(journal->recorder, (struct span){heading, size}) && size;
         if (is_whole)
-            log_line("%s: %u entries", journal->path, count);
-        else if (!size)
+            log_line("%s: %llu entries", journal->path, (unsigned long long)count);
+        else if (!size && !journal->has_broken_off)
             log_line("%s: no memory for its heading; `bplay mend` puts it right", journal->path);
     }
     free(journal->entry);

@@ -114,7 +114,7 @@ static void deliver_wrapped(struct thread *thread, struct binder_transaction_dat
 {
     struct engine *engine = thread->process->engine;
     struct window *window = &thread->process->window;
-    struct ticket *ticket = ticket_take(&engine->tickets, trailer->step);
+    struct ticket *ticket = ticket_take(&engine->tickets, (uint64_t)trailer->step_high << 32 | trailer->step);
     struct arrival arrival = {.objects = *objects, .place = place, .base = window->base};
     record->sender_euid = trailer->euid;
     if (ticket && ticket->count)

@@ -12,7 +12,11 @@
 #include <sys/stat.h>
 #include <sys/timerfd.h>
 
-#define BACKLOG 128
+/* So many wait to be taken; who comes then waits until one of them is. */
+#define BACKLOG 8
+
+/* So many are taken at once. */
+#define TAKEN_MOST 8
 
 #define REST_SECONDS 1
 
@@ -56,12 +60,13 @@ static void rest_ready(struct watch *watch)
 static void listener_ready(struct watch *watch)
 {
     struct daemon *daemon = container_of(watch, struct daemon, listener.watch);
-    int fd = accept4(watch->fd, NULL, NULL, SOCK_CLOEXEC);
-    if (fd >= 0) {
-        process_accept(daemon, fd);
-        return;
-    }
+    int fd = 0;
+    for (int i = 0; i < TAKEN_MOST && fd >= 0; i++)
+        if ((fd = accept4(watch->fd, NULL, NULL, SOCK_CLOEXEC)) >= 0)
+            process_accept(daemon, fd);
     int error = errno;
+    if (fd >= 0)
+        return;
     bool is_away = has_gone(error) || ((error == EMFILE || error == ENFILE) && send_away(&daemon->listener));
     if (!is_away)
         rest(daemon, error);
@@ -197,7 +202,7 @@ static int take_given(struct listener *listener)
     unsetenv("LISTEN_PID");
     unsetenv("LISTEN_FDS");
     unsetenv("LISTEN_FDNAMES");
-    return LISTENER_OK;
+    return listen(FIRST, BACKLOG) ? LISTENER_FAILED : LISTENER_OK; /* as many wait as at a socket of our own */
 }
 
 /* The path that is given, else the chosen one, else the first of the user's own. */

@@ -5,12 +5,14 @@
 #include <errno.h>
 #include <string.h>
 #include <sys/epoll.h>
+#include <sys/syscall.h>
 #include <unistd.h>
 
-#define IDLE_MILLISECONDS 1000
+#define IDLE_NANOSECONDS UINT64_C(1000000000)
 
 /* Events of one fetch, and how many fetches there are between two turns at most. */
 #define EVENTS 64
+#define EVENTS_SWIFT 8
 #define FETCHES 32
 
 bool loop_begin(struct loop *loop)
@@ -73,6 +75,7 @@ void loop_drop(struct loop *loop, struct watch *watch)
 /* Who rings and rings costs no more than two events a turn. */
 static void note_event(struct loop *loop, struct watch *watch)
 {
+    watch->was_heard = true;
     if (!watch->client) {
         watch->ready(watch);
     } else if (list_is_empty(&watch->in_watches)) {
@@ -83,13 +86,27 @@ static void note_event(struct loop *loop, struct watch *watch)
     }
 }
 
+/* Waits so many nanoseconds for events, a second at most; NO_TURN: for ever. Kernels before 5.11 wait for whole milliseconds. */
+static int wait_for(const struct loop *loop, struct epoll_event *events, uint64_t patience)
+{
+    const struct timespec time = {.tv_nsec = (long)patience};
+    if (!patience || patience == NO_TURN)
+        return epoll_wait(loop->epoll, events, EVENTS, patience ? -1 : 0);
+    if (patience >= IDLE_NANOSECONDS)
+        return epoll_wait(loop->epoll, events, EVENTS, IDLE_NANOSECONDS / 1000000u);
+    int count = (int)syscall(SYS_epoll_pwait2, loop->epoll, events, EVENTS, &time, NULL, 0);
+    if (count >= 0 || errno != ENOSYS)
+        return count;
+    return epoll_wait(loop->epoll, events, EVENTS, (int)(patience / 1000000u) + 1);
+}
+
 /* Fetches all events that are there; how many these were, or -1. */
-static int fetch(struct loop *loop, int milliseconds)
+static int fetch(struct loop *loop, uint64_t patience)
 {
     struct epoll_event events[EVENTS];
     int total = 0, count = EVENTS;
     for (int i = 0; i < FETCHES && count == EVENTS; i++) {
-        count = epoll_wait(loop->epoll, events, EVENTS, i ? 0 : milliseconds);
+        count = wait_for(loop, events, i ? 0 : patience);
         if (count < 0)
             return errno == EINTR ? total + 1 : -1;
         loop->turns.now = nanoseconds();
@@ -97,6 +114,8 @@ static int fetch(struct loop *loop, int milliseconds)
         for (int j = 0; j < count; j++)
             note_event(loop, events[j].data.ptr);
     }
+    if (total > EVENTS_SWIFT) /* what these took is no turn's */
+        loop->turns.now = nanoseconds();
     return total;
 }
 
@@ -104,19 +123,16 @@ bool loop_run(struct loop *loop)
 {
     bool is_rested = false, has_more = false;
     while (!loop->is_stopped) {
-        bool is_busy = has_more || turns_are_wanted(&loop->turns);
-        int count = fetch(loop, is_busy ? 0 : is_rested ? -1 : IDLE_MILLISECONDS);
+        uint64_t due = has_more ? 0 : turns_due_in(&loop->turns);
+        bool is_idle = due == NO_TURN;
+        int count = fetch(loop, is_idle && !is_rested ? IDLE_NANOSECONDS : due);
         if (count < 0) {
             log_line("waiting: %s", strerror(errno));
             return false;
         }
-        if (count == 0 && !is_busy) {
-            is_rested = !loop->idle(loop->context);
-        } else {
-            is_rested = false;
-        }
-        if (turns_are_wanted(&loop->turns))
-            turns_give(&loop->turns);
+        is_rested = count == 0 && is_idle && !loop->idle(loop->context);
+        turns_give(&loop->turns);
+        descriptors_close_for(NULL); /* who had the turn may be gone */
         has_more = loop->between && loop->between(loop->context);
     }
     return true;

@@ -7,6 +7,7 @@
 #include <getopt.h>
 #include <limits.h>
 #include <malloc.h>
+#include <pwd.h>
 #include <signal.h>
 #include <stdlib.h>
 #include <string.h>
@@ -28,7 +29,7 @@ enum { STATUS_FAILED = 1, STATUS_USAGE = 2, STATUS_BUSY = 3 };
 
 static const char usage[] =
     "usage: hullpippind [--socket PATH] [--mode MODE] [--group GROUP] [--devices NAME,..] [--journal [NAME=]FILE].. [--seats N]\n"
-    "                   [--log FILE] [-v] [--background] [--no-filter]\n"
+    "                   [--manager UID] [--log FILE] [-v] [--background] [--no-filter]\n"
     "       hullpippind --look | --stats NAME | --state NAME [--socket PATH]\n"
     "       hullpippind --help | --version\n"
     "\n"
@@ -39,6 +40,8 @@ static const char usage[] =
     "  --devices NAME,..       the devices (" DEFAULT_DEVICES ")\n"
     "  --journal [NAME=]FILE   appends the history of a device, else of the first, to a new FILE\n"
     "  --seats N               seats of a device, 2 to 65536 (16384)\n"
+    "  --manager UID           who may be the context manager, besides root and the daemon's own user; a name does too\n"
+    "                          (else the user who was it first)\n"
     "  --log FILE              log there, not on standard error; -v: all that happens\n"
     "  --background            return as soon as clients may come\n"
     "  --no-filter             don't have the kernel refuse what the daemon never asks of it\n"
@@ -63,6 +66,16 @@ static bool read_seats(struct daemon *daemon, const char *word)
     return !errno && *word && !*end && seats >= 2 && seats <= SEATS_MOST;
 }
 
+static bool read_manager(struct daemon *daemon, const char *word)
+{
+    char *end;
+    const struct passwd *user = getpwnam(word);
+    unsigned long number = strtoul(word, &end, 10);
+    daemon->manager = user ? user->pw_uid : (uid_t)number;
+    daemon->has_chosen_manager = true;
+    return user || (*word >= '0' && *word <= '9' && !*end && number < (uid_t)-1);
+}
+
 static const struct option names[] = {
     {"socket", required_argument, NULL, 's'},  {"devices", required_argument, NULL, 'd'},
     {"journal", required_argument, NULL, 'j'}, {"seats", required_argument, NULL, 'n'},
@@ -70,8 +83,9 @@ static const struct option names[] = {
     {"verbose", no_argument, NULL, 'v'},       {"mode", required_argument, NULL, 'm'},
     {"group", required_argument, NULL, 'g'},   {"look", no_argument, NULL, 'k'},
     {"help", no_argument, NULL, 'h'},          {"version", no_argument, NULL, 'V'},
-    {"no-filter", no_argument, NULL, 'f'},     {"stats", required_argument, NULL, 't'},
-    {"state", required_argument, NULL, 'p'},   {NULL, 0, NULL, 0},
+    {"no-filter", no_argument, NULL, 'f'},     {"manager", required_argument, NULL, 'c'},
+    {"stats", required_argument, NULL, 't'},   {"state", required_argument, NULL, 'p'},
+    {NULL, 0, NULL, 0},
 };
 
 static bool read_options(struct daemon *daemon, struct options *options, int count, char **words)
@@ -94,6 +108,7 @@ static bool read_options(struct daemon *daemon, struct options *options, int cou
         case 'v': options->is_verbose = true; break;
         case 'm': is_good = is_good && listener_set_mode(&daemon->listener, optarg); break;
         case 'g': is_good = is_good && listener_set_group(&daemon->listener, optarg); break;
+        case 'c': is_good = is_good && read_manager(daemon, optarg); break;
         case 'f': options->is_unfiltered = true; break;
         case 'k': options->looks = true; break;
         case 't': options->stats = optarg; break;
@@ -280,6 +295,7 @@ int main(int count, char **words)
     raise_limits();
     keep_memory();
     shares_begin(daemon.seats);
+    accounts_begin();
     if (!log_open(options.log, options.is_verbose) || !loop_begin(&daemon.loop))
         return perror("hullpippind"), STATUS_FAILED;
     daemon.loop.between = strangers_end_some;
@@ -287,6 +303,7 @@ int main(int count, char **words)
     daemon.loop.context = &daemon;
     int status = run(&daemon, &options, &background);
     loop_end(&daemon.loop);
+    accounts_end();
     log_close();
     return status;
 }

@@ -8,17 +8,19 @@
 
 #include "daemon.h"
 
-/* A parcel with more objects is refused: it would keep all other clients waiting. */
+/* A parcel with more objects is refused, and one with so many that the engine knows: it would keep all other clients waiting. */
 #define OBJECTS_MAX 8192u
+#define KNOWN_MAX 256u
 
 /* What a wrapped parcel's data ends with, as bytes with the final 0. */
 #define TRAILER_MARK "trailer"
 
 struct trailer {
     uint64_t data_size, offsets_size, extra_size; /* of the client's parcel */
-    uint32_t step;             /* the place in the history of the step that sends it: its ticket's name */
+    uint32_t step;             /* the place in the history of the step that sends it, which is its ticket's name: the low 32 bits .. */
     uint32_t descriptor_count;
-    uint32_t euid, nothing;    /* the caller's, and zeros */
+    uint32_t euid;             /* the caller's */
+    uint32_t step_high;        /* .. and the upper 32 */
     char mark[8];              /* TRAILER_MARK */
 };
 
@@ -33,7 +35,7 @@ struct open_buffer {
 /* An engine's memory for looking at a parcel: one at a time. */
 struct workbench {
     _Alignas(8) uint8_t bytes[PARCEL_ROOM];
-    uint64_t known[OBJECTS_MAX]; /* offsets of the objects that the engine knows */
+    uint64_t known[KNOWN_MAX]; /* offsets of the objects that the engine knows */
     struct open_buffer open[OBJECTS_MAX];
 };
 

@@ -157,8 +157,16 @@ static int write_read(struct thread *thread, const struct page_request *request)
     return write_on(thread, &writing);
 }
 
-/* As with the kernel's driver, all context managers of a device are of one user: the first one's. One that has gone makes room for
-   another; who asks is ended here by nobody but its own turn. */
+/* Whether a user's process may be the context manager: root's and the daemon's own user's may always, so that nobody who was it first
+   keeps them out. Else it is who was chosen, or as with the kernel's driver the user of the one before. */
+static bool may_manage(const struct engine *engine, uid_t euid)
+{
+    const struct daemon *daemon = engine->daemon;
+    bool is_chosen = daemon->has_chosen_manager ? euid == daemon->manager : !engine->has_had_manager || euid == engine->manager_euid;
+    return is_chosen || user_is_own(euid);
+}
+
+/* One that has gone makes room for another; who asks is ended here by nobody but its own turn. */
 static int set_manager(struct thread *thread, uint32_t flags)
 {
     struct process *process = thread->process;
@@ -166,7 +174,7 @@ static int set_manager(struct thread *thread, uint32_t flags)
     uid_t euid;
     if (engine->manager && engine->manager != process && process_has_gone(engine->manager))
         process_end(engine->manager);
-    bool may = caller_euid(&process->caller, &euid) && (!engine->has_had_manager || euid == engine->manager_euid);
+    bool may = caller_euid(&process->caller, &euid) && may_manage(engine, euid);
     if (!may && !engine->manager)
         return EPERM;
     int error = engine_set_manager(engine, thread->seat);
@@ -175,6 +183,7 @@ static int set_manager(struct thread *thread, uint32_t flags)
     if (error)
         return error;
     engine->manager = process;
+    hullpippin_live_manager_object(&engine->live, &engine->manager_object);
     engine->manager_euid = euid;
     engine->has_had_manager = true;
     engine->manager_takes_descriptors = flags & PAGE_TAKES_DESCRIPTORS;
@@ -309,6 +318,7 @@ void page_rung(struct thread *thread)
 {
     struct page *page = thread->page;
     struct page_request request;
+    descriptors_close_for(thread->process->account);
     if (thread->writing) {
         go_on_writing(thread);
         return;

@@ -13,6 +13,7 @@
 #include "objects.h"
 
 #include <string.h>
+#include <unistd.h>
 
 /* A walk over the objects of a parcel that a client sends. */
 struct walk {
@@ -153,8 +154,9 @@ static void wrap(struct walk *walk)
 {
     struct parcel *parcel = walk->parcel;
     const struct objects *objects = &walk->objects;
-    struct trailer trailer = {objects->data_size, objects->offsets_size, objects->extra_size, parcel->ticket->step, parcel->ticket->count,
-                              parcel->euid, 0, TRAILER_MARK};
+    const uint64_t step = parcel->ticket->step;
+    struct trailer trailer = {objects->data_size, objects->offsets_size, objects->extra_size, (uint32_t)step, parcel->ticket->count,
+                              parcel->euid, (uint32_t)(step >> 32), TRAILER_MARK};
     uint8_t *end = objects_extra(objects) + objects->extra_size;
     memset(objects_extra(objects) + walk->used, 0, objects->extra_size - walk->used);
     memcpy(end, &trailer, sizeof trailer);
@@ -163,11 +165,18 @@ static void wrap(struct walk *walk)
     parcel->offsets_size = 8 * walk->known_count;
 }
 
-/* Copies `size` bytes from a place in the area, and zeros up to a multiple of 8. */
-static void copy_part(uint8_t *to, const struct page *page, uint64_t place, uint64_t size)
+/* Copies `size` bytes from a place in the area, and zeros up to a multiple of 8. What isn't mapped here is read: that fills no hole which
+   the client has left there. */
+static bool copy_part(uint8_t *to, const struct thread *thread, uint64_t place, uint64_t size)
 {
-    page_copy(to, page->area + place, size);
+    uint64_t mapped = place < AREA_MAPPED ? AREA_MAPPED - place : 0, copied = size < mapped ? size : mapped;
+    off_t from = (off_t)(offsetof(struct page, area) + place + copied);
+    if (copied)
+        page_copy(to, thread->page->area + place, copied);
+    if (copied < size && pread(thread->memory, to + copied, size - copied, from) != (ssize_t)(size - copied))
+        return false;
     memset(to + size, 0, round8(size) - size);
+    return true;
 }
 
 static bool is_inside(uint64_t place, uint64_t size)
@@ -175,9 +184,20 @@ static bool is_inside(uint64_t place, uint64_t size)
     return size <= PAGE_AREA && place <= PAGE_AREA - size;
 }
 
+/* Whether the engine knows of more objects than it may have at once. */
+static bool has_too_many(const struct objects *objects)
+{
+    uint64_t count = objects->offsets_size / 8, known = 0;
+    for (uint64_t i = 0; count > KNOWN_MAX && i < count && known <= KNOWN_MAX; i++) {
+        uint32_t type = objects_type(objects, objects_offset(objects, i));
+        known += type != BINDER_TYPE_PTR && type != BINDER_TYPE_FD && type != BINDER_TYPE_FDA;
+    }
+    return known > KNOWN_MAX;
+}
+
 /* Copies the parcel from the page to the daemon's memory. False where it isn't all inside of the area, has too many objects, or a
    room for buffers that isn't a multiple of 8. */
-static bool copy_in(const struct objects *objects, const struct page *page, const struct binder_transaction_data *record)
+static bool copy_in(const struct objects *objects, const struct thread *thread, const struct binder_transaction_data *record)
 {
     uint64_t data = record->data.ptr.buffer, offsets = record->data.ptr.offsets;
     if (objects->offsets_size > 8 * OBJECTS_MAX || !is_inside(data, objects->data_size) || !is_inside(offsets, objects->offsets_size))
@@ -186,17 +206,28 @@ static bool copy_in(const struct objects *objects, const struct page *page, cons
     if (objects->extra_size % 8 || !is_inside(extra, objects->extra_size)
         || round8(objects->data_size) + round8(objects->offsets_size) + objects->extra_size > PAGE_AREA)
         return false;
-    copy_part(objects->bytes, page, data, objects->data_size);
-    copy_part(objects_offsets(objects), page, offsets, objects->offsets_size);
-    copy_part(objects_extra(objects), page, extra, objects->extra_size);
-    return true;
+    if (!objects->data_size && !objects->offsets_size && !objects->extra_size)
+        return true;
+    return copy_part(objects->bytes, thread, data, objects->data_size)
+           && copy_part(objects_offsets(objects), thread, offsets, objects->offsets_size)
+           && copy_part(objects_extra(objects), thread, extra, objects->extra_size)
+           && !has_too_many(objects);
 }
 
-/* The engine gets nothing of it, for which it refuses the command. */
-static void lose(struct parcel *parcel)
+void parcel_lose(struct parcel *parcel)
 {
     parcel->is_lost = true;
     parcel->data_size = parcel->offsets_size = 0;
+}
+
+/* All but the numbers of descriptors, which are many. */
+void parcel_begin(struct parcel *parcel)
+{
+    parcel->is_lost = parcel->tells_euid = parcel->may_have_descriptors = false;
+    parcel->data = parcel->offsets = NULL;
+    parcel->data_size = parcel->offsets_size = 0;
+    parcel->ticket = NULL;
+    parcel->fd_count = 0;
 }
 
 /*
@@ -211,21 +242,22 @@ void parcel_fetch(struct parcel *parcel, struct thread *thread, const struct bin
     struct engine *engine = thread->process->engine;
     struct walk walk = {.objects = {engine->bench->bytes, data->data_size, data->offsets_size, record->buffers_size},
                         .bench = engine->bench, .parcel = parcel, .fds = fds, .fd_count = fd_count};
-    *parcel = (struct parcel){.euid = parcel->euid, .tells_euid = parcel->tells_euid, .may_have_descriptors = parcel->may_have_descriptors,
-                              .data = walk.objects.bytes, .offsets = objects_offsets(&walk.objects), .data_size = data->data_size,
-                              .offsets_size = data->offsets_size};
-    if (!copy_in(&walk.objects, thread->page, data))
-        return lose(parcel);
+    parcel->data = walk.objects.bytes;
+    parcel->offsets = objects_offsets(&walk.objects);
+    parcel->data_size = data->data_size;
+    parcel->offsets_size = data->offsets_size;
+    if (!copy_in(&walk.objects, thread, data))
+        return parcel_lose(parcel);
     if (!parcel->tells_euid && (data->offsets_size % 8 || !needs_trailer(&walk.objects)))
         return;
     if (data->offsets_size % 8 || !check_objects(&walk)) {
         if (parcel->tells_euid)
-            lose(parcel);
+            parcel_lose(parcel);
         return;
     }
     parcel->ticket = ticket_new(thread->process, parcel->fds, parcel->fd_count);
     if (!parcel->ticket)
-        return lose(parcel);
+        return parcel_lose(parcel);
     parcel->fd_count = 0;
     wrap(&walk);
 }

@@ -76,6 +76,7 @@ void process_note_handed(struct process *process, uint64_t place, unsigned hande
         return;
     uint64_t *word = &process->handed[place / 8 / PLACES_OF_WORD];
     uint64_t shift = 2 * (place / 8 % PLACES_OF_WORD);
+    process->handed_count += (handed != NOT_HANDED) - ((*word >> shift & 3) != NOT_HANDED);
     *word = (*word & ~(UINT64_C(3) << shift)) | (uint64_t)handed << shift;
 }
 
@@ -106,13 +107,13 @@ void process_clear_secret(struct process *process, uint64_t place)
     memset(process->window.at + place, 0, end - place);
 }
 
-/* What is no errno: the process is no longer here, but its device's, whose thread answers. */
-enum { HANDED_OVER = -1 };
+/* What is no errno: the process is no longer here, but its device's, whose thread answers; or nobody can tell who it is. */
+enum { HANDED_OVER = -1, UNKNOWN = -2 };
 
 static void leave_strangers(struct process *process)
 {
     loop_leave(process->loop, &process->control);
-    if (process->end.fd >= 0)
+    if (process->end.client)
         loop_leave(process->loop, &process->end);
     client_release(process->client);
     process->client = NULL;
@@ -123,9 +124,86 @@ static void leave_strangers(struct process *process)
 static bool join_loop(struct process *process, struct loop *loop)
 {
     process->loop = loop;
-    process->client = client_hold(&loop->turns, process->euid, process->pid);
+    process->client = client_hold(&loop->turns, process->whose, process->euid, process->pid);
     return process->client && loop_add_client(loop, &process->control, process->client, EPOLLIN | EPOLLRDHUP)
            && (process->end.fd < 0 || loop_add_client(loop, &process->end, process->client, EPOLLIN));
+}
+
+static void end_ready(struct watch *watch)
+{
+    struct process *process = container_of(watch, struct process, end);
+    log_event("process %d has ended, and its file hasn't", process->pid);
+    turns_want_end(&process->loop->turns, &process->control);
+}
+
+/* Kernels before 6.5 know the process by its number alone, and those before 5.3 don't tell of ends. */
+static int open_pidfd(int socket, pid_t pid)
+{
+    int fd = -1;
+    socklen_t size = sizeof fd;
+    if (getsockopt(socket, SOL_SOCKET, SO_PEERPIDFD, &fd, &size) == 0)
+        return fd;
+    return errno == ENOPROTOOPT && pid > 0 ? (int)syscall(SYS_pidfd_open, pid, 0) : -1;
+}
+
+/* For the end of the process that has connected. False where it has come already, or can't be waited for. */
+static bool open_end(struct process *process)
+{
+    errno = 0;
+    process->end = (struct watch){.fd = open_pidfd(process->control.fd, process->pid), .ready = end_ready};
+    if (process->end.fd >= 0)
+        return true;
+    log_event("the end of process %d can't be seen: %s", process->pid, strerror(errno));
+    return errno != ESRCH && errno != EMFILE && errno != ENFILE;
+}
+
+/* The process is counted with others than its user alone tells: what it has already counts there. False where that would be too much. */
+static bool count_with(struct process *process, uint64_t whose)
+{
+    struct account *account = whose == process->whose ? NULL : account_hold(whose, process->euid, process->pid);
+    if (whose == process->whose)
+        return true;
+    bool is_taken = account && account_take(account, SHARED_DESCRIPTORS, CONNECTION_DESCRIPTORS);
+    if (!is_taken) {
+        if (account)
+            account_release(account);
+        return false;
+    }
+    account_give(process->account, SHARED_DESCRIPTORS, CONNECTION_DESCRIPTORS);
+    account_release(process->account);
+    process->account = account;
+    descriptors_close_for(account);
+    process->whose = whose;
+    return true;
+}
+
+static void trust_ids(struct ids *ids, uint32_t effective)
+{
+    if (ids->saved != ids->real)
+        ids->saved = effective;
+    ids->effective = effective;
+}
+
+/* It may have become another program since it connected, which has more rights by an exec: only the real ids, and the effective ones that
+   it had then, can't have come by that. */
+static void trust_little(struct caller *caller, uid_t euid, gid_t egid)
+{
+    bool was_root = !caller->users.real || !euid;
+    trust_ids(&caller->users, euid);
+    trust_ids(&caller->groups, egid);
+    caller->may_be_anybody = caller->may_be_anybody && was_root;
+    caller->may_be_of_any_group = caller->may_be_of_any_group && was_root;
+}
+
+/* Who it is that opens a device. That takes longer than all else of a connection, so it is asked only here, in the turn of who wants it. */
+static bool know_caller(struct process *process)
+{
+    const struct ucred peer = {process->pid, process->euid, process->egid};
+    if (!caller_begin(&process->caller, process->control.fd, &peer) || !open_end(process))
+        return false;
+    process->caller.end = &process->end;
+    trust_little(&process->caller, process->euid, process->egid);
+    return count_with(process, account_in(process->euid, process->egid, process->caller.folder));
 }
 
 static int open_device(struct process *process, const struct control_request *request)
@@ -137,6 +215,8 @@ static int open_device(struct process *process, const struct control_request *re
     struct engine *engine = device_engine(process->daemon, request->device);
     if (!engine)
         return errno;
+    if (!know_caller(process))
+        return UNKNOWN;
     leave_strangers(process);
     process->engine = engine;
     if (engine_hand_over(engine, process))
@@ -159,7 +239,7 @@ void process_arrive(struct process *process)
         process_end(process);
 }
 
-/* Without the daemon's own seat a device can't go on. */
+/* Without the daemon's own seat a device can't go on. What is set aside is more than its steps take. */
 static void give_up(struct engine *engine)
 {
     engine_end(engine, "there is no memory for processes to come or go");
@@ -168,9 +248,11 @@ static void give_up(struct engine *engine)
 /* The daemon's own seat leaves the process that it has opened. */
 static bool leave(struct engine *engine)
 {
-    for (int i = 0; i < TRIES; i++)
+    for (int i = 0; i < TRIES; i++) {
         if (engine_exit_thread(engine, OWN_SEAT) == 0)
             return true;
+        reserve_use(engine);
+    }
     give_up(engine);
     return false;
 }
@@ -181,6 +263,7 @@ static bool exit_by_own_seat(struct engine *engine, uint32_t engine_pid)
     for (int i = 0; i < TRIES; i++) {
         if (engine_exit_process(engine, OWN_SEAT) == 0 && engine->answer.kind == HULLPIPPIN_EXITED)
             return true;
+        reserve_use(engine);
         engine_attach(engine, OWN_SEAT, engine_pid);
     }
     give_up(engine);
@@ -293,12 +376,12 @@ static bool answer_state(struct process *process, const struct control_request *
     return packet_send(process->control.fd, &page, sizeof page, NULL, 0, MSG_DONTWAIT);
 }
 
-/* Of a window and a thread the client has all alone but a thread's bell, which is the third; a ring stays here. */
+/* A window and its end of a thread's link, which are the first, the client has alone; a thread's page and bell stay, and so does a ring. */
 static void let_go_of_sent(struct process *process, uint32_t op, int *fds, uint32_t count)
 {
     if (op == CONTROL_MAP)
         process->window.fd = -1;
-    for (uint32_t i = 0; i < count && i < 2 && op != CONTROL_RING; i++)
+    for (uint32_t i = 0; i < count && i < 1 && op != CONTROL_RING; i++)
         descriptor_close(&fds[i]);
 }
 
@@ -312,8 +395,8 @@ static enum answered answer_control(struct process *process, const struct contro
     switch (request->op) {
     case CONTROL_OPEN:
         answer.error = open_device(process, request);
-        if (answer.error == HANDED_OVER)
-            return GONE;
+        if (answer.error == HANDED_OVER || answer.error == UNKNOWN)
+            return answer.error == UNKNOWN ? UNANSWERED : GONE;
         break;
     case CONTROL_LOOK:
         answer.error = !memchr(request->device, 0, sizeof request->device) || !device_is_there(process->daemon, request->device) ? ENOENT : 0;
@@ -355,6 +438,7 @@ static void control_ready(struct watch *watch)
     struct control_request request;
     uint32_t count;
     struct turns *turns = &process->loop->turns;
+    descriptors_close_for(process->account);
     if (turns_are_ending(turns, watch)) {
         process_end(process);
         return;
@@ -372,7 +456,8 @@ static void control_ready(struct watch *watch)
 static bool take_descriptors(struct daemon *daemon, struct process *process, const struct ucred *peer)
 {
     process->daemon = daemon;
-    process->account = account_hold(peer->uid, peer->pid);
+    process->whose = account_of(peer->uid, peer->gid);
+    process->account = account_hold(process->whose, peer->uid, peer->pid);
     if (!process->account)
         return false;
     process->is_refused = !account_take(process->account, SHARED_DESCRIPTORS, CONNECTION_DESCRIPTORS);
@@ -399,57 +484,25 @@ static void give_share(struct process *process)
     account_release(process->account);
 }
 
-static bool take_share(struct daemon *daemon, struct process *process, int fd, const struct ucred *peer)
-{
-    process->caller.folder = -1;
-    if (!take_descriptors(daemon, process, peer))
-        return false;
-    if (caller_begin(&process->caller, fd, peer))
-        return true;
-    give_share(process);
-    return false;
-}
-
 bool process_has_gone(const struct process *process)
 {
     struct pollfd ends[] = {{.fd = process->control.fd, .events = POLLRDHUP}, {.fd = process->end.fd, .events = POLLIN}};
     return poll(ends, 2, 0) > 0;
 }
 
-static void end_ready(struct watch *watch)
+/* Whether who has connected is gone already, having said nothing. */
+static bool has_hung_up(int fd)
 {
-    struct process *process = container_of(watch, struct process, end);
-    log_event("process %d has ended, and its file hasn't", process->pid);
-    turns_want_end(&process->loop->turns, &process->control);
-}
-
-/* Kernels before 6.5 know the process by its number alone, and those before 5.3 don't tell of ends. */
-static int open_pidfd(int socket, pid_t pid)
-{
-    int fd = -1;
-    socklen_t size = sizeof fd;
-    if (getsockopt(socket, SOL_SOCKET, SO_PEERPIDFD, &fd, &size) == 0)
-        return fd;
-    return errno == ENOPROTOOPT && pid > 0 ? (int)syscall(SYS_pidfd_open, pid, 0) : -1;
-}
-
-/* For the end of the process that has connected. False where it has come already, or can't be waited for. */
-static bool open_end(struct process *process)
-{
-    errno = 0;
-    process->end = (struct watch){.fd = open_pidfd(process->control.fd, process->pid), .ready = end_ready};
-    if (process->end.fd >= 0)
-        return true;
-    log_event("the end of process %d can't be seen: %s", process->pid, strerror(errno));
-    return errno != ESRCH && errno != EMFILE && errno != ENFILE;
+    char byte;
+    return recv(fd, &byte, sizeof byte, MSG_PEEK | MSG_DONTWAIT) == 0;
 }
 
 void process_accept(struct daemon *daemon, int fd)
 {
     struct ucred peer;
     socklen_t size = sizeof peer;
-    struct process *process = calloc(1, sizeof *process);
-    if (!process || getsockopt(fd, SOL_SOCKET, SO_PEERCRED, &peer, &size) || !take_share(daemon, process, fd, &peer)) {
+    struct process *process = has_hung_up(fd) ? NULL : calloc(1, sizeof *process);
+    if (!process || getsockopt(fd, SOL_SOCKET, SO_PEERCRED, &peer, &size) || !take_descriptors(daemon, process, &peer)) {
         free(process);
         descriptor_end(&fd);
         return;
@@ -458,7 +511,8 @@ void process_accept(struct daemon *daemon, int fd)
     process->came = nanoseconds();
     process->pid = peer.pid;
     process->euid = peer.uid;
-    process->window.fd = -1;
+    process->egid = peer.gid;
+    process->window.fd = process->end.fd = process->caller.folder = -1;
     list_append(&daemon->strangers, &process->in_engine);
     list_begin(&process->in_bucket);
     list_begin(&process->threads);
@@ -467,13 +521,12 @@ void process_accept(struct daemon *daemon, int fd)
     list_begin(&process->senders);
     list_begin(&process->in_resting);
     list_begin(&process->in_reached);
-    if (open_end(process) && join_loop(process, &daemon->loop))
+    if (join_loop(process, &daemon->loop))
         return;
     if (process->client)
         client_release(process->client);
     list_remove(&process->in_engine);
     give_share(process);
-    descriptor_close(&process->end.fd);
     descriptor_end(&fd);
     free(process);
 }
@@ -506,6 +559,8 @@ static void exit_in_engine(struct process *process)
 
 static void let_go(struct process *process)
 {
+    owned_free(process);
+    kept_free(process);
     list_remove(&process->in_engine);
     loop_drop(process->loop, &process->control);
     loop_drop(process->loop, &process->end);
@@ -544,8 +599,9 @@ static bool end_most_threads(struct process *process)
 void process_end(struct process *process)
 {
     struct engine *engine = process->engine;
+    descriptors_close_for(process->account);
     bool was_open = process->engine_pid && !process->is_ending;
-    if (was_open && !end_most_threads(process)) {
+    if (was_open && (!end_most_threads(process) || !ends_give_some(process))) {
         turns_want_end(&process->loop->turns, &process->control);
         settle(engine, NULL);
         seats_retry(engine);
@@ -556,10 +612,14 @@ void process_end(struct process *process)
     process->is_ending = true;
     if (engine)
         settle_end(process);
-    if (free_threads(process))
+    if (free_threads(process)) {
         let_go(process);
-    else
+        descriptors_close_for(NULL);
+    } else {
         turns_want_end(&process->loop->turns, &process->control);
+    }
+    if (was_open)
+        reserve_regain(engine);
     if (was_open)
         settle(engine, NULL);
     if (engine)

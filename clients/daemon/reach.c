@@ -1,14 +1,21 @@
 /* SPDX-License-Identifier: Apache-2.0 OR MIT */
 /*
- * reach.c: whom the engine's steps have reached. After each step the engine names the lists of what is to be read that it has filled or
- * emptied. Where these are all, it is proved that besides the acting thread those alone have come to be ready, or aren't any more, whose
- * own list or whose process's list is named, or who have ended (docs/LIBRARY.md); so nobody else is looked at then. Where they aren't
- * known, or there was no memory, all who wait are. That this file does so isn't proved.
+ * reach.c: whom the engine's steps have reached. The engine names the lists of what is to be read that its steps have filled or
+ * emptied since it was last asked. Where these are all, it is proved that besides the acting threads those alone have come to be ready, or
+ * aren't any more, whose own list or whose process's list is named, or who have ended (docs/LIBRARY.md); so nobody else is looked at then.
+ * Where they aren't known, or there was no memory, all who wait are. That this file does so isn't proved.
+ *
+ * It is asked once for some steps that fill lists, before anybody is looked at. A read empties a list, of which none needs to hear
+ * but who polls there, whose doorbell is put right as the read's returns are handed over (returns.c). But a list that was emptied and filled
+ * again in between would be as it was, and wouldn't be named: so the next step that may fill one asks before it is made.
  *
  * A list that has something and gets more isn't named. Therefore nothing is left on the list of a thread that waits: what its call has
  * left there, which it is to be told together with the reply, is read at once and waits in the daemon (settle.c).
  */
 #include "daemon.h"
+
+/* So many steps are made before the engine is asked, at most: it names so many lists, and where there are more, none. */
+#define UNASKED_MOST 8u
 
 void reach_thread(struct thread *thread)
 {
@@ -30,7 +37,7 @@ static void reach_all(struct engine *engine)
 }
 
 /* The process that the step at a place has opened. NULL where it has ended. */
-static struct process *process_at(struct engine *engine, uint32_t place)
+static struct process *process_at(struct engine *engine, uint64_t place)
 {
     hullpippin_process told;
     return hullpippin_live_process(&engine->live, place, &told) ? process_of(engine, told.pid) : NULL;
@@ -46,29 +53,48 @@ static void reach_list(struct engine *engine, const hullpippin_todo_list *list)
         reach_all(engine);
 }
 
-void reach_after_step(struct engine *engine, uint32_t seat)
+static void ask(struct engine *engine)
 {
     hullpippin_todo_list list;
     size_t count = 0;
+    engine->unasked = 0;
+    engine->has_read = false;
     if (hullpippin_live_ask_reached(&engine->live, &count) != HULLPIPPIN_DONE)
-        reach_all(engine); /* without memory the lists are told after the next step */
+        reach_all(engine); /* without memory the lists are told the next time */
     for (size_t index = 0; index < count && hullpippin_live_reached(&engine->live, index, &list); index++)
         reach_list(engine, &list);
+}
+
+void reach_before_step(struct engine *engine, bool is_read)
+{
+    if (!is_read && engine->has_read)
+        ask(engine);
+}
+
+void reach_after_step(struct engine *engine, uint32_t seat, bool is_read)
+{
+    if (is_read)
+        engine->has_read = true;
+    else if (++engine->unasked >= UNASKED_MOST)
+        ask(engine);
     reach_thread(engine->lent[seat]);
+}
+
+bool reach_ask(struct engine *engine)
+{
+    ask(engine);
+    return !list_is_empty(&engine->reached_threads) || !list_is_empty(&engine->reached);
 }
 
 /* --- Who gets a call or a reply. --- */
 
-/* The process of the object that a handle names. NULL where it names none, or one whose owner has ended. */
-static struct process *find_owner(const struct process *process, uint32_t handle)
+/* The object that a handle names, and its owner's process. NULL where it names none, or one whose owner has ended. */
+static struct process *find_object(const struct process *process, uint32_t handle, hullpippin_object_id *id)
 {
     struct engine *engine = process->engine;
-    hullpippin_object_id id;
     hullpippin_object object;
-    if (!handle)
-        return engine->manager;
-    bool is_named = hullpippin_live_named(&engine->live, process->engine_pid, handle, &id)
-                    && hullpippin_live_object(&engine->live, id.place, id.index, &object);
+    bool is_named = hullpippin_live_named(&engine->live, process->engine_pid, handle, id)
+                    && hullpippin_live_object(&engine->live, id->place, id->index, &object);
     return is_named ? process_at(engine, object.owner) : NULL;
 }
 
@@ -79,26 +105,37 @@ static struct served latest_served(const struct thread *thread)
     return is_known ? thread->served[thread->serving - 1] : (struct served){.takes_descriptors = true};
 }
 
-struct process *reach_target(const struct thread *thread, bool is_reply, uint32_t handle)
+struct target reach_target(const struct thread *thread, bool is_reply, uint32_t handle)
 {
-    uint32_t pid = latest_served(thread).caller;
-    return !is_reply ? find_owner(thread->process, handle) : pid ? process_of(thread->process->engine, pid) : NULL;
+    struct engine *engine = thread->process->engine;
+    uint32_t pid = is_reply ? latest_served(thread).caller : 0;
+    struct target target = {NULL, {RING_NONE, 0}};
+    if (is_reply)
+        target.process = pid ? process_of(engine, pid) : NULL;
+    else if (handle)
+        target.process = find_object(thread->process, handle, &target.object);
+    else
+        target = (struct target){engine->manager, engine->manager_object};
+    return target;
 }
 
-uint64_t reach_window(const struct thread *thread, bool is_reply, uint32_t handle)
+uint64_t reach_window(const struct target *target, bool is_reply, uint32_t handle)
 {
-    struct process *receiver = reach_target(thread, is_reply, handle);
+    const struct process *receiver = target->process;
     if (!receiver && !is_reply && !handle)
         return 0; /* there is no context manager, which the engine says before it asks for a parcel */
     return receiver ? receiver->window.size : WINDOW_MAX;
 }
 
-/* Of which objects descriptors are taken isn't kept, but for the manager's. */
 bool reach_takes_descriptors(const struct thread *thread, bool is_reply, uint32_t handle)
 {
+    hullpippin_object_id id;
     if (is_reply)
         return latest_served(thread).takes_descriptors;
-    return handle || thread->process->engine->manager_takes_descriptors;
+    if (!handle)
+        return thread->process->engine->manager_takes_descriptors;
+    const struct process *owner = find_object(thread->process, handle, &id);
+    return !owner || owned_takes_descriptors(owner, id.place, id.index);
 }
 
 void reach_note_served(struct thread *thread, const struct process *caller, uint32_t flags)

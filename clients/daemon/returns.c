@@ -74,6 +74,8 @@ static void take_return(struct thread *thread, uint8_t *bytes, uint32_t size)
         thread->is_prompt = true;
     if (code == BR_TRANSACTION_COMPLETE && thread->completions)
         thread->completions--;
+    if (code == BR_CLEAR_DEATH_NOTIFICATION_DONE && thread->clearings)
+        thread->clearings--;
     append(thread, bytes, size);
 }
 
@@ -83,6 +85,8 @@ static int fetch(struct thread *thread, uint32_t limit)
     if (thread->pending_size + limit > sizeof thread->pending)
         return ENOBUFS;
     int error = engine_read(engine, thread->seat, limit);
+    if (!error && engine->answer.kind != HULLPIPPIN_GOT)
+        thread->clearings = 0; /* nothing is left to be read of it */
     if (error || engine->answer.kind != HULLPIPPIN_GOT)
         return error ? error : EAGAIN;
     for (uint32_t at = 0; at + sizeof(uint32_t) <= engine->returns_size;) {
@@ -241,7 +245,8 @@ void returns_deliver(struct thread *thread)
     thread->is_prompt = thread->pending_size || (thread->is_prompt && has_more(thread));
     thread->is_waiting = thread->has_no_room = thread->is_behind = false;
     settle_watch(thread);
-    settle_doorbells(thread->process);
+    settle_doorbell(thread);
+    settle_rung_doorbells(thread->process);
     page_answer(thread, returns, size);
 }
 

@@ -86,22 +86,36 @@ static enum ring_answer answer_of(const hullpippin_answer *answer)
     }
 }
 
-static void put_answer(struct ring_counts *counts, struct ring_slot *slot, const hullpippin_answer *answer)
+/* The number of a note, a cause or a fault. */
+static void count_number(struct ring_counts *counts, const struct ring_slot *slot)
 {
     uint64_t *const numbers[] = {[RING_NOTED] = counts->notes, [RING_STOPPED] = counts->causes, [RING_REFUSED] = counts->faults};
+    count(&numbers[slot->answer][slot->number % 32]);
+}
+
+static void put_answer(struct ring_counts *counts, struct ring_slot *slot, const hullpippin_answer *answer)
+{
     slot->answer = (uint8_t)answer_of(answer);
     slot->number = (uint8_t)answer->number;
     count(&counts->answers[slot->answer]);
-    if (numbers[slot->answer])
-        count(&numbers[slot->answer][slot->number % 32]);
+    if (slot->answer == RING_NOTED || slot->answer == RING_STOPPED || slot->answer == RING_REFUSED)
+        count_number(counts, slot);
 }
 
-/* Where a call or reply goes that was taken. */
-static void put_target(struct engine *engine, struct ring_slot *slot)
+/* Where a call or reply goes that was taken. The engine is asked where that wasn't known before. */
+static void put_target(struct engine *engine, struct ring_slot *slot, const struct target *target)
 {
     hullpippin_buffer buffer;
     hullpippin_process receiver;
-    if (slot->answer != RING_ACCEPTED || !hullpippin_live_buffer(&engine->live, (uint32_t)slot->place, &buffer))
+    if (slot->answer != RING_ACCEPTED)
+        return;
+    if (target->process) {
+        slot->other = target->process->engine_pid;
+        slot->object_place = target->object.place;
+        slot->object_index = target->object.index;
+        return;
+    }
+    if (!hullpippin_live_buffer(&engine->live, slot->place, &buffer))
         return;
     if (hullpippin_live_process(&engine->live, buffer.receiver, &receiver))
         slot->other = receiver.pid;
@@ -125,7 +139,7 @@ static void put_sent(struct engine *engine, struct ring_slot *slot, const struct
     struct binder_transaction_data record;
     memcpy(&record, payload, sizeof record);
     put_record(slot, &record);
-    put_target(engine, slot);
+    put_target(engine, slot, step->target);
     slot->handle = slot->command == BC_TRANSACTION ? record.target.handle : 0;
     if (record.flags & TF_CLEAR_BUF || !step->data_size)
         return;
@@ -230,14 +244,26 @@ static void put_read(struct engine *engine, struct ring_slot *slot, const struct
     }
 }
 
-static void put_counts(const struct engine *engine, struct ring_counts *counts, const struct step *step)
+void ring_put_turns(struct engine *engine)
 {
     const struct turns *turns = &engine->loop.turns;
+    if (!engine->ring.heading)
+        return;
+    struct ring_counts *counts = &engine->ring.heading->counts;
     set(&counts->turns, turns->count);
     set(&counts->longest_turn, turns->longest_turn);
     set(&counts->longest_wait, turns->longest_wait);
     set(&counts->looks, engine->looks);
     set(&counts->copied, engine->copied);
+    set(&counts->longest_time, atomic_load_explicit(&turns->longest_time, memory_order_relaxed));
+    set(&counts->costly_time, turns->costly_time);
+    set(&counts->put_off, turns->put_off);
+    set(&counts->longest_end, turns->longest_end);
+    set(&counts->longest_open, atomic_load_explicit(&engine->daemon->loop.turns.longest_time, memory_order_relaxed));
+}
+
+static void count_processes(const struct engine *engine, struct ring_counts *counts, const struct step *step)
+{
     if (step->kind == RING_OPEN && engine->answer.kind == HULLPIPPIN_OPENED)
         count(&counts->processes);
     else if (step->kind == RING_EXIT_PROCESS && engine->answer.kind == HULLPIPPIN_EXITED)
@@ -261,7 +287,7 @@ static void fill(struct engine *engine, struct ring_slot *slot, const struct ste
     slot->time = time;
     slot->place = engine->answer.from;
     slot->kind = (uint8_t)step->kind;
-    slot->call = slot->object_place = slot->object_index = RING_NONE;
+    slot->call = slot->object_place = RING_NONE;
     put_client(engine, slot, step);
     put_answer(&engine->ring.heading->counts, slot, &engine->answer);
     if (step->kind == RING_COMMAND) {
@@ -277,12 +303,12 @@ static void fill(struct engine *engine, struct ring_slot *slot, const struct ste
 
 void ring_put(struct engine *engine, const struct step *step, uint64_t time)
 {
-    uint64_t place = engine->answer.from;
+    uint64_t place = engine->before + engine->answer.from; /* of all that the ring has */
     struct ring_slot *slot = slot_of(&engine->ring, place);
     set(&slot->sequence, 2 * place + 1);
     __atomic_thread_fence(__ATOMIC_RELEASE);
     fill(engine, slot, step, time);
     __atomic_store_n(&slot->sequence, 2 * place + 2, __ATOMIC_RELEASE);
     __atomic_store_n(&engine->ring.heading->count, place + 1, __ATOMIC_RELEASE);
-    put_counts(engine, &engine->ring.heading->counts, step);
+    count_processes(engine, &engine->ring.heading->counts, step);
 }

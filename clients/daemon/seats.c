@@ -28,7 +28,7 @@ static void take_away(struct thread *thread)
     count_lent(thread->process->engine, false);
     thread->seat = NO_SEAT;
     thread->is_looper = false;
-    thread->serving = thread->calling = thread->refusals = thread->completions = thread->untold = 0;
+    thread->serving = thread->calling = thread->refusals = thread->completions = thread->untold = thread->clearings = 0;
     thread->refusal = NOT_REFUSED;
     sendings_end(thread);
     doorbell_set(thread, false);

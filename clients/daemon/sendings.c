@@ -172,6 +172,7 @@ static void hand_over(struct sendings *sendings)
         struct thread *other = code ? told_instead(sendings, ptr) : NULL;
         if (other) {
             other->is_behind = true;
+            reach_thread(other);
             move_to(thread, at, other, other->pending_size);
             continue;
         }

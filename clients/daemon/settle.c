@@ -110,10 +110,24 @@ void settle_doorbell(struct thread *thread)
         settle_watch(thread);
 }
 
+/* Each goes to the front as it rings, and to the back as it stops. */
 void settle_doorbells(struct process *process)
 {
-    for (struct list *entry = process->polling.next; entry != &process->polling; entry = entry->next)
+    for (struct list *entry = process->polling.next, *next; entry != &process->polling; entry = next) {
+        next = entry->next;
         settle_doorbell(container_of(entry, struct thread, in_polling));
+    }
+}
+
+void settle_rung_doorbells(struct process *process)
+{
+    for (struct list *entry = process->polling.next, *next; entry != &process->polling; entry = next) {
+        struct thread *thread = container_of(entry, struct thread, in_polling);
+        next = entry->next;
+        if (!thread->is_rung)
+            return;
+        settle_doorbell(thread);
+    }
 }
 
 /* --- Looking at those that wait. --- */
@@ -161,12 +175,16 @@ static bool look_at_waiting_one(struct process *process)
     return has_changed;
 }
 
-/* What no thread reads that waits, the doorbells tell. */
+/* What no thread reads that waits, the doorbells tell. Where there is nothing, one that is silent stays so. */
 static void look_at_process(struct process *process)
 {
     list_remove(&process->in_reached);
-    if (!look_at_waiting_one(process))
+    if (look_at_waiting_one(process) || list_is_empty(&process->polling))
+        return;
+    if (process->cleared.count || has_ready(process))
         settle_doorbells(process);
+    else
+        settle_rung_doorbells(process);
 }
 
 /* --- Those that all have to be looked at, some at a time: the first is looked at and goes last. --- */
@@ -193,11 +211,6 @@ static bool look_at_next_process(struct engine *engine)
     return false;
 }
 
-static bool are_reached(const struct engine *engine)
-{
-    return !list_is_empty(&engine->reached_threads) || !list_is_empty(&engine->reached);
-}
-
 /* The first that the engine has named. A thread that has read and waits on is looked at again. */
 static void look_at_first(struct engine *engine, const struct thread *acting)
 {
@@ -214,7 +227,7 @@ static void look_at_first(struct engine *engine, const struct thread *acting)
 /* Those that the engine has named. Who is acting is looked at behind all others. */
 static void look_at_reached(struct engine *engine, const struct thread *acting)
 {
-    for (int looks = 0; are_reached(engine); looks++) {
+    for (int looks = 0; reach_is_left(engine); looks++) {
         if (looks >= LOOKS_AT_ONCE && turns_is_over(&engine->loop.turns))
             return;
         look_at_first(engine, acting);
@@ -233,7 +246,7 @@ static void look_at_some(struct engine *engine, const struct thread *acting)
         else
             break;
         look_at_reached(engine, acting);
-        if ((has_changed || are_reached(engine)) && turns_is_over(&engine->loop.turns))
+        if ((has_changed || reach_is_left(engine)) && turns_is_over(&engine->loop.turns))
             return;
     }
     if (list_is_empty(&engine->looked_at))
@@ -242,12 +255,17 @@ static void look_at_some(struct engine *engine, const struct thread *acting)
         engine->resting_left = 0;
 }
 
+bool settle_is_left(struct engine *engine)
+{
+    return engine->looked_at_left || engine->resting_left || reach_is_left(engine);
+}
+
 bool settle_some(struct engine *engine)
 {
     look_at_reached(engine, NULL);
     if (engine->looked_at_left || engine->resting_left)
         look_at_some(engine, NULL);
-    return engine->looked_at_left || engine->resting_left || are_reached(engine);
+    return settle_is_left(engine);
 }
 
 void settle(struct engine *engine, struct thread *acting)

@@ -13,10 +13,10 @@
 #define LOOKS_AT_ONCE 24u
 
 /* Where a page begins: at the handles or the buffers of the process that was opened at a place, from the number on that stands beside;
-   at a seat; or at a bucket of processes, and so many further on there. */
-#define AT_BUFFER (UINT64_C(1) << 34)
-#define AT_HANDLE (UINT64_C(1) << 33)
-#define AT_SEAT (UINT64_C(1) << 32)
+   at a seat; or at a bucket of processes, and so many further on there. No device makes 2^61 steps: they would take ten thousand years. */
+#define AT_BUFFER (UINT64_C(1) << 63)
+#define AT_HANDLE (UINT64_C(1) << 62)
+#define AT_SEAT (UINT64_C(1) << 61)
 #define BUCKET_SHIFT 24
 #define IN_BUCKET ((UINT64_C(1) << BUCKET_SHIFT) - 1)
 
@@ -37,7 +37,8 @@ static uint32_t unread_of_thread(struct engine *engine, uint32_t seat)
 static uint32_t unread_of_process(struct engine *engine, uint32_t pid)
 {
     hullpippin_work work;
-    uint32_t made, count = 0;
+    uint32_t count = 0;
+    uint64_t made;
     if (!hullpippin_live_process_of_pid(&engine->live, pid, &made))
         return 0;
     while (count < STATE_UNREAD && hullpippin_live_unread_of_process(&engine->live, made, count, &work))
@@ -102,14 +103,14 @@ static void tell_threads(struct engine *engine, uint64_t from, struct state_page
 }
 
 /* The pid in the history of the process that was opened at a place, or 0 where that has ended. */
-static uint32_t pid_of(struct engine *engine, uint32_t made)
+static uint32_t pid_of(struct engine *engine, uint64_t made)
 {
     hullpippin_process process;
     return hullpippin_live_process(&engine->live, made, &process) ? process.pid : 0;
 }
 
 /* Tells the first handle of a process from a number on, and goes behind it. Whether there is one. */
-static bool tell_handle(struct engine *engine, uint32_t process, uint64_t *from, struct state_record *record)
+static bool tell_handle(struct engine *engine, uint64_t process, uint64_t *from, struct state_record *record)
 {
     hullpippin_object_id id;
     hullpippin_object object;
@@ -124,11 +125,11 @@ static bool tell_handle(struct engine *engine, uint32_t process, uint64_t *from,
 }
 
 /* The same of its buffers, by the places where they were made. */
-static bool tell_buffer(struct engine *engine, uint32_t process, uint64_t *from, struct state_record *record)
+static bool tell_buffer(struct engine *engine, uint64_t process, uint64_t *from, struct state_record *record)
 {
     hullpippin_buffer buffer;
-    uint32_t made;
-    if (*from > UINT32_MAX || !hullpippin_live_next_buffer(&engine->live, process, (uint32_t)*from, &made)
+    uint64_t made;
+    if (!hullpippin_live_next_buffer(&engine->live, process, *from, &made)
         || !hullpippin_live_buffer(&engine->live, made, &buffer))
         return false;
     *record = (struct state_record){.kind = STATE_BUFFER, .process = pid_of(engine, process), .made = made, .start = buffer.start,
@@ -138,16 +139,16 @@ static bool tell_buffer(struct engine *engine, uint32_t process, uint64_t *from,
         record->object_place = buffer.target.place;
         record->object_index = buffer.target.index;
     }
-    *from = (uint64_t)made + 1;
+    *from = made + 1; /* no step stands at the last place */
     return true;
 }
 
 /* Tells what processes have, of the one or the other kind: from a process on, and there from a number on. */
-static void tell_things(struct engine *engine, uint64_t kind, uint32_t process, uint64_t from, struct state_page *page)
+static void tell_things(struct engine *engine, uint64_t kind, uint64_t process, uint64_t from, struct state_page *page)
 {
-    bool (*tell)(struct engine *, uint32_t, uint64_t *, struct state_record *) = kind == AT_HANDLE ? tell_handle : tell_buffer;
+    bool (*tell)(struct engine *, uint64_t, uint64_t *, struct state_record *) = kind == AT_HANDLE ? tell_handle : tell_buffer;
     for (uint32_t looks = 0; looks < LOOKS_AT_ONCE && page->count < STATE_ROOM; looks++) {
-        uint32_t found;
+        uint64_t found;
         if (!hullpippin_live_next_process(&engine->live, process, &found)) {
             page->next = kind == AT_HANDLE ? AT_BUFFER : 0;
             return;
@@ -172,7 +173,7 @@ void state_tell(struct engine *engine, uint64_t from, uint64_t within, struct st
     if (kind == AT_SEAT)
         tell_threads(engine, rest, page);
     else if (kind == AT_HANDLE || kind == AT_BUFFER)
-        tell_things(engine, kind, (uint32_t)rest, within, page);
+        tell_things(engine, kind, rest, within, page);
     else if (from < AT_SEAT)
         tell_processes(engine, from, page);
 }

@@ -63,7 +63,8 @@ static void bell_ready(struct watch *watch)
     seats_retry(engine);
 }
 
-/* The page's size is sealed: no access of the daemon's can go past its end. */
+/* The page's size is sealed: no access of the daemon's can go past its end. Of its area little is mapped here, so that looking at what its
+   client has left empty fills no more of it. */
 static struct page *make_page(int *memory)
 {
     *memory = memfd_create("hullpippin-page", MFD_CLOEXEC | MFD_ALLOW_SEALING);
@@ -71,7 +72,7 @@ static struct page *make_page(int *memory)
         return NULL;
     if (ftruncate(*memory, sizeof(struct page)) || fcntl(*memory, F_ADD_SEALS, F_SEAL_SHRINK | F_SEAL_GROW | F_SEAL_SEAL))
         return NULL;
-    void *at = mmap(NULL, sizeof(struct page), PROT_READ | PROT_WRITE, MAP_SHARED, *memory, 0);
+    void *at = mmap(NULL, PAGE_MAPPED, PROT_READ | PROT_WRITE, MAP_SHARED, *memory, 0);
     return at == MAP_FAILED ? NULL : at;
 }
 
@@ -95,7 +96,7 @@ static bool make_parts(struct parts *parts)
 static void free_parts(struct parts *parts)
 {
     if (parts->page)
-        munmap(parts->page, sizeof *parts->page);
+        munmap(parts->page, PAGE_MAPPED);
     descriptor_close(&parts->link[0]);
     descriptor_close(&parts->link[1]);
     descriptor_close(&parts->memory);
@@ -112,6 +113,7 @@ static struct thread *new_thread(struct process *process, uint64_t tid, const st
     thread->process = process;
     thread->told_tid = tid;
     thread->page = parts->page;
+    thread->memory = parts->memory;
     thread->seat = NO_SEAT;
     thread->doorbell = thread->doorbell_end = -1;
     list_append(&process->threads, &thread->in_process);
@@ -157,7 +159,6 @@ int thread_join(struct process *process, uint64_t tid, int fds[3])
     /* A bell is never emptied: each time it is rung there is an event. Of the link only its end makes one. */
     if (!loop_add_client(loop, &thread->link, client, EPOLLRDHUP) || !loop_add_client(loop, &thread->bell, client, EPOLLIN)) {
         descriptor_close(&parts.link[1]);
-        descriptor_close(&parts.memory);
         thread_free(thread);
         return ENOMEM;
     }
@@ -200,6 +201,7 @@ static void tell_end(struct thread *thread)
 void thread_free(struct thread *thread)
 {
     struct loop *loop = thread->process->loop;
+    descriptors_close_for(thread->process->account);
     page_forget(thread);
     tell_end(thread);
     seat_forget(thread);
@@ -209,10 +211,12 @@ void thread_free(struct thread *thread)
     free(thread->landing);
     loop_drop(loop, &thread->link);
     loop_drop(loop, &thread->bell);
-    munmap(thread->page, sizeof *thread->page);
+    munmap(thread->page, PAGE_MAPPED);
+    descriptor_close(&thread->memory);
     settle_forget(thread);
     list_remove(&thread->in_seatless);
     list_remove(&thread->in_process);
+    owed_end(thread);
     give_share(thread->process->account);
     thread->process->thread_count--;
     free(thread);

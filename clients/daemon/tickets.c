@@ -12,18 +12,13 @@
 #include <stdlib.h>
 #include <string.h>
 
-/* As many buffers as a window has room for: none takes less than 8 bytes. */
-#define ENDED_MOST (WINDOW_MAX / 8)
-
-bool tickets_begin(struct tickets *tickets)
+void tickets_begin(struct tickets *tickets)
 {
     for (size_t i = 0; i < TICKET_LISTS; i++)
         list_begin(&tickets->lists[i]);
-    tickets->ended = malloc(ENDED_MOST * sizeof *tickets->ended);
-    return tickets->ended != NULL;
 }
 
-static struct list *list_of(struct tickets *tickets, uint32_t step)
+static struct list *list_of(struct tickets *tickets, uint64_t step)
 {
     return &tickets->lists[step % TICKET_LISTS];
 }
@@ -33,12 +28,8 @@ struct ticket *ticket_new(struct process *process, const int *fds, uint32_t coun
     struct ticket *ticket = malloc(sizeof *ticket + count * sizeof *fds);
     if (!ticket)
         return NULL;
-    *ticket = (struct ticket){.account = account_hold(process->euid, process->pid), .step = hullpippin_live_len(&process->engine->live)};
+    *ticket = (struct ticket){.account = account_keep(process->account), .step = hullpippin_live_len(&process->engine->live)};
     list_begin(&ticket->in_list);
-    if (!ticket->account) {
-        free(ticket);
-        return NULL;
-    }
     if (!account_take(ticket->account, SHARED_DESCRIPTORS, count)) {
         log_event("process %d has its share of descriptors, and can't send %u more", process->pid, count);
         ticket_free(ticket);
@@ -53,7 +44,9 @@ void ticket_free(struct ticket *ticket)
 {
     if (!ticket)
         return;
+    struct account *before = descriptors_close_for(ticket->account);
     descriptors_close(ticket->fds, ticket->count);
+    descriptors_close_for(before);
     account_give(ticket->account, SHARED_DESCRIPTORS, ticket->count);
     account_release(ticket->account);
     free(ticket);
@@ -65,7 +58,7 @@ void ticket_keep(struct tickets *tickets, struct ticket *ticket)
     tickets->count++;
 }
 
-struct ticket *ticket_take(struct tickets *tickets, uint32_t step)
+struct ticket *ticket_take(struct tickets *tickets, uint64_t step)
 {
     struct list *list = list_of(tickets, step);
     for (struct list *entry = list->next; entry != list; entry = entry->next) {
@@ -79,13 +72,10 @@ struct ticket *ticket_take(struct tickets *tickets, uint32_t step)
     return NULL;
 }
 
-void tickets_see_ended(struct tickets *tickets, hullpippin_live *live)
+void ticket_end(struct tickets *tickets, uint64_t step)
 {
-    if (!tickets->count)
-        return;
-    size_t count = hullpippin_live_ended(live, tickets->ended, ENDED_MOST);
-    for (size_t i = 0; i < count && tickets->count; i++)
-        ticket_free(ticket_take(tickets, tickets->ended[i]));
+    if (tickets->count)
+        ticket_free(ticket_take(tickets, step));
 }
 
 void tickets_end(struct tickets *tickets)
@@ -93,5 +83,4 @@ void tickets_end(struct tickets *tickets)
     for (size_t i = 0; i < TICKET_LISTS && tickets->count; i++)
         while (!list_is_empty(&tickets->lists[i]))
             ticket_free(ticket_take(tickets, container_of(tickets->lists[i].next, struct ticket, in_list)->step));
-    free(tickets->ended);
 }

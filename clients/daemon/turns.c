@@ -1,10 +1,15 @@
 /* SPDX-License-Identifier: Apache-2.0 OR MIT */
 /*
- * turns.c: whose turn it is. A user has as many turns as another, however many processes want one, and a process as many as
- * another of its user, however many files and threads it has.
+ * turns.c: whose turn it is. An account has as many turns as another, however many users it has that want one, a user of it as many
+ * as another, however many processes want one, and a process as many as another of its user, however many files and threads it has.
  *
  * A turn ends after some microseconds or steps, and what isn't done by then goes on with the next one. What can't be divided, as a
  * large parcel, may take longer; who had that is passed over until the others have had as much, or the time has gone by.
+ *
+ * Who is asleep between two calls isn't there to be passed over for. So a turn that takes much longer is a costly one: while two others
+ * have been about, its account rests twice as long as it took before it has another such turn, also where nobody else wants one then. A
+ * client that asks for a step whose price is as high meanwhile, or has had two of the longest, has its turns among those for a while;
+ * all others of its account have theirs as before. One alone may have been the machine's doing.
  */
 #include "daemon.h"
 
@@ -14,11 +19,28 @@
 #define TURN_NANOSECONDS 20000u
 #define TURN_STEPS 64u
 
-uint64_t nanoseconds(void)
+/* To ask for the processor's time takes as long as a step, so what a turn takes of it is told from an asking that is so old at most,
+   but where it matters who has had a costly turn. */
+#define ASKING_NANOSECONDS 50000u
+
+/* A turn of more is a costly one, and its account rests so many times as long before the next one. Other work on the machine makes
+   many turns look as long; so it takes one of more to make its client's next turns costly .. */
+#define COSTLY_NANOSECONDS 50000u
+#define DEAR_NANOSECONDS 150000u
+#define REST_TIMES 2u
+/* .. where two others were about so long ago at most. So long, too, a client that has had one is costly. */
+#define MEMORY_NANOSECONDS UINT64_C(50000000)
+
+static uint64_t read_clock(clockid_t clock)
 {
     struct timespec now;
-    clock_gettime(CLOCK_MONOTONIC, &now);
+    clock_gettime(clock, &now);
     return (uint64_t)now.tv_sec * 1000000000u + (uint64_t)now.tv_nsec;
+}
+
+uint64_t nanoseconds(void)
+{
+    return read_clock(CLOCK_MONOTONIC);
 }
 
 uint64_t realtime_offset(void)
@@ -28,18 +50,28 @@ uint64_t realtime_offset(void)
     return (uint64_t)now.tv_sec * 1000000000u + (uint64_t)now.tv_nsec - nanoseconds();
 }
 
-/* A user id that no user has. */
+/* An account and a user that nobody has. */
+#define NO_ACCOUNT UINT64_MAX
 #define NO_UID ((uid_t)-1)
+
+static void begin_queuer(struct queuer *queuer, struct queuer *above)
+{
+    queuer->above = above;
+    list_begin(&queuer->in_ring);
+    list_begin(&queuer->ring);
+}
 
 bool turns_begin(struct turns *turns)
 {
     *turns = (struct turns){.now = nanoseconds()};
-    list_begin(&turns->users);
+    begin_queuer(&turns->all, NULL);
+    list_begin(&turns->costly);
     for (size_t i = 0; i < TURNS_BUCKETS; i++) {
+        list_begin(&turns->by_account[i]);
         list_begin(&turns->by_uid[i]);
         list_begin(&turns->by_pid[i]);
     }
-    turns->ending = client_hold(turns, NO_UID, 0);
+    turns->ending = client_hold(turns, NO_ACCOUNT, NO_UID, 0);
     return turns->ending != NULL;
 }
 
@@ -52,28 +84,79 @@ void turns_end(struct turns *turns)
     turns->latest = turns->ending = NULL;
 }
 
-static struct user *find_user(struct turns *turns, uid_t uid)
+/* --- Who there is. --- */
+
+static struct payer *find_payer(struct turns *turns, uint64_t account)
+{
+    struct list *bucket = &turns->by_account[account % TURNS_BUCKETS];
+    for (struct list *entry = bucket->next; entry != bucket; entry = entry->next) {
+        struct payer *payer = container_of(entry, struct payer, in_bucket);
+        if (payer->account == account)
+            return payer;
+    }
+    return NULL;
+}
+
+static struct payer *hold_payer(struct turns *turns, uint64_t account)
+{
+    struct payer *payer = find_payer(turns, account);
+    if (!payer && !(payer = calloc(1, sizeof *payer)))
+        return NULL;
+    if (!payer->references++) {
+        payer->account = account;
+        begin_queuer(&payer->queuer, &turns->all);
+        list_begin(&payer->costly);
+        list_begin(&payer->in_costly);
+        list_append(&turns->by_account[account % TURNS_BUCKETS], &payer->in_bucket);
+    }
+    return payer;
+}
+
+static void release_payer(struct payer *payer)
+{
+    if (--payer->references)
+        return;
+    list_remove(&payer->queuer.in_ring);
+    list_remove(&payer->in_costly);
+    list_remove(&payer->in_bucket);
+    free(payer);
+}
+
+static struct user *find_user(struct turns *turns, const struct payer *payer, uid_t uid)
 {
     struct list *bucket = &turns->by_uid[uid % TURNS_BUCKETS];
     for (struct list *entry = bucket->next; entry != bucket; entry = entry->next) {
         struct user *user = container_of(entry, struct user, in_bucket);
-        if (user->uid == uid)
+        if (user->uid == uid && user->payer == payer)
             return user;
     }
     return NULL;
 }
 
-static struct user *hold_user(struct turns *turns, uid_t uid)
+static struct user *new_user(struct turns *turns, struct payer *payer, uid_t uid)
 {
-    struct user *user = find_user(turns, uid);
-    if (!user && !(user = calloc(1, sizeof *user)))
+    struct user *user = calloc(1, sizeof *user);
+    if (!user)
         return NULL;
-    if (!user->references++) {
-        user->uid = uid;
-        list_begin(&user->queuer.in_ring);
-        list_begin(&user->clients);
-        list_append(&turns->by_uid[uid % TURNS_BUCKETS], &user->in_bucket);
-    }
+    user->payer = payer;
+    user->uid = uid;
+    begin_queuer(&user->queuer, &payer->queuer);
+    list_append(&turns->by_uid[uid % TURNS_BUCKETS], &user->in_bucket);
+    return user;
+}
+
+/* A user has one reference on its account. */
+static struct user *hold_user(struct turns *turns, uint64_t account, uid_t uid)
+{
+    struct payer *payer = hold_payer(turns, account);
+    struct user *user = payer ? find_user(turns, payer, uid) : NULL;
+    bool is_new = payer && !user;
+    if (is_new)
+        user = new_user(turns, payer, uid);
+    if (payer && (!is_new || !user))
+        release_payer(payer);
+    if (user)
+        user->references++;
     return user;
 }
 
@@ -83,40 +166,45 @@ static void release_user(struct user *user)
         return;
     list_remove(&user->queuer.in_ring);
     list_remove(&user->in_bucket);
+    release_payer(user->payer);
     free(user);
 }
 
-static struct client *find_client(struct turns *turns, uid_t uid, pid_t pid)
+static struct client *find_client(struct turns *turns, const struct user *user, pid_t pid)
 {
     struct list *bucket = &turns->by_pid[(unsigned)pid % TURNS_BUCKETS];
     for (struct list *entry = bucket->next; entry != bucket; entry = entry->next) {
         struct client *client = container_of(entry, struct client, in_bucket);
-        if (client->pid == pid && client->user->uid == uid)
+        if (client->pid == pid && client->user == user)
             return client;
     }
     return NULL;
 }
 
-struct client *client_hold(struct turns *turns, uid_t uid, pid_t pid)
+static struct client *new_client(struct turns *turns, struct user *user, pid_t pid)
 {
-    struct client *client = find_client(turns, uid, pid);
-    if (client) {
-        client->references++;
-        return client;
-    }
-    struct user *user = hold_user(turns, uid);
-    client = user ? calloc(1, sizeof *client) : NULL;
-    if (!client) {
-        if (user)
-            release_user(user);
+    struct client *client = calloc(1, sizeof *client);
+    if (!client)
         return NULL;
-    }
     client->user = user;
     client->pid = pid;
-    client->references = 1;
-    list_begin(&client->queuer.in_ring);
-    list_begin(&client->watches);
+    begin_queuer(&client->queuer, &user->queuer);
     list_append(&turns->by_pid[(unsigned)pid % TURNS_BUCKETS], &client->in_bucket);
+    return client;
+}
+
+/* A client has one reference on its user. */
+struct client *client_hold(struct turns *turns, uint64_t account, uid_t uid, pid_t pid)
+{
+    struct user *user = hold_user(turns, account, uid);
+    struct client *client = user ? find_client(turns, user, pid) : NULL;
+    bool is_new = user && !client;
+    if (is_new)
+        client = new_client(turns, user, pid);
+    if (user && (!is_new || !client))
+        release_user(user);
+    if (client)
+        client->references++;
     return client;
 }
 
@@ -130,26 +218,93 @@ void client_release(struct client *client)
     free(client);
 }
 
-/* Puts it into the ring, last. Time that went by while it wanted nothing is as good as others' turns. */
-static void enter(const struct turns *turns, struct list *ring, struct queuer *queuer)
+/* --- Costly turns. --- */
+
+/* Until when two other clients than this one count as being about. */
+static uint64_t company_until(const struct turns *turns, const struct client *client)
 {
-    uint64_t passed = turns->now > queuer->since ? turns->now - queuer->since : 0;
-    queuer->owed -= passed < queuer->owed ? passed : queuer->owed;
-    list_append(ring, &queuer->in_ring);
+    unsigned others = 0;
+    for (size_t i = 0; i < TURNS_RECENT; i++)
+        if (turns->recent[i].client != client && ++others == 2)
+            return turns->recent[i].at ? turns->recent[i].at + MEMORY_NANOSECONDS : 0;
+    return 0;
 }
 
-static void enter_client(const struct turns *turns, struct client *client)
+/* A client has had a turn: it comes first of those that had the latest. It is only told apart from others there, never looked at. */
+static void note_recent(struct turns *turns, const struct client *client, uint64_t now)
 {
-    if (!list_is_empty(&client->queuer.in_ring))
+    size_t at = 0;
+    while (at < TURNS_RECENT - 1 && turns->recent[at].client != client)
+        at++;
+    for (; at > 0; at--)
+        turns->recent[at] = turns->recent[at - 1];
+    turns->recent[0].client = client;
+    turns->recent[0].at = now;
+}
+
+/* In how many nanoseconds the client may have a costly turn. */
+static uint64_t due_in(const struct turns *turns, const struct client *client, uint64_t now)
+{
+    uint64_t rests = client->user->payer->rests_until, company = company_until(turns, client), until = rests < company ? rests : company;
+    return until > now ? until - now : 0;
+}
+
+static bool is_costly(const struct turns *turns, const struct client *client)
+{
+    return client->costly_until > turns->now;
+}
+
+bool turns_may_make(struct turns *turns, uint64_t price)
+{
+    struct client *client = turns->latest;
+    if (price <= COSTLY_NANOSECONDS || turns->is_costly || !due_in(turns, client, turns->began))
+        return true;
+    client->costly_until = turns->began + MEMORY_NANOSECONDS;
+    turns->put_off++;
+    return false;
+}
+
+static struct client *first_costly(const struct payer *payer)
+{
+    return container_of(payer->costly.next, struct client, queuer.in_ring);
+}
+
+/* The client that has the next costly turn; NULL where none may have one yet. */
+static struct client *next_costly(const struct turns *turns)
+{
+    for (const struct list *entry = turns->costly.next; entry != &turns->costly; entry = entry->next) {
+        struct client *client = first_costly(container_of(entry, struct payer, in_costly));
+        if (!due_in(turns, client, turns->now))
+            return client;
+    }
+    return NULL;
+}
+
+/* --- Who wants a turn. --- */
+
+/* Puts it into the ring above it, last, and so those above it. Time that went by while it wanted nothing is as good as others' turns. */
+static void enter(const struct turns *turns, struct queuer *queuer)
+{
+    for (; queuer->above && !queuer->has_turn && list_is_empty(&queuer->in_ring); queuer = queuer->above) {
+        uint64_t passed = turns->now > queuer->since ? turns->now - queuer->since : 0;
+        queuer->owed -= passed < queuer->owed ? passed : queuer->owed;
+        list_append(&queuer->above->ring, &queuer->in_ring);
+    }
+}
+
+static void enter_client(struct turns *turns, struct client *client)
+{
+    struct payer *payer = client->user->payer;
+    if (client->queuer.has_turn || !list_is_empty(&client->queuer.in_ring))
         return;
     client->queuer.from = turns->count;
-    enter(turns, &client->user->clients, &client->queuer);
-}
-
-static void enter_user(struct turns *turns, struct user *user)
-{
-    if (list_is_empty(&user->queuer.in_ring))
-        enter(turns, &turns->users, &user->queuer);
+    if (!is_costly(turns, client)) {
+        enter(turns, &client->queuer);
+        return;
+    }
+    list_append(&payer->costly, &client->queuer.in_ring);
+    if (list_is_empty(&payer->in_costly))
+        list_append(&turns->costly, &payer->in_costly);
 }
 
 /* Who had the latest turn stays out of the rings until it is seen who else has come meanwhile. */
@@ -158,21 +313,27 @@ void turns_want(struct turns *turns, struct watch *watch)
     struct client *client = watch->client;
     if (!list_is_empty(&watch->in_watches))
         return;
-    list_append(&client->watches, &watch->in_watches);
-    if (client != turns->latest)
-        enter_client(turns, client);
-    if (!turns->latest || client->user != turns->latest->user)
-        enter_user(turns, client->user);
+    list_append(&client->queuer.ring, &watch->in_watches);
+    enter_client(turns, client);
+}
+
+/* It is in no list any more for a turn. */
+static void leave(struct client *client)
+{
+    struct payer *payer = client->user->payer;
+    list_remove(&client->queuer.in_ring);
+    if (list_is_empty(&payer->costly))
+        list_remove(&payer->in_costly);
+    for (struct queuer *queuer = client->queuer.above; queuer->above && list_is_empty(&queuer->ring); queuer = queuer->above)
+        list_remove(&queuer->in_ring);
 }
 
 void turns_want_none(struct watch *watch)
 {
     struct client *client = watch->client;
     list_remove(&watch->in_watches);
-    if (list_is_empty(&client->watches))
-        list_remove(&client->queuer.in_ring);
-    if (list_is_empty(&client->user->clients))
-        list_remove(&client->user->queuer.in_ring);
+    if (list_is_empty(&client->queuer.ring))
+        leave(client);
 }
 
 void turns_want_end(struct turns *turns, struct watch *watch)
@@ -187,20 +348,45 @@ bool turns_are_ending(const struct turns *turns, const struct watch *watch)
     return watch->client == turns->ending;
 }
 
-static void readmit(struct turns *turns, struct client *client)
+/* Who had the latest turn, and those above, are put into the rings again. */
+static void readmit(struct turns *turns)
 {
-    struct user *user = client->user;
-    if (!list_is_empty(&client->watches))
+    struct client *client = turns->latest;
+    if (!client)
+        return;
+    client->queuer.has_turn = false;
+    if (!list_is_empty(&client->queuer.ring))
         enter_client(turns, client);
-    if (!list_is_empty(&user->clients))
-        enter_user(turns, user);
+    for (struct queuer *queuer = client->queuer.above; queuer; queuer = queuer->above) {
+        bool was_out = queuer->has_turn;
+        queuer->has_turn = false;
+        if (was_out && !list_is_empty(&queuer->ring))
+            enter(turns, queuer);
+    }
+    client_release(client);
+    turns->latest = NULL;
 }
 
-bool turns_are_wanted(const struct turns *turns)
+uint64_t turns_due_in(const struct turns *turns)
 {
-    return !list_is_empty(&turns->users) || (turns->latest && (!list_is_empty(&turns->latest->watches)
-                                                               || !list_is_empty(&turns->latest->user->clients)));
+    const struct client *latest = turns->latest;
+    bool latest_wants = latest && !list_is_empty(&latest->queuer.ring), latest_is_costly = latest_wants && is_costly(turns, latest);
+    if (!list_is_empty(&turns->all.ring) || (latest_wants && !latest_is_costly))
+        return 0;
+    for (const struct queuer *queuer = latest ? latest->queuer.above : NULL; queuer; queuer = queuer->above)
+        if (!list_is_empty(&queuer->ring))
+            return 0;
+    if (!latest_is_costly && list_is_empty(&turns->costly))
+        return NO_TURN;
+    uint64_t now = nanoseconds(), least = latest_is_costly ? due_in(turns, latest, now) : NO_TURN;
+    for (const struct list *entry = turns->costly.next; entry != &turns->costly; entry = entry->next) {
+        uint64_t due = due_in(turns, first_costly(container_of(entry, struct payer, in_costly)), now);
+        least = due < least ? due : least;
+    }
+    return least;
 }
+
+/* --- Giving turns. --- */
 
 /* The first that owes nothing. Each look at another takes a turn off what that one owes, so these are as few as its time was long. */
 static struct queuer *first(const struct turns *turns, struct list *ring)
@@ -219,45 +405,114 @@ static struct queuer *first(const struct turns *turns, struct list *ring)
     }
 }
 
-static void charge(struct queuer *queuer, uint64_t now, uint64_t took)
+/* The client whose turn it is among all that have no costly ones. It and those above it are out of the rings then. */
+static struct client *take_first(struct turns *turns)
 {
-    queuer->owed += took > TURN_NANOSECONDS ? took - TURN_NANOSECONDS : 0;
-    queuer->since = now;
+    struct queuer *queuer = &turns->all;
+    for (int i = 0; i < TURNS_LEVELS; i++) {
+        queuer = first(turns, &queuer->ring);
+        queuer->has_turn = true;
+    }
+    for (struct queuer *it = queuer; it->above; it = it->above)
+        list_remove(&it->in_ring);
+    return container_of(queuer, struct client, queuer);
+}
+
+/* The same of one that has a costly turn: its account comes last then. */
+static struct client *take_costly(struct turns *turns, struct client *client)
+{
+    struct payer *payer = client->user->payer;
+    client->queuer.has_turn = true;
+    list_remove(&client->queuer.in_ring);
+    list_remove(&payer->in_costly);
+    if (!list_is_empty(&payer->costly))
+        list_append(&turns->costly, &payer->in_costly);
+    return client;
+}
+
+/* So much of the processor's time has passed since the turn began, at most: other programs' work isn't in it. */
+static uint64_t time_taken(const struct turns *turns, uint64_t now)
+{
+    uint64_t used = read_clock(CLOCK_THREAD_CPUTIME_ID) - turns->used, passed = now - turns->began;
+    return used < passed ? used : passed;
+}
+
+static void note_time(struct turns *turns, uint64_t taken)
+{
+    if (taken > atomic_load_explicit(&turns->longest_time, memory_order_relaxed))
+        atomic_store_explicit(&turns->longest_time, taken, memory_order_relaxed);
+}
+
+void turns_note_time(struct turns *turns)
+{
+    uint64_t now = nanoseconds();
+    if (now - turns->began > atomic_load_explicit(&turns->longest_time, memory_order_relaxed))
+        note_time(turns, time_taken(turns, now));
 }
 
 static void begin_turn(struct turns *turns, struct client *client)
 {
     uint64_t from = client->queuer.from > client->user->queuer.from ? client->queuer.from : client->user->queuer.from;
     uint64_t waited = turns->count - from;
-    turns->longest_wait = waited > turns->longest_wait ? waited : turns->longest_wait;
+    if (!turns->is_costly)
+        turns->longest_wait = waited > turns->longest_wait ? waited : turns->longest_wait;
     turns->count++;
     turns->steps = 0;
-    turns->began = nanoseconds();
+    turns->latest_step = 0;
+    turns->began = turns->now;
+    if (turns->began - turns->asked >= ASKING_NANOSECONDS || client->user->payer->rests_until > turns->began) {
+        turns->used = read_clock(CLOCK_THREAD_CPUTIME_ID);
+        turns->asked = turns->began;
+    }
+}
+
+static void charge(struct client *client, uint64_t now, uint64_t took)
+{
+    struct payer *payer = client->user->payer;
+    for (struct queuer *queuer = &client->queuer; queuer->above; queuer = queuer->above) {
+        queuer->owed += took > TURN_NANOSECONDS ? took - TURN_NANOSECONDS : 0;
+        queuer->since = now;
+    }
+    if (took <= COSTLY_NANOSECONDS)
+        return;
+    if (took > DEAR_NANOSECONDS && now - client->was_dear < MEMORY_NANOSECONDS)
+        client->costly_until = now + MEMORY_NANOSECONDS;
+    if (took > DEAR_NANOSECONDS)
+        client->was_dear = now;
+    uint64_t rests = (payer->rests_until > now ? payer->rests_until - now : 0) + REST_TIMES * (took - TURN_NANOSECONDS);
+    payer->rests_until = now + (rests < MEMORY_NANOSECONDS ? rests : MEMORY_NANOSECONDS);
 }
 
 static void end_turn(struct turns *turns, struct client *client)
 {
-    uint64_t now = nanoseconds();
+    uint64_t now = nanoseconds(), took = now - turns->began;
     turns->longest_turn = turns->steps > turns->longest_turn ? turns->steps : turns->longest_turn;
-    charge(&client->queuer, now, now - turns->began);
-    charge(&client->user->queuer, now, now - turns->began);
-    turns->latest = client;
+    if (took > COSTLY_NANOSECONDS) {
+        took = time_taken(turns, now);
+        note_time(turns, took);
+        turns->costly_time += took > COSTLY_NANOSECONDS ? took : 0;
+    } else if (turns->longest_time < COSTLY_NANOSECONDS) {
+        note_time(turns, took);
+    }
+    charge(client, now, took);
+    if (client != turns->ending)
+        note_recent(turns, client, now);
+    else if (took > turns->longest_end)
+        turns->longest_end = took;
 }
 
 void turns_give(struct turns *turns)
 {
-    if (turns->latest) {
-        readmit(turns, turns->latest);
-        client_release(turns->latest);
-        turns->latest = NULL;
-    }
-    struct user *user = container_of(first(turns, &turns->users), struct user, queuer);
-    struct client *client = container_of(first(turns, &user->clients), struct client, queuer);
-    struct watch *watch = container_of(client->watches.next, struct watch, in_watches);
+    readmit(turns);
+    bool has_other = !list_is_empty(&turns->all.ring);
+    struct client *costly = has_other && turns->is_costly ? NULL : next_costly(turns);
+    if (!costly && !has_other)
+        return;
+    struct client *client = costly ? take_costly(turns, costly) : take_first(turns);
+    struct watch *watch = container_of(client->queuer.ring.next, struct watch, in_watches);
     client->references++;
     list_remove(&watch->in_watches);
-    list_remove(&client->queuer.in_ring);
-    list_remove(&user->queuer.in_ring);
+    turns->is_costly = costly;
     begin_turn(turns, client);
     turns->latest = client;
     watch->ready(watch);
@@ -269,7 +524,17 @@ bool turns_has_made_steps(const struct turns *turns)
     return turns->steps >= TURN_STEPS;
 }
 
-bool turns_is_over(const struct turns *turns)
+uint64_t turns_read_clock(struct turns *turns)
 {
-    return turns_has_made_steps(turns) || nanoseconds() - turns->began >= TURN_NANOSECONDS;
+    return turns->latest_step = nanoseconds();
+}
+
+/* A step that has just been made tells the time too. */
+bool turns_is_over(struct turns *turns)
+{
+    if (turns_has_made_steps(turns))
+        return true;
+    uint64_t now = turns->latest_step ? turns->latest_step : nanoseconds();
+    turns->latest_step = 0;
+    return now - turns->began >= TURN_NANOSECONDS;
 }

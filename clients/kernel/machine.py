@@ -1,11 +1,14 @@
 # SPDX-License-Identifier: Apache-2.0 OR MIT
 """A virtual machine with Linux's own Binder driver, in which a script is run.
 
-    machine.py FOLDER [--seconds N] [--host] [--kernel FOLDER]   runs FOLDER/run there, with FOLDER as its working folder
+    machine.py FOLDER [--seconds N] [--host] [--processors N] [--kernel FOLDER]   runs FOLDER/run there, with FOLDER as its working folder
 
 The machine is emulated, with one processor, and needs no privilege. What the script prints comes to FOLDER/output. Its clock counts
 instructions, a nanosecond each, whatever its host is busy with: a run is the same each time, however slow, and no interrupt of a clock
 takes the time that a busy host leaves it. With --host it sees the host's /usr, for programs that aren't static.
+
+With --processors it has more than one, so that several threads are inside of the driver at once. Its clock is the host's then, and no two
+runs are the same.
 """
 import argparse
 import os
@@ -18,6 +21,8 @@ from fetch import Kernel, Missing, default_folder
 # no call of the kernel is left for another thread before it waits or ends
 OF_KERNEL = ("console=ttyS0 quiet panic=-1 preempt=none nosmp no_timer_check tsc=reliable lpj=4000000 mitigations=off audit=0 apparmor=0 "
              "log_buf_len=1M")
+# .. but where several processors are to be in the kernel at once
+OF_SEVERAL = OF_KERNEL.replace("preempt=none nosmp", "preempt=voluntary")
 # the least that what Rattle compiles runs on: x86-64-v2
 PROCESSOR = "Nehalem"
 # seconds until the kernel has to have come up, by an emulation that four others slow down
@@ -28,12 +33,14 @@ class NotRun(Exception):
     """The machine didn't run its script to the end: why."""
 
 
-def words(kernel, folder, host):
+def words(kernel, folder, host, processors):
     """qemu's command line."""
+    clock = ["-accel", "tcg", "-icount", "shift=0,sleep=off"] if processors == 1 else ["-accel", "tcg,thread=single"]
+    memory, of_kernel = ("256", OF_KERNEL) if processors == 1 else ("640", OF_SEVERAL)
     shares = [(folder, "work", "")] + ([("/usr", "usr", ",readonly=on")] if host else [])
-    found = [*kernel.qemu, "-nodefaults", "-no-user-config", "-display", "none", "-no-reboot", "-nic", "none", "-m", "256", "-smp", "1",
-             "-cpu", PROCESSOR, "-accel", "tcg", "-icount", "shift=0,sleep=off", "-kernel", kernel.image, "-initrd", kernel.first_files,
-             "-serial", f"file:{folder}/console", "-append", OF_KERNEL]
+    found = [*kernel.qemu, "-nodefaults", "-no-user-config", "-display", "none", "-no-reboot", "-nic", "none", "-m", memory,
+             "-smp", str(processors), "-cpu", PROCESSOR, *clock, "-kernel", kernel.image, "-initrd", kernel.first_files,
+             "-serial", f"file:{folder}/console", "-append", of_kernel]
     for path, tag, more in shares:
         found += ["-virtfs", f"local,path={path},mount_tag={tag},security_model=none,id={tag},multidevs=remap{more}"]
     return found
@@ -64,11 +71,11 @@ def wait_for_end(machine, folder, seconds):
         time.sleep(0.05)
 
 
-def run(kernel, folder, seconds=600, host=False):
+def run(kernel, folder, seconds=600, host=False, processors=1):
     """Runs folder/run; its status, and what it printed."""
     folder = os.path.abspath(folder)
     forget(folder, "up", "output", "status", "console", "complaints", "done")
-    machine = subprocess.Popen(["nice", "-n", "10", *words(kernel, folder, host)], env=kernel.environment,
+    machine = subprocess.Popen(["nice", "-n", "10", *words(kernel, folder, host, processors)], env=kernel.environment,
                                stdin=subprocess.DEVNULL, stdout=subprocess.DEVNULL, stderr=subprocess.PIPE)
     try:
         wait_for_end(machine, folder, seconds)
@@ -90,10 +97,11 @@ def main():
     parser.add_argument("folder")
     parser.add_argument("--seconds", type=int, default=600)
     parser.add_argument("--host", action="store_true")
+    parser.add_argument("--processors", type=int, default=1)
     parser.add_argument("--kernel", default=default_folder())
     given = parser.parse_args()
     try:
-        status, output = run(Kernel(os.path.abspath(given.kernel)), given.folder, given.seconds, given.host)
+        status, output = run(Kernel(os.path.abspath(given.kernel)), given.folder, given.seconds, given.host, given.processors)
     except (Missing, NotRun, OSError) as why:
         print(f"machine: {why}", file=sys.stderr)
         return 1

@@ -8,6 +8,7 @@
 #include <errno.h>
 #include <stdio.h>
 #include <string.h>
+#include <sys/prctl.h>
 
 #define WINDOW (1 << 16)
 #define WORD_ROOM 128
@@ -63,6 +64,7 @@ int main(int argc, char **argv)
     const char *name = argc > 1 ? argv[1] : "hello";
     struct binder binder;
     struct looper looper = {.binder = &binder, .serve = serve};
+    prctl(PR_SET_NAME, "hello"); /* the kernel keeps 15 letters, and all here begin alike */
     setvbuf(stdout, NULL, _IOLBF, 0); /* so that who waits for a line gets it */
     if (!binder_open(&binder, "/dev/binder", WINDOW)) {
         fprintf(stderr, "hullpippin-hello: /dev/binder: %s\n", strerror(errno));

@@ -5,6 +5,7 @@
 #include <stdio.h>
 #include <stdlib.h>
 #include <string.h>
+#include <sys/prctl.h>
 
 /* Where calls with the names of services arrive. */
 #define WINDOW (1 << 20)
@@ -112,6 +113,7 @@ int manager_main(int argc, char **argv, const char *program, const char *device,
     static struct manager manager = {.lock = PTHREAD_MUTEX_INITIALIZER};
     manager.program = program;
     manager.looper = (struct looper){.binder = &manager.binder, .serve = serve, .died = died, .spawn = spawn, .with = &manager};
+    prctl(PR_SET_NAME, strchr(program, '-') + 1); /* the kernel keeps 15 letters, and all programs here begin alike */
     setvbuf(stdout, NULL, _IOLBF, 0); /* so that who waits for a line gets it */
     if (!read_arguments(&manager, argc, argv, &device)) {
         fprintf(stderr, "usage: %s [-v] [DEVICE]\n", program);

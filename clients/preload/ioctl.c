@@ -81,8 +81,10 @@ int device_ioctl(int fd, unsigned long request, void *argument)
         return -1;
     struct link *link = link_of(device);
     int error = link ? do_ioctl(device, link, (uint32_t)request, argument) : errno;
-    if (link)
+    if (link) {
         atomic_store(&link->is_to_return, (uint32_t)request == BINDER_THREAD_EXIT);
+        link_done(link);
+    }
     device_release(device);
     if (!error)
         return 0;

@@ -21,6 +21,23 @@
 static __thread struct link *links __attribute__((tls_model("initial-exec")));
 static pthread_key_t ends;
 
+/* A further one of a thread is made in a signal's handler, so not by malloc, which the signal may have interrupted. */
+static struct link *room_for_link(bool is_first)
+{
+    if (is_first)
+        return calloc(1, sizeof(struct link));
+    struct link *link = real()->mmap(NULL, sizeof *link, PROT_READ | PROT_WRITE, MAP_PRIVATE | MAP_ANONYMOUS, -1, 0);
+    return link == MAP_FAILED ? NULL : link;
+}
+
+static void free_link_room(struct link *link, bool is_first)
+{
+    if (is_first)
+        free(link);
+    else if (link)
+        real()->munmap(link, sizeof *link);
+}
+
 static void link_free(struct link *link)
 {
     struct device *device = link->device;
@@ -38,7 +55,7 @@ static void link_free(struct link *link)
     real()->close(link->bell);
     if (link->doorbell >= 0)
         real()->close(link->doorbell);
-    free(link);
+    free_link_room(link, link->is_first);
     device_release(device);
 }
 
@@ -85,15 +102,16 @@ void link_forked(struct link *link)
         real()->close(link->doorbell);
 }
 
-/* The thread's link to the device, after those to closed devices were let go of. */
-static struct link *find(const struct device *device)
+/* The thread's link to the device that nobody uses, after those to closed devices were let go of; whether there is one in use. */
+static struct link *find(const struct device *device, bool *has_other)
 {
     struct link **at = &links;
     while (*at) {
         struct link *link = *at;
-        if (link->device == device)
+        if (link->device == device && !link->is_busy)
             return link;
-        if (link->device->is_closed) {
+        *has_other = *has_other || link->device == device;
+        if (link->device->is_closed && !link->is_busy) {
             *at = link->next_of_thread;
             link_free(link);
         } else {
@@ -103,22 +121,25 @@ static struct link *find(const struct device *device)
     return NULL;
 }
 
-static struct link *new_link(struct device *device, const int fds[3])
+static struct link *new_link(struct device *device, const int fds[3], bool is_first)
 {
-    struct link *link = calloc(1, sizeof *link);
+    struct link *link = room_for_link(is_first);
     struct page *page = real()->mmap(NULL, sizeof *page, PROT_READ | PROT_WRITE, MAP_SHARED, fds[1], 0);
     real()->close(fds[1]);
     if (!link || page == MAP_FAILED || pthread_setspecific(ends, &links)) {
-        free(link);
+        free_link_room(link, is_first);
         if (page != MAP_FAILED)
             real()->munmap(page, sizeof *page);
         real()->close(fds[0]);
         real()->close(fds[2]);
         return errno = ENOMEM, NULL;
     }
-    *link = (struct link){.device = device, .page = page, .socket = fds[0], .bell = fds[2], .doorbell = -1, .next_of_thread = links,
-                          .is_to_return = true}; /* a thread's first read does */
-    links = link;
+    *link = (struct link){.device = device, .page = page, .socket = fds[0], .bell = fds[2], .doorbell = -1,
+                          .is_first = is_first, .is_to_return = is_first}; /* a thread's first read does */
+    struct link **at = &links;
+    while (*at) /* the first that it has is the thread's own: that is found first */
+        at = &(*at)->next_of_thread;
+    *at = link;
     pthread_mutex_lock(&devices_lock);
     device->references++;
     link->next_of_device = device->links;
@@ -127,18 +148,41 @@ static struct link *new_link(struct device *device, const int fds[3])
     return link;
 }
 
-struct link *link_of(struct device *device)
+/* A further link, also of a thread that has one in use. No handler that wants one may come while a lock is held for this. */
+static struct link *make_link(struct device *device, bool is_first)
 {
     struct control_request request = {.op = CONTROL_THREAD, .size = (uint64_t)gettid()};
     struct control_answer answer;
-    struct link *link = find(device);
+    sigset_t all, before;
     int fds[3];
-    if (link)
-        return link;
+    sigfillset(&all);
+    pthread_sigmask(SIG_SETMASK, &all, &before);
     int error = device_ask(device, &request, &answer, fds, 3);
-    if (error)
-        return errno = error, NULL;
-    return new_link(device, fds);
+    struct link *link = error ? NULL : new_link(device, fds, is_first);
+    error = link ? 0 : error ? error : errno;
+    pthread_sigmask(SIG_SETMASK, &before, NULL);
+    return errno = error, link;
+}
+
+/* A signal that interrupts an ioctl finds the thread's link in use: what its handler asks for goes by another one. */
+struct link *link_of(struct device *device)
+{
+    bool has_other = false;
+    int error = errno;
+    struct link *link = find(device, &has_other);
+    if (!link)
+        link = make_link(device, !has_other);
+    if (!link)
+        return NULL;
+    link->is_busy = 1;
+    atomic_signal_fence(memory_order_seq_cst);
+    return errno = error, link;
+}
+
+void link_done(struct link *link)
+{
+    atomic_signal_fence(memory_order_seq_cst);
+    link->is_busy = 0;
 }
 
 static void ring(struct link *link)

@@ -17,6 +17,8 @@ static int doorbell_of(int fd)
     struct device *device = device_hold(fd);
     struct link *link = device ? link_of(device) : NULL;
     int doorbell = link ? link_doorbell(link) : -1;
+    if (link)
+        link_done(link);
     if (device)
         device_release(device);
     cancel_again(before);

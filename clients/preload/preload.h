@@ -162,12 +162,15 @@ struct link {
     int doorbell; /* our end of the thread's doorbell; -1: none was asked for yet */
     uint64_t used_area, kept_area; /* bytes of the page's area that hold the parcel of a request; memory that large ones have left */
     time_t kept_since;
+    bool is_first; /* of those that its thread has to the device */
+    volatile sig_atomic_t is_busy; /* something is asked by it: a handler that interrupts that goes by another one */
     _Atomic bool is_to_return; /* its next read comes back at once */
     bool is_refused; /* what was refused of the thread is still to be read: until then nothing that it writes is run */
 };
 
-/* The calling thread's link to a device, or NULL and errno. */
+/* The calling thread's link to a device, or NULL and errno. It is in use until it is done with. */
 struct link *link_of(struct device *device);
+void link_done(struct link *link);
 /* Puts a request to the daemon, and waits for its answer: 0 or an errno. */
 int link_ask(struct link *link, const struct page_request *request, struct page_answer *answer);
 /* A request uses so much of the page's area, until it is answered; what large parcels have left there is given back after a second

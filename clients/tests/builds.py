@@ -2,6 +2,7 @@
 """What is tested: the daemon, the preloaded library, the managers and the test clients, built plainly or with sanitizers."""
 import os
 import subprocess
+import sys
 import tempfile
 
 from journals import heading
@@ -9,6 +10,9 @@ from journals import heading
 HERE = os.path.dirname(os.path.abspath(__file__))
 CLIENTS = os.path.dirname(HERE)
 ROOT = os.path.dirname(CLIENTS)
+sys.path.append(f"{ROOT}/tools")
+import plainly  # noqa: E402, F401  (what is missing is told in one line)
+
 JUDGE = os.path.join(ROOT, "crates", "bd_play", "out", "bd_play")
 SANITIZERS = "address,undefined"
 

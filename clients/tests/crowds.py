@@ -1,6 +1,10 @@
 # SPDX-License-Identifier: Apache-2.0 OR MIT
 """What many clients, or hostile ones, do to the time and the room of others."""
+import contextlib
 import os
+import re
+import subprocess
+import tempfile
 import time
 
 from raw_tests import DEVICE, counts
@@ -20,6 +24,17 @@ MOST_LOOKS = 1.5
 # the longest that a call may take while a thousand callers end, in microseconds
 MOST_ENDING = 20e3
 ROUNDS = 5
+# somebody's users: whose they are, the first, and how many; and how many turns of all there may be for each of so many calls beside them
+OWNER, FIRST, PERSONS = 1234567, 200000, 64
+MOST_TURNS, PERSONS_CALLS = 32, 1000
+# a turn takes at most so many microseconds of the processor's time, whatever is asked for, and a device's first calls more than so many;
+# costly turns of an account take at most such a part of the time, a third but for what is made before it is told
+LEAST_TURN_TIME, MOST_TURN_TIME, MOST_COSTLY = 10, 1000, 0.38
+HEAVY_ROUNDS = 5
+# how much a process holds that ends, and how long a turn of its end may be, in microseconds
+HELD, MOST_END_TIME, ENDING_ROUNDS = 32768, 5000, 2
+# processes that connect and hang up; each time takes at most such a part of the daemon's time for an open
+COMERS, MOST_HANGUP = "8", 0.125
 # descriptors of a device that somebody has opened: an epoll, a bell, and its latest steps
 OF_DEVICE = 3
 # so much more memory than before may the daemon have after a rest
@@ -54,6 +69,70 @@ def turns(build):
     return "; ".join(told)
 
 
+@contextlib.contextmanager
+def daemon_told(build, ranges):
+    """A program that is the daemon, for which this is /etc/subuid."""
+    with tempfile.TemporaryDirectory(prefix="hullpippin-ranges-") as folder:
+        os.chmod(folder, 0o755)
+        file, program = f"{folder}/subuid", f"{folder}/daemon"
+        with open(file, "w", encoding="ascii") as out:
+            out.write(ranges)
+        with open(program, "w", encoding="ascii") as out:
+            out.write(f"#!/bin/sh\nexec unshare -m --propagation private sh -c 'mount --bind {file} /etc/subuid && exec \"$0\" \"$@\"' "
+                      f"{build.daemon} \"$@\"\n")
+        os.chmod(program, 0o755)
+        yield program
+
+
+@contextlib.contextmanager
+def slice_of(uid):
+    """The list of processes of a control group that is a user's slice; None where systemd has its own, or none can be made."""
+    with tempfile.TemporaryDirectory(prefix="hullpippin-slice-") as folder:
+        words = ["mount", "-t", "cgroup", "-o", "none,name=systemd", "systemd", folder]
+        if os.path.exists("/run/systemd/system") or subprocess.run(words, capture_output=True).returncode:
+            yield None
+            return
+        made = [f"{folder}/user.slice", f"{folder}/user.slice/user-{uid}.slice"]
+        try:
+            for path in made:
+                os.makedirs(path, exist_ok=True)
+            yield f"{made[-1]}/cgroup.procs"
+        finally:
+            for path in reversed(made):
+                with contextlib.suppress(OSError):
+                    os.rmdir(path)
+            subprocess.run(["umount", folder], check=True)
+
+
+def turns_for_a_call(build, program, words):
+    """How many turns are given for each call of somebody beside so many users."""
+    with Stage(build, daemon=program) as stage:
+        let_others_in(stage)
+        rings = stage.start([build.fuzz("rings"), "persons", str(PERSONS), DEVICE, *words], client=False).wait_for("ready", 30)
+        before = turns_given(stage, build)
+        stage.run([build.raw("latency"), "1"])
+        few = turns_given(stage, build)
+        stage.run([build.raw("latency"), str(1 + PERSONS_CALLS)])
+        many = turns_given(stage, build)
+        rings.kill()
+        time.sleep(0.2)  # until nobody is in the control group
+        return ((many - few) - (few - before)) / PERSONS_CALLS
+
+
+@test("raw persons")
+def persons(build):
+    """However many users somebody has, by ranges of their ids or in a slice, others wait for one turn of his."""
+    if os.geteuid() or subprocess.run(["unshare", "-m", "true"], capture_output=True).returncode:
+        return "nothing was seen: only root can be other users, and have a file of its own for the daemon"
+    with daemon_told(build, f"{OWNER}:{FIRST}:{PERSONS}\n") as program, slice_of(OWNER) as group:
+        found = {"of one": turns_for_a_call(build, program, [str(FIRST)])}
+        if group:
+            found["in one slice"] = turns_for_a_call(build, program, [str(FIRST + PERSONS), group])
+    told = "; ".join(f"{it:.1f} turns for a call beside {PERSONS} users {how}" for how, it in found.items())
+    expect(all(it <= MOST_TURNS for it in found.values()), told)
+    return told if group else f"{told}; no slice could be made"
+
+
 def best_median(stage, build, rounds=ROUNDS):
     return min(figures(stage.run([build.raw("latency"), "1000"]))["median"] for _ in range(rounds))
 
@@ -72,6 +151,89 @@ def crowded(build):
     return "; ".join(told)
 
 
+def stats(stage, build):
+    words = [build.daemon, "--socket", stage.socket, "--stats", DEVICE]
+    return subprocess.run(words, capture_output=True, text=True, timeout=30, env={**os.environ, **build.environment}).stdout
+
+
+def turns_given(stage, build):
+    return int(re.search(r"^turns: (\d+)", stats(stage, build), re.M)[1])
+
+
+def asked(stage, build):
+    """What a device's `--stats` tells of costly turns."""
+    told = stats(stage, build)
+    found = re.search(r"longest turn: (\d+) us.*\ncostly turns: (\d+) us; parcels put off: (\d+)", told)
+    expect(found, f"--stats tells nothing of turns' time: {told[-300:]}")
+    return [int(it) for it in found.groups()]
+
+
+def heavy(build, words):
+    """The best of some runs beside processes that send objects: the longest turn, what part of the time was in costly turns, how many
+    parcels were put off, and what a call took, told."""
+    runs = []
+    for _ in range(HEAVY_ROUNDS):
+        with Stage(build) as stage:
+            let_others_in(stage)
+            told = stage.run([build.raw("heavy"), *words])
+            longest, costly, put_off = asked(stage, build)
+        found = figures(told)
+        runs.append((longest, costly / 1e6 / found["seconds"], put_off, found["beside"] / found["alone"], told))
+        if longest <= MOST_TURN_TIME and runs[-1][3] <= HOSTILE_TIMES:
+            break
+    return min(runs)
+
+
+@test("raw heavy parcels", plain_only=True)
+def heavy_parcels(build):
+    """However many objects a process sends, no turn takes over a millisecond, and no account has costly turns for more than a third of the
+    time; who calls and sleeps notices little of it."""
+    lines = []
+    for words in (["8192"], ["256"], *([["256", "1", NOBODY]] if os.geteuid() == 0 else []), ["256", "48"]):
+        longest, part, put_off, times, told = heavy(build, words)
+        lines.append(f"{' '.join(words)}: {told}; {longest} us in a turn, {part:.2f} of the time in costly ones, {put_off} put off")
+        expect(words[1:] == ["48"] or LEAST_TURN_TIME < longest <= MOST_TURN_TIME, lines[-1])
+        expect(part <= MOST_COSTLY, lines[-1])
+        expect(put_off or words[1:] != ["48"], lines[-1])
+        expect(build.untimed or times <= HOSTILE_TIMES, lines[-1])
+    return "; ".join(lines)
+
+
+def longest_end(build, kind):
+    """The longest turn, in microseconds, in which the daemon saw to the end of a process that had much."""
+    with Stage(build) as stage:
+        told = stage.start([build.raw("ending"), kind, str(HELD)]).wait_for("ended", 100).printed()
+        found = re.search(r"by which they end: (\d+) us", stats(stage, build))
+    expect(found, "--stats tells nothing of ends")
+    return int(found[1]), told.strip()
+
+
+@test("raw ends in parts", plain_only=True)
+def ends_in_parts(build):
+    """Who holds many objects, or has asked to hear of as many deaths, gives them back some at a time as it ends."""
+    lines = []
+    for kind in ("handles", "deaths"):
+        longest, told = min(longest_end(build, kind) for _ in range(ENDING_ROUNDS))
+        lines.append(f"{HELD} {kind}: {longest} us in a turn, the longest call {told.split()[-1]} us")
+        expect(longest <= MOST_END_TIME, lines[-1])
+    return "; ".join(lines)
+
+
+@test("raw comers", plain_only=True)
+def comers(build):
+    """Who connects and hangs up takes little of the daemon's time, beside what an open takes, and of others' opens."""
+    for _ in range(ROUNDS):
+        with Stage(build) as stage:
+            told = stage.run([build.raw("comers"), COMERS])
+        found = figures(told)
+        part, times = found["hangup"] / found["open"], found["beside"] / found["alone"]
+        if part <= MOST_HANGUP and (build.untimed or times <= HOSTILE_TIMES):
+            break
+    told = f"{told}; {part:.2f} of an open's time, {times:.1f} times as long"
+    expect(part <= MOST_HANGUP and (build.untimed or times <= HOSTILE_TIMES), told)
+    return told
+
+
 @test("raw refused parcels")
 def refused_parcels(build):
     """What the context manager's window can't hold is refused before it is copied."""
@@ -87,13 +249,16 @@ def refused_parcels(build):
 
 @test("raw looks")
 def looks(build):
-    """The daemon doesn't look at everybody who waits, whatever comes."""
-    with Stage(build) as stage:
-        told = stage.run([build.raw("beside"), "idle", "200", "3000"])
-        found = counts(stage)
-    each = found["looks"] / found["steps"]
-    expect(each <= MOST_LOOKS, f"{each:.1f} looks a step beside 200 processes that wait")
-    return f"{each:.1f} looks a step; {told}"
+    """The daemon doesn't look at everybody who waits or polls, whatever comes."""
+    lines = []
+    for kind, whom in (("idle", "processes that wait"), ("pollers", "threads of who serves that poll")):
+        with Stage(build) as stage:
+            told = stage.run([build.raw("beside"), kind, "200", "3000"])
+            found = counts(stage)
+        each = found["looks"] / found["steps"]
+        lines.append(f"{each:.1f} looks a step beside 200 {whom}; {told}")
+        expect(each <= MOST_LOOKS, lines[-1])
+    return "; ".join(lines)
 
 
 def beside(build, words, longest):

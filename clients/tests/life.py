@@ -179,6 +179,90 @@ def given(build, where):
         os.unlink(path)
 
 
+# seconds that a program may take that finds no daemon where somebody keeps it waiting
+SOON = 3
+
+
+def busy_at(path):
+    """What listens there and takes nobody: the next one waits."""
+    listening = socket.socket(socket.AF_UNIX, socket.SOCK_SEQPACKET)
+    listening.bind(path)
+    os.chmod(path, 0o777)
+    listening.listen(0)
+    waiting = [socket.socket(socket.AF_UNIX, socket.SOCK_SEQPACKET) for _ in range(3)]
+    for it in waiting:
+        it.setblocking(False)
+        it.connect_ex(path)
+    return [listening, *waiting]
+
+
+def unreached(build, why, env, **how):
+    """No daemon is reached, and that is known soon."""
+    begin = time.monotonic()
+    expect(not reaches(build, env=env, **how), why)
+    took = time.monotonic() - begin
+    expect(took < SOON, f"{why}: it took {took:.1f} s")
+
+
+def of_liars(build, where):
+    """What isn't the user's own isn't connected to where nobody has chosen it, be it a link, or kept busy by whose it is."""
+    own, me = f"/tmp/hullpippin-{STRANGER}", {"user": STRANGER, "group": STRANGER}
+    env = environment(build, HOME=where)
+    os.chmod(where, 0o755)
+    try:
+        os.mkdir(own, 0o755)
+        os.chown(own, OTHER, OTHER)
+        kept = busy_at(f"{own}/socket")
+        unreached(build, "another user's folder is looked into", env, **me)
+        for it in kept:
+            it.close()
+        shutil.rmtree(own)
+        os.mkdir(f"{where}/own", 0o700)
+        os.chown(f"{where}/own", STRANGER, STRANGER)
+        with daemon(build, ["--socket", f"{where}/own/socket"], f"{where}/own/socket", env=env, **me):
+            os.symlink(f"{where}/own", own)
+            os.lchown(own, OTHER, OTHER)
+            unreached(build, "a link is followed to a folder", env, **me)
+            os.unlink(own)
+            os.mkdir(own, 0o755)
+            os.chown(own, STRANGER, STRANGER)
+            os.symlink(f"{where}/own/socket", f"{own}/socket")
+            unreached(build, "a link is followed to a socket", env, **me)
+            os.unlink(f"{own}/socket")
+            os.rename(f"{where}/own/socket", f"{own}/socket")
+            expect(reaches(build, env=env, **me), "the user's own isn't reached")
+            os.rename(f"{own}/socket", f"{where}/own/socket")
+    finally:
+        (os.unlink if os.path.islink(own) else shutil.rmtree)(own)
+    # a chosen one is waited for, but not for ever
+    kept = busy_at(f"{where}/busy")
+    words = {**env, "HULLPIPPIN_SOCKET": f"{where}/busy", "LD_PRELOAD": build.preload}
+    status, _ = run([build.raw("versions")], env=words)
+    expect(status, "who takes nobody is reached")
+    for it in kept:
+        it.close()
+
+
+# a daemon of all users, and one of the user's own, in a place of their own: the one that is reached
+BOTH = """mount -t tmpfs none /run && mkdir -m 755 /run/hullpippin && "$0" --socket /run/hullpippin/socket --mode 666 --background &&
+setpriv --reuid=$1 --regid=$1 --clear-groups sh -c '"$0" --background && "$0" --look' "$0"
+"""
+
+
+def in_order(build, where):
+    """The system's daemon comes before one in /tmp."""
+    own, alone = f"/tmp/hullpippin-{STRANGER}", ["unshare", "--mount", "--pid", "--fork", "--mount-proc", "--kill-child"]
+    if run([*alone, "true"])[0]:
+        return
+    os.chmod(where, 0o755)
+    try:
+        status, said = run([*alone, "sh", "-c", BOTH, build.daemon, str(STRANGER)], env=environment(build, HOME=where))
+        expect(status == 0 and "listens at /run/hullpippin/socket" in said, f"beside a daemon of all users: {status}, {said}")
+        expect(os.path.exists(f"{own}/socket"), "the user's own daemon hasn't begun")
+    finally:
+        shutil.rmtree(own, ignore_errors=True)
+
+
 @test("raw addresses")
 def addresses(build):
     """Where a daemon listens, and who may come there."""
@@ -187,13 +271,13 @@ def addresses(build):
         copied = Copied(build, programs)
         with folder() as where:
             own_folders(copied, where)
-        for part in (who_may_come, given, *([] if os.geteuid() else [of_others])):
+        for part in (who_may_come, given, *([] if os.geteuid() else [of_others, of_liars, in_order])):
             with folder() as where:
                 os.chmod(where, 0o711)
                 part(copied, where)
     if os.geteuid():
         return "own folders, modes, given sockets; of other users nothing was seen: only root can be others"
-    return "own folders, other users' folders and locks, modes, given sockets"
+    return "own folders, other users' folders, locks and sockets, links, modes, given sockets"
 
 
 def run(words, **how):

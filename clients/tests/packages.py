@@ -86,12 +86,21 @@ def found(folder):
 
 
 def write_starter(folder, tool):
-    """A script in bin/ that runs a tool with the packages' loader and libraries, wherever the folder is moved to."""
-    os.makedirs(f"{folder}/bin", exist_ok=True)
-    loader, libraries = (f'"$here/{os.path.relpath(it, folder)}"' for it in found(folder))
+    """A script in bin/ that runs a tool with the packages' loader and libraries, wherever the folder is moved to. The loader has the
+    tool's name, since the system calls a process by the file that was started."""
+    for name in ("bin", "loaders"):
+        os.makedirs(f"{folder}/{name}", exist_ok=True)
+    loader, libraries = found(folder)
+    os.link(os.path.realpath(loader), f"{folder}/loaders/{tool}")
+    words = f'"$here/loaders/{tool}" --library-path "$here/{os.path.relpath(libraries, folder)}" "$here/root/usr/bin/{tool}"'
     with open(f"{folder}/bin/{tool}", "w", encoding="utf-8") as file:
-        file.write(f'#!/bin/sh\nhere=${{0%/*}}/..\nexec {loader} --library-path {libraries} "$here/root/usr/bin/{tool}" "$@"\n')
+        file.write(f'#!/bin/sh\nhere=${{0%/*}}/..\nexec {words} "$@"\n')
     os.chmod(f"{folder}/bin/{tool}", 0o755)
+
+
+def write_starters(folder):
+    for tool in glob.glob(f"{folder}/root/usr/bin/binder-*"):
+        write_starter(folder, os.path.basename(tool))
 
 
 def without_links(root):
@@ -118,8 +127,6 @@ def fetch(folder):
             raise Missing(f"{os.path.basename(package)} can't be unpacked")
     without_links(os.path.realpath(f"{folder}/root"))
     shutil.rmtree(f"{folder}/apt")
-    for tool in glob.glob(f"{folder}/root/usr/bin/binder-*"):
-        write_starter(folder, os.path.basename(tool))
     open(f"{folder}/whole", "w", encoding="utf-8").close()
 
 
@@ -131,6 +138,8 @@ class Packages:
             fetch(folder)
         self.root = f"{folder}/root"
         self.loader, self.libraries = found(folder)
+        if not os.path.exists(f"{folder}/loaders"):
+            write_starters(folder)
 
     def command(self, program, *words):
         """A program with the packages' loader and libraries."""

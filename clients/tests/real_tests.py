@@ -7,7 +7,7 @@ import struct
 import time
 
 from builds import CLIENTS
-from raw_tests import DEVICE, MOST_ROUNDS, ROUNDS, flat_cost
+from raw_tests import BEGUN, DEVICE, MOST_ROUNDS, ROUNDS, flat_cost, gone_over
 from soaks import soak
 from stage import Stage, expect, with_word
 from suite import figures, test
@@ -18,6 +18,8 @@ SERVICE = "hullpippin.test@1.0::IEcho/default"
 FORMS = ("aidl", "aidl2", "aidl3", "aidl4")
 # a call by libgbinder may take so many times what the same call takes over a bare relay
 TIMES_RELAY = 1.5
+# modes of our client, of which the second goes over the edge
+OVER_EDGE = (("call",), ("threads", "12", "200"), ("mixed",), ("oneway", "300"), ("nested", "100"), ("descriptors", "500"))
 
 
 def served(build, packages, stage, *words, times=1):
@@ -151,6 +153,28 @@ def deaths(build, packages):
         served(build, packages, stage, "test")
         stage.run(client(build, packages, "test", "call"))
     return f"the service heard of 5 clients' deaths, 2 clients {told[0]}; lawful, {stage.entries} steps"
+
+
+@test("libgbinder over the edge", real=True)
+def over_the_edge(build, packages):
+    """A service that came before places needed more than 32 bits is called, and hears of deaths, on both sides of that; so is one that
+    comes behind it."""
+    with Stage(build, journal=DEVICE, daemon=build.short, daemon_environment=BEGUN, wide=True) as stage:
+        stage.manage()
+        service = served(build, packages, stage, "test")
+        for words in OVER_EDGE:
+            stage.run(client(build, packages, "test", *words), 180)
+        stage.run(client(build, packages, "test", "keep"))
+        service.wait_for("dead", 10)
+        waiting = stage.start(client(build, packages, "test", "death")).wait_for("waiting")
+        service.kill()
+        waiting.finish()
+        served(build, packages, stage, "test")
+        stage.run(client(build, packages, "test", "call"))
+        listed = stage.run(packages.tool("binder-list", "-d", DEVICE))
+        expect("test" in listed.split(), f"binder-list: {listed}")
+        told = gone_over(stage)
+    return told
 
 
 @test("libgbinder HIDL", real=True)

@@ -33,6 +33,8 @@ HEAVY = ["latency", "200", "262144"]
 FULL, SLOW, EACH = 8 << 20, 1 << 20, 0.02
 # the end of a daemon whose disk takes nothing, in seconds
 STUCK_END = 20
+# so many entries a journal of version two counts in a daemon of the tests (short/), and what is said where there are more
+COUNTED, UNCOUNTED = 1000, "a journal of so few seats counts no more entries"
 # microseconds that a call may take during which one of its steps has waited for room as long as it may
 LONGEST_WAIT = 1_500_000
 
@@ -417,6 +419,22 @@ def untaken_recording(build):
         found = entries(build, stage.journal)
         expect(found == 0, f"{found} entries are in what was never written")
     return "it broke off, and the daemon ended"
+
+
+@test("raw uncounted recording")
+def uncounted_recording(build):
+    """A journal of 31 seats or fewer counts its entries by 32 bits: where no more can be counted the recording breaks off, and the device
+    goes on."""
+    few = {"SHORT_OF_ENTRIES": "1", "BEGIN_AT": "1"}
+    with Stage(build, journal=DEVICE, daemon=build.short, daemon_environment=few) as stage:
+        stage.run([build.raw("oneway")])
+        time.sleep(IN_TIME)
+        broke_off_once(stage.daemon.printed(), UNCOUNTED)
+        stage.run([build.raw("nested")])
+        broke_off_once(end_with(stage, 1), UNCOUNTED)
+        found, made = entries(build, stage.journal), steps_of(stage)
+    expect(found == COUNTED < made, f"{found} of {made} steps are there")
+    return f"{found} entries, lawful, of {made}"
 
 
 @test("raw unread log")

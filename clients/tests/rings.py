@@ -29,12 +29,12 @@ BUFFER = re.compile(r"  buffer at (\d+): (\d+) bytes, a (call|reply) with code (
                     r".*, made by step \d+")
 
 # as ring.h has them
-SLOT = struct.Struct("=QQQIIIIBBBBIIIIIIIIIIIQQQQQ16s240s")
+SLOT = struct.Struct("=QQQIIIIBBBBIIIIIQQIIIIQQQQQ16s232s")
 Slot = namedtuple("Slot", "sequence time place seat pid tid process kind answer number kept command handle code flags other call object_place "
                   "object_index euid limit returns data_size offsets_size buffer pointer cookie comm data")
 HEADING = struct.Struct("=8sIIIIQII64s24xQ56x")
-COUNTS = struct.Struct("=32Q32Q8Q32Q32Q32Q8Q")
-NONE = 2**32 - 1
+COUNTS = struct.Struct("=32Q32Q8Q32Q32Q32Q13Q")
+NONE = 2**64 - 1
 # steps that are looked at while they are made
 STEPS = 40_000
 COMMAND, READ, GOT, ACCEPTED = 3, 4, 6, 3
@@ -82,9 +82,9 @@ def said_by(entry):
         said["command"], = WORD.unpack_from(command)
         if number(said["command"]) in (BC_TRANSACTION, BC_REPLY):
             target, _, said["code"], said["flags"], _, _, said["data_size"], said["offsets_size"], *_ = RECORD.unpack_from(command, WORD.size)
-            said["handle"] = target & NONE if number(said["command"]) == BC_TRANSACTION else 0
+            said["handle"] = target & (2**32 - 1) if number(said["command"]) == BC_TRANSACTION else 0
             rest = entry.step[5 + len(command):]
-            said["data"] = blocks(rest[1:])[0][:240] if rest[0] else b""
+            said["data"] = blocks(rest[1:])[0][:232] if rest[0] else b""
     elif entry.step[0] == READ:
         said["limit"], = WORD.unpack_from(entry.step, 1)
         stream = blocks(entry.answer[1:])[0] if entry.answer[0] == GOT else b""
@@ -183,7 +183,7 @@ def ring_counts(build):
         _, who = neighbours(stage.journal)
     mark, heading_size, slot_size, slot_count, seats, realtime, daemon, is_over, device, count = heading
     there = (mark, heading_size, slot_size, slot_count, seats, daemon, is_over, device.rstrip(b"\0"))
-    expect(there == (b"HPRING01", 4096, SLOT.size, 8192, 31, stage.daemon.pid, 0, DEVICE.encode()), f"the heading: {heading}")
+    expect(there == (b"HPRING02", 4096, SLOT.size, 8192, 31, stage.daemon.pid, 0, DEVICE.encode()), f"the heading: {heading}")
     expect(abs(realtime - before) < 1e9, f"the clocks are {realtime} apart, and not {before}")
     places = {it.place for it in slots}
     expect(places == set(range(max(0, count - slot_count), count)), f"{len(places)} slots of {count} steps")
@@ -199,8 +199,9 @@ def ring_counts(build):
             found[{4: 72, 5: 104, 7: 136}[said["answer"]] + said["number"]] += 1
     other = [(i, counts[i], found[i]) for i in range(168) if counts[i] != found[i]]
     expect(not other, f"counts that differ: {other}")
-    turns, longest_turn, _, looks, copied, processes, lent, most_lent = counts[168:]
+    turns, longest_turn, _, looks, copied, processes, lent, most_lent, *times = counts[168:]
     expect(0 < longest_turn <= 64 and turns and looks and copied, f"turns {turns}, longest {longest_turn}, looks {looks}, copied {copied}")
+    expect(all(1000 < it < 10**9 for it in times[:2]), f"the longest turns took {times[:2]} ns")
     held = [0]
     for it in who.lines:
         if it.place <= count:
@@ -311,7 +312,7 @@ def state(build):
 
 
 # what a daemon answers (../protocol.h), and a page of `--state` with so many records
-ANSWER, PAGE, RECORDS, RECORD_SIZE = struct.Struct("=iIQ"), struct.Struct("=iIQQQ"), 16, 112
+ANSWER, PAGE, RECORDS, RECORD_SIZE = struct.Struct("=iIQ"), struct.Struct("=iIQQQ"), 16, 128
 LATEST = 4096 + 8192 * SLOT.size
 PAGES_MAX = 1 << 18  # as asking.c has it
 NO_DAEMON, TOO_SLOW = "no daemon of this build answers", "not all of it is told in time"
@@ -361,7 +362,7 @@ def told_by(build, folder, words, answers, memory=None, patience=20):
 @test("raw ring lies")
 def ring_lies(build):
     """Who asks what a daemon tells isn't led astray by what listens in its place; and asks for one thing."""
-    def heading(magic=b"HPRING01", slots=8192, device=DEVICE):
+    def heading(magic=b"HPRING02", slots=8192, device=DEVICE):
         return HEADING.pack(magic, 4096, SLOT.size, slots, 31, 0, 1, 0, device.encode(), 0)
     ring = [ANSWER.pack(0, 1, LATEST)]
     lies = [(heading(), 0), (heading(), 4096), (heading(), LATEST, 0), (heading(b"HPRING00"), LATEST), (heading(slots=1 << 31), LATEST),

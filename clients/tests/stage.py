@@ -123,9 +123,9 @@ NARROW = 31
 class Stage:
     """A daemon, started; `journal` names a device whose journal is kept and judged in the end: of version two, but with `wide`. With
     `bare` a bare relay stands in its place, which nothing is asked of but times. With `daemon` it is another program; `words` are
-    further ones for it."""
+    further ones for it, and `under` come before all."""
 
-    def __init__(self, build, journal=None, daemon_environment=(), bare=False, daemon=None, words=(), wide=False):
+    def __init__(self, build, journal=None, daemon_environment=(), bare=False, daemon=None, words=(), wide=False, under=()):
         self.build, self.is_bare, self.is_wide = build, bare, wide
         self.folder = tempfile.mkdtemp(prefix="hullpippin-stage-")
         self.socket = f"{self.folder}/socket"
@@ -137,7 +137,7 @@ class Stage:
         words = [build.bare, self.socket] if bare else [daemon or build.daemon, "--socket", self.socket, *words]
         if journal:
             words += ["--journal", f"{journal}={self.journal}", *([] if wide else ["--seats", str(NARROW)])]
-        self.daemon = Process(words, {**self.environment, **dict(daemon_environment)}, f"{self.folder}/daemon.log")
+        self.daemon = Process([*under, *words], {**self.environment, **dict(daemon_environment)}, f"{self.folder}/daemon.log")
         self.environment["RAW_DAEMON"] = str(self.daemon.pid)
 
     def __enter__(self):

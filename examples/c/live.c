@@ -9,6 +9,7 @@
  */
 #include "hullpippin.h"
 
+#include <inttypes.h>
 #include <stdarg.h>
 #include <stdio.h>
 #include <string.h>
@@ -50,7 +51,7 @@ static void put32(uint8_t *at, uint32_t value)
 }
 
 /* Writes what a journal of so many entries begins with to the beginning of the file. */
-static bool write_heading(struct run *run, uint32_t count)
+static bool write_heading(struct run *run, uint64_t count)
 {
     uint8_t heading[16];
     size_t size;
@@ -92,7 +93,7 @@ static bool open_line(struct run *run, uint32_t seat, uint32_t pid, uint32_t eui
     uint32_t status = hullpippin_live_open(&run->live, seat, pid, euid, 4096, &answer);
     if (!is_answered(run, status, &answer, HULLPIPPIN_OPENED))
         return false;
-    say(run, "%d: opened %u %u\n", run->line, answer.from, answer.to);
+    say(run, "%d: opened %" PRIu64 " %" PRIu64 "\n", run->line, answer.from, answer.to);
     return true;
 }
 
@@ -102,7 +103,7 @@ static bool become_manager(struct run *run, uint32_t seat)
     uint32_t status = hullpippin_live_manager(&run->live, seat, &answer);
     if (!is_answered(run, status, &answer, HULLPIPPIN_SET))
         return false;
-    say(run, "%d: set %u %u\n", run->line, answer.from, answer.to);
+    say(run, "%d: set %" PRIu64 " %" PRIu64 "\n", run->line, answer.from, answer.to);
     return true;
 }
 
@@ -116,7 +117,7 @@ static bool command_line(struct run *run, uint32_t seat, const uint8_t *command,
         return false;
     if (answer.stop != HULLPIPPIN_AT_END || answer.notes)
         return fails("the command was refused");
-    say(run, "%d: wrote %u %u %u\n", run->line, (unsigned)size, answer.from, answer.to);
+    say(run, "%d: wrote %u %" PRIu64 " %" PRIu64 "\n", run->line, (unsigned)size, answer.from, answer.to);
     return true;
 }
 
@@ -142,7 +143,7 @@ static bool read_line(struct run *run, uint32_t seat)
     say_digits(run, HULLPIPPIN_STREAM);
     say_digits(run, HULLPIPPIN_DATA);
     say_digits(run, HULLPIPPIN_OFFSETS);
-    say(run, " %u %u\n", answer.from, answer.to);
+    say(run, " %" PRIu64 " %" PRIu64 "\n", answer.from, answer.to);
     return true;
 }
 

@@ -9,6 +9,7 @@
  */
 #include "hullpippin.h"
 
+#include <inttypes.h>
 #include <pthread.h>
 #include <sched.h>
 #include <stdarg.h>
@@ -105,7 +106,7 @@ static bool write_line(struct part *part, int line, const uint8_t *stream, size_
         return false;
     if (answer.stop != HULLPIPPIN_AT_END)
         return fails(answer.number == HULLPIPPIN_FAULT_NO_MEMORY ? "no memory" : "the write stopped");
-    say(line, "wrote %u %u %u", answer.consumed, answer.from, answer.to);
+    say(line, "wrote %u %" PRIu64 " %" PRIu64, answer.consumed, answer.from, answer.to);
     return true;
 }
 
@@ -131,7 +132,7 @@ static bool read_line(struct part *part, int line)
     digits(part, HULLPIPPIN_STREAM, stream);
     digits(part, HULLPIPPIN_DATA, data);
     digits(part, HULLPIPPIN_OFFSETS, offsets);
-    say(line, "got %s %s %s %u %u", stream, data, offsets, answer.from, answer.to);
+    say(line, "got %s %s %s %" PRIu64 " %" PRIu64, stream, data, offsets, answer.from, answer.to);
     return true;
 }
 
@@ -142,7 +143,7 @@ static bool open_line(struct part *part, int line, uint32_t pid, uint32_t euid)
     uint32_t status = hullpippin_open(&part->seat, pid, euid, 4096, &answer);
     if (!is_answered(status, &answer, HULLPIPPIN_OPENED))
         return false;
-    say(line, "opened %u %u", answer.from, answer.to);
+    say(line, "opened %" PRIu64 " %" PRIu64, answer.from, answer.to);
     return true;
 }
 
@@ -152,7 +153,7 @@ static bool become_manager(struct part *part, int line)
     uint32_t status = hullpippin_manager(&part->seat, &answer);
     if (!is_answered(status, &answer, HULLPIPPIN_SET))
         return false;
-    say(line, "set %u %u", answer.from, answer.to);
+    say(line, "set %" PRIu64 " %" PRIu64, answer.from, answer.to);
     return true;
 }
 

@@ -1,8 +1,9 @@
 /* SPDX-License-Identifier: Apache-2.0 OR MIT */
 /*
- * impostor SET-UID-PROGRAM: calls in the name of a process that has more rights than who makes them. A process opens the device, and gives
- * its pages to an accomplice. The one becomes a set-uid program then, and another, which was root's, has ended: its folder in /proc is
- * root's then. No call of the accomplices may be told as root's. A context manager of raw/callers.c has to be there.
+ * impostor SET-UID-PROGRAM SET-GID-PROGRAM SET-UID-SELF: calls in the name of a process that has more rights than who makes them. A process
+ * opens the device, and gives its pages to an accomplice. The one becomes a set-uid program then, one a set-gid program, and one a set-uid
+ * program, which is this one, that is its caller's for a while and then root's again; and another, which was root's, has ended: its folder
+ * in /proc is root's then. No call of the accomplices may be told as root's. A context manager of raw/callers.c has to be there.
  */
 #include "hostile.h"
 
@@ -13,12 +14,16 @@
 #include <stdlib.h>
 #include <string.h>
 #include <sys/mman.h>
+#include <sys/prctl.h>
 #include <sys/stat.h>
 #include <sys/wait.h>
 #include <unistd.h>
 
 #define TELL 1
 #define SOMEBODY 1000
+/* Who opens the device for what is a program of two users. */
+#define REAL 4001
+#define EFFECTIVE 4002
 #define WINDOW (1 << 20)
 #define BASE 0x7f0000000000
 
@@ -51,13 +56,13 @@ static int64_t told(struct hostile *hostile)
     return -1;
 }
 
-static uid_t owner_of(pid_t pid)
+static struct stat look_at(pid_t pid)
 {
     char name[32];
     struct stat stat;
     snprintf(name, sizeof name, "/proc/%d", (int)pid);
     CHECK(!lstat(name, &stat), "%s", name);
-    return stat.st_uid;
+    return stat;
 }
 
 /* Waits until the other process has sent a byte. */
@@ -116,10 +121,10 @@ static int64_t attack(uid_t before, char *program)
     pid_t opener = start(before, starts[0], results[1], readies[1], program);
     await(readies[0]);
     if (program)
-        for (int i = 0; i < 200 && owner_of(opener) != 0; i++)
+        for (int i = 0; i < 200 && look_at(opener).st_uid != 0; i++)
             usleep(10000);
     if (program)
-        CHECK(owner_of(opener) == 0, "%s is no set-uid program here", program);
+        CHECK(look_at(opener).st_uid == 0, "%s is no set-uid program here", program);
     else
         CHECK(waitpid(opener, NULL, 0) == opener, "the opener hasn't ended");
     go(starts[1]);
@@ -128,14 +133,96 @@ static int64_t attack(uid_t before, char *program)
     return who;
 }
 
+/* The same where the opener becomes a program of another group, which it hasn't itself. */
+static int64_t attack_group(char *program)
+{
+    struct hostile hostile;
+    int readies[2];
+    CHECK(!pipe(readies), "no pipe");
+    pid_t opener = fork();
+    if (!opener) {
+        CHECK(!setresgid(SOMEBODY, SOMEBODY, SOMEBODY), "can't be of another group");
+        become(&hostile, SOMEBODY, SOMEBODY);
+        if (!fork()) {
+            prctl(PR_SET_PDEATHSIG, SIGKILL);
+            for (int i = 0; i < 200 && look_at(getppid()).st_gid == SOMEBODY; i++)
+                usleep(10000);
+            CHECK(look_at(getppid()).st_gid == 0, "%s is no set-gid program here", program);
+            int64_t who = told(&hostile);
+            CHECK(write(readies[1], &who, sizeof who) == sizeof who, "nobody waits for the result");
+            _exit(0);
+        }
+        execl(program, program, "20", NULL);
+        _exit(1);
+    }
+    int64_t who = 0;
+    CHECK(read(readies[0], &who, sizeof who) == sizeof who, "the accomplice told nothing");
+    kill(opener, SIGKILL);
+    CHECK(waitpid(opener, NULL, 0) == opener, "the opener hasn't ended");
+    return who;
+}
+
+/* The set-uid program: its caller's for a while, and then root's again. Each time it says so, and waits to be told to go on. */
+static int turn(int tells, int told_to)
+{
+    prctl(PR_SET_PDEATHSIG, SIGKILL);
+    alarm(30);
+    CHECK(!seteuid(getuid()), "can't be its caller's");
+    go(tells);
+    await(told_to);
+    CHECK(!seteuid(0), "can't be root's again");
+    go(tells);
+    await(told_to);
+    return 0;
+}
+
+/* What two calls are told as: while the program is its caller's, and once it is root's again. */
+static void attack_by_turning(char *program, int64_t who[2])
+{
+    struct hostile hostile;
+    int tells[2], told_to[2];
+    CHECK(!pipe(tells) && !pipe(told_to), "no pipes");
+    pid_t opener = fork();
+    if (!opener) {
+        char numbers[2][16];
+        CHECK(!setresuid(REAL, EFFECTIVE, EFFECTIVE), "can't be two users");
+        CHECK(hostile_begin(&hostile, "/dev/binder"), "can't open the device");
+        /* as descriptors go through an exec, so a child has them: it is the accomplice */
+        if (!fork()) {
+            prctl(PR_SET_PDEATHSIG, SIGKILL);
+            for (int i = 0; i < 2; i++) {
+                await(tells[0]);
+                who[i] = told(&hostile);
+                go(told_to[1]);
+            }
+            CHECK(write(told_to[1], who, 2 * sizeof *who) == 2 * sizeof *who, "nobody waits for the result");
+            _exit(0);
+        }
+        snprintf(numbers[0], sizeof numbers[0], "%d", tells[1]);
+        snprintf(numbers[1], sizeof numbers[1], "%d", told_to[0]);
+        execl(program, program, "turn", numbers[0], numbers[1], NULL);
+        _exit(1);
+    }
+    CHECK(waitpid(opener, NULL, 0) == opener, "the opener hasn't ended");
+    CHECK(read(told_to[0], who, 2 * sizeof *who) == 2 * sizeof *who, "the accomplice told nothing");
+}
+
 int main(int argc, char **argv)
 {
-    CHECK(argc == 2 && !geteuid(), "usage, by root: impostor SET-UID-PROGRAM");
+    int64_t turned[2];
+    if (argc == 4 && !strcmp(argv[1], "turn"))
+        return turn(atoi(argv[2]), atoi(argv[3]));
+    CHECK(argc == 4 && !geteuid(), "usage, by root: impostor SET-UID-PROGRAM SET-GID-PROGRAM SET-UID-SELF");
     alarm(30);
     int64_t who = attack(SOMEBODY, argv[1]);
     CHECK(who != 0, "a call in the name of what has become a set-uid program is told as root's");
     who = attack(0, NULL);
     CHECK(who != 0, "a call in the name of what has ended is told as root's");
+    who = attack_group(argv[2]);
+    CHECK(who == -1, "a call in the name of what has become a set-gid program is made, as %lld's", (long long)who);
+    attack_by_turning(argv[3], turned);
+    CHECK(turned[1] != 0, "a call in the name of a set-uid program that was its caller's for a while is told as root's");
+    CHECK(turned[0] == -1, "a call in the name of a set-uid program that is its caller's for a while is made, as %lld's", (long long)turned[0]);
     printf("no call is root's that root doesn't make\n");
     return 0;
 }

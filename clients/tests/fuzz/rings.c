@@ -2,7 +2,8 @@
 /*
  * rings threads|files|users COUNT DEVICE [UID]: keeps so many threads of clients asking until it is killed, each for a full stream of
  * commands that are all accepted: threads of one open file, open files of one process, or processes of their own, which are
- * another user's where one is named. `rings parcels COUNT DEVICE` has each ask for a call of the context manager with as much data
+ * another user's where one is named. `rings persons COUNT DEVICE UID [GROUP]` has each of these be a user of its own, from that one on, all
+ * in a control group whose list of processes is named. `rings parcels COUNT DEVICE` has each ask for a call of the context manager with as much data
  * as a page has room for, and `rings frees COUNT DEVICE` for buffers to be freed that it was never handed. Prints `ready` once all of
  * them ask.
  */
@@ -11,6 +12,7 @@
 
 #include <fcntl.h>
 #include <linux/futex.h>
+#include <signal.h>
 #include <stdio.h>
 #include <stdlib.h>
 #include <string.h>
@@ -95,9 +97,23 @@ static void begin(struct hostile *hostile, const char *device, bool is_further)
 /* Of a pipe: nothing comes of it until all are there. */
 static int all_are_there;
 
+static uid_t next_uid; /* 0: all are one user's */
+static const char *group;
+
+static void be_somebody(void)
+{
+    char pid[16];
+    FILE *file = group ? fopen(group, "w") : NULL;
+    snprintf(pid, sizeof pid, "%d", (int)getpid());
+    CHECK(!group || (file && fputs(pid, file) >= 0 && !fclose(file)), "can't be in %s", group);
+    CHECK(!setgid(next_uid) && !setuid(next_uid) && !prctl(PR_SET_DUMPABLE, 1) && !prctl(PR_SET_PDEATHSIG, SIGKILL), "can't be a user");
+}
+
 static void be_client(void *with)
 {
     char end;
+    if (next_uid)
+        be_somebody();
     begin(&all[0], with, false);
     raw_ready();
     CHECK(read(all_are_there, &end, 1) >= 0, "can't wait");
@@ -109,7 +125,7 @@ static void start_clients(size_t count, char *device)
     int ends[2];
     CHECK(!pipe2(ends, O_CLOEXEC), "no pipe");
     all_are_there = ends[0];
-    for (size_t i = 0; i < count; i++)
+    for (size_t i = 0; i < count; i++, next_uid += next_uid > 0)
         raw_start(be_client, device);
     CHECK(write(ends[1], &all, count) == (ssize_t)count, "can't tell them");
     printf("ready\n");
@@ -119,12 +135,18 @@ static void start_clients(size_t count, char *device)
 
 int main(int argc, char **argv)
 {
-    CHECK(argc >= 4, "rings threads|files|users|parcels|frees COUNT DEVICE [UID]");
+    CHECK(argc >= 4, "rings threads|files|users|persons|parcels|frees COUNT DEVICE [UID [GROUP]]");
     size_t count = strtoul(argv[2], NULL, 10);
     CHECK(count && count <= MOST, "%zu clients", count);
     raw_begin(120);
     if (!strcmp(argv[1], "parcels") || !strcmp(argv[1], "frees"))
         prepare = argv[1][0] == 'p' ? ask_call : ask_frees;
+    if (!strcmp(argv[1], "persons")) {
+        CHECK(argc > 4, "whose?");
+        next_uid = (uid_t)atoi(argv[4]);
+        group = argc > 5 ? argv[5] : NULL;
+        start_clients(count, argv[3]);
+    }
     if (argc > 4)
         CHECK(!setgid((gid_t)atoi(argv[4])) && !setuid((uid_t)atoi(argv[4])) && !prctl(PR_SET_DUMPABLE, 1), "can't be user %s", argv[4]);
     if (!strcmp(argv[1], "users"))

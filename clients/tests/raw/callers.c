@@ -6,6 +6,7 @@
  */
 #include "raw.h"
 
+#include <grp.h>
 #include <pthread.h>
 #include <stdio.h>
 #include <string.h>
@@ -17,6 +18,7 @@ enum { TELL = 1, TELL_OF_OBJECT, HEAR, TELL_HEARD, BECOME, QUIT };
 
 #define NOBODY 65534
 #define SOMEBODY 1000
+#define GROUPS 3000
 
 static const char words[] = "what is said";
 
@@ -91,6 +93,21 @@ static void *call_as_another(void *with)
     return NULL;
 }
 
+/* Somebody with so many groups that a process's `status` takes many pages is known all the same. */
+static void with_many_groups(void *with)
+{
+    static gid_t groups[GROUPS];
+    struct client client;
+    (void)with;
+    for (gid_t i = 0; i < GROUPS; i++)
+        groups[i] = 4000000000 + i;
+    CHECK(!setgroups(GROUPS, groups), "can't be of many groups");
+    raw_open(&client, WINDOW, NULL);
+    CHECK(raw_ask(&client.looper, (struct call){.code = TELL}) == 0, "root with many groups isn't told as root");
+    raw_ready();
+    _exit(0);
+}
+
 static void replies(struct client *client, uint32_t euid)
 {
     struct binder_transaction_data reply;
@@ -137,6 +154,7 @@ int main(int argc, char **argv)
     CHECK(!seteuid(0), "can't be root again");
     are_told(&client, 0);
     CHECK(!pthread_create(&thread, NULL, call_as_another, &client) && !pthread_join(thread, NULL), "no thread");
+    raw_join(raw_start(with_many_groups, NULL));
     replies(&client, SOMEBODY);
     replies(&client, 0);
     CHECK(!setresuid(SOMEBODY, SOMEBODY, SOMEBODY), "can't become another user for good");

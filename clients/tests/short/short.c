@@ -1,10 +1,12 @@
 /* SPDX-License-Identifier: Apache-2.0 OR MIT */
 /*
- * short.c: goes into a daemon of the tests, whose histories can take no more after so many steps: what the engine answers after
- * 4294967295, which the daemon knows too. The linker has the daemon call these in the library's place. With SHORT_OF_MEMORY in
- * its environment the kernel has no memory for its clients in the first seconds, and the engine none to end the first threads.
- * With SHORT_CALL it asks the kernel for something that it has no use for, as often as a client comes. With SHORT_OF_DISK nothing is
- * taken of what is longer than the heading of a recording, or rings a bell. And it asks another daemon for seconds, not for a minute.
+ * short.c: goes into a daemon of the tests, whose engines make no more than so many steps: what they answer then no device lives to
+ * hear, or comes of a handle behind the last. The linker has the daemon call these in the library's place. With BEGIN_AT its devices'
+ * histories begin behind so many steps that were refused, and go on without that end. With SHORT_OF_MEMORY in its environment the
+ * kernel has no memory for its clients in the first seconds, and the engine none to end the first threads. With SHORT_CALL it asks the
+ * kernel for something that it has no use for, as often as a client comes. With SHORT_OF_DISK nothing is taken of what is longer than
+ * the heading of a recording, or rings a bell. With SHORT_OF_ENTRIES a journal of version two counts a thousand entries. And it asks
+ * another daemon for seconds, not for a minute.
  */
 #include <errno.h>
 #include <fcntl.h>
@@ -27,14 +29,36 @@
 #define THREADS 29
 /* The most that a recording begins with. */
 #define HEADING 20
+#define ENTRIES 1000
 
-extern uint64_t history_most;
+extern uint64_t narrow_most;
 extern uint32_t asking_most;
+
+/* Of a daemon whose devices begin behind some steps, how many these are. */
+static uint64_t begun_at;
 
 __attribute__((constructor)) static void shorten(void)
 {
-    history_most = STEPS;
+    const char *steps = getenv("BEGIN_AT");
+    begun_at = steps ? strtoull(steps, NULL, 10) : 0;
+    if (getenv("SHORT_OF_ENTRIES"))
+        narrow_most = ENTRIES;
     asking_most = SECONDS;
+}
+
+/* It is for tests, so the header hasn't got it: an engine that is as after so many steps that were refused. */
+uint32_t hullpippin_live_begun_at(uint32_t seats, uint64_t steps, hullpippin_live *live);
+
+uint32_t __real_hullpippin_live_new(uint32_t seats, hullpippin_live *live);
+uint32_t __wrap_hullpippin_live_new(uint32_t seats, hullpippin_live *live);
+uint32_t __wrap_hullpippin_live_new(uint32_t seats, hullpippin_live *live)
+{
+    return begun_at ? hullpippin_live_begun_at(seats, begun_at, live) : __real_hullpippin_live_new(seats, live);
+}
+
+static bool makes_steps(hullpippin_live *live)
+{
+    return begun_at || hullpippin_live_len(live) < STEPS;
 }
 
 /* The library's function of this name, and what the daemon calls. */
@@ -43,7 +67,7 @@ __attribute__((constructor)) static void shorten(void)
     uint32_t __wrap_hullpippin_live_##name parameters; \
     uint32_t __wrap_hullpippin_live_##name parameters \
     { \
-        return hullpippin_live_len(live) < STEPS ? __real_hullpippin_live_##name(__VA_ARGS__) : HULLPIPPIN_HISTORY_FULL; \
+        return makes_steps(live) ? __real_hullpippin_live_##name(__VA_ARGS__) : HULLPIPPIN_HISTORY_FULL; \
     }
 
 SHORT(open, (hullpippin_live *live, uint32_t seat, uint32_t pid, uint32_t euid, uint32_t window, hullpippin_answer *answer), live,
@@ -65,7 +89,7 @@ uint32_t __wrap_hullpippin_live_exit_thread(hullpippin_live *live, uint32_t seat
     static int kept;
     if (getenv("SHORT_OF_MEMORY") && seat && kept < THREADS && ++kept)
         return HULLPIPPIN_NO_MEMORY;
-    return hullpippin_live_len(live) < STEPS ? __real_hullpippin_live_exit_thread(live, seat, answer) : HULLPIPPIN_HISTORY_FULL;
+    return makes_steps(live) ? __real_hullpippin_live_exit_thread(live, seat, answer) : HULLPIPPIN_HISTORY_FULL;
 }
 
 ssize_t __real_write(int fd, const void *bytes, size_t size);

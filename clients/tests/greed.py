@@ -1,0 +1,151 @@
+# SPDX-License-Identifier: Apache-2.0 OR MIT
+"""What who takes all that it can get leaves to others."""
+import os
+import resource
+import time
+
+from crowds import let_others_in
+from stage import Stage, expect, open_files, resident, tail
+from suite import figures, test
+
+DEVICES = "/dev/binder", "/dev/hwbinder", "/dev/vndbinder"
+# bytes of address space that a daemon has, and KiB of memory of its own that it may have then
+LITTLE, LITTLE_KIB = 400 << 20, 200 << 10
+KINDS = "calls", "objects", "handles", "deaths", "threads", "windows"
+# more than anybody gets
+COUNT = "300000"
+
+
+def take_all(stage, build, kind, *user):
+    """A program that takes all of a kind that it gets: it, and how much that was."""
+    greedy = stage.start([build.fuzz("greedy"), kind, COUNT, *user], client=False)
+    return greedy, figures(greedy.wait_for("taken", 50).printed())["taken"]
+
+
+def serves(stage, build):
+    """Others open each device and call there."""
+    for device in DEVICES:
+        stage.run([build.raw("nested")], environment={"RAW_DEVICE": device})
+
+
+def back_to(stage, files):
+    """The daemon has no more descriptors than before soon, as fast as the machine lets it end who had much."""
+    end = time.monotonic() + 20
+    while open_files(stage.daemon.pid) > files and time.monotonic() < end:
+        time.sleep(0.05)
+    expect(open_files(stage.daemon.pid) <= files, f"the daemon has {open_files(stage.daemon.pid)} descriptors after {files}")
+
+
+@test("raw greed", plain_only=True)
+def greed(build):
+    """With little memory the daemon goes on whatever one takes: it is refused, others are served, and its end is no other's."""
+    told = []
+    for kind in KINDS:
+        with Stage(build, under=["prlimit", f"--as={LITTLE}"]) as stage:
+            serves(stage, build)
+            files = open_files(stage.daemon.pid)
+            greedy, taken = take_all(stage, build, kind)
+            expect(0 < taken < 3 * int(COUNT), f"{kind}: {taken:.0f} were taken")
+            held = resident(stage.daemon.pid)
+            expect(held < LITTLE_KIB, f"{kind}: the daemon has {held} KiB")
+            stage.start([build.raw("opens")]).wait_for("ready").kill()
+            greedy.kill()
+            back_to(stage, files)
+            serves(stage, build)
+            expect("memory" not in stage.daemon.printed(), f"{kind}: {tail(stage.daemon.printed())}")
+        told.append(f"{taken:.0f} {kind}")
+    return ", ".join(told)
+
+
+def while_used(stage, comes):
+    """Waits until the daemon's log says something."""
+    end = time.monotonic() + 10
+    while not comes(stage.daemon.printed()):
+        expect(stage.daemon.runs() and time.monotonic() < end, f"the daemon: {tail(stage.daemon.printed())}")
+        time.sleep(0.05)
+
+
+# so much more memory than before, in KiB, may a daemon have once all are gone who have taken what they could
+LEFT_KIB = 8192
+
+
+@test("raw remains", plain_only=True)
+def remains(build):
+    """Once all are gone who took what they could, the daemon has no more memory, nor descriptors, than before."""
+    told = []
+    with Stage(build) as stage:
+        for device in DEVICES:
+            stage.run([build.raw("nested")], environment={"RAW_DEVICE": device})
+        before, files = resident(stage.daemon.pid), open_files(stage.daemon.pid)
+        for kind in ("calls", "deaths"):
+            greedy, taken = take_all(stage, build, kind)
+            most = resident(stage.daemon.pid)
+            greedy.kill()
+            back_to(stage, files)
+            end = time.monotonic() + 10
+            while resident(stage.daemon.pid) > before + LEFT_KIB and time.monotonic() < end:
+                time.sleep(0.1)
+            kept = resident(stage.daemon.pid)
+            expect(kept <= before + LEFT_KIB, f"the daemon keeps {kept} KiB after {before}, {most} with {taken:.0f} {kind}")
+            told.append(f"{most} KiB with {taken:.0f} {kind}, then {kept}")
+        serves(stage, build)
+    return f"{before} KiB, {'; '.join(told)}"
+
+
+@test("raw set aside", plain_only=True)
+def set_aside(build):
+    """Who has much ends also where no memory is left but what is set aside for that; then there is some again."""
+    with Stage(build) as stage:
+        let_others_in(stage)
+        greedy, taken = take_all(stage, build, "deaths")
+        with open(f"/proc/{stage.daemon.pid}/statm", encoding="ascii") as file:
+            used = int(file.read().split()[0]) * resource.getpagesize()
+        resource.prlimit(stage.daemon.pid, resource.RLIMIT_AS, (used, resource.RLIM_INFINITY))
+        greedy.kill()
+        while_used(stage, lambda printed: "but what was set aside" in printed)
+        resource.prlimit(stage.daemon.pid, resource.RLIMIT_AS, (resource.RLIM_INFINITY, resource.RLIM_INFINITY))
+        while_used(stage, lambda printed: printed.count("but what was set aside") == printed.count("set aside again"))
+        expect("the device ends" not in stage.daemon.printed(), f"the daemon: {tail(stage.daemon.printed())}")
+        serves(stage, build)
+    return f"the owner of {taken:.0f} watched objects has ended, and others are served"
+
+
+@test("raw fair greed")
+def fair(build):
+    """Beside another user's who takes all, also by many processes, others get what they want."""
+    if os.geteuid():
+        return "nothing was seen: only root can become another user"
+    told = []
+    for kind in ("calls", "handles"):
+        with Stage(build) as stage:
+            let_others_in(stage)
+            _, taken = take_all(stage, build, kind, "4001")
+            stage.run([build.raw("versions")])
+            told.append(f"{taken:.0f} {kind}")
+    return ", ".join(told)
+
+
+# seconds of processor time that the thread of a device may take to let go of what a client leaves in it
+LETTING_GO = 0.01
+
+
+def device_time(pid, thread):
+    """Seconds of processor time that a thread has used."""
+    with open(f"/proc/{pid}/task/{thread}/schedstat", encoding="ascii") as file:
+        return int(file.read().split()[0]) / 1e9
+
+
+@test("raw costly ends", plain_only=True)
+def costly(build):
+    """What takes its time to be closed is closed by no thread that a client waits for."""
+    with Stage(build) as stage:
+        pid = stage.daemon.pid
+        before = set(os.listdir(f"/proc/{pid}/task"))
+        program = stage.start([build.fuzz("costly")], client=False).wait_for("ready", 30)
+        thread = max(set(os.listdir(f"/proc/{pid}/task")) - before, key=int)
+        used = device_time(pid, thread)
+        program.wait_for("left")
+        time.sleep(1)
+        took = device_time(pid, thread) - used
+        expect(took < LETTING_GO, f"the device's thread took {took * 1e3:.0f} ms to let go of what it was left")
+    return f"the device's thread took {took * 1e3:.1f} ms to let go of much memory, and of sockets with many connections"
