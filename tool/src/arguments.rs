@@ -1,5 +1,6 @@
 // SPDX-License-Identifier: Apache-2.0 OR MIT
 //! The words of the command line.
+#[cfg(feature = "top")]
 use crate::live::top::Top;
 use crate::live::trace::Trace;
 use crate::out::When;
@@ -7,6 +8,7 @@ use crate::play::{Range, Spot};
 use crate::select::Selection;
 use crate::space::ObjectId;
 use crate::times::TimeWord;
+use crate::told::Wanted;
 use clap::{Args, Parser, Subcommand, ValueEnum};
 
 /// Looks at recordings of Binder's transactions: what was sent, why it was refused, who holds what.
@@ -22,6 +24,9 @@ pub struct Arguments {
     /// Tells on one line of standard error how far a journal is read; then there is no pager
     #[arg(long, global = true)]
     pub progress: bool,
+    /// Calls methods by their names, from the .aidl files of this folder, which have to be those of the very build
+    #[arg(long, global = true, value_name = "FOLDER")]
+    pub aidl: Option<std::path::PathBuf>,
     #[command(subcommand)]
     pub word: Word,
 }
@@ -34,7 +39,16 @@ impl Arguments {
 
     /// Whether no person would read it page by page: it is for a program, or for who types.
     pub fn is_for_programs(&self) -> bool {
-        let is_live = matches!(&self.word, Word::Trace(_) | Word::Top(_) | Word::Repl { .. });
+        let is_live = match &self.word {
+            Word::Trace(_) | Word::Record(_) | Word::KernelGuard { .. } => true,
+            #[cfg(feature = "top")]
+            Word::Top(_) => true,
+            #[cfg(feature = "repl")]
+            Word::Repl { .. } => true,
+            #[cfg(feature = "completions")]
+            Word::Completions { .. } => true,
+            _ => false,
+        };
         let is_text = matches!(&self.word, Word::Diagram(Diagram { format: Drawn::Text, .. }));
         is_live || !is_text && matches!(&self.word, Word::Export(_) | Word::Diagram(_) | Word::Script(_))
     }
@@ -58,6 +72,8 @@ pub enum Word {
     Holders(Holders),
     /// Prints buffers that were read and never freed, references asked for again and again, and what grows
     Leaks(Leaks),
+    /// Prints the calls of a recording or of a kernel's trace, a line each
+    Calls(Called),
     /// Counts commands, returns, refusals, and calls by who calls whom with which code
     Stats(Stats),
     /// Prints the calls that took most entries, and those still open
@@ -69,10 +85,18 @@ pub enum Word {
     /// Tells the calls of a daemon that runs, a line each: of a program that is run for that, or of all
     Trace(Trace),
     /// Shows who calls whom how often in a daemon that runs, and how long that takes
+    #[cfg(feature = "top")]
     Top(Top),
+    /// Ends a kernel's tracing once who has begun it has ended
+    #[command(hide = true)]
+    KernelGuard {
+        #[arg(value_name = "INSTANCE")]
+        instance: std::path::PathBuf,
+    },
     /// Turns a script with names into one for the player, or plays it
     Script(Script),
     /// Plays a script with names as one types it, and shows what comes of each line
+    #[cfg(feature = "repl")]
     Repl {
         /// The player
         #[arg(long, value_name = "BPLAY", default_value = "bplay")]
@@ -80,6 +104,20 @@ pub enum Word {
         /// How often a line that waits looks before it is given up
         #[arg(long, value_name = "N", default_value_t = TURNS)]
         turns: u32,
+    },
+    /// Runs a program, and keeps what it and all that it starts ask of Binder devices
+    Record(Record),
+    /// Judges a recording of a real driver by the rules: whether some order of its threads' steps explains all answers
+    Judge(Judge),
+    /// Plays a plain script on the model of the rules, also with Linux's differences: what it would print
+    Rules(Rules),
+    /// Prints the completions for a shell
+    #[cfg(feature = "completions")]
+    #[command(hide = true)]
+    Completions {
+        /// The shell
+        #[arg(value_enum)]
+        shell: clap_complete::Shell,
     },
     /// Lays an index beside a journal, JOURNAL.index, by which --from and --at begin near their place
     Index {
@@ -91,6 +129,51 @@ pub enum Word {
 
 /// How often a line that waits looks before it is given up.
 const TURNS: u32 = 1000;
+
+#[derive(Args)]
+pub struct Record {
+    /// The folder of the recording, which is made
+    #[arg(long, value_name = "FOLDER", default_value = "recording")]
+    pub into: String,
+    /// Leaves the kernel's tracepoints off, which cost the program time
+    #[arg(long)]
+    pub no_trace: bool,
+    /// The program, and its words
+    #[arg(value_name = "PROGRAM", required = true, trailing_var_arg = true, allow_hyphen_values = true)]
+    pub program: Vec<String>,
+}
+
+#[derive(Args)]
+pub struct Judge {
+    /// What `record` has left: a folder, or one file of it
+    #[arg(value_name = "RECORDING")]
+    pub recording: String,
+    /// The device; else the one that most processes have opened
+    #[arg(long, value_name = "PATH")]
+    pub device: Option<String>,
+    /// Writes the order there as a journal, with times and names beside it
+    #[arg(long, value_name = "OUT")]
+    pub journal: Option<String>,
+    /// In which of docs/DIFFERENCES.md the driver may do otherwise, with commas between them; else it is found out
+    #[arg(long, value_name = "NAMES")]
+    pub ways: Option<String>,
+    /// How many steps are tried before it gives up
+    #[arg(long, value_name = "N", default_value_t = 1_500_000)]
+    pub tries: u64,
+    /// Where no order was found: of how many threads it is told what they would have to do next
+    #[arg(long, value_name = "N", default_value_t = 8)]
+    pub most: usize,
+}
+
+#[derive(Args)]
+pub struct Rules {
+    /// A script as the player takes it
+    #[arg(value_name = "SCRIPT")]
+    pub file: String,
+    /// In which of docs/DIFFERENCES.md it goes Linux's way, with commas between them
+    #[arg(long, value_name = "NAMES", default_value = "")]
+    pub ways: String,
+}
 
 #[derive(Args)]
 pub struct Script {
@@ -129,6 +212,9 @@ pub struct Show {
     /// Has libhullpippin say whether entries follow from those before them, and what the rules give where one doesn't
     #[arg(long)]
     pub judge: bool,
+    /// Also the steps of the daemon's own, by which processes begin and end, in its recordings
+    #[arg(long)]
+    pub own: bool,
     /// Waits for further entries at the end, as `tail -f` does
     #[arg(long, short)]
     pub follow: bool,
@@ -139,12 +225,15 @@ pub struct Show {
 
 #[derive(Args)]
 pub struct Explain {
-    /// A name of a refusal or a return; or a journal, of which without a place the first unlawful entry is explained
+    /// A name of a refusal or a return; a journal, of which without a place the first unlawful entry is explained; a kernel's log
     #[arg(value_name = "NAME|JOURNAL")]
     pub what: String,
     /// The place of an entry in that journal
     #[arg(value_name = "PLACE")]
     pub place: Option<u64>,
+    /// What the lines of binder.c say in this version, as 6.1.192, where a kernel's log is explained
+    #[arg(long, value_name = "VERSION", conflicts_with = "place")]
+    pub kernel: Option<String>,
     /// Text for people, or values of JSON: an entry, and then why
     #[arg(long, value_enum, default_value = "text")]
     pub format: Format,
@@ -158,9 +247,9 @@ pub struct State {
     /// After so many entries, or those before a time, in place of all
     #[arg(long, value_name = "PLACE|TIME")]
     pub at: Option<Spot>,
-    /// What differs between two places or times
-    #[arg(long, value_names = ["PLACE|TIME", "PLACE|TIME"], num_args = 2, conflicts_with_all = ["at", "format"])]
-    pub diff: Vec<Spot>,
+    /// What differs between two places or times; of a kernel's state, in a later file
+    #[arg(long, value_name = "PLACE|TIME|FILE", num_args = 1..=2, conflicts_with_all = ["at", "format"])]
+    pub diff: Vec<String>,
     /// Text for people, or a value of JSON a line
     #[arg(long, value_enum, default_value = "text")]
     pub format: Format,
@@ -181,7 +270,7 @@ pub struct Holders {
     #[arg(value_name = "JOURNAL")]
     pub journal: String,
     /// The object, as `state` prints it
-    #[arg(value_name = "PLACE.INDEX")]
+    #[arg(value_name = "PLACE.INDEX|NODE", value_parser = crate::kernel::object)]
     pub object: ObjectId,
     /// After so many entries, or those before a time, in place of all
     #[arg(long, value_name = "PLACE|TIME")]
@@ -190,15 +279,29 @@ pub struct Holders {
 
 #[derive(Args)]
 pub struct Leaks {
-    /// A journal, or - for standard input
+    /// A journal, or a kernel's state; - for standard input
     #[arg(value_name = "JOURNAL")]
     pub journal: String,
+    /// A later state of the same kernel
+    #[arg(value_name = "LATER")]
+    pub later: Option<String>,
     /// After so many entries, or those before a time, in place of all
     #[arg(long, value_name = "PLACE|TIME")]
     pub at: Option<Spot>,
     /// How many are printed of each kind
     #[arg(long, value_name = "N", default_value_t = 20)]
     pub most: usize,
+}
+
+#[derive(Args)]
+pub struct Called {
+    /// A journal, or a kernel's trace or log; - for standard input
+    #[arg(value_name = "FILE")]
+    pub journal: String,
+    #[command(flatten)]
+    pub range: Range,
+    #[command(flatten)]
+    pub wanted: Wanted,
 }
 
 #[derive(Args)]
@@ -250,8 +353,8 @@ pub struct Export {
     #[arg(value_name = "JOURNAL")]
     pub journal: String,
     /// The form
-    #[arg(long, value_enum, value_name = "FORM")]
-    pub to: Form,
+    #[arg(long, alias = "to", value_enum, value_name = "FORM")]
+    pub format: Form,
     #[command(flatten)]
     pub span: Span,
 }

@@ -4,6 +4,8 @@ use crate::space::{About, Facts};
 use crate::times::{self, Moment, Times};
 use crate::who::{self, Person, Who};
 use anyhow::{bail, Result};
+use std::cell::Cell;
+use std::rc::Rc;
 
 pub struct Beside {
     times: Option<Times>,
@@ -11,7 +13,15 @@ pub struct Beside {
     /// Whether it was said where the times end, and whether they may still go on.
     has_said: bool,
     follows: bool,
+    /// Whether names were found to make no sense, and whether one was ever of the daemon's own seat.
+    is_broken: bool,
+    is_zero_named: bool,
+    /// Whether the entry that was told of last is the daemon's own; who goes through entries has a copy.
+    is_own: Rc<Cell<bool>>,
 }
+
+/// By which the daemon begins and ends processes, and on which no thread sits.
+const DAEMONS_SEAT: u32 = 0;
 
 /// What is wrong with such a file is said, and it isn't used: the journal is there all the same.
 fn usable<T>(opened: Result<Option<T>>) -> Option<T> {
@@ -27,11 +37,16 @@ impl Beside {
         let is_file = journal != "-";
         let times = is_file.then(|| usable(Times::open(journal))).flatten();
         let who = is_file.then(|| usable(Who::open(journal, follows))).flatten();
-        Beside { times, who, has_said: false, follows }
+        Beside { times, who, has_said: false, follows, is_broken: false, is_zero_named: false, is_own: Rc::default() }
     }
 
     pub fn has_times(&self) -> bool {
         self.times.is_some()
+    }
+
+    /// Says of each entry that is told of whether it is the daemon's own: beside its recordings lie names, and its seat has none.
+    pub fn own(&self) -> Rc<Cell<bool>> {
+        self.is_own.clone()
     }
 
     /// The times, for who can't do without.
@@ -59,6 +74,8 @@ impl Beside {
     pub fn tell(&mut self, place: u64, seat: u32, facts: &mut Facts) {
         facts.time = self.time(place);
         facts.person = self.person(place, seat);
+        let is_known = self.who.is_some() && !self.is_broken && !self.is_zero_named;
+        self.is_own.set(seat == DAEMONS_SEAT && is_known);
         facts.ages.clear();
         if let (Some(now), Some(times)) = (facts.time, &mut self.times) {
             let begun = |about: &About| match about {
@@ -87,7 +104,9 @@ impl Beside {
         if let Err(error) = who.advance(place) {
             eprintln!("hullpippin: {error:#}; who sits where isn't known from there on");
             who.sitting.clear();
+            self.is_broken = true;
         }
+        self.is_zero_named |= who.sitting.contains_key(&DAEMONS_SEAT);
         who.sitting.get(&seat).cloned()
     }
 }

@@ -1,12 +1,13 @@
 // SPDX-License-Identifier: Apache-2.0 OR MIT
 //! A recording as one page of HTML that stands alone: a lane for each thread's life, arrows for calls and replies, bars for what
 //! is served and waited for. The page draws only what is seen of it, so a long recording can be looked at too.
-use crate::calls::{Call, Calls, Doing, Event};
+use crate::calls::{Back, Call, Calls, Doing, Event, Objects};
 use crate::journal::{Answer, Entry, Step};
+use crate::kernel::trace::{Seen, Trace};
 use crate::out::Out;
 use crate::play::{Player, Range};
-use crate::show::{code_words, object_words};
-use crate::space::{Facts, Space};
+use crate::show::method_code_words;
+use crate::space::Facts;
 use crate::times::{duration_words, Moment};
 use anyhow::Result;
 use serde::Serialize;
@@ -97,12 +98,14 @@ impl Drawing<'_> {
     }
 
     /// A call that has ended, or is still open at the end.
-    fn call(&mut self, call: &Call, ended: Option<Doing>, space: &Space) -> Result<()> {
-        let object = call.object.map_or(String::new(), |it| object_words(space, it));
+    fn call(&mut self, call: &Call, ended: Option<Doing>, objects: &dyn Objects) -> Result<()> {
+        let object = call.object.map_or(String::new(), |it| objects.words(it));
         let took = ended.and_then(|it| it.since(call.made));
         let took = took.map_or(String::new(), |it| format!(", {}", duration_words(it)));
         let at = at_words(call.made.time);
-        let text = format!("{object} {} {} bytes{at}{took}", code_words(call.code), call.size);
+        let size = call.size.map_or(String::new(), |it| format!(" {it} bytes"));
+        let code = method_code_words(call.object.and_then(|it| objects.interface(it)), call.code);
+        let text = format!("{object} {code}{size}{at}{took}");
         let kind = if call.one_way { "oneway" } else { "call" };
         self.arrow(kind, call.made, call.taken, &text)?;
         let replied = call.replied.map(|it| it.0);
@@ -113,7 +116,7 @@ impl Drawing<'_> {
             let end = replied.or_else(|| ended.filter(|_| call.one_way)).map(|it| it.place);
             self.bar("serves", taken, end, &text)?;
         }
-        if let Some((replied, Some(_))) = call.replied {
+        if let Some((replied, Back::Reply(_))) = call.replied {
             self.arrow("reply", replied, ended, &text)?;
         }
         for doing in [Some(call.made), call.taken, replied].into_iter().flatten() {
@@ -122,23 +125,22 @@ impl Drawing<'_> {
         Ok(())
     }
 
-    fn event(&mut self, event: &Event, space: &Space) -> Result<()> {
+    fn event(&mut self, event: &Event, objects: &dyn Objects) -> Result<()> {
         match event {
             Event::Refused(doing, reason) => {
                 let lane = self.lane_of(*doing);
-                self.dot(
-                    "refused",
-                    lane,
-                    doing.place,
-                    &format!("{} {}: {}{}", reason.name(), reason.word(), reason.text(), at_words(doing.time)),
-                )
+                self.dot("refused", lane, doing.place, &format!("{}{}", reason.words(), at_words(doing.time)))
             }
-            Event::Done(call, doing) | Event::Freed(call, doing) => self.call(call, Some(*doing), space),
-            Event::Failed(call, doing) => {
+            Event::Done(call, doing) | Event::Freed(call, doing) => self.call(call, Some(*doing), objects),
+            Event::Failed(call, doing, name) => {
                 let lane = self.lane_of(*doing);
-                let text = format!("no reply to the call at {}{}", call.made.place, at_words(doing.time));
-                self.dot("refused", lane, doing.place, &text)?;
-                self.call(call, Some(*doing), space)
+                let text = format!("{name}: no reply to the call at {}{}", call.made.place, at_words(doing.time));
+                self.dot("noreply", lane, doing.place, &text)?;
+                self.call(call, Some(*doing), objects)
+            }
+            Event::Died(doing, name) => {
+                let lane = self.lane_of(*doing);
+                self.dot("death", lane, doing.place, &format!("{name}{}", at_words(doing.time)))
             }
             Event::Made(call) | Event::Taken(call) | Event::Replied(call) => {
                 self.keep(call.replied.map(|it| it.0).or(call.taken).unwrap_or(call.made));
@@ -213,13 +215,56 @@ fn escape(held: &mut Vec<u8>, from: usize) {
     }
 }
 
+/// What stands in the page before and behind its data.
+fn around() -> (&'static str, &'static str) {
+    PAGE.split_once(DATA).unwrap_or((PAGE, ""))
+}
+
+impl Drawing<'_> {
+    fn new(out: &mut Out) -> Drawing<'_> {
+        out.held.extend(around().0.as_bytes());
+        out.held.extend(b"{\"marks\":[");
+        Drawing { out, lanes: Vec::new(), live: HashMap::new(), kept: HashMap::new(), is_first: true }
+    }
+
+    /// Writes the lanes, and ends the page.
+    fn end(self, from: u64, to: u64) -> Result<()> {
+        let from_here = self.out.held.len();
+        self.out.held.extend(b"\n],\"lanes\":");
+        serde_json::to_writer(&mut self.out.held, &self.lanes)?;
+        escape(&mut self.out.held, from_here);
+        self.out.held.extend(format!(",\"from\":{from},\"to\":{to}}}").into_bytes());
+        self.out.held.extend(around().1.as_bytes());
+        Ok(())
+    }
+}
+
+/// Writes the page of a kernel's trace.
+pub fn put_trace(trace: &mut Trace, range: Range, out: &mut Out) -> Result<()> {
+    let mut drawing = Drawing::new(out);
+    let mut last = range.from;
+    let done = trace.each(range, |seen, following| {
+        let event = match seen {
+            Seen::Event(event) => event,
+            _ => return Ok(()),
+        };
+        let doing = event.doing();
+        last = last.max(doing.place);
+        drawing.event(event, following)?;
+        let lane = drawing.lane_of(doing);
+        drawing.lanes[lane].name = Some(format!("{} {}", following.threads.comm(doing.seat), doing.seat));
+        Ok(())
+    });
+    let following = &trace.reader.following;
+    following.left().try_for_each(|it| drawing.call(it, None, following))?;
+    drawing.end(range.from, last + 1)?;
+    done
+}
+
 /// Writes the page of a range.
 pub fn put(player: &mut Player, range: Range, out: &mut Out) -> Result<()> {
-    let (before, after) = PAGE.split_once(DATA).unwrap_or((PAGE, ""));
-    out.held.extend(before.as_bytes());
-    out.held.extend(b"{\"marks\":[");
     let mut calls = Calls::default();
-    let mut drawing = Drawing { out, lanes: Vec::new(), live: HashMap::new(), kept: HashMap::new(), is_first: true };
+    let mut drawing = Drawing::new(out);
     player.each(range, |entry, space, facts| {
         drawing.entry(entry, facts)?;
         calls.events(entry, facts).iter().try_for_each(|it| drawing.event(it, space))
@@ -227,11 +272,7 @@ pub fn put(player: &mut Player, range: Range, out: &mut Out) -> Result<()> {
     let mut left: Vec<_> = calls.left().collect();
     left.sort_by_key(|it| it.made.place);
     left.iter().try_for_each(|it| drawing.call(it, None, &player.space))?;
-    let lanes = serde_json::to_string(&drawing.lanes)?;
-    let (from, to) = (range.from, player.source.place());
-    out.held.extend(format!("\n],\"lanes\":{lanes},\"from\":{from},\"to\":{to}}}").into_bytes());
-    out.held.extend(after.as_bytes());
-    Ok(())
+    drawing.end(range.from, player.source.place())
 }
 
 #[cfg(test)]

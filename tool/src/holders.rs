@@ -195,10 +195,14 @@ pub fn put_leaks(to: &mut Vec<u8>, player: &mut Player, place: Option<u64>, most
     }
     let space = &player.space;
     writeln!(to, "after {} steps", space.steps)?;
+    let before = to.len();
     space.processes.values().try_for_each(|it| put_unfreed(to, space, it, most))?;
     put_asked(to, space, most)?;
     for process in space.processes.values() {
         put_growth(to, process.pid, looks.get(&process.opened).map_or(&[], |it| &it[..]))?;
+    }
+    if to.len() == before {
+        writeln!(to, "nothing is held: each buffer that was read is freed, and nothing grows")?;
     }
     Ok(())
 }

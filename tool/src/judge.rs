@@ -3,6 +3,7 @@
 //! only what judges needs it.
 use crate::journal::{self, Answer, Entry, Heading, Step};
 use crate::record::Parcel;
+use crate::source::Source;
 use anyhow::{bail, ensure, Context, Result};
 use libloading::Library;
 use std::env;
@@ -14,7 +15,7 @@ use std::ptr::null_mut;
 const DONE: u32 = 0;
 const HISTORY_FULL: u32 = 11;
 const NO_COMMAND: u32 = 12;
-const VERSION: u32 = 1;
+const VERSION: u32 = 2;
 
 #[repr(C)]
 struct Handle {
@@ -26,7 +27,9 @@ type Live = *mut Handle;
 /// Room for what the library tells of a step. The entry tells it too, in a journal's own bytes.
 #[repr(C)]
 struct Came {
-    numbers: [u32; 4],
+    kind: u32,
+    places: [u64; 2],
+    consumed: u32,
     notes: usize,
     more: [u32; 3],
     sizes: [usize; 3],
@@ -49,9 +52,19 @@ struct Functions {
     _library: Library,
 }
 
-/// The library: what HULLPIPPIN_LIBRARY names, else the one that is installed.
+const NAME: &str = "libhullpippin.so.2";
+
+/// The library: what HULLPIPPIN_LIBRARY names, else the one that was installed with the program, else the system's.
 fn library_name() -> String {
-    env::var("HULLPIPPIN_LIBRARY").ok().filter(|it| !it.is_empty()).unwrap_or_else(|| "libhullpippin.so.1".into())
+    let named = env::var("HULLPIPPIN_LIBRARY").ok().filter(|it| !it.is_empty());
+    named.or_else(beside_program).unwrap_or_else(|| NAME.into())
+}
+
+/// The library in PREFIX/lib where the program is in PREFIX/bin, as tools/install leaves both.
+fn beside_program() -> Option<String> {
+    let program = env::current_exe().ok()?;
+    let path = program.parent()?.parent()?.join("lib").join(NAME);
+    path.exists().then(|| path.to_string_lossy().into_owned())
 }
 
 impl Functions {
@@ -149,9 +162,9 @@ impl Judge {
     }
 
     /// Makes the step of an entry: whether that can be done.
-    fn step(&mut self, seat: u32, step: &Step<'_>) -> u32 {
+    pub fn step(&mut self, seat: u32, step: &Step<'_>) -> u32 {
         let Judge { functions: of, live, .. } = self;
-        let mut room = Came { numbers: [0; 4], notes: 0, more: [0; 3], sizes: [0; 3] };
+        let mut room = Came { kind: 0, places: [0; 2], consumed: 0, notes: 0, more: [0; 3], sizes: [0; 3] };
         let came = &mut room;
         // SAFETY: the handle has an engine, and each pointer leads to what it says until the call is back.
         unsafe {
@@ -176,7 +189,7 @@ impl Judge {
     }
 
     /// The bytes of the entry that the latest step has made.
-    fn made(&mut self) -> Result<&[u8]> {
+    pub fn made(&mut self) -> Result<&[u8]> {
         loop {
             let (room, mut size) = (self.entry.len(), 0);
             // SAFETY: the handle has an engine, and there is as much room as it says.
@@ -203,6 +216,18 @@ impl Judge {
         }
         Ok(Some(Given { heading, place, entry: Some(bytes.to_vec()) }))
     }
+}
+
+/// The first entry of a journal that doesn't follow from those before it.
+pub fn first_other(path: &str) -> Result<Option<u64>> {
+    let mut source = Source::open(path, false)?;
+    let mut judge = Judge::new(source.heading())?;
+    while let Some(entry) = source.next()? {
+        if judge.judged(&entry)?.is_some() {
+            return Ok(Some(entry.place));
+        }
+    }
+    Ok(None)
 }
 
 /// A step without a parcel is answered as one whose parcel has other lengths than its record says.

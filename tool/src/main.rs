@@ -1,22 +1,32 @@
 // SPDX-License-Identifier: Apache-2.0 OR MIT
 //! `hullpippin` looks at recordings of Binder's transactions. It proves and judges nothing: `bplay` does.
 #![warn(rust_2018_idioms)]
+#![cfg_attr(feature = "fuzz", no_main)]
+// What only a screen uses is compiled all the same, so that no feature has to be named where it stands.
+#![cfg_attr(any(feature = "fuzz", not(all(feature = "repl", feature = "top"))), allow(dead_code, unused_imports))]
 
+mod aidl;
 mod arguments;
 mod beside;
 mod calls;
+mod chronicle;
 mod codes;
 mod diagram;
 #[cfg(test)]
 mod documents;
 mod explain;
 mod export;
+#[cfg(feature = "fuzz")]
+mod fuzz;
 mod holders;
 mod index;
 mod journal;
 mod json;
 mod judge;
+mod judging;
+mod kernel;
 mod live;
+mod mail;
 mod order;
 mod out;
 mod parcel;
@@ -24,6 +34,7 @@ mod play;
 mod progress;
 mod record;
 mod refusals;
+mod rules;
 mod script;
 mod select;
 mod sequence;
@@ -33,12 +44,19 @@ mod space;
 mod state;
 mod stats;
 mod times;
+mod told;
 mod who;
 mod wrapped;
 
-use anyhow::{bail, Result};
-use arguments::{Arguments, Diagram, Drawn, Explain, Export, Form, Format, Holders, Script, Show, State, Word};
+use anyhow::{bail, Context, Error, Result};
+use arguments::{
+    Arguments, Called, Diagram, Drawn, Explain, Export, Form, Format, Holders, Leaks, Rules, Script, Show, Slow, State,
+    Stats, Word,
+};
+#[cfg(feature = "completions")]
+use clap::CommandFactory;
 use clap::Parser;
+use live::trace::Trace;
 use out::{Out, Palette};
 use play::Player;
 use script::Setting;
@@ -57,6 +75,8 @@ fn show(given: &Show, out: &mut Out, style: &Style) -> Result<()> {
     }
     let bounds = player.bounds(given.range)?;
     player.jump(bounds.from)?;
+    let is_own = player.beside.own();
+    let (mut shown, mut own) = (0u64, 0u64);
     player.each_within(&bounds, |seen| {
         let (entry, space, facts) = match seen {
             Some(seen) => seen,
@@ -65,13 +85,30 @@ fn show(given: &Show, out: &mut Out, style: &Style) -> Result<()> {
         if !given.selection.wants(entry, facts) {
             return Ok(());
         }
+        if is_own.get() && !given.own {
+            own += 1;
+            return Ok(());
+        }
+        shown += 1;
         match given.format {
             Format::Text => show::put_entry(&mut out.held, style, entry, space, facts)?,
             Format::Json => json::put_entry(&mut out.held, given.bytes, entry, space, facts)?,
         }
         Ok(out.pass()?)
     })?;
+    say_shown(given, shown, own)?;
     player.check_lawful()
+}
+
+/// Says what was left out; and that there was nothing, where something was chosen.
+fn say_shown(given: &Show, shown: u64, own: u64) -> Result<()> {
+    if own > 0 {
+        eprintln!("hullpippin: {own} steps of the daemon's own are left out; --own shows them");
+    }
+    if shown == 0 && own == 0 && given.selection.is_any() {
+        bail!("{}: no entry is as chosen", play::name(&given.journal));
+    }
+    Ok(())
 }
 
 fn state(given: &State, out: &mut Out) -> Result<()> {
@@ -83,9 +120,19 @@ fn state(given: &State, out: &mut Out) -> Result<()> {
             return live::state::put(to, &live::Where { socket: given.socket.clone(), device }, given.format);
         }
     };
-    if let [before, after] = given.diff[..] {
-        let (before, after) = (state::at(journal, Some(before))?, state::at(journal, Some(after))?);
-        return Ok(state::put_difference(to, &before, &after)?);
+    if let Some(look) = kernel::look::of_path(journal)? {
+        return state_of_kernel(given, &look, to);
+    }
+    if !given.diff.is_empty() {
+        let spots: Vec<play::Spot> =
+            given.diff.iter().map(|it| it.parse()).collect::<Result<_, _>>().map_err(Error::msg)?;
+        return match spots[..] {
+            [before, after] => {
+                let (before, after) = (state::at(journal, Some(before))?, state::at(journal, Some(after))?);
+                Ok(state::put_difference(to, &before, &after)?)
+            }
+            _ => bail!("of a journal --diff takes two places or times"),
+        };
     }
     let player = state::at(journal, given.at)?;
     match given.format {
@@ -94,8 +141,45 @@ fn state(given: &State, out: &mut Out) -> Result<()> {
     }
 }
 
+/// What a kernel's file of one moment tells, or what differs in a later one.
+fn state_of_kernel(given: &State, look: &kernel::look::Look, to: &mut Vec<u8>) -> Result<()> {
+    if given.at.is_some() || given.format == Format::Json {
+        bail!("a kernel's file tells of one moment, as text: --at and --format are for journals");
+    }
+    match &given.diff[..] {
+        [] => look.put_state(to),
+        [later] => look.put_difference(to, &later_look(later)?),
+        _ => bail!("of a kernel's file --diff takes one later file"),
+    }
+}
+
+fn later_look(path: &str) -> Result<kernel::look::Look> {
+    match kernel::look::of_path(path)? {
+        Some(look) => Ok(look),
+        None => bail!("{path}: this is no state of a kernel's, and the file before it is one"),
+    }
+}
+
+fn leaks(given: &Leaks, out: &mut Out) -> Result<()> {
+    if let Some(look) = kernel::look::of_path(&given.journal)? {
+        let later = given.later.as_deref().map(later_look).transpose()?;
+        return look.put_leaks(&mut out.held, later.as_ref(), given.most);
+    }
+    if let Some(later) = &given.later {
+        bail!("{later}: a journal is looked at from its beginning to its end, so there is no later file");
+    }
+    let mut player = Player::open(&given.journal, false)?;
+    let at = given.at.map(|it| player.place(it)).transpose()?;
+    holders::put_leaks(&mut out.held, &mut player, at, given.most)
+}
+
 fn explain(given: &Explain, out: &mut Out, style: &Style) -> Result<()> {
     let (to, what, format) = (&mut out.held, &given.what, given.format);
+    if what == "-" || Path::new(what).exists() {
+        if let Some(look) = kernel::look::of_path(what)? {
+            return look.put_refusals(to, given.kernel.as_deref());
+        }
+    }
     let telling = explain::Telling { style, format, path: what };
     match given.place {
         Some(place) => telling.put_entry_at(to, place),
@@ -109,18 +193,73 @@ fn explain(given: &Explain, out: &mut Out, style: &Style) -> Result<()> {
 }
 
 fn holders(given: &Holders, out: &mut Out) -> Result<()> {
+    if let Some(look) = kernel::look::of_path(&given.journal)? {
+        return look.put_holders(&mut out.held, given.object);
+    }
+    if kernel::is_node(given.object) {
+        bail!("a journal has no nodes: an object is PLACE.INDEX, as 3.0, what `state` prints");
+    }
     holders::put_holders(&mut out.held, &state::at(&given.journal, given.at)?.space, given.object)
 }
 
-fn export(given: &Export, out: &mut Out) -> Result<()> {
+/// The calls of a journal or of a kernel's trace.
+fn calls(given: &Called, palette: Palette, out: &mut Out) -> Result<()> {
+    if let Some(look) = kernel::look::of_path(&given.journal)? {
+        return look.put_log(&mut out.held);
+    }
+    if let Some(mut trace) = kernel::trace_of(&given.journal)? {
+        return chronicle::put_trace(&mut trace, given.range, &given.wanted, palette, out);
+    }
     let mut player = Player::open(&given.journal, false)?;
-    match given.to {
+    chronicle::put_journal(&mut player, given.range, &given.wanted, palette, out)
+}
+
+/// `trace` of a file: its calls.
+fn trace_file(path: &str, wanted: &told::Wanted, palette: Palette, out: &mut Out) -> Result<()> {
+    let given = Called { journal: path.into(), range: play::Range::default(), wanted: wanted.clone() };
+    calls(&given, palette, out)
+}
+
+fn stats(given: &Stats, out: &mut Out) -> Result<()> {
+    if let Some(look) = kernel::look::of_path(&given.journal)? {
+        return look.put_counts(&mut out.held);
+    }
+    match kernel::trace_of(&given.journal)? {
+        Some(mut trace) => stats::stats_of_trace(&mut trace, given.range, &mut out.held),
+        None => stats::stats(&mut Player::open(&given.journal, false)?, given.range, &mut out.held),
+    }
+}
+
+fn slow(given: &Slow, out: &mut Out) -> Result<()> {
+    match kernel::trace_of(&given.journal)? {
+        Some(mut trace) => stats::slow_of_trace(&mut trace, given.range, given.most, &mut out.held),
+        None => stats::slow(&mut Player::open(&given.journal, false)?, given.range, given.most, &mut out.held),
+    }
+}
+
+fn export(given: &Export, out: &mut Out) -> Result<()> {
+    if let Some(mut trace) = kernel::trace_of(&given.journal)? {
+        return match given.format {
+            Form::Perfetto => export::perfetto::export_trace(&mut trace, given.span.range(), out),
+            Form::Pcapng => {
+                bail!("{}: a kernel's trace has no bytes of commands, so no packets", play::name(&given.journal))
+            }
+        };
+    }
+    let mut player = Player::open(&given.journal, false)?;
+    match given.format {
         Form::Perfetto => export::perfetto::export(&mut player, given.span.range(), out),
         Form::Pcapng => export::pcapng::export(&mut player, given.span.range(), out),
     }
 }
 
 fn draw(given: &Diagram, out: &mut Out) -> Result<()> {
+    if let Some(mut trace) = kernel::trace_of(&given.journal)? {
+        return match given.format {
+            Drawn::Html => diagram::put_trace(&mut trace, given.range, out),
+            form => sequence::put_trace(&mut trace, given.range, form, out),
+        };
+    }
     let mut player = Player::open(&given.journal, false)?;
     match given.format {
         Drawn::Html => diagram::put(&mut player, given.range, out),
@@ -136,11 +275,29 @@ fn script(given: &Script, out: &mut Out) -> Result<()> {
     script::script(&asked, &mut out.held)
 }
 
+fn play_rules(given: &Rules, out: &mut Out) -> Result<()> {
+    let ways = rules::Ways::named(given.ways.split(',').filter(|it| !it.is_empty()))
+        .map_err(|name| anyhow::anyhow!("{name} is none of the differences in docs/DIFFERENCES.md"))?;
+    let text = std::fs::read_to_string(&given.file).with_context(|| given.file.clone())?;
+    out.held.extend(rules::script::played(&text, ways)?.bytes());
+    Ok(())
+}
+
 /// The status with which it ends.
 fn run(arguments: &Arguments, out: &mut Out) -> Result<u8> {
+    if let Some(folder) = &arguments.aidl {
+        aidl::want(folder)?;
+    }
     match &arguments.word {
+        Word::Trace(given) if given.kernel => live::kernel::trace(given, Palette::new(arguments.color)).map(|()| 0),
+        Word::Trace(Trace { file: Some(file), wanted, .. }) => {
+            trace_file(file, wanted, Palette::new(arguments.color), out).map(|()| 0)
+        }
         Word::Trace(given) => live::trace::trace(given, Palette::new(arguments.color)),
+        #[cfg(feature = "top")]
         Word::Top(given) => live::top::top(given).map(|()| 0),
+        Word::Judge(given) => judging::judge(given, &mut out.held),
+        Word::Record(given) => judging::recorder::record(given, &mut out.held),
         _ => look(arguments, out).map(|()| 0),
     }
 }
@@ -155,20 +312,26 @@ fn look(arguments: &Arguments, out: &mut Out) -> Result<()> {
         Word::Explain(given) => explain(given, out, &style(1024)),
         Word::State(given) => state(given, out),
         Word::Holders(given) => holders(given, out),
-        Word::Leaks(given) => {
-            let mut player = Player::open(&given.journal, false)?;
-            let at = given.at.map(|it| player.place(it)).transpose()?;
-            holders::put_leaks(&mut out.held, &mut player, at, given.most)
-        }
-        Word::Stats(given) => stats::stats(&mut Player::open(&given.journal, false)?, given.range, &mut out.held),
-        Word::Slow(given) => {
-            stats::slow(&mut Player::open(&given.journal, false)?, given.range, given.most, &mut out.held)
-        }
+        Word::Leaks(given) => leaks(given, out),
+        Word::Calls(given) => calls(given, Palette::new(arguments.color), out),
+        Word::Stats(given) => stats(given, out),
+        Word::Slow(given) => slow(given, out),
         Word::Export(given) => export(given, out),
         Word::Diagram(given) => draw(given, out),
         Word::Index { journal } => index::make(journal),
+        Word::Rules(given) => play_rules(given, out),
         Word::Script(given) => script(given, out),
-        Word::Trace(_) | Word::Top(_) => Ok(()),
+        #[cfg(feature = "completions")]
+        Word::Completions { shell } => {
+            clap_complete::generate(*shell, &mut Arguments::command(), "hullpippin", &mut out.held);
+            Ok(())
+        }
+        Word::Trace(_) => Ok(()),
+        Word::Judge(_) | Word::Record(_) => Ok(()),
+        Word::KernelGuard { instance } => kernel::tracefs::guard(instance),
+        #[cfg(feature = "top")]
+        Word::Top(_) => Ok(()),
+        #[cfg(feature = "repl")]
         Word::Repl { run, turns } => script::repl(Setting { player: run.clone(), turns: *turns }, style(1024)),
     }
 }

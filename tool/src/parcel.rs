@@ -132,10 +132,11 @@ pub fn letters(code: u32) -> Option<String> {
 }
 
 #[cfg(test)]
-mod tests {
+pub(crate) mod tests {
     use super::*;
 
-    fn aidl(text: &str) -> Vec<u8> {
+    /// A text as AIDL lays it out.
+    pub(crate) fn aidl(text: &str) -> Vec<u8> {
         let units: Vec<u16> = text.encode_utf16().collect();
         let mut bytes = (units.len() as u32).to_le_bytes().to_vec();
         bytes.extend(units.iter().flat_map(|it| it.to_le_bytes()));

@@ -4,6 +4,7 @@ use crate::beside::Beside;
 use crate::index;
 use crate::journal::Entry;
 use crate::judge::Judge;
+use crate::kernel;
 use crate::progress::Progress;
 use crate::source::{End, Source};
 use crate::space::{Facts, Space};
@@ -111,7 +112,8 @@ pub struct Player {
 
 impl Player {
     pub fn open(path: &str, follows: bool) -> Result<Player> {
-        let source = Source::open(path, follows).with_context(|| name(path))?;
+        let source = Source::open(path, follows);
+        let source = source.with_context(|| name(path)).map_err(|it| kernel::explain_fault(path, it))?;
         let beside = Beside::open(path, follows);
         let (space, facts) = (Space::default(), Facts::default());
         Ok(Player {

@@ -72,6 +72,13 @@ fn name(word: &str) -> Result<String, String> {
 }
 
 impl Selection {
+    /// Whether it leaves anything out.
+    pub fn is_any(&self) -> bool {
+        let lists = [&self.pid, &self.tid, &self.seat].iter().any(|it| !it.is_empty());
+        let names = [&self.comm, &self.command].iter().any(|it| !it.is_empty());
+        lists || names || self.handle.is_some() || self.object.is_some() || self.code.is_some() || self.refused
+    }
+
     /// Whether it asks for what lies beside a journal.
     pub fn is_by_name(&self) -> bool {
         !self.tid.is_empty() || !self.comm.is_empty()

@@ -1,5 +1,6 @@
 // SPDX-License-Identifier: Apache-2.0 OR MIT
 //! Entries as lines for people.
+use crate::aidl;
 use crate::codes::{Message, Payload, Returns, Unread, BC_TRANSACTION, BR_TRANSACTION};
 use crate::journal::{Answer, Entry, Step};
 use crate::judge::Given;
@@ -48,13 +49,20 @@ pub fn code_words(code: u32) -> String {
     }
 }
 
+/// The same, with the method's name behind it where that is known.
+pub fn method_code_words(interface: Option<&str>, code: u32) -> String {
+    let name = aidl::name(interface, code).map_or(String::new(), |it| format!(" {it}"));
+    format!("{}{name}", code_words(code))
+}
+
 /// One entry with all that belongs to it.
 pub fn put_entry(to: &mut Lines, style: &Style, entry: &Entry<'_>, space: &Space, facts: &Facts) -> io::Result<()> {
     put_line(to, style, entry, space, facts)?;
     match (&entry.step, &entry.answer) {
-        (Step::Command { parcel: Some(parcel), .. }, _) => {
+        (Step::Command { command, parcel: Some(parcel), .. }, _) => {
             let (sender, receiver) = (facts.pid, facts.receiver);
-            Shown { style, space, facts, indent: 4, sender, receiver }.put(to, parcel)?;
+            Shown { style, space, facts, indent: 4, code: command.record().map(|it| it.code), sender, receiver }
+                .put(to, parcel)?;
         }
         (_, Answer::Got { stream, parcel }) => put_returns(to, style, stream, parcel, space, facts)?,
         _ => {}
@@ -247,9 +255,9 @@ fn put_returns(
         put_return(to, style, &message)?;
         put_origin(to, style, about, facts.ages.get(index).copied().flatten(), space)?;
         to.push(b'\n');
-        if message.record().is_some() {
+        if let Some(code) = message.record().map(|it| it.code) {
             let sender = if let About::Sent(sent) = about { Some(sent.pid) } else { None };
-            Shown { style, space, facts, indent: 8, sender, receiver: facts.pid }.put(to, parcel)?;
+            Shown { style, space, facts, indent: 8, code: Some(code), sender, receiver: facts.pid }.put(to, parcel)?;
         }
     }
     Ok(())
@@ -286,12 +294,24 @@ struct Shown<'a> {
     space: &'a Space,
     facts: &'a Facts,
     indent: usize,
+    /// The code of a call.
+    code: Option<u32>,
     /// The pids of who sent it and of whom it is for.
     sender: Option<u32>,
     receiver: Option<u32>,
 }
 
 impl Shown<'_> {
+    /// What the method is called, and was called with, where that is known.
+    fn method_words(&self, interface: &str, parcel: &Parcel<'_>) -> String {
+        let code = match self.code {
+            Some(code) => code,
+            None => return String::new(),
+        };
+        let arguments = aidl::arguments(code, parcel.data).unwrap_or_default();
+        aidl::name(Some(interface), code).map_or(String::new(), |it| format!(", method {it}{arguments}"))
+    }
+
     fn put(&self, to: &mut Lines, parcel: &Parcel<'_>) -> io::Result<()> {
         if self.style.bytes == 0 || parcel.data.is_empty() && parcel.offsets.is_empty() {
             return Ok(());
@@ -300,7 +320,13 @@ impl Shown<'_> {
         let indent = self.indent;
         let token = parcel::token(parcel.data);
         if let Some(token) = &token {
-            writeln!(to, "{:indent$}interface {colour}{}{plain}", "", token.text)?;
+            writeln!(
+                to,
+                "{:indent$}interface {colour}{}{plain}{}",
+                "",
+                token.text,
+                self.method_words(&token.text, parcel)
+            )?;
         }
         for text in parcel::texts(parcel.data, token.map_or(0, |it| it.end), &spans(parcel)) {
             writeln!(to, "{:indent$}text at {:#x}: {colour}{:?}{plain}", "", text.at, text.text)?;

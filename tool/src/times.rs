@@ -23,18 +23,28 @@ const SECOND: u64 = 1_000_000_000;
 pub struct Moment {
     /// The monotonic clock's time, in nanoseconds.
     pub clock: u64,
-    /// How many nanoseconds the clock of real time was ahead of that.
-    ahead: u64,
+    /// How many nanoseconds the clock of real time was ahead of that; None where nobody knows.
+    ahead: Option<u64>,
 }
 
 impl Moment {
     pub fn new(clock: u64, ahead: u64) -> Moment {
-        Moment { clock, ahead }
+        Moment { clock, ahead: Some(ahead) }
+    }
+
+    /// A time of a machine's own clock, of which nobody knows the day.
+    pub fn of_machine(clock: u64) -> Moment {
+        Moment { clock, ahead: None }
+    }
+
+    /// As kernels print it: seconds and millionths, `5.911656`.
+    fn seconds(self) -> String {
+        format!("{}.{:06}", self.clock / SECOND, self.clock % SECOND / 1000)
     }
 
     /// Nanoseconds since 1970.
     pub fn since_epoch(self) -> u64 {
-        self.clock.wrapping_add(self.ahead)
+        self.clock.wrapping_add(self.ahead.unwrap_or(0))
     }
 
     fn utc(self) -> DateTime<Utc> {
@@ -43,14 +53,20 @@ impl Moment {
         Utc.timestamp_opt(seconds as i64, rest as u32).single().unwrap_or_default()
     }
 
-    /// As a clock on the wall shows it: `12:03:07.120345`.
+    /// As a clock on the wall shows it: `12:03:07.120345`; of a machine's own clock its seconds.
     pub fn of_day(self) -> String {
-        self.utc().with_timezone(&Local).format("%H:%M:%S%.6f").to_string()
+        match self.ahead {
+            Some(_) => self.utc().with_timezone(&Local).format("%H:%M:%S%.6f").to_string(),
+            None => self.seconds(),
+        }
     }
 
     /// As a clock on the wall shows it, with the date before it.
     pub fn with_date(self) -> String {
-        self.utc().with_timezone(&Local).format("%Y-%m-%d %H:%M:%S%.6f").to_string()
+        match self.ahead {
+            Some(_) => self.utc().with_timezone(&Local).format("%Y-%m-%d %H:%M:%S%.6f").to_string(),
+            None => self.seconds(),
+        }
     }
 
     /// As programs exchange it, of no zone: `2026-11-28T11:03:07.120345678Z`.
@@ -110,7 +126,10 @@ fn dated(word: &str) -> Option<NaiveDateTime> {
 
 impl TimeWord {
     /// What the monotonic clock says then, in a recording with this first entry.
-    fn clock(self, first: Moment) -> Result<u64> {
+    pub fn clock(self, first: Moment) -> Result<u64> {
+        if first.ahead.is_none() && !matches!(self, TimeWord::SinceFirst(_)) {
+            bail!("its clock knows no day: times are +1.5, for seconds after the first event");
+        }
         let named = match self {
             TimeWord::SinceFirst(later) => return Ok(first.clock.saturating_add(later)),
             TimeWord::OfDay(time) => first.utc().with_timezone(&Local).date_naive().and_time(time),

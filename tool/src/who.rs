@@ -1,6 +1,7 @@
 // SPDX-License-Identifier: Apache-2.0 OR MIT
 //! Names beside a journal. JOURNAL.who begins with the line `HPWHO 1 DEVICE`; then comes a line each time that a seat goes to a
 //! thread, `PLACE SEAT PID TID COMM`, or is given back, `PLACE SEAT -`: from the entry at that place on.
+use crate::calls::OF_THREAD;
 use crate::space::Facts;
 use anyhow::{ensure, Context, Result};
 use std::collections::HashMap;
@@ -28,11 +29,16 @@ pub struct Comms(HashMap<u32, Rc<str>>);
 impl Comms {
     pub fn learn(&mut self, facts: &Facts) {
         if let (Some(pid), Some(it)) = (facts.pid, &facts.person) {
-            if it.tid == Some(it.pid) {
-                self.0.insert(pid, it.comm.clone());
-            } else {
-                self.0.entry(pid).or_insert_with(|| it.comm.clone());
-            }
+            self.name(pid, it.tid == Some(it.pid), &it.comm);
+        }
+    }
+
+    /// A process is called so by a thread, perhaps by its first one.
+    pub fn name(&mut self, pid: u32, is_first: bool, comm: &Rc<str>) {
+        if is_first {
+            self.0.insert(pid, comm.clone());
+        } else {
+            self.0.entry(pid).or_insert_with(|| comm.clone());
         }
     }
 
@@ -42,9 +48,13 @@ impl Comms {
 
     /// The words for a process, as `pid 812 "sensors"`.
     pub fn words(&self, pid: u32) -> String {
+        let number = match pid & OF_THREAD {
+            0 => format!("pid {pid}"),
+            _ => format!("thread {}", pid & !OF_THREAD),
+        };
         match self.get(pid) {
-            Some(comm) => format!("pid {pid} {comm:?}"),
-            None => format!("pid {pid}"),
+            Some(comm) => format!("{number} {comm:?}"),
+            None => number,
         }
     }
 }

@@ -143,6 +143,8 @@ leaves: a Refusal on the writer's own list, which reads as BR_FAILED_REPLY
     );
 }
 
+const NOTHING: &str = "nothing is held: each buffer that was read is freed, and nothing grows\n";
+
 #[test]
 fn what_leaks_is_told_oldest_first() {
     let file = Journal::one_way().file("leaks");
@@ -152,7 +154,7 @@ pid 100: 1 buffers were read and not freed; 8 of 4096 bytes of its window are ta
   buffer 0x10000 8 bytes, read at 6, 1 entries ago: the call at 4 on 1.0 \"manager\" of pid 100 from pid 200 code 0x7
 ";
     assert_eq!(printed(&["leaks", file.path()]), lines);
-    assert_eq!(printed(&["leaks", file.path(), "--at", "6"]), "after 6 steps\n");
+    assert_eq!(printed(&["leaks", file.path(), "--at", "6"]), format!("after 6 steps\n{NOTHING}"));
 }
 
 #[test]

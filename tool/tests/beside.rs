@@ -4,6 +4,7 @@ mod common;
 use common::*;
 use serde_json::{json, Value};
 use std::io::{BufRead, BufReader};
+use std::path::PathBuf;
 use std::process::{Command, Stdio};
 
 /// What it says on standard error, where it ends well.
@@ -82,9 +83,10 @@ fn threads_are_chosen_by_tid_and_by_name() {
     let of = |words: &[&str]| places(&[&["show", file.path()], words].concat());
     assert_eq!(of(&["--tid", "215"]), [3, 4, 8]);
     assert_eq!(of(&["--comm", "manager"]), [0, 1, 2, 5, 6, 7]);
-    assert_eq!(of(&["--comm", "manager", "--tid", "215"]), Vec::<u64>::new());
+    let none = |words: &[&str]| fault(&[&["show", file.path()], words].concat()).ends_with("no entry is as chosen\n");
+    assert!(none(&["--comm", "manager", "--tid", "215"]));
     assert_eq!(of(&["--comm", "Binder:200_1 x", "--from", "4"]), [4, 8]);
-    assert_eq!(of(&["--tid", "7"]), Vec::<u64>::new());
+    assert!(none(&["--tid", "7"]));
 }
 
 /// A seat is told by who sits there at that place, and by the system's pid where the history has another one.
@@ -237,7 +239,7 @@ fn names_are_used_up_to_a_line_that_makes_no_sense() {
     ] {
         let who = beside(&file, "who", format!("HPWHO 1 binder\n{lines}").as_bytes());
         let told = format!("hullpippin: {}: {words}; who sits where isn't known from there on\n", who.path());
-        assert_eq!(said(&["show", file.path()]), told);
+        assert_eq!(said(&["show", "--own", file.path()]), told);
     }
 }
 
@@ -311,4 +313,84 @@ fn what_grows_beside_a_journal_is_followed() {
     assert!(line.starts_with("4 11:03:10.000000 seat 1 pid 200 (tid 215 \"Binder:200_1 x\") BC_TRANSACTION"), "{line}");
     assert!(lines.last().expect("the last line").ends_with("1.2 ms ago)"));
     assert!(child.wait().expect("its end").success());
+}
+
+/// The daemon's own seat is 0, on which no thread sits; by it processes begin and end.
+#[test]
+fn the_daemons_own_steps_are_shown_to_who_asks() {
+    let who = "HPWHO 1 binder\n3 1 200 215 x\n";
+    let recorded = Recorded::new("own", &Journal::registered(), &CLOCKS, who);
+    let done = run(&["show", recorded.path()]);
+    let lines = String::from_utf8_lossy(&done.stdout).into_owned();
+    assert!(!lines.contains(" seat 0 pid ") && lines.contains("\n4 "), "{lines}");
+    let said = String::from_utf8_lossy(&done.stderr).into_owned();
+    assert_eq!(said, "hullpippin: 6 steps of the daemon's own are left out; --own shows them\n");
+    let all = printed(&["show", recorded.path(), "--own"]);
+    assert!(all.contains("0 11:03:07.000000 seat 0 pid 100 open"), "{all}");
+    // A journal of a run has no such seat, and no names beside it.
+    let plain = Journal::registered().file("plain");
+    assert!(printed(&["show", plain.path()]).starts_with("0 seat 0 pid 100 open"));
+}
+
+/// The same lines as `trace` tells, of a recording.
+#[test]
+fn a_recording_is_told_by_its_calls() {
+    let recorded = Recorded::registered("calls");
+    let line =
+        "11:03:10.000000 Binder:200_1 x(200/215) -> manager(100/100) manager#3 112 B = 4 B <1.2 ms, 13.1 us unread>\n";
+    assert_eq!(printed(&["calls", recorded.path()]), line);
+    for words in [["--interface", "IServiceManager"], ["--comm", "manager"], ["--code", "3"], ["--pid", "100"]] {
+        assert_eq!(printed(&[&["calls", recorded.path()][..], &words].concat()), line, "{words:?}");
+    }
+    for words in
+        [&["--interface", "IServiceManage"][..], &["--comm", "other"], &["--code", "4"], &["--pid", "7"], &["--failed"]]
+    {
+        assert_eq!(printed(&[&["calls", recorded.path()][..], words].concat()), "", "{words:?}");
+    }
+    let bare = Journal::registered().file("bare-calls");
+    assert_eq!(
+        printed(&["calls", bare.path()]),
+        "4 pid 200 seat 1 -> pid 100 seat 0 manager#3 112 B = 4 B <4 entries, 1 entries unread>\n"
+    );
+    let one_way = Journal::one_way().file("one-way-calls");
+    assert_eq!(
+        printed(&["calls", one_way.path()]),
+        "4 pid 200 seat 1 -> pid 100 seat 0 manager#7 one-way 2 B <2 entries unread>\n"
+    );
+}
+
+/// android.os.IServiceManager as far as the registration needs it: addService is its third.
+const SERVICE_MANAGER: &str = "package android.os;\ninterface IServiceManager {\n    IBinder getService(String name);\n    \
+    IBinder checkService(String name);\n    void addService(String name, IBinder service, boolean isolated, int priority);\n}\n";
+
+#[test]
+fn methods_are_called_by_the_names_of_the_files() {
+    let folder =
+        PathBuf::from(env!("CARGO_TARGET_TMPDIR")).join(format!("{}-aidl-files/android/os", std::process::id()));
+    std::fs::create_dir_all(&folder).expect("a folder");
+    std::fs::write(folder.join("IServiceManager.aidl"), SERVICE_MANAGER).expect("a file");
+    std::fs::write(folder.join("Bad.aidl"), "interface {").expect("a file");
+    let top = folder.parent().and_then(|it| it.parent()).expect("the folder").display().to_string();
+    let recorded = Recorded::registered("aidl");
+    let done = run(&["calls", recorded.path(), "--aidl", &top]);
+    let line = "11:03:10.000000 Binder:200_1 x(200/215) -> manager(100/100) manager.addService(\"hello\", binder 0x1000) 112 B = 4 B";
+    let (lines, said) = (String::from_utf8_lossy(&done.stdout), String::from_utf8_lossy(&done.stderr));
+    assert!(lines.starts_with(line), "{lines}");
+    assert!(said.contains("Bad.aidl: line 1: a name is wanted; so it isn't used"), "{said}");
+    std::fs::remove_file(folder.join("Bad.aidl")).expect("it goes");
+    let shown = printed(&["show", recorded.path(), "--aidl", &top]);
+    assert!(
+        shown.contains("interface android.os.IServiceManager, method addService(\"hello\", binder 0x1000)\n"),
+        "{shown}"
+    );
+    assert!(
+        shown.contains("interface android.os.IServiceManager, method addService(\"hello\", handle 1)\n"),
+        "{shown}"
+    );
+    for words in [&["stats"][..], &["slow"], &["diagram"], &["export", "--format", "perfetto"]] {
+        let told = printed(&[&[words[0], recorded.path(), "--aidl", &top], &words[1..]].concat());
+        assert!(told.contains("0x3 addService"), "{told}");
+    }
+    std::fs::remove_dir_all(&top).expect("it goes");
+    assert!(fault(&["calls", recorded.path(), "--aidl", &top]).contains("No such file"));
 }

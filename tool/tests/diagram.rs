@@ -45,6 +45,41 @@ fn a_thread_that_ended_keeps_its_lane() {
     assert_eq!((&arrow["arrow"]["from"], &arrow["arrow"]["to"]), (&json!([1, 4]), &json!([0, 6])));
 }
 
+/// The manager calls the service, which ends: it reads that there will be no reply, and of the death that it has asked to be told of.
+#[test]
+fn deaths_and_calls_without_a_reply_have_marks() {
+    let mut journal = Journal::registered();
+    let cookie = 0x77u64.to_le_bytes();
+    let asked = [&1u32.to_le_bytes()[..], &cookie].concat();
+    journal.command(0, &message(0x400c_630e, &asked), ACCEPTED);
+    let call = Record { target: 1, code: 9, ..Record::default() };
+    journal.send(0, &call.bytes(BC_TRANSACTION), &[], &[], ACCEPTED);
+    journal.entry(1, &[6], EXITED);
+    // Its reply to the registration is complete too.
+    let (complete, none) = (message(BR_TRANSACTION_COMPLETE, &[]), message(0x7205, &[]));
+    journal.read(0, &got(&[message(BR_NOOP, &[]), complete.clone(), complete, none], &[], &[]));
+    journal.read(0, &got(&[message(BR_NOOP, &[]), message(0x8008_720f, &cookie)], &[], &[]));
+    let told = page_data(&page(journal.file("deaths").path()));
+    let of = |kind: &str| -> Vec<Value> {
+        let dots = told["marks"].as_array().expect("marks").iter().filter_map(|it| it.get("dot"));
+        dots.filter(|it| it["kind"] == kind).map(|it| json!([it["at"], it["lane"], it["text"]])).collect()
+    };
+    assert_eq!(of("noreply"), [json!([12, 0, "BR_DEAD_REPLY: no reply to the call at 10"])]);
+    assert_eq!(of("death"), [json!([13, 0, "BR_DEAD_BINDER"])]);
+}
+
+/// Each kind of mark has its own line in the page's legend, by the colour that it is drawn with.
+#[test]
+fn the_page_has_a_legend() {
+    let page = page(Journal::one_way().file("legend").path());
+    let legend = page.split("<div id=\"legend\">").nth(1).and_then(|it| it.split("</div>").next()).expect("a legend");
+    for word in
+        ["a call", "one-way", "a reply", "unread", "serves", "waits", "refused", "BR_DEAD_REPLY", "BR_DEAD_BINDER"]
+    {
+        assert!(legend.contains(word), "{word}");
+    }
+}
+
 #[test]
 fn what_is_noted_is_a_dot() {
     let mut journal = Journal::base();
@@ -131,5 +166,5 @@ fn the_script_draws_and_finds() {
     let done = Command::new("node").args([script, page.path()]).output().expect("node");
     assert_eq!(String::from_utf8_lossy(&done.stderr), "");
     // Seven marks are there, of which five name the manager: two arrows, two bars, and the dot at 1, which is the first.
-    assert_eq!(String::from_utf8_lossy(&done.stdout), "1 of 5; place 1; true\n");
+    assert_eq!(String::from_utf8_lossy(&done.stdout), "1 of 5; place 1; true; 0 off the page\n");
 }

@@ -88,7 +88,8 @@ fn a_server_that_dies_over_an_open_child() {
         ("call", 2, 18, Some((0, 20))),
     ];
     check_arrows(&told, &arrows);
-    check_dots(&told, "refused", &[(0, 23, "X16 CallerGone: "), (1, 25, "no reply to the call at 15")]);
+    check_dots(&told, "refused", &[(0, 23, "X16 CallerGone: ")]);
+    check_dots(&told, "noreply", &[(1, 25, "BR_DEAD_REPLY: no reply to the call at 15")]);
     let lives =
         [(0, 0, "open pid 100"), (0, 1, "manager"), (1, 3, "open pid 200"), (2, 4, "open pid 300"), (2, 21, "ends")];
     check_dots(&told, "life", &lives);
@@ -128,7 +129,6 @@ fn eight_threads_of_five_processes() {
         ("reply", 2, 64, Some((4, 65))),
     ];
     check_arrows(&told, &arrows);
-    let refused =
-        [(5, 51, "X1 NotStronglyNamed: "), (3, 54, "N6 NotHandedOut: "), (2, 63, "no reply to the call at 42")];
-    check_dots(&told, "refused", &refused);
+    check_dots(&told, "refused", &[(5, 51, "X1 NotStronglyNamed: "), (3, 54, "N6 NotHandedOut: ")]);
+    check_dots(&told, "noreply", &[(2, 63, "BR_DEAD_REPLY: no reply to the call at 42")]);
 }

@@ -1,7 +1,7 @@
 // SPDX-License-Identifier: Apache-2.0 OR MIT
 //! What goes on in a daemon: told of one that has a ring of steps and nothing else.
 mod common;
-use common::ring::{daemon, field, record, telling, Kind, Ring, Step, Who, GOT, SENT};
+use common::ring::{daemon, field, record, telling, told, Kind, Ring, Step, Who, GOT, SENT};
 use common::*;
 use std::fs;
 use std::io::{BufRead, BufReader};
@@ -15,19 +15,19 @@ const DAEMON: Who = (0, 100, 9_000_000, 0, "hullpippind");
 const MANAGER: Who = (1, 100, 9_000_100, 9_000_100, "manager");
 const SERVICE: Who = (2, 200, 9_000_200, 9_000_201, "Binder:1");
 const CLIENT: Who = (3, 300, 9_000_300, 9_000_300, "cl\x1bent");
-const PNG: u32 = 0x5f50_4e47;
-const BR_DEAD_REPLY: u32 = 0x7205;
+const PNG: u64 = 0x5f50_4e47;
+const BR_DEAD_REPLY: u64 = 0x7205;
 
-fn step(after: u64, who: Who, kind: Kind, fields: &[(usize, u32)]) -> Step {
+fn step(after: u64, who: Who, kind: Kind, fields: &[(usize, u64)]) -> Step {
     Step { after, who, kind, fields: fields.to_vec(), data: Vec::new() }
 }
 
-fn call(after: u64, who: Who, kind: Kind, fields: &[(usize, u32)]) -> Step {
-    step(after, who, kind, &[&[(field::COMMAND, BC_TRANSACTION)], fields].concat())
+fn call(after: u64, who: Who, kind: Kind, fields: &[(usize, u64)]) -> Step {
+    step(after, who, kind, &[&[(field::COMMAND, BC_TRANSACTION.into())], fields].concat())
 }
 
 /// A service that is registered with the manager: a call of 112 bytes, which is read after 13.1 us; its reply of 4 after 1.2 ms.
-fn registration(object: u32) -> Vec<Step> {
+fn registration(object: u64) -> Vec<Step> {
     use field::*;
     let data = [&[0xff; 12][..], &text("android.os.IServiceManager"), &text("hello")].concat();
     let to_manager =
@@ -40,10 +40,10 @@ fn registration(object: u32) -> Vec<Step> {
             1_013_100,
             MANAGER,
             GOT,
-            &[(COMMAND, BR_TRANSACTION), (CODE, 3), (OTHER, 200), (CALL, made), (DATA_SIZE, 112)],
+            &[(COMMAND, BR_TRANSACTION.into()), (CODE, 3), (OTHER, 200), (CALL, made), (DATA_SIZE, 112)],
         ),
-        step(1_900_000, MANAGER, SENT, &[(COMMAND, BC_REPLY), (OTHER, 200), (DATA_SIZE, 4)]),
-        step(2_200_000, SERVICE, GOT, &[(COMMAND, BR_REPLY), (DATA_SIZE, 4)]),
+        step(1_900_000, MANAGER, SENT, &[(COMMAND, BC_REPLY.into()), (OTHER, 200), (DATA_SIZE, 4)]),
+        step(2_200_000, SERVICE, GOT, &[(COMMAND, BR_REPLY.into()), (DATA_SIZE, 4)]),
     ]
 }
 
@@ -51,16 +51,16 @@ fn registration(object: u32) -> Vec<Step> {
 fn steps() -> Vec<Step> {
     use field::*;
     let service = [(HANDLE, 1), (OTHER, 200), (OBJECT_PLACE, 2), (OBJECT_INDEX, 0)];
-    let on_service = |after, more: &[(usize, u32)]| call(after, CLIENT, SENT, &[&service[..], more].concat());
+    let on_service = |after, more: &[(usize, u64)]| call(after, CLIENT, SENT, &[&service[..], more].concat());
     let mut steps = vec![step(0, DAEMON, (0, 0, 0), &[]), step(1, MANAGER, (2, 1, 0), &[])];
     steps.extend(registration(1));
     steps.extend([
         on_service(3_000_000, &[(CODE, PNG), (FLAGS, 1), (DATA_SIZE, 76)]),
-        step(3_031_200, SERVICE, GOT, &[(COMMAND, BR_TRANSACTION), (CODE, PNG), (FLAGS, 1), (DATA_SIZE, 76)]),
+        step(3_031_200, SERVICE, GOT, &[(COMMAND, BR_TRANSACTION.into()), (CODE, PNG), (FLAGS, 1), (DATA_SIZE, 76)]),
         call(4_000_000, CLIENT, (3, 5, 1), &[(HANDLE, 5), (CODE, 9)]),
-        step(4_000_900, CLIENT, GOT, &[(COMMAND, BR_FAILED_REPLY)]),
+        step(4_000_900, CLIENT, GOT, &[(COMMAND, BR_FAILED_REPLY.into())]),
         on_service(5_000_000, &[(CODE, 7)]),
-        step(5_001_000, SERVICE, GOT, &[(COMMAND, BR_TRANSACTION), (CODE, 7), (OTHER, 300), (CALL, 10)]),
+        step(5_001_000, SERVICE, GOT, &[(COMMAND, BR_TRANSACTION.into()), (CODE, 7), (OTHER, 300), (CALL, 10)]),
         step(5_002_000, DAEMON, (6, 2, 0), &[]),
         step(5_500_000, CLIENT, GOT, &[(COMMAND, BR_DEAD_REPLY)]),
         on_service(6_000_000, &[(CODE, 8)]),
@@ -148,7 +148,7 @@ fn what_has_no_ring_is_told() {
     let said = fault(&["top", "--socket", "/no/such/socket"]);
     assert_eq!(said, "hullpippin: there is no daemon at /no/such/socket; hullpippin-run starts one\n");
     for (at, bytes, told) in [
-        (0, &b"HPRING02"[..], "the daemon's ring is of another version: \"HPRING02\""),
+        (0, &b"HPRING01"[..], "the daemon's ring is of another version: \"HPRING01\""),
         (12, &[1, 0, 0, 0], "the daemon's ring has 64 slots of 1 bytes behind 4096"),
         (12, &[0xff; 4], "the daemon's ring has 64 slots of 4294967295 bytes behind 4096"),
         (16, &[0, 0, 0, 0], "the daemon's ring has 0 slots of 384 bytes behind 4096"),
@@ -176,30 +176,60 @@ fn a_count_that_cannot_be_is_no_step() {
     assert_eq!(printed(&["trace", "--once", "--past", "--socket", socket.path()]), "");
 }
 
+/// Places behind those of 32 bits.
+const LATE: u64 = 1 << 32;
+
 /// A manager with a thread in the loop; a service of which another process of the history has a handle for an object, and in whose window
 /// lie an unread call and a reply of a process that has ended.
 fn state() -> Vec<Vec<Vec<u8>>> {
-    let manager = [(1, 100), (2, 9_000_100), (5, 1000), (6, 1), (7, 4096), (8, 1), (9, 15)];
-    let service = [(1, 201), (2, 9_000_200), (5, 2000), (6, 2), (7, 8192), (8, 2), (9, 15), (11, 1), (15, 16)];
-    let thread = |more: &[(usize, u32)]| record(2, &[&[(14, u32::MAX)], more].concat(), "Binder:1");
+    use told::*;
+    let manager =
+        [(PROCESS, 100), (PID, 9_000_100), (EUID, 1000), (FLAGS, 1), (WINDOW, 4096), (THREADS, 1), (MAX_THREADS, 15)];
+    let service = [
+        [(PROCESS, 201), (PID, 9_000_200), (EUID, 2000), (FLAGS, 2), (WINDOW, 8192), (THREADS, 2), (MAX_THREADS, 15)]
+            .to_vec(),
+        vec![(STARTED, 1), (UNREAD, 16)],
+    ];
+    let thread = |more: &[(usize, u64)]| record(2, &[&[(INNERMOST, u64::MAX)], more].concat(), "Binder:1");
+    let object = [(OBJECT_PLACE, LATE + 4), (OBJECT_INDEX, 2)];
     vec![
-        vec![record(1, &manager, "manager"), record(1, &service, "serv\x1bice")],
+        vec![record(1, &manager, "manager"), record(1, &service.concat(), "serv\x1bice")],
         vec![],
         vec![
-            thread(&[(1, 100), (2, 9_000_100), (3, 9_000_101), (4, 1), (6, 12)]),
-            thread(&[(1, 201), (3, 9_000_201), (4, 2), (12, 2), (13, 1), (14, 12), (15, 3)]),
+            thread(&[(PROCESS, 100), (PID, 9_000_100), (TID, 9_000_101), (SEAT, 1), (FLAGS, 12)]),
+            thread(&[
+                (PROCESS, 201),
+                (TID, 9_000_201),
+                (SEAT, 2),
+                (SERVING, 2),
+                (CALLING, 1),
+                (INNERMOST, LATE + 12),
+                (UNREAD, 3),
+            ]),
         ],
         vec![
-            record(3, &[(1, 100), (16, 1), (17, 4), (18, 2), (19, 201)], ""),
-            record(3, &[(1, 100), (16, 2), (17, 5), (19, 0)], ""),
+            record(3, &[&[(PROCESS, 100), (HANDLE, 1), (PARTY, 201)], &object[..]].concat(), ""),
+            record(3, &[(PROCESS, 100), (HANDLE, 2), (OBJECT_PLACE, 5), (PARTY, 0)], ""),
             record(
                 4,
-                &[(1, 201), (6, 64 + 16), (17, 4), (18, 2), (19, 100), (20, 21), (21, 16), (22, 88), (23, PNG)],
+                &[
+                    &[
+                        (PROCESS, 201),
+                        (FLAGS, 64 + 16),
+                        (PARTY, 100),
+                        (MADE, LATE + 21),
+                        (START, 16),
+                        (SIZE, 88),
+                        (CODE, PNG),
+                    ],
+                    &object[..],
+                ]
+                .concat(),
                 "",
             ),
-            record(4, &[(1, 201), (6, 32), (20, 9), (22, 8)], ""),
+            record(4, &[(PROCESS, 201), (FLAGS, 32), (MADE, 9), (SIZE, 8)], ""),
             // Of a process that has come since.
-            record(3, &[(1, 300), (16, 1), (17, 4), (19, 201)], ""),
+            record(3, &[(PROCESS, 300), (HANDLE, 1), (OBJECT_PLACE, 4), (PARTY, 201)], ""),
         ],
     ]
 }
@@ -211,19 +241,19 @@ fn what_goes_on_in_a_daemon_is_told() {
     let told = "after 30 steps of /dev/binder\n\
         pid 9000100 \"manager\" euid 1000 window 4096, 1 threads, 0 of them asked for, of at most 15, in the history 100, context manager\n  \
         seat 1 (tid 9000101 \"Binder:1\"), in the loop, waits in a read\n  \
-        handle 1 object 4.2 of pid 9000200 \"serv\\u{1b}ice\"\n  \
+        handle 1 object 4294967300.2 of pid 9000200 \"serv\\u{1b}ice\"\n  \
         handle 2 object 5.0 of a process that has ended\n\
         pid 9000200 \"serv\\u{1b}ice\" euid 2000 window 8192, 2 threads, 1 of them asked for, of at most 15, in the history 201, \
         asks for reports of flooding, 16 or more to read\n  \
-        seat 2 (tid 9000201 \"Binder:1\"), serves 2 calls, waits in 1 call, the innermost made at 12, 3 to read\n  \
-        buffer at 16 made at 21 size 88 code 0x5f504e47 from pid 9000100 \"manager\", for object 4.2, one-way, unread\n  \
+        seat 2 (tid 9000201 \"Binder:1\"), serves 2 calls, waits in 1 call, the innermost made at 4294967308, 3 to read\n  \
+        buffer at 16 made at 4294967317 size 88 code 0x5f504e47 from pid 9000100 \"manager\", for object 4294967300.2, one-way, unread\n  \
         buffer at 0 made at 9 size 8 code 0x0 from a process that has ended\n";
     assert_eq!(printed(&words), told);
     let values = printed(&[&words[..], &["--format", "json"]].concat());
     let values: Vec<serde_json::Value> = values.lines().map(|it| serde_json::from_str(it).expect("JSON")).collect();
     assert_eq!(values[0], serde_json::json!({"steps": 30, "device": "/dev/binder"}));
     let owner = serde_json::json!({"pid": 9_000_200, "comm": "serv\u{1b}ice"});
-    assert_eq!(values[1]["handles"][0], serde_json::json!({"handle": 1, "object": "4.2", "owner": owner}));
+    assert_eq!(values[1]["handles"][0], serde_json::json!({"handle": 1, "object": "4294967300.2", "owner": owner}));
     assert_eq!(values[2]["buffers"][1]["from"], serde_json::Value::Null);
 }
 
@@ -298,7 +328,7 @@ fn busy(ring: &mut Ring, mut is_over: impl FnMut() -> bool) {
     let until = Instant::now() + Duration::from_secs(60);
     while !is_over() {
         assert!(Instant::now() < until, "nobody has seen enough");
-        let object = ring.count as u32 - 1;
+        let object = ring.count - 1;
         registration(object).iter().for_each(|it| ring.put(it));
         sleep(Duration::from_millis(10));
     }

@@ -129,7 +129,7 @@ fn entries_have_the_lines_that_were_written_for_them() {
     let blocks = blocks("entries.txt");
     assert!(blocks.len() > 8, "{} blocks", blocks.len());
     for (name, words, lines) in blocks {
-        assert_eq!(plain(&printed(&words_over(&words, &runs[&name]))), lines, "{name}: {words}");
+        assert_eq!(plain(&chosen(&words_over(&words, &runs[&name]))), lines, "{name}: {words}");
     }
 }
 
@@ -244,7 +244,7 @@ fn replies_answer_the_calls_that_the_player_certifies() {
     let mut replies = 0;
     for run in runs("replies").into_values() {
         let journal = run.journal.path();
-        for told in values(&printed(&["show", journal, "--format", "json", "--command", "BR_REPLY"])) {
+        for told in values(&chosen(&["show", journal, "--format", "json", "--command", "BR_REPLY"])) {
             let returns = told["answer"]["returns"].as_array().expect("returns");
             let reply = returns.iter().find(|it| it["name"] == "BR_REPLY").expect("a reply");
             let certified = player(&["call-of-reply", journal, &told["place"].to_string()]);

@@ -318,3 +318,40 @@ fn a_script_with_names_prints_what_its_own_script_prints() {
         "{lines}"
     );
 }
+
+/// All worked examples, by the player and by the library in its place: the same is printed, and the same journal is written.
+#[test]
+#[ignore = "needs the player and the library"]
+fn the_library_plays_as_the_player_does() {
+    let player = std::env::var("HULLPIPPIN_PLAYER").expect("the player");
+    let folder = concat!(env!("CARGO_MANIFEST_DIR"), "/../examples");
+    let mut count = 0;
+    for file in fs::read_dir(folder).expect("examples").flatten().map(|it| it.path()) {
+        if file.extension().map_or(true, |it| it != "script") {
+            continue;
+        }
+        let script = file.to_str().expect("letters");
+        let of = |player: &str, journal: &Kept| {
+            let words =
+                ["script", script, "--run", player, "--turns", "5", "--format", "json", "--journal", journal.path()];
+            let done = run(&words);
+            (done.status.code(), done.stdout, fs::read(journal.path()).expect("a journal"))
+        };
+        let (ours, theirs) = (kept("by-library", b""), kept("by-player", b""));
+        assert!(of("no-such-player", &ours) == of(&player, &theirs), "{script}");
+        count += 1;
+    }
+    assert!(count > 100, "{count}");
+}
+
+#[test]
+fn repl_says_that_there_is_nothing_to_play_by() {
+    let mut program = program();
+    program.args(["repl", "--run", "no-such-player"]).env("HULLPIPPIN_LIBRARY", "/no/such/library");
+    let done = program.stdin(Stdio::null()).output().expect("the program");
+    let said = String::from_utf8_lossy(&done.stderr).into_owned();
+    assert_eq!(done.status.code(), Some(1));
+    assert!(said.contains("there is no player no-such-player, and no library plays in its place: "), "{said}");
+    let said = fault(&["repl", "--run", "/no/such/player"]);
+    assert!(said.contains("the player /no/such/player: No such file"), "{said}");
+}

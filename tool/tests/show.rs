@@ -209,3 +209,13 @@ fn a_parcel_that_the_daemon_wrapped_is_told_as_its_client_sent_it() {
     0000  85";
     assert!(lines.contains(told), "{lines}");
 }
+
+#[test]
+fn a_choice_that_nothing_is_of_is_told() {
+    let file = Journal::one_way().file("none-chosen");
+    for words in [&["--pid", "999"][..], &["--refused"], &["--command", "BC_REPLY"]] {
+        let said = fault(&[&["show", file.path()], words].concat());
+        assert_eq!(said, format!("hullpippin: {}: no entry is as chosen\n", file.path()));
+    }
+    assert!(printed(&["show", file.path(), "--pid", "200"]).lines().count() > 2);
+}

@@ -5,11 +5,13 @@
 //!
 //! Where times lie beside the journal an entry stands at its time by the monotonic clock, and what it begins and ends follow one
 //! another by a nanosecond each. Else the entry at place K stands at K microseconds, and all follow one another within that.
-use crate::calls::{Call, Calls, Doing, Event};
+use crate::calls::{Call, Calls, Doing, Event, Objects, Why};
 use crate::journal::{Answer, Entry, Step};
+use crate::kernel::following::Following;
+use crate::kernel::trace::{Seen, Trace as Kernel};
 use crate::out::Out;
 use crate::play::{Player, Range};
-use crate::show::{code_words, object_words};
+use crate::show::method_code_words;
 use crate::space::{Facts, Space};
 use crate::who::{Comms, Person};
 use anyhow::Result;
@@ -87,13 +89,11 @@ fn track(doing: Doing) -> Track {
 }
 
 /// What a call is called: by the object that it is on, and by its code.
-fn call_name(call: &Call, space: &Space) -> String {
-    let object = call.object.and_then(|it| space.objects.get(&it));
-    match object.and_then(|it| it.called()) {
-        Some(name) => format!("{name} {}", code_words(call.code)),
-        None => {
-            format!("{} {}", call.object.map_or(String::new(), |it| object_words(space, it)), code_words(call.code))
-        }
+fn call_name(call: &Call, objects: &dyn Objects) -> String {
+    let code = method_code_words(call.object.and_then(|it| objects.interface(it)), call.code);
+    match call.object.and_then(|it| objects.called(it)) {
+        Some(name) => format!("{name} {code}"),
+        None => format!("{} {code}", call.object.map_or(String::new(), |it| objects.words(it))),
     }
 }
 
@@ -136,7 +136,7 @@ impl Trace<'_> {
 
     fn begin(&mut self, doing: Doing, of: Of, call: &Call, name: &str) -> Result<()> {
         let cat = if matches!(of, Of::Serving(_)) { "serves" } else { "waits" };
-        let args = Some(Told { place: Some(call.made.place), bytes: Some(call.size), ..Told::default() });
+        let args = Some(Told { place: Some(call.made.place), bytes: call.size, ..Told::default() });
         let event = self.next("B", name, track(doing));
         self.put(&Traced { cat, args, ..event })?;
         self.tracks.entry(track(doing)).or_default().push(Open { of, has_ended: false });
@@ -188,15 +188,16 @@ impl Trace<'_> {
         Ok(())
     }
 
-    fn event(&mut self, event: &Event, space: &Space) -> Result<()> {
+    fn event(&mut self, event: &Event, objects: &dyn Objects) -> Result<()> {
         match event {
-            Event::Made(call) => self.made(call, &call_name(call, space)),
-            Event::Refused(doing, reason) => {
-                self.instant(&format!("{} {}", reason.name(), reason.word()), Some(reason.text()), *doing)
+            Event::Made(call) => self.made(call, &call_name(call, objects)),
+            Event::Refused(doing, why) => {
+                let text = if let Why::Reason(reason) = why { Some(reason.text()) } else { None };
+                self.instant(&why.name(), text, *doing)
             }
             Event::Taken(call) => {
                 let doing = call.taken.unwrap_or(call.made);
-                self.begin(doing, Of::Serving(call.made.place), call, &call_name(call, space))?;
+                self.begin(doing, Of::Serving(call.made.place), call, &call_name(call, objects))?;
                 self.flow("f", "call", 2 * call.made.place, doing)
             }
             Event::Replied(call) => {
@@ -208,7 +209,8 @@ impl Trace<'_> {
                 self.flow("f", "reply", 2 * call.made.place + 1, *doing)?;
                 self.end(track(*doing), Of::Waiting(call.made.place))
             }
-            Event::Failed(call, doing) => {
+            Event::Died(doing, name) => self.instant(name, None, *doing),
+            Event::Failed(call, doing, _) => {
                 self.instant("no reply", None, *doing)?;
                 self.end(track(*doing), Of::Waiting(call.made.place))
             }
@@ -252,13 +254,50 @@ impl Trace<'_> {
     }
 }
 
+impl Trace<'_> {
+    fn new(out: &mut Out, clock: Option<u64>) -> Trace<'_> {
+        out.held.extend(b"{\"displayTimeUnit\":\"ns\",\"traceEvents\":[");
+        Trace { out, tracks: HashMap::new(), is_first: true, place: 0, part: 0, clock, comms: Comms::default() }
+    }
+
+    /// What a kernel's trace tells, each event at its own time.
+    fn told(&mut self, event: &Event, following: &Following) -> Result<()> {
+        let doing = event.doing();
+        self.place = doing.place;
+        self.part = 0;
+        self.clock = doing.time.map(|it| it.clock);
+        let comm = following.threads.comm(doing.seat);
+        if let Some(name) = following.threads.comms.get(doing.pid) {
+            self.comms.name(doing.pid, true, &name.into());
+        }
+        let person = Person { pid: doing.pid, tid: doing.tid, comm };
+        self.meet(track(doing), Some(&person))?;
+        self.event(event, following)
+    }
+}
+
+/// Writes the trace of a kernel's trace.
+pub fn export_trace(kernel: &mut Kernel, range: Range, out: &mut Out) -> Result<()> {
+    let mut trace = Trace::new(out, Some(0));
+    let mut latest = 0;
+    let done = kernel.each(range, |seen, following| match seen {
+        Seen::Line(time) => {
+            latest = time.map_or(latest, |it| it.clock);
+            Ok(())
+        }
+        Seen::Verb(_) => Ok(()),
+        Seen::Event(event) => trace.told(event, following),
+    });
+    trace.clock = Some(latest);
+    trace.end_tracks(|_| true)?;
+    trace.out.held.extend(b"\n]}\n");
+    done
+}
+
 /// Writes the trace of a range.
 pub fn export(player: &mut Player, range: Range, out: &mut Out) -> Result<()> {
-    out.held.extend(b"{\"displayTimeUnit\":\"ns\",\"traceEvents\":[");
     let mut calls = Calls::default();
-    let clock = player.beside.has_times().then_some(0);
-    let (tracks, comms) = (HashMap::new(), Comms::default());
-    let mut trace = Trace { out, tracks, is_first: true, place: 0, part: 0, clock, comms };
+    let mut trace = Trace::new(out, player.beside.has_times().then_some(0));
     player.each(range, |entry, space, facts| trace.entry(entry, &calls.events(entry, facts), space, facts))?;
     trace.place = player.source.place();
     trace.part = 0;

@@ -2,12 +2,13 @@
 //! Calls, put together from a device's steps. Who begins to look in the midst of things knows nothing of what was before, and what
 //! doesn't fit together is passed over.
 use super::slot::{Came, Did, Party, Slot};
+use crate::aidl;
 use crate::codes::{BC_REPLY, BC_TRANSACTION, BR_DEAD_REPLY, BR_FAILED_REPLY, BR_REPLY, BR_TRANSACTION};
 use crate::parcel::{letters, text_at, token};
 use crate::refusals::Reason;
 use std::collections::{HashMap, VecDeque};
 
-type Object = (u32, u32);
+type Object = (u64, u32);
 
 /// A call that somebody has made.
 #[derive(Clone, Debug)]
@@ -21,8 +22,11 @@ pub struct Call {
     pub to: Option<u32>,
     /// Who serves the call, once its transaction was read.
     pub server: Option<Party>,
-    /// What the object that is called goes by.
+    /// What the object that is called goes by, and its interface.
     pub what: String,
+    pub interface: Option<String>,
+    /// What its method was called with, where that is known.
+    pub arguments: Option<String>,
     pub code: u32,
     pub one_way: bool,
     pub size: u64,
@@ -52,11 +56,6 @@ pub struct Ended {
 impl Ended {
     pub fn took(&self) -> u64 {
         self.time.saturating_sub(self.call.made)
-    }
-
-    /// How long nobody had read the call.
-    pub fn unread(&self) -> Option<u64> {
-        Some(self.call.taken?.saturating_sub(self.call.made))
     }
 }
 
@@ -142,6 +141,8 @@ impl Calls {
             to: Some(slot.other).filter(|_| came == Came::Accepted),
             server: None,
             what: self.what(slot),
+            interface: slot.object.and_then(|it| self.interfaces.get(&it).cloned()),
+            arguments: aidl::arguments(slot.code, &slot.data),
             code: slot.code,
             one_way: slot.is_one_way(),
             size: slot.data_size,
@@ -179,7 +180,7 @@ impl Calls {
         if slot.handle == 0 && slot.offsets_size == 8 {
             if let Some(name) = text_at(&slot.data, token.end) {
                 // An object that is sent for the first time is of the step that sends it.
-                self.services.entry((slot.place as u32, 0)).or_insert(name.text);
+                self.services.entry((slot.place, 0)).or_insert(name.text);
             }
         }
         self.interfaces.entry(object).or_insert(token.text);

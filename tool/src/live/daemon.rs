@@ -13,7 +13,9 @@ use nix::unistd::geteuid;
 use std::env;
 use std::fs::File;
 use std::io::IoSliceMut;
+use std::os::unix::fs::{FileTypeExt, MetadataExt};
 use std::os::unix::io::{AsRawFd, FromRawFd, RawFd};
+use std::path::Path;
 use std::time::{Duration, Instant};
 
 /// What the daemon and its library say to one another: its number is asked for at each request.
@@ -42,10 +44,36 @@ fn sockets(given: Option<&str>) -> Vec<(String, bool)> {
         return vec![(chosen, true)];
     }
     let runtime = env::var("XDG_RUNTIME_DIR").ok().filter(|it| it.starts_with('/'));
+    unchosen(runtime.as_deref()).into_iter().map(|it| (it, false)).collect()
+}
+
+/// Addresses that nobody has chosen, in the order of clients/address.h.
+fn unchosen(runtime: Option<&str>) -> Vec<String> {
     let own = format!("/tmp/hullpippin-{}/socket", geteuid());
-    let all =
-        runtime.map(|it| format!("{it}/hullpippin/socket")).into_iter().chain([own, "/run/hullpippin/socket".into()]);
-    all.map(|it| (it, false)).collect()
+    let runtime = runtime.map(|it| format!("{it}/hullpippin/socket"));
+    runtime.into_iter().chain(["/run/hullpippin/socket".into(), own]).collect()
+}
+
+/// Whether who else could put a socket there, or a link to another, is kept from it: folder and socket are the user's own or root's, and
+/// others may not write to the folder. Else one would wait for whoever listens there.
+fn trusted(path: &str) -> Result<(), Errno> {
+    let told = |path: &Path| {
+        let found = path.symlink_metadata().map_err(|it| it.raw_os_error().map_or(Errno::EPERM, Errno::from_i32))?;
+        let is_own = found.uid() == geteuid().as_raw() || found.uid() == 0;
+        if is_own {
+            Ok(found)
+        } else {
+            Err(Errno::EPERM)
+        }
+    };
+    let path = Path::new(path);
+    let folder = told(path.parent().unwrap_or(path))?;
+    let is_safe = folder.is_dir() && folder.mode() & 0o022 == 0 && told(path)?.file_type().is_socket();
+    if is_safe {
+        Ok(())
+    } else {
+        Err(Errno::EPERM)
+    }
 }
 
 /// A descriptor of one's own, which is closed in the end.
@@ -55,6 +83,9 @@ fn owned(fd: RawFd) -> File {
 }
 
 fn dial(path: &str, is_chosen: bool) -> Result<File, Errno> {
+    if !is_chosen {
+        trusted(path)?;
+    }
     let end = owned(socket(AddressFamily::Unix, SockType::SeqPacket, SockFlag::SOCK_CLOEXEC, None)?);
     // Both before it is connected, which takes as long as a packet to be sent.
     setsockopt(end.as_raw_fd(), sockopt::SendTimeout, &TimeVal::seconds(PATIENCE))?;
@@ -71,10 +102,16 @@ fn dial(path: &str, is_chosen: bool) -> Result<File, Errno> {
 
 /// A connection to the daemon; None where there is none.
 pub fn connection(given: Option<&str>) -> Result<Option<File>> {
-    for (path, is_chosen) in sockets(given) {
+    connection_at(sockets(given))
+}
+
+/// The first that can be had. What isn't open to this user, or is another one's, is passed over where nobody has chosen it.
+fn connection_at(sockets: Vec<(String, bool)>) -> Result<Option<File>> {
+    for (path, is_chosen) in sockets {
         match dial(&path, is_chosen) {
             Ok(end) => return Ok(Some(end)),
             Err(Errno::ENOENT | Errno::ECONNREFUSED) => {}
+            Err(Errno::EACCES | Errno::EPERM) if !is_chosen => {}
             Err(error) => return Err(error).with_context(|| path.clone()),
         }
     }
@@ -178,6 +215,7 @@ pub fn needed_ring(place: &Where) -> Result<super::ring::Ring> {
 mod tests {
     use super::*;
     use nix::sys::socket::{accept, bind, listen, recv};
+    use std::os::unix::fs::PermissionsExt;
     use std::sync::mpsc::channel;
     use std::thread;
     use std::time::Duration;
@@ -206,6 +244,43 @@ mod tests {
         bind(end.as_raw_fd(), &UnixAddr::new(path.as_str()).unwrap()).unwrap();
         listen(end.as_raw_fd(), 1).unwrap();
         (end, path)
+    }
+
+    #[test]
+    fn addresses_that_nobody_has_chosen_are_in_the_order_of_the_library() {
+        let header = include_str!("../../../clients/address.h");
+        let order = header.split("enum { ").nth(1).and_then(|it| it.split('}').next()).expect("the order");
+        assert_eq!(order.trim(), "ADDRESS_OF_RUNTIME, ADDRESS_OF_SYSTEM, ADDRESS_OF_TMP, ADDRESSES");
+        let all = unchosen(Some("/run/user/1"));
+        let own = format!("/tmp/hullpippin-{}/socket", geteuid());
+        assert_eq!(all, ["/run/user/1/hullpippin/socket", "/run/hullpippin/socket", &own]);
+        assert_eq!(unchosen(None), all[1..]);
+    }
+
+    #[test]
+    fn what_others_could_have_put_there_is_passed_over() {
+        let folder = format!("/tmp/hullpippin-passed-{}", std::process::id());
+        let [open, own] = ["open", "own"].map(|it| format!("{folder}/{it}"));
+        for (path, mode) in [(&folder, 0o700), (&open, 0o777), (&own, 0o700)] {
+            std::fs::create_dir(path).unwrap();
+            std::fs::set_permissions(path, PermissionsExt::from_mode(mode)).unwrap();
+        }
+        let (open_end, own_end) = (format!("{open}/socket"), format!("{own}/socket"));
+        let _listening = [&open_end, &own_end].map(|it| {
+            let end = owned(socket(AddressFamily::Unix, SockType::SeqPacket, SockFlag::SOCK_CLOEXEC, None).unwrap());
+            bind(end.as_raw_fd(), &UnixAddr::new(it.as_str()).unwrap()).unwrap();
+            listen(end.as_raw_fd(), 1).unwrap();
+            end
+        });
+        let link = format!("{own}/link");
+        std::os::unix::fs::symlink("socket", &link).unwrap();
+        for path in [&open_end, &link] {
+            assert_eq!(dial(path, false).unwrap_err(), Errno::EPERM, "{path}");
+        }
+        let all = [open_end, link, own_end].map(|it| (it, false)).to_vec();
+        assert!(connection_at(all[..2].to_vec()).unwrap().is_none());
+        assert!(connection_at(all).unwrap().is_some());
+        std::fs::remove_dir_all(folder).unwrap();
     }
 
     fn at(path: &str) -> Where {

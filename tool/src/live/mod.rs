@@ -2,10 +2,12 @@
 //! What goes on in a daemon that runs: the ring of its latest steps, read while it is written.
 pub mod calls;
 mod daemon;
+pub mod kernel;
 mod program;
 mod ring;
 mod slot;
 pub mod state;
+#[cfg(feature = "top")]
 pub mod top;
 pub mod trace;
 

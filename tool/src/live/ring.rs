@@ -8,7 +8,7 @@ use std::convert::TryFrom;
 use std::fs::File;
 use std::os::unix::fs::FileExt;
 
-const MAGIC: &[u8; 8] = b"HPRING01";
+const MAGIC: &[u8; 8] = b"HPRING02";
 /// What is read of the heading.
 const HEAD: usize = 1600;
 const COUNT_AT: u64 = 128;

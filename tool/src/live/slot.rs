@@ -5,10 +5,10 @@ use crate::refusals::{Kind, Reason};
 use std::rc::Rc;
 
 pub const SLOT_SIZE: usize = 384;
-const COMM: std::ops::Range<usize> = 128..144;
-const DATA: usize = 144;
-const MOST_DATA: usize = 240;
-const NONE: u32 = u32::MAX;
+const COMM: std::ops::Range<usize> = 136..152;
+const DATA: usize = 152;
+const MOST_DATA: usize = 232;
+const NONE: u64 = u64::MAX;
 
 /// What was done, as the first byte of a step in a journal has it.
 #[derive(Clone, Copy, Debug, PartialEq, Eq)]
@@ -59,7 +59,7 @@ pub struct Slot {
     pub other: u32,
     /// Of a two-way call that is read: where it was made.
     pub call: Option<u64>,
-    pub object: Option<(u32, u32)>,
+    pub object: Option<(u64, u32)>,
     pub data_size: u64,
     pub offsets_size: u64,
     pub data: Vec<u8>,
@@ -69,7 +69,7 @@ impl Slot {
     /// The step that these bytes are, which have to be so many.
     pub fn read(bytes: &[u8; SLOT_SIZE]) -> Slot {
         let number = |at: usize| u32_at(bytes, at);
-        let some = |at: usize| Some(number(at)).filter(|it| *it != NONE);
+        let some = |at: usize| Some(u64_at(bytes, at)).filter(|it| *it != NONE);
         let name: Vec<u8> = bytes[COMM].iter().copied().take_while(|it| *it != 0).collect();
         let party = Party {
             process: number(36),
@@ -90,10 +90,10 @@ impl Slot {
             code: number(52),
             flags: number(56),
             other: number(60),
-            call: some(64).map(u64::from),
-            object: some(68).map(|place| (place, number(72))),
-            data_size: u64_at(bytes, 88),
-            offsets_size: u64_at(bytes, 96),
+            call: some(64),
+            object: some(72).map(|place| (place, number(80))),
+            data_size: u64_at(bytes, 96),
+            offsets_size: u64_at(bytes, 104),
             data: bytes[DATA..DATA + kept].to_vec(),
         }
     }
@@ -156,8 +156,8 @@ mod tests {
         assert_eq!((read("seat", 4).seat, read("command", 4).command, read("handle", 4).handle), (word, word, word));
         assert_eq!((read("code", 4).code, read("flags", 4).flags, read("other", 4).other), (word, word, word));
         assert_eq!((read("pid", 4).party.pid, read("process", 4).party.process), (word, word));
-        assert_eq!((read("tid", 4).party.tid, read("call", 4).call), (Some(word), Some(word.into())));
-        assert_eq!(read("object_place", 4).object, Some((word, 0)));
+        assert_eq!((read("tid", 4).party.tid, read("call", 8).call), (Some(word), Some(long)));
+        assert_eq!(read("object_place", 8).object, Some((long, 0)));
         assert_eq!(read("object_index", 4).object, Some((0, word)));
         assert_eq!(&*read("comm", 15).party.comm, "\u{1}\u{2}\u{3}\u{4}\u{5}\u{6}\u{7}\u{8}\t\n\u{b}\u{c}\r\u{e}\u{f}");
         let mut bytes = counted(documented(&header, "data").expect("data"), 3);

@@ -10,7 +10,16 @@ use serde::Serialize;
 use std::collections::BTreeMap;
 use std::io::{self, Write};
 
-/// The numbers of a record, in the header's order. The name of what it is stands behind them.
+/// The places in the history that a record has, in the header's order, by its names.
+#[derive(Clone, Copy, Debug)]
+#[allow(clippy::enum_variant_names)]
+enum Place {
+    Innermost,
+    ObjectPlace,
+    Made,
+}
+
+/// The numbers behind them. The name of what it is stands last.
 #[derive(Clone, Copy, Debug)]
 enum Field {
     Kind,
@@ -27,19 +36,18 @@ enum Field {
     Started,
     Serving,
     Calling,
-    Innermost,
     Unread,
     Handle,
-    ObjectPlace,
     ObjectIndex,
     Party,
-    Made,
     Start,
     Size,
     Code,
+    Nothing,
 }
 
-const COMM: usize = 4 * (Field::Code as usize + 1);
+const NUMBERS: usize = 8 * (Place::Made as usize + 1);
+const COMM: usize = NUMBERS + 4 * (Field::Nothing as usize + 1);
 const RECORD_SIZE: usize = COMM + 16;
 const HEAD_SIZE: usize = 32;
 const MOST_RECORDS: usize = 16;
@@ -60,13 +68,17 @@ const CALL: u32 = 64;
 
 /// So many things to be read are counted, and perhaps there are more.
 const MOST_UNREAD: u32 = 16;
-const NONE: u32 = u32::MAX;
+const NONE: u64 = u64::MAX;
 
 struct Record<'a>(&'a [u8]);
 
 impl Record<'_> {
     fn number(&self, field: Field) -> u32 {
-        u32_at(self.0, 4 * field as usize)
+        u32_at(self.0, NUMBERS + 4 * field as usize)
+    }
+
+    fn place(&self, place: Place) -> u64 {
+        u64_at(self.0, 8 * place as usize)
     }
 
     fn has(&self, flag: u32) -> bool {
@@ -79,7 +91,7 @@ impl Record<'_> {
     }
 
     fn object(&self) -> String {
-        format!("{}.{}", self.number(Field::ObjectPlace), self.number(Field::ObjectIndex))
+        format!("{}.{}", self.place(Place::ObjectPlace), self.number(Field::ObjectIndex))
     }
 }
 
@@ -93,7 +105,7 @@ struct Thread {
     serves: u32,
     calls: u32,
     /// Where the innermost of these was made.
-    innermost: Option<u32>,
+    innermost: Option<u64>,
     unread: u32,
 }
 
@@ -108,7 +120,7 @@ struct Handle {
 struct Buffer {
     start: u32,
     size: u32,
-    made: u32,
+    made: u64,
     code: u32,
     target: Option<String>,
     from: Option<Party>,
@@ -215,7 +227,7 @@ fn thread(record: &Record<'_>) -> Thread {
         waiting: record.has(WAITS),
         serves: of(Field::Serving),
         calls: of(Field::Calling),
-        innermost: Some(of(Field::Innermost)).filter(|it| *it != NONE),
+        innermost: Some(record.place(Place::Innermost)).filter(|it| *it != NONE),
         unread: of(Field::Unread),
     }
 }
@@ -225,7 +237,7 @@ fn buffer(record: &Record<'_>, from: Option<Party>) -> Buffer {
     Buffer {
         start: of(Field::Start),
         size: of(Field::Size),
-        made: of(Field::Made),
+        made: record.place(Place::Made),
         code: of(Field::Code),
         target: Some(record.object()).filter(|_| record.has(CALL)),
         from,
@@ -336,7 +348,7 @@ mod tests {
     const PROTOCOL: &str = include_str!("../../../clients/protocol.h");
 
     /// `MaxThreads` as `max_threads`.
-    fn spelled(field: Field) -> String {
+    fn spelled(field: impl std::fmt::Debug) -> String {
         let name = format!("{field:?}");
         let letters = name.char_indices().map(|(at, it)| match it {
             'A'..='Z' if at > 0 => format!("_{}", it.to_ascii_lowercase()),
@@ -348,8 +360,14 @@ mod tests {
     #[test]
     fn a_record_is_as_the_header_has_it() {
         let lines = PROTOCOL.split("struct state_record {").nth(1).and_then(|it| it.split("char comm[16];").next());
-        let numbers = lines.expect("a record").lines().filter_map(|it| it.trim().strip_prefix("uint32_t "));
-        let names = numbers.flat_map(|it| it.split(';').next().unwrap_or_default().split(", "));
+        let lines = lines.expect("a record");
+        let names = |kind: &str| -> Vec<_> {
+            let numbers = lines.lines().filter_map(|it| it.trim().strip_prefix(kind));
+            numbers.flat_map(|it| it.split(';').next().unwrap_or_default().trim_start().split(", ")).collect()
+        };
+        let behind = lines.find("uint32_t ").expect("numbers");
+        assert!(lines.rfind("uint64_t ").map_or(false, |it| it < behind), "the places stand first");
+        assert_eq!(names("uint64_t "), [Place::Innermost, Place::ObjectPlace, Place::Made].map(spelled));
         use Field::*;
         let ours = [
             Kind,
@@ -366,18 +384,16 @@ mod tests {
             Started,
             Serving,
             Calling,
-            Innermost,
             Unread,
             Handle,
-            ObjectPlace,
             ObjectIndex,
             Party,
-            Made,
             Start,
             Size,
             Code,
+            Nothing,
         ];
-        assert_eq!(names.collect::<Vec<_>>(), ours.map(spelled));
+        assert_eq!(names("uint32_t "), ours.map(spelled));
         assert!(PROTOCOL.contains("#define STATE_ROOM 16u") && PROTOCOL.contains("#define STATE_UNREAD 16u"));
         assert!(PROTOCOL.contains("{ STATE_PROCESS = 1, STATE_THREAD, STATE_HANDLE, STATE_BUFFER };"));
         let flags = [MANAGER, DETECTS_SPAM, LOOPS, WAITS, ONE_WAY, HANDED, CALL];

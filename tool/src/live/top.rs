@@ -6,9 +6,15 @@ use super::ring::Ring;
 use super::slot::Party;
 use super::state::{windows, Window};
 use super::Where;
+use crate::calls::{Event as CallEvent, Objects, OF_THREAD};
+use crate::kernel;
+use crate::kernel::following::Following;
+use crate::kernel::trace::Seen;
+use crate::kernel::tracefs::Live;
 use crate::out;
+use crate::play::{name, Range};
 use crate::times::duration_words;
-use anyhow::Result;
+use anyhow::{bail, Result};
 use clap::Args;
 use crossterm::event::{self, Event, KeyCode, KeyModifiers};
 use crossterm::execute;
@@ -39,6 +45,12 @@ pub struct Top {
     /// Prints one screen as text, and ends
     #[arg(long)]
     pub once: bool,
+    /// Of this machine's own kernel, by its tracepoints, which needs root
+    #[arg(long, conflicts_with_all = ["socket", "device", "file"])]
+    pub kernel: bool,
+    /// One screen of all of a kernel's trace
+    #[arg(long, value_name = "FILE", conflicts_with_all = ["socket", "device", "interval", "once"])]
+    pub file: Option<String>,
 }
 
 fn seconds(word: &str) -> Result<f64, String> {
@@ -107,11 +119,7 @@ impl Sums {
             it.served += 1;
         }
         let pair = self.pairs.entry((from, to, call.what.clone(), call.code)).or_default();
-        pair.calls += 1;
-        pair.bytes += call.size.saturating_add(call.reply_size);
-        pair.failed += u64::from(!is_done);
-        pair.took = pair.took.saturating_add(ended.took());
-        pair.most = pair.most.max(ended.took());
+        pair.add(call.size.saturating_add(call.reply_size), ended.took(), is_done);
     }
 
     /// Adds the calls that are open now, which no end has counted.
@@ -145,6 +153,69 @@ impl Sums {
             process.taken += it.taken;
             process.window += it.size;
         }
+    }
+}
+
+impl Sums {
+    /// Adds what ends by an event of a kernel's trace.
+    fn add_event(&mut self, event: &CallEvent, following: &Following) {
+        let (call, ended, is_done) = match event {
+            CallEvent::Done(call, doing) => (call, *doing, true),
+            CallEvent::Failed(call, doing, _) => (call, *doing, false),
+            CallEvent::Taken(call) if call.one_way => (call, call.taken.unwrap_or(call.made), true),
+            _ => return,
+        };
+        let (from, to) = (kernels_name(call.made.pid, following), kernels_name(call.to, following));
+        self.calls += 1;
+        let caller = self.processes.entry(from.clone()).or_default();
+        caller.pids.insert(call.made.pid & !OF_THREAD);
+        caller.made += 1;
+        caller.failed += u64::from(!is_done);
+        let server = self.processes.entry(to.clone()).or_default();
+        server.pids.insert(call.to);
+        server.served += u64::from(call.taken.is_some());
+        let what = call.object.map_or(String::new(), |it| following.number(it));
+        let size = call.size.unwrap_or(0).saturating_add(call.replied.and_then(|it| it.1.size()).unwrap_or(0));
+        let took = ended.since(call.made).unwrap_or(0);
+        self.pairs.entry((from, to, what, call.code)).or_default().add(size, took, is_done);
+    }
+
+    /// Adds what a kernel's trace has told.
+    fn see(&mut self, seen: Seen<'_>, following: &Following) {
+        match seen {
+            Seen::Line(_) => self.steps += 1,
+            Seen::Event(event) => self.add_event(event, following),
+            Seen::Verb(_) => {}
+        }
+    }
+
+    /// Adds the calls that are open now.
+    fn add_left(&mut self, following: &Following) {
+        for call in following.left() {
+            let caller = self.processes.entry(kernels_name(call.made.pid, following)).or_default();
+            caller.pids.insert(call.made.pid & !OF_THREAD);
+            caller.waits += u64::from(!call.one_way);
+            if call.taken.is_none() {
+                let server = self.processes.entry(kernels_name(call.to, following)).or_default();
+                server.pids.insert(call.to);
+                server.unread += 1;
+            }
+        }
+    }
+}
+
+/// What a kernel's trace calls a process.
+fn kernels_name(pid: u32, following: &Following) -> String {
+    following.threads.comms.get(pid).map_or_else(|| format!("pid {}", pid & !OF_THREAD), String::from)
+}
+
+impl Pair {
+    fn add(&mut self, size: u64, took: u64, is_done: bool) {
+        self.calls += 1;
+        self.bytes = self.bytes.saturating_add(size);
+        self.failed += u64::from(!is_done);
+        self.took = self.took.saturating_add(took);
+        self.most = self.most.max(took);
     }
 }
 
@@ -228,15 +299,27 @@ impl Screen {
         let (steps, all) = (rate(sums.steps, seconds), rate(sums.calls, seconds));
         let device = &place.device;
         let head = format!("{device}: {steps} steps/s, {all} calls/s, {processes} processes, {threads} threads");
+        Ok(Screen::of_sums(sums, head, seconds))
+    }
+
+    /// What a kernel's events have come to.
+    fn of_kernel(mut sums: Sums, following: &Following, seconds: f64, what: &str) -> Screen {
+        sums.add_left(following);
+        let (events, all) = (rate(sums.steps, seconds), rate(sums.calls, seconds));
+        let head = format!("{what}: {events} events/s, {all} calls/s, {} processes", sums.processes.len());
+        Screen::of_sums(sums, head, seconds)
+    }
+
+    fn of_sums(sums: Sums, head: String, seconds: f64) -> Screen {
         let mut pairs: Vec<_> = sums.pairs.into_iter().collect();
         pairs.sort_by_key(|it| Reverse(it.1.calls));
         let mut told: Vec<_> = sums.processes.into_iter().collect();
         told.sort_by_key(|it| Reverse(it.1.made + it.1.served));
-        Ok(Screen {
+        Screen {
             head,
             pairs: pairs.iter().map(|(key, it)| pair_row(key, it, seconds)).collect(),
             processes: told.iter().map(|(comm, it)| process_row(comm, it, seconds)).collect(),
-        })
+        }
     }
 
     fn pairs(&self, width: usize) -> Vec<String> {
@@ -421,7 +504,78 @@ fn watch(
     }
 }
 
+/// One screen of all of a kernel's trace, by its own time.
+fn put_trace(path: &str) -> Result<()> {
+    let mut trace = match kernel::trace_of(path)? {
+        Some(trace) => trace,
+        None => bail!("{}: this is no trace of a kernel's; `stats` counts the calls of a journal", name(path)),
+    };
+    let (mut sums, mut period) = (Sums::default(), None);
+    let done = trace.each(Range::default(), |seen, following| {
+        if let Seen::Line(Some(now)) = seen {
+            period = Some((period.map_or(now.clock, |it: (u64, u64)| it.0), now.clock));
+        }
+        sums.see(seen, following);
+        Ok(())
+    });
+    let seconds = period.map_or(0.0, |(from, to)| to.saturating_sub(from) as f64 / 1e9).max(1e-6);
+    let screen = Screen::of_kernel(sums, &trace.reader.following, seconds, path);
+    io::stdout().write_all(screen.text(out::width().unwrap_or(WIDE)).as_bytes())?;
+    done
+}
+
+/// What happens in an interval by a kernel's events; None where it is ended before.
+fn watch_kernel(
+    live: &mut Live,
+    interval: Duration,
+    mut wait: impl FnMut() -> Result<bool>,
+) -> Result<Option<(Sums, f64)>> {
+    let begun = Instant::now();
+    let mut sums = Sums::default();
+    loop {
+        let is_last = begun.elapsed() >= interval;
+        let has_any = live.look(&mut |seen, following| {
+            sums.see(seen, following);
+            Ok(())
+        })?;
+        if is_last {
+            return Ok(Some((sums, begun.elapsed().max(interval).as_secs_f64())));
+        }
+        if !has_any && wait()? {
+            return Ok(None);
+        }
+    }
+}
+
+fn top_of_kernel(given: &Top) -> Result<()> {
+    let mut live = Live::begin()?;
+    let interval = Duration::from_secs_f64(given.interval);
+    let of = |live: &Live, sums, seconds| Screen::of_kernel(sums, &live.reader.following, seconds, "kernel");
+    if given.once {
+        let waits = || {
+            sleep(PAUSE);
+            Ok(false)
+        };
+        if let Some((sums, seconds)) = watch_kernel(&mut live, interval, waits)? {
+            io::stdout().write_all(of(&live, sums, seconds).text(out::width().unwrap_or(WIDE)).as_bytes())?;
+        }
+        return Ok(());
+    }
+    let mut shown = Shown::new()?;
+    while let Some((sums, seconds)) = watch_kernel(&mut live, interval, is_ended)? {
+        let screen = of(&live, sums, seconds);
+        shown.0.draw(|frame| draw(frame, &screen))?;
+    }
+    Ok(())
+}
+
 pub fn top(given: &Top) -> Result<()> {
+    if let Some(path) = &given.file {
+        return put_trace(path);
+    }
+    if given.kernel {
+        return top_of_kernel(given);
+    }
     let mut ring = needed_ring(&given.place)?;
     let mut calls = Calls::default();
     let interval = Duration::from_secs_f64(given.interval);

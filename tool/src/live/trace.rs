@@ -1,13 +1,15 @@
 // SPDX-License-Identifier: Apache-2.0 OR MIT
 //! A line for each call, as strace has one for each call of the system.
-use super::calls::{short_code, Call, Calls, End, Ended};
+use super::calls::{Call, Calls, End, Ended};
 use super::daemon::{needed_ring, ring};
 use super::program::{self, Program};
 use super::ring::Ring;
 use super::slot::Party;
 use super::Where;
+use crate::aidl::method_words;
 use crate::out::Palette;
 use crate::times::{duration_words, Moment};
+use crate::told::{Ending, Subject, Told, Unread, Wanted};
 use anyhow::{Context, Result};
 use clap::Args;
 use std::fs::File;
@@ -22,9 +24,14 @@ const PAUSE: Duration = Duration::from_millis(20);
 pub struct Trace {
     #[command(flatten)]
     pub place: Where,
-    /// Only calls that this process makes or serves; may be given again
-    #[arg(long, value_name = "PID")]
-    pub pid: Vec<u32>,
+    #[command(flatten)]
+    pub wanted: Wanted,
+    /// Of this machine's own kernel, by its tracepoints, which needs root; until it is interrupted
+    #[arg(long, conflicts_with_all = ["program", "socket", "device", "past", "once", "file"])]
+    pub kernel: bool,
+    /// Of a recording or a kernel's trace, as `calls` tells them
+    #[arg(long, value_name = "FILE", conflicts_with_all = ["program", "socket", "device", "past", "once", "output"])]
+    pub file: Option<String>,
     /// Also what the daemon still has of before
     #[arg(long)]
     pub past: bool,
@@ -66,71 +73,78 @@ struct Tracing {
 }
 
 impl Tracing {
-    /// The beginning of a line: when, who calls whom, what, with how much.
-    fn head(&self, call: &Call) -> String {
-        let Palette { place, name, text, plain, .. } = &self.palette;
-        let time = Moment::new(call.made, self.ahead).of_day();
-        let (from, to) = (thread_words(&call.from), server_words(call, &self.calls));
-        let (what, code) = (call.what.escape_debug(), short_code(call.code));
-        let one_way = if call.one_way { " one-way" } else { "" };
-        let size = call.size;
-        format!(
-            "{place}{time}{plain} {name}{from}{plain} -> {name}{to}{plain} {text}{what}{code}{plain}{one_way} {size} B"
-        )
+    fn told(&self, call: &Call) -> Told {
+        Told {
+            when: Moment::new(call.made, self.ahead).of_day(),
+            from: thread_words(&call.from),
+            to: server_words(call, &self.calls),
+            what: format!(
+                "{}{}",
+                call.what.escape_debug(),
+                method_words(call.interface.as_deref(), call.code, call.arguments.as_deref())
+            ),
+            one_way: call.one_way,
+            size: Some(call.size),
+            reply_size: Some(call.reply_size),
+            ending: Ending::Open,
+            took: None,
+            unread: call.taken.map_or(Unread::Always, |it| Unread::For(duration_words(it.saturating_sub(call.made)))),
+            passed: String::new(),
+        }
     }
 
     fn line(&self, ended: &Ended) -> String {
-        let Palette { refused, plain, .. } = &self.palette;
-        let call = &ended.call;
-        let end = match ended.end {
-            End::Done if call.one_way => String::new(),
-            End::Done => format!(" = {} B", call.reply_size),
-            End::Failed => format!(" = {refused}no reply{plain}"),
-            End::Left => format!(" = {refused}nobody waits any more{plain}"),
-            End::Refused(it) => format!(" = {refused}{} {}: {}{plain}", it.name(), it.word(), it.text()),
+        let ending = match ended.end {
+            End::Done => Ending::Done,
+            End::Failed => Ending::Failed,
+            End::Left => Ending::Left,
+            End::Refused(it) => Ending::Refused(format!("{} {}: {}", it.name(), it.word(), it.text())),
         };
-        let took = duration_words(ended.took());
-        let lasted = match (ended.end, ended.unread()) {
-            (End::Refused(_), _) => String::new(),
-            (End::Done, Some(_)) if call.one_way => format!(" <{took} unread>"),
-            (_, Some(unread)) => format!(" <{took}, {} unread>", duration_words(unread)),
-            (_, None) => format!(" <{took}, never read>"),
-        };
-        format!("{}{end}{lasted}\n", self.head(call))
+        let took = Some(duration_words(ended.took()));
+        Told { ending, took, ..self.told(&ended.call) }.line(&self.palette)
     }
 
     /// What is still open at the end, oldest first.
     fn unended(&self) -> Vec<(&Call, String)> {
         let mut open: Vec<_> = self.calls.open().collect();
         open.sort_by_key(|it| it.place);
-        open.into_iter().map(|it| (it, format!("{} = open\n", self.head(it)))).collect()
+        open.into_iter().map(|it| (it, self.told(it).line(&self.palette))).collect()
     }
 }
 
 /// Whose calls are told.
-struct Wanted<'a> {
-    pids: &'a [u32],
+struct Chosen<'a> {
+    wanted: &'a Wanted,
     program: Option<Program>,
 }
 
-impl Wanted<'_> {
-    fn has(&mut self, call: &Call, calls: &Calls) -> bool {
-        let server = call.server.as_ref().or_else(|| calls.party(call.to?)).map(|it| it.pid);
-        let pids = [Some(call.from.pid), server];
-        let mut pids = pids.iter().flatten();
-        match &mut self.program {
-            Some(program) => pids.any(|it| program.has(*it)),
-            None => self.pids.is_empty() || pids.any(|it| self.pids.contains(it)),
+impl Chosen<'_> {
+    fn has(&mut self, call: &Call, end: Option<End>, calls: &Calls) -> bool {
+        let server = call.server.as_ref().or_else(|| calls.party(call.to?));
+        let parties =
+            [Some(&call.from), calls.party(call.from.process), server, call.to.and_then(|it| calls.party(it))];
+        let pids: Vec<u32> = [Some(&call.from), server].into_iter().flatten().map(|it| it.pid).collect();
+        if let Some(program) = &mut self.program {
+            if !pids.iter().any(|it| program.has(*it)) {
+                return false;
+            }
         }
+        self.wanted.has(&Subject {
+            pids,
+            comms: parties.into_iter().flatten().map(|it| &*it.comm).collect(),
+            code: call.code,
+            interface: call.interface.as_deref(),
+            has_failed: matches!(end, Some(End::Failed | End::Refused(_) | End::Left)),
+        })
     }
 }
 
 /// Takes what is new, and gives the lines of that.
-fn look(ring: &mut Ring, tracing: &mut Tracing, wanted: &mut Wanted<'_>) -> Result<String> {
+fn look(ring: &mut Ring, tracing: &mut Tracing, wanted: &mut Chosen<'_>) -> Result<String> {
     let mut lines = String::new();
     ring.each(|slot| {
         for ended in tracing.calls.step(slot) {
-            if wanted.has(&ended.call, &tracing.calls) {
+            if wanted.has(&ended.call, Some(ended.end), &tracing.calls) {
                 lines.push_str(&tracing.line(&ended));
             }
         }
@@ -153,7 +167,7 @@ fn open(given: &Trace) -> Result<Ring> {
     }
 }
 
-fn output(given: &Trace) -> Result<Box<dyn Write>> {
+pub fn output(given: &Trace) -> Result<Box<dyn Write>> {
     Ok(match &given.output {
         Some(path) => Box::new(File::create(path).with_context(|| path.clone())?),
         None if given.program.is_empty() => Box::new(io::stdout()),
@@ -166,7 +180,7 @@ pub fn trace(given: &Trace, palette: Palette) -> Result<u8> {
     let (mut ring, mut to) = (open(given)?, output(given)?);
     let palette = if given.output.is_some() { Palette::default() } else { palette };
     let mut tracing = Tracing { calls: Calls::default(), ahead: ring.ahead, palette };
-    let mut wanted = Wanted { pids: &given.pid, program: None };
+    let mut wanted = Chosen { wanted: &given.wanted, program: None };
     // What was before tells what things are called, whether its calls are wanted or not.
     let past = look(&mut ring, &mut tracing, &mut wanted)?;
     ring.lost = 0;
@@ -189,7 +203,7 @@ pub fn trace(given: &Trace, palette: Palette) -> Result<u8> {
         sleep(PAUSE);
     };
     for (call, line) in tracing.unended() {
-        if wanted.has(call, &tracing.calls) {
+        if wanted.has(call, None, &tracing.calls) {
             to.write_all(line.as_bytes())?;
         }
     }

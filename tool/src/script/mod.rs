@@ -1,22 +1,26 @@
 // SPDX-License-Identifier: Apache-2.0 OR MIT
 //! Scripts in which seats, numbers and parcels have names. They come to the scripts of docs/FORMATS.md, line by line, so what they
 //! mean is what these mean: each line of a script stands at its number there too, and what is only for us leaves an empty one.
+mod engine;
 mod expects;
 mod parcels;
 mod reader;
+#[cfg(feature = "repl")]
 mod repl;
+mod room;
 mod runs;
 mod told;
 mod verbs;
 mod words;
 
+#[cfg(feature = "repl")]
 pub use repl::repl;
 pub use runs::Setting;
 
 use crate::play::name;
 use anyhow::{bail, Context, Result};
 use reader::{Line, Reader};
-use repl::Room;
+use room::Room;
 use runs::Run;
 use std::fs;
 use std::io::{self, Read, Write};

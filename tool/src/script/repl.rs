@@ -2,6 +2,7 @@
 //! Scripts line by line: each is played with those before it, and what came of it is shown as `show` does.
 use super::expects::Expected;
 use super::reader::{Line, Reader, Said};
+use super::room::Room;
 use super::runs::{Answer, Run, Setting};
 use super::{spelled, Fault};
 use crate::play::{Player, Range};
@@ -10,10 +11,8 @@ use crate::state;
 use anyhow::{Context, Result};
 use rustyline::error::ReadlineError;
 use rustyline::Editor;
-use std::fs::{self, DirBuilder};
+use std::fs;
 use std::io::{self, Write};
-use std::os::unix::fs::DirBuilderExt;
-use std::path::PathBuf;
 
 const HELP: &str = "\
 seats NAME ..          who there is; the first line
@@ -26,29 +25,6 @@ expect ..              accepted, got BR_REPLY data .., X5, BadObject, of the lin
 :save FILE             writes the lines
 :quit                  as the end of the input does
 ";
-
-/// A folder of one's own, which goes in the end.
-pub struct Room(PathBuf);
-
-impl Room {
-    pub fn new() -> Result<Room> {
-        let path = std::env::temp_dir().join(format!("hullpippin-{}", std::process::id()));
-        // Nobody else may have made it: it is made here, or it isn't used.
-        DirBuilder::new().mode(0o700).create(&path).with_context(|| path.display().to_string())?;
-        Ok(Room(path))
-    }
-
-    pub fn journal(&self) -> String {
-        self.0.join("journal").display().to_string()
-    }
-}
-
-impl Drop for Room {
-    fn drop(&mut self) {
-        // What can't be taken away is nobody's harm.
-        let _ = fs::remove_dir_all(&self.0);
-    }
-}
 
 /// The lines that were typed so far, and what they have come to.
 struct Session {
@@ -176,6 +152,7 @@ impl Session {
 
 /// Reads lines until their end.
 pub fn repl(setting: Setting, style: Style) -> Result<()> {
+    setting.check()?;
     let run = Run::new(Some(setting));
     let (reader, before, lines, room) = (Reader::default(), Vec::new(), Vec::new(), Room::new()?);
     let mut session = Session { reader, before, lines, run, room, style, has_played: false };

@@ -3,13 +3,14 @@
 use super::parcels::{bytes_of, Laid};
 use super::reader::{Line, Said};
 use super::verbs::{Latest, Number, Part};
-use super::Fault;
+use super::{engine, Fault};
 use crate::codes::{Payload, Returns};
 use crate::record::Parcel;
 use crate::refusals::Reason;
 use anyhow::{bail, Context, Result};
 use std::collections::BTreeMap;
-use std::io::Write;
+use std::fs;
+use std::io::{ErrorKind, Write};
 use std::process::{Command, Stdio};
 
 /// The player by which scripts are played, and how patiently.
@@ -186,13 +187,14 @@ impl Run {
         let turns = setting.turns.to_string();
         let mut command = Command::new(&setting.player);
         command.args(["run", "-", "--turns", &turns]).args(journal.into_iter().flat_map(|it| ["--journal", it]));
-        let mut child = command
-            .stdin(Stdio::piped())
-            .stdout(Stdio::piped())
-            .stderr(Stdio::piped())
-            .spawn()
-            .with_context(|| format!("the player {}", setting.player))?;
+        let child = command.stdin(Stdio::piped()).stdout(Stdio::piped()).stderr(Stdio::piped()).spawn();
         let script = self.script();
+        let mut child = match child {
+            Err(error) if setting.is_on_path() && error.kind() == ErrorKind::NotFound => {
+                return self.play_by_library(&script, journal);
+            }
+            child => child.with_context(|| format!("the player {}", setting.player))?,
+        };
         if let Some(mut stdin) = child.stdin.take() {
             // A player that ends without reading on says why.
             let _ = stdin.write_all(script.as_bytes());
@@ -202,10 +204,48 @@ impl Run {
         if !matches!(done.status.code(), Some(0 | 2)) {
             bail!("the player {}: {}", setting.player, String::from_utf8_lossy(&done.stderr).trim_end());
         }
-        self.printed = String::from_utf8_lossy(&done.stdout).into_owned();
+        self.take(String::from_utf8_lossy(&done.stdout).into_owned());
+        Ok(())
+    }
+
+    /// What was printed of all lines.
+    fn take(&mut self, printed: String) {
+        self.printed = printed;
         self.answers = self.printed().map(|(number, text)| (number, Answer::read(text))).collect();
         self.played = self.lines.len();
+    }
+
+    /// Plays all lines by the library, where there is no player.
+    fn play_by_library(&mut self, script: &str, journal: Option<&str>) -> Result<()> {
+        let played = engine::played(script).context("there is no bplay, and the library plays no script")?;
+        if let Some(path) = journal {
+            fs::write(path, &played.journal).with_context(|| path.to_string())?;
+        }
+        self.take(played.printed);
         Ok(())
+    }
+}
+
+impl Setting {
+    /// Whether the player is one that is looked for on the path, and not a file that was named.
+    fn is_on_path(&self) -> bool {
+        !self.player.contains('/')
+    }
+
+    /// Sees that there is something to play by: a player, or the library.
+    pub fn check(&self) -> Result<()> {
+        let known = Command::new(&self.player)
+            .arg("--version")
+            .stdin(Stdio::null())
+            .stdout(Stdio::null())
+            .stderr(Stdio::null())
+            .status();
+        match known {
+            Err(error) if self.is_on_path() && error.kind() == ErrorKind::NotFound => engine::check()
+                .with_context(|| format!("there is no player {}, and no library plays in its place", self.player)),
+            Err(error) => Err(error).with_context(|| format!("the player {}", self.player)),
+            Ok(_) => Ok(()),
+        }
     }
 }
 

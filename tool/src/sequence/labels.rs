@@ -1,6 +1,6 @@
 // SPDX-License-Identifier: Apache-2.0 OR MIT
 //! What is written beside marks, arrows and spans: numbers, words and commas, nothing that SVG or Mermaid takes for anything else.
-use super::model::{Arrow, Diagram, Doing, Event, Kind, Row, Span};
+use super::model::{Arrow, Diagram, Doing, Event, Kind, Row, Span, Target};
 use crate::parcel::letters;
 
 /// A code with its letters, where these are letters and digits.
@@ -14,12 +14,19 @@ pub fn plain(name: &str) -> String {
     name.chars().map(|it| if it.is_alphanumeric() || " ._-:/".contains(it) { it } else { '_' }).collect()
 }
 
+fn target_words(target: Target) -> String {
+    match target {
+        Target::Handle(handle) => format!("handle {handle}"),
+        Target::Node(node) => format!("node {node}"),
+    }
+}
+
 /// What is sent, in a word or two.
 pub fn kind_words(kind: Kind) -> String {
     match kind {
-        Kind::Call { handle, code } => format!("call, handle {handle}, code {}", code_words(code)),
-        Kind::OneWay { handle, code, turn } => {
-            format!("one-way, handle {handle}, code {}, turn {turn}", code_words(code))
+        Kind::Call { target, code } => format!("call, {}, code {}", target_words(target), code_words(code)),
+        Kind::OneWay { target, code, turn } => {
+            format!("one-way, {}, code {}, turn {turn}", target_words(target), code_words(code))
         }
         Kind::Reply { call } => format!("reply to {call}"),
     }
@@ -60,7 +67,8 @@ pub fn row_words(diagram: &Diagram, row: &Row) -> String {
         Event::ManagerSet => "becomes the manager".into(),
         Event::SpamSet(true) => "asks for reports of flooding".into(),
         Event::SpamSet(false) => "asks for no more reports of flooding".into(),
-        Event::Death(cookie) => format!("is told of a death, cookie {cookie:#x}"),
+        Event::Death(Some(cookie)) => format!("is told of a death, cookie {cookie:#x}"),
+        Event::Death(None) => "is told of a death".into(),
         Event::DeadReply => "reads BR_DEAD_REPLY".into(),
         Event::FailedReply => "reads BR_FAILED_REPLY".into(),
         Event::SpamSuspect => "reads BR_ONEWAY_SPAM_SUSPECT".into(),

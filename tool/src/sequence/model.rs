@@ -14,16 +14,24 @@ pub struct Lane {
     pub name: Option<String>,
 }
 
+/// What is called, as its teller knows it.
+#[derive(Clone, Copy, Debug)]
+pub enum Target {
+    Handle(u32),
+    /// By a kernel's number.
+    Node(u64),
+}
+
 /// What is sent from one thread to another.
 #[derive(Clone, Copy, Debug)]
 pub enum Kind {
     Call {
-        handle: u32,
+        target: Target,
         code: u32,
     },
     /// Its turn among the one-way calls on its object, from 1.
     OneWay {
-        handle: u32,
+        target: Target,
         code: u32,
         turn: u32,
     },
@@ -90,8 +98,8 @@ pub enum Event {
     Sent(usize),
     /// A transaction or reply was handed out, by its arrow.
     Got(usize),
-    /// A death was told, by the notification's cookie.
-    Death(u64),
+    /// A death was told, by the notification's cookie where that is known.
+    Death(Option<u64>),
     DeadReply,
     FailedReply,
     SpamSuspect,

@@ -1,6 +1,6 @@
 // SPDX-License-Identifier: Apache-2.0 OR MIT
 //! A range of a recording as a diagram.
-use super::model::{Arrow, Diagram, End, Event, Kind};
+use super::model::{Arrow, Diagram, End, Event, Kind, Target};
 use super::tracks::{Sheet, Tracks};
 use crate::codes::*;
 use crate::journal::{Answer, Entry, Step};
@@ -83,16 +83,16 @@ impl Plot {
         if command.code.number == BC_REPLY {
             return Some(Kind::Reply { call: facts.answers? });
         }
-        let (handle, code) = (record.handle(), record.code);
+        let (target, code) = (Target::Handle(record.handle()), record.code);
         if !record.is_one_way() {
-            return Some(Kind::Call { handle, code });
+            return Some(Kind::Call { target, code });
         }
         let turn = facts.object.map_or(0, |it| {
             let turn = self.turns.entry(it).or_insert(0);
             *turn += 1;
             *turn
         });
-        Some(Kind::OneWay { handle, code, turn })
+        Some(Kind::OneWay { target, code, turn })
     }
 
     /// Draws what it means that this return was read.
@@ -100,7 +100,7 @@ impl Plot {
         let cookie = if let Payload::Cookie(cookie) = message.payload { cookie } else { 0 };
         let event = match (message.code.number, about) {
             (BR_TRANSACTION | BR_REPLY, About::Sent(sent)) => return self.get(place, seat, sent.made),
-            (BR_DEAD_BINDER, _) => Event::Death(cookie),
+            (BR_DEAD_BINDER, _) => Event::Death(Some(cookie)),
             (BR_DEAD_REPLY, _) => Event::DeadReply,
             (BR_FAILED_REPLY, _) => Event::FailedReply,
             (BR_ONEWAY_SPAM_SUSPECT, _) => Event::SpamSuspect,

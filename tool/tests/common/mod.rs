@@ -324,6 +324,18 @@ pub fn printed(words: &[&str]) -> String {
     String::from_utf8(done.stdout).expect("text")
 }
 
+/// What `show` prints of the entries that are chosen. That there are none is said, and ends with status 1.
+pub fn chosen(words: &[&str]) -> String {
+    let done = run(words);
+    let said = String::from_utf8_lossy(&done.stderr);
+    if !done.stdout.is_empty() || said.is_empty() {
+        return printed(words);
+    }
+    assert!(said.ends_with(": no entry is as chosen\n") && said.lines().count() == 1, "{words:?}: {said}");
+    assert_eq!(done.status.code(), Some(1), "{words:?}");
+    String::new()
+}
+
 /// The data that stand in a page of `diagram`.
 pub fn page_data(page: &str) -> serde_json::Value {
     let begin = "<script type=\"application/json\" id=\"data\">";

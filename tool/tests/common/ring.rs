@@ -21,7 +21,7 @@ const IS_OVER_AT: u64 = 36;
 /// Who makes a step: a seat, the pid in the history, that of the system, the tid and the name.
 pub type Who = (u32, u32, u32, u32, &'static str);
 
-/// One of a step's four-byte fields, by where it stands.
+/// One of a step's fields, by where it stands.
 pub mod field {
     pub const COMMAND: usize = 44;
     pub const HANDLE: usize = 48;
@@ -29,10 +29,12 @@ pub mod field {
     pub const FLAGS: usize = 56;
     pub const OTHER: usize = 60;
     pub const CALL: usize = 64;
-    pub const OBJECT_PLACE: usize = 68;
-    pub const OBJECT_INDEX: usize = 72;
-    pub const DATA_SIZE: usize = 88;
-    pub const OFFSETS_SIZE: usize = 96;
+    pub const OBJECT_PLACE: usize = 72;
+    pub const OBJECT_INDEX: usize = 80;
+    pub const DATA_SIZE: usize = 96;
+    pub const OFFSETS_SIZE: usize = 104;
+    /// Those of eight bytes.
+    pub const LONG: [usize; 4] = [CALL, OBJECT_PLACE, DATA_SIZE, OFFSETS_SIZE];
 }
 
 /// What was done and what came of it, as a journal's first bytes have it, and a number.
@@ -45,7 +47,7 @@ pub struct Step {
     pub after: u64,
     pub who: Who,
     pub kind: Kind,
-    pub fields: Vec<(usize, u32)>,
+    pub fields: Vec<(usize, u64)>,
     pub data: Vec<u8>,
 }
 
@@ -56,16 +58,17 @@ fn slot(place: u64, step: &Step) -> Vec<u8> {
     bytes[0..8].copy_from_slice(&(2 * place + 2).to_le_bytes());
     bytes[8..16].copy_from_slice(&(STARTED + step.after).to_le_bytes());
     bytes[16..24].copy_from_slice(&place.to_le_bytes());
-    let absent = [(field::CALL, u32::MAX), (field::OBJECT_PLACE, u32::MAX), (field::OBJECT_INDEX, u32::MAX)];
-    let whose = [(24, seat), (28, pid), (32, tid), (36, process)];
+    let absent = [(field::CALL, u64::MAX), (field::OBJECT_PLACE, u64::MAX)];
+    let whose = [(24, seat), (28, pid), (32, tid), (36, process)].map(|(at, number)| (at, u64::from(number)));
     for (at, number) in absent.iter().chain(&whose).chain(&step.fields) {
-        bytes[*at..*at + 4].copy_from_slice(&number.to_le_bytes());
+        let size = if field::LONG.contains(at) { 8 } else { 4 };
+        bytes[*at..*at + size].copy_from_slice(&number.to_le_bytes()[..size]);
     }
     bytes[40..43].copy_from_slice(&[step.kind.0, step.kind.1, step.kind.2]);
-    bytes[43] = step.data.len().min(240) as u8;
-    bytes[128..128 + comm.len()].copy_from_slice(comm.as_bytes());
-    let kept = step.data.len().min(240);
-    bytes[144..144 + kept].copy_from_slice(&step.data[..kept]);
+    bytes[43] = step.data.len().min(232) as u8;
+    bytes[136..136 + comm.len()].copy_from_slice(comm.as_bytes());
+    let kept = step.data.len().min(232);
+    bytes[152..152 + kept].copy_from_slice(&step.data[..kept]);
     bytes
 }
 
@@ -79,7 +82,7 @@ pub struct Ring {
 
 impl Ring {
     pub fn new(name: &str, slots: u32) -> Ring {
-        let mut heading = b"HPRING01".to_vec();
+        let mut heading = b"HPRING02".to_vec();
         heading.extend([HEADING as u32, SLOT as u32, slots, 9].map(u32::to_le_bytes).concat());
         heading.extend((EPOCH - STARTED).to_le_bytes());
         heading.resize(HEADING + SLOT * slots as usize, 0);
@@ -112,13 +115,41 @@ fn listening(name: &str) -> (PathBuf, RawFd) {
     (path, end)
 }
 
-/// A record of what goes on, as clients/protocol.h lays it out: its kind, numbers by their places behind that, a name.
-pub fn record(kind: u32, numbers: &[(usize, u32)], comm: &str) -> Vec<u8> {
-    let mut bytes = vec![0; 112];
-    for (index, number) in [(0, kind)].iter().chain(numbers) {
-        bytes[4 * index..4 * index + 4].copy_from_slice(&number.to_le_bytes());
+/// Where the fields of a record of what goes on stand, as clients/protocol.h lays them out: the first three have eight bytes.
+pub mod told {
+    pub const INNERMOST: usize = 0;
+    pub const OBJECT_PLACE: usize = 8;
+    pub const MADE: usize = 16;
+    pub const KIND: usize = 24;
+    pub const PROCESS: usize = 28;
+    pub const PID: usize = 32;
+    pub const TID: usize = 36;
+    pub const SEAT: usize = 40;
+    pub const EUID: usize = 44;
+    pub const FLAGS: usize = 48;
+    pub const WINDOW: usize = 52;
+    pub const THREADS: usize = 56;
+    pub const MAX_THREADS: usize = 60;
+    pub const STARTED: usize = 68;
+    pub const SERVING: usize = 72;
+    pub const CALLING: usize = 76;
+    pub const UNREAD: usize = 80;
+    pub const HANDLE: usize = 84;
+    pub const OBJECT_INDEX: usize = 88;
+    pub const PARTY: usize = 92;
+    pub const START: usize = 96;
+    pub const SIZE: usize = 100;
+    pub const CODE: usize = 104;
+}
+
+/// Such a record: its kind, numbers, a name.
+pub fn record(kind: u64, numbers: &[(usize, u64)], comm: &str) -> Vec<u8> {
+    let mut bytes = vec![0; 128];
+    for (at, number) in [(told::KIND, kind)].iter().chain(numbers) {
+        let size = if *at < told::KIND { 8 } else { 4 };
+        bytes[*at..*at + size].copy_from_slice(&number.to_le_bytes()[..size]);
     }
-    bytes[96..96 + comm.len()].copy_from_slice(comm.as_bytes());
+    bytes[112..112 + comm.len()].copy_from_slice(comm.as_bytes());
     bytes
 }
 
@@ -146,7 +177,7 @@ pub fn telling(name: &str, pages: Vec<Vec<Vec<u8>>>, error: i32) -> Kept {
             let mut page = [error.to_le_bytes(), (records.len() as u32).to_le_bytes()].concat();
             page.extend([30u64, next[0], next[1]].map(u64::to_le_bytes).concat());
             page.extend(records.concat());
-            page.resize(32 + 16 * 112, 0xff);
+            page.resize(32 + 16 * 128, 0xff);
             send(peer, &page, MsgFlags::MSG_NOSIGNAL).expect("an answer");
         }
         close(peer).expect("a connection");

@@ -1,0 +1,87 @@
+// SPDX-License-Identifier: Apache-2.0 OR MIT
+//! What is told of the place at which no order goes on.
+use super::machine::Machine;
+use super::steps::*;
+use crate::codes::return_name;
+use crate::rules::{Item, Seat, Space};
+use std::fmt::Write as _;
+
+fn item(item: &Item) -> String {
+    match *item {
+        Item::Notice(object) => format!("a notice of ptr {:#x}", object.1),
+        Item::Complete(_) => "a completion".into(),
+        Item::Refusal(code) | Item::Verdict(code) => return_name(code).into(),
+        Item::Call(_) => "a call".into(),
+        Item::Reply(_) => "a reply".into(),
+        Item::Death(_) => "a death".into(),
+        Item::Cleared(_) => "a cleared notification".into(),
+    }
+}
+
+fn got(got: &Got) -> String {
+    let words = |(code, word): &(u32, u64)| match word {
+        0 => return_name(*code).to_string(),
+        word => format!("{} {word:#x}", return_name(*code)),
+    };
+    got.kinds.iter().map(words).collect::<Vec<_>>().join(", ")
+}
+
+/// What a step is, in a few words.
+pub fn step(step: &Step) -> String {
+    match (&step.act, &step.wanted) {
+        (Act::Open, _) => "opens the device".into(),
+        (Act::Attach, _) => "makes its first call".into(),
+        (Act::Manager, _) => "asks to be the context manager".into(),
+        (Act::Spam(_), _) => "asks for reports of flooding".into(),
+        (Act::ExitThread, _) => "leaves".into(),
+        (Act::End, _) => "ends".into(),
+        (Act::Command(command), wanted) => {
+            let mut text = command.message.code.name.to_string();
+            if let crate::codes::Payload::Handle(handle) = command.message.payload {
+                let _ = write!(text, " of handle {handle}");
+            }
+            if let Some(record) = command.message.record() {
+                let _ = write!(text, " to handle {} code {:#x}", record.handle(), record.code);
+            }
+            match wanted {
+                Wanted::Taken => text + ", which was taken",
+                Wanted::Refused => text + ", which was refused",
+                Wanted::Fails => text + ", which failed",
+                _ => text,
+            }
+        }
+        (Act::Number(_), _) => "numbers the objects of its parcel".into(),
+        (Act::Queue, _) => "queues its parcel".into(),
+        (Act::Finish, _) => "lets go of names".into(),
+        (Act::Read(_), Wanted::Got(it)) => format!("reads {}", got(it)),
+        (Act::Read(_), _) => "reads, and there is nothing".into(),
+    }
+}
+
+/// What each track would have to do next, and what there is for it by the rules.
+pub fn heads(machine: &Machine<'_>, space: &Space, done: &[u32]) -> Vec<String> {
+    let mut found = Vec::new();
+    for (number, track) in machine.recording.tracks.iter().enumerate() {
+        let next = match machine.step(number, done[number]) {
+            Some(step) if track.tid.is_some() => step,
+            _ => continue,
+        };
+        let todo = space.list_to_read(number as Seat).and_then(|it| space.list(it));
+        let items =
+            todo.map_or(String::new(), |it| it.iter().take(4).map(|it| item(&it.item)).collect::<Vec<_>>().join(", "));
+        let pid = machine.recording.processes[track.process].pid;
+        found.push((
+            next.end,
+            format!(
+                "{pid}/{} {} [{} {}]; by the rules there is for it: {}",
+                track.tid.unwrap_or(0),
+                step(next),
+                next.begin / 1000,
+                if next.end == NEVER { "-".into() } else { (next.end / 1000).to_string() },
+                if items.is_empty() { "nothing" } else { &items }
+            ),
+        ));
+    }
+    found.sort();
+    found.into_iter().map(|it| it.1).collect()
+}

@@ -1,0 +1,153 @@
+// SPDX-License-Identifier: Apache-2.0 OR MIT
+//! What a bug report has of the driver's files. dumpstate writes each behind a heading, `------ BINDER STATE (PATH: DATE) ------`, and
+//! ends it by how long that took, `------ 0.012s was the duration of 'BINDER STATE' ------`; so it is known, and no report of a phone
+//! was at hand.
+use super::lines::Lines;
+use anyhow::{bail, ensure, Context, Result};
+use std::fs::File;
+use std::io::{BufRead, BufReader, Read, Seek};
+use zip::ZipArchive;
+
+/// No more is read of a report that is zipped, and no more is kept of a part.
+const MOST_TEXT: u64 = 1 << 30;
+const MOST_PART: usize = 1 << 26;
+/// The file of a zipped report that says which one is the report itself.
+const MAIN: &str = "main_entry.txt";
+
+/// Parts by their headings.
+const HEADINGS: [(&str, Part); 5] = [
+    ("BINDER FAILED TRANSACTION LOG", Part::Failed),
+    ("BINDER TRANSACTION LOG", Part::Log),
+    ("BINDER TRANSACTIONS", Part::Transactions),
+    ("BINDER STATS", Part::Stats),
+    ("BINDER STATE", Part::State),
+];
+
+#[derive(Clone, Copy, Debug, PartialEq, Eq)]
+pub enum Part {
+    State,
+    Stats,
+    Transactions,
+    Log,
+    Failed,
+}
+
+impl Part {
+    pub fn name(self) -> &'static str {
+        HEADINGS.iter().find(|it| it.1 == self).map_or("?", |it| it.0)
+    }
+}
+
+/// The part that a line begins, if it is the heading of one.
+fn heading(line: &[u8]) -> Option<Part> {
+    let rest = line.strip_prefix(b"------ ")?;
+    let is = |name: &str| rest.strip_prefix(name.as_bytes()).map_or(false, |it| it.starts_with(b" ("));
+    HEADINGS.iter().find(|it| is(it.0)).map(|it| it.1)
+}
+
+/// Takes the parts out of a report's text: the first of each kind.
+pub fn parts(lines: &mut Lines<'_>) -> Result<Vec<(Part, Vec<u8>)>> {
+    let mut found: Vec<(Part, Vec<u8>)> = Vec::new();
+    let mut is_within = false;
+    while let Some(line) = lines.next()? {
+        if line.starts_with(b"------ ") {
+            let part = heading(line).filter(|it| found.iter().all(|known| known.0 != *it));
+            is_within = part.is_some();
+            found.extend(part.map(|it| (it, Vec::new())));
+        } else if let (true, Some((part, text))) = (is_within, found.last_mut()) {
+            // dumpstate says so where it couldn't read a file.
+            if line.starts_with(b"*** ") {
+                is_within = false;
+                continue;
+            }
+            text.extend(line);
+            text.push(b'\n');
+            ensure!(text.len() < MOST_PART, "its part {} has more than {MOST_PART} bytes", part.name());
+        }
+    }
+    // A part that is cut is known as one by its own last line.
+    ensure!(!found.is_empty() || lines.check_end().is_ok(), "it breaks off before any part of Binder's");
+    if lines.check_end().is_err() && is_within {
+        bail!("it breaks off within {}", found.last().map_or("?", |it| it.0.name()));
+    }
+    Ok(found)
+}
+
+/// The report within a zip file.
+pub fn unzipped(path: &str) -> Result<Vec<(Part, Vec<u8>)>> {
+    if path == "-" {
+        bail!("a zip file is read from its end, so it has to be a file");
+    }
+    unzip(BufReader::new(File::open(path)?))
+}
+
+/// The report within what is zipped.
+pub fn unzip(input: impl Read + Seek) -> Result<Vec<(Part, Vec<u8>)>> {
+    let mut archive = ZipArchive::new(input).context("it can't be unzipped")?;
+    let name = main_name(&mut archive)?;
+    let entry = archive.by_name(&name).with_context(|| format!("{name} can't be unzipped"))?;
+    let mut limited = entry.take(MOST_TEXT);
+    let found = {
+        let input: Box<dyn BufRead + '_> = Box::new(BufReader::with_capacity(1 << 16, &mut limited));
+        parts(&mut Lines::new(input)).with_context(|| name.clone())
+    };
+    if limited.limit() == 0 {
+        bail!("{name} has more than {MOST_TEXT} bytes, so it isn't read");
+    }
+    found
+}
+
+/// Which file is the report: the one that is said to be, else the first text that is called so.
+fn main_name<R: Read + Seek>(archive: &mut ZipArchive<R>) -> Result<String> {
+    const MOST_NAME: u64 = 4096;
+    let mut said = String::new();
+    if let Ok(entry) = archive.by_name(MAIN) {
+        entry.take(MOST_NAME).read_to_string(&mut said).with_context(|| MAIN.to_string())?;
+    }
+    let said = said.trim().to_string();
+    let names: Vec<&str> = archive.file_names().collect();
+    let mut texts: Vec<&str> = names.iter().copied().filter(|it| !it.contains('/') && it.ends_with(".txt")).collect();
+    texts.sort_unstable();
+    let is_report = |it: &&&str| it.starts_with("bugreport") || it.starts_with("dumpstate");
+    let found = names.iter().find(|it| **it == said && !said.is_empty()).or_else(|| texts.iter().find(is_report));
+    found
+        .map(|it| it.to_string())
+        .context("there is no bug report in it: no main_entry.txt that names one, no bugreport-*.txt")
+}
+
+#[cfg(test)]
+mod tests {
+    use super::*;
+
+    const TEXT: &str = "\
+== dumpstate: 2026-11-29 05:20:07
+------ UPTIME (uptime) ------
+------ BINDER FAILED TRANSACTION LOG (/dev/binderfs/binder_logs/failed_transaction_log: 2026-11-29 05:20:07) ------
+*** Error dumping /dev/binderfs/binder_logs/failed_transaction_log
+------ BINDER STATE (/sys/kernel/debug/binder/state) ------
+binder state:
+proc 5
+------ 0.012s was the duration of 'BINDER STATE' ------
+else
+------ BINDER STATE (/sys/kernel/debug/binder/state) ------
+again
+";
+
+    fn of(text: &str) -> Result<Vec<(Part, Vec<u8>)>> {
+        parts(&mut Lines::new(Box::new(text.as_bytes())))
+    }
+
+    #[test]
+    fn parts_stand_between_their_headings() {
+        let found = of(TEXT).unwrap();
+        assert_eq!(found, [(Part::Failed, vec![]), (Part::State, b"binder state:\nproc 5\n".to_vec())]);
+    }
+
+    #[test]
+    fn a_report_that_breaks_off_is_told() {
+        let at = TEXT.find("proc 5").expect("a process");
+        assert_eq!(of(&TEXT[..at + 3]).unwrap_err().to_string(), "it breaks off within BINDER STATE");
+        assert_eq!(of(&TEXT[..at + 7]).unwrap().len(), 2, "what is cut between lines may be whole");
+        assert_eq!(of(&TEXT[..9]).unwrap_err().to_string(), "it breaks off before any part of Binder's");
+    }
+}

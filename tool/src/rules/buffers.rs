@@ -1,0 +1,361 @@
+// SPDX-License-Identifier: Apache-2.0 OR MIT
+//! Parcels, and the windows to which they come.
+use super::*;
+use crate::record::{needed, u32_at, u64_at, Kind, Record, KINDS, OBJECT_SIZE};
+use std::rc::Rc;
+
+/// The pointer of a window's first byte.
+pub const FIRST_POINTER: u64 = 65536;
+
+/// An object that a buffer holds: how strongly, and the receiver's number for it; None where it is the receiver's own.
+pub type Entry = (ObjectId, usize, Option<u32>);
+
+/// A parcel in its receiver's window.
+#[derive(Clone, Debug, PartialEq, Eq)]
+pub struct Buffer {
+    pub sender: ProcessId,
+    pub sender_euid: u32,
+    pub code: u32,
+    pub flags: u32,
+    /// As the receiver sees them.
+    pub data: Rc<[u8]>,
+    pub offsets: Rc<[u8]>,
+    pub needed: u64,
+    pub is_one_way: bool,
+    pub is_handed: bool,
+    pub is_suspect: bool,
+    pub target: Option<ObjectId>,
+    pub frame: Option<FrameId>,
+    pub entries: Rc<[Entry]>,
+    /// The step that sent it.
+    pub sent: u64,
+    /// What its reader calls it; 0 before that, or where it has no word for it.
+    pub key: u64,
+    /// The driver's number of the transaction, where it is known; else 0.
+    pub id: u64,
+}
+
+/// A parcel as it is written.
+#[derive(Clone, Copy, Debug)]
+pub struct Sent<'a> {
+    pub record: Record,
+    /// None where the parts lie outside of the area.
+    pub parcel: Option<(&'a [u8], &'a [u8])>,
+}
+
+/// An object of a parcel: where it stands, and what stands there.
+#[derive(Clone, Copy, Debug)]
+struct Flat {
+    offset: usize,
+    kind: Kind,
+    flags: u32,
+    value: u64,
+    cookie: u64,
+}
+
+/// The objects of a parcel up to the first faulty one, and the cause which that is.
+fn walk(data: &[u8], offsets: &[u8]) -> (Vec<Flat>, Option<u8>) {
+    let (mut found, mut least) = (Vec::new(), 0);
+    if offsets.len() % 8 != 0 {
+        return (found, Some(8));
+    }
+    for at in (0..offsets.len()).step_by(8) {
+        let offset = u64_at(offsets, at);
+        let end = offset.checked_add(OBJECT_SIZE as u64);
+        if offset % 4 != 0 || offset < least || end.map_or(true, |it| it > data.len() as u64) {
+            return (found, Some(9));
+        }
+        let offset = offset as usize;
+        let number = u32_at(data, offset);
+        let kind = match KINDS.iter().find(|it| it.1 == number).map(|it| it.0) {
+            Some(kind @ (Kind::Binder | Kind::WeakBinder | Kind::Handle | Kind::WeakHandle)) => kind,
+            Some(_) => return (found, Some(10)),
+            None => return (found, Some(9)),
+        };
+        let (flags, value, cookie) = (u32_at(data, offset + 4), u64_at(data, offset + 8), u64_at(data, offset + 16));
+        found.push(Flat { offset, kind, flags, value, cookie });
+        least = offset as u64 + OBJECT_SIZE as u64;
+    }
+    (found, None)
+}
+
+fn put_flat(data: &mut [u8], offset: usize, kind: Kind, flags: u32, value: u64, cookie: u64) {
+    data[offset..offset + 4].copy_from_slice(&kind.number().to_le_bytes());
+    data[offset + 4..offset + 8].copy_from_slice(&flags.to_le_bytes());
+    data[offset + 8..offset + 16].copy_from_slice(&value.to_le_bytes());
+    data[offset + 16..offset + 24].copy_from_slice(&cookie.to_le_bytes());
+}
+
+impl Space {
+    pub fn buffer(&self, buffer: BufferId) -> Option<&Buffer> {
+        self.processes.get(buffer.0)?.buffers.get(buffer.1)
+    }
+
+    /// What a buffer's reader calls it.
+    pub fn name_buffer(&mut self, buffer: BufferId, key: u64) {
+        if let Some(it) = self.buffer_mut(buffer) {
+            it.key = key;
+        }
+    }
+
+    pub(super) fn buffer_mut(&mut self, buffer: BufferId) -> Option<&mut Buffer> {
+        self.processes.get_mut(buffer.0)?.buffers.get_mut(buffer.1)
+    }
+
+    /// The objects that a parcel names up to the first that may not be sent, and the cause which that is. New ones have to be made.
+    fn resolve(&mut self, process: ProcessId, flats: &[Flat]) -> (Vec<(Kind, ObjectId)>, Option<u8>) {
+        let mut found = Vec::new();
+        for (at, flat) in flats.iter().enumerate() {
+            let object = if flat.kind.is_binder() {
+                let object = (process, flat.value);
+                let earlier = flats[..at].iter().find(|it| it.kind.is_binder() && it.value == flat.value);
+                let known = self.objects.get(object).map(|it| it.cookie).or(earlier.map(|it| it.cookie));
+                if known.map_or(false, |it| it != flat.cookie) {
+                    self.lost(object, WEAK);
+                    return (found, Some(11));
+                }
+                object
+            } else {
+                match self.name(process, flat.value as u32) {
+                    Some(name) if flat.kind != Kind::Handle || name.count(STRONG) > 0 => name.object,
+                    _ => return (found, Some(12)),
+                }
+            };
+            found.push((flat.kind, object));
+        }
+        (found, None)
+    }
+
+    /// Where a buffer may start: the least place by the rules, in the smallest hole by the driver.
+    fn place_for(&self, process: &Process, needed: u64) -> Option<u64> {
+        let (mut at, mut best): (u64, Option<(u64, u64)>) = (0, None);
+        let ends = process.buffers.iter().map(|(place, it)| (place, place + it.needed));
+        for (place, end) in ends.chain(Some((process.window, 0))) {
+            let hole = place - at;
+            if hole >= needed {
+                if !self.does(Way::Fit) {
+                    return Some(at);
+                }
+                best = best.min(Some((hole, at))).or(Some((hole, at)));
+            }
+            at = end;
+        }
+        best.map(|it| it.1)
+    }
+
+    /// Puts a parcel into the receiver's window: the cause why not, or the buffer.
+    pub(super) fn deliver(
+        &mut self,
+        seat: Seat,
+        receiver: ProcessId,
+        sent: &Sent<'_>,
+        target: Option<ObjectId>,
+    ) -> Result<BufferId, u8> {
+        let record = &sent.record;
+        let sender = self.threads.get(seat).map_or(0, |it| it.process);
+        let is_one_way = target.is_some() && record.is_one_way();
+        let needed = needed(record.data_size, record.offsets_size);
+        let (flats, fault) = sent.parcel.map_or((Vec::new(), Some(7)), |(data, offsets)| walk(data, offsets));
+        let (found, unsendable) = self.resolve(sender, &flats);
+        let cause = fault.or(unsendable);
+        let its = self.processes.get(receiver).ok_or(16u8)?;
+        let spent: u64 = its.buffers.iter().filter(|it| it.1.is_one_way).map(|it| it.1.needed).sum();
+        let place = match self.place_for(its, needed) {
+            None => return Err(cause.unwrap_or(13)),
+            Some(_) if is_one_way && spent + needed > its.window / 2 => return Err(cause.unwrap_or(14)),
+            Some(place) => place,
+        };
+        if let (Some(cause), false) = (cause, self.does(Way::Half)) {
+            return Err(cause);
+        }
+        let buffer = (receiver, place);
+        self.add_buffer(buffer, sender, sent, is_one_way, target);
+        self.carry(seat, buffer, &flats, &found);
+        if let Some(cause) = cause {
+            // The driver has sent what stands before the faulty object, and takes it back.
+            self.end_buffer(buffer);
+            self.follow();
+            return Err(cause);
+        }
+        self.own_notices(seat, sender, &found);
+        Ok(buffer)
+    }
+
+    fn add_buffer(
+        &mut self,
+        buffer: BufferId,
+        sender: ProcessId,
+        sent: &Sent<'_>,
+        is_one_way: bool,
+        target: Option<ObjectId>,
+    ) {
+        let (data, offsets) = sent.parcel.unwrap_or((&[], &[]));
+        let new = Buffer {
+            sender,
+            sender_euid: self.processes.get(sender).map_or(0, |it| it.euid),
+            code: sent.record.code,
+            flags: sent.record.flags,
+            data: data.into(),
+            offsets: offsets.into(),
+            needed: needed(sent.record.data_size, sent.record.offsets_size),
+            is_one_way,
+            is_handed: false,
+            is_suspect: false,
+            target,
+            frame: None,
+            entries: Rc::new([]),
+            sent: self.current,
+            key: 0,
+            id: self.transaction,
+        };
+        self.process_mut(buffer.0, |it| it.buffers.insert(buffer.1, new));
+        let floods = is_one_way && self.floods(buffer.0, sender);
+        if let Some(it) = self.buffer_mut(buffer) {
+            it.is_suspect = floods;
+        }
+    }
+
+    /// A buffer's references, and its data as the receiver sees them.
+    fn carry(&mut self, seat: Seat, buffer: BufferId, flats: &[Flat], found: &[(Kind, ObjectId)]) {
+        let (mut data, target) = match self.buffer(buffer) {
+            Some(it) => (it.data.to_vec(), it.target),
+            None => return,
+        };
+        let by = By(Some(self.current));
+        if let Some(it) = target.and_then(|it| self.objects.get_mut(it)) {
+            it.local[STRONG] += 1;
+            it.up.add(by);
+        }
+        let mut entries = Vec::new();
+        for (flat, (kind, object)) in flats.iter().zip(found) {
+            let strength = usize::from(kind.is_strong());
+            let handle = self.carry_one(seat, buffer.0, flat, *object, strength);
+            let cookie = self.objects.get(*object).map_or(0, |it| it.cookie);
+            match handle {
+                None => {
+                    let kind = if strength == STRONG { Kind::Binder } else { Kind::WeakBinder };
+                    put_flat(&mut data, flat.offset, kind, flat.flags, object.1, cookie);
+                }
+                Some(number) => {
+                    let kind = if strength == STRONG { Kind::Handle } else { Kind::WeakHandle };
+                    put_flat(&mut data, flat.offset, kind, flat.flags, u64::from(number), 0);
+                }
+            }
+            entries.push((*object, strength, handle));
+        }
+        if let Some(it) = self.buffer_mut(buffer) {
+            it.data = data.into();
+            it.entries = entries.into();
+        }
+    }
+
+    /// A buffer's reference on one object: the number of the receiver's name for it, or None where it is its own.
+    fn carry_one(
+        &mut self,
+        seat: Seat,
+        receiver: ProcessId,
+        flat: &Flat,
+        object: ObjectId,
+        strength: usize,
+    ) -> Option<u32> {
+        if object.0 == receiver {
+            let by = By(Some(self.current));
+            if let Some(it) = self.objects.get_mut(object) {
+                it.local[strength] += 1;
+                it.up.add(by);
+            }
+            self.touch(object);
+            return None;
+        }
+        if !self.objects.has(object) {
+            self.add_object(object, flat.cookie);
+        }
+        let handle = self.name_for(receiver, object);
+        let sender = Some(seat).filter(|_| flat.kind.is_binder());
+        self.count_up(receiver, handle, strength, Ground::Carried, sender);
+        Some(handle)
+    }
+
+    /// Whether a one-way call that a process has sent is reported as flooding.
+    fn floods(&mut self, receiver: ProcessId, sender: ProcessId) -> bool {
+        let goes_drivers_way = self.does(Way::Spam);
+        let is_marked = self.processes.get(sender).map_or(false, |it| it.is_marked);
+        let its = match self.processes.get_mut(receiver) {
+            Some(it) => it,
+            None => return false,
+        };
+        let one_way = || its.buffers.iter().map(|it| it.1).filter(|it| it.is_one_way);
+        let (count, own) =
+            one_way().filter(|it| it.sender == sender).fold((0, 0), |sum, it| (sum.0 + 1, sum.1 + it.needed));
+        let spent: u64 = one_way().map(|it| it.needed).sum();
+        if !goes_drivers_way {
+            return is_marked && own > its.window / 4;
+        }
+        if its.window / 2 - spent >= its.window / 10 {
+            its.is_flooded = false;
+            return false;
+        }
+        let was_flooded = its.is_flooded;
+        its.is_flooded = was_flooded || count > 50 || own > its.window / 4;
+        its.is_flooded && !was_flooded
+    }
+
+    /// A buffer ends: the next one-way call on its object is due, and what it held goes.
+    pub(super) fn end_buffer(&mut self, buffer: BufferId) {
+        let its = match self.processes.get_mut(buffer.0).and_then(|it| it.buffers.remove(buffer.1)) {
+            Some(it) => it,
+            None => return,
+        };
+        if let Some(target) = its.target {
+            self.end_turn(target, buffer);
+            self.local_down(target, STRONG);
+        }
+        for (object, strength, handle) in its.entries.iter() {
+            match handle {
+                None => {
+                    self.local_down(*object, *strength);
+                    self.lost(*object, WEAK);
+                }
+                Some(handle) if self.does(Way::Counts) => {
+                    if self.name(buffer.0, *handle).map_or(false, |it| it.count(*strength) > 0) {
+                        self.count_down(buffer.0, *handle, *strength, Ground::Asked);
+                    }
+                }
+                Some(handle) => self.count_down(buffer.0, *handle, *strength, Ground::Carried),
+            }
+        }
+    }
+
+    fn end_turn(&mut self, target: ObjectId, buffer: BufferId) {
+        let by = By(Some(self.current));
+        let its = match self.objects.get_mut(target) {
+            Some(its) => its,
+            None => return,
+        };
+        let at = match its.turns.iter().position(|it| *it == buffer.1) {
+            Some(at) => at,
+            None => return,
+        };
+        its.turns.remove(at);
+        let next = its.turns.front().copied();
+        if next.is_none() {
+            its.turned.add(by);
+        }
+        if let (0, Some(next)) = (at, next) {
+            self.queue(Item::Call((buffer.0, next)), List::Process(buffer.0));
+        }
+    }
+
+    /// BC_FREE_BUFFER.
+    pub(super) fn free(&mut self, process: ProcessId, pointer: u64) -> Told {
+        let place = pointer.wrapping_sub(FIRST_POINTER);
+        match self.buffer((process, place)).map(|it| it.is_handed) {
+            None => Told::Noted(5),
+            Some(false) => Told::Noted(6),
+            Some(true) => {
+                self.end_buffer((process, place));
+                Told::Accepted
+            }
+        }
+    }
+}

@@ -1,0 +1,536 @@
+// SPDX-License-Identifier: Apache-2.0 OR MIT
+//! What kernels tell: samples of Linux 5.10, 6.1 and 6.12, taken in a virtual machine by tests/devices/take.py. What is expected was
+//! reckoned from the samples' own lines, by hand or by the few lines here.
+mod common;
+use common::*;
+use std::collections::{BTreeMap, HashMap};
+use std::fs;
+use std::path::PathBuf;
+
+const VERSIONS: [&str; 3] = ["5.10", "6.1", "6.12"];
+/// All samples that are events.
+const TRACES: [&str; 7] = [
+    "5.10/tools.trace",
+    "6.1/tools.trace",
+    "6.12/tools.trace",
+    "6.1/nested.trace",
+    "6.1/many.trace",
+    "6.1/storm.trace",
+    "6.12/deaths.trace",
+];
+/// All samples of one moment.
+const LOOKS: [&str; 14] = [
+    "5.10/before.state",
+    "5.10/tools.state",
+    "5.10/tools.stats",
+    "5.10/tools.transaction_log",
+    "5.10/raw.failed_transaction_log",
+    "6.1/storm.state",
+    "6.1/storm.transactions",
+    "6.1/tools.stats",
+    "6.1/tools.transaction_log",
+    "6.1/raw.failed_transaction_log",
+    "6.12/tools.state",
+    "6.12/tools.stats",
+    "6.12/tools.transaction_log",
+    "6.12/raw.failed_transaction_log",
+];
+
+fn sample(name: &str) -> String {
+    PathBuf::from(env!("CARGO_MANIFEST_DIR")).join("tests/devices").join(name).display().to_string()
+}
+
+fn text(name: &str) -> String {
+    fs::read_to_string(sample(name)).expect(name)
+}
+
+/// What it prints of a sample; it has to end well, and it says what is left out.
+fn told(words: &[&str]) -> String {
+    let done = run(words);
+    let said = String::from_utf8_lossy(&done.stderr).into_owned();
+    assert!(done.status.success(), "{words:?}: {said}");
+    String::from_utf8(done.stdout).expect("text")
+}
+
+/// The number behind a word, in the lines of events.
+fn of(line: &str, name: &str) -> Option<u64> {
+    let value = line.split([' ', '\t']).find_map(|it| it.strip_prefix(name)?.strip_prefix('='))?;
+    value.strip_prefix("0x").map_or_else(|| value.parse().ok(), |it| u64::from_str_radix(it, 16).ok())
+}
+
+/// A line's thread, and its time in millionths.
+fn head(line: &str) -> (u64, u64) {
+    let before = &line[..line.find(": binder_").expect("an event")];
+    let time = before.rsplit(' ').next().expect("a time").replace('.', "");
+    let thread = line[17..].split([' ', '(']).next().expect("a thread");
+    (thread.parse().expect(line), time.parse().expect(line))
+}
+
+/// How long each two-way call took, in millionths, by its time in the trace: from its own line to that where its reply was received.
+fn durations(trace: &str) -> BTreeMap<u64, u64> {
+    let mut waits: HashMap<u64, Vec<u64>> = HashMap::new();
+    let mut serves: HashMap<u64, Vec<u64>> = HashMap::new();
+    let (mut made, mut replies, mut took) = (HashMap::new(), HashMap::new(), BTreeMap::new());
+    for line in trace.lines().filter(|it| it.contains(": binder_transaction")) {
+        let (thread, time) = head(line);
+        let number = of(line, "transaction").expect("a number");
+        if line.contains(": binder_transaction_received:") {
+            if let Some(call) = replies.remove(&number) {
+                took.insert(made[&call], time - made[&call]);
+                waits.entry(thread).or_default().pop();
+            } else if made.contains_key(&number) {
+                serves.entry(thread).or_default().push(number);
+            }
+        } else if line.contains(": binder_transaction:") && of(line, "reply") == Some(1) {
+            let call = serves.entry(thread).or_default().pop();
+            replies.extend(call.map(|call| (number, call)));
+        } else if line.contains(": binder_transaction:") && of(line, "flags").map_or(false, |it| it & 1 == 0) {
+            made.insert(number, time);
+            waits.entry(thread).or_default().push(number);
+        }
+    }
+    took
+}
+
+/// How long that is, as the tool tells it.
+fn words(millionths: u64) -> String {
+    match millionths {
+        0..=999 => format!("{:.1} us", millionths as f64),
+        1_000..=999_999 => format!("{:.1} ms", millionths as f64 / 1e3),
+        _ => format!("{:.1} s", millionths as f64 / 1e6),
+    }
+}
+
+/// The first lines of 6.1's: a ping of the manager by binder-list, and its list of services, whose transaction lines were read by hand.
+#[test]
+fn calls_are_told_as_the_trace_has_them() {
+    let trace = text("6.1/tools.trace");
+    let lines = told(&["calls", &sample("6.1/tools.trace")]);
+    for (time, took) in durations(&trace) {
+        let begin = format!("{}.{:06} ", time / 1_000_000, time % 1_000_000);
+        let line = lines.lines().find(|it| it.starts_with(&begin)).unwrap_or_else(|| panic!("{begin}: {lines}"));
+        assert!(line.contains(&format!("<{}", words(took))), "{took}: {line}");
+    }
+    let by_hand = "14.687617 storm(153/157) -> storm(159/160) node 77#4 32 B = 0 B <2.2 ms, 191.0 us unread> [node 103 as handle 3]";
+    let storm = told(&["calls", &sample("6.1/storm.trace")]);
+    assert!(storm.lines().any(|it| it == by_hand), "{storm}");
+}
+
+#[test]
+fn each_trace_gives_each_view() {
+    for name in TRACES {
+        let (path, trace) = (sample(name), text(name));
+        let took = durations(&trace);
+        assert!(took.len() > 4, "{name}");
+        let lines = told(&["calls", &path]);
+        let done = lines
+            .lines()
+            .filter(|it| it.contains(" B = ") && !it.contains("no reply") && !it.contains("= open"))
+            .count();
+        assert_eq!(done, took.len(), "{name}: {lines}");
+        let longest = words(*took.values().max().expect("a call"));
+        let open = |it: &&str| !it.contains("still open") && !it.contains("its failure") && !it.contains("one-way");
+        let slow = told(&["slow", &path, "--most", "1000"]);
+        let first = slow.lines().find(open).expect("a call");
+        assert!(first.starts_with(&format!("{longest} from ")), "{name}: {longest}: {first}");
+        let page = page_data(&told(&["diagram", &path]));
+        let arrows = page["marks"].as_array().expect("marks").iter().filter_map(|it| it.get("arrow"));
+        assert_eq!(arrows.filter(|it| it["kind"] == "reply" && !it["to"].is_null()).count(), took.len(), "{name}");
+        for format in ["svg", "mermaid", "text"] {
+            assert!(told(&["diagram", &path, "--format", format]).lines().count() > took.len(), "{name} {format}");
+        }
+        let exported: serde_json::Value =
+            serde_json::from_str(&told(&["export", &path, "--format", "perfetto"])).expect(name);
+        let events = exported["traceEvents"].as_array().expect("events");
+        let replies = events.iter().filter(|it| it["ph"] == "f" && it["name"] == "reply").count();
+        assert_eq!(replies, took.len(), "{name}");
+    }
+}
+
+/// Slices of a track nest, and each ends; what is on one track goes forward in time.
+#[test]
+fn exported_slices_nest() {
+    for name in TRACES {
+        let exported = told(&["export", &sample(name), "--format", "perfetto"]);
+        let exported: serde_json::Value = serde_json::from_str(&exported).expect(name);
+        let mut open: HashMap<(u64, u64), (i64, f64)> = HashMap::new();
+        for event in exported["traceEvents"].as_array().expect("events") {
+            let track = (event["pid"].as_u64().expect("a pid"), event["tid"].as_u64().expect("a tid"));
+            let (depth, latest) = open.entry(track).or_insert((0, 0.0));
+            match event["ph"].as_str() {
+                Some("B") => *depth += 1,
+                Some("E") => *depth -= 1,
+                _ => continue,
+            }
+            let time = event["ts"].as_f64().expect("a time");
+            assert!(*depth >= 0 && time >= *latest, "{name}: {event}");
+            *latest = time;
+        }
+        assert!(open.values().all(|it| it.0 == 0), "{name}");
+    }
+}
+
+#[test]
+fn commands_and_returns_are_counted_as_they_stand() {
+    for name in TRACES.iter().filter(|it| **it != "6.1/storm.trace") {
+        let mut counts: BTreeMap<String, usize> = BTreeMap::new();
+        let trace = text(name);
+        for line in trace.lines().filter(|it| it.contains(": binder_command: ") || it.contains(": binder_return: ")) {
+            let verb = line.rsplit(' ').next().expect("a name");
+            *counts.entry(verb.into()).or_default() += 1;
+        }
+        let stats = told(&["stats", &sample(name)]);
+        for (verb, count) in counts {
+            assert!(stats.contains(&format!("\n{count:>10}  {verb}\n")), "{name}: {count} {verb}: {stats}");
+        }
+    }
+}
+
+/// The raw test `deaths` calls where nobody is any more, and is told so.
+#[test]
+fn calls_without_a_reply_are_chosen() {
+    let path = sample("6.12/deaths.trace");
+    let failed = told(&["calls", &path, "--failed"]);
+    let returns = text("6.12/deaths.trace").lines().filter(|it| it.contains("BR_DEAD_REPLY")).count();
+    assert_eq!(failed.lines().count(), returns, "{failed}");
+    assert!(failed.lines().all(|it| it.contains("no reply") || it.ends_with("-> nobody = BR_DEAD_REPLY")), "{failed}");
+    let dead = text("6.12/deaths.trace").lines().filter(|it| it.contains("BR_DEAD_BINDER")).count();
+    let page = page_data(&told(&["diagram", &path]));
+    let dots = page["marks"].as_array().expect("marks").iter().filter_map(|it| it.get("dot"));
+    assert_eq!(dots.filter(|it| it["kind"] == "death").count(), dead);
+}
+
+#[test]
+fn what_a_trace_does_not_tell_is_said_once() {
+    let done = run(&["calls", &sample("6.1/storm.trace")]);
+    let said = String::from_utf8_lossy(&done.stderr).into_owned();
+    assert_eq!(said.lines().count(), 1, "{said}");
+    assert!(said.contains("left out") && said.contains("parcels") && said.contains("binder_command"), "{said}");
+    let other = String::from_utf8_lossy(&run(&["calls", &sample("6.1/tools.trace")]).stderr).into_owned();
+    assert!(!other.contains("binder_command"), "{other}");
+}
+
+#[test]
+fn a_range_of_lines_or_seconds_is_told() {
+    let path = sample("6.1/tools.trace");
+    let all = told(&["calls", &path]);
+    let half = told(&["calls", &path, "--from", "200"]);
+    assert!(half.lines().count() < all.lines().count() && all.ends_with(&half), "{half}");
+    let since = told(&["calls", &path, "--since", "+10"]);
+    assert!(since.lines().count() < all.lines().count(), "{since}");
+    assert!(fault(&["calls", &path, "--since", "12:00"]).contains("times are +1.5"));
+}
+
+/// Every `node` line of a state is held by those whose `ref` lines name it.
+#[test]
+fn holders_are_those_who_have_a_handle() {
+    for name in ["6.1/storm.state", "5.10/tools.state", "6.12/tools.state"] {
+        let state = text(name);
+        let nodes = state.lines().filter_map(|it| it.strip_prefix("  node ")?.split_once(": u").map(|it| it.0));
+        for node in nodes {
+            let holders = told(&["holders", &sample(name), node]);
+            let mut process = "";
+            let mut wanted = Vec::new();
+            for line in state.lines() {
+                process = line.strip_prefix("proc ").unwrap_or(process);
+                let words: Vec<&str> = line.split_whitespace().collect();
+                if let ["ref", _, "desc", handle, "node", of, "s", strong, "w", weak, ..] = words[..] {
+                    if of == node {
+                        wanted
+                            .push(format!("  pid {process} names it by handle {handle}: {strong} strong, {weak} weak"));
+                    }
+                }
+            }
+            let found: Vec<&str> = holders.lines().filter(|it| it.starts_with("  pid ")).collect();
+            assert_eq!(found.len(), wanted.len(), "{name} {node}: {holders}");
+            found.iter().zip(&wanted).for_each(|(found, wanted)| assert!(found.starts_with(&wanted[..]), "{found}"));
+        }
+    }
+    assert!(fault(&["holders", &sample("6.1/storm.state"), "7"]).contains("there is no node 7"));
+    assert!(fault(&["holders", &sample("6.1/storm.transactions"), "18"]).contains("has no nodes and handles"));
+}
+
+/// `hello` never frees the reply to its addService.
+#[test]
+fn the_leak_of_hello_is_found() {
+    for version in VERSIONS {
+        let (first, second) = (sample(&format!("{version}/tools.state")), sample(&format!("{version}/after.state")));
+        let one = told(&["leaks", &first]);
+        assert!(
+            one.contains("1 buffers were read and not freed\n  buffer of transaction ") && one.contains(", 4 B"),
+            "{one}"
+        );
+        let both = told(&["leaks", &first, &first]);
+        assert!(both.contains("in both looks"), "{both}");
+        // By then hello has ended.
+        let gone = told(&["leaks", &first, &second]);
+        assert_eq!(gone, "nothing is held: no buffer was read and not freed, and nothing has grown\n");
+        let difference = told(&["state", &first, "--diff", &second]);
+        assert!(difference.lines().all(|it| it.starts_with("- pid ")) && difference.contains("buffer of transaction"));
+    }
+}
+
+/// Each `proc` of a state, and each of its threads, nodes, handles and buffers, has its line.
+#[test]
+fn a_state_is_told_whole() {
+    for name in ["6.1/storm.state", "6.1/storm.transactions", "5.10/tools.state", "6.12/tools.state"] {
+        let (state, told) = (text(name), told(&["state", &sample(name)]));
+        for (theirs, ours) in [
+            ("proc ", "pid "),
+            ("  thread ", "  thread "),
+            ("  node ", "  node "),
+            ("  ref ", "  handle "),
+            ("  buffer ", "  buffer "),
+        ] {
+            let count = state.lines().filter(|it| it.starts_with(theirs)).count();
+            let is_own = |it: &&str| it.starts_with(ours) && !it.contains("unread:") && !it.contains("outgoing");
+            assert_eq!(told.lines().filter(is_own).count(), count, "{name} {theirs}: {told}");
+        }
+        let pending = state.lines().filter(|it| it.contains("pending transaction")).count();
+        assert_eq!(told.lines().filter(|it| it.contains(" pending ")).count(), pending, "{name}: {told}");
+    }
+}
+
+#[test]
+fn refusals_are_explained_by_their_lines() {
+    for (version, release) in [("6.1", "6.1.192"), ("6.12", "6.12.117"), ("5.10", "5.10.223")] {
+        let path = sample(&format!("{version}/raw.failed_transaction_log"));
+        let told = told(&["explain", &path, "--kernel", release]);
+        let line = if version == "5.10" { "if (!target_node)" } else { "cannot find target node" };
+        assert!(told.contains(&format!("\"{line}\" in Linux {release}")), "{told}");
+        assert_eq!(
+            told.matches("BR_DEAD_REPLY: EINVAL").count(),
+            text(&format!("{version}/raw.failed_transaction_log")).lines().count()
+        );
+    }
+    let unknown = told(&["explain", &sample("6.1/raw.failed_transaction_log"), "--kernel", "6.1.1"]);
+    assert!(unknown.contains("of Linux 6.1.1 no such line is known"), "{unknown}");
+    assert_eq!(
+        told(&["explain", &sample("6.1/tools.transaction_log")]).lines().count(),
+        text("6.1/tools.transaction_log").lines().filter(|it| !it.contains("ret 0/0")).count().max(1)
+    );
+}
+
+/// A bug report with these parts, under headings as dumpstate writes them.
+fn report(version: &str) -> String {
+    let parts = [
+        ("FAILED TRANSACTION LOG", "raw.failed_transaction_log"),
+        ("TRANSACTION LOG", "tools.transaction_log"),
+        ("STATS", "tools.stats"),
+        ("STATE", "tools.state"),
+    ];
+    let mut all = "========\n== dumpstate: 2026-11-29 05:20:07\n========\n\nBuild: x\n------ UPTIME (uptime) ------\n"
+        .to_string();
+    for (title, file) in parts {
+        let text = text(&format!("{version}/{file}"));
+        let end = format!("------ 0.012s was the duration of 'BINDER {title}' ------");
+        all +=
+            &format!("------ BINDER {title} (/dev/binderfs/binder_logs/x: 2026-11-29 05:20:07) ------\n{text}{end}\n");
+    }
+    all + "------ SMAPS OF ALL PROCESSES ------\nother\n"
+}
+
+fn zipped(name: &str, files: &[(&str, &[u8])]) -> Kept {
+    let mut bytes = std::io::Cursor::new(Vec::new());
+    let mut archive = zip::ZipWriter::new(&mut bytes);
+    for (name, text) in files {
+        archive.start_file(*name, zip::write::FileOptions::default()).expect("a file");
+        std::io::Write::write_all(&mut archive, text).expect("its bytes");
+    }
+    archive.finish().expect("a zip file");
+    drop(archive);
+    kept(name, bytes.get_ref())
+}
+
+#[test]
+fn a_bug_report_tells_what_its_parts_do() {
+    for version in VERSIONS {
+        let report = report(version);
+        let plain = kept("bugreport.txt", report.as_bytes());
+        let main = "bugreport-x-2026.txt";
+        let zip = zipped(
+            "bugreport.zip",
+            &[("version.txt", b"2.0"), ("main_entry.txt", main.as_bytes()), (main, report.as_bytes())],
+        );
+        let of = |file: &str| sample(&format!("{version}/{file}"));
+        for path in [plain.path(), zip.path()] {
+            assert_eq!(told(&["state", path]), told(&["state", &of("tools.state")]));
+            assert_eq!(told(&["stats", path]), told(&["stats", &of("tools.stats")]));
+            assert_eq!(told(&["leaks", path]), told(&["leaks", &of("tools.state")]));
+            assert_eq!(told(&["explain", path]), told(&["explain", &of("raw.failed_transaction_log")]));
+            let calls = told(&["calls", path]);
+            assert!(calls.ends_with(&told(&["calls", &of("tools.transaction_log")])), "{calls}");
+        }
+    }
+}
+
+#[test]
+fn a_zip_file_without_a_report_is_told() {
+    let none = zipped("none.zip", &[("a.txt", b"x")]);
+    assert!(fault(&["state", none.path()]).contains("there is no bug report in it"));
+    let empty = zipped("empty.zip", &[("bugreport-1.txt", b"== dumpstate: x\n")]);
+    assert!(fault(&["state", empty.path()]).contains("none of Binder's parts"));
+    let broken = kept("broken.zip", b"PK\x03\x04 and nothing behind it");
+    assert!(fault(&["state", broken.path()]).contains("it can't be unzipped"));
+}
+
+/// A page as systrace writes it: the trace stands as text in a script.
+#[test]
+fn a_page_of_systrace_is_read() {
+    let trace = text("6.1/tools.trace");
+    let page = format!("<!DOCTYPE html>\n<html>\n<head><script>var x = 1;\n</script></head>\n<body>\n  <script class=\"trace-data\" type=\"application/text\">\n{trace}  </script>\n</body>\n</html>\n");
+    let page = kept("systrace.html", page.as_bytes());
+    assert_eq!(told(&["calls", page.path()]), told(&["calls", &sample("6.1/tools.trace")]));
+    let empty = kept("empty.html", b"<html>\n</html>\n");
+    assert!(fault(&["calls", empty.path()]).contains("there is no event of Binder's in it"));
+}
+
+#[test]
+fn standard_input_is_told_by_its_content_too() {
+    let trace = text("6.1/tools.trace");
+    let done = fed(&["calls", "-"], trace.as_bytes());
+    let lines = String::from_utf8_lossy(&done.stdout).into_owned();
+    assert_eq!(lines.lines().count(), told(&["calls", &sample("6.1/tools.trace")]).lines().count());
+    let done = fed(&["state", "-"], text("6.1/storm.state").as_bytes());
+    assert_eq!(String::from_utf8_lossy(&done.stdout), told(&["state", &sample("6.1/storm.state")]));
+}
+
+/// A command that doesn't read a form says which do.
+#[test]
+fn a_form_that_a_command_does_not_read_is_named() {
+    let (trace, state) = (sample("6.1/tools.trace"), sample("6.1/storm.state"));
+    let cases: [(&[&str], &str); 5] = [
+        (&["show", &trace], "this is ftrace's text, which `calls`"),
+        (&["state", &trace], "this is ftrace's text"),
+        (&["show", &state], "this is a state file of the driver's, which `state`"),
+        (&["slow", &state], "this is a state file of the driver's"),
+        (&["export", &trace, "--format", "pcapng"], "no packets"),
+    ];
+    for (words, wanted) in cases {
+        let said = fault(words);
+        assert!(said.contains(wanted), "{words:?}: {said}");
+    }
+}
+
+/// All samples cut at many places, and with bytes changed at many: each ends well or with a named error, soon, and never in a panic.
+#[test]
+fn hostile_samples_end_with_a_named_error() {
+    for name in TRACES.iter().chain(&LOOKS) {
+        let whole = fs::read(sample(name)).expect(name);
+        let words: &[&str] = match name.rsplit('.').next() {
+            Some("trace") => &["calls", "stats"],
+            Some("state" | "transactions") => &["state", "leaks"],
+            Some("stats") => &["stats"],
+            _ => &["calls", "explain"],
+        };
+        let mut random = 0x2545_f491_4f6c_dd1du64;
+        let mut next = |most: usize| {
+            random ^= random << 13;
+            random ^= random >> 7;
+            random ^= random << 17;
+            (random % most.max(1) as u64) as usize
+        };
+        for round in 0..8 {
+            let mut bytes = whole.clone();
+            match round {
+                0..=2 => bytes.truncate(next(whole.len())),
+                _ => (0..1 << round).for_each(|_| {
+                    let at = next(whole.len());
+                    bytes[at] = b"\n 0:-=x9[(\xff\0"[next(12)];
+                }),
+            }
+            let file = kept("hostile", &bytes);
+            for word in words {
+                let done = run(&[word, file.path()]);
+                let said = String::from_utf8_lossy(&done.stderr).into_owned();
+                assert!(matches!(done.status.code(), Some(0 | 1)), "{name} {round}: {said}");
+                assert!(done.status.code() == Some(0) || said.contains("hullpippin: "), "{name} {round}: {said}");
+                assert!(!said.contains("panicked"), "{name} {round}: {said}");
+            }
+        }
+    }
+}
+
+#[test]
+fn a_bad_line_is_named_and_what_stands_before_it_is_told() {
+    let good = text("6.1/tools.trace");
+    let bad = good.replacen("binder_transaction: transaction=", "binder_transaction: transactio=", 3).replacen(
+        "transactio=",
+        "transaction=",
+        2,
+    );
+    let file = kept("bad.trace", bad.as_bytes());
+    let done = run(&["calls", file.path()]);
+    let said = String::from_utf8_lossy(&done.stderr).into_owned();
+    let number = 1 + bad.lines().position(|it| it.contains("transactio=")).expect("it");
+    assert_eq!(done.status.code(), Some(1));
+    assert!(said.contains(&format!("line {number}: binder_transaction has no transaction")), "{said}");
+}
+
+/// A sample that is compressed, as a file of its own.
+fn unpacked(name: &str) -> Kept {
+    let packed = std::process::Command::new("gzip").args(["-dc", &sample(name)]).output().expect("gzip");
+    assert!(packed.status.success(), "{name}");
+    kept("unpacked", &packed.stdout)
+}
+
+/// What trace-cmd and perf have recorded of a ping, each in its own form, by these programs where they are there.
+#[test]
+#[ignore]
+fn recordings_of_trace_cmd_and_perf_are_read() {
+    for name in ["6.1/ping.dat.gz", "6.1/ping.data.gz"] {
+        let file = unpacked(name);
+        let lines = told(&["calls", file.path()]);
+        // binder-ping asks whether the manager is there, gets the service, and pings it.
+        assert!(lines.lines().all(|it| it.contains(" B = ")), "{lines}");
+        assert_eq!(lines.lines().filter(|it| it.contains("_PNG")).count(), 2, "{lines}");
+        let stats = told(&["stats", file.path()]);
+        assert!(stats.contains("  BC_TRANSACTION\n") && stats.contains("  BR_REPLY\n"), "{stats}");
+    }
+}
+
+#[test]
+fn a_recording_without_its_program_says_which_one() {
+    for (mark, program, package) in
+        [("\x17\x08\x44tracing6", "trace-cmd", "trace-cmd"), ("PERFILE2", "perf", "linux-perf")]
+    {
+        let file = kept("recording", mark.as_bytes());
+        let done = program_without_path(&["calls", file.path()]);
+        assert!(
+            done.contains(&format!("{program}, which prints")) && done.contains(&format!("package {package}")),
+            "{done}"
+        );
+    }
+}
+
+fn program_without_path(words: &[&str]) -> String {
+    let done = program().args(words).env("PATH", "/nonexistent").output().expect("the program");
+    assert_eq!(done.status.code(), Some(1));
+    String::from_utf8(done.stderr).expect("text")
+}
+
+/// A thread that waits for a reply sends one that is nobody's: that is refused, and its own call goes on.
+#[test]
+fn a_refused_reply_is_not_the_end_of_the_call_that_is_waited_for() {
+    let lines = [
+        "7] binder_command: cmd=0x40406300 BC_TRANSACTION",
+        "7] binder_transaction: transaction=1 dest_node=3 dest_proc=9 dest_thread=0 reply=0 flags=0x10 code=0x5",
+        "7] binder_transaction_alloc_buf: transaction=1 data_size=8 offsets_size=0 extra_buffers_size=0",
+        "7] binder_return: cmd=0x7206 BR_TRANSACTION_COMPLETE",
+        "9] binder_transaction_received: transaction=1",
+        "7] binder_command: cmd=0x40406301 BC_REPLY",
+        "7] binder_return: cmd=0x7211 BR_FAILED_REPLY",
+        "9] binder_command: cmd=0x40406301 BC_REPLY",
+        "9] binder_transaction: transaction=2 dest_node=0 dest_proc=7 dest_thread=7 reply=1 flags=0x0 code=0x0",
+        "7] binder_transaction_received: transaction=2",
+    ];
+    let line = |(at, it): (usize, &&str)| {
+        let (thread, event) = it.split_once("] ").expect("a thread");
+        format!("{:>16}-{thread}       [000] .....     1.{:06}: {event}\n", "some", 10 * at)
+    };
+    let trace: String = lines.iter().enumerate().map(line).collect();
+    let told = told(&["calls", kept("refused.trace", trace.as_bytes()).path()]);
+    let wanted = "1.000060 some(7/7) -> nobody = BR_FAILED_REPLY\n\
+        1.000010 some(7/7) -> some(9/9) node 3#5 8 B = a reply <80.0 us, 30.0 us unread>\n";
+    assert_eq!(told, wanted);
+}
