@@ -6,6 +6,8 @@ import subprocess
 import sys
 
 ROOT = os.path.dirname(os.path.dirname(os.path.abspath(__file__)))
+sys.path.append(f"{ROOT}/tools")
+import plainly  # noqa: E402, F401  (what is missing is told in one line)
 RUSTC = ["rustc", "-C", "opt-level=3", "-C", "codegen-units=1"]
 
 

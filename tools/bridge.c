@@ -11,7 +11,7 @@ enum { MANAGER, CLIENT, IDLE, SEATS };
 /* A buffer at the beginning of a window has this pointer. */
 #define FIRST_POINTER 65536u
 
-static bool run(hullpippin_live *live, uint32_t seat, const uint8_t *command, size_t size, size_t data, uint32_t *place)
+static bool run(hullpippin_live *live, uint32_t seat, const uint8_t *command, size_t size, size_t data, uint64_t *place)
 {
     hullpippin_answer answer = {0};
     uint32_t status = hullpippin_live_command(live, seat, command, size, (const uint8_t *)"hi", data, NULL, 0, &answer);
@@ -21,7 +21,7 @@ static bool run(hullpippin_live *live, uint32_t seat, const uint8_t *command, si
 }
 
 /* A one-way call to the context manager, with two bytes of data. Tells its place. */
-static bool call(hullpippin_live *live, uint32_t *place)
+static bool call(hullpippin_live *live, uint64_t *place)
 {
     uint8_t command[CALL_SIZE];
     spell_call(command, 2);
@@ -31,7 +31,7 @@ static bool call(hullpippin_live *live, uint32_t *place)
 static bool loop(hullpippin_live *live, uint32_t seat)
 {
     uint8_t command[4];
-    uint32_t place;
+    uint64_t place;
     put32(command, HULLPIPPIN_BC_ENTER_LOOPER);
     return run(live, seat, command, sizeof command, 0, &place);
 }
@@ -39,7 +39,7 @@ static bool loop(hullpippin_live *live, uint32_t seat)
 static bool free_first(hullpippin_live *live)
 {
     uint8_t command[12] = {0};
-    uint32_t place;
+    uint64_t place;
     put32(command, HULLPIPPIN_BC_FREE_BUFFER);
     put32(command + 4, FIRST_POINTER);
     return run(live, MANAGER, command, sizeof command, 0, &place);
@@ -58,14 +58,22 @@ static bool are_fetched(size_t (*fetch)(hullpippin_live *, uint32_t *, size_t), 
     return true;
 }
 
-static bool have_ended(hullpippin_live *live, const uint32_t *places, size_t count)
+/* The same of places. */
+static bool have_ended(hullpippin_live *live, const uint64_t *places, size_t count)
 {
-    return are_fetched(hullpippin_live_ended, live, places, count);
+    uint64_t out[4] = {7, 7, 7, 7};
+    if (hullpippin_live_ended(live, HULLPIPPIN_NO_PLACES, 0) != count)
+        return fails("another number of places");
+    if (count > 0 && (hullpippin_live_ended(live, out, count - 1) != count || out[0] != 7))
+        return fails("places without room");
+    if (hullpippin_live_ended(live, out, 4) != count || memcmp(out, places, count * sizeof *places) || out[count] != 7)
+        return fails("other places");
+    return true;
 }
 
 static bool has_ended_none(hullpippin_live *live)
 {
-    static const uint32_t none;
+    static const uint64_t none;
     return have_ended(live, &none, 0);
 }
 
@@ -114,7 +122,7 @@ static bool names(hullpippin_live *live)
 {
     static const hullpippin_todo_list any = {HULLPIPPIN_ANY_LIST, 0}, callers = {HULLPIPPIN_LIST_OF_THREAD, CLIENT};
     hullpippin_thread receiver;
-    uint32_t place;
+    uint64_t place;
     if (!hullpippin_live_thread(live, MANAGER, &receiver))
         return fails("no thread");
     hullpippin_todo_list both[] = {callers, {HULLPIPPIN_LIST_OF_PROCESS, receiver.process}};
@@ -124,7 +132,7 @@ static bool names(hullpippin_live *live)
 }
 
 /* The call makes both seats ready; each is unready once it has read, and is told so when it is asked about. */
-static bool wakes(hullpippin_live *live, uint32_t *place)
+static bool wakes(hullpippin_live *live, uint64_t *place)
 {
     static const uint32_t all[] = {CLIENT, IDLE, MANAGER, SEATS}, both[] = {CLIENT, MANAGER}, client[] = {CLIENT}, manager[] = {MANAGER};
     return have_changed(live, all, 4, both, 0) && call(live, place) && has_ended_none(live) && have_changed(live, all, 4, both, 2)
@@ -133,10 +141,10 @@ static bool wakes(hullpippin_live *live, uint32_t *place)
 }
 
 /* The manager frees the call's buffer; the buffers of two more end with its process, the one that is due and the one that waits. */
-static bool ends(hullpippin_live *live, uint32_t first)
+static bool ends(hullpippin_live *live, uint64_t first)
 {
     hullpippin_answer answer;
-    uint32_t others[2];
+    uint64_t others[2];
     return free_first(live) && have_ended(live, &first, 1) && call(live, &others[0]) && has_ended_none(live) && call(live, &others[1])
            && is_made(hullpippin_live_exit_process(live, MANAGER, &answer), &answer, HULLPIPPIN_EXITED) && have_ended(live, others, 2)
            && loop(live, CLIENT) && has_ended_none(live);
@@ -144,7 +152,7 @@ static bool ends(hullpippin_live *live, uint32_t first)
 
 static bool wakes_and_ends(hullpippin_live *live)
 {
-    uint32_t place = 0;
+    uint64_t place = 0;
     return wakes(live, &place) && ends(live, place);
 }
 

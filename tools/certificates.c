@@ -29,7 +29,7 @@ static bool grows(uint32_t status, const size_t *more)
 static bool is_noted(hullpippin_live *live)
 {
     size_t more = 0;
-    uint32_t place = hullpippin_live_len(live) - 1;
+    uint64_t place = hullpippin_live_len(live) - 1;
     begins[place] = size;
     return grows(hullpippin_live_entry(live, journal + size, sizeof journal - size, &more), &more);
 }

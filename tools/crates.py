@@ -7,6 +7,8 @@ import shutil
 import subprocess
 import tempfile
 
+import plainly  # noqa: F401  (what is missing is told in one line)
+
 ROOT = os.path.dirname(os.path.dirname(os.path.abspath(__file__)))
 # How the library's part in C is compiled, which goes into shared libraries too.
 IN_C = ["-std=c11", "-O2", "-fPIC", "-Wall", "-Wextra", "-Wpedantic", "-Werror"]

@@ -134,7 +134,7 @@ static bool live_calls(hullpippin_live *live, uint32_t data, uint32_t code)
 
 static bool live_refuses(hullpippin_live *live)
 {
-    uint32_t before = hullpippin_live_len(live);
+    uint64_t before = hullpippin_live_len(live);
     for (size_t i = 0; i < NO_FLAG_COUNT; i++) {
         hullpippin_answer answer = BLANK;
         if (!is_no_request(hullpippin_live_set_spam(live, CLIENT, NO_FLAGS[i], &answer)) || !is_blank(&answer))

@@ -31,39 +31,48 @@ static bool plays(hullpippin_live *live)
 }
 
 /* A look for the next: `of` is the pid of a process whose handles are looked for, or the place of its open where it is for buffers. */
-typedef bool next_look(hullpippin_live *live, uint32_t of, uint32_t from, uint32_t *next);
+typedef bool next_look(hullpippin_live *live, uint64_t of, uint64_t from, uint64_t *next);
 
-static bool next_process(hullpippin_live *live, uint32_t of, uint32_t from, uint32_t *place)
+static bool next_process(hullpippin_live *live, uint64_t of, uint64_t from, uint64_t *place)
 {
     (void)of;
     return hullpippin_live_next_process(live, from, place);
 }
 
-/* From 0 on these are told, and no more. */
-static bool lists(hullpippin_live *live, next_look *look, uint32_t of, const uint32_t *known, size_t count)
+static bool next_handle(hullpippin_live *live, uint64_t of, uint64_t from, uint64_t *next)
 {
-    uint32_t from = 0, next = UNTOLD;
+    uint32_t handle = UNTOLD, first = from < UINT32_MAX ? (uint32_t)from : UINT32_MAX;
+    bool is_there = hullpippin_live_next_handle(live, (uint32_t)of, first, &handle);
+    if (is_there || handle != UNTOLD)
+        *next = handle;
+    return is_there;
+}
+
+/* From 0 on these are told, and no more. */
+static bool lists(hullpippin_live *live, next_look *look, uint64_t of, const uint64_t *known, size_t count)
+{
+    uint64_t from = 0, next = UNTOLD;
     for (size_t i = 0; i < count; i++) {
         if (!look(live, of, from, &next) || next != known[i])
             return fails("another list of what there is");
         from = next + 1;
     }
     next = UNTOLD;
-    return (!look(live, of, from, &next) && next == UNTOLD && !look(live, of, UINT32_MAX, &next) && next == UNTOLD)
+    return (!look(live, of, from, &next) && next == UNTOLD && !look(live, of, UINT64_MAX, &next) && next == UNTOLD)
            || fails("more is listed than there is");
 }
 
 /* The manager has one name, for what was sent. The client calls number 0 without a name. */
 static bool lists_handles(hullpippin_live *live)
 {
-    static const uint32_t names[] = {1};
-    return lists(live, hullpippin_live_next_handle, MANAGER_PID, names, 1) && lists(live, hullpippin_live_next_handle, CLIENT_PID, NULL, 0)
-           && lists(live, hullpippin_live_next_handle, NOBODY, NULL, 0);
+    static const uint64_t names[] = {1};
+    return lists(live, next_handle, MANAGER_PID, names, 1) && lists(live, next_handle, CLIENT_PID, NULL, 0)
+           && lists(live, next_handle, NOBODY, NULL, 0);
 }
 
 static bool lists_both(hullpippin_live *live)
 {
-    static const uint32_t opened[] = {OPENED_MANAGER, OPENED_CLIENT}, received[] = {SENT, CALLED}, replied[] = {REPLIED};
+    static const uint64_t opened[] = {OPENED_MANAGER, OPENED_CLIENT}, received[] = {SENT, CALLED}, replied[] = {REPLIED};
     return lists(live, next_process, 0, opened, 2) && lists_handles(live)
            && lists(live, hullpippin_live_next_buffer, OPENED_MANAGER, received, 2)
            && lists(live, hullpippin_live_next_buffer, OPENED_CLIENT, replied, 1)
@@ -73,7 +82,7 @@ static bool lists_both(hullpippin_live *live)
 /* Once the client has ended. What it has sent stays where it is. */
 static bool lists_one(hullpippin_live *live)
 {
-    static const uint32_t opened[] = {OPENED_MANAGER}, received[] = {SENT, CALLED};
+    static const uint64_t opened[] = {OPENED_MANAGER}, received[] = {SENT, CALLED};
     hullpippin_answer answer;
     return is_made(hullpippin_live_exit_process(live, CLIENT, &answer), &answer, HULLPIPPIN_EXITED)
            && lists(live, next_process, 0, opened, 1) && lists_handles(live)

@@ -85,7 +85,7 @@ static bool is_refused(hullpippin_live *live, uint32_t seat, const hullpippin_co
            && is(answer.kind == HULLPIPPIN_WROTE && answer.stop == HULLPIPPIN_AT_CAUSE && answer.number == cause, "another refusal");
 }
 
-static bool is_id(const hullpippin_object_id *id, uint32_t place, uint32_t index)
+static bool is_id(const hullpippin_object_id *id, uint64_t place, uint32_t index)
 {
     return is(id->place == place && id->index == index, "another object");
 }
@@ -113,7 +113,7 @@ static bool are_of_thread(hullpippin_live *live, uint32_t seat, const hullpippin
 }
 
 /* The list of a process has just this item. */
-static bool is_of_process(hullpippin_live *live, uint32_t process, hullpippin_work wanted)
+static bool is_of_process(hullpippin_live *live, uint64_t process, hullpippin_work wanted)
 {
     hullpippin_work work, filler;
     memset(&filler, FILLER, sizeof filler);
@@ -122,7 +122,7 @@ static bool is_of_process(hullpippin_live *live, uint32_t process, hullpippin_wo
 }
 
 /* Neither of the lists has anything. */
-static bool is_nothing_unread(hullpippin_live *live, uint32_t seat, uint32_t process)
+static bool is_nothing_unread(hullpippin_live *live, uint32_t seat, uint64_t process)
 {
     hullpippin_work filler;
     memset(&filler, FILLER, sizeof filler);
@@ -153,7 +153,7 @@ static bool tells_client(hullpippin_live *live, bool spam_detection)
 static bool tells_processes(hullpippin_live *live)
 {
     hullpippin_process process, filler;
-    uint32_t made = 0;
+    uint64_t made = 0;
     memset(&filler, FILLER, sizeof filler);
     return tells_client(live, false)
            && is(hullpippin_live_process(live, OPENED_MANAGER, &process) && process.made == OPENED_MANAGER && process.pid == MANAGER_PID
@@ -226,7 +226,7 @@ static bool tells_names(hullpippin_live *live)
            && IS_FILLER(filler);
 }
 
-static bool is_buffer(hullpippin_live *live, uint32_t made, const hullpippin_buffer *wanted)
+static bool is_buffer(hullpippin_live *live, uint64_t made, const hullpippin_buffer *wanted)
 {
     hullpippin_buffer buffer;
     return is(hullpippin_live_buffer(live, made, &buffer) && buffer.receiver == wanted->receiver && buffer.sender == wanted->sender
@@ -287,7 +287,7 @@ static bool asks(hullpippin_live *live, uint64_t cookie)
     return runs(live, MANAGER, &command, HULLPIPPIN_NOWHERE);
 }
 
-static bool is_death(hullpippin_live *live, uint32_t made, uint64_t cookie, uint32_t phase, bool cleared)
+static bool is_death(hullpippin_live *live, uint64_t made, uint64_t cookie, uint32_t phase, bool cleared)
 {
     hullpippin_death death;
     return is(hullpippin_live_death(live, made, &death) && death.process == OPENED_MANAGER && death.cookie == cookie
@@ -296,7 +296,7 @@ static bool is_death(hullpippin_live *live, uint32_t made, uint64_t cookie, uint
            && is_id(&death.object, SENT, 0);
 }
 
-static bool is_no_death(hullpippin_live *live, uint32_t made)
+static bool is_no_death(hullpippin_live *live, uint64_t made)
 {
     hullpippin_death filler;
     memset(&filler, FILLER, sizeof filler);
@@ -316,7 +316,7 @@ static bool calls_manager(hullpippin_live *live, uint32_t seat)
     return runs(live, seat, &command, HULLPIPPIN_NOWHERE);
 }
 
-static bool is_innermost(hullpippin_live *live, uint32_t seat, uint32_t made, bool serves)
+static bool is_innermost(hullpippin_live *live, uint32_t seat, uint64_t made, bool serves)
 {
     hullpippin_frame frame;
     return is(hullpippin_live_innermost(live, seat, &frame) && frame.made == made && frame.serves == serves, "another call");
@@ -330,7 +330,7 @@ static bool is_in_no_call(hullpippin_live *live, uint32_t seat)
 }
 
 /* The caller makes the call, and the manager serves it from when it reads. */
-static bool calling(hullpippin_live *live, uint32_t made)
+static bool calling(hullpippin_live *live, uint64_t made)
 {
     return calls_manager(live, CLIENT) && is_innermost(live, CLIENT, made, false) && is_in_no_call(live, MANAGER) && reads(live, MANAGER)
            && is_innermost(live, MANAGER, made, true);
@@ -403,7 +403,7 @@ static bool ends(hullpippin_live *live)
 {
     hullpippin_answer answer;
     hullpippin_work death = {.place = CLIENT_ENDED, .kind = HULLPIPPIN_DEATH, .made = ASKED};
-    uint32_t made = FILLER;
+    uint64_t made = FILLER;
     return is_made(hullpippin_live_exit_process(live, CLIENT, &answer), &answer, HULLPIPPIN_EXITED)
            && is(!hullpippin_live_process_of_pid(live, CLIENT_PID, &made) && made == FILLER, "a process that has ended")
            && is_death(live, ASKED, DEATH_COOKIE, HULLPIPPIN_QUEUED, false) && is_of_process(live, OPENED_MANAGER, death)

@@ -3,6 +3,8 @@
 import os
 import sys
 
+import plainly  # noqa: F401  (what is missing is told in one line)
+
 
 def page(path, text):
     """What such a program comes to: it writes the text, or with the word `--check` only sees that it stands there already. A status."""

@@ -112,21 +112,24 @@ static bool no_engine_is_seen(hullpippin_live *live)
 {
     uint8_t out[4] = {UNTOUCHED};
     uint32_t numbers[1] = {UNTOUCHED}, seat = 0;
+    uint64_t places[1] = {UNTOUCHED};
     hullpippin_todo_list list = {UNTOUCHED, UNTOUCHED};
     size_t size = UNTOUCHED;
-    if (hullpippin_live_ready(live, 0) || hullpippin_live_len(live) != 0 || hullpippin_live_ended(live, numbers, 1) != 0
+    if (hullpippin_live_ready(live, 0) || hullpippin_live_len(live) != 0 || hullpippin_live_ended(live, places, 1) != 0
         || hullpippin_live_changed(live, numbers, 1) != 0 || hullpippin_live_bytes(live, HULLPIPPIN_DATA, out, sizeof out) != 0
         || hullpippin_live_reached(live, 0, &list))
         return fails("something is seen of an engine that isn't there");
     return is_misuse(hullpippin_live_poll(live, &seat, 1, &size)) && is_misuse(hullpippin_live_entry(live, out, sizeof out, &size))
            && is_misuse(hullpippin_live_heading(live, 0, out, sizeof out, &size)) && is_misuse(hullpippin_live_ask_reached(live, &size))
-           && ((out[0] == UNTOUCHED && numbers[0] == UNTOUCHED && size == UNTOUCHED && list.kind == UNTOUCHED && list.number == UNTOUCHED)
+           && ((out[0] == UNTOUCHED && numbers[0] == UNTOUCHED && places[0] == UNTOUCHED && size == UNTOUCHED
+                && list.kind == UNTOUCHED && list.number == UNTOUCHED)
                || fails("a look at no engine writes"));
 }
 
 /* What each look would tell. */
 union told {
     uint32_t number;
+    uint64_t place;
     hullpippin_process process;
     hullpippin_thread thread;
     hullpippin_object_id id;
@@ -142,14 +145,14 @@ static bool no_space_is_seen(hullpippin_live *live)
     union told told, before;
     memset(&told, UNTOUCHED, sizeof told);
     before = told;
-    bool finds = hullpippin_live_process(live, 0, &told.process) || hullpippin_live_process_of_pid(live, 100, &told.number)
+    bool finds = hullpippin_live_process(live, 0, &told.process) || hullpippin_live_process_of_pid(live, 100, &told.place)
                  || hullpippin_live_thread(live, 0, &told.thread) || hullpippin_live_manager_object(live, &told.id)
                  || hullpippin_live_object(live, 0, 0, &told.object) || hullpippin_live_named(live, 100, 0, &told.id)
                  || hullpippin_live_buffer(live, 0, &told.buffer) || hullpippin_live_carried(live, 0, 0, &told.id)
                  || hullpippin_live_unread_of_thread(live, 0, 0, &told.work) || hullpippin_live_unread_of_process(live, 0, 0, &told.work)
                  || hullpippin_live_innermost(live, 0, &told.frame) || hullpippin_live_death(live, 0, &told.death)
-                 || hullpippin_live_next_process(live, 0, &told.number) || hullpippin_live_next_handle(live, 100, 0, &told.number)
-                 || hullpippin_live_next_buffer(live, 0, 0, &told.number);
+                 || hullpippin_live_next_process(live, 0, &told.place) || hullpippin_live_next_handle(live, 100, 0, &told.number)
+                 || hullpippin_live_next_buffer(live, 0, 0, &told.place);
     if (finds)
         return fails("something is found in the space of an engine that isn't there");
     return !memcmp(&told, &before, sizeof told) || fails("a look at no engine's space writes");

@@ -116,3 +116,16 @@ def are_of_gate(what):
     """Whether the built libraries are those of a gate that has passed these sources."""
     built = libraries()
     return gate_passed(what) and built != "" and read(GATE).get("libraries") == built
+
+
+def main():
+    """Whether the archive that stands is proved of the sources that stand: `proved` and of what, or `unproved`; and the sources' sum."""
+    record, sum_of_sources = known(LIBRARY) if os.path.exists(LIBRARY) else {}, sources()
+    if record and record.get("sources") == sum_of_sources:
+        print(f"proved, of commit {record['commit'][:12]}, by {record['kit']}; sources {sum_of_sources}")
+    else:
+        print(f"unproved; sources {sum_of_sources}")
+
+
+if __name__ == "__main__":
+    main()

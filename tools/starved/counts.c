@@ -33,7 +33,7 @@ static void count_number(enum way way, enum who who, char letter, uint32_t numbe
 static void count_first(enum way way, enum who who, const struct outcome *outcome)
 {
     const hullpippin_answer *answer = &outcome->answer;
-    uint32_t steps = answer->to - answer->from;
+    uint64_t steps = answer->to - answer->from;
     if (answer->notes > 0 && outcome->notes[0].command == 0)
         count_number(way, who, 'N', outcome->notes[0].number);
     else if (answer->stop == HULLPIPPIN_AT_CAUSE && steps == 1)

@@ -17,15 +17,16 @@ static uint32_t write_heading(struct run *run, uint32_t count)
     return status;
 }
 
-static uint32_t append_entry(struct run *run, uint32_t unused)
+/* An entry is spelled into the memory that it's asked for, and takes none. */
+static bool append_entry(struct run *run)
 {
     size_t size = 0, room = MOST_JOURNAL - run->journal_size;
+    long before = requests();
     uint32_t status = hullpippin_live_entry(&run->live, run->journal + run->journal_size, room, &size);
-    (void)unused;
-    if ((size > 0) != (status == HULLPIPPIN_DONE) || size > room)
-        fails("another entry");
+    if (status != HULLPIPPIN_DONE || size == 0 || size > room)
+        return fails("another entry");
     run->journal_size += size;
-    return status;
+    return took_none(before);
 }
 
 /* Looks whether each seat has come to have something to read, or has no longer. */
@@ -70,20 +71,20 @@ static uint32_t ask_reached(struct run *run, uint32_t unused)
 static uint64_t looked(struct run *run)
 {
     long before = requests();
-    uint64_t sum = sum_of(&run->live, run->script);
+    uint64_t sum = sum_of(&run->live, run->script, 0);
     took_none(before);
     return sum;
 }
 
 static bool comes_after(struct run *run)
 {
-    uint32_t length = hullpippin_live_len(&run->live);
+    uint64_t length = hullpippin_live_len(&run->live);
     if (length > MOST_STEPS)
         return fails("too many steps");
     if (!run->undisturbed)
         run->sums[length] = looked(run);
     return length == 0
-           || (makes(run, "live_entry", append_entry, 0) && makes(run, "live_poll", poll, 0)
+           || (append_entry(run) && makes(run, "live_poll", poll, 0)
                && makes(run, "live_ask_reached", ask_reached, 0));
 }
 
@@ -105,10 +106,10 @@ static bool begin(struct run *run)
 /* What all looks tell is what they told undisturbed. */
 static bool end(struct run *run)
 {
-    uint32_t length = hullpippin_live_len(&run->live);
+    uint64_t length = hullpippin_live_len(&run->live);
     if (run->undisturbed && looked(run) != run->undisturbed->sums[length])
         return fails("the engine has come to something else");
-    return makes(run, "live_heading", write_heading, length) && !complaint;
+    return makes(run, "live_heading", write_heading, (uint32_t)length) && !complaint;
 }
 
 /* ---- steps */
@@ -178,7 +179,7 @@ static void add_step(struct outcome *outcome, const hullpippin_answer *step, siz
 {
     hullpippin_answer *answer = &outcome->answer;
     if (step->notes > 0 && answer->notes < MOST_NOTES)
-        outcome->notes[answer->notes++] = (hullpippin_note){answer->to - answer->from, step->number};
+        outcome->notes[answer->notes++] = (hullpippin_note){(uint32_t)(answer->to - answer->from), step->number};
     answer->to = step->to;
     answer->kind = step->kind;
     answer->consumed += step->kind == HULLPIPPIN_WROTE ? (uint32_t)size : 0;
@@ -214,7 +215,7 @@ static bool goes_on(struct run *run, const struct line *line, struct outcome *ou
 /* Answers as a write of all commands does: with nothing where memory was refused to the first. */
 static uint32_t write(struct run *run, const struct line *line, struct outcome *outcome)
 {
-    uint32_t length = hullpippin_live_len(&run->live);
+    uint64_t length = hullpippin_live_len(&run->live);
     outcome->answer = (hullpippin_answer){.kind = HULLPIPPIN_WROTE, .from = length, .to = length};
     if (line->stream.size > MOST_STREAM) {
         outcome->answer.kind = HULLPIPPIN_REFUSED;

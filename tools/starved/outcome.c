@@ -1,6 +1,7 @@
 /* SPDX-License-Identifier: Apache-2.0 OR MIT */
 #include "outcome.h"
 
+#include <inttypes.h>
 #include <stdarg.h>
 #include <stdio.h>
 #include <string.h>
@@ -26,7 +27,7 @@ void join(struct outcome *whole, const struct outcome *rest)
     for (size_t i = 0; i < rest->answer.notes; i++) {
         hullpippin_note *note = &whole->notes[begun.notes + i];
         *note = rest->notes[i];
-        note->command += begun.to - begun.from;
+        note->command += (uint32_t)(begun.to - begun.from);
     }
 }
 
@@ -50,7 +51,7 @@ static void add_digits(struct text *text, const uint8_t *bytes, size_t size)
 static void add_wrote(struct text *text, const struct outcome *outcome)
 {
     const hullpippin_answer *answer = &outcome->answer;
-    add(text, "wrote %u %u %u", answer->consumed, answer->from, answer->to);
+    add(text, "wrote %u %" PRIu64 " %" PRIu64, answer->consumed, answer->from, answer->to);
     for (size_t i = 0; i < answer->notes; i++)
         add(text, " %u:N%u", outcome->notes[i].command, outcome->notes[i].number);
     if (answer->stop != HULLPIPPIN_AT_END)
@@ -81,12 +82,12 @@ void say(struct text *text, unsigned number, const struct outcome *outcome)
     if (answer->kind == HULLPIPPIN_WROTE) {
         add_wrote(text, outcome);
     } else if (answer->kind == HULLPIPPIN_REFUSED) {
-        add(text, "refused F%u %u %u", answer->number, answer->from, answer->to);
+        add(text, "refused F%u %" PRIu64 " %" PRIu64, answer->number, answer->from, answer->to);
     } else {
         add(text, "%s", word_of(answer->kind));
         for (int part = 0; answer->kind == HULLPIPPIN_GOT && part < PARTS; part++)
             add_digits(text, outcome->parts[part], sizes[part]);
-        add(text, " %u %u", answer->from, answer->to);
+        add(text, " %" PRIu64 " %" PRIu64, answer->from, answer->to);
     }
     add(text, "\n");
 }

@@ -56,7 +56,7 @@ static bool stands(struct run *run, const struct line *line, const struct outcom
     hullpippin_command command;
     const hullpippin_answer *answer = &part->answer;
     uint32_t at = 0;
-    for (uint32_t step = answer->from; step < answer->to; step++) {
+    for (uint64_t step = answer->from; step < answer->to; step++) {
         if (hullpippin_next_command(line->stream.at + at, line->stream.size - at, &command))
             return fails("a write was stopped behind its end");
         at += (uint32_t)command.size;

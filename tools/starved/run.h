@@ -32,7 +32,7 @@ struct run {
     bool has_other_parcels;
     /* What came of it: a line for each request, the number of steps, and the journal. */
     struct text text;
-    uint32_t steps;
+    uint64_t steps;
     /* The requests for memory of the line in which the history came to have more than GROWS_AT steps, the first and the last. */
     long growing[2];
     size_t journal_size;

@@ -1,0 +1,268 @@
+# SPDX-License-Identifier: Apache-2.0 OR MIT
+"""The parts of ./check: what each runs and stands on, how its count is read, and the sum of all.
+
+A part has passed if it ends with 0, and has printed its count, and that is of something, and of no failure. One that ends otherwise
+counts as one failure at least, and so does one that wasn't run because what it stands on has failed.
+"""
+import argparse
+import datetime
+import json
+import os
+import re
+import resource
+import shutil
+import signal
+import subprocess
+import sys
+import threading
+import time
+
+sys.dont_write_bytecode = True
+import crates  # noqa: E402  (they leave no files behind)
+import proved  # noqa: E402
+
+ROOT = crates.ROOT
+LOGS = f"{ROOT}/out/check"
+ROOTS = f"{LOGS}/roots"
+LAST = f"{LOGS}/last.json"
+CALLERS = f"{ROOT}/clients/out/packages"
+PLAYER = os.path.relpath(proved.PLAYER, ROOT)
+TRIES = 3
+# seconds for what an ended part has printed to arrive
+LAST_WORDS = 5
+
+
+class Part:
+    """A part: its command; how a line with its count looks, `passed` and `failed` in it; how many minutes it may take; which parts it
+    stands on; which kinds of packages it needs (tools/fetch), and whether a network besides. A count that isn't of tests is one test."""
+
+    def __init__(self, name, words, count, minutes, needs=(), kinds=(), network=False):
+        self.name, self.words, self.count, self.minutes = name, words, re.compile(count, re.M), minutes
+        self.needs, self.kinds, self.network = needs, kinds, network
+
+    def read(self, said, status):
+        """How many passed and failed, of all that it printed."""
+        found = [it.groupdict() for it in self.count.finditer(said)]
+        passed = sum(int(it.get("passed") or 0) if "passed" in it else 1 for it in found)
+        failed = sum(int(it.get("failed") or 0) for it in found)
+        if "passed" not in self.count.groupindex:
+            passed = 1 if found and not failed else 0
+        lacks = status != 0 or not found or passed + failed == 0
+        return passed, max(failed, 1) if lacks else failed
+
+
+def whole(anew):
+    """All parts, in their order."""
+    of_gate, of_archive = ("gate",), ("archive",)
+    return [
+        Part("gate", ["tools/gate-time", "rt", "ci", *(["--anew"] if anew else [])], r"^(?P<passed>\d+) passed, (?P<failed>\d+) failed$", 170),
+        Part("edits", ["tools/edits"], r"^edits: (?P<passed>\d+) refused, (?P<failed>\d+) failed$", 90, of_gate),
+        Part("documents", ["tools/check-docs"], r"^[1-9]\d* words and paths in backticks, (?P<failed>\d+) not found$", 10),
+        Part("manners", ["tools/manners"], r"^manners: (?P<passed>\d+) passed, (?P<failed>\d+) failed$", 15),
+        Part("examples", ["tools/examples", PLAYER], r"^(?P<passed>\d+) runs, played by \d+ programs, (?P<failed>\d+) differences$", 20, of_gate),
+        Part("program", ["tools/program", PLAYER], r"^(?P<passed>\d+) runs, (?P<failed>\d+) bad$", 30, of_gate),
+        Part("words", ["tools/words", PLAYER], r"^(?P<passed>\d+) runs, (?P<failed>\d+) bad$", 20, of_gate),
+        Part("archive", ["tools/archive"], r"^archive: (?P<passed>1) made, noted as proved$", 60, of_gate),
+        Part("library", ["tools/library"], r"^(?P<passed>\d+) programs .* (?P<failed>\d+) differences$", 40, of_archive, ("tests",)),
+        Part("starve", ["tools/starve"], r"^[1-9]\d* requests refused, (?P<failed>\d+) differ$", 40, of_archive),
+        Part("installed", ["tools/installed"], r"^installed: .*; (?P<failed>\d+) wrong$", 30, of_archive, ("tests",)),
+        Part("clients", ["clients/check", "raw", "--plain", "--untimed", "--seconds", "10", "--seed", "1"], OF_CLIENTS, 40, of_archive),
+        Part("libgbinder", ["clients/check", "--plain", "--untimed", "--only", "libgbinder"], OF_CLIENTS, 20, of_archive, network=True),
+        Part("bench", ["bench/run", "--check"], r"^(?P<passed>\d+) journals are as they must be", 20, of_archive, ("tests",)),
+        Part("tool", ["tool/check"], r"^test result: \w+\. (?P<passed>\d+) passed; (?P<failed>\d+) failed;", 40, of_archive, ("viewer", "tests")),
+        Part("try", ["./try", "--unproved"], r"^try, \*unproved\*: ended well", 20, kinds=("viewer",), network=True),
+        Part("packages", ["tools/packaged", "--roots", ROOTS], r"^packaged: .*; (?P<failed>\d+) wrong$", 30, of_archive, ("packages",), True),
+    ]
+
+
+OF_CLIENTS = r"^clients: (?P<passed>\d+) passed, (?P<failed>\d+) failed$"
+
+
+class Result:
+    """What came of a part."""
+
+    def __init__(self, part, passed, failed, wall=0.0, processor=0.0, why=""):
+        self.name, self.passed, self.failed, self.wall, self.processor, self.why = part.name, passed, failed, wall, processor, why
+
+
+def ended(child):
+    """Ends a part with all that it has begun."""
+    for number in (signal.SIGTERM, signal.SIGKILL):
+        try:
+            os.killpg(child.pid, number)
+            child.wait(timeout=20)
+        except (ProcessLookupError, subprocess.TimeoutExpired):
+            pass
+
+
+def watched(part, log):
+    """Runs a part, prints what it says and writes it down; what it said, and its status, None where it took too long. What it leaves
+    running is ended, and doesn't keep this waiting."""
+    said = []
+    child = subprocess.Popen(part.words, cwd=ROOT, stdin=subprocess.DEVNULL, stdout=subprocess.PIPE, stderr=subprocess.STDOUT, text=True,
+                             errors="replace", start_new_session=True)
+
+    def listen():
+        for line in child.stdout:
+            said.append(line)
+            log.write(line)
+            print(line, end="", flush=True)
+
+    listener = threading.Thread(target=listen, daemon=True)
+    listener.start()
+    try:
+        status = child.wait(timeout=60 * part.minutes)
+    except subprocess.TimeoutExpired:
+        status = None
+    finally:
+        listener.join(0 if child.poll() is None else LAST_WORDS)
+        ended(child)
+        listener.join(LAST_WORDS)
+    return "".join(said), status
+
+
+def run(part, folder=LOGS):
+    """Runs a part; its result."""
+    print(f"== {part.name}: {' '.join(part.words)}", flush=True)
+    began, before = time.monotonic(), resource.getrusage(resource.RUSAGE_CHILDREN)
+    os.makedirs(folder, exist_ok=True)
+    with open(f"{folder}/{part.name}.log", "w", encoding="utf-8") as log:
+        try:
+            said, status = watched(part, log)
+        except OSError as error:
+            return Result(part, 0, 1, why=f"not run: {error}")
+    after = resource.getrusage(resource.RUSAGE_CHILDREN)
+    passed, failed = part.read(said, status)
+    why = "" if not failed else f"took over {part.minutes} minutes" if status is None else f"status {status}"
+    used = after.ru_utime + after.ru_stime - before.ru_utime - before.ru_stime
+    return Result(part, passed, failed, time.monotonic() - began, used, why)
+
+
+def run_all(parts, folder=LOGS):
+    """Runs the parts in turn, but none that stands on one which failed."""
+    results, failed = [], set()
+    for part in parts:
+        below = [it for it in part.needs if it in failed]
+        result = Result(part, 0, 1, why=f"not run: {below[0]} failed") if below else run(part, folder)
+        if result.failed:
+            failed.add(part.name)
+        results.append(result)
+    return results
+
+
+def table(results):
+    """The lines of the table."""
+    rows = [("Part", "passed", "failed", "minutes", "processor minutes", "")]
+    rows += [(it.name, str(it.passed), str(it.failed), f"{it.wall / 60:.1f}", f"{it.processor / 60:.1f}", it.why) for it in results]
+    rows.append(("all", *(str(sum(getattr(it, name) for it in results)) for name in ("passed", "failed")),
+                 *(f"{sum(getattr(it, name) for it in results) / 60:.1f}" for name in ("wall", "processor")), ""))
+    wide = [max(len(row[at]) for row in rows) for at in range(5)]
+    for row in rows:
+        cells = [row[0].ljust(wide[0]), *(row[at].rjust(wide[at]) for at in range(1, 5)), row[5]]
+        yield "  ".join(cells).rstrip()
+
+
+def last_line(results, lacks):
+    """The sum of all; where it isn't of the whole check, it says so, and doesn't end as that does."""
+    said = f"{sum(it.passed for it in results)} passed, {sum(it.failed for it in results)} failed"
+    return f"{said}, and this isn't the whole check: {lacks}" if lacks else said
+
+
+def tried(words):
+    """Whether a command that needs a network goes well within some tries."""
+    for pause in range(1, TRIES + 1):
+        if not subprocess.run(words, cwd=ROOT, stdin=subprocess.DEVNULL).returncode:
+            return True
+        time.sleep(10 * pause if pause < TRIES else 0)
+    return False
+
+
+def fetched(parts, offline):
+    """Fetches what the parts need; what can't be had."""
+    kinds = sorted({"build", *(kind for it in parts for kind in it.kinds)})
+    looked = subprocess.run([f"{ROOT}/tools/fetch", *(["--list"] if offline else []), *kinds], stdin=subprocess.DEVNULL, stdout=subprocess.PIPE,
+                            text=True)
+    if looked.returncode:
+        yield looked.stdout.strip() or "what tools/fetch named"
+    names = {it.name for it in parts}
+    if names & {"gate", "edits", "archive"} and not shutil.which("rt"):
+        yield "rt, the command of the Rattle kit (README.md)"
+    if not offline and names & {"libgbinder", "tool", "try"} and not tried([sys.executable, "clients/tests/packages.py", CALLERS]):
+        yield "libgbinder's packages"
+    if "packages" in names and not tried(["tools/packaged", "--fetch", ROOTS]):
+        yield "roots of Debian's suites"
+
+
+def keep(results):
+    """Writes down what the whole check came to, for --write."""
+    parts = [vars(it) for it in results]
+    about = {"commit": proved.commit(), "date": datetime.date.today().isoformat(), "processors": len(os.sched_getaffinity(0)), "parts": parts}
+    with open(LAST, "w", encoding="utf-8") as file:
+        json.dump(about, file, indent=1)
+
+
+def replaced(name, pattern, text):
+    """Puts a text in the one place of a document that a pattern finds."""
+    with open(f"{ROOT}/{name}", encoding="utf-8") as file:
+        before = file.read()
+    after, count = pattern.subn(lambda _: text, before)
+    if count != 1:
+        sys.exit(f"check: {name} has {count} places for what is to be written there")
+    with open(f"{ROOT}/{name}", "w", encoding="utf-8") as file:
+        file.write(after)
+
+
+def write():
+    """Puts the table of the last whole check into docs/CHECKS.md, and its last line into README.md."""
+    with open(LAST, encoding="utf-8") as file:
+        about = json.load(file)
+    rows = [f"| `{it['name']}` | {it['passed']} | {it['failed']} | {it['wall'] / 60:.1f} | {it['processor'] / 60:.1f} |" for it in about["parts"]]
+    sums = [sum(it[name] for it in about["parts"]) for name in ("passed", "failed", "wall", "processor")]
+    lines = [f"`./check` of commit {about['commit'][:8]}, {about['date']}, on {about['processors']} processors:", "",
+             "| Part | Passed | Failed | Minutes | Processor minutes |", "|---|---|---|---|---|", *rows,
+             f"| all | {sums[0]} | {sums[1]} | {sums[2] / 60:.1f} | {sums[3] / 60:.1f} |"]
+    table = "<!-- check -->\n" + "\n".join(lines) + "\n<!-- /check -->"
+    replaced("docs/CHECKS.md", re.compile(r"<!-- check -->\n.*?<!-- /check -->", re.S), table)
+    replaced("README.md", re.compile(r"^    (?:N|\d+) passed, \d+ failed$", re.M), f"    {sums[0]} passed, {sums[1]} failed")
+
+
+def arguments(names):
+    parser = argparse.ArgumentParser(prog="check", usage="check [--offline] [--only PART ..] [--list]")
+    parser.add_argument("--offline", action="store_true")
+    parser.add_argument("--only", nargs="+", choices=names, metavar="PART")
+    parser.add_argument("--list", action="store_true")
+    parser.add_argument("--write", action="store_true")
+    return parser.parse_args()
+
+
+def main():
+    parts = whole(bool(os.environ.get("RT_ANEW")))
+    given = arguments([it.name for it in parts])
+    if given.list:
+        print(*(f"{it.name}: {' '.join(it.words)}" for it in parts), sep="\n")
+        return 0
+    if given.write:
+        return write()
+    lacks = []
+    if given.only:
+        parts = [it for it in parts if it.name in given.only]
+        lacks.append(f"only {', '.join(it.name for it in parts)}")
+    if given.offline:
+        lacks.append(f"without {', '.join(it.name for it in parts if it.network) or 'a network'}")
+        parts = [it for it in parts if not it.network]
+        os.environ["HULLPIPPIN_OFFLINE"] = "1"
+    signal.signal(signal.SIGTERM, lambda *_: sys.exit(143))  # so that what runs is ended
+    missing = list(fetched(parts, given.offline))
+    for it in missing:
+        print(f"check: {it} can't be had, so nothing is run")
+    results = [] if missing else run_all(parts)
+    shutil.rmtree(ROOTS, ignore_errors=True)  # they are large, and by the next time old
+    print("", *table(results), sep="\n")
+    if not lacks and not missing:
+        keep(results)
+    print(f"0 passed, {len(missing)} failed" if missing else last_line(results, "; ".join(lacks)))
+    return 1 if missing or not results or any(it.failed for it in results) else 0
+
+
+if __name__ == "__main__":
+    sys.exit(main())

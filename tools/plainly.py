@@ -1,0 +1,42 @@
+# SPDX-License-Identifier: Apache-2.0 OR MIT
+"""Has a program that imports this end in one line, in place of a traceback, where another program or a file that it needs is missing.
+
+What a user can mend by installing or building something is told so: a program that can't be started, a file that isn't there, a command that
+failed. All else is a fault of ours and keeps its traceback.
+"""
+import os
+import subprocess
+import sys
+
+# What to do about a program that is missing.
+HINTS = {"rt": "it is the command of the Rattle kit, which proves and compiles Rattle: README.md",
+         "cc": "a C compiler: Debian's packages gcc and libc6-dev", "c++": "Debian's package g++", "make": "Debian's package make",
+         "ar": "Debian's package binutils", "git": "Debian's package git", "cargo": "Debian's packages cargo and rustc",
+         "pkg-config": "Debian's package pkg-config", "dpkg-deb": "Debian's package dpkg", "mmdebstrap": "Debian's package mmdebstrap"}
+
+
+def told(error):
+    """The line for an error that a user can mend; None for a fault of ours."""
+    if isinstance(error, subprocess.CalledProcessError):
+        words = error.cmd if isinstance(error.cmd, str) else " ".join(map(str, error.cmd[:4]))
+        said = error.stderr or error.output or b""
+        said = said.decode(errors="replace") if isinstance(said, bytes) else said
+        last = (said.strip().splitlines() or [""])[-1]
+        return f"`{words}` failed with status {error.returncode}{': ' if last else ''}{last}"
+    if isinstance(error, OSError) and error.filename:
+        name = os.fsdecode(error.filename) if isinstance(error.filename, (str, bytes)) else str(error.filename)
+        if isinstance(error, FileNotFoundError) and "/" not in name:
+            return f"{name} isn't here{': ' if name in HINTS else ''}{HINTS.get(name, '')}"
+        return f"{name}: {error.strerror}"
+    return None
+
+
+def hook(kind, error, trace):
+    line = told(error)
+    if line is None:
+        sys.__excepthook__(kind, error, trace)
+    else:
+        print(f"{os.path.basename(sys.argv[0])}: {line}", file=sys.stderr)
+
+
+sys.excepthook = hook
