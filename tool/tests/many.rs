@@ -35,7 +35,7 @@ impl Drop for Folder {
 fn judged(folder: &Path, options: &[&str], path: Option<&Path>) -> (Vec<Value>, Option<i32>, Vec<String>) {
     let script = concat!(env!("CARGO_MANIFEST_DIR"), "/judge-all");
     let mut command = Command::new(script);
-    command.arg(folder).args(options).env("HULLPIPPIN", env!("CARGO_BIN_EXE_hullpippin"));
+    command.arg(folder).args(options).env("HULLPIPPIN", env!("CARGO_BIN_EXE_hullpippin")).env_remove("SHELL");
     if let Some(path) = path {
         command.env("PATH", format!("{}:{}", path.display(), std::env::var("PATH").unwrap_or_default()));
     }
@@ -69,12 +69,14 @@ fn each_journal_of_a_folder_has_its_verdict() {
     assert_eq!(judged(&folder.0, &[], None).1, Some(2), "there is none");
 }
 
-/// What parallel takes for ssh: it enters the network namespace of that name, and runs there what ssh would.
+/// What parallel takes for ssh: it enters the network namespace of that name, and runs there what ssh would. A login has a shell by name,
+/// which parallel leans on: where SHELL is unset, as under a service, it runs nothing and says that all went well.
 const SSH: &str = "#!/bin/sh
 while case $1 in -*) true ;; *) false ;; esac; do shift; done
 host=$1
 shift
 [ \"$1\" != -- ] || shift
+export SHELL=/bin/sh
 exec ip netns exec \"$host\" sh -c \"$*\"
 ";
 
