@@ -1,0 +1,263 @@
+-- What is given back is one with what is free before and behind it.
+use Rattle.std.proofs.Common.{◌≡◌, ℕ, ◌+◌, ◌-◌, ◌<◌, ◌≤◌, Bool, true, false, length, get_or, sym, ◌∙◌, subst, arith, inl, inr, ◌⊎◌}
+use Rattle.std.proofs.lemmas.Bool.{cases_lt, cases_Bool, cases_eq, cases_order}
+use Rattle.bd_ground.specs.declared.spans.Spans.{Spans}
+use Rattle.bd_ground.specs.Tiles.{hole_at, IsHole, IsCovered, Tiles, with_span}
+use Rattle.bd_ground.proofs.Bits.{clash, with_out, with_in, with_free, with_true}
+use Rattle.bd_ground.proofs.Tiling.{apart}
+
+-- where the hole begins that ends at p; where none does, there
+pub record IsBegin (t : Spans) (p b : ℕ) : Type 0 where
+  pub within : b ≤ p
+  pub hole : b < p → hole_at t b ≡ p - b
+  pub none : b ≡ p → 0 < p → (i : ℕ) → get_or t.begins.items (p - 1) 0 ≡ i → i < p → hole_at t i ≡ p - i → ⊥
+
+module _ (free : ℕ → Bool) (t : Spans) (p n b : ℕ) (is : Tiles free t) (some : 0 < n) (inside : p + n ≤ t.tail)
+    (taken : (u : ℕ) → p ≤ u → u < p + n → free u ≡ false) (begin : IsBegin t p b) where
+  -- a hole that begins before the span ends no later than it begins
+  ends_by : (i : ℕ) → i < p → 0 < hole_at t i → i + hole_at t i ≤ p
+  ends_by i lt pos =
+      let h = is.holes i pos in
+      elim (cases_lt p (i + hole_at t i)) [
+        | inr le ↦ le
+        | inl over ↦ clash (free p) (h.all_free p (omega arith) over) (taken p (omega arith) (omega arith))
+      ]
+
+  -- and none begins in it
+  none_in : (i : ℕ) → 0 < hole_at t i → p ≤ i → i < p + n → ⊥
+  none_in i pos low high = let h = is.holes i pos in clash (free i) (h.all_free i (omega arith) (omega arith)) (taken i low high)
+
+  -- one that ends where it begins is the one that was found
+  ends_at : (i : ℕ) → 0 < hole_at t i → i + hole_at t i ≡ p → i ≡ b
+  ends_at i pos e =
+      let h = is.holes i pos in
+      let within = begin.within in
+      elim (cases_lt b p) [
+        | inl less ↦ (
+            let size = begin.hole less in
+            elim (cases_order i b) [
+              | inl same ↦ same
+              | inr (inl lt) ↦ absurd (let far = apart free t is i b pos (omega arith) lt in omega arith)
+              | inr (inr gt) ↦ absurd (let far = apart free t is b i (omega arith) pos gt in omega arith)
+            ])
+        | inr ge ↦ (
+            let last : i + hole_at t i - 1 ≡ p - 1 = omega arith in
+            let name = subst (λ k. get_or t.begins.items k 0 ≡ i) last h.named in
+            absurd (begin.none (omega arith) (omega arith) i name (omega arith) (omega arith)))
+      ]
+
+  -- what is free from where it begins to the span
+  free_from : (u : ℕ) → b ≤ u → u < p → free u ≡ true
+  free_from u low high =
+      let size = begin.hole (omega arith) in
+      let h = is.holes b (omega arith) in
+      h.all_free u low (omega arith)
+
+  -- and what is before it isn't
+  not_before : 0 < b → free (b - 1) ≡ false
+  not_before first =
+      let within = begin.within in
+      elim (cases_lt b p) [
+        | inl less ↦ (let size = begin.hole less in let h = is.holes b (omega arith) in h.starts first)
+        | inr ge ↦ elim (cases_Bool (free (b - 1))) [
+          | inr f ↦ f
+          | inl f ↦ (
+              let c = is.covered (b - 1) (omega arith) f in
+              let from = c.from in
+              let to = c.to in
+              let le = ends_by c.first (omega arith) (omega arith) in
+              let same = ends_at c.first (omega arith) (omega arith) in
+              absurd (omega arith))
+        ]
+      ]
+
+  -- a hole that isn't the one that was found ends before the span or begins behind it
+  beside : (i : ℕ) → (i ≡ b → ⊥) → 0 < hole_at t i → (i + hole_at t i < b) ⊎ (p + n ≤ i)
+  beside i ne pos =
+      let within = begin.within in
+      elim (cases_lt i p) [
+        | inr ge ↦ elim (cases_lt i (p + n)) [ inl lt ↦ absurd (none_in i pos ge lt) | inr far ↦ inr far ]
+        | inl lt ↦ (
+            let le = ends_by i lt pos in
+            let away : i + hole_at t i ≡ p → ⊥ = λ e. ne (ends_at i pos e) in
+            elim (cases_lt b p) [
+              | inr same ↦ inl (elim (cases_eq (i + hole_at t i) p) [ inl e ↦ absurd (away e) | inr other ↦ omega arith ])
+              | inl less ↦ (
+                  let size = begin.hole less in
+                  elim (cases_order i b) [
+                    | inl same ↦ absurd (ne same)
+                    | inr (inl before) ↦ inl (apart free t is i b pos (omega arith) before)
+                    | inr (inr gt) ↦ absurd (let far = apart free t is b i (omega arith) pos gt in omega arith)
+                  ])
+            ])
+      ]
+
+  -- what comes of it at the tail
+  module _ (s : Spans) (at_tail : p + n ≡ t.tail) (size : s.size ≡ t.size) (tail : s.tail ≡ b) (long : length s.holes ≡ length t.holes)
+      (same_names : s.begins ≡ t.begins) (gone : hole_at s b ≡ 0) (others : (j : ℕ) → (j ≡ b → ⊥) → hole_at s j ≡ hole_at t j) where
+    pub tiles_back : Tiles (with_span p n free) s
+    tiles_back =
+        let within = begin.within in
+        let a = is.within in
+        let d = is.small in
+        let e = is.long in
+        let g = is.named in
+        record {
+          within = omega arith;
+          small = omega arith;
+          long = omega arith;
+          named = rw same_names (omega arith);
+          behind = λ u far. elim (cases_lt u p) [
+            | inl lt ↦ with_free free p n u (free_from u (omega arith) lt)
+            | inr ge ↦ elim (cases_lt u (p + n)) [
+              | inl lt ↦ with_in free p n u (ge, lt)
+              | inr over ↦ with_free free p n u (is.behind u (omega arith))
+            ]
+          ];
+          last = λ first. rw tail (with_out free p n (b - 1) (inl (omega arith)) ∙ not_before (omega arith));
+          holes = λ i pos.
+              let ne : i ≡ b → ⊥ = λ e. (let q = subst (λ k. 0 < hole_at s k) e pos in omega arith) in
+              let same = others i ne in
+              let was : 0 < hole_at t i = omega arith in
+              let h = is.holes i was in
+              let ends = h.inside in
+              let before : i + hole_at t i < b = elim (beside i ne was) [ inl x ↦ x | inr x ↦ absurd (omega arith) ] in
+              record {
+                inside = omega arith;
+                named = rw (same, same_names) h.named;
+                all_free = λ u from to. with_free free p n u (h.all_free u from (omega arith));
+                ends = rw same (with_out free p n (i + hole_at t i) (inl (omega arith)) ∙ h.ends);
+                starts = λ first. with_out free p n (i - 1) (inl (omega arith)) ∙ h.starts first;
+              };
+          covered = λ u lt f.
+              let was : free u ≡ true = elim (with_true free p n u f) [ inl x ↦ x | inr x ↦ absurd (omega (arith, x.0)) ] in
+              let c = is.covered u (omega arith) was in
+              let from = c.from in
+              let to = c.to in
+              let same = others c.first (λ e. omega (arith, e)) in
+              record { first = c.first; from = from; to = omega arith };
+        }
+
+  -- and before it
+  module _ (s : Spans) (before : p + n < t.tail) (size : s.size ≡ t.size) (tail : s.tail ≡ t.tail) (long : length s.holes ≡ length t.holes)
+      (long_names : length s.begins.items ≡ length t.begins.items)
+      (made : hole_at s b ≡ p + n - b + hole_at t (p + n)) (gone : hole_at s (p + n) ≡ 0)
+      (others : (j : ℕ) → (j ≡ b → ⊥) → (j ≡ p + n → ⊥) → hole_at s j ≡ hole_at t j)
+      (name : get_or s.begins.items (p + n + hole_at t (p + n) - 1) 0 ≡ b)
+      (names : (j : ℕ) → (j ≡ p + n + hole_at t (p + n) - 1 → ⊥) → get_or s.begins.items j 0 ≡ get_or t.begins.items j 0) where
+    -- the new hole ends where something is
+    not_behind : free (p + n + hole_at t (p + n)) ≡ false
+    not_behind =
+        elim (cases_lt 0 (hole_at t (p + n))) [
+          | inl pos ↦ (let h = is.holes (p + n) pos in h.ends)
+          | inr none ↦ elim (cases_Bool (free (p + n + hole_at t (p + n)))) [
+            | inr f ↦ f
+            | inl f ↦ (
+                let here : p + n + hole_at t (p + n) ≡ p + n = omega arith in
+                let c = is.covered (p + n) before (subst (λ k. free k ≡ true) here f) in
+                let from = c.from in
+                let to = c.to in
+                let ne : c.first ≡ p + n → ⊥ = λ e. (let q = subst (λ k. p + n < k + hole_at t k) e to in omega arith) in
+                let h = is.holes c.first (omega arith) in
+                clash (free (p + n - 1)) (h.all_free (p + n - 1) (omega arith) (omega arith)) (taken (p + n - 1) (omega arith) (omega arith)))
+          ]
+        ]
+
+    new_end : p + n + hole_at t (p + n) < t.tail
+    new_end = elim (cases_lt 0 (hole_at t (p + n))) [ inl pos ↦ (let h = is.holes (p + n) pos in let i = h.inside in omega arith) | inr none ↦ omega arith ]
+
+    new_free : (u : ℕ) → b ≤ u → u < p + n + hole_at t (p + n) → with_span p n free u ≡ true
+    new_free u low high =
+        elim (cases_lt u p) [
+          | inl lt ↦ with_free free p n u (free_from u low lt)
+          | inr ge ↦ elim (cases_lt u (p + n)) [
+            | inl lt ↦ with_in free p n u (ge, lt)
+            | inr over ↦ with_free free p n u (let h = is.holes (p + n) (omega arith) in h.all_free u over high)
+          ]
+        ]
+
+    one : IsHole (with_span p n free) s b
+    one =
+        let within = begin.within in
+        let end : b + hole_at s b ≡ p + n + hole_at t (p + n) = omega arith in
+        let far = new_end in
+        record {
+          inside = omega arith;
+          named = (let last : b + hole_at s b - 1 ≡ p + n + hole_at t (p + n) - 1 = omega arith in rw last name);
+          all_free = λ u from to. new_free u from (omega arith);
+          ends = rw end (with_out free p n (p + n + hole_at t (p + n)) (inr (omega arith)) ∙ not_behind);
+          starts = λ first. with_out free p n (b - 1) (inl (omega arith)) ∙ not_before first;
+        }
+
+    kept : (i : ℕ) → (i ≡ b → ⊥) → (i ≡ p + n → ⊥) → 0 < hole_at s i → IsHole (with_span p n free) s i
+    kept i ne away pos =
+        let within = begin.within in
+        let same = others i ne away in
+        let was : 0 < hole_at t i = omega arith in
+        let h = is.holes i was in
+        let ends = h.inside in
+        let side = beside i ne was in
+        let apart_names : i + hole_at t i - 1 ≡ p + n + hole_at t (p + n) - 1 → ⊥ = λ e. elim side [
+          | inl x ↦ omega (arith, e, x)
+          | inr x ↦ elim (cases_lt 0 (hole_at t (p + n))) [
+            | inl some ↦ (let far = apart free t is (p + n) i some was (omega arith) in omega arith)
+            | inr none ↦ omega arith
+          ]
+        ] in
+        record {
+          inside = omega arith;
+          named = rw same (names (i + hole_at t i - 1) apart_names ∙ h.named);
+          all_free = λ u from to. with_free free p n u (h.all_free u from (omega arith));
+          ends = rw same (with_out free p n (i + hole_at t i) (elim side [ inl x ↦ inl (omega arith) | inr x ↦ inr (omega arith) ]) ∙ h.ends);
+          starts = λ first. with_out free p n (i - 1) (elim side [ inl x ↦ inl (omega arith) | inr x ↦ inr (omega arith) ]) ∙ h.starts first;
+        }
+
+    covered_back : (u : ℕ) → u < s.tail → with_span p n free u ≡ true → IsCovered s u
+    covered_back u lt f =
+        let within = begin.within in
+        elim (with_true free p n u f) [
+          | inr span ↦ record { first = b; from = omega (arith, span.0); to = omega (arith, span.1) }
+          | inl was ↦ (
+              let c = is.covered u (omega arith) was in
+              let from = c.from in
+              let to = c.to in
+              elim (cases_eq c.first b) [
+                | inl same ↦ (
+                    let low : b ≤ u = subst (λ k. k ≤ u) same from in
+                    let high : u < b + hole_at t b = subst (λ k. u < k + hole_at t k) same to in
+                    elim (cases_lt b p) [
+                      | inl less ↦ (let had = begin.hole less in record { first = b; from = low; to = omega arith })
+                      | inr ge ↦ absurd (none_in b (omega arith) (omega arith) (omega arith))
+                    ])
+                | inr ne ↦ elim (cases_eq c.first (p + n)) [
+                  | inl same ↦ (
+                      let low : p + n ≤ u = subst (λ k. k ≤ u) same from in
+                      let high : u < p + n + hole_at t (p + n) = subst (λ k. u < k + hole_at t k) same to in
+                      record { first = b; from = omega arith; to = omega arith })
+                  | inr away ↦ (let same = others c.first ne away in record { first = c.first; from = from; to = omega arith })
+                ]
+              ])
+        ]
+
+    pub tiles_given : Tiles (with_span p n free) s
+    tiles_given =
+        let a = is.within in
+        let d = is.small in
+        let e = is.long in
+        let g = is.named in
+        record {
+          within = omega arith;
+          small = omega arith;
+          long = omega arith;
+          named = omega arith;
+          behind = λ u far. with_free free p n u (is.behind u (omega arith));
+          last = λ first. rw tail (with_out free p n (t.tail - 1) (inr (omega arith)) ∙ is.last (omega arith));
+          holes = λ i pos. elim (cases_eq i b) [
+            | inl same ↦ subst (λ k. IsHole (with_span p n free) s k) (sym same) one
+            | inr ne ↦ elim (cases_eq i (p + n)) [
+              | inl here ↦ absurd (let q = subst (λ k. 0 < hole_at s k) here pos in omega arith)
+              | inr away ↦ kept i ne away pos
+            ]
+          ];
+          covered = covered_back;
+        }

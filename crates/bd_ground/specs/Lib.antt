@@ -1,0 +1,3 @@
+pub mod Peaks
+pub mod Tiles
+pub mod Holes
