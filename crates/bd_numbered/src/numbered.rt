@@ -1,0 +1,174 @@
+//! The rows of all processes.
+
+ghost use Rattle.std.specs.Prelude.{ℕ, ◌≡◌, ◌==◌, ◌≤◌, ◌<◌, ◌+◌, ◌&&◌, true, false, Some, None, is_some, MatchOption, IfSome, IfNone, ◌^◌, if◌then◌else◌, OnOk, OnErr};
+ghost use Rattle.std.specs.HashMap.{get_by};
+ghost use Rattle.bd_numbered.specs.Columns.{made_in};
+
+use crate::row::Row;
+use crate::rows::{
+    free_in, insert_row, insert_slot, made_at, next_in, put_in, remove_in, remove_row, remove_slot,
+    reserve_in, reserve_rows, reserve_slots, set_in,
+};
+use slab::Slab;
+use std::alloc::{AllocError, Global};
+use std::collections::HashMap;
+
+/// Values of processes, by number. Where room is made for a process that had none, it gets a row, which it has until it is closed.
+#[derive(Drop)]
+pub struct Numbered<T> {
+    pub(crate) rows: Slab<Row<T>>,
+    // The slot of each process's row, asked where the caller's guess is wrong.
+    pub(crate) slots: HashMap<u64, usize>,
+    pub(crate) alloc: Global,
+    ghost found: { (p k : ℕ) → made_in rows k ≡ Some p → get_by (λ q. p == q) slots ≡ Some k },
+    ghost leads: { (p k : ℕ) → get_by (λ q. p == q) slots ≡ Some k → made_in rows k ≡ Some p },
+}
+
+impl<T: Copy> Numbered<T> {
+    ghost use Rattle.bd_numbered.specs.Numbered.{slot_at, value_at, number_room, IsFreeAt};
+
+    /// No process has a value, and none a row. Memory is taken later.
+    pub fn new(alloc: Global) -> Numbered<T>
+        ensures { (p n : ℕ) → value_at result p n ≡ None }
+    {
+        Numbered {
+            rows: Slab::new(alloc),
+            slots: HashMap::new(alloc),
+            alloc,
+        }
+    }
+
+    /// The slot of the process's row. `near` is a guess, which saves the look into the map where it is right.
+    #[inline(always)]
+    pub fn slot_near(&self, p: u64, near: usize) -> Option<usize>
+        ensures { result ≡ slot_at self.now p }
+    {
+        if made_at(&self.rows, near) == Some(p) {
+            return Some(near);
+        }
+        self.slots.get(&p).copied()
+    }
+
+    /// What the process has under a number.
+    #[inline(always)]
+    pub fn get(&self, p: u64, n: u32, near: usize) -> Option<T>
+        ensures { result ≡ value_at self.now p n }
+    {
+        let k = self.slot_near(p, near)?;
+        match self.rows.get(k) {
+            Some(row) => row.get(n),
+            None => None,
+        }
+    }
+
+    /// The first free number of the process, counted from 0 or from 1; none where that is past 4294967294.
+    pub fn free_number(&self, p: u64, from_zero: bool, near: usize) -> Option<u32>
+        ensures free { let first = (if from_zero then 0 else 1) in
+            MatchOption result ((m : ℕ) → first ≤ m → m ≤ 4294967294 → is_some (value_at self.now p m) ≡ true)
+            (λ n. IsFreeAt first self.now p n) }
+        ensures within { IfSome result (λ n. n ≤ 4294967294) }
+    {
+        match self.slot_near(p, near) {
+            Some(k) => free_in(&self.rows, k, from_zero),
+            None => Some(u32::from(!from_zero)),
+        }
+    }
+
+    /// The first number of the process from this one on under which it has a value. Looks at each up to it.
+    pub fn next(&self, p: u64, from: u32, near: usize) -> Option<u32>
+        ensures none { IfNone result ((m : ℕ) → from ≤ m → m < 2 ^ 32 → value_at self.now p m ≡ None) }
+        ensures from { IfSome result (λ n. from ≤ n) }
+        ensures there { IfSome result (λ n. is_some (value_at self.now p n) ≡ true) }
+        ensures before { IfSome result (λ n. (m : ℕ) → from ≤ m → m < n → value_at self.now p m ≡ None) }
+    {
+        let k = self.slot_near(p, near)?;
+        next_in(&self.rows, k, from)
+    }
+
+    // Gives a process its row, with room in it. It has none.
+    fn open(&mut self, p: u64, more: usize) -> Result<(), AllocError>
+        requires { slot_at self.old p ≡ None }
+        ensures kept { (q n : ℕ) → value_at self.new q n ≡ value_at self.old q n }
+        ensures uses { (q : ℕ) → number_room self.old q ≤ number_room self.new q }
+        ensures room { OnOk result (more ≤ number_room self.new p) }
+    {
+        let mut row = Row::new(self.alloc, p);
+        row.reserve(more)?;
+        reserve_rows(&mut self.rows)?;
+        reserve_slots(&mut self.slots)?;
+        let k = insert_row(&mut self.rows, row);
+        insert_slot(&mut self.slots, p, k);
+        Ok(())
+    }
+
+    /// Makes room for so many more values of this process. Values stay as they are, whatever the answer is.
+    pub fn reserve(&mut self, p: u64, more: usize, near: usize) -> Result<(), AllocError>
+        ensures kept { (q n : ℕ) → value_at self.new q n ≡ value_at self.old q n }
+        ensures uses { (q : ℕ) → number_room self.old q ≤ number_room self.new q }
+        ensures room { OnOk result (more ≤ number_room self.new p) }
+        // Memory was refused only where there was no room.
+        ensures grown { OnErr result (more ≤ number_room self.old p → ⊥) }
+    {
+        if more == 0 {
+            return Ok(());
+        }
+        match self.slot_near(p, near) {
+            Some(k) => reserve_in(&mut self.rows, k, more),
+            None => self.open(p, more),
+        }
+    }
+
+    /// Puts the value at the process's first free number from 1 on, or at 0, and tells the number.
+    pub fn put(&mut self, p: u64, zero: bool, value: T, near: usize) -> usize
+        requires { 1 ≤ number_room self.old p }
+        ensures put { (q n : ℕ) → value_at self.new q n
+            ≡ (if (p == q) && (result == n) then Some value else value_at self.old q n) }
+        ensures zero { zero ≡ true → result ≡ 0 }
+        ensures free { zero ≡ false → IsFreeAt 1 self.old p result }
+        ensures uses { (q : ℕ) → number_room self.old q ≤ number_room self.new q + 1 }
+    {
+        match self.slot_near(p, near) {
+            Some(k) => put_in(&mut self.rows, k, zero, value),
+            None => unreachable!(),
+        }
+    }
+
+    /// Writes over what the process has under a number.
+    #[inline(always)]
+    pub fn set(&mut self, p: u64, n: u32, value: T, near: usize)
+        requires { is_some (value_at self.old p n) ≡ true }
+        ensures set { (q m : ℕ) → value_at self.new q m
+            ≡ (if (p == q) && (n == m) then Some value else value_at self.old q m) }
+        ensures uses { (q : ℕ) → number_room self.old q ≤ number_room self.new q }
+    {
+        match self.slot_near(p, near) {
+            Some(k) => set_in(&mut self.rows, k, n, value),
+            None => unreachable!(),
+        }
+    }
+
+    /// Takes out what the process has under a number, for which no memory is needed.
+    pub fn remove(&mut self, p: u64, n: u32, near: usize) -> Option<T>
+        ensures gone { result ≡ value_at self.old p n }
+        ensures at { (q m : ℕ) → value_at self.new q m
+            ≡ (if (p == q) && (n == m) then None else value_at self.old q m) }
+        ensures uses { (q : ℕ) → number_room self.old q ≤ number_room self.new q }
+    {
+        match self.slot_near(p, near) {
+            Some(k) => remove_in(&mut self.rows, k, n),
+            None => None,
+        }
+    }
+
+    /// Takes out the process's row with all that is in it: nothing of the process is kept.
+    pub fn close(&mut self, p: u64, near: usize)
+        ensures at { (q m : ℕ) → value_at self.new q m ≡ (if p == q then None else value_at self.old q m) }
+        ensures row { slot_at self.new p ≡ None }
+        ensures uses { (q : ℕ) → (p == q) ≡ false → number_room self.old q ≤ number_room self.new q }
+    {
+        if let Some(k) = self.slot_near(p, near) {
+            remove_row(&mut self.rows, k);
+            remove_slot(&mut self.slots, p);
+        }
+    }
+}
