@@ -737,12 +737,25 @@ bool hullpippin_live_next_buffer(hullpippin_live *live, uint64_t process, uint64
 #define HULLPIPPIN_TYPE_FDA UINT32_C(0x66646185)
 #define HULLPIPPIN_TYPE_PTR UINT32_C(0x70742a85)
 
+/* TF_ONE_WAY, a flag of a transaction: nobody waits for a reply. The engine acts on this flag alone, and hands on all 32 bits. */
+#define HULLPIPPIN_TF_ONE_WAY UINT32_C(0x01)
+/* TF_ROOT_OBJECT, handed on: the parcel is a root object. */
+#define HULLPIPPIN_TF_ROOT_OBJECT UINT32_C(0x04)
+/* TF_STATUS_CODE, handed on: the data is a status. */
+#define HULLPIPPIN_TF_STATUS_CODE UINT32_C(0x08)
+/* TF_ACCEPT_FDS, handed on: the reply may bring descriptors. */
+#define HULLPIPPIN_TF_ACCEPT_FDS UINT32_C(0x10)
+/* TF_CLEAR_BUF, handed on: the receiver's driver clears the buffer at its end. */
+#define HULLPIPPIN_TF_CLEAR_BUF UINT32_C(0x20)
+/* TF_UPDATE_TXN, handed on: the call replaces an older one that nobody has read. */
+#define HULLPIPPIN_TF_UPDATE_TXN UINT32_C(0x40)
+
 /* A transaction record: struct binder_transaction_data. */
 typedef struct {
     uint64_t target;       /* a handle in the low 32 bits, or the ptr of the receiver's object */
     uint64_t cookie;       /* of the receiver's object */
     uint32_t code;         /* what is asked for */
-    uint32_t flags;        /* all 32 bits */
+    uint32_t flags;        /* HULLPIPPIN_TF_ONE_WAY and others; all 32 bits are kept */
     int32_t sender_pid;    /* the caller's, in what is read */
     uint32_t sender_euid;  /* the sender's, in what is read */
     uint64_t data_size;    /* how many bytes of data */

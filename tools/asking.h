@@ -10,9 +10,6 @@
 #include <stdint.h>
 #include <string.h>
 
-/* The flag of a one-way call, as <linux/android/binder.h> has it. */
-#define TF_ONE_WAY 1u
-
 #define WINDOW 4096u
 
 /* A command of a call, with its code. */
@@ -71,7 +68,7 @@ static inline void spell_call(uint8_t command[CALL_SIZE], uint32_t data)
 {
     memset(command, 0, CALL_SIZE);
     put32(command, HULLPIPPIN_BC_TRANSACTION);
-    put32(command + 4 + 20, TF_ONE_WAY);
+    put32(command + 4 + 20, HULLPIPPIN_TF_ONE_WAY);
     put32(command + 4 + 32, data);
 }
 
@@ -100,7 +97,7 @@ static inline bool reads(hullpippin_live *live, uint32_t seat)
     return is_made(hullpippin_live_read(live, seat, 256, &answer), &answer, HULLPIPPIN_GOT);
 }
 
-/* A call with nothing in its parcel; with TF_ONE_WAY nobody replies. */
+/* A call with nothing in its parcel; with HULLPIPPIN_TF_ONE_WAY nobody replies. */
 static inline bool calls(hullpippin_live *live, uint32_t seat, uint32_t handle, uint32_t flags)
 {
     hullpippin_command command = {.code = HULLPIPPIN_BC_TRANSACTION, .transaction = {.target = handle, .flags = flags}};

@@ -52,7 +52,7 @@ static hullpippin_command command_by_chance(void)
     command.pointer = command.code == HULLPIPPIN_BC_FREE_BUFFER ? 65536 + 8 * chance(16) : 0x1000 * (1 + chance(3));
     command.cookie = command.code == HULLPIPPIN_BC_INCREFS_DONE || command.code == HULLPIPPIN_BC_ACQUIRE_DONE ? 0x20 : chance(2);
     command.transaction.target = command.handle;
-    command.transaction.flags = chance(2) ? TF_ONE_WAY : 0;
+    command.transaction.flags = chance(2) ? HULLPIPPIN_TF_ONE_WAY : 0;
     return command;
 }
 

@@ -93,7 +93,7 @@ static bool makes_with_object(hullpippin_live *live, uint32_t seat, uint32_t cod
 /* The object goes with a one-way call to the manager. */
 static bool sends(hullpippin_live *live, uint32_t seat, uint64_t object)
 {
-    return makes_with_object(live, seat, HULLPIPPIN_BC_TRANSACTION, TF_ONE_WAY, object);
+    return makes_with_object(live, seat, HULLPIPPIN_BC_TRANSACTION, HULLPIPPIN_TF_ONE_WAY, object);
 }
 
 /* Reads until nothing is left. */
@@ -138,7 +138,7 @@ static bool one_way_call(hullpippin_live *live, uint64_t object)
 {
     uint64_t buffer;
     (void)object;
-    return calls(live, CLIENT, 0, TF_ONE_WAY) && drains(live, CLIENT) && takes(live, MANAGER, &buffer) && frees(live, MANAGER, buffer);
+    return calls(live, CLIENT, 0, HULLPIPPIN_TF_ONE_WAY) && drains(live, CLIENT) && takes(live, MANAGER, &buffer) && frees(live, MANAGER, buffer);
 }
 
 static bool call(hullpippin_live *live, uint64_t object)
@@ -213,8 +213,8 @@ static bool process_with_a_name(hullpippin_live *live, uint64_t object)
 static bool process_with_calls(hullpippin_live *live, uint64_t object)
 {
     uint64_t buffer, kept;
-    return visits(live, object, &buffer) && calls(live, MANAGER, HANDLE, TF_ONE_WAY) && drains(live, MANAGER) && reads(live, GUEST)
-           && takes(live, GUEST, &kept) && calls(live, MANAGER, HANDLE, TF_ONE_WAY) && calls(live, MANAGER, HANDLE, TF_ONE_WAY)
+    return visits(live, object, &buffer) && calls(live, MANAGER, HANDLE, HULLPIPPIN_TF_ONE_WAY) && drains(live, MANAGER) && reads(live, GUEST)
+           && takes(live, GUEST, &kept) && calls(live, MANAGER, HANDLE, HULLPIPPIN_TF_ONE_WAY) && calls(live, MANAGER, HANDLE, HULLPIPPIN_TF_ONE_WAY)
            && calls(live, MANAGER, HANDLE, 0) && exits(live, GUEST) && drains(live, MANAGER) && frees(live, MANAGER, buffer);
 }
 

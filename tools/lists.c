@@ -17,7 +17,7 @@ static bool sends(hullpippin_live *live)
 {
     uint8_t data[24];
     hullpippin_flat_object object = {.kind = HULLPIPPIN_TYPE_BINDER, .binder = 0x1000, .cookie = 0x2000};
-    hullpippin_command command = {.code = HULLPIPPIN_BC_TRANSACTION, .transaction = {.flags = TF_ONE_WAY, .data_size = 24, .offsets_size = 8}};
+    hullpippin_command command = {.code = HULLPIPPIN_BC_TRANSACTION, .transaction = {.flags = HULLPIPPIN_TF_ONE_WAY, .data_size = 24, .offsets_size = 8}};
     return is(!hullpippin_put_object(&object, data, sizeof data), "the object has no place") && runs(live, CLIENT, &command, data);
 }
 

@@ -189,7 +189,7 @@ static bool sends(hullpippin_live *live)
         .kind = HULLPIPPIN_TYPE_WEAK_BINDER, .binder = WEAK_PTR, .cookie = WEAK_COOKIE, .start = OBJECT_SIZE};
     hullpippin_command command = {
         .code = HULLPIPPIN_BC_TRANSACTION,
-        .transaction = {.code = 7, .flags = TF_ONE_WAY, .data_size = sizeof data, .offsets_size = sizeof OFFSETS}};
+        .transaction = {.code = 7, .flags = HULLPIPPIN_TF_ONE_WAY, .data_size = sizeof data, .offsets_size = sizeof OFFSETS}};
     return is(!hullpippin_put_object(&strong, data, sizeof data) && !hullpippin_put_object(&weak, data, sizeof data), "no object")
            && runs(live, CLIENT, &command, data);
 }
@@ -241,7 +241,7 @@ static bool is_buffer(hullpippin_live *live, uint64_t made, const hullpippin_buf
 static bool tells_buffer(hullpippin_live *live, bool handed)
 {
     hullpippin_buffer wanted = {.receiver = OPENED_MANAGER, .sender = OPENED_CLIENT, .start = 0, .size = 64, .code = 7,
-                                .flags = TF_ONE_WAY, .euid = CLIENT_EUID, .one_way = true, .handed = handed, .is_call = true,
+                                .flags = HULLPIPPIN_TF_ONE_WAY, .euid = CLIENT_EUID, .one_way = true, .handed = handed, .is_call = true,
                                 .target = {MADE_MANAGER, 0}, .data = 48, .offsets = 16};
     hullpippin_buffer filler;
     memset(&filler, FILLER, sizeof filler);
@@ -391,7 +391,7 @@ static bool flooding(hullpippin_live *live)
 {
     static const uint8_t data[WINDOW / 4];
     static const hullpippin_work report = {.place = FLOODED, .kind = HULLPIPPIN_COMPLETION, .spam = true};
-    hullpippin_command command = {.code = HULLPIPPIN_BC_TRANSACTION, .transaction = {.flags = TF_ONE_WAY, .data_size = sizeof data}};
+    hullpippin_command command = {.code = HULLPIPPIN_BC_TRANSACTION, .transaction = {.flags = HULLPIPPIN_TF_ONE_WAY, .data_size = sizeof data}};
     hullpippin_answer answer;
     return is_made(hullpippin_live_set_spam(live, CLIENT, 1, &answer), &answer, HULLPIPPIN_SET) && tells_client(live, true)
            && runs(live, CLIENT, &command, data) && are_of_thread(live, CLIENT, &report, 1);

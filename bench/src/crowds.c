@@ -36,7 +36,7 @@ static bool gives(uint32_t seat, uint64_t pointer, uint32_t handle)
     hullpippin_flat_object object = {.kind = HULLPIPPIN_TYPE_BINDER, .binder = pointer};
     hullpippin_command keep = {.code = HULLPIPPIN_BC_ACQUIRE, .handle = handle};
     hullpippin_command send = {.code = HULLPIPPIN_BC_TRANSACTION,
-                               .transaction = {.flags = TF_ONE_WAY, .data_size = OBJECT_SIZE, .offsets_size = 8}};
+                               .transaction = {.flags = HULLPIPPIN_TF_ONE_WAY, .data_size = OBJECT_SIZE, .offsets_size = 8}};
     return is(!hullpippin_put_object(&object, data, sizeof data), "the object has no place") && runs(&live, seat, &send, data)
            && reads(&live, seat) && takes(&live, MANAGER, &buffer) && runs(&live, MANAGER, &keep, NULL) && frees(&live, MANAGER, buffer);
 }
@@ -92,7 +92,7 @@ static bool queued(uint32_t number)
 {
     bool good = true;
     for (uint32_t i = 0; good && i < number; i++)
-        good = calls(&live, CLIENT, 0, TF_ONE_WAY) && reads(&live, CLIENT);
+        good = calls(&live, CLIENT, 0, HULLPIPPIN_TF_ONE_WAY) && reads(&live, CLIENT);
     return good;
 }
 
@@ -140,14 +140,14 @@ static bool drain(uint32_t number)
 
 static bool calls_server(void)
 {
-    return calls(&live, MANAGER, SERVER_HANDLE, TF_ONE_WAY) && reads(&live, MANAGER) && takes_and_frees(SERVER)
+    return calls(&live, MANAGER, SERVER_HANDLE, HULLPIPPIN_TF_ONE_WAY) && reads(&live, MANAGER) && takes_and_frees(SERVER)
            && calls(&live, MANAGER, SERVER_HANDLE, 0) && reads(&live, MANAGER) && takes_and_frees(SERVER) && replies(&live, SERVER)
            && reads(&live, SERVER) && takes_and_frees(MANAGER);
 }
 
 static bool queues_one_more(void)
 {
-    return calls(&live, CLIENT, 0, TF_ONE_WAY) && reads(&live, CLIENT) && takes_and_frees(MANAGER) && calls_server();
+    return calls(&live, CLIENT, 0, HULLPIPPIN_TF_ONE_WAY) && reads(&live, CLIENT) && takes_and_frees(MANAGER) && calls_server();
 }
 
 static bool (*make)(void) = calls_server;

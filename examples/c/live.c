@@ -14,9 +14,6 @@
 #include <stdio.h>
 #include <string.h>
 
-/* The flag of a one-way call, as <linux/android/binder.h> has it. */
-#define TF_ONE_WAY 1u
-
 /* The seats: the context manager's thread, and its client's. */
 enum { MANAGER, CLIENT, SEATS };
 
@@ -154,7 +151,7 @@ static void one_way_call(uint8_t command[68])
     memset(command, 0, 68);
     put32(command, HULLPIPPIN_BC_TRANSACTION);
     put32(command + 4 + 16, 7);
-    put32(command + 4 + 20, TF_ONE_WAY);
+    put32(command + 4 + 20, HULLPIPPIN_TF_ONE_WAY);
     put32(command + 4 + 32, 2);
     put32(command + 4 + 56, 8);
 }

@@ -15,7 +15,6 @@
 /* The seats: the context manager's thread, and its client's. */
 enum { MANAGER, CLIENT, SEATS };
 
-#define TF_ONE_WAY 1u
 #define MOST 256
 
 static bool fails(const char *why)
@@ -50,7 +49,7 @@ static bool send_object(hullpippin_live *live)
     uint8_t data[24];
     hullpippin_flat_object object = {.kind = HULLPIPPIN_TYPE_BINDER, .binder = 0x1000, .cookie = 0x2000, .start = 0};
     hullpippin_command command = {.code = HULLPIPPIN_BC_TRANSACTION,
-                                  .transaction = {.code = 1, .flags = TF_ONE_WAY, .data_size = sizeof data,
+                                  .transaction = {.code = 1, .flags = HULLPIPPIN_TF_ONE_WAY, .data_size = sizeof data,
                                                   .offsets_size = sizeof offsets}};
     if (hullpippin_put_object(&object, data, sizeof data))
         return fails("the object has no place");

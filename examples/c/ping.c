@@ -17,9 +17,6 @@
 #include <stdio.h>
 #include <string.h>
 
-/* The flag of a one-way call, as <linux/android/binder.h> has it. */
-#define TF_ONE_WAY 1u
-
 /* How often a thread looks whether it is its turn. */
 #define TURNS 100000000
 
@@ -184,7 +181,7 @@ static void *ask(void *given)
 {
     struct part *part = given;
     uint8_t call[68], area[8] = {1, 2, 3, 4}, word[8] = {'h', 'i'};
-    transaction(call, HULLPIPPIN_BC_TRANSACTION, part->two_way ? 9 : 7, part->two_way ? 0 : TF_ONE_WAY, part->two_way ? 4 : 2);
+    transaction(call, HULLPIPPIN_BC_TRANSACTION, part->two_way ? 9 : 7, part->two_way ? 0 : HULLPIPPIN_TF_ONE_WAY, part->two_way ? 4 : 2);
     (void)(wait_for(part, 3) && open_line(part, 5, 200, 2000)
            && write_line(part, 6, call, sizeof call, part->two_way ? area : word, 8) && read_line(part, 7)
            && (!part->two_way || (wait_for(part, 8) && read_line(part, 10) && wait_for(part, 10) && look_line(part, 12))));

@@ -705,6 +705,25 @@ pub const HULLPIPPIN_TYPE_FDA: u32 = 0x66646185;
 /// The type of an object in a parcel. The last three are refused by name.
 pub const HULLPIPPIN_TYPE_PTR: u32 = 0x70742a85;
 
+/// TF_ONE_WAY, a flag of a transaction: nobody waits for a reply. The engine acts on this flag alone, and hands on all
+/// 32 bits.
+pub const HULLPIPPIN_TF_ONE_WAY: u32 = 0x01;
+
+/// TF_ROOT_OBJECT, handed on: the parcel is a root object.
+pub const HULLPIPPIN_TF_ROOT_OBJECT: u32 = 0x04;
+
+/// TF_STATUS_CODE, handed on: the data is a status.
+pub const HULLPIPPIN_TF_STATUS_CODE: u32 = 0x08;
+
+/// TF_ACCEPT_FDS, handed on: the reply may bring descriptors.
+pub const HULLPIPPIN_TF_ACCEPT_FDS: u32 = 0x10;
+
+/// TF_CLEAR_BUF, handed on: the receiver's driver clears the buffer at its end.
+pub const HULLPIPPIN_TF_CLEAR_BUF: u32 = 0x20;
+
+/// TF_UPDATE_TXN, handed on: the call replaces an older one that nobody has read.
+pub const HULLPIPPIN_TF_UPDATE_TXN: u32 = 0x40;
+
 /// A transaction record: struct binder_transaction_data.
 #[repr(C)]
 #[derive(Clone, Copy, Debug, Default, PartialEq, Eq)]
@@ -715,7 +734,7 @@ pub struct hullpippin_transaction {
     pub cookie: u64,
     /// What is asked for.
     pub code: u32,
-    /// All 32 bits.
+    /// HULLPIPPIN_TF_ONE_WAY and others; all 32 bits are kept.
     pub flags: u32,
     /// The caller's, in what is read.
     pub sender_pid: i32,

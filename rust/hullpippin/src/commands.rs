@@ -5,18 +5,18 @@ use crate::Fault;
 use hullpippin_sys as sys;
 use std::fmt;
 
-/// A flag of a transaction: nobody waits for a reply.
-pub const ONE_WAY: u32 = 0x01;
-/// A flag that is handed on: the parcel is a root object.
-pub const ROOT_OBJECT: u32 = 0x04;
-/// A flag that is handed on: the data is a status.
-pub const STATUS_CODE: u32 = 0x08;
-/// A flag that is handed on: descriptors may come in the reply.
-pub const ACCEPT_FDS: u32 = 0x10;
-/// A flag that is handed on: the buffer is to be cleared.
-pub const CLEAR_BUF: u32 = 0x20;
-/// A flag that is handed on: the call replaces an older one.
-pub const UPDATE_TXN: u32 = 0x40;
+/// `TF_ONE_WAY`, a flag of a transaction: nobody waits for a reply.
+pub const ONE_WAY: u32 = sys::HULLPIPPIN_TF_ONE_WAY;
+/// `TF_ROOT_OBJECT`, a flag that is handed on: the parcel is a root object.
+pub const ROOT_OBJECT: u32 = sys::HULLPIPPIN_TF_ROOT_OBJECT;
+/// `TF_STATUS_CODE`, a flag that is handed on: the data is a status.
+pub const STATUS_CODE: u32 = sys::HULLPIPPIN_TF_STATUS_CODE;
+/// `TF_ACCEPT_FDS`, a flag that is handed on: the reply may bring descriptors.
+pub const ACCEPT_FDS: u32 = sys::HULLPIPPIN_TF_ACCEPT_FDS;
+/// `TF_CLEAR_BUF`, a flag that is handed on: the receiver's driver clears the buffer at its end.
+pub const CLEAR_BUF: u32 = sys::HULLPIPPIN_TF_CLEAR_BUF;
+/// `TF_UPDATE_TXN`, a flag that is handed on: the call replaces an older one that nobody has read.
+pub const UPDATE_TXN: u32 = sys::HULLPIPPIN_TF_UPDATE_TXN;
 
 /// The record of a transaction or reply, 64 bytes (`struct binder_transaction_data`).
 #[derive(Clone, Copy, Debug, Default, PartialEq, Eq, Hash)]
