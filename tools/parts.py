@@ -212,22 +212,30 @@ def replaced(name, pattern, text):
         file.write(after)
 
 
+def told(about):
+    """What the last whole check came to, in words, and the table of its parts."""
+    passed, failed, wall, used = (sum(it[name] for it in about["parts"]) for name in ("passed", "failed", "wall", "processor"))
+    took = f"{wall / 60:.0f} minutes on {about['processors']} processors, {used / 60:.0f} of a processor"
+    rows = [f"| `{it['name']}` | {it['passed']} | {it['failed']} | {it['wall'] / 60:.1f} | {it['processor'] / 60:.1f} |" for it in about["parts"]]
+    table = ["| Part | Passed | Failed | Minutes | Processor minutes |", "|---|---|---|---|---|", *rows,
+             f"| all | {passed} | {failed} | {wall / 60:.1f} | {used / 60:.1f} |"]
+    return f"{passed} passed, {failed} failed", took, table
+
+
 def write():
-    """Puts the table of the last whole check into docs/CHECKS.md, and its last line into README.md."""
+    """Puts what the last whole check came to into README.md and docs/CHECKS.md, and its table into docs/FIGURES.md."""
     with open(LAST, encoding="utf-8") as file:
         about = json.load(file)
-    rows = [f"| `{it['name']}` | {it['passed']} | {it['failed']} | {it['wall'] / 60:.1f} | {it['processor'] / 60:.1f} |" for it in about["parts"]]
-    sums = [sum(it[name] for it in about["parts"]) for name in ("passed", "failed", "wall", "processor")]
-    lines = [f"`./check` of commit {about['commit'][:8]}, {about['date']}, on {about['processors']} processors:", "",
-             "| Part | Passed | Failed | Minutes | Processor minutes |", "|---|---|---|---|---|", *rows,
-             f"| all | {sums[0]} | {sums[1]} | {sums[2] / 60:.1f} | {sums[3] / 60:.1f} |"]
-    table = "<!-- check -->\n" + "\n".join(lines) + "\n<!-- /check -->"
-    replaced("docs/CHECKS.md", re.compile(r"<!-- check -->\n.*?<!-- /check -->", re.S), table)
-    replaced("README.md", re.compile(r"^    (?:N|\d+) passed, \d+ failed$", re.M), f"    {sums[0]} passed, {sums[1]} failed")
+    counts, took, table = told(about)
+    whose, marks = f"`./check` of commit {about['commit'][:8]}, {about['date']}", re.compile(r"<!-- check -->\n.*?<!-- /check -->", re.S)
+    for name, lines in (("docs/CHECKS.md", [f"{whose}: {counts}, in {took}. [Each part](FIGURES.md#the-last-whole-check)."]),
+                        ("docs/FIGURES.md", [f"{whose}, on {about['processors']} processors:", "", *table])):
+        replaced(name, marks, "\n".join(["<!-- check -->", *lines, "<!-- /check -->"]))
+    replaced("README.md", re.compile(r"^    (?:N|\d+) passed, \d+ failed.*$", re.M), f"    {counts}        # commit {about['commit'][:8]}: {took}")
 
 
 def arguments(names):
-    parser = argparse.ArgumentParser(prog="check", usage="check [--offline] [--only PART ..] [--list]")
+    parser = argparse.ArgumentParser(prog="check", usage="check [--offline] [--only PART ..] [--list | --write]")
     parser.add_argument("--offline", action="store_true")
     parser.add_argument("--only", nargs="+", choices=names, metavar="PART")
     parser.add_argument("--list", action="store_true")
