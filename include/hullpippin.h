@@ -2,12 +2,12 @@
 /*
  * hullpippin.h: the transaction engine of Android's Binder driver, as a library that the threads of a program share.
  *
- * Link with libhullpippin.a (docs/LIBRARY.md, "Building"), which asks malloc, realloc and free for memory. Nothing else is
- * needed: the library starts no thread, takes no lock, waits for nobody and opens no file.
+ * Link with libhullpippin.a (docs/LIBRARY.md, "Building"), which asks malloc, realloc and free for memory. It needs nothing
+ * else: the library starts no thread, takes no lock, waits for nobody and opens no file.
  *
  * A driver has 1 to 31 seats. A seat stands for one calling thread: it opens a process or attaches to one, writes
- * commands (BC_..) and reads returns (BR_..), in the bytes of <linux/android/binder.h>, 64-bit form, protocol 8. The
- * answers are those of docs/RULES.md, and are proved to be; docs/FORMATS.md has the codes and records.
+ * commands (BC_..) and reads returns (BR_..), in the bytes of <linux/android/binder.h>, 64-bit form, protocol 8. A proof
+ * shows that the answers are those of docs/RULES.md. docs/FORMATS.md has the codes and records.
  *
  *     hullpippin_driver driver = HULLPIPPIN_NO_DRIVER;
  *     hullpippin_seat seat = HULLPIPPIN_NO_SEAT;
@@ -15,32 +15,32 @@
  *     if (hullpippin_new(2, &driver) || hullpippin_take_seat(&driver, &seat)) ..
  *     if (hullpippin_open(&seat, 100, 1000, 4096, &answer) == HULLPIPPIN_DONE && answer.kind == HULLPIPPIN_OPENED) ..
  *
- * A driver keeps its history, which grows with each step. Who can't have that, or wants more seats, makes a live engine in
- * its place (hullpippin_live_new): it keeps what its history has come to, and hands each step's entry out.
+ * A driver keeps its history, which grows with each step. If you can't have that, or want more seats, make a live engine
+ * (hullpippin_live_new): it keeps what its history has come to, and hands each step's entry out.
  *
- * A handle that isn't what a call is for is told, and nothing is done: HULLPIPPIN_MISUSE. So it is with an empty handle, as
- * one is that was let go of, or whose seat went back; with one that has something, where the call would fill it; with a driver
- * that has ended, where the call needs one that hasn't, and the other way round; with a seat that is given back to another driver
- * than its own. What answers a bool answers false then, what answers a number 0, and what answers nothing does nothing. Letting go
- * of an empty handle is no misuse.
+ * If a handle isn't what a call is for, the call does nothing and answers HULLPIPPIN_MISUSE. So it does with an empty
+ * handle, such as one that you let go of, or whose seat went back; with one that has something, where the call would fill it;
+ * with a driver that has ended, where the call needs one that hasn't, and the other way round; and with a seat that you give
+ * back to another driver than its own. A call that answers a bool answers false then, one that answers a number 0, and one
+ * that answers nothing does nothing. Letting go of an empty handle is no misuse.
  *
- * What can't be seen from within is the caller's, and where it isn't kept nothing is said:
+ * The library can't see the following, which is yours to keep. If you don't, nothing is promised:
  *
- *  - Each handle is empty when it is made: HULLPIPPIN_NO_DRIVER, HULLPIPPIN_NO_SEAT, HULLPIPPIN_NO_LIVE, or all zeros, as a
- *    static one is. From then on it has what a function of this header left there. It isn't copied, and its pointer is neither
- *    read nor changed.
- *  - No pointer is wild: each leads to what it says, of the size that is told. NULL is one, but for (NULL, 0), which are no
+ *  - Each handle is empty when you make it: HULLPIPPIN_NO_DRIVER, HULLPIPPIN_NO_SEAT, HULLPIPPIN_NO_LIVE, or all zeros, as a
+ *    static one is. From then on it has what a function of this header left there. You don't copy it, and neither read nor
+ *    change its pointer.
+ *  - No pointer is wild: each leads to what it says, of the size that you tell. NULL is wild, but for (NULL, 0), which are no
  *    bytes or no numbers: so no handle is at NULL, nor an answer or a size that a call fills.
- *  - At most one call at a time is made with a handle. A handle may go to another thread, by whatever orders the
- *    threads: a start, a join, a mutex. Different handles may be used at the same time by different threads, those of
+ *  - You make at most one call at a time with a handle. A handle may go to another thread, by whatever orders the
+ *    threads: a start, a join, a mutex. Different threads may use different handles at the same time, those of
  *    one driver too, which is what they are for.
- *  - No two pointers of one call lead to memory that overlaps, where one of them is written through.
- *  - A program has one copy of this library: a seat of another copy's driver may be taken for one of this one's.
- *  - No call is made in a signal handler, or in the forked child of a process with threads. malloc aligns to 16.
+ *  - No two pointers of one call lead to memory that overlaps, if the call writes through one of them.
+ *  - A program has one copy of this library: it may take a seat of another copy's driver for one of its own.
+ *  - You make no call in a signal handler, or in the forked child of a process with threads. malloc aligns to 16.
  *
- * Bytes that are given to a call stay the caller's, and may go once the call is back: the library copies them. Bytes
- * that a call answers stay with the seat until its next call, and are fetched by hullpippin_answer_bytes; with a live
- * engine they stay until its next step, and are fetched by hullpippin_live_bytes.
+ * Bytes that you pass to a call stay yours, and may go once the call is back: the library copies them. Bytes that a call
+ * answers stay with the seat until its next call, and hullpippin_answer_bytes fetches them. With a live engine they stay
+ * until its next step, and hullpippin_live_bytes fetches them.
  */
 #ifndef HULLPIPPIN_H
 #define HULLPIPPIN_H
@@ -58,7 +58,7 @@ typedef struct {
     void *at;
 } hullpippin_driver;
 
-/* A seat that was taken off a driver. */
+/* A seat of a driver. */
 typedef struct {
     void *at;
 } hullpippin_seat;
@@ -68,7 +68,7 @@ typedef struct {
     void *at;
 } hullpippin_live;
 
-/* Handles that have nothing, to begin with or to be assigned. A static handle that isn't given another value begins as one. */
+/* Handles that have nothing, to begin with or to assign. A static handle without another value begins as one. */
 #ifdef __cplusplus
 #define HULLPIPPIN_NO_DRIVER hullpippin_driver{ NULL }
 #define HULLPIPPIN_NO_SEAT hullpippin_seat{ NULL }
@@ -87,7 +87,7 @@ typedef struct {
 /* The version of this header, a byte for each of its numbers: 2.0.0. */
 #define HULLPIPPIN_VERSION 0x020000
 
-/* Whether a call was made. With every number but 0 nothing was done, and nothing was written to what the call fills. */
+/* Whether the library made a call. With every number but 0 it did nothing, and wrote nothing to what the call fills. */
 enum {
     HULLPIPPIN_DONE = 0,            /* it was made */
     HULLPIPPIN_NO_MEMORY = 1,       /* malloc gave none for the call's own copies; it may be made again */
@@ -143,7 +143,7 @@ enum {
     HULLPIPPIN_OFFSETS = 2, /* the offsets of its objects */
 };
 
-/* Kinds of requests that are posted. */
+/* Kinds of requests to post. */
 enum {
     HULLPIPPIN_OPEN = 1,
     HULLPIPPIN_ATTACH = 2,
@@ -248,7 +248,7 @@ typedef struct {
     bool taken;     /* a seat has the engine */
 } hullpippin_page;
 
-/* A request to be posted. A field that its kind has no use for isn't looked at. */
+/* A request to post. The library ignores a field that its kind has no use for. */
 typedef struct {
     uint32_t kind;   /* HULLPIPPIN_OPEN .. HULLPIPPIN_SET_SPAM */
     uint32_t pid;    /* open, attach */
@@ -258,7 +258,7 @@ typedef struct {
     uint32_t on;     /* set_spam: 1, or 0 for no longer */
 } hullpippin_request;
 
-/* What is said of a journal. */
+/* The verdict on a journal. */
 typedef struct {
     bool lawful;    /* whether each of its entries follows from those before: up to 4294967295 of them are a history then */
     size_t entries; /* how many do, from the first on: all of them where it is lawful */
@@ -275,10 +275,10 @@ typedef struct {
 } hullpippin_turn;
 
 /*
- * The library itself. Whoever may be anywhere: these need no handle, take no memory, and read nothing that changes.
+ * Functions without a handle: call them from any thread at any time. They take no memory, and read nothing that changes.
  */
 
-/* The version of the library that is linked, as HULLPIPPIN_VERSION has the header's. */
+/* The version of the library that you link, as HULLPIPPIN_VERSION has the header's. */
 uint32_t hullpippin_version(void);
 
 /* Copies the text of a number of this kind (HULLPIPPIN_TEXT_STATUS ..), which is ASCII and has no NUL behind it, to `out`
@@ -286,16 +286,16 @@ uint32_t hullpippin_version(void);
 size_t hullpippin_text_bytes(uint32_t kind, uint32_t number, uint8_t *out, size_t room);
 
 /*
- * Drivers. These calls are made by one thread at a time, as with any handle. Each also answers MISUSE where it answers a
- * status; so do those of seats and of live engines. With verdict, which has no handle, there is none.
+ * Drivers. One thread at a time makes these calls, as with any handle. Each that answers a status may also answer MISUSE,
+ * and so may those of seats and of live engines; but not verdict, which has no handle.
  */
 
-/* Makes a driver with so many seats, numbered from 0. `driver` is empty, and stays so unless DONE is answered. Also
+/* Makes a driver with so many seats, numbered from 0. `driver` is empty, and stays so unless the answer is DONE. Also
    NO_MEMORY, SEAT_COUNT. */
 uint32_t hullpippin_new(uint32_t seats, hullpippin_driver *driver);
 
 /* Takes a seat off the driver: the first that is there, so of a new driver seat 0, then seat 1. `seat` is empty, and
-   stays so unless DONE is answered. Also NO_MEMORY, NO_SEAT_LEFT. */
+   stays so unless the answer is DONE. Also NO_MEMORY, NO_SEAT_LEFT. */
 uint32_t hullpippin_take_seat(hullpippin_driver *driver, hullpippin_seat *seat);
 
 /* Gives a seat back to its own driver, behind those that are there, and empties `seat`. What its latest call answered
@@ -315,7 +315,7 @@ uint32_t hullpippin_verdict(const uint8_t *journal, size_t size, hullpippin_verd
 
 /*
  * Certificates: what is so of the history whose journal the bytes are. Each reads and judges the journal first. Also NO_JOURNAL,
- * UNLAWFUL, NO_MEMORY. Where `room` is too little for all that is told, `out` stays as it was and `count` tells how many there are.
+ * UNLAWFUL, NO_MEMORY. If `room` is too little for all of them, `out` stays as it was, and `count` tells how many there are.
  */
 
 /* How what a handle names in the end came to the live process with this pid: the places of the gifts, rising. The first is by the
@@ -324,11 +324,11 @@ uint32_t hullpippin_verdict(const uint8_t *journal, size_t size, hullpippin_verd
 uint32_t hullpippin_chain(const uint8_t *journal, size_t size, uint32_t pid, uint32_t handle, uint32_t *out, size_t room,
                           size_t *count);
 
-/* Which call is answered by the reply that the read at a place got, by the place of its BC_TRANSACTION: HULLPIPPIN_NO_PLACE where
-   no reply was read there, and nowhere else. */
+/* Which call the reply answers that the read at a place got, by the place of its BC_TRANSACTION: HULLPIPPIN_NO_PLACE where
+   that read got no reply, and nowhere else. */
 uint32_t hullpippin_call_of_reply(const uint8_t *journal, size_t size, uint32_t place, uint32_t *call);
 
-/* The one-way calls on an object, in the order in which they were made. The object is the one that the step at `place` made, or
+/* The one-way calls on an object, in the order of their making. The object is the one that the step at `place` made, or
    of several the one of this index, from 0. */
 uint32_t hullpippin_turns(const uint8_t *journal, size_t size, uint32_t place, uint32_t index, hullpippin_turn *out, size_t room,
                           size_t *count);
@@ -337,14 +337,13 @@ uint32_t hullpippin_turns(const uint8_t *journal, size_t size, uint32_t place, u
    nothing where it is empty. */
 void hullpippin_free_driver(hullpippin_driver *driver);
 
-/* Lets go of a seat for good, and empties the handle. Its driver can't be finished then. Does nothing where it is
+/* Lets go of a seat for good, and empties the handle. Nothing can finish its driver then. Does nothing where it is
    empty. */
 void hullpippin_free_seat(hullpippin_seat *seat);
 
 /*
- * Requests of a seat. Each makes one call of the driver, tries to take the engine once, and never waits: where another
- * seat has it, the answer is BACK with BACK_TAKEN, and nothing was run. `answer` is filled where DONE is answered. Also
- * WAITING.
+ * Requests of a seat. Each makes one call of the driver, tries to take the engine once, and never waits. If another
+ * seat has it, the answer is BACK with BACK_TAKEN, and nothing ran. DONE fills `answer`. Also WAITING.
  */
 
 /* Opens a process with one thread, the seat's: `pid` 1 to 2147483647, `window` a multiple of 4096 up to 4194304. */
@@ -357,9 +356,9 @@ uint32_t hullpippin_attach(hullpippin_seat *seat, uint32_t pid, hullpippin_answe
 uint32_t hullpippin_manager(hullpippin_seat *seat, hullpippin_answer *answer);
 
 /* Has the seat's process told of its own flooding with one-way calls where `on` is 1, and no longer where it is 0
-   (BINDER_ENABLE_ONEWAY_SPAM_DETECTION). While it is told, an accepted one-way transaction reads
-   BR_ONEWAY_SPAM_SUSPECT in place of BR_TRANSACTION_COMPLETE where the process's one-way buffers that live in the
-   receiver's window take more than a quarter of it. At first it isn't. Also NO_SUCH_REQUEST, where `on` is neither 0
+   (BINDER_ENABLE_ONEWAY_SPAM_DETECTION). While `on` is 1, an accepted one-way transaction reads
+   BR_ONEWAY_SPAM_SUSPECT in place of BR_TRANSACTION_COMPLETE, if the process's one-way buffers that live in the
+   receiver's window take more than a quarter of it. At first it is 0. Also NO_SUCH_REQUEST, where `on` is neither 0
    nor 1, and nowhere else. */
 uint32_t hullpippin_set_spam(hullpippin_seat *seat, uint32_t on, hullpippin_answer *answer);
 
@@ -369,7 +368,7 @@ uint32_t hullpippin_write(hullpippin_seat *seat, const uint8_t *stream, size_t s
                           size_t area_size, hullpippin_answer *answer);
 
 /* Reads returns of at most `limit` bytes, which is at least 72 (the read half of BINDER_WRITE_READ). Where it is GOT,
-   the answer has the sizes, and the bytes stay with the seat. Where there is nothing to read, it is REFUSED with F12. */
+   the answer has the sizes, and the bytes stay with the seat. If there is nothing to read, it is REFUSED, with F12. */
 uint32_t hullpippin_read(hullpippin_seat *seat, uint32_t limit, hullpippin_answer *answer);
 
 /* Ends the seat's thread (BINDER_THREAD_EXIT). The seat may open or attach again. */
@@ -379,12 +378,12 @@ uint32_t hullpippin_exit_thread(hullpippin_seat *seat, hullpippin_answer *answer
 uint32_t hullpippin_exit_process(hullpippin_seat *seat, hullpippin_answer *answer);
 
 /* Makes the request again that came back with the seat's latest answer, of these calls, hullpippin_collect or
-   hullpippin_withdraw. Its bytes needn't be there any more, and aren't copied anew. Also NO_SUCH_REQUEST, where that
+   hullpippin_withdraw. It needs no bytes of yours any more, and copies none anew. Also NO_SUCH_REQUEST, where that
    answer wasn't BACK, or there was none, and nowhere else. */
 uint32_t hullpippin_again(hullpippin_seat *seat, hullpippin_answer *answer);
 
 /*
- * What the latest answer has besides its numbers. It stays until the seat's next answer, and can be fetched again.
+ * What the latest answer has besides its numbers. It stays until the seat's next answer, and you can fetch it again.
  */
 
 /* Copies a part of what a read got to `out`, if all of it fits in `room` bytes, and else nothing. Answers how many
@@ -405,8 +404,8 @@ void hullpippin_look(hullpippin_seat *seat, hullpippin_page *page);
 uint32_t hullpippin_ready(hullpippin_seat *seat);
 
 /*
- * Handing over: a request is posted, run by whoever serves, and its answer collected. Until it is answered or
- * withdrawn, the seat's requests above answer WAITING.
+ * Handing over: a seat posts a request, whoever serves runs it, and the seat collects the answer. Until it has the answer or
+ * has withdrawn the request, the seat's requests above answer WAITING.
  */
 
 /* Posts a request; the stream and the area are those of a write. Also WAITING, NO_MEMORY; and NO_SUCH_REQUEST, where
@@ -414,27 +413,27 @@ uint32_t hullpippin_ready(hullpippin_seat *seat);
 uint32_t hullpippin_post(hullpippin_seat *seat, const hullpippin_request *request, const uint8_t *stream,
                          size_t stream_size, const uint8_t *area, size_t area_size);
 
-/* Runs what all seats have posted, once each, and tells in `picked` how many that were. Also TAKEN. */
+/* Runs what all seats have posted, once each, and tells in `picked` how many requests. Also TAKEN. */
 uint32_t hullpippin_serve(hullpippin_seat *seat, uint32_t *picked);
 
-/* Fetches the answer to what was posted; HANDED while it isn't there. Also NOT_WAITING. */
+/* Fetches the answer to what the seat posted; HANDED while there is none. Also NOT_WAITING. */
 uint32_t hullpippin_collect(hullpippin_seat *seat, hullpippin_answer *answer);
 
-/* Takes back what was posted, if nobody has picked it: BACK with BACK_WITHDRAWN, or HANDED. Also NOT_WAITING. */
+/* Takes back what the seat posted, if nobody has picked it: BACK with BACK_WITHDRAWN, or HANDED. Also NOT_WAITING. */
 uint32_t hullpippin_withdraw(hullpippin_seat *seat, hullpippin_answer *answer);
 
 /*
- * Live engines: no history is kept, so what one has takes as much memory as there are processes, objects, calls and
- * buffers, however many steps were made. One handle is for all seats, which the calls name by their numbers, from 0;
- * it is used by one thread at a time, as any handle. A step makes one entry of the history, and the engine has only
- * the latest: fetch its bytes with hullpippin_live_entry and append them to a file, and that file is a journal. There
- * are at most 18446744073709551615 steps, so places of them have 64 bits, and a device doesn't see their end.
+ * Live engines. One keeps no history, so it takes as much memory as there are processes, objects, calls and buffers,
+ * however many steps it has made. One handle is for all seats, which the calls name by their numbers, from 0. One
+ * thread at a time uses it, as any handle. A step makes one entry of the history, and the engine has only the latest:
+ * fetch its bytes with hullpippin_live_entry and append them to a file, and that file is a journal. There are at most
+ * 18446744073709551615 steps, so places of them have 64 bits, and a device doesn't see their end.
  *
- * Each step answers as the seat's request of that name does, and fills `answer` where it is DONE: one step, so `to`
- * is `from` and 1. Also NO_SUCH_SEAT, HISTORY_FULL, NO_MEMORY.
+ * Each step answers as the seat's request of that name does, and DONE fills `answer`: one step, so `to` is `from` and 1.
+ * Also NO_SUCH_SEAT, HISTORY_FULL, NO_MEMORY.
  */
 
-/* Makes a live engine with 1 to 65536 seats. `live` is empty, and stays so unless DONE is answered. Also NO_MEMORY,
+/* Makes a live engine with 1 to 65536 seats. `live` is empty, and stays so unless the answer is DONE. Also NO_MEMORY,
    SEAT_COUNT. */
 uint32_t hullpippin_live_new(uint32_t seats, hullpippin_live *live);
 
@@ -451,12 +450,12 @@ uint32_t hullpippin_live_manager(hullpippin_live *live, uint32_t seat, hullpippi
 /* As hullpippin_set_spam. Also NO_SUCH_REQUEST, as there, whatever `seat` is. */
 uint32_t hullpippin_live_set_spam(hullpippin_live *live, uint32_t seat, uint32_t on, hullpippin_answer *answer);
 
-/* Runs one command, whose bytes are `command`, as the command of a write of that one alone. With a transaction or
-   reply its parcel is given: the data and the offsets of its objects, of the sizes that its record says; else it is
-   refused with X7. The record's pointers aren't looked at. With other commands nothing is looked at of the parcel.
-   WROTE: `notes` is 1 where the command changed nothing, `stop` is AT_CAUSE where it was refused, and `number` is the
-   note's or the cause's; `consumed` is 0. REFUSED with F4 where the seat has no thread. Also NO_COMMAND: then it
-   isn't read, and no step is made; a write would stop there at a fault. */
+/* Runs one command, whose bytes are `command`, as the command of a write of that one alone. With a transaction or reply
+   pass its parcel: the data and the offsets of its objects, of the sizes that its record says; else the engine refuses it
+   with X7. It doesn't look at the record's pointers, nor, with other commands, at a parcel. WROTE: `notes` is 1 where the
+   command changed nothing, `stop` is AT_CAUSE where the engine refused it, and `number` is the note's or the cause's;
+   `consumed` is 0. REFUSED with F4 where the seat has no thread. Also NO_COMMAND: then the bytes are no command, at which a
+   write would stop with a fault, and the call makes no step. */
 uint32_t hullpippin_live_command(hullpippin_live *live, uint32_t seat, const uint8_t *command, size_t command_size,
                                  const uint8_t *data, size_t data_size, const uint8_t *offsets, size_t offsets_size,
                                  hullpippin_answer *answer);
@@ -473,28 +472,26 @@ uint32_t hullpippin_live_exit_process(hullpippin_live *live, uint32_t seat, hull
 /* Whether the seat has something to read; false where there is no such seat. Takes no memory. */
 bool hullpippin_live_ready(hullpippin_live *live, uint32_t seat);
 
-/* How many steps were made. Takes no memory. */
+/* How many steps it has made. Takes no memory. */
 uint64_t hullpippin_live_len(hullpippin_live *live);
 
-/* Copies where the buffers were made that ended by the latest step, each the place of its step in the history, oldest
-   first, to `out` if all of them fit in `room` places, and else nothing. Answers how many there are, 0 where no step
-   was made yet; they stay until the next step that is DONE. A buffer has ended where one made there lived before the
-   step and none does after it, so a bridge may take back its memory. Only a BC_FREE_BUFFER and the exits end buffers,
-   and only they take time for it: a BC_FREE_BUFFER looks for one, an exit looks through those of its own process.
-   Takes no memory. */
+/* Copies to `out` the places of the buffers that ended by the latest step, each that of the step that made it, oldest
+   first, if all of them fit in `room` places, and else nothing. Answers how many there are, 0 before the first step; they
+   stay until the next step that is DONE. A buffer has ended if one of that place lived before the step and none does after
+   it, so a bridge may take back its memory. Only a BC_FREE_BUFFER and the exits end buffers, and only they take time for
+   it: a BC_FREE_BUFFER looks for one, an exit looks through those of its own process. Takes no memory. */
 size_t hullpippin_live_ended(hullpippin_live *live, uint64_t *out, size_t room);
 
-/* Looks whether each of `count` seats has something to read, and notes it. Tells in `changed` for how many of them that
-   differs from what was noted when the seat was last looked at by this function; at first no seat has anything to
-   read. Which they are is fetched by hullpippin_live_changed. Other seats stay noted as they were: what becomes of them
-   is told when they are named next. Numbers that are no seat's are passed over. It costs a look at each seat that is
-   named, as hullpippin_live_ready does: name those that somebody waits for, or all. A step costs nothing for it. Also
-   NO_MEMORY: then all stays noted as it was. */
+/* Looks whether each of `count` seats has something to read, and notes it. Tells in `changed` how many of them differ from
+   what this function noted when it last looked at the seat; at first no seat has anything to read. Fetch them by
+   hullpippin_live_changed. It leaves the notes of other seats as they were: you hear of those when you name them next. It
+   passes over numbers that are no seat's. It costs a look at each seat that you name, as hullpippin_live_ready does: name
+   those that somebody waits for, or all. A step costs nothing for it. Also NO_MEMORY: then all notes stay as they were. */
 uint32_t hullpippin_live_poll(hullpippin_live *live, const uint32_t *seats, size_t count, size_t *changed);
 
 /* Copies the seats that the latest hullpippin_live_poll found changed to `out`, if all of them fit in `room` numbers,
    and else nothing. Answers how many there are; they stay until its next call that is DONE. Each was noted ready and
-   isn't now, or the other way round. Takes no memory. */
+   isn't now, or the other way round. It takes no memory. */
 size_t hullpippin_live_changed(hullpippin_live *live, uint32_t *out, size_t room);
 
 /* A list of what is to be read: that of a thread, which it alone reads, or that of a process. */
@@ -507,17 +504,17 @@ typedef struct {
 enum {
     HULLPIPPIN_LIST_OF_THREAD = 0,  /* that of a seat's thread */
     HULLPIPPIN_LIST_OF_PROCESS = 1, /* that of a process, which any of its threads reads that is in the loop */
-    HULLPIPPIN_ANY_LIST = 2,        /* any list at all: which ones they are isn't known */
+    HULLPIPPIN_ANY_LIST = 2,        /* any list at all: the engine doesn't know which ones */
 };
 
-/* Asks which lists were filled or emptied since this function was last DONE: something was on them then and nothing is now, or the
-   other way round. Tells in `count` how many they are; each is told by hullpippin_live_reached. Called after a step, it tells whom
-   to look at: besides the step's own seat only those have come to be ready or unready whose list is named, or the list of whose
-   process, or whose thread has ended. A list that got more, or was read and still has something, isn't named: so who wakes one
-   reader of a process looks again once it has read. Where the lists aren't known one is told, of the kind HULLPIPPIN_ANY_LIST, and
-   every seat may be meant: the first time, where more than 64 lists got or lost something, and after a step that took back what was
-   to be read. It takes memory where it has too little room for the lists, and a step takes none for it. Also NO_MEMORY: then all of
-   them are told the next time. */
+/* Asks which lists have filled or emptied since this function was last DONE: something was on them then and nothing is now, or the
+   other way round. Tells in `count` how many they are; hullpippin_live_reached tells each. Called after a step, it tells whom to
+   look at: besides the step's own seat only those can have come to be ready or unready whose list it names, or whose process's
+   list, or whose thread has ended. It doesn't name a list that got more, or from which a read left something: so who wakes one
+   reader of a process looks again once it has read. If the engine doesn't know the lists, it tells one of the kind
+   HULLPIPPIN_ANY_LIST, and may mean every seat: the first time, where more than 64 lists got or lost something, and after a step
+   that took back what was to be read. It takes memory if it has too little room for the lists; a step takes none for it. Also
+   NO_MEMORY: then the next ask tells all of them. */
 uint32_t hullpippin_live_ask_reached(hullpippin_live *live, size_t *count);
 
 /* Tells the list of an index, from 0, among those that the latest hullpippin_live_ask_reached found; false where there are no more.
@@ -527,9 +524,9 @@ bool hullpippin_live_reached(hullpippin_live *live, size_t index, hullpippin_tod
 /* As hullpippin_answer_bytes, of the latest step; 0 where that isn't a read, or didn't get anything. */
 size_t hullpippin_live_bytes(hullpippin_live *live, uint32_t part, uint8_t *out, size_t room);
 
-/* Tells in `size` how many bytes the latest step's entry has in a journal, 0 where no step was made yet, and copies
-   them to `out` if all of them fit in `room` bytes; else `out` stays as it was, and a later call with more room has
-   them, until the next step. Also NO_MEMORY, NO_JOURNAL: the call may be made again, the entry stays. */
+/* Tells in `size` how many bytes the latest step's entry has in a journal, 0 before the first step, and copies them to `out` if all
+   of them fit in `room` bytes; else `out` stays as it was, and a later call with more room has them, until the next step. Also
+   NO_MEMORY, NO_JOURNAL: you may make the call again, the entry stays. */
 uint32_t hullpippin_live_entry(hullpippin_live *live, uint8_t *out, size_t room, size_t *size);
 
 /* The same for what a journal of `count` entries begins with, 16 bytes, or 20 where there are more than 31 seats. Where
@@ -544,9 +541,8 @@ void hullpippin_free_live(hullpippin_live *live);
 
 /*
  * Looks at what a live engine's history has come to: its space (docs/RULES.md). Each answers whether there is such a thing, and tells it;
- * where there is none, what it would fill stays as it was. Processes, buffers, calls and death notifications are named by the place of
- * the step that made them, objects by that and an index. None takes memory, or changes anything. The cost is a few look-ups, but where
- * another is told.
+ * if there is none, what it would fill stays as it was. The place of the step that made it names a process, a buffer, a call and a death
+ * notification; that and an index name an object. No look takes memory, or changes anything. It costs a few searches, unless it says more.
  */
 
 /* An object's identity. */
@@ -557,11 +553,11 @@ typedef struct {
 
 /* A live process. */
 typedef struct {
-    uint64_t made;       /* the place of its open, by which it is named */
+    uint64_t made;       /* the place of its open, which is its name */
     uint32_t pid;        /* its pid */
     uint32_t euid;       /* its effective user id */
     uint32_t window;     /* the size of its window in bytes */
-    bool spam_detection; /* it is told of its own one-way flooding */
+    bool spam_detection; /* it hears of its own one-way flooding */
 } hullpippin_process;
 
 /* The live thread of a seat. */
@@ -576,8 +572,8 @@ typedef struct {
     uint64_t owner;   /* the process that owns it, live or not */
     uint64_t ptr;     /* by which its owner knows it */
     uint64_t cookie;  /* what its owner gave with it */
-    bool told_weak;   /* its owner was told that it is referred to */
-    bool told_strong; /* its owner was told that it is referred to strongly */
+    bool told_weak;   /* its owner has heard of a reference to it */
+    bool told_strong; /* its owner has heard of a strong reference to it */
 } hullpippin_object;
 
 /* A live buffer. */
@@ -606,17 +602,17 @@ typedef struct {
 /* A death notification. */
 typedef struct {
     uint64_t process;            /* the process that asked for it */
-    hullpippin_object_id object; /* the object whose owner's death is told */
+    hullpippin_object_id object; /* the object whose owner's death it is about */
     uint64_t cookie;             /* what the process gave with it */
     uint32_t phase;              /* HULLPIPPIN_ARMED .. */
-    bool cleared;                /* it was cleared while it was to be read, or read */
+    bool cleared;                /* its process cleared it after the owner's end */
 } hullpippin_death;
 
 /* How far a death notification is. */
 enum {
     HULLPIPPIN_ARMED = 0,        /* the owner lives */
-    HULLPIPPIN_QUEUED = 1,       /* the owner has ended, and that is to be read */
-    HULLPIPPIN_TOLD = 2,         /* it was read */
+    HULLPIPPIN_QUEUED = 1,       /* the owner has ended, and its process is still to read that */
+    HULLPIPPIN_TOLD = 2,         /* its process has read it */
     HULLPIPPIN_ACKNOWLEDGED = 3, /* and acknowledged */
 };
 
@@ -644,7 +640,7 @@ enum {
     HULLPIPPIN_CLEARED = 8,    /* BR_CLEAR_DEATH_NOTIFICATION_DONE */
 };
 
-/* The live process that was opened at this place. */
+/* The live process whose open is at this place. */
 bool hullpippin_live_process(hullpippin_live *live, uint64_t made, hullpippin_process *process);
 
 /* The live process with this pid: the place of its open. */
@@ -662,7 +658,7 @@ bool hullpippin_live_object(hullpippin_live *live, uint64_t place, uint32_t inde
 /* The object that a handle names for the live process with this pid. */
 bool hullpippin_live_named(hullpippin_live *live, uint32_t pid, uint32_t handle, hullpippin_object_id *object);
 
-/* The live buffer that was made at this place. */
+/* The live buffer of this place. */
 bool hullpippin_live_buffer(hullpippin_live *live, uint64_t made, hullpippin_buffer *buffer);
 
 /* The object of an index, from 0, among those that the live buffer made at this place carries: one for each object of its parcel, in
@@ -678,23 +674,23 @@ bool hullpippin_live_unread_of_process(hullpippin_live *live, uint64_t process, 
 /* The innermost open call that a seat's thread is in. */
 bool hullpippin_live_innermost(hullpippin_live *live, uint32_t seat, hullpippin_frame *frame);
 
-/* The death notification that was asked for at this place. */
+/* The death notification whose request is at this place. */
 bool hullpippin_live_death(hullpippin_live *live, uint64_t made, hullpippin_death *death);
 
-/* The first live process that was opened at the place `from` or behind it: the place of its open. To go through all that there are,
-   begin with 0, and go on with one more than was told; the same goes for the two looks that follow. */
+/* The first live process whose open is at the place `from` or behind it: the place of its open. To visit all, begin with 0, and go on
+   with one more than you were told; so do the two looks that follow. */
 bool hullpippin_live_next_process(hullpippin_live *live, uint64_t from, uint64_t *place);
 
-/* The least handle, `from` or above it, that names something for the live process with this pid. Where `from` itself names nothing, it
-   looks at each handle that is noted for the process, those of names that are gone too until room for more is made. */
+/* The least handle, `from` or above it, that names something for the live process with this pid. If `from` itself names nothing, it
+   looks at each handle that the engine has noted for the process, those of names that are gone too until it makes room for more. */
 bool hullpippin_live_next_handle(hullpippin_live *live, uint32_t pid, uint32_t from, uint32_t *handle);
 
-/* The first live buffer of a process, named by the place of its open, that was made at the place `from` or behind it: where it was made. */
+/* The first live buffer of a process, whose name is the place of its open, at the place `from` or behind it: its place. */
 bool hullpippin_live_next_buffer(hullpippin_live *live, uint64_t process, uint64_t from, uint64_t *made);
 
 /*
- * Commands, returns and parcels as bytes (docs/FORMATS.md): they are read and spelled exactly as the engine does it. These
- * functions have no handle and take no memory, and any thread may call them at any time.
+ * Commands, returns and parcels as bytes (docs/FORMATS.md), read and spelled exactly as the engine does it. These functions
+ * have no handle and take no memory, and any thread may call them at any time.
  */
 
 /* The code of a command. */
@@ -728,7 +724,7 @@ bool hullpippin_live_next_buffer(hullpippin_live *live, uint64_t process, uint64
 #define HULLPIPPIN_BR_FAILED_REPLY UINT32_C(0x00007211)
 #define HULLPIPPIN_BR_ONEWAY_SPAM_SUSPECT UINT32_C(0x00007213)
 
-/* The type of an object in a parcel. The last three are refused by name. */
+/* The type of an object in a parcel. The engine refuses the last three by name. */
 #define HULLPIPPIN_TYPE_BINDER UINT32_C(0x73622a85)
 #define HULLPIPPIN_TYPE_WEAK_BINDER UINT32_C(0x77622a85)
 #define HULLPIPPIN_TYPE_HANDLE UINT32_C(0x73682a85)
@@ -754,8 +750,8 @@ bool hullpippin_live_next_buffer(hullpippin_live *live, uint64_t process, uint64
 typedef struct {
     uint64_t target;       /* a handle in the low 32 bits, or the ptr of the receiver's object */
     uint64_t cookie;       /* of the receiver's object */
-    uint32_t code;         /* what is asked for */
-    uint32_t flags;        /* HULLPIPPIN_TF_ONE_WAY and others; all 32 bits are kept */
+    uint32_t code;         /* what the caller asks for */
+    uint32_t flags;        /* HULLPIPPIN_TF_ONE_WAY and others: all 32 bits */
     int32_t sender_pid;    /* the caller's, in what is read */
     uint32_t sender_euid;  /* the sender's, in what is read */
     uint64_t data_size;    /* how many bytes of data */
@@ -764,15 +760,15 @@ typedef struct {
     uint64_t offsets;      /* where the offsets begin, in the same way */
 } hullpippin_transaction;
 
-/* A command: its code, and the fields of a command of this code. A field that it has no use for isn't looked at where it is
-   spelled, and is 0 where it is read. */
+/* A command: its code, and the fields of a command of this code. Spelling ignores a field that it has no use for, and reading fills it
+   with 0. */
 typedef struct {
     uint32_t code;     /* HULLPIPPIN_BC_TRANSACTION .. */
     uint32_t handle;   /* increfs, acquire, release, decrefs, request and clear death notification */
     uint64_t pointer;  /* free_buffer: the buffer's; increfs_done, acquire_done: the object's ptr */
     uint64_t cookie;   /* increfs_done, acquire_done, request and clear death notification, dead_binder_done */
     hullpippin_transaction transaction; /* transaction, reply */
-    size_t size;       /* read: how many bytes it takes; not looked at where it is spelled */
+    size_t size;       /* reading: how many bytes it takes; spelling ignores it */
 } hullpippin_command;
 
 /* A return, in the same way. */
@@ -781,7 +777,7 @@ typedef struct {
     uint64_t pointer;  /* increfs, acquire, release, decrefs: the object's ptr */
     uint64_t cookie;   /* the same, dead_binder, clear_death_notification_done */
     hullpippin_transaction transaction; /* transaction, reply */
-    size_t size;       /* read: how many bytes it takes; not looked at where it is spelled */
+    size_t size;       /* reading: how many bytes it takes; spelling ignores it */
 } hullpippin_return;
 
 /* An object in a parcel: struct flat_binder_object, and where it stands. */
@@ -801,11 +797,11 @@ typedef struct {
 } hullpippin_walk;
 
 /* Reads the command at the head of a stream. Answers 0, or the number of the fault by which none is there, F1 to F3, and then
-   `command` stays as it was. What comes behind the command isn't looked at. */
+   `command` stays as it was. It doesn't look at what comes behind the command. */
 uint32_t hullpippin_next_command(const uint8_t *stream, size_t stream_size, hullpippin_command *command);
 
 /* Reads the return at the head of a stream. Answers 0, or the number of the fault by which none is there, F1 or F2, and then
-   `returned` stays as it was. What comes behind the return isn't looked at: the next one begins `size` bytes on. */
+   `returned` stays as it was. It doesn't look at what comes behind the return: the next one begins `size` bytes on. */
 uint32_t hullpippin_next_return(const uint8_t *stream, size_t stream_size, hullpippin_return *returned);
 
 /* Copies the bytes of a command to `out`, if all of them fit in `room` bytes, and else nothing. Answers how many it has, at most
@@ -815,11 +811,11 @@ size_t hullpippin_spell_command(const hullpippin_command *command, uint8_t *out,
 /* The same of a return. */
 size_t hullpippin_spell_return(const hullpippin_return *returned, uint8_t *out, size_t room);
 
-/* Tells the next object of a parcel, and takes the walk behind it. False where there is none: at the end, where the walk's
-   `cause` is 0, and where the parcel is refused, with the number of the cause by which a transaction with it would be: X8 where
-   the offsets are no whole numbers of 8 bytes; X9 where the next one is no multiple of 4, lies before the end of the object
-   before it, or its 24 bytes aren't all there, or no such type is known; X10 where it is the type of what isn't supported.
-   `object` stays as it was then, and a later call finds the same. */
+/* Tells the next object of a parcel, and takes the walk behind it. It is false where there is none: at the end, where the walk's
+   `cause` is 0; and where the engine would refuse a transaction with this parcel. Then `cause` is the number of the cause: X8 if the
+   offsets are no whole numbers of 8 bytes; X9 if the next one is no multiple of 4, lies before the end of the object before it, lacks
+   some of its 24 bytes, or leads to no known type; X10 if it leads to the type of what the engine doesn't support. `object` stays as it
+   was then, and a later call finds the same. */
 bool hullpippin_next_object(const uint8_t *data, size_t data_size, const uint8_t *offsets, size_t offsets_size,
                             hullpippin_walk *walk, hullpippin_flat_object *object);
 
@@ -843,14 +839,14 @@ static inline const char *hullpippin_text_in(uint32_t kind, uint32_t number, cha
 #ifdef __cplusplus
 }
 
-/* Room that lasts as long as the expression that it is made in. */
+/* Room that lasts as long as the expression around it. */
 struct hullpippin_text_room {
     char at[HULLPIPPIN_TEXT_ROOM];
 };
 #endif
 
-/* The text of a number of this kind, as a C string, NULL where there is none. It stays until the end of the block that it
-   is called in; in C++ until that of the expression. */
+/* The text of a number of this kind, as a C string, NULL where there is none. It stays until the end of the block around the call;
+   in C++ until that of the expression. */
 #ifdef __cplusplus
 #define hullpippin_text(kind, number) hullpippin_text_in(kind, number, hullpippin_text_room().at)
 #else

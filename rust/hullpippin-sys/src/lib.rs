@@ -23,7 +23,7 @@ impl hullpippin_driver {
     pub const NONE: hullpippin_driver = hullpippin_driver { at: core::ptr::null_mut() };
 }
 
-/// A seat that was taken off a driver.
+/// A seat of a driver.
 #[repr(C)]
 #[derive(Debug)]
 pub struct hullpippin_seat {
@@ -150,28 +150,28 @@ pub const HULLPIPPIN_DATA: u32 = 1;
 /// The offsets of its objects.
 pub const HULLPIPPIN_OFFSETS: u32 = 2;
 
-/// Kinds of requests that are posted.
+/// Kinds of requests to post.
 pub const HULLPIPPIN_OPEN: u32 = 1;
 
-/// Kinds of requests that are posted.
+/// Kinds of requests to post.
 pub const HULLPIPPIN_ATTACH: u32 = 2;
 
-/// Kinds of requests that are posted.
+/// Kinds of requests to post.
 pub const HULLPIPPIN_MANAGER: u32 = 3;
 
-/// Kinds of requests that are posted.
+/// Kinds of requests to post.
 pub const HULLPIPPIN_WRITE: u32 = 4;
 
-/// Kinds of requests that are posted.
+/// Kinds of requests to post.
 pub const HULLPIPPIN_READ: u32 = 5;
 
-/// Kinds of requests that are posted.
+/// Kinds of requests to post.
 pub const HULLPIPPIN_EXIT_THREAD: u32 = 6;
 
-/// Kinds of requests that are posted.
+/// Kinds of requests to post.
 pub const HULLPIPPIN_EXIT_PROCESS: u32 = 7;
 
-/// Kinds of requests that are posted.
+/// Kinds of requests to post.
 pub const HULLPIPPIN_SET_SPAM: u32 = 8;
 
 /// F1: the command is cut short.
@@ -371,7 +371,7 @@ pub struct hullpippin_page {
     pub taken: bool,
 }
 
-/// A request to be posted. A field that its kind has no use for isn't looked at.
+/// A request to post. The library ignores a field that its kind has no use for.
 #[repr(C)]
 #[derive(Clone, Copy, Debug, Default, PartialEq, Eq)]
 pub struct hullpippin_request {
@@ -389,7 +389,7 @@ pub struct hullpippin_request {
     pub on: u32,
 }
 
-/// What is said of a journal.
+/// The verdict on a journal.
 #[repr(C)]
 #[derive(Clone, Copy, Debug, Default, PartialEq, Eq)]
 pub struct hullpippin_verdict_on {
@@ -430,7 +430,7 @@ pub const HULLPIPPIN_LIST_OF_THREAD: u32 = 0;
 /// That of a process, which any of its threads reads that is in the loop.
 pub const HULLPIPPIN_LIST_OF_PROCESS: u32 = 1;
 
-/// Any list at all: which ones they are isn't known.
+/// Any list at all: the engine doesn't know which ones.
 pub const HULLPIPPIN_ANY_LIST: u32 = 2;
 
 /// An object's identity.
@@ -447,7 +447,7 @@ pub struct hullpippin_object_id {
 #[repr(C)]
 #[derive(Clone, Copy, Debug, Default, PartialEq, Eq)]
 pub struct hullpippin_process {
-    /// The place of its open, by which it is named.
+    /// The place of its open, which is its name.
     pub made: u64,
     /// Its pid.
     pub pid: u32,
@@ -455,7 +455,7 @@ pub struct hullpippin_process {
     pub euid: u32,
     /// The size of its window in bytes.
     pub window: u32,
-    /// It is told of its own one-way flooding.
+    /// It hears of its own one-way flooding.
     pub spam_detection: bool,
 }
 
@@ -481,9 +481,9 @@ pub struct hullpippin_object {
     pub ptr: u64,
     /// What its owner gave with it.
     pub cookie: u64,
-    /// Its owner was told that it is referred to.
+    /// Its owner has heard of a reference to it.
     pub told_weak: bool,
-    /// Its owner was told that it is referred to strongly.
+    /// Its owner has heard of a strong reference to it.
     pub told_strong: bool,
 }
 
@@ -535,23 +535,23 @@ pub struct hullpippin_frame {
 pub struct hullpippin_death {
     /// The process that asked for it.
     pub process: u64,
-    /// The object whose owner's death is told.
+    /// The object whose owner's death it is about.
     pub object: hullpippin_object_id,
     /// What the process gave with it.
     pub cookie: u64,
     /// HULLPIPPIN_ARMED ..
     pub phase: u32,
-    /// It was cleared while it was to be read, or read.
+    /// Its process cleared it after the owner's end.
     pub cleared: bool,
 }
 
 /// The owner lives.
 pub const HULLPIPPIN_ARMED: u32 = 0;
 
-/// The owner has ended, and that is to be read.
+/// The owner has ended, and its process is still to read that.
 pub const HULLPIPPIN_QUEUED: u32 = 1;
 
-/// It was read.
+/// Its process has read it.
 pub const HULLPIPPIN_TOLD: u32 = 2;
 
 /// And acknowledged.
@@ -684,25 +684,25 @@ pub const HULLPIPPIN_BR_FAILED_REPLY: u32 = 0x00007211;
 /// The code of a return.
 pub const HULLPIPPIN_BR_ONEWAY_SPAM_SUSPECT: u32 = 0x00007213;
 
-/// The type of an object in a parcel. The last three are refused by name.
+/// The type of an object in a parcel. The engine refuses the last three by name.
 pub const HULLPIPPIN_TYPE_BINDER: u32 = 0x73622a85;
 
-/// The type of an object in a parcel. The last three are refused by name.
+/// The type of an object in a parcel. The engine refuses the last three by name.
 pub const HULLPIPPIN_TYPE_WEAK_BINDER: u32 = 0x77622a85;
 
-/// The type of an object in a parcel. The last three are refused by name.
+/// The type of an object in a parcel. The engine refuses the last three by name.
 pub const HULLPIPPIN_TYPE_HANDLE: u32 = 0x73682a85;
 
-/// The type of an object in a parcel. The last three are refused by name.
+/// The type of an object in a parcel. The engine refuses the last three by name.
 pub const HULLPIPPIN_TYPE_WEAK_HANDLE: u32 = 0x77682a85;
 
-/// The type of an object in a parcel. The last three are refused by name.
+/// The type of an object in a parcel. The engine refuses the last three by name.
 pub const HULLPIPPIN_TYPE_FD: u32 = 0x66642a85;
 
-/// The type of an object in a parcel. The last three are refused by name.
+/// The type of an object in a parcel. The engine refuses the last three by name.
 pub const HULLPIPPIN_TYPE_FDA: u32 = 0x66646185;
 
-/// The type of an object in a parcel. The last three are refused by name.
+/// The type of an object in a parcel. The engine refuses the last three by name.
 pub const HULLPIPPIN_TYPE_PTR: u32 = 0x70742a85;
 
 /// TF_ONE_WAY, a flag of a transaction: nobody waits for a reply. The engine acts on this flag alone, and hands on all
@@ -732,9 +732,9 @@ pub struct hullpippin_transaction {
     pub target: u64,
     /// Of the receiver's object.
     pub cookie: u64,
-    /// What is asked for.
+    /// What the caller asks for.
     pub code: u32,
-    /// HULLPIPPIN_TF_ONE_WAY and others; all 32 bits are kept.
+    /// HULLPIPPIN_TF_ONE_WAY and others: all 32 bits.
     pub flags: u32,
     /// The caller's, in what is read.
     pub sender_pid: i32,
@@ -750,8 +750,8 @@ pub struct hullpippin_transaction {
     pub offsets: u64,
 }
 
-/// A command: its code, and the fields of a command of this code. A field that it has no use for isn't looked at where
-/// it is spelled, and is 0 where it is read.
+/// A command: its code, and the fields of a command of this code. Spelling ignores a field that it has no use for, and
+/// reading fills it with 0.
 #[repr(C)]
 #[derive(Clone, Copy, Debug, Default, PartialEq, Eq)]
 pub struct hullpippin_command {
@@ -765,7 +765,7 @@ pub struct hullpippin_command {
     pub cookie: u64,
     /// Transaction, reply.
     pub transaction: hullpippin_transaction,
-    /// Read: how many bytes it takes; not looked at where it is spelled.
+    /// Reading: how many bytes it takes; spelling ignores it.
     pub size: usize,
 }
 
@@ -781,7 +781,7 @@ pub struct hullpippin_return {
     pub cookie: u64,
     /// Transaction, reply.
     pub transaction: hullpippin_transaction,
-    /// Read: how many bytes it takes; not looked at where it is spelled.
+    /// Reading: how many bytes it takes; spelling ignores it.
     pub size: usize,
 }
 
@@ -814,7 +814,7 @@ pub struct hullpippin_walk {
 }
 
 extern "C" {
-    /// The version of the library that is linked, as HULLPIPPIN_VERSION has the header's.
+    /// The version of the library that you link, as HULLPIPPIN_VERSION has the header's.
     pub fn hullpippin_version() -> u32;
 
     /// Copies the text of a number of this kind (HULLPIPPIN_TEXT_STATUS ..), which is ASCII and has no NUL behind it,
@@ -822,12 +822,12 @@ extern "C" {
     /// there is none.
     pub fn hullpippin_text_bytes(kind: u32, number: u32, out: *mut u8, room: usize) -> usize;
 
-    /// Makes a driver with so many seats, numbered from 0. `driver` is empty, and stays so unless DONE is answered.
+    /// Makes a driver with so many seats, numbered from 0. `driver` is empty, and stays so unless the answer is DONE.
     /// Also NO_MEMORY, SEAT_COUNT.
     pub fn hullpippin_new(seats: u32, driver: *mut hullpippin_driver) -> u32;
 
     /// Takes a seat off the driver: the first that is there, so of a new driver seat 0, then seat 1. `seat` is empty,
-    /// and stays so unless DONE is answered. Also NO_MEMORY, NO_SEAT_LEFT.
+    /// and stays so unless the answer is DONE. Also NO_MEMORY, NO_SEAT_LEFT.
     pub fn hullpippin_take_seat(driver: *mut hullpippin_driver, seat: *mut hullpippin_seat) -> u32;
 
     /// Gives a seat back to its own driver, behind those that are there, and empties `seat`. What its latest call
@@ -860,12 +860,12 @@ extern "C" {
         count: *mut usize,
     ) -> u32;
 
-    /// Which call is answered by the reply that the read at a place got, by the place of its BC_TRANSACTION:
-    /// HULLPIPPIN_NO_PLACE where no reply was read there, and nowhere else.
+    /// Which call the reply answers that the read at a place got, by the place of its BC_TRANSACTION:
+    /// HULLPIPPIN_NO_PLACE where that read got no reply, and nowhere else.
     pub fn hullpippin_call_of_reply(journal: *const u8, size: usize, place: u32, call: *mut u32) -> u32;
 
-    /// The one-way calls on an object, in the order in which they were made. The object is the one that the step at
-    /// `place` made, or of several the one of this index, from 0.
+    /// The one-way calls on an object, in the order of their making. The object is the one that the step at `place`
+    /// made, or of several the one of this index, from 0.
     pub fn hullpippin_turns(
         journal: *const u8,
         size: usize,
@@ -880,7 +880,7 @@ extern "C" {
     /// nothing where it is empty.
     pub fn hullpippin_free_driver(driver: *mut hullpippin_driver);
 
-    /// Lets go of a seat for good, and empties the handle. Its driver can't be finished then. Does nothing where it is
+    /// Lets go of a seat for good, and empties the handle. Nothing can finish its driver then. Does nothing where it is
     /// empty.
     pub fn hullpippin_free_seat(seat: *mut hullpippin_seat);
 
@@ -900,9 +900,9 @@ extern "C" {
     pub fn hullpippin_manager(seat: *mut hullpippin_seat, answer: *mut hullpippin_answer) -> u32;
 
     /// Has the seat's process told of its own flooding with one-way calls where `on` is 1, and no longer where it is 0
-    /// (BINDER_ENABLE_ONEWAY_SPAM_DETECTION). While it is told, an accepted one-way transaction reads
-    /// BR_ONEWAY_SPAM_SUSPECT in place of BR_TRANSACTION_COMPLETE where the process's one-way buffers that live in the
-    /// receiver's window take more than a quarter of it. At first it isn't. Also NO_SUCH_REQUEST, where `on` is neither
+    /// (BINDER_ENABLE_ONEWAY_SPAM_DETECTION). While `on` is 1, an accepted one-way transaction reads
+    /// BR_ONEWAY_SPAM_SUSPECT in place of BR_TRANSACTION_COMPLETE, if the process's one-way buffers that live in the
+    /// receiver's window take more than a quarter of it. At first it is 0. Also NO_SUCH_REQUEST, where `on` is neither
     /// 0 nor 1, and nowhere else.
     pub fn hullpippin_set_spam(seat: *mut hullpippin_seat, on: u32, answer: *mut hullpippin_answer) -> u32;
 
@@ -918,7 +918,7 @@ extern "C" {
     ) -> u32;
 
     /// Reads returns of at most `limit` bytes, which is at least 72 (the read half of BINDER_WRITE_READ). Where it is
-    /// GOT, the answer has the sizes, and the bytes stay with the seat. Where there is nothing to read, it is REFUSED
+    /// GOT, the answer has the sizes, and the bytes stay with the seat. If there is nothing to read, it is REFUSED,
     /// with F12.
     pub fn hullpippin_read(seat: *mut hullpippin_seat, limit: u32, answer: *mut hullpippin_answer) -> u32;
 
@@ -929,8 +929,8 @@ extern "C" {
     pub fn hullpippin_exit_process(seat: *mut hullpippin_seat, answer: *mut hullpippin_answer) -> u32;
 
     /// Makes the request again that came back with the seat's latest answer, of these calls, hullpippin_collect or
-    /// hullpippin_withdraw. Its bytes needn't be there any more, and aren't copied anew. Also NO_SUCH_REQUEST, where
-    /// that answer wasn't BACK, or there was none, and nowhere else.
+    /// hullpippin_withdraw. It needs no bytes of yours any more, and copies none anew. Also NO_SUCH_REQUEST, where that
+    /// answer wasn't BACK, or there was none, and nowhere else.
     pub fn hullpippin_again(seat: *mut hullpippin_seat, answer: *mut hullpippin_answer) -> u32;
 
     /// Copies a part of what a read got to `out`, if all of it fits in `room` bytes, and else nothing. Answers how many
@@ -957,16 +957,16 @@ extern "C" {
         area_size: usize,
     ) -> u32;
 
-    /// Runs what all seats have posted, once each, and tells in `picked` how many that were. Also TAKEN.
+    /// Runs what all seats have posted, once each, and tells in `picked` how many requests. Also TAKEN.
     pub fn hullpippin_serve(seat: *mut hullpippin_seat, picked: *mut u32) -> u32;
 
-    /// Fetches the answer to what was posted; HANDED while it isn't there. Also NOT_WAITING.
+    /// Fetches the answer to what the seat posted; HANDED while there is none. Also NOT_WAITING.
     pub fn hullpippin_collect(seat: *mut hullpippin_seat, answer: *mut hullpippin_answer) -> u32;
 
-    /// Takes back what was posted, if nobody has picked it: BACK with BACK_WITHDRAWN, or HANDED. Also NOT_WAITING.
+    /// Takes back what the seat posted, if nobody has picked it: BACK with BACK_WITHDRAWN, or HANDED. Also NOT_WAITING.
     pub fn hullpippin_withdraw(seat: *mut hullpippin_seat, answer: *mut hullpippin_answer) -> u32;
 
-    /// Makes a live engine with 1 to 65536 seats. `live` is empty, and stays so unless DONE is answered. Also
+    /// Makes a live engine with 1 to 65536 seats. `live` is empty, and stays so unless the answer is DONE. Also
     /// NO_MEMORY, SEAT_COUNT.
     pub fn hullpippin_live_new(seats: u32, live: *mut hullpippin_live) -> u32;
 
@@ -1000,11 +1000,11 @@ extern "C" {
     ) -> u32;
 
     /// Runs one command, whose bytes are `command`, as the command of a write of that one alone. With a transaction or
-    /// reply its parcel is given: the data and the offsets of its objects, of the sizes that its record says; else it
-    /// is refused with X7. The record's pointers aren't looked at. With other commands nothing is looked at of the
-    /// parcel. WROTE: `notes` is 1 where the command changed nothing, `stop` is AT_CAUSE where it was refused, and
+    /// reply pass its parcel: the data and the offsets of its objects, of the sizes that its record says; else the
+    /// engine refuses it with X7. It doesn't look at the record's pointers, nor, with other commands, at a parcel.
+    /// WROTE: `notes` is 1 where the command changed nothing, `stop` is AT_CAUSE where the engine refused it, and
     /// `number` is the note's or the cause's; `consumed` is 0. REFUSED with F4 where the seat has no thread. Also
-    /// NO_COMMAND: then it isn't read, and no step is made; a write would stop there at a fault.
+    /// NO_COMMAND: then the bytes are no command, at which a write would stop with a fault, and the call makes no step.
     pub fn hullpippin_live_command(
         live: *mut hullpippin_live,
         seat: u32,
@@ -1034,23 +1034,23 @@ extern "C" {
     /// Whether the seat has something to read; false where there is no such seat. Takes no memory.
     pub fn hullpippin_live_ready(live: *mut hullpippin_live, seat: u32) -> bool;
 
-    /// How many steps were made. Takes no memory.
+    /// How many steps it has made. Takes no memory.
     pub fn hullpippin_live_len(live: *mut hullpippin_live) -> u64;
 
-    /// Copies where the buffers were made that ended by the latest step, each the place of its step in the history,
-    /// oldest first, to `out` if all of them fit in `room` places, and else nothing. Answers how many there are, 0
-    /// where no step was made yet; they stay until the next step that is DONE. A buffer has ended where one made there
-    /// lived before the step and none does after it, so a bridge may take back its memory. Only a BC_FREE_BUFFER and
-    /// the exits end buffers, and only they take time for it: a BC_FREE_BUFFER looks for one, an exit looks through
-    /// those of its own process. Takes no memory.
+    /// Copies to `out` the places of the buffers that ended by the latest step, each that of the step that made it,
+    /// oldest first, if all of them fit in `room` places, and else nothing. Answers how many there are, 0 before the
+    /// first step; they stay until the next step that is DONE. A buffer has ended if one of that place lived before the
+    /// step and none does after it, so a bridge may take back its memory. Only a BC_FREE_BUFFER and the exits end
+    /// buffers, and only they take time for it: a BC_FREE_BUFFER looks for one, an exit looks through those of its own
+    /// process. Takes no memory.
     pub fn hullpippin_live_ended(live: *mut hullpippin_live, out: *mut u64, room: usize) -> usize;
 
-    /// Looks whether each of `count` seats has something to read, and notes it. Tells in `changed` for how many of them
-    /// that differs from what was noted when the seat was last looked at by this function; at first no seat has
-    /// anything to read. Which they are is fetched by hullpippin_live_changed. Other seats stay noted as they were:
-    /// what becomes of them is told when they are named next. Numbers that are no seat's are passed over. It costs a
-    /// look at each seat that is named, as hullpippin_live_ready does: name those that somebody waits for, or all. A
-    /// step costs nothing for it. Also NO_MEMORY: then all stays noted as it was.
+    /// Looks whether each of `count` seats has something to read, and notes it. Tells in `changed` how many of them
+    /// differ from what this function noted when it last looked at the seat; at first no seat has anything to read.
+    /// Fetch them by hullpippin_live_changed. It leaves the notes of other seats as they were: you hear of those when
+    /// you name them next. It passes over numbers that are no seat's. It costs a look at each seat that you name, as
+    /// hullpippin_live_ready does: name those that somebody waits for, or all. A step costs nothing for it. Also
+    /// NO_MEMORY: then all notes stay as they were.
     pub fn hullpippin_live_poll(
         live: *mut hullpippin_live,
         seats: *const u32,
@@ -1060,18 +1060,18 @@ extern "C" {
 
     /// Copies the seats that the latest hullpippin_live_poll found changed to `out`, if all of them fit in `room`
     /// numbers, and else nothing. Answers how many there are; they stay until its next call that is DONE. Each was
-    /// noted ready and isn't now, or the other way round. Takes no memory.
+    /// noted ready and isn't now, or the other way round. It takes no memory.
     pub fn hullpippin_live_changed(live: *mut hullpippin_live, out: *mut u32, room: usize) -> usize;
 
-    /// Asks which lists were filled or emptied since this function was last DONE: something was on them then and
-    /// nothing is now, or the other way round. Tells in `count` how many they are; each is told by
-    /// hullpippin_live_reached. Called after a step, it tells whom to look at: besides the step's own seat only those
-    /// have come to be ready or unready whose list is named, or the list of whose process, or whose thread has ended. A
-    /// list that got more, or was read and still has something, isn't named: so who wakes one reader of a process looks
-    /// again once it has read. Where the lists aren't known one is told, of the kind HULLPIPPIN_ANY_LIST, and every
-    /// seat may be meant: the first time, where more than 64 lists got or lost something, and after a step that took
-    /// back what was to be read. It takes memory where it has too little room for the lists, and a step takes none for
-    /// it. Also NO_MEMORY: then all of them are told the next time.
+    /// Asks which lists have filled or emptied since this function was last DONE: something was on them then and
+    /// nothing is now, or the other way round. Tells in `count` how many they are; hullpippin_live_reached tells each.
+    /// Called after a step, it tells whom to look at: besides the step's own seat only those can have come to be ready
+    /// or unready whose list it names, or whose process's list, or whose thread has ended. It doesn't name a list that
+    /// got more, or from which a read left something: so who wakes one reader of a process looks again once it has
+    /// read. If the engine doesn't know the lists, it tells one of the kind HULLPIPPIN_ANY_LIST, and may mean every
+    /// seat: the first time, where more than 64 lists got or lost something, and after a step that took back what was
+    /// to be read. It takes memory if it has too little room for the lists; a step takes none for it. Also NO_MEMORY:
+    /// then the next ask tells all of them.
     pub fn hullpippin_live_ask_reached(live: *mut hullpippin_live, count: *mut usize) -> u32;
 
     /// Tells the list of an index, from 0, among those that the latest hullpippin_live_ask_reached found; false where
@@ -1081,9 +1081,9 @@ extern "C" {
     /// As hullpippin_answer_bytes, of the latest step; 0 where that isn't a read, or didn't get anything.
     pub fn hullpippin_live_bytes(live: *mut hullpippin_live, part: u32, out: *mut u8, room: usize) -> usize;
 
-    /// Tells in `size` how many bytes the latest step's entry has in a journal, 0 where no step was made yet, and
-    /// copies them to `out` if all of them fit in `room` bytes; else `out` stays as it was, and a later call with more
-    /// room has them, until the next step. Also NO_MEMORY, NO_JOURNAL: the call may be made again, the entry stays.
+    /// Tells in `size` how many bytes the latest step's entry has in a journal, 0 before the first step, and copies
+    /// them to `out` if all of them fit in `room` bytes; else `out` stays as it was, and a later call with more room
+    /// has them, until the next step. Also NO_MEMORY, NO_JOURNAL: you may make the call again, the entry stays.
     pub fn hullpippin_live_entry(live: *mut hullpippin_live, out: *mut u8, room: usize, size: *mut usize) -> u32;
 
     /// The same for what a journal of `count` entries begins with, 16 bytes, or 20 where there are more than 31 seats.
@@ -1103,7 +1103,7 @@ extern "C" {
     /// Lets go of a live engine, and empties the handle. Does nothing where it is empty.
     pub fn hullpippin_free_live(live: *mut hullpippin_live);
 
-    /// The live process that was opened at this place.
+    /// The live process whose open is at this place.
     pub fn hullpippin_live_process(live: *mut hullpippin_live, made: u64, process: *mut hullpippin_process) -> bool;
 
     /// The live process with this pid: the place of its open.
@@ -1131,7 +1131,7 @@ extern "C" {
         object: *mut hullpippin_object_id,
     ) -> bool;
 
-    /// The live buffer that was made at this place.
+    /// The live buffer of this place.
     pub fn hullpippin_live_buffer(live: *mut hullpippin_live, made: u64, buffer: *mut hullpippin_buffer) -> bool;
 
     /// The object of an index, from 0, among those that the live buffer made at this place carries: one for each object
@@ -1163,29 +1163,28 @@ extern "C" {
     /// The innermost open call that a seat's thread is in.
     pub fn hullpippin_live_innermost(live: *mut hullpippin_live, seat: u32, frame: *mut hullpippin_frame) -> bool;
 
-    /// The death notification that was asked for at this place.
+    /// The death notification whose request is at this place.
     pub fn hullpippin_live_death(live: *mut hullpippin_live, made: u64, death: *mut hullpippin_death) -> bool;
 
-    /// The first live process that was opened at the place `from` or behind it: the place of its open. To go through
-    /// all that there are, begin with 0, and go on with one more than was told; the same goes for the two looks that
-    /// follow.
+    /// The first live process whose open is at the place `from` or behind it: the place of its open. To visit all,
+    /// begin with 0, and go on with one more than you were told; so do the two looks that follow.
     pub fn hullpippin_live_next_process(live: *mut hullpippin_live, from: u64, place: *mut u64) -> bool;
 
-    /// The least handle, `from` or above it, that names something for the live process with this pid. Where `from`
-    /// itself names nothing, it looks at each handle that is noted for the process, those of names that are gone too
-    /// until room for more is made.
+    /// The least handle, `from` or above it, that names something for the live process with this pid. If `from` itself
+    /// names nothing, it looks at each handle that the engine has noted for the process, those of names that are gone
+    /// too until it makes room for more.
     pub fn hullpippin_live_next_handle(live: *mut hullpippin_live, pid: u32, from: u32, handle: *mut u32) -> bool;
 
-    /// The first live buffer of a process, named by the place of its open, that was made at the place `from` or behind
-    /// it: where it was made.
+    /// The first live buffer of a process, whose name is the place of its open, at the place `from` or behind it: its
+    /// place.
     pub fn hullpippin_live_next_buffer(live: *mut hullpippin_live, process: u64, from: u64, made: *mut u64) -> bool;
 
     /// Reads the command at the head of a stream. Answers 0, or the number of the fault by which none is there, F1 to
-    /// F3, and then `command` stays as it was. What comes behind the command isn't looked at.
+    /// F3, and then `command` stays as it was. It doesn't look at what comes behind the command.
     pub fn hullpippin_next_command(stream: *const u8, stream_size: usize, command: *mut hullpippin_command) -> u32;
 
     /// Reads the return at the head of a stream. Answers 0, or the number of the fault by which none is there, F1 or
-    /// F2, and then `returned` stays as it was. What comes behind the return isn't looked at: the next one begins
+    /// F2, and then `returned` stays as it was. It doesn't look at what comes behind the return: the next one begins
     /// `size` bytes on.
     pub fn hullpippin_next_return(stream: *const u8, stream_size: usize, returned: *mut hullpippin_return) -> u32;
 
@@ -1196,11 +1195,12 @@ extern "C" {
     /// The same of a return.
     pub fn hullpippin_spell_return(returned: *const hullpippin_return, out: *mut u8, room: usize) -> usize;
 
-    /// Tells the next object of a parcel, and takes the walk behind it. False where there is none: at the end, where
-    /// the walk's `cause` is 0, and where the parcel is refused, with the number of the cause by which a transaction
-    /// with it would be: X8 where the offsets are no whole numbers of 8 bytes; X9 where the next one is no multiple of
-    /// 4, lies before the end of the object before it, or its 24 bytes aren't all there, or no such type is known; X10
-    /// where it is the type of what isn't supported. `object` stays as it was then, and a later call finds the same.
+    /// Tells the next object of a parcel, and takes the walk behind it. It is false where there is none: at the end,
+    /// where the walk's `cause` is 0; and where the engine would refuse a transaction with this parcel. Then `cause` is
+    /// the number of the cause: X8 if the offsets are no whole numbers of 8 bytes; X9 if the next one is no multiple of
+    /// 4, lies before the end of the object before it, lacks some of its 24 bytes, or leads to no known type; X10 if it
+    /// leads to the type of what the engine doesn't support. `object` stays as it was then, and a later call finds the
+    /// same.
     pub fn hullpippin_next_object(
         data: *const u8,
         data_size: usize,
