@@ -1,15 +1,15 @@
 /* SPDX-License-Identifier: Apache-2.0 OR MIT */
 /*
- * hullpippin_wait.h: waiting, over hullpippin.h. Unproved, and nothing that is proved stands on it.
+ * hullpippin_wait.h: waiting, over hullpippin.h. No proof covers it, and nothing that is proved stands on it.
  *
- * No call of the library waits. Where another seat has the engine a request comes back, and who has nothing to read is told so;
- * what a thread does until then is its own. Most want one of these:
+ * No call of the library waits. If another seat has the engine, a request comes back; if a seat has nothing to read, its read says so.
+ * What a thread does until then is up to you. Most want one of these:
  *
- *  - hullpippin_insist makes a request again until no other seat has the engine, by hullpippin_again, so that its bytes are copied
- *    once. It calls only once a look has found the engine free, since a call that comes back takes the page's cache line from the seat
- *    at work; and pauses longer and longer between its looks.
- *  - hullpippin_sleep has a thread sleep until its seat has something to read. It is woken by a bell, one for all seats of a
- *    driver, which hullpippin_insist rings after each request. Requests that are made otherwise have to ring it themselves.
+ *  - hullpippin_insist makes a request again until no other seat has the engine, by hullpippin_again, which copies its bytes only
+ *    once. It calls only after a look has found the engine free, since a call that comes back takes the page's cache line from the seat
+ *    at work; and it pauses longer and longer between its looks.
+ *  - hullpippin_sleep has a thread sleep until its seat has something to read. A bell wakes it, one for all seats of a driver, which
+ *    hullpippin_insist rings after each request. If you make a request otherwise, ring the bell yourself.
  *
  *     hullpippin_bell bell = HULLPIPPIN_BELL;
  *     struct read_of { uint32_t limit; } most = { 256 };
@@ -29,7 +29,7 @@
 #include <stdatomic.h>
 #include <time.h>
 
-/* What wakes the threads that sleep: one for all seats of a driver. It is neither copied nor moved. */
+/* What wakes the threads that sleep: one for all seats of a driver. Neither copy nor move it. */
 typedef struct {
     pthread_mutex_t lock;
     pthread_cond_t rung;

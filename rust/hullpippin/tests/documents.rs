@@ -1,7 +1,8 @@
 // SPDX-License-Identifier: Apache-2.0 OR MIT
 //! The names, numbers and texts of docs/FORMATS.md are those of this crate.
 use hullpippin::{
-    BadParcel, Cause, Command, Fault, FlatObject, Note, ObjectKind, Objects, Parcel, Return, Returns, TransactionData,
+    BadParcel, Cause, Command, Fault, FlatObject, Note, ObjectKind, Objects, Parcel, Return, Returns, TransactionData, ACCEPT_FDS,
+    CLEAR_BUF, ONE_WAY, ROOT_OBJECT, STATUS_CODE, UPDATE_TXN,
 };
 use std::fmt::{Debug, Display};
 
@@ -42,6 +43,21 @@ fn numbers_come_back() {
         assert_eq!(Cause::from_number(number).map(Cause::number), (1..=16).contains(&number).then_some(number));
         assert_eq!(Note::from_number(number).map(Note::number), (1..=11).contains(&number).then_some(number));
     }
+}
+
+#[test]
+fn flags_are_those_of_the_document() {
+    let ours = [
+        ("ONE_WAY", ONE_WAY),
+        ("ROOT_OBJECT", ROOT_OBJECT),
+        ("STATUS_CODE", STATUS_CODE),
+        ("ACCEPT_FDS", ACCEPT_FDS),
+        ("CLEAR_BUF", CLEAR_BUF),
+        ("UPDATE_TXN", UPDATE_TXN),
+    ];
+    let is_flag = |row: &Vec<String>| row.len() > 3 && (row[3] == "handed on" || row[3].starts_with("acts"));
+    let documented: Vec<_> = rows().into_iter().filter(is_flag).map(|row| (row[1].clone(), row[2].clone())).collect();
+    assert_eq!(ours.map(|(name, value)| (name.to_string(), format!("{value:#04x}"))).to_vec(), documented);
 }
 
 fn commands() -> Vec<Command> {
