@@ -2,8 +2,9 @@
 """Has a program that imports this end in one line, in place of a traceback, where another program or a file that it needs is missing.
 
 What a user can mend by installing or building something is told so: a program that can't be started, a file that isn't there, a command that
-failed. All else is a fault of ours and keeps its traceback.
+failed. Where who read what it prints has gone, as `head` does, it says nothing. All else is a fault of ours and keeps its traceback.
 """
+import atexit
 import os
 import subprocess
 import sys
@@ -31,12 +32,27 @@ def told(error):
     return None
 
 
+def unread():
+    """Nobody reads on, so there is nobody to tell: what is left to print goes nowhere."""
+    os.dup2(os.open(os.devnull, os.O_WRONLY), 1)
+
+
+def flushed():
+    try:
+        sys.stdout.flush()
+    except BrokenPipeError:
+        unread()
+
+
 def hook(kind, error, trace):
     line = told(error)
-    if line is None:
+    if isinstance(error, BrokenPipeError) and line is None:
+        unread()
+    elif line is None:
         sys.__excepthook__(kind, error, trace)
     else:
         print(f"{os.path.basename(sys.argv[0])}: {line}", file=sys.stderr)
 
 
 sys.excepthook = hook
+atexit.register(flushed)
