@@ -82,7 +82,7 @@ pub enum Word {
     Export(Export),
     /// Draws a recording: as one page of HTML with search, zoom and hiding, as a picture, for Mermaid, or for a terminal
     Diagram(Diagram),
-    /// Tells the calls of a daemon that runs, a line each: of a program that is run for that, or of all
+    /// Tells the calls of a daemon that runs, a line each: of a program that it runs, or of all
     Trace(Trace),
     /// Shows who calls whom how often in a daemon that runs, and how long that takes
     #[cfg(feature = "top")]
@@ -101,7 +101,7 @@ pub enum Word {
         /// The player
         #[arg(long, value_name = "BPLAY", default_value = "bplay")]
         run: String,
-        /// How often a line that waits looks before it is given up
+        /// How often a line that waits looks before the run gives it up
         #[arg(long, value_name = "N", default_value_t = TURNS)]
         turns: u32,
     },
@@ -132,7 +132,7 @@ const TURNS: u32 = 1000;
 
 #[derive(Args)]
 pub struct Record {
-    /// The folder of the recording, which is made
+    /// The folder to make for the recording
     #[arg(long, value_name = "FOLDER", default_value = "recording")]
     pub into: String,
     /// Leaves the kernel's tracepoints off, which cost the program time
@@ -154,13 +154,13 @@ pub struct Judge {
     /// Writes the order there as a journal, with times and names beside it
     #[arg(long, value_name = "OUT")]
     pub journal: Option<String>,
-    /// In which of docs/DIFFERENCES.md the driver may do otherwise, with commas between them; else it is found out
+    /// In which of docs/DIFFERENCES.md the driver may do otherwise, with commas between them; else `judge` finds that out
     #[arg(long, value_name = "NAMES")]
     pub ways: Option<String>,
-    /// How many steps are tried before it gives up
+    /// How many steps to try before it gives up
     #[arg(long, value_name = "N", default_value_t = 1_500_000)]
     pub tries: u64,
-    /// Where no order was found: of how many threads it is told what they would have to do next
+    /// If it finds no order: of how many threads to tell what they would have to do next
     #[arg(long, value_name = "N", default_value_t = 8)]
     pub most: usize,
 }
@@ -183,13 +183,13 @@ pub struct Script {
     /// Plays it with this player, and says whether what it expects holds
     #[arg(long, value_name = "BPLAY")]
     pub run: Option<String>,
-    /// How often a line that waits looks before it is given up
+    /// How often a line that waits looks before the run gives it up
     #[arg(long, value_name = "N", default_value_t = TURNS, requires = "run")]
     pub turns: u32,
     /// Writes the journal of the run there, - for standard output
     #[arg(long, value_name = "OUT", requires = "run")]
     pub journal: Option<String>,
-    /// What is told of a run: whether what it expects holds, or what each line said as a value of JSON
+    /// What to tell of a run: whether what it expects holds, or what each line said as a value of JSON
     #[arg(long, value_enum, default_value = "text", requires = "run")]
     pub format: Format,
     /// Writes the script that it comes to there, - for standard output
@@ -206,7 +206,7 @@ pub struct Show {
     pub range: Range,
     #[command(flatten)]
     pub selection: Selection,
-    /// How many bytes of each parcel are printed; 0: nothing of it
+    /// How many bytes of each parcel to print; 0: none
     #[arg(long, value_name = "N", default_value_t = 1024)]
     pub bytes: usize,
     /// Has libhullpippin say whether entries follow from those before them, and what the rules give where one doesn't
@@ -225,13 +225,13 @@ pub struct Show {
 
 #[derive(Args)]
 pub struct Explain {
-    /// A name of a refusal or a return; a journal, of which without a place the first unlawful entry is explained; a kernel's log
+    /// A name of a refusal or a return; a journal, whose first unlawful entry it explains if there is no place; a kernel's log
     #[arg(value_name = "NAME|JOURNAL")]
     pub what: String,
     /// The place of an entry in that journal
     #[arg(value_name = "PLACE")]
     pub place: Option<u64>,
-    /// What the lines of binder.c say in this version, as 6.1.192, where a kernel's log is explained
+    /// With a kernel's log: what the lines of binder.c say in this version, as 6.1.192
     #[arg(long, value_name = "VERSION", conflicts_with = "place")]
     pub kernel: Option<String>,
     /// Text for people, or values of JSON: an entry, and then why
@@ -259,7 +259,7 @@ pub struct State {
     /// The daemon's socket; else HULLPIPPIN_SOCKET, or where the daemon of this user or of the system is
     #[arg(long, value_name = "PATH", conflicts_with = "journal")]
     pub socket: Option<String>,
-    /// The device; /dev/binder where none is named
+    /// The device; else /dev/binder
     #[arg(long, value_name = "NAME", conflicts_with = "journal")]
     pub device: Option<String>,
 }
@@ -288,7 +288,7 @@ pub struct Leaks {
     /// After so many entries, or those before a time, in place of all
     #[arg(long, value_name = "PLACE|TIME")]
     pub at: Option<Spot>,
-    /// How many are printed of each kind
+    /// How many to print of each kind
     #[arg(long, value_name = "N", default_value_t = 20)]
     pub most: usize,
 }
@@ -391,7 +391,7 @@ pub struct Slow {
     pub journal: String,
     #[command(flatten)]
     pub range: Range,
-    /// How many are printed
+    /// How many to print
     #[arg(long, value_name = "N", default_value_t = 20)]
     pub most: usize,
 }

@@ -13,16 +13,16 @@ const REQUESTS: [&str; 7] = ["open", "attach", "manager", "spam", "read", "exitt
 
 #[derive(Args, Clone, Debug, Default)]
 pub struct Selection {
-    /// Only entries of this process; may be given again
+    /// Only entries of this process; repeat it for more
     #[arg(long, value_name = "PID")]
     pub pid: Vec<u32>,
-    /// Only entries of this thread, where JOURNAL.who has its name; may be given again
+    /// Only entries of this thread, where JOURNAL.who has its name; repeat it for more
     #[arg(long, value_name = "TID")]
     pub tid: Vec<u32>,
-    /// Only entries of threads that are called so, where JOURNAL.who has their names; may be given again
+    /// Only entries of threads of this name, where JOURNAL.who has their names; repeat it for more
     #[arg(long, value_name = "NAME")]
     pub comm: Vec<String>,
-    /// Only entries of this seat: a journal numbers threads by the seats they sit on; may be given again
+    /// Only entries of this seat: a journal numbers threads by the seats they sit on; repeat it for more
     #[arg(long, value_name = "SEAT")]
     pub seat: Vec<u32>,
     /// Only entries that name this handle: as the target, in a command, in a parcel
@@ -34,10 +34,10 @@ pub struct Selection {
     /// Only transactions and replies with this code: 7, 0x7 or four letters, as _PNG
     #[arg(long, value_name = "CODE", value_parser = code)]
     pub code: Option<u32>,
-    /// Only this command, return or request, as BC_FREE_BUFFER, BR_REPLY, open; may be given again
+    /// Only this command, return or request, as BC_FREE_BUFFER, BR_REPLY, open; repeat it for more
     #[arg(long, value_name = "NAME", value_parser = name, ignore_case = true)]
     pub command: Vec<String>,
-    /// Only what was refused, stopped or noted
+    /// Only refused, stopped or noted entries
     #[arg(long)]
     pub refused: bool,
 }

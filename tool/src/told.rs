@@ -7,19 +7,19 @@ use clap::Args;
 /// Which calls are told.
 #[derive(Args, Clone, Debug, Default)]
 pub struct Wanted {
-    /// Only calls that this process makes or serves; may be given again
+    /// Only calls that this process makes or serves; repeat it for more
     #[arg(long, value_name = "PID")]
     pub pid: Vec<u32>,
-    /// Only calls that a thread or a process of this name makes or serves; may be given again
+    /// Only calls that a thread or a process of this name makes or serves; repeat it for more
     #[arg(long, value_name = "NAME")]
     pub comm: Vec<String>,
     /// Only calls with this code: 7, 0x7 or four letters, as _PNG
     #[arg(long, value_name = "CODE", value_parser = code)]
     pub code: Option<u32>,
-    /// Only calls on this interface, as android.os.IServiceManager or IServiceManager; may be given again
+    /// Only calls on this interface, as android.os.IServiceManager or IServiceManager; repeat it for more
     #[arg(long, value_name = "NAME")]
     pub interface: Vec<String>,
-    /// Only calls that were refused, or got no reply
+    /// Only refused calls, and calls without a reply
     #[arg(long)]
     pub failed: bool,
 }

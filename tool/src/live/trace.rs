@@ -26,7 +26,7 @@ pub struct Trace {
     pub place: Where,
     #[command(flatten)]
     pub wanted: Wanted,
-    /// Of this machine's own kernel, by its tracepoints, which needs root; until it is interrupted
+    /// Of this machine's own kernel, by its tracepoints, as root, until you interrupt it
     #[arg(long, conflicts_with_all = ["program", "socket", "device", "past", "once", "file"])]
     pub kernel: bool,
     /// Of a recording or a kernel's trace, as `calls` tells them
@@ -38,10 +38,10 @@ pub struct Trace {
     /// Ends with what there is, and waits for nothing
     #[arg(long, conflicts_with = "program")]
     pub once: bool,
-    /// Writes the lines there; else standard output has them, or standard error where a program is run
+    /// Writes the lines there; else to standard output, or with a program to standard error
     #[arg(long, short, value_name = "FILE")]
     pub output: Option<String>,
-    /// A program and its words, which hullpippin-run runs; without one all calls of the device are told
+    /// A program and its words, which hullpippin-run runs; without one it tells all calls of the device
     #[arg(value_name = "PROGRAM", trailing_var_arg = true, allow_hyphen_values = true)]
     pub program: Vec<String>,
 }
