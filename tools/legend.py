@@ -11,17 +11,18 @@ NOTATION = [
     ("`Type 0`", "what a definition gives that says something: `IsPage : ℕ → ℕ → List Entry → Type 0` is a relation of two numbers and a list"),
     ("`a ≡ b`, `a ≢ b`, `a == b`", "a and b are equal; they aren't; the same, computed as `true` or `false`. `&&`, `||` and `not` are computed too"),
     ("`record R (a : A) : Type 0`", "the statement R of a. Its fields, each `pub name : P`, are what it says, all of them"),
-    ("`record v { f = a }`; `v.f`; `p.0`, `p.1`", "v, but with a as its field f; the field f of v; the two parts of a pair"),
-    ("`data`", "an enum, by its cases"),
+    ("`record { f = a }`, `record v { f = a }`", "a record with these fields; v, but with a as its field f"),
+    ("`v.f`; `p.0`, `p.1`", "the field f of v; the two parts of a pair"),
+    ("`data`; `Command.Reply d`", "an enum, by its cases; one of its cases, with what it holds"),
     ("`[]`, `x ∷ xs`, `xs ++ ys`", "the empty list; x before the list xs; one list behind the other"),
     ("`length xs`, `take n xs`, `drop n xs`, `get_elem? xs i`", "how many; the first n; all but these; the one at place i, from 0, or `none`"),
     ("`ℕ`, `zero`, `suc n`, `/`, `%`", "the numbers from 0 on; 0; n + 1; division without remainder; its remainder"),
-    ("`f zero = ..`, `f (suc n) = ..`", "a definition by cases, of which the first that fits is meant; `_` fits all"),
+    ("`f zero = ..`, `f (suc n) = ..`; `where`", "a definition by cases, of which the first that fits is meant, and `_` fits all; words of the definition above alone"),
     ("`elim x [ p ↦ a | q ↦ b ]`, `if c then a else b`, `cond c a b`", "a or b, by the case that x is, or by c"),
     ("`Some a`, `None`; `some a`, `none`", "Rust's `Option`; the library's own, with the same meaning"),
     ("`requires`, `ensures NAME`", "what a call may be made with; what then holds, under a name"),
     ("`p.old`, `p.new`, `self.now`, `result`", "what `p` leads to before the call, and after it; what `self` leads to; what the call answers"),
-    ("`abbrev`, `unfoldable`, `pub`", "for the prover: where it may open a definition. A reader passes over them"),
+    ("`abbrev`, `unfoldable`, `pub`; `ghost use`", "for the prover: where it may open a definition, and where a word is from (`◌` is an operand's place)"),
 ]
 
 # The core: what is said, and the definitions that say it. A call is (file, name), a definition (crate, module, name).
