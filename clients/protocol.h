@@ -19,7 +19,7 @@
 #include <stdint.h>
 
 /* Goes up with each change of this file: a library of another build is refused. */
-#define PROTOCOL_VERSION 8u
+#define PROTOCOL_VERSION 9u
 
 /* The largest window, as the kernel's is. */
 #define WINDOW_MAX (4u << 20)
@@ -62,7 +62,7 @@ struct control_answer {
 };
 
 /* What a record of a page of CONTROL_STATE tells of. */
-enum state_kind { STATE_PROCESS = 1, STATE_THREAD, STATE_HANDLE, STATE_BUFFER };
+enum state_kind { STATE_PROCESS = 1, STATE_THREAD, STATE_HANDLE, STATE_BUFFER, STATE_SHARE };
 
 /* Flags of a process, of a thread, and of a buffer. */
 #define STATE_MANAGER 1u
@@ -72,21 +72,28 @@ enum state_kind { STATE_PROCESS = 1, STATE_THREAD, STATE_HANDLE, STATE_BUFFER };
 #define STATE_ONE_WAY 16u
 #define STATE_HANDED 32u /* it was read */
 #define STATE_CALL 64u /* and no reply */
+/* Of a share: it is all of a user's within an account, or all of an account's; else a process's. */
+#define STATE_OF_USER 128u
+#define STATE_OF_ACCOUNT 256u
+
+/* What a share is of, by its `code`. */
+#define STATE_SHARES "descriptors", "threads", "windows", "calls", "owed", "objects", "handles", "deaths"
 
 /* So many things that are to be read are counted, and not what is beyond. */
 #define STATE_UNREAD 16u
 
 /* What a field doesn't apply to has 0 there. */
 struct state_record {
-    uint64_t innermost; /* the place in the history of the innermost call that a thread is in; UINT64_MAX: there is none */
-    uint64_t object_place; /* the object that a handle names, or that a buffer's call is on, by this and `object_index` */
-    uint64_t made;      /* the place in the history of the step that made a buffer */
+    uint64_t innermost; /* the place in the history of the innermost call that a thread is in; UINT64_MAX: there is none; how often a share
+                           was refused */
+    uint64_t object_place; /* the object that a handle names, or that a buffer's call is on, by this and `object_index`; a share's account */
+    uint64_t made;      /* the place in the history of the step that made a buffer; how much of a share is taken */
     uint32_t kind;      /* enum state_kind */
     uint32_t process;   /* its pid in the history: the process, or that of the thread, or which has the handle or the buffer */
     uint32_t pid;       /* as the daemon's /proc has it */
     uint32_t tid;       /* of a thread; 0: it isn't known */
     uint32_t seat;
-    uint32_t euid;      /* of the opening */
+    uint32_t euid;      /* of the opening; a share's user */
     uint32_t flags;
     uint32_t window;    /* its bytes */
     uint32_t threads;   /* that have made an ioctl */
@@ -97,7 +104,7 @@ struct state_record {
     uint32_t object_index;
     uint32_t party;     /* the pid in the history of the object's owner, or of the buffer's sender; 0: that has ended */
     uint32_t start, size; /* where that lies in the window, and how much of it it takes */
-    uint32_t code;      /* of what is in it */
+    uint32_t code;      /* of what is in it; what a share is of */
     uint32_t nothing;
     char comm[16];      /* how its main thread is called, or the thread was when it got its seat; 0 behind it */
 };

@@ -273,6 +273,45 @@ static void print_what_has(const struct records *records, uint32_t process)
     }
 }
 
+/* Whether two shares are of one account, user or process. */
+static bool are_of_one(const struct state_record *share, const struct state_record *other)
+{
+    return share->flags == other->flags && share->object_place == other->object_place && share->euid == other->euid
+           && share->pid == other->pid;
+}
+
+static void print_owner(const struct state_record *share)
+{
+    if (share->flags & STATE_OF_ACCOUNT)
+        printf("account %" PRIu64 " has", share->object_place);
+    else if (share->flags & STATE_OF_USER)
+        printf("user %u of account %" PRIu64 " has", share->euid, share->object_place);
+    else
+        printf("process %u of user %u has", share->pid, share->euid);
+}
+
+/* A line for whose they are. */
+static void print_shares(const struct records *records)
+{
+    static const char *const names[] = {STATE_SHARES};
+    const struct state_record *before = NULL;
+    for (size_t i = 0; i < records->count; i++) {
+        const struct state_record *share = &records->all[i];
+        if (share->kind != STATE_SHARE || share->code >= sizeof names / sizeof *names)
+            continue;
+        bool is_next = before && are_of_one(share, before);
+        if (!is_next) {
+            fputs(before ? "\n" : "", stdout);
+            print_owner(share);
+        }
+        printf("%s %s %" PRIu64, is_next ? "," : "", names[share->code], share->made);
+        if (share->innermost)
+            printf(" (%" PRIu64 " refused)", share->innermost);
+        before = share;
+    }
+    fputs(before ? "\n" : "", stdout);
+}
+
 static void print_all(const char *device, const struct records *records)
 {
     printf("%s: %llu steps\n", device, (unsigned long long)records->place);
@@ -282,6 +321,7 @@ static void print_all(const char *device, const struct records *records)
         print_process(&records->all[i]);
         print_what_has(records, records->all[i].process);
     }
+    print_shares(records);
 }
 
 int ask_state(const char *path, const char *device)

@@ -254,7 +254,7 @@ enum shared {
     SHARED_OBJECTS, /* owned.c */
     SHARED_HANDLES, /* kept.c */
     SHARED_DEATHS,  /* that are asked for */
-    SHARED_KINDS
+    SHARED_KINDS    /* STATE_SHARES (protocol.h) names them */
 };
 
 /* What a connection, a thread and a doorbell have of the daemon's descriptors. */
@@ -281,6 +281,18 @@ void account_give(struct account *account, enum shared what, uint64_t amount);
 void account_force(struct account *account, enum shared what, uint64_t amount);
 /* That of all that count with the same one as this process. It stays while the process's does. */
 const struct account *account_whole(const struct account *account);
+/* A share that an account has something of, or was refused. */
+struct share {
+    enum { OF_WHOLE, OF_USER, OF_PROCESS } kind;
+    uint64_t whose;
+    uid_t uid; /* of a user or process */
+    pid_t pid; /* of a process */
+    enum shared what;
+    uint64_t used, refused;
+};
+/* So many lists there are of accounts. Fills in those of a list's shares that find room, but for so many first ones; how many there are. */
+#define SHARE_LISTS 1024u
+uint32_t shares_tell(uint32_t list, uint64_t skipped, struct share *shares, uint32_t room);
 /* Nobody gets anything more; each is undone by the other. */
 void shares_close(void);
 void shares_open(void);

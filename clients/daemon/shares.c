@@ -30,18 +30,13 @@
 #define PART_OF_THINGS 16u
 #define THREAD_BYTES (64u << 10)
 
-#define BUCKETS 1024
-
 /* All users that count with the same one may have so many times what is free. */
 #define WHOLE_TIMES 3u
-
-/* Of a process, of a user, or of all that count with the same one. */
-enum { OF_WHOLE, OF_USER, OF_PROCESS };
 
 struct account {
     struct list in_bucket;
     struct account *above; /* a process's user, that one's whole; NULL: it is a whole */
-    int kind;
+    int kind; /* as of a share */
     uint64_t whose;
     uid_t uid;
     pid_t pid;
@@ -51,7 +46,7 @@ struct account {
 
 static struct {
     pthread_mutex_t lock;
-    struct list buckets[BUCKETS];
+    struct list buckets[SHARE_LISTS];
     uint64_t limits[SHARED_KINDS], used[SHARED_KINDS];
     uint64_t memory; /* that the daemon may have */
     uint32_t closed; /* so many devices have no memory but for ends */
@@ -114,7 +109,7 @@ void shares_begin(uint32_t seats)
     shares.limits[SHARED_WINDOWS] = memory / 2;
     for (enum shared what = SHARED_CALLS; what <= SHARED_DEATHS; what++)
         shares.limits[what] = memory / PART_OF_THINGS / THING_BYTES;
-    for (size_t i = 0; i < BUCKETS; i++)
+    for (size_t i = 0; i < SHARE_LISTS; i++)
         list_begin(&shares.buckets[i]);
 }
 
@@ -138,7 +133,7 @@ struct key {
 
 static struct list *bucket_of(const struct key *key)
 {
-    return &shares.buckets[(key->whose * 7 + key->uid * 31 + (uint32_t)key->pid + (uint32_t)key->kind) % BUCKETS];
+    return &shares.buckets[(key->whose * 7 + key->uid * 31 + (uint32_t)key->pid + (uint32_t)key->kind) % SHARE_LISTS];
 }
 
 static struct account *find(const struct key *key)
@@ -279,4 +274,29 @@ void shares_open(void)
     pthread_mutex_lock(&shares.lock);
     shares.closed--;
     pthread_mutex_unlock(&shares.lock);
+}
+
+/* Those of one account, of which each kind that it has nothing to do with is left out. */
+static void tell(const struct account *account, uint64_t *skipped, struct share *all, uint32_t room, uint32_t *count)
+{
+    for (enum shared what = 0; what < SHARED_KINDS && *count < room; what++) {
+        if (!account->used[what] && !account->refused[what])
+            continue;
+        if (*skipped)
+            --*skipped;
+        else
+            all[(*count)++] = (struct share){account->kind, account->whose, account->uid, account->pid, what, account->used[what],
+                                             account->refused[what]};
+    }
+}
+
+uint32_t shares_tell(uint32_t list, uint64_t skipped, struct share *all, uint32_t room)
+{
+    uint32_t count = 0;
+    pthread_mutex_lock(&shares.lock);
+    const struct list *bucket = &shares.buckets[list];
+    for (const struct list *entry = bucket->next; entry != bucket && count < room; entry = entry->next)
+        tell(container_of(entry, struct account, in_bucket), &skipped, all, room, &count);
+    pthread_mutex_unlock(&shares.lock);
+    return count;
 }

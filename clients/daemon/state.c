@@ -10,10 +10,13 @@
 /* A page looks at so many buckets of processes, or seats, at most, and as often for a handle or a buffer. */
 #define BUCKETS_AT_ONCE 64u
 #define SEATS_AT_ONCE 1024u
+#define LISTS_AT_ONCE 256u
 #define LOOKS_AT_ONCE 24u
 
-/* Where a page begins: at the handles or the buffers of the process that was opened at a place, from the number on that stands beside;
-   at a seat; or at a bucket of processes, and so many further on there. No device makes 2^61 steps: they would take ten thousand years. */
+/* Where a page begins: at a list of shares, behind so many as stand beside; at the handles or the buffers of the process that was opened at
+   a place, from the number on that stands beside; at a seat; or at a bucket of processes, and so many further on there. No device makes
+   2^61 steps: they would take ten thousand years. */
+#define AT_SHARE (AT_BUFFER | AT_HANDLE)
 #define AT_BUFFER (UINT64_C(1) << 63)
 #define AT_HANDLE (UINT64_C(1) << 62)
 #define AT_SEAT (UINT64_C(1) << 61)
@@ -150,7 +153,7 @@ static void tell_things(struct engine *engine, uint64_t kind, uint64_t process, 
     for (uint32_t looks = 0; looks < LOOKS_AT_ONCE && page->count < STATE_ROOM; looks++) {
         uint64_t found;
         if (!hullpippin_live_next_process(&engine->live, process, &found)) {
-            page->next = kind == AT_HANDLE ? AT_BUFFER : 0;
+            page->next = kind == AT_HANDLE ? AT_BUFFER : AT_SHARE;
             return;
         }
         from = found == process ? from : 0;
@@ -166,12 +169,44 @@ static void tell_things(struct engine *engine, uint64_t kind, uint64_t process, 
     page->within = from;
 }
 
+static struct state_record record_of(const struct share *share)
+{
+    return (struct state_record){.kind = STATE_SHARE, .object_place = share->whose, .euid = share->uid, .pid = (uint32_t)share->pid,
+                                 .code = share->what, .made = share->used, .innermost = share->refused,
+                                 .flags = share->kind == OF_WHOLE ? STATE_OF_ACCOUNT : share->kind == OF_USER ? STATE_OF_USER : 0};
+}
+
+/* Tells those of a list, behind so many, that find room: how many these are. */
+static uint32_t tell_list(uint64_t list, uint64_t skipped, struct state_page *page)
+{
+    struct share shares[STATE_ROOM];
+    uint32_t count = shares_tell((uint32_t)list, skipped, shares, STATE_ROOM - page->count);
+    for (uint32_t i = 0; i < count; i++)
+        page->records[page->count++] = record_of(&shares[i]);
+    return count;
+}
+
+/* What all have of what is shared out, on all devices: accounts, their users, and the processes of these. */
+static void tell_shares(uint64_t list, uint64_t skipped, struct state_page *page)
+{
+    uint64_t last = list + LISTS_AT_ONCE;
+    while (list < SHARE_LISTS && list < last && page->count < STATE_ROOM) {
+        uint32_t room = STATE_ROOM - page->count, count = tell_list(list, skipped, page);
+        skipped = count < room ? 0 : skipped + count;
+        list += count < room;
+    }
+    page->next = list < SHARE_LISTS ? AT_SHARE | list : 0;
+    page->within = skipped;
+}
+
 void state_tell(struct engine *engine, uint64_t from, uint64_t within, struct state_page *page)
 {
     const uint64_t kind = from & (AT_BUFFER | AT_HANDLE | AT_SEAT), rest = from & (AT_SEAT - 1);
     *page = (struct state_page){.place = hullpippin_live_len(&engine->live)};
     if (kind == AT_SEAT)
         tell_threads(engine, rest, page);
+    else if (kind == AT_SHARE)
+        tell_shares(rest, within, page);
     else if (kind == AT_HANDLE || kind == AT_BUFFER)
         tell_things(engine, kind, rest, within, page);
     else if (from < AT_SEAT)
