@@ -87,9 +87,9 @@ void accounts_end(void)
 
 static bool find_range(const struct ranges *ranges, uint64_t id, uint64_t *account)
 {
-    for (const struct range *range = ranges->all; range < ranges->all + ranges->count; range++)
-        if (range->from <= id && id < range->to) {
-            *account = range->owner;
+    for (size_t i = 0; i < ranges->count; i++)
+        if (ranges->all[i].from <= id && id < ranges->all[i].to) {
+            *account = ranges->all[i].owner;
             return true;
         }
     return false;
