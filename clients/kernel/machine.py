@@ -27,6 +27,8 @@ OF_SEVERAL = OF_KERNEL.replace("preempt=none nosmp", "preempt=voluntary")
 PROCESSOR = "Nehalem"
 # seconds until the kernel has to have come up, by an emulation that four others slow down
 TO_COME_UP = 600
+# how much longer a machine may take than it has of the host's processors, which may be a tenth of one
+PATIENCE = 10
 
 
 class NotRun(Exception):
@@ -60,25 +62,35 @@ def text_of(path):
         return ""
 
 
-def wait_for_end(machine, folder, seconds):
+def worked(machine):
+    """The seconds of the host's processors that a machine has had."""
+    with open(f"/proc/{machine.pid}/stat", encoding="utf-8", errors="replace") as file:
+        fields = file.read().rpartition(")")[2].split()
+    return (int(fields[11]) + int(fields[12])) / os.sysconf("SC_CLK_TCK")
+
+
+def wait_for_end(machine, folder, seconds, is_counted):
+    """Waits for the script's end. A machine whose clock counts instructions never idles, so it is given so many seconds of work: of a
+    busy host it gets a small part, and ten times as long by the clock was seen."""
     begin = time.monotonic()
     while machine.poll() is None and not os.path.exists(f"{folder}/done"):
-        took = time.monotonic() - begin
+        waited = time.monotonic() - begin
+        took = max(worked(machine), waited / PATIENCE) if is_counted else waited
         if took > TO_COME_UP and not os.path.exists(f"{folder}/up"):
             raise NotRun(f"no kernel has come up in {TO_COME_UP} s: {text_of(f'{folder}/console')[-600:]}")
         if took > seconds:
-            raise NotRun(f"its script wasn't done in {seconds} s: {text_of(f'{folder}/output')[-600:]}")
+            raise NotRun(f"its script wasn't done in {seconds} s ({waited:.0f} by the clock): {text_of(f'{folder}/output')[-600:]}")
         time.sleep(0.05)
 
 
 def run(kernel, folder, seconds=600, host=False, processors=1):
-    """Runs folder/run; its status, and what it printed."""
+    """Runs folder/run; its status, and what it printed. It has so many seconds, of work where there is one processor."""
     folder = os.path.abspath(folder)
     forget(folder, "up", "output", "status", "console", "complaints", "done")
     machine = subprocess.Popen(["nice", "-n", "10", *words(kernel, folder, host, processors)], env=kernel.environment,
                                stdin=subprocess.DEVNULL, stdout=subprocess.DEVNULL, stderr=subprocess.PIPE)
     try:
-        wait_for_end(machine, folder, seconds)
+        wait_for_end(machine, folder, seconds, processors == 1)
     finally:
         machine.kill()
         said = machine.stderr.read().decode(errors="replace")

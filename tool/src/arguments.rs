@@ -27,6 +27,10 @@ pub struct Arguments {
     /// Calls methods by their names, from the .aidl files of this folder, which have to be those of the very build
     #[arg(long, global = true, value_name = "FOLDER")]
     pub aidl: Option<std::path::PathBuf>,
+    /// Of a kernel: calls services by their names, from what a device prints (`service list`, `dumpsys --pid`), its state or bug report,
+    /// or a recording; may be given again
+    #[arg(long, global = true, value_name = "FILE")]
+    pub names: Vec<String>,
     #[command(subcommand)]
     pub word: Word,
 }

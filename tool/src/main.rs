@@ -288,6 +288,9 @@ fn run(arguments: &Arguments, out: &mut Out) -> Result<u8> {
     if let Some(folder) = &arguments.aidl {
         aidl::want(folder)?;
     }
+    if !arguments.names.is_empty() {
+        kernel::names::want(&arguments.names)?;
+    }
     match &arguments.word {
         Word::Trace(given) if given.kernel => live::kernel::trace(given, Palette::new(arguments.color)).map(|()| 0),
         Word::Trace(Trace { file: Some(file), wanted, .. }) => {

@@ -9,9 +9,10 @@ use std::path::PathBuf;
 
 const VERSIONS: [&str; 3] = ["5.10", "6.1", "6.12"];
 /// All samples that are events.
-const TRACES: [&str; 7] = [
+const TRACES: [&str; 8] = [
     "5.10/tools.trace",
     "6.1/tools.trace",
+    "6.1/list.trace",
     "6.12/tools.trace",
     "6.1/nested.trace",
     "6.1/many.trace",
@@ -19,7 +20,7 @@ const TRACES: [&str; 7] = [
     "6.12/deaths.trace",
 ];
 /// All samples of one moment.
-const LOOKS: [&str; 14] = [
+const LOOKS: [&str; 19] = [
     "5.10/before.state",
     "5.10/tools.state",
     "5.10/tools.stats",
@@ -27,6 +28,11 @@ const LOOKS: [&str; 14] = [
     "5.10/raw.failed_transaction_log",
     "6.1/storm.state",
     "6.1/storm.transactions",
+    "6.1/storm.failed_transaction_log",
+    "6.1/list.state",
+    "6.1/list.transactions",
+    "6.1/list.stats",
+    "6.1/list.transaction_log",
     "6.1/tools.stats",
     "6.1/tools.transaction_log",
     "6.1/raw.failed_transaction_log",
@@ -224,7 +230,7 @@ fn a_range_of_lines_or_seconds_is_told() {
 /// Every `node` line of a state is held by those whose `ref` lines name it.
 #[test]
 fn holders_are_those_who_have_a_handle() {
-    for name in ["6.1/storm.state", "5.10/tools.state", "6.12/tools.state"] {
+    for name in ["6.1/storm.state", "6.1/list.state", "5.10/tools.state", "6.12/tools.state"] {
         let state = text(name);
         let nodes = state.lines().filter_map(|it| it.strip_prefix("  node ")?.split_once(": u").map(|it| it.0));
         for node in nodes {
@@ -273,7 +279,7 @@ fn the_leak_of_hello_is_found() {
 /// Each `proc` of a state, and each of its threads, nodes, handles and buffers, has its line.
 #[test]
 fn a_state_is_told_whole() {
-    for name in ["6.1/storm.state", "6.1/storm.transactions", "5.10/tools.state", "6.12/tools.state"] {
+    for name in LOOKS.iter().filter(|it| it.ends_with(".state") || it.ends_with(".transactions")) {
         let (state, told) = (text(name), told(&["state", &sample(name)]));
         for (theirs, ours) in [
             ("proc ", "pid "),
@@ -309,6 +315,15 @@ fn refusals_are_explained_by_their_lines() {
         told(&["explain", &sample("6.1/tools.transaction_log")]).lines().count(),
         text("6.1/tools.transaction_log").lines().filter(|it| !it.contains("ret 0/0")).count().max(1)
     );
+}
+
+/// hello's node and the manager's, as tools.state has them, with their owners.
+fn nodes(version: &str) -> ((u64, u32), u64) {
+    match version {
+        "5.10" => ((896, 174), 894),
+        "6.1" => ((896, 189), 894),
+        _ => ((908, 233), 906),
+    }
 }
 
 /// A bug report with these parts, under headings as dumpstate writes them.
@@ -354,14 +369,172 @@ fn a_bug_report_tells_what_its_parts_do() {
         );
         let of = |file: &str| sample(&format!("{version}/{file}"));
         for path in [plain.path(), zip.path()] {
-            assert_eq!(told(&["state", path]), told(&["state", &of("tools.state")]));
+            // Its log tells which node handle 0 leads to.
+            let (_, manager) = nodes(version);
+            let unnamed = told(&["state", path]).replace(&format!("{manager} \"manager\""), &manager.to_string());
+            assert_eq!(unnamed, told(&["state", &of("tools.state")]));
             assert_eq!(told(&["stats", path]), told(&["stats", &of("tools.stats")]));
             assert_eq!(told(&["leaks", path]), told(&["leaks", &of("tools.state")]));
             assert_eq!(told(&["explain", path]), told(&["explain", &of("raw.failed_transaction_log")]));
             let calls = told(&["calls", path]);
-            assert!(calls.ends_with(&told(&["calls", &of("tools.transaction_log")])), "{calls}");
+            let unnamed = |it: &str| it.replace(" \"manager\"", "");
+            assert!(unnamed(&calls).ends_with(&unnamed(&told(&["calls", &of("tools.transaction_log")]))), "{calls}");
+            let to_manager = calls.matches(&format!(" node {manager} \"manager\" by handle 0")).count();
+            let of_log = text(&format!("{version}/tools.transaction_log"));
+            assert_eq!(to_manager, of_log.matches(&format!(" node {manager} handle 0")).count());
         }
     }
+}
+
+/// What `service list` and `dumpsys --pid` print where there are these services.
+const LIST: &str =
+    "Found 3 services:\n0\thello: [com.example.IHello]\n1\tmanager: [android.os.IServiceManager]\n2\tother: []\n";
+
+fn pids(pid: u32) -> String {
+    let line = "-".repeat(79);
+    format!(
+        "Currently running services:\n  hello\n  other\n{line}\nDUMP OF SERVICE hello:\n{pid}\n--------- 0.001s was the duration of \
+         dumpsys hello, ending at: 2026-11-29 05:20:07\n{line}\nDUMP OF SERVICE other:\nError: Permission denied\n"
+    )
+}
+
+/// A bug report tells which node the manager holds of hello's process, and dumpsys that hello is all that this process has.
+#[test]
+fn services_are_called_by_the_names_that_the_user_gives() {
+    let list = kept("called-services.txt", LIST.as_bytes());
+    for version in VERSIONS {
+        let ((hello, pid), manager) = nodes(version);
+        let report = kept(&format!("{version}-called-bugreport.txt"), report(version).as_bytes());
+        let pids = kept(&format!("{version}-called-pids.txt"), pids(pid).as_bytes());
+        let given = ["--names", pids.path(), "--names", list.path()];
+        let of = |words: &[&str]| told(&[words, &given].concat());
+        let state = of(&["state", report.path()]);
+        for wanted in [
+            format!("  node {hello} \"hello\" ptr "),
+            format!("  handle 1 node {hello} \"hello\", 1 strong"),
+            format!("  node {manager} \"manager\" ptr "),
+        ] {
+            assert!(state.contains(&wanted), "{wanted}: {state}");
+        }
+        let holders = of(&["holders", report.path(), &hello.to_string()]);
+        assert!(holders.starts_with(&format!("node {hello} \"hello\" of pid {pid}, ")), "{holders}");
+        let log = of(&["calls", report.path()]);
+        assert!(log.contains(&format!(" node {hello} \"hello\" by handle 1, ")), "{log}");
+        let (trace, from) = (sample(&format!("{version}/tools.trace")), ["--names", report.path()]);
+        let calls = of(&[&["calls", &trace], &from[..]].concat());
+        let count = |word: &str| calls.lines().filter(|it| it.contains(word)).count();
+        let called = |node: u64| text(&format!("{version}/tools.trace")).matches(&format!("dest_node={node} ")).count();
+        assert_eq!((count(") hello _PNG "), count(") manager")), (called(hello), called(manager)), "{calls}");
+        let chosen = of(&[&["calls", &trace, "--interface", "IHello"], &from[..]].concat());
+        assert_eq!(chosen.lines().count(), called(hello), "{chosen}");
+        let top = of(&[&["top", "--file", &trace], &from[..]].concat());
+        assert!(top.contains("hello _PNG\n") && top.contains("manager#4\n"), "{top}");
+        for words in [&["stats", &trace][..], &["slow", &trace]] {
+            let told = of(&[words, &from].concat());
+            assert!(told.contains(&format!("node {manager} \"manager\"")), "{told}");
+        }
+    }
+}
+
+/// What can't be tied is said, and so is what names nothing.
+#[test]
+fn names_that_are_no_nodes_are_told() {
+    let (hello, other) = (kept("hello-pids.txt", pids(189).as_bytes()), kept("other-pids.txt", pids(7).as_bytes()));
+    let said = |words: &[&str]| String::from_utf8_lossy(&run(words).stderr).into_owned();
+    let report = kept("untied-bugreport.txt", report("6.1").as_bytes());
+    let of_hello = said(&["state", report.path(), "--names", hello.path()]);
+    assert!(
+        of_hello
+            .contains("of 2 services' names 1 are tied to no node, since nothing tells which node is meant: other\n"),
+        "{of_hello}"
+    );
+    let of_other = said(&["state", report.path(), "--names", other.path()]);
+    assert!(of_other.contains("of 2 services' names 2 are tied to no node"), "{of_other}");
+    // A trace alone doesn't tell whom the manager holds.
+    let trace = sample("6.1/tools.trace");
+    let alone = said(&["calls", &trace, "--names", hello.path()]);
+    assert!(alone.contains("of 2 services' names 2 are tied to no node"), "{alone}");
+    let nothing = kept("nothing.txt", b"hello\n");
+    assert!(fault(&["calls", &trace, "--names", nothing.path()]).contains("it names no services"));
+    let journal = Journal::registered().file("names");
+    assert!(fault(&["calls", &trace, "--names", journal.path()]).contains("a journal names its own objects"));
+    assert!(fault(&["calls", &trace, "--names", &trace]).contains("it names no services"));
+}
+
+/// Another boot has other nodes by the same numbers.
+#[test]
+fn names_of_another_boot_are_not_taken() {
+    let (of_6, of_5) = (kept("other-bugreport.txt", report("6.1").as_bytes()), sample("5.10/tools.trace"));
+    let pids = kept("other-boot-pids.txt", pids(189).as_bytes());
+    let plain = told(&["calls", &of_5]);
+    assert_eq!(told(&["calls", &of_5, "--names", of_6.path(), "--names", pids.path()]), plain);
+    let state = sample("5.10/tools.state");
+    let plain = told(&["state", &state]);
+    assert_eq!(told(&["state", &state, "--names", of_6.path(), "--names", pids.path()]), plain);
+}
+
+/// A recording, as docs/FORMATS.md lays it out, of a thread that registers an object with this ptr as hello.
+fn recording(pid: u32, ptr: u64) -> Kept {
+    let mut data = [&[0; 4][..], &common::text("android.os.IServiceManager"), &common::text("hello")].concat();
+    let offsets = (data.len() as u64).to_le_bytes();
+    data.extend(object(BINDER, ptr, 0));
+    let record = Record { code: 3, data: data.len() as u64, offsets: 8, ..Record::default() };
+    // A reply with a parcel of its own stands before it.
+    let reply = Record { data: 4, ..Record::default() }.bytes(BC_REPLY);
+    let written = [reply, record.bytes(BC_TRANSACTION)].concat();
+    let padded = |bytes: &[u8]| [bytes, &vec![0; (8 - bytes.len() % 8) % 8]].concat();
+    let sent = [padded(&[7; 4]), padded(&data), offsets.to_vec()].concat();
+    let mut body = [pid, 1, 0, 0].iter().flat_map(|it| it.to_le_bytes()).collect::<Vec<u8>>();
+    let size = written.len() as u64;
+    body.extend([size, 0, size, 0, 0, 0].iter().flat_map(|it| it.to_le_bytes()));
+    body.extend([written.len() as u32, sent.len() as u32, 0, 0, 0, 0].iter().flat_map(|it| it.to_le_bytes()));
+    body.extend([padded(&written), padded(&sent)].concat());
+    let mut call = [24 + body.len() as u32, 4].iter().flat_map(|it| it.to_le_bytes()).collect::<Vec<u8>>();
+    call.extend([1u64, 2].iter().flat_map(|it| it.to_le_bytes()));
+    call.extend(body);
+    let mut file = [&b"HPREC001"[..], &(64 + call.len() as u64).to_le_bytes()].concat();
+    file.extend([pid, pid, 0, 0].iter().flat_map(|it| it.to_le_bytes()));
+    file.resize(64, 0);
+    file.extend(call);
+    kept(&format!("{ptr:x}-hello.recording"), &file)
+}
+
+/// addService hands over the ptr by which the trace has the node.
+#[test]
+fn a_recording_of_add_service_names_its_node() {
+    for (version, ptr) in [("5.10", 0x7ffe_831c_d9e0), ("6.1", 0x7fff_b673_bf30), ("6.12", 0x7ffc_d3c7_9500)] {
+        let ((hello, pid), _) = nodes(version);
+        let recording = recording(pid, ptr);
+        let calls = told(&["calls", &sample(&format!("{version}/tools.trace")), "--names", recording.path()]);
+        assert_eq!(calls.matches(") hello _PNG ").count(), 1, "{calls}");
+        let state = told(&["state", &sample(&format!("{version}/tools.state")), "--names", recording.path()]);
+        assert!(state.contains(&format!("  node {hello} \"hello\" ptr {ptr:#x} ")), "{state}");
+    }
+    let cut = fs::read(recording(189, 0x1000).path()).expect("it");
+    let cut = kept("cut.recording", &cut[..cut.len() - 8]);
+    assert!(fault(&["calls", &sample("6.1/tools.trace"), "--names", cut.path()]).contains("more than there is"));
+}
+
+/// With .aidl files a service that has an interface has methods too.
+#[test]
+fn methods_of_a_kernels_trace_have_names() {
+    let folder = PathBuf::from(env!("CARGO_TARGET_TMPDIR")).join(format!("{}-kernels-aidl", std::process::id()));
+    fs::create_dir_all(&folder).expect("a folder");
+    let file = "package android.os;\ninterface IServiceManager {\n  IBinder getService(String name);\n  IBinder checkService(String name);\n  \
+        void addService(String name, IBinder service, boolean isolated, int priority);\n  String[] listServices(int priority);\n}\n";
+    fs::write(folder.join("IServiceManager.aidl"), file).expect("a file");
+    let (list, report) =
+        (kept("aidl-services.txt", LIST.as_bytes()), kept("aidl-bugreport.txt", report("6.1").as_bytes()));
+    let given = ["--names", list.path(), "--names", report.path(), "--aidl", &folder.display().to_string()];
+    let trace = sample("6.1/tools.trace");
+    let calls = told(&[&["calls", &trace], &given[..]].concat());
+    // The codes were read in the trace by hand.
+    let counts =
+        ["addService", "listServices", "checkService"].map(|it| calls.matches(&format!(") manager.{it} ")).count());
+    assert_eq!(counts, [1, 2, 1], "{calls}");
+    let top = told(&[&["top", "--file", &trace], &given[..]].concat());
+    assert!(top.contains("manager.listServices\n"), "{top}");
+    fs::remove_dir_all(&folder).expect("it goes");
 }
 
 #[test]
@@ -487,6 +660,9 @@ fn recordings_of_trace_cmd_and_perf_are_read() {
         let stats = told(&["stats", file.path()]);
         assert!(stats.contains("  BC_TRANSACTION\n") && stats.contains("  BR_REPLY\n"), "{stats}");
     }
+    // Here nobody had registered the name that was asked for.
+    let lines = told(&["calls", unpacked("6.1/first.data.gz").path()]);
+    assert_eq!((lines.lines().count(), lines.matches(" node 2 _PNG 0 B = 0 B <").count()), (2, 1), "{lines}");
 }
 
 #[test]

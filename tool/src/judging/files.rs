@@ -175,6 +175,14 @@ impl Files {
         Ok(files)
     }
 
+    /// What one file has.
+    #[cfg(feature = "fuzz")]
+    pub fn of_bytes(bytes: &[u8]) -> Result<Files> {
+        let mut files = Files::default();
+        files.take_all(bytes)?;
+        Ok(files)
+    }
+
     /// One file: threads' files one behind the other, and perhaps the trace.
     fn take_all(&mut self, bytes: &[u8]) -> Result<()> {
         let mut at = 0;

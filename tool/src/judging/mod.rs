@@ -1,6 +1,6 @@
 // SPDX-License-Identifier: Apache-2.0 OR MIT
 //! Recordings of a real driver, judged by the rules.
-mod files;
+pub mod files;
 mod lessons;
 mod machine;
 mod order;

@@ -1,7 +1,8 @@
 // SPDX-License-Identifier: Apache-2.0 OR MIT
 //! Calls, put together from the events of a trace. A call is known by its number. Which call a reply answers is told by nobody: it is
 //! the innermost that its thread serves. What began before the trace did is passed over.
-use super::ftrace::{Line, Transaction, What};
+use super::ftrace::{Line, Passing, Transaction, What};
+use super::names::{self, Named};
 use super::node;
 use super::threads::{Sending, Thread, Threads};
 use super::verbs;
@@ -19,12 +20,11 @@ const MOST_READ: usize = 1 << 12;
 const MOST_PASSED: usize = 64;
 const MOST_NODES: usize = 1 << 16;
 
-/// What is known of a node.
+/// What is known of a node: whose it is, and what the user has told.
 #[derive(Debug, Default)]
 pub struct Node {
     pub owner: Option<u32>,
-    pub service: Option<String>,
-    pub interface: Option<String>,
+    pub named: Option<Named>,
 }
 
 /// All that a trace has told so far.
@@ -48,10 +48,9 @@ pub struct Following {
 
 impl Objects for Following {
     fn words(&self, object: ObjectId) -> String {
-        let node = self.nodes.get(&object.place);
-        let name = node.and_then(|it| it.service.as_ref().or(it.interface.as_ref()));
-        let name = name.map_or(String::new(), |it| format!(" {it:?}"));
-        let owner = node.and_then(|it| it.owner).map_or(String::new(), |it| format!(" of pid {it}"));
+        let owner = self.nodes.get(&object.place).and_then(|it| it.owner);
+        let name = self.called(object).map_or(String::new(), |it| format!(" {it:?}"));
+        let owner = owner.map_or(String::new(), |it| format!(" of pid {it}"));
         format!("{}{name}{owner}", self.number(object))
     }
 
@@ -60,12 +59,11 @@ impl Objects for Following {
     }
 
     fn called(&self, object: ObjectId) -> Option<&str> {
-        let node = self.nodes.get(&object.place)?;
-        node.service.as_deref().or(node.interface.as_deref())
+        self.named(object).map(|it| &it.service[..])
     }
 
     fn interface(&self, object: ObjectId) -> Option<&str> {
-        self.nodes.get(&object.place)?.interface.as_deref()
+        self.named(object)?.interface.as_deref()
     }
 }
 
@@ -77,6 +75,16 @@ fn take(list: &mut Vec<u64>, number: u64) {
 }
 
 impl Following {
+    fn named(&self, object: ObjectId) -> Option<&Named> {
+        let node = self.nodes.get(&object.place)?;
+        node.named.as_ref().or_else(|| names::of_node(object.place, node.owner?))
+    }
+
+    /// The names that nodes have.
+    pub fn names(&self) -> impl Iterator<Item = &str> {
+        self.nodes.keys().filter_map(|it| self.called(node(*it)))
+    }
+
     /// Takes an event, and adds what it does to calls.
     pub fn event(&mut self, place: u64, line: &Line<'_>, what: What, events: &mut Vec<Event>) -> Result<()> {
         let thread = self.threads.meet(line.tid, line.comm, line.process)?;
@@ -91,7 +99,7 @@ impl Following {
             What::Transaction(it) if it.is_reply => self.replied(doing, &it),
             What::Transaction(it) => self.called(doing, &it),
             What::Buffer(number, size) => self.sized(number, size),
-            What::Passed(number, node, handle) => self.passed(number, node, handle),
+            What::Passed(passing) => self.passed(doing, passing),
             What::Received(number) => self.received(doing, number, events),
             What::Released(number) => self.released(doing, number, events),
             What::Command(code) => self.command(line.tid, code),
@@ -201,9 +209,14 @@ impl Following {
         }
     }
 
-    fn passed(&mut self, number: u64, node: u64, handle: Option<u32>) {
-        if let Some((call, with_reply)) = self.of(number).filter(|it| it.0.passed.len() < MOST_PASSED) {
-            call.passed.push(Passed { node, handle, with_reply });
+    fn passed(&mut self, doing: Doing, it: Passing) {
+        let pid = Some(doing.pid).filter(|it| !is_unknown(*it));
+        let named = it.ptr.and_then(|ptr| names::of_object(doing.seat, pid, ptr));
+        if let (Some(named), true) = (named, self.nodes.len() < MOST_NODES) {
+            self.nodes.insert(it.node, Node { owner: Some(named.owner), named: Some(named) });
+        }
+        if let Some((call, with_reply)) = self.of(it.transaction).filter(|it| it.0.passed.len() < MOST_PASSED) {
+            call.passed.push(Passed { node: it.node, handle: it.handle, with_reply });
         }
     }
 
@@ -305,7 +318,7 @@ impl Following {
 
 /// Whether an event tells more of what a thread is sending.
 fn belongs(what: What, number: u64) -> bool {
-    matches!(what, What::Buffer(of, _) | What::Passed(of, ..) if of == number)
+    matches!(what, What::Buffer(of, _) | What::Passed(Passing { transaction: of, .. }) if of == number)
 }
 
 fn is_unknown(process: u32) -> bool {

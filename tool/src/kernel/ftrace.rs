@@ -32,11 +32,22 @@ pub enum What {
     Buffer(u64, u64),
     /// Its buffer was given back.
     Released(u64),
-    /// It hands this object over: the receiver's handle, or None where that is the owner.
-    Passed(u64, u64, Option<u32>),
+    /// It hands an object over.
+    Passed(Passing),
     Ioctl(u32),
     /// Nothing that is looked at.
     Other,
+}
+
+/// An object that a call or a reply hands over.
+#[derive(Clone, Copy, Debug, Default, PartialEq, Eq)]
+pub struct Passing {
+    pub transaction: u64,
+    pub node: u64,
+    /// The receiver's handle; None where it is the receiver's own.
+    pub handle: Option<u32>,
+    /// What its owner calls it, where that is the sender.
+    pub ptr: Option<u64>,
 }
 
 /// A call or a reply, before it has a buffer.
@@ -176,6 +187,11 @@ fn transaction(rest: &[u8]) -> Result<What, String> {
     }))
 }
 
+fn passing(rest: &[u8], has_handle: bool) -> Result<Passing, String> {
+    let handle = if has_handle { Some(numbered_u32(rest, "dest_desc")?) } else { None };
+    Ok(Passing { transaction: numbered(rest, "transaction")?, node: numbered(rest, "node")?, handle, ptr: None })
+}
+
 /// What an event tells; what is wrong with it where it hasn't what each kernel gives it.
 pub fn what(event: &[u8], rest: &[u8]) -> Result<What, String> {
     Ok(match event {
@@ -186,14 +202,11 @@ pub fn what(event: &[u8], rest: &[u8]) -> Result<What, String> {
             What::Buffer(numbered(rest, "transaction")?, data.saturating_add(offsets))
         }
         b"binder_transaction_buffer_release" => What::Released(numbered(rest, "transaction")?),
-        b"binder_transaction_node_to_ref" | b"binder_transaction_ref_to_ref" => What::Passed(
-            numbered(rest, "transaction")?,
-            numbered(rest, "node")?,
-            Some(numbered_u32(rest, "dest_desc")?),
-        ),
-        b"binder_transaction_ref_to_node" => {
-            What::Passed(numbered(rest, "transaction")?, numbered(rest, "node")?, None)
+        b"binder_transaction_node_to_ref" => {
+            What::Passed(Passing { ptr: numbered(rest, "src_ptr").ok(), ..passing(rest, true)? })
         }
+        b"binder_transaction_ref_to_ref" => What::Passed(passing(rest, true)?),
+        b"binder_transaction_ref_to_node" => What::Passed(passing(rest, false)?),
         b"binder_command" => What::Command(numbered_u32(rest, "cmd")?),
         b"binder_return" => What::Return(numbered_u32(rest, "cmd")?),
         b"binder_ioctl" => What::Ioctl(numbered_u32(rest, "cmd")?),
@@ -263,7 +276,8 @@ mod tests {
             Transaction { number: 6, node: 1, process: 112, flags: 0x10, code: 0x5f50_4e47, ..Transaction::default() };
         assert_eq!(what(b"binder_transaction", REST.as_bytes()), Ok(What::Transaction(wanted)));
         let passed = b"transaction=19 node=20 src_ptr=0x0000000000001020 ==> dest_ref=21 dest_desc=1";
-        assert_eq!(what(b"binder_transaction_node_to_ref", passed), Ok(What::Passed(19, 20, Some(1))));
+        let passing = Passing { transaction: 19, node: 20, handle: Some(1), ptr: Some(0x1020) };
+        assert_eq!(what(b"binder_transaction_node_to_ref", passed), Ok(What::Passed(passing)));
         assert_eq!(what(b"binder_return", b"cmd=0x80407202 BR_TRANSACTION"), Ok(What::Return(0x8040_7202)));
         // trace-cmd says so of a format that it can't read, and the number is there all the same.
         assert_eq!(what(b"binder_return", b"[FAILED TO PARSE] cmd=2151707138"), Ok(What::Return(0x8040_7202)));

@@ -6,6 +6,7 @@ use super::format::{self, Format};
 use super::is_node;
 use super::lines::Lines;
 use super::log::{self, Entry};
+use super::names::{self, Named};
 use super::report::{self, Part};
 use super::state::{self, looper_words, Buffer, Node, Process, Reference, State, Transaction, Work};
 use crate::live::calls::short_code;
@@ -15,6 +16,9 @@ use anyhow::{bail, Context, Result};
 use std::collections::{BTreeMap, HashMap};
 use std::fs::File;
 use std::io::{self, BufReader, Write};
+
+/// What nodes are called.
+type Names = HashMap<u64, Named>;
 
 /// All that one file tells of a moment.
 #[derive(Debug, Default)]
@@ -93,6 +97,20 @@ impl Look {
         self.state.as_ref().with_context(missing)
     }
 
+    /// What tells whose nodes are, and which of them managers.
+    pub fn told_of_nodes(&self) -> (Option<&State>, &[Entry]) {
+        (self.state.as_ref(), &self.log)
+    }
+
+    fn names(&self) -> Names {
+        names::of_moment(self.state.as_ref(), &self.log)
+    }
+
+    /// Says which names that the user gave are no node's.
+    fn say_names(&self, names: &Names) {
+        names::say(&name(&self.path), names.values().map(|it| &it.service[..]));
+    }
+
     /// Whether it tells of nodes and handles.
     fn whole_state(&self) -> Result<&State> {
         let state = self.state()?;
@@ -104,17 +122,18 @@ impl Look {
 
     /// Prints what each process has.
     pub fn put_state(&self, to: &mut Vec<u8>) -> Result<()> {
-        let state = self.state()?;
+        let (state, names) = (self.state()?, self.names());
         for node in &state.dead_nodes {
-            let (known, rest) = node_line(node);
+            let (known, rest) = node_line(node, &Names::default());
             writeln!(to, "{known} of a process that has ended{rest}")?;
         }
         for process in &state.processes {
             writeln!(to, "{}", head(process))?;
-            for (known, rest) in lines_of(process) {
+            for (known, rest) in lines_of(process, &names) {
                 writeln!(to, "  {known}{rest}")?;
             }
         }
+        self.say_names(&names);
         if !state.is_whole {
             eprintln!(
                 "hullpippin: {}: left out, since `transactions` doesn't tell them: nodes, handles, idle threads",
@@ -126,7 +145,7 @@ impl Look {
 
     /// Prints what differs in a later look.
     pub fn put_difference(&self, to: &mut Vec<u8>, later: &Look) -> Result<()> {
-        let (before, after) = (known(self.state()?), known(later.state()?));
+        let (before, after) = (known(self.state()?, &self.names()), known(later.state()?, &later.names()));
         let mut keys: Vec<_> = before.keys().chain(after.keys()).collect();
         keys.sort();
         keys.dedup();
@@ -155,7 +174,9 @@ impl Look {
             None => bail!("{}: there is no node {number} in it; `state` prints those that there are", name(&self.path)),
         };
         let owner = owner.map_or("a process that has ended".into(), |it| format!("pid {it}"));
-        writeln!(to, "node {number} of {owner}, ptr {:#x} cookie {:#x}", node.ptr, node.cookie)?;
+        let names = self.names();
+        let called = called(&names, number);
+        writeln!(to, "node {number}{called} of {owner}, ptr {:#x} cookie {:#x}", node.ptr, node.cookie)?;
         let ([strong, weak], [local_strong, local_weak]) = (node.told, node.local);
         writeln!(to, "its owner was told: {strong} strong, {weak} weak; the driver holds it itself: {local_strong} strong, {local_weak} weak")?;
         for process in &state.processes {
@@ -163,6 +184,7 @@ impl Look {
                 writeln!(to, "  pid {} names it by handle {}: {}", process.pid, it.handle, strength(it))?;
             }
         }
+        self.say_names(&names);
         eprintln!(
             "hullpippin: {}: left out, since the kernel doesn't tell it: which buffers hold it",
             name(&self.path)
@@ -214,14 +236,16 @@ impl Look {
 
     /// Prints the calls of a log, which has neither codes nor times.
     pub fn put_log(&self, to: &mut Vec<u8>) -> Result<()> {
+        let names = self.names();
         for it in self.log()? {
             writeln!(
                 to,
                 "{}{}",
-                entry_head(it),
+                entry_head(it, &names),
                 if it.is_refused() { format!(" = {}", errno::words(it, None)) } else { String::new() }
             )?;
         }
+        self.say_names(&names);
         eprintln!("hullpippin: {}: left out, since a log doesn't tell them: codes, times, names of threads, which reply answers which call", name(&self.path));
         Ok(())
     }
@@ -229,8 +253,9 @@ impl Look {
     /// Prints why calls were refused, by the lines of a version's binder.c where one is given.
     pub fn put_refusals(&self, to: &mut Vec<u8>, version: Option<&str>) -> Result<()> {
         let refused: Vec<&Entry> = self.log()?.iter().filter(|it| it.is_refused()).collect();
+        let names = self.names();
         for it in &refused {
-            writeln!(to, "{}\n  {}", entry_head(it), errno::words(it, version))?;
+            writeln!(to, "{}\n  {}", entry_head(it, &names), errno::words(it, version))?;
         }
         if refused.is_empty() {
             writeln!(to, "no call was refused, of those that the log has")?;
@@ -245,7 +270,12 @@ impl Look {
     }
 }
 
-fn entry_head(it: &Entry) -> String {
+/// A name behind a node's number, if it has one.
+fn called(names: &Names, node: u64) -> String {
+    names.get(&node).map_or(String::new(), |it| format!(" {:?}", it.service))
+}
+
+fn entry_head(it: &Entry, names: &Names) -> String {
     let (number, kind, context) = (it.number, &it.kind, &it.context);
     let party = |(process, thread): (u32, u32)| match (process, thread) {
         (0, _) => "nobody".into(),
@@ -255,7 +285,11 @@ fn entry_head(it: &Entry) -> String {
     let (from, to) = (party(it.from), party(it.to));
     let target = match &kind[..] {
         "reply" => String::new(),
-        _ => format!(" node {} by handle {}", it.node, it.handle),
+        _ => {
+            let is_its = names.get(&it.node).map_or(false, |named| named.owner == it.to.0);
+            let called = if is_its { called(names, it.node) } else { String::new() };
+            format!(" node {}{called} by handle {}", it.node, it.handle)
+        }
     };
     let incomplete = if it.is_incomplete { ", being written" } else { "" };
     let size = it.data.saturating_add(it.offsets);
@@ -300,15 +334,16 @@ fn work_words(work: &Work) -> String {
     }
 }
 
-fn node_line(it: &Node) -> (String, String) {
+fn node_line(it: &Node, names: &Names) -> (String, String) {
     let holders: String = it.held_by.iter().map(|it| format!(", named by pid {it}")).collect();
     let told = format!("told {} strong, {} weak", it.told[0], it.told[1]);
-    let rest = format!(" ptr {:#x} cookie {:#x}, {told}, {} handles{holders}", it.ptr, it.cookie, it.handles);
+    let (called, Node { ptr, cookie, handles, .. }) = (called(names, it.number), it);
+    let rest = format!("{called} ptr {ptr:#x} cookie {cookie:#x}, {told}, {handles} handles{holders}");
     (format!("node {}", it.number), rest)
 }
 
 /// All that a process has, line by line: what a line is known by, and what it says of that.
-fn lines_of(process: &Process) -> Vec<(String, String)> {
+fn lines_of(process: &Process, names: &Names) -> Vec<(String, String)> {
     let mut lines = Vec::new();
     let unread = |of: &str, it: &Work| (format!("{of}unread: {}", work_words(it)), String::new());
     lines.extend(process.work.iter().map(|it| unread("", it)));
@@ -319,11 +354,12 @@ fn lines_of(process: &Process) -> Vec<(String, String)> {
         lines.extend(it.work.iter().map(|it| unread(&format!("{of} "), it)));
     }
     for it in &process.nodes {
-        lines.push(node_line(it));
+        lines.push(node_line(it, names));
         lines.extend(it.work.iter().map(|work| unread(&format!("node {} ", it.number), work)));
     }
     for it in &process.references {
-        lines.push((format!("handle {}", it.handle), format!(" node {}, {}", it.node, strength(it))));
+        let rest = format!(" node {}{}, {}", it.node, called(names, it.node), strength(it));
+        lines.push((format!("handle {}", it.handle), rest));
     }
     lines.extend(process.buffers.iter().map(buffer_line));
     lines
@@ -336,12 +372,12 @@ fn buffer_line(it: &Buffer) -> (String, String) {
 }
 
 /// Each line of a state by whose it is and what it is known by.
-fn known(state: &State) -> BTreeMap<(u32, usize, String), String> {
+fn known(state: &State, names: &Names) -> BTreeMap<(u32, usize, String), String> {
     let mut lines = BTreeMap::new();
     for process in &state.processes {
         let whose = head(process);
         lines.insert((process.pid, 0, whose.clone()), String::new());
-        for (known, rest) in lines_of(process) {
+        for (known, rest) in lines_of(process, names) {
             lines.insert((process.pid, 1, format!("pid {} {known}", process.pid)), rest);
         }
     }

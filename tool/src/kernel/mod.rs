@@ -10,6 +10,7 @@ mod ftrace;
 pub mod lines;
 pub mod log;
 pub mod look;
+pub mod names;
 pub mod report;
 pub mod state;
 mod threads;

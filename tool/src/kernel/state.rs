@@ -86,6 +86,13 @@ pub struct Process {
     pub work: Vec<Work>,
 }
 
+impl Process {
+    /// Whether it owns this node.
+    pub fn has(&self, node: u64) -> bool {
+        self.nodes.iter().any(|it| it.number == node)
+    }
+}
+
 /// All that a file tells.
 #[derive(Clone, Debug, Default)]
 pub struct State {

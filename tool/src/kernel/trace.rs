@@ -4,6 +4,7 @@ use super::following::Following;
 use super::format::Format;
 use super::ftrace::{self, What};
 use super::lines::{shown, Lines};
+use super::names;
 use super::verbs;
 use crate::calls::Event;
 use crate::play::{name, Range};
@@ -129,6 +130,7 @@ impl Reader {
             let count = self.following.given_up;
             eprintln!("hullpippin: {path}: too many calls were open at once; the {count} oldest were given up");
         }
+        names::say(path, self.following.names());
         let mut missing = vec!["parcels, and handles as targets"];
         if !self.following.has_sizes {
             missing.push("sizes (binder_transaction_alloc_buf)");

@@ -1,11 +1,12 @@
 // SPDX-License-Identifier: Apache-2.0 OR MIT
 //! Who calls whom how often, and how long that takes: of the last second, again and again.
-use super::calls::{short_code, Calls, End, Ended};
+use super::calls::{Calls, End, Ended};
 use super::daemon::needed_ring;
 use super::ring::Ring;
 use super::slot::Party;
 use super::state::{windows, Window};
 use super::Where;
+use crate::aidl::method_words;
 use crate::calls::{Event as CallEvent, Objects, OF_THREAD};
 use crate::kernel;
 use crate::kernel::following::Following;
@@ -63,6 +64,8 @@ fn seconds(word: &str) -> Result<f64, String> {
 /// Calls that are told of together. Programs of one name are, since many live for a call or two.
 #[derive(Debug, Default)]
 struct Pair {
+    /// What is called, with its method's name or the code.
+    what: String,
     calls: u64,
     bytes: u64,
     took: u64,
@@ -119,6 +122,7 @@ impl Sums {
             it.served += 1;
         }
         let pair = self.pairs.entry((from, to, call.what.clone(), call.code)).or_default();
+        pair.name(&call.what, call.interface.as_deref(), call.code);
         pair.add(call.size.saturating_add(call.reply_size), ended.took(), is_done);
     }
 
@@ -174,10 +178,13 @@ impl Sums {
         let server = self.processes.entry(to.clone()).or_default();
         server.pids.insert(call.to);
         server.served += u64::from(call.taken.is_some());
-        let what = call.object.map_or(String::new(), |it| following.number(it));
+        let called = |it| following.called(it).map_or_else(|| following.number(it), String::from);
+        let what = call.object.map_or(String::new(), called);
         let size = call.size.unwrap_or(0).saturating_add(call.replied.and_then(|it| it.1.size()).unwrap_or(0));
         let took = ended.since(call.made).unwrap_or(0);
-        self.pairs.entry((from, to, what, call.code)).or_default().add(size, took, is_done);
+        let pair = self.pairs.entry((from, to, what.clone(), call.code)).or_default();
+        pair.name(&what, call.object.and_then(|it| following.interface(it)), call.code);
+        pair.add(size, took, is_done);
     }
 
     /// Adds what a kernel's trace has told.
@@ -210,6 +217,12 @@ fn kernels_name(pid: u32, following: &Following) -> String {
 }
 
 impl Pair {
+    fn name(&mut self, what: &str, interface: Option<&str>, code: u32) {
+        if self.what.is_empty() {
+            self.what = format!("{}{}", what.escape_debug(), method_words(interface, code, None));
+        }
+    }
+
     fn add(&mut self, size: u64, took: u64, is_done: bool) {
         self.calls += 1;
         self.bytes = self.bytes.saturating_add(size);
@@ -337,7 +350,7 @@ impl Screen {
     }
 }
 
-fn pair_row((from, to, what, code): &Key, it: &Pair, seconds: f64) -> [String; 7] {
+fn pair_row((from, to, ..): &Key, it: &Pair, seconds: f64) -> [String; 7] {
     [
         rate(it.calls, seconds),
         rate(it.bytes, seconds),
@@ -345,7 +358,7 @@ fn pair_row((from, to, what, code): &Key, it: &Pair, seconds: f64) -> [String; 7
         duration_words(it.most),
         it.failed.to_string(),
         format!("{}{ARROW}{}", from.escape_debug(), to.escape_debug()),
-        format!("{}{}", what.escape_debug(), short_code(*code)),
+        it.what.clone(),
     ]
 }
 
@@ -480,28 +493,113 @@ fn is_ended() -> Result<bool> {
     })
 }
 
-/// What happens in an interval; None where it is ended before.
+/// What is watched: what happens there comes to sums, and these to a screen.
+trait Watched {
+    /// Adds what has happened since the last look; whether there may be more at once.
+    fn look(&mut self, sums: &mut Sums) -> Result<bool>;
+    /// Whether nothing will happen any more.
+    fn is_over(&self) -> Result<bool>;
+    fn screen(&self, sums: Sums, seconds: f64) -> Result<Screen>;
+}
+
+/// A daemon, by the ring of its latest steps.
+struct Daemon<'a> {
+    ring: Ring,
+    calls: Calls,
+    place: &'a Where,
+}
+
+impl Daemon<'_> {
+    fn open(place: &Where) -> Result<Daemon<'_>> {
+        let (mut ring, mut calls) = (needed_ring(place)?, Calls::default());
+        // What was before tells what things are called.
+        ring.each(|slot| drop(calls.step(slot)))?;
+        Ok(Daemon { ring, calls, place })
+    }
+}
+
+impl Watched for Daemon<'_> {
+    fn look(&mut self, sums: &mut Sums) -> Result<bool> {
+        let calls = &mut self.calls;
+        self.ring.each(|slot| {
+            sums.steps += 1;
+            calls.step(slot).iter().for_each(|it| sums.add(it, calls));
+        })?;
+        Ok(false)
+    }
+
+    fn is_over(&self) -> Result<bool> {
+        self.ring.is_over()
+    }
+
+    fn screen(&self, sums: Sums, seconds: f64) -> Result<Screen> {
+        Screen::new(sums, &self.calls, &self.ring, self.place, seconds)
+    }
+}
+
+/// The kernel that runs here, by its events.
+struct Kernel(Live);
+
+impl Watched for Kernel {
+    fn look(&mut self, sums: &mut Sums) -> Result<bool> {
+        self.0.look(&mut |seen, following| {
+            sums.see(seen, following);
+            Ok(())
+        })
+    }
+
+    fn is_over(&self) -> Result<bool> {
+        Ok(false)
+    }
+
+    fn screen(&self, sums: Sums, seconds: f64) -> Result<Screen> {
+        Ok(Screen::of_kernel(sums, &self.0.reader.following, seconds, "kernel"))
+    }
+}
+
+/// What happens in an interval, and how many seconds that was; None where somebody ends it before.
 fn watch(
-    ring: &mut Ring,
-    calls: &mut Calls,
+    watched: &mut dyn Watched,
     interval: Duration,
     mut wait: impl FnMut() -> Result<bool>,
 ) -> Result<Option<(Sums, f64)>> {
     let begun = Instant::now();
     let mut sums = Sums::default();
     loop {
-        let is_last = begun.elapsed() >= interval || ring.is_over()?;
-        ring.each(|slot| {
-            sums.steps += 1;
-            calls.step(slot).iter().for_each(|it| sums.add(it, calls));
-        })?;
+        let is_last = begun.elapsed() >= interval || watched.is_over()?;
+        let has_more = watched.look(&mut sums)?;
         if is_last {
             return Ok(Some((sums, begun.elapsed().max(interval).as_secs_f64())));
         }
-        if wait()? {
+        if !has_more && wait()? {
             return Ok(None);
         }
     }
+}
+
+/// Shows one interval after the other, or prints one.
+fn top_of(watched: &mut dyn Watched, given: &Top) -> Result<()> {
+    let interval = Duration::from_secs_f64(given.interval);
+    if given.once {
+        let waits = || {
+            sleep(PAUSE);
+            Ok(false)
+        };
+        if let Some((sums, seconds)) = watch(watched, interval, waits)? {
+            let text = watched.screen(sums, seconds)?.text(out::width().unwrap_or(WIDE));
+            io::stdout().write_all(text.as_bytes())?;
+        }
+        return Ok(());
+    }
+    let mut shown = Shown::new()?;
+    while let Some((sums, seconds)) = watch(watched, interval, is_ended)? {
+        let screen = watched.screen(sums, seconds)?;
+        shown.0.draw(|frame| draw(frame, &screen))?;
+        if watched.is_over()? {
+            break;
+        }
+    }
+    Ok(())
 }
 
 /// One screen of all of a kernel's trace, by its own time.
@@ -524,83 +622,12 @@ fn put_trace(path: &str) -> Result<()> {
     done
 }
 
-/// What happens in an interval by a kernel's events; None where it is ended before.
-fn watch_kernel(
-    live: &mut Live,
-    interval: Duration,
-    mut wait: impl FnMut() -> Result<bool>,
-) -> Result<Option<(Sums, f64)>> {
-    let begun = Instant::now();
-    let mut sums = Sums::default();
-    loop {
-        let is_last = begun.elapsed() >= interval;
-        let has_any = live.look(&mut |seen, following| {
-            sums.see(seen, following);
-            Ok(())
-        })?;
-        if is_last {
-            return Ok(Some((sums, begun.elapsed().max(interval).as_secs_f64())));
-        }
-        if !has_any && wait()? {
-            return Ok(None);
-        }
-    }
-}
-
-fn top_of_kernel(given: &Top) -> Result<()> {
-    let mut live = Live::begin()?;
-    let interval = Duration::from_secs_f64(given.interval);
-    let of = |live: &Live, sums, seconds| Screen::of_kernel(sums, &live.reader.following, seconds, "kernel");
-    if given.once {
-        let waits = || {
-            sleep(PAUSE);
-            Ok(false)
-        };
-        if let Some((sums, seconds)) = watch_kernel(&mut live, interval, waits)? {
-            io::stdout().write_all(of(&live, sums, seconds).text(out::width().unwrap_or(WIDE)).as_bytes())?;
-        }
-        return Ok(());
-    }
-    let mut shown = Shown::new()?;
-    while let Some((sums, seconds)) = watch_kernel(&mut live, interval, is_ended)? {
-        let screen = of(&live, sums, seconds);
-        shown.0.draw(|frame| draw(frame, &screen))?;
-    }
-    Ok(())
-}
-
 pub fn top(given: &Top) -> Result<()> {
-    if let Some(path) = &given.file {
-        return put_trace(path);
+    match &given.file {
+        Some(path) => put_trace(path),
+        None if given.kernel => top_of(&mut Kernel(Live::begin()?), given),
+        None => top_of(&mut Daemon::open(&given.place)?, given),
     }
-    if given.kernel {
-        return top_of_kernel(given);
-    }
-    let mut ring = needed_ring(&given.place)?;
-    let mut calls = Calls::default();
-    let interval = Duration::from_secs_f64(given.interval);
-    // What was before tells what things are called.
-    ring.each(|slot| drop(calls.step(slot)))?;
-    if given.once {
-        let waits = || {
-            sleep(PAUSE);
-            Ok(false)
-        };
-        if let Some((sums, seconds)) = watch(&mut ring, &mut calls, interval, waits)? {
-            let screen = Screen::new(sums, &calls, &ring, &given.place, seconds)?;
-            io::stdout().write_all(screen.text(out::width().unwrap_or(WIDE)).as_bytes())?;
-        }
-        return Ok(());
-    }
-    let mut shown = Shown::new()?;
-    while let Some((sums, seconds)) = watch(&mut ring, &mut calls, interval, is_ended)? {
-        let screen = Screen::new(sums, &calls, &ring, &given.place, seconds)?;
-        shown.0.draw(|frame| draw(frame, &screen))?;
-        if ring.is_over()? {
-            break;
-        }
-    }
-    Ok(())
 }
 
 #[cfg(test)]
@@ -652,6 +679,41 @@ calls/s      mean  from -> to           what
      23         0       0     12%  \u{6444}\u{5f71}(4711)
 ";
         assert_eq!(screen(60), wanted);
+    }
+
+    /// Something that has so much left, and then is over.
+    struct Counted(u64);
+
+    impl Watched for Counted {
+        fn look(&mut self, sums: &mut Sums) -> Result<bool> {
+            sums.steps += u64::from(self.0 > 0);
+            self.0 = self.0.saturating_sub(1);
+            Ok(self.0 > 2)
+        }
+
+        fn is_over(&self) -> Result<bool> {
+            Ok(self.0 == 0)
+        }
+
+        fn screen(&self, _: Sums, _: f64) -> Result<Screen> {
+            bail!("nobody looks")
+        }
+    }
+
+    /// Nobody waits while there is more, nor once it is over; and who wants to end it ends it.
+    #[test]
+    fn what_is_watched_is_looked_at_until_it_is_over() {
+        let long = Duration::from_secs(3600);
+        let mut waits = 0;
+        let told = watch(&mut Counted(5), long, || {
+            waits += 1;
+            Ok(false)
+        });
+        let (sums, seconds) = told.expect("no fault").expect("sums");
+        assert_eq!((sums.steps, waits, seconds), (5, 3, 3600.0));
+        assert!(watch(&mut Counted(5), long, || Ok(true)).expect("no fault").is_none());
+        let (sums, _) = watch(&mut Counted(5), Duration::ZERO, || Ok(true)).expect("no fault").expect("sums");
+        assert_eq!(sums.steps, 1);
     }
 
     #[test]

@@ -8,7 +8,6 @@ for Debian's packages, a C compiler with a static C library, and trace-cmd and p
 import glob
 import os
 import shutil
-import subprocess
 import sys
 import tempfile
 
@@ -17,10 +16,10 @@ HERE = os.path.dirname(os.path.abspath(__file__))
 ROOT = os.path.dirname(os.path.dirname(os.path.dirname(HERE)))
 sys.path[:0] = [f"{ROOT}/clients/kernel", f"{ROOT}/clients/tests", f"{ROOT}/tools"]
 
-import fetch  # noqa: E402
 import machine  # noqa: E402
 import plainly  # noqa: E402, F401  (what is missing is told in one line)
-from packages import Apt, Packages, default_folder  # noqa: E402
+from kernels import kernel_of  # noqa: E402
+from packages import Packages, default_folder  # noqa: E402
 from programs import add_managers, build_raw  # noqa: E402
 
 # what is run in the machine; the tests that are looked at use little, so that a sample stays small
@@ -73,66 +72,11 @@ kill $M
 """
 
 
-def modules(root):
-    """The machine's modules with what they stand on, in the order in which they have to be loaded, unpacked."""
-    top = os.path.dirname(fetch.only(f"{root}/**/modules.order"))
-    found = {os.path.basename(path).split(".")[0].replace("-", "_"): path for path in glob.glob(f"{top}/kernel/**/*.ko*", recursive=True)}
-    ordered = []
-
-    def add(name):
-        # what a newer kernel has within itself isn't there
-        if name not in found or found[name] in ordered:
-            return
-        path = found[name]
-        if path.endswith(".xz"):
-            subprocess.run(["xz", "-d", path], check=True)
-            path = found[name] = path.removesuffix(".xz")
-        needs = subprocess.run(["modinfo", "-F", "depends", path], capture_output=True, text=True, check=True).stdout.strip()
-        for need in filter(None, needs.split(",")):
-            add(need.replace("-", "_"))
-        ordered.append(path)
-
-    for name in fetch.MODULES:
-        add(name)
-    return ordered
-
-
-def fetch_other(folder, suite, mirror):
-    """As fetch.py does, for a kernel of another suite, whose modules may be others."""
-    packages = f"{folder}/packages"
-    os.makedirs(packages, exist_ok=True)
-    apt = Apt(f"{folder}/apt", [(mirror, suite)])
-    apt("update")
-    apt("download", fetch.IMAGE_OF, "busybox-static", cwd=packages)
-    name = fetch.re.findall(r"linux-image-[0-9][^ ,]*", fetch.field(fetch.only(f"{packages}/{fetch.IMAGE_OF}_*.deb"), "Depends"))[0]
-    apt("download", name, cwd=packages)
-    image = fetch.only(f"{packages}/{name}_*.deb")
-    fetch.unpack(image, f"{packages}/root")
-    fetch.unpack(fetch.only(f"{packages}/busybox-static_*.deb"), f"{packages}/root")
-    shutil.copy(fetch.only(f"{packages}/root/boot/vmlinuz-*"), f"{folder}/vmlinux")
-    found = modules(f"{packages}/root")
-    with open(f"{fetch.HERE}/init", encoding="utf-8") as file:
-        lines = file.read().splitlines()
-    names = " ".join(os.path.basename(path) for path in found if "binder_linux" not in path)
-    lines = [f"for name in {names}; do insmod /modules/$name; done" if it.startswith("for name in ") else it for it in lines]
-    with open(f"{folder}/init", "w", encoding="utf-8") as file:
-        file.write("\n".join(lines) + "\n")
-    fetch.HERE = folder
-    fetch.write_first_files(f"{folder}/first-files", glob.glob(f"{packages}/root/**/bin/busybox", recursive=True)[0], found)
-    with open(f"{folder}/version", "w", encoding="utf-8") as file:
-        file.write(f"Linux {name.removeprefix('linux-image-')}, Debian's {fetch.field(image, 'Version')}\n")
-    shutil.rmtree(packages)
-    shutil.rmtree(f"{folder}/apt")
-    open(f"{folder}/whole", "w", encoding="utf-8").close()
-
-
 def main():
     if len(sys.argv) < 3:
         sys.exit(__doc__)
     folder, to, suite, mirror = [*sys.argv[1:], "bookworm", None][:4] if len(sys.argv) == 3 else [*sys.argv[1:], None][:4]
-    if suite != "bookworm" and not os.path.exists(f"{folder}/whole"):
-        fetch_other(folder, suite, mirror)
-    kernel = fetch.Kernel(os.path.abspath(folder))
+    kernel = kernel_of(folder, suite, mirror)
     work = tempfile.mkdtemp(prefix="take-")
     try:
         build_raw(work)
