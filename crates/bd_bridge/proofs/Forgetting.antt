@@ -1,5 +1,5 @@
 -- That whoever waits is watched goes on over a step.
-use Rattle.std.proofs.Common.{◌≡◌, ◌⊎◌, inl, inr, ℕ, Bool, true}
+use Rattle.std.proofs.Common.{◌≡◌, ◌⊎◌, inl, inr, ℕ, Bool, true, false}
 use Rattle.bd_bridge.specs.declared.{waiters.{Waiter.{Waiter}, Waiters.{Waiters}}, suspects.Suspects.{Suspects}}
 use Rattle.bd_bridge.specs.{Suspects.{is_suspect}, Forgotten.{IsInformed, NobodyIsForgotten, NobodyIsForgottenBut}}
 
@@ -35,3 +35,8 @@ more_suspects Sees IsOf waiters old new kept was = record {
     by : (t : ℕ) (w : Waiter) → IsInformed Sees t w ⊎ (is_suspect old t ≡ true) → IsInformed Sees t w ⊎ (is_suspect new t ≡ true)
     by t w (inl r) = inl r
     by t w (inr s) = inr (kept t s)
+
+-- whoever is no suspect is informed
+pub told_rightly : {P : Type 0} (suspect : Bool) → suspect ≡ false → P ⊎ (suspect ≡ true) → P
+told_rightly suspect none (inl p) = p
+told_rightly suspect none (inr s) = cc

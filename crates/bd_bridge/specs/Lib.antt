@@ -1,3 +1,4 @@
+pub mod Named
 pub mod Suspects
 pub mod Groups
 pub mod Rows

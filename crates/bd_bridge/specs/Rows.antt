@@ -1,7 +1,7 @@
 -- Those who wait, a row for each seat.
 use Rattle.std.specs.Prelude.{ℕ, ◌≡◌, true, List, Option, Some, None, slice_index_or}
 use Rattle.bd_bridge.specs.declared.{waiters.Waiter.{Waiter}, groups.Groups.{Groups}}
-use Rattle.bd_bridge.specs.{Groups.{seats_of}, Suspects.{has_seat}}
+use Rattle.bd_bridge.specs.{Groups.{seats_of}, Named.{has_seat}}
 
 abbrev pub row_at : List (Option Waiter) → ℕ → Option Waiter
 row_at rows seat = slice_index_or rows seat None

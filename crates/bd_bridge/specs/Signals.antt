@@ -81,3 +81,19 @@ pub record HaveHad {W R : Type 0} (Sees : W → ℕ → Bool → Type 0) (has_re
   pub due : AreDue Sees has_read CanWait h (at old) signals
   -- nobody was woken twice
   pub once : (t : ℕ) → count_by (wakes t) signals ≤ 1
+
+-- ---- what the engine has made of it
+
+abbrev pub room_of : Option Waiter → ℕ
+room_of None = 0
+room_of (Some w) = elim w.reads [ None ↦ 0 | Some r ↦ r.room ]
+
+-- A read was made by the engine as it was, with the room that the seat waited with. A doorbell leaves it as it is.
+abbrev pub IsMade : {S R : Type 0} → (S → ℕ → ℕ → R → S → Type 0) → S → Option Waiter → Signal R → S → Type 0
+IsMade MadeRead e o (Read seat read woken) e' = MadeRead e seat (room_of o) read e'
+IsMade MadeRead e o (Bell seat rings) e' = e' ≡ e
+
+-- none, or one alone
+abbrev pub signals_of : {R : Type 0} → Option (Signal R) → List (Signal R)
+signals_of None = []
+signals_of (Some x) = x ∷ []

@@ -1,10 +1,7 @@
 -- Who is still to be looked at.
-use Rattle.std.specs.Prelude.{ℕ, ◌+◌, length, ◌==◌, nat_lt, Bool, ◌||◌, List}
-use Rattle.std.specs.List.{list_any}
+use Rattle.std.specs.Prelude.{ℕ, ◌+◌, length, nat_lt, Bool, ◌||◌}
 use Rattle.bd_bridge.specs.declared.suspects.Suspects.{Suspects}
-
-abbrev pub has_seat : List ℕ → ℕ → Bool
-has_seat seats t = list_any (λ x. x == t) seats
+use Rattle.bd_bridge.specs.Named.{has_seat}
 
 -- by name, or as one of all seats below a number
 abbrev pub is_suspect : Suspects → ℕ → Bool

@@ -3,11 +3,11 @@
 ghost use Rattle.std.specs.Prelude.{ℕ, ◌≡◌, ◌==◌, ◌<◌, ◌≤◌, ◌+◌, Some, None, [], true, false, IsTrue, IsSome, if◌then◌else◌, MatchOption, IfOk, IfSome, IsNone, OnOk, OnErr, option_map, vec_len, vec_capacity};
 ghost use Rattle.bd_bridge.specs.{Suspects.{is_suspect, suspects_in}, Waiting.{at, seats_in}, Reached.{names}};
 ghost use Rattle.bd_bridge.specs.Forgotten.{NobodyIsForgotten, NobodyIsForgottenBut, IsInformed};
-ghost use Rattle.bd_bridge.specs.{Settled.{HasSettled}, Signals.{IsDue, WaitsAfter, seat_of, after_signal, awake, world_after, world_if, world_then}};
+ghost use Rattle.bd_bridge.specs.{Settled.{HasSettled}, Signals.{IsDue, WaitsAfter, IsMade, signals_of, seat_of, after_signal, awake, world_after, world_if, world_then}};
 ghost use Rattle.bd_bridge.specs.declared.signal.Signal.TheVariants.{Bell};
 
-use crate::engine::{Engine, Reached};
-use crate::reach::mark_reached;
+use crate::engine::{Engine, Reached, TodoList};
+use crate::reach::{mark_reached, mark_readers};
 use crate::signal::Signal;
 use crate::suspects::Suspects;
 use crate::waiters::{Reading, Waiter, Waiters};
@@ -36,7 +36,7 @@ impl<E: Engine> Bridge<E> {
         Ok(Bridge {
             engine,
             waiters,
-            suspects: Suspects::new(alloc),
+            suspects: Suspects::new(alloc, seats)?,
             reached: Reached {
                 lists: Vec::new(alloc),
                 any: true,
@@ -169,10 +169,10 @@ impl<E: Engine> Bridge<E> {
         ensures watched { (h : E.World) → E.Follows self.old.engine h → NobodyIsForgotten (E.Sees h) (E.IsOf h) self.old.waiters self.old.suspects
             → (let h' = E.stepped h seat step result in NobodyIsForgotten (E.Sees h') (E.IsOf h') self.new.waiters self.new.suspects) }
         ensures waiters { self.new.waiters ≡ self.old.waiters }
+        ensures made { E.Made self.old.engine seat step result self.new.engine }
     {
         let answer = self.engine.step(seat, step, &mut self.reached);
-        let seats = self.waiters.seats();
-        self.suspects.add(seat, seats);
+        mark_readers(&mut self.suspects, &self.waiters, TodoList::OfSeat(seat));
         mark_reached(&mut self.suspects, &self.waiters, &self.reached);
         answer
     }
@@ -185,6 +185,7 @@ impl<E: Engine> Bridge<E> {
             → (let h' = E.has_read h seat result in NobodyIsForgotten (E.Sees h') (E.IsOf h') self.new.waiters self.new.suspects) }
         ensures again { is_suspect self.new.suspects seat ≡ true }
         ensures waiters { self.new.waiters ≡ self.old.waiters }
+        ensures made { E.MadeRead self.old.engine seat room result self.new.engine }
     {
         let read = self.engine.read(seat, room, &mut self.reached);
         let seats = self.waiters.seats();
@@ -227,6 +228,7 @@ impl<E: Engine> Bridge<E> {
         ensures due { (h : E.World) → E.Follows self.old.engine h → E.Sees h seat true
             → IsDue (E.Sees h) (WaitsAfter E.has_read E.CanWait h) (at self.old.waiters seat) result }
         ensures of { seat_of result ≡ seat }
+        ensures made { IsMade E.MadeRead self.old.engine (at self.old.waiters seat) result self.new.engine }
         ensures seats { seats_in self.new.waiters ≡ seats_in self.old.waiters }
     {
         let read = self.read_for(seat, reading.room);
@@ -274,6 +276,8 @@ impl<E: Engine> Bridge<E> {
     fn look(&mut self, seat: u32) -> Option<Signal<E::Read>>
         ensures seats { seats_in self.new.waiters ≡ seats_in self.old.waiters }
         ensures none { IsNone result → (self.new.waiters ≡ self.old.waiters) × (self.new.suspects ≡ self.old.suspects) }
+        ensures unmade { IsNone result → self.new.engine ≡ self.old.engine }
+        ensures made { IfSome result (λ x. IsMade E.MadeRead self.old.engine (at self.old.waiters seat) x self.new.engine) }
         ensures of { IfSome result (λ x. seat_of x ≡ seat) }
         ensures waits { IfSome result (λ x. (t : ℕ) → at self.new.waiters t ≡ after_signal x t (at self.old.waiters t)) }
         ensures due { IfSome result (λ x. (h : E.World) → E.Follows self.old.engine h
@@ -318,6 +322,41 @@ impl<E: Engine> Bridge<E> {
             }
         }
         self.suspects.is_empty()
+    }
+
+    /// Looks at so many seats at most, until one of them gets a signal: that, if there was one. As `settle`, of which it makes
+    /// as much as comes to one signal.
+    pub fn settle_one(&mut self, looks: u32) -> Option<Signal<E::Read>>
+        ensures on { (h : E.World) → E.Follows self.old.engine h → NobodyIsForgotten (E.Sees h) (E.IsOf h) self.old.waiters self.old.suspects
+            → HasSettled E.Follows E.Sees E.IsOf E.has_read E.CanWait h self.old.waiters (signals_of result) self.new.engine self.new.waiters self.new.suspects }
+        ensures unmade { IsNone result → self.new.engine ≡ self.old.engine }
+        ensures made { IfSome result (λ x. IsMade E.MadeRead self.old.engine (at self.old.waiters (seat_of x)) x self.new.engine) }
+        ensures progress { IsNone result → suspects_in self.old.suspects ≤ looks → suspects_in self.new.suspects ≡ 0 }
+        ensures seats { seats_in self.new.waiters ≡ seats_in self.old.waiters }
+    {
+        for look in 0..looks {
+            let seat = self.suspects.take()?;
+            if let Some(signal) = self.look(seat) {
+                return Some(signal);
+            }
+        }
+        None
+    }
+
+    /// Whether nobody is left to be looked at.
+    pub fn is_settled(&self) -> bool
+        ensures settled { IsTrue result → (h : E.World) → NobodyIsForgotten (E.Sees h) (E.IsOf h) self.now.waiters self.now.suspects
+            → (t : ℕ) (w : _) → at self.now.waiters t ≡ Some w → IsInformed (E.Sees h) t w }
+        ensures empty { suspects_in self.now.suspects ≡ 0 → IsTrue result }
+    {
+        self.suspects.is_empty()
+    }
+
+    /// How many seats there are.
+    pub fn seats(&self) -> u32
+        ensures { result ≡ seats_in self.now.waiters }
+    {
+        self.waiters.seats()
     }
 
     /// How many seats are to be looked at, some perhaps twice.

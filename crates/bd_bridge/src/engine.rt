@@ -55,6 +55,12 @@ pub trait Engine {
     /// In a world in which a seat has just read this, its thread need not be told of it before the reply to a call of its own.
     ghost CanWait: { World → ℕ → Self.Read → Type 0 };
 
+    /// What else a step comes to, by the engine before and after it.
+    ghost Made: { Self → ℕ → Self.Step → Self.Answer → Self → Type 0 };
+
+    /// The same of a read, with its room.
+    ghost MadeRead: { Self → ℕ → ℕ → Self.Read → Self → Type 0 };
+
     /// Whether a seat has something to read.
     fn is_ready(&self, seat: u32) -> bool
         ensures { (h : World) → Follows self.now h → Sees h seat result };
@@ -66,6 +72,7 @@ pub trait Engine {
     /// Makes a step, and tells which lists it has filled or emptied.
     fn step(&mut self, seat: u32, step: Self::Step, reached: &mut Reached) -> Self::Answer
         ensures follows { (h : World) → Follows self.old h → Follows self.new (stepped h seat step result) }
+        ensures made { Made self.old seat step result self.new }
         // Any other thread that reads none of these has as much to read as before.
         ensures reaches { (h : World) → Follows self.old h → (t p : ℕ) (b : Bool) → (t ≡ seat → ⊥) → IsOf h t p → Sees h t b
             → Sees (stepped h seat step result) t b ⊎ (names reached.new t p ≡ true) }
@@ -76,6 +83,7 @@ pub trait Engine {
     /// Has a seat read, with room for so many bytes, and tells which lists that has filled or emptied.
     fn read(&mut self, seat: u32, room: u32, reached: &mut Reached) -> Self::Read
         ensures follows { (h : World) → Follows self.old h → Follows self.new (has_read h seat result) }
+        ensures made { MadeRead self.old seat room result self.new }
         ensures reaches { (h : World) → Follows self.old h → (t p : ℕ) (b : Bool) → (t ≡ seat → ⊥) → IsOf h t p → Sees h t b
             → Sees (has_read h seat result) t b ⊎ (names reached.new t p ≡ true) }
         ensures stays { (h : World) → Follows self.old h → (t p : ℕ) → IsOf h t p → IsOf (has_read h seat result) t p };

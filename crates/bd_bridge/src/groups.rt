@@ -2,7 +2,7 @@
 
 ghost use Rattle.std.specs.Prelude.{ℕ, ◌≡◌, ◌==◌, ◌++◌, ◌∷◌, ◌&&◌, if◌then◌else◌, [], is_ok, true, not, filter};
 ghost use Rattle.bd_bridge.specs.Groups.{seats_of};
-ghost use Rattle.bd_bridge.specs.Suspects.{has_seat};
+ghost use Rattle.bd_bridge.specs.Named.{has_seat};
 
 use std::alloc::{AllocError, Global};
 use std::collections::HashMap;

@@ -1,24 +1,26 @@
 //! Who is to be looked at after a step.
 
 ghost use Rattle.std.specs.Prelude.{ℕ, ◌≡◌, ◌<◌, Some, true};
-ghost use Rattle.bd_bridge.specs.{Reached.{is_read_by, names}, Suspects.{is_suspect, has_seat}, Waiting.{at}};
+ghost use Rattle.bd_bridge.specs.{Reached.{is_read_by, names}, Suspects.{is_suspect}, Named.{has_seat}, Waiting.{at}};
 
 use crate::engine::{Reached, TodoList};
 use crate::suspects::Suspects;
 use crate::waiters::Waiters;
 
-// These seats are suspects from now on.
+// These seats are suspects from now on, the last of them in front.
 fn mark_seats(suspects: &mut Suspects, seats: u32, these: &[u32])
     ensures marked { (t : ℕ) → t < seats → has_seat these.now t ≡ true → is_suspect suspects.new t ≡ true }
     ensures kept { (t : ℕ) → is_suspect suspects.old t ≡ true → is_suspect suspects.new t ≡ true }
 {
-    for seat in these {
-        suspects.add(*seat, seats);
+    let mut left = these.len();
+    while left > 0 {
+        left -= 1;
+        suspects.add(these[left], seats);
     }
 }
 
-// Those who wait and read a list are.
-fn mark_readers(suspects: &mut Suspects, waiters: &Waiters, list: TodoList)
+/// Those who wait and read a list are suspects from now on.
+pub(crate) fn mark_readers(suspects: &mut Suspects, waiters: &Waiters, list: TodoList)
     ensures named { (t : ℕ) (w : _) → at waiters.now t ≡ Some w → is_read_by t w.process list ≡ true → is_suspect suspects.new t ≡ true }
     ensures kept { (t : ℕ) → is_suspect suspects.old t ≡ true → is_suspect suspects.new t ≡ true }
 {

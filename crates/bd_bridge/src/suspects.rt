@@ -1,27 +1,35 @@
 //! Who is still to be looked at.
 
-ghost use Rattle.std.specs.Prelude.{ℕ, ◌≡◌, ◌<◌, ◌+◌, ◌⊎◌, true, false, MatchOption, IfSome, IsTrue};
-ghost use Rattle.bd_bridge.specs.Suspects.{is_suspect, suspects_in};
+ghost use Rattle.std.specs.Prelude.{ℕ, ◌≡◌, ◌<◌, ◌+◌, ◌⊎◌, true, false, MatchOption, IfSome, IfOk, IsTrue, IsNone, slice_index_or};
+ghost use Rattle.bd_bridge.specs.Named.{has_seat};
 
-use std::alloc::Global;
+use std::alloc::{AllocError, Global};
+use std::collections::VecDeque;
 
-/// Seats that are still to be looked at. None is lost for want of memory.
+/// Seats that are still to be looked at, who was named first in front. None is lost for want of memory.
 #[derive(Drop)]
 pub struct Suspects {
-    pub(crate) seats: Vec<u32>,
+    pub(crate) seats: VecDeque<u32>,
+    // By seat: whether its name is among these already.
+    pub(crate) named: Vec<bool>,
     // All below this number are, too: once there was no memory for a name.
     pub(crate) below: u32,
+    ghost known: { (t : ℕ) → slice_index_or named.items t false ≡ true → has_seat seats.items t ≡ true },
 }
 
 impl Suspects {
-    /// None. Takes no memory.
-    pub fn new(alloc: Global) -> Suspects
-        ensures { (t : ℕ) → is_suspect result t ≡ false }
+    ghost use Rattle.bd_bridge.specs.Suspects.{is_suspect, suspects_in};
+
+    /// None, of so many seats. Errors: memory was refused.
+    pub fn new(alloc: Global, seats: u32) -> Result<Suspects, AllocError>
+        ensures { IfOk result (λ s. (t : ℕ) → is_suspect s t ≡ false) }
     {
-        Suspects {
-            seats: Vec::new(alloc),
+        let named = vec![in alloc; false; seats as usize]?;
+        Ok(Suspects {
+            seats: VecDeque::new(alloc),
+            named,
             below: 0,
-        }
+        })
     }
 
     /// All below a number.
@@ -34,23 +42,44 @@ impl Suspects {
         }
     }
 
-    /// One more, or, where there is no memory for its name, all below `seats`.
+    // Whether a seat's name is among them, as far as that is known.
+    fn is_named(&self, seat: u32) -> bool
+        ensures { result ≡ true → has_seat self.now.seats.items seat ≡ true }
+    {
+        match self.named.get(seat as usize) {
+            Some(named) => *named,
+            None => false,
+        }
+    }
+
+    /// One more, behind all others, or, where there is no memory for its name, all below `seats`.
     pub fn add(&mut self, seat: u32, seats: u32)
         ensures added { seat < seats → is_suspect self.new seat ≡ true }
         ensures kept { (t : ℕ) → is_suspect self.old t ≡ true → is_suspect self.new t ≡ true }
     {
-        if self.seats.push(seat).is_err() {
+        if self.is_named(seat) {
+            return;
+        }
+        if self.seats.push_back(seat).is_err() {
             self.add_all(seats);
+            return;
+        }
+        if (seat as usize) < self.named.len() {
+            self.named[seat as usize] = true;
         }
     }
 
-    /// Takes one out: the last that was named, then the highest of the others.
+    /// Takes one out: the first that was named, then the highest of the others.
     pub fn take(&mut self) -> Option<u32>
         ensures taken { MatchOption result ((t : ℕ) → is_suspect self.old t ≡ false)
             (λ seat. (t : ℕ) → is_suspect self.old t ≡ true → (t ≡ seat) ⊎ (is_suspect self.new t ≡ true)) }
+        ensures last { IsNone result → suspects_in self.new ≡ 0 }
         ensures fewer { IfSome result (λ _. suspects_in self.old ≡ suspects_in self.new + 1) }
     {
-        if let Some(seat) = self.seats.pop() {
+        if let Some(seat) = self.seats.pop_front() {
+            if (seat as usize) < self.named.len() {
+                self.named[seat as usize] = false;
+            }
             return Some(seat);
         }
         if self.below == 0 {

@@ -53,6 +53,10 @@ impl Engine for Counts {
 
     ghost CanWait = { λ h t r. Unit {0} };
 
+    ghost Made = { λ s t x a s'. Unit {0} };
+
+    ghost MadeRead = { λ s t room r s'. Unit {0} };
+
     fn is_ready(&self, seat: u32) -> bool {
         match self.due.get(seat as usize) {
             Some(due) => *due > 0,
@@ -206,6 +210,56 @@ fn what_can_wait_waits(rt: HostRuntime) -> Result<(), Fail> {
         },
     );
     assert_eq!(rt; told(rt.alloc(), &mut bridge)?, 11);
+    Ok(())
+}
+
+// One thing more for a seat to read, by a step of seat 0.
+fn one_more(seat: u32) -> Come {
+    Come {
+        list: TodoList::OfSeat(seat),
+        seat,
+    }
+}
+
+#[test]
+fn who_was_named_first_is_told_first(rt: HostRuntime) -> Result<(), Fail> {
+    let mut bridge = new_bridge(rt.alloc())?;
+    bridge.give_doorbell(rt.alloc(), 1).ok().ok_or("memory")?;
+    bridge.give_doorbell(rt.alloc(), 2).ok().ok_or("memory")?;
+    bridge.give_doorbell(rt.alloc(), 3).ok().ok_or("memory")?;
+    assert_eq!(rt; told(rt.alloc(), &mut bridge)?, 0);
+    bridge.step(0, one_more(2));
+    bridge.step(0, one_more(1));
+    bridge.step(0, one_more(3));
+    bridge.step(0, one_more(2));
+    assert_eq!(rt; bridge.suspects(), 3, "each stands there once");
+    assert_eq!(rt; told(rt.alloc(), &mut bridge)?, 32_31_33);
+    Ok(())
+}
+
+#[test]
+fn one_signal_comes_at_a_time(rt: HostRuntime) -> Result<(), Fail> {
+    let mut bridge = new_bridge(rt.alloc())?;
+    bridge.wait(rt.alloc(), 1, READING).ok().ok_or("memory")?;
+    bridge.wait(rt.alloc(), 2, READING).ok().ok_or("memory")?;
+    assert!(rt; bridge.settle_one(4).is_none(), "there is nothing to read");
+    bridge.step(
+        3,
+        Come {
+            list: TodoList::OfSeat(2),
+            seat: 2,
+        },
+    );
+    assert!(rt; !bridge.is_settled(), "somebody is to be looked at");
+    match bridge.settle_one(4) {
+        Some(Signal::Read { seat, wakes, .. }) => {
+            assert_eq!(rt; seat, 2);
+            assert!(rt; wakes);
+        }
+        _ => return Err("nobody was woken".into()),
+    }
+    assert!(rt; bridge.settle_one(4).is_none());
+    assert!(rt; bridge.is_settled());
     Ok(())
 }
 

@@ -37,7 +37,7 @@ pub struct Waiters {
 
 impl Waiters {
     ghost use Rattle.bd_bridge.specs.Waiting.{at, seats_in};
-    ghost use Rattle.bd_bridge.specs.Suspects.{has_seat};
+    ghost use Rattle.bd_bridge.specs.Named.{has_seat};
 
     /// Nobody waits, of so many seats. Errors: memory was refused.
     pub fn new(alloc: Global, seats: u32) -> Result<Waiters, AllocError>

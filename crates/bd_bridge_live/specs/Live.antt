@@ -1,14 +1,18 @@
 -- A live engine as a bridge has it: its worlds are the histories that it follows.
-use Rattle.std.specs.Prelude.{ℕ, ◌≡◌, ◌⊎◌, Bool, true, Some, None, Result, Ok, Err}
+use Rattle.std.specs.Prelude.{ℕ, ◌≡◌, ◌⊎◌, ◌≤◌, Bool, true, Some, None, Result, Ok, Err}
 use Rattle.bd_space.specs.declared.step.{Step.{Step}, Entry.{Entry}}
 use Rattle.bd_space.specs.declared.space.Thread.{Thread}
 use Rattle.bd_space.specs.Seats.{thread_in}
-use Rattle.bd_space.specs.Histories.{History, space_after, extended, is_ready}
+use Rattle.bd_space.specs.Histories.{History, space_after, extended, HasLivePlace, is_at_end, is_ready}
+use Rattle.bd_space.specs.Steps.{step}
 use Rattle.bd_engine.specs.Follows as engine
+use Rattle.bd_engine.specs.Ending.{ended_between}
+use Rattle.bd_step.specs.declared.step_error.StepError.TheVariants.{NoMemory, HistoryFull}
 use Rattle.bd_engine.specs.Reached.{Recalls, has_work}
 use Rattle.bd_attached.specs.Threads.{BringsNone}
 use Rattle.bd_bridge_live.specs.Deferring.{may_wait, IsInCall}
 use Rattle.bd_bridge_live.specs.declared.live.{LiveEngine.{LiveEngine}, NotMade.{NotMade}}
+use Rattle.bd_bridge_live.specs.declared.live.NotMade.TheVariants.{NoSuchSeat, Refused}
 
 -- it follows the history, and, unless it says otherwise, was told of its lists as they are after that
 pub record FollowsTold (e : LiveEngine) (h : History) : Type 0 where
@@ -39,3 +43,27 @@ IsCommand x = BringsNone x
 abbrev pub CanWait : History → ℕ → Result Entry NotMade → Type 0
 CanWait h seat (Ok e) = IsInCall (space_after h) seat × (may_wait e.answer ≡ true)
 CanWait h seat (Err why) = ⊥
+
+-- the step was made, and its entry tells the space's answer, and those buffers are listed that ended
+pub record HasMade (x : LiveEngine) (seat : ℕ) (z : Step) (e : Entry) (y : LiveEngine) : Type 0 where
+  pub seat_is : e.seat ≡ seat
+  pub step_is : e.step ≡ z
+  pub seats : y.live.seats ≡ x.live.seats
+  pub answer : (h : History) → engine.Follows x.live h → e.answer ≡ (step (space_after h) seat z).answer
+  pub follows : (h : History) → engine.Follows x.live h → engine.Follows y.live (extended h seat z e.answer)
+  pub ended : (h : History) → engine.Follows x.live h → y.ended.items ≡ ended_between (space_after h) (space_after (extended h seat z e.answer))
+
+-- why it wasn't: there is no such seat, the history is full, or there was no memory, which isn't said of a full history
+abbrev pub IsWhy : LiveEngine → ℕ → Step → NotMade → Type 0
+IsWhy x seat z NoSuchSeat = x.live.seats ≤ seat
+IsWhy x seat z (Refused HistoryFull) = (h : History) → engine.Follows x.live h → is_at_end h seat (Some z) ≡ true
+IsWhy x seat z (Refused NoMemory) = (h : History) → engine.Follows x.live h → HasLivePlace h
+
+pub record HasNotMade (x : LiveEngine) (seat : ℕ) (z : Step) (why : NotMade) (y : LiveEngine) : Type 0 where
+  pub seats : y.live.seats ≡ x.live.seats
+  pub follows : (h : History) → engine.Follows x.live h → engine.Follows y.live h
+  pub is_why : IsWhy x seat z why
+
+abbrev pub MakesOrNot : LiveEngine → ℕ → Step → Result Entry NotMade → LiveEngine → Type 0
+MakesOrNot x seat z (Ok e) y = HasMade x seat z e y
+MakesOrNot x seat z (Err why) y = HasNotMade x seat z why y

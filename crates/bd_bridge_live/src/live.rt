@@ -32,7 +32,7 @@ pub struct LiveEngine {
 }
 
 impl LiveEngine {
-    ghost use Rattle.bd_bridge_live.specs.Live.{FollowsTold, after_step, Sees, IsOf};
+    ghost use Rattle.bd_bridge_live.specs.Live.{FollowsTold, after_step, Sees, IsOf, MakesOrNot};
     ghost use Rattle.bd_bridge_live.specs.Lists.{AreNamed};
     ghost use Rattle.bd_bridge_live.specs.Deferring.{IsInCall};
 
@@ -56,6 +56,7 @@ impl LiveEngine {
             → AreNamed reached.new told (space_after h) }
         ensures unknown { (self.old.is_told ≡ true → ⊥) → reached.new.any ≡ true }
         ensures seats { self.new.live.seats ≡ self.old.live.seats }
+        ensures ended { self.new.ended.items ≡ self.old.ended.items }
     {
         reached.any = true;
         let was_told = self.is_told;
@@ -73,6 +74,7 @@ impl LiveEngine {
         ensures reaches { (h : History) → FollowsTold self.old h → (t p : ℕ) (b : Bool) → (t ≡ seat → ⊥) → IsOf h t p → Sees h t b
             → Sees (after_step h seat step result) t b ⊎ (names reached.new t p ≡ true) }
         ensures step { IfOk result (λ e. e.step ≡ step) }
+        ensures made { MakesOrNot self.old seat step result self.new }
     {
         if seat >= self.live.seats() {
             return Err(NotMade::NoSuchSeat);
@@ -101,7 +103,8 @@ impl LiveEngine {
 }
 
 impl Engine for LiveEngine {
-    ghost use Rattle.bd_bridge_live.specs.Live.{FollowsTold, after_step, after_read, Sees, IsOf, IsCommand, CanWait};
+    ghost use Rattle.bd_bridge_live.specs.Live.{FollowsTold, after_step, after_read, Sees, IsOf, IsCommand, CanWait, MakesOrNot};
+    ghost use Rattle.bd_space.specs.declared.step.Step.TheVariants.{Read};
     ghost use Rattle.bd_space.specs.Histories.{History};
 
     type Step = Step;
@@ -125,6 +128,10 @@ impl Engine for LiveEngine {
     ghost has_read = { after_read };
 
     ghost CanWait = { CanWait };
+
+    ghost Made = { MakesOrNot };
+
+    ghost MadeRead = { λ x seat room r y. MakesOrNot x seat (Read room) r y };
 
     fn is_ready(&self, seat: u32) -> bool {
         self.live.is_ready(seat)

@@ -1,17 +1,12 @@
-use Rattle.std.proofs.Common.{Bool, List, [], ap, arith, false, inl, inr, length, length-append, rules, sym, true, ◌++◌, ◌∙◌, ◌∷◌, ◌≡◌, ◌⊎◌}
+use Rattle.std.proofs.Common.{List, [], ap, arith, length, length-append, rules, sym, ◌++◌, ◌∙◌, ◌∷◌, ◌≡◌}
 use Rattle.bd_bridge.specs.{Signals.{world_then}, Suspects.{suspects_in}}
-use Rattle.bd_bridge.proofs.{Forgetting.{taken}, Signalling.{on_more, on_none}}
+use Rattle.bd_bridge.proofs.{Forgetting.{taken, told_rightly}, Signalling.{on_more, on_none}}
 use Rattle.bd_bridge.proofs.bridge.Bridge.settle.Goals.{in-Some-look, in_default}
 use Rattle.bd_bridge.proofs.bridge.Bridge.settle.Goals as goal
 
 -- what was told isn't nothing
 pushed_some : {X : Type 0} (xs new : List X) (x : X) → new ≡ xs ++ x ∷ [] → new ≡ [] → ⊥
 pushed_some xs new x is none = let n = ap length (sym is ∙ none) in omega (arith, n, length-append xs (x ∷ []))
-
--- whoever is no suspect is rightly told
-told_rightly : {P : Type 0} (suspect : Bool) → suspect ≡ false → P ⊎ (suspect ≡ true) → P
-told_rightly suspect none (inl p) = p
-told_rightly suspect none (inr s) = cc
 
 pub returns-in-None-clause-settled : goal.returns-in-None-clause-settled
 returns-in-None-clause-settled g c = λ so h follows was t w waits. told_rightly _ (c.in-None.ensures.taken t) ((c.loop-look.invariant.on h follows was).watched.informed t w waits)

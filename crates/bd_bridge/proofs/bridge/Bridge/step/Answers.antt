@@ -1,5 +1,5 @@
-use Rattle.std.proofs.Common.{◌<◌, ⊎_elim, inl, inr, ap, sym, ◌∙◌}
-use Rattle.std.proofs.lemmas.Bool.{cases_eq}
+use Rattle.std.proofs.Common.{⊎_elim, inl, inr, ap, sym, ◌∙◌}
+use Rattle.std.proofs.lemmas.Bool.{cases_eq, eq-eqb}
 use Rattle.std.specs.Prelude.{is_some}
 use Rattle.bd_bridge.specs.Waiting.{at}
 use Rattle.bd_bridge.proofs.Forgetting.{goes_on}
@@ -11,15 +11,14 @@ returns-clause-watched g c = λ h follows was.
     let seat = c.args.seat in
     let table = c.args.self.now.waiters in
     let now = e.stepped h seat c.args.step c.step-answer.result in
-    let inside : seat < c.seats-seats.result = rw c.seats-seats.ensures c.requires.seat in
     record {
       placed = λ t w waits. c.step-answer.ensures.stays h follows t w.process
           (⊎_elim (λ same. inr (c.requires.acts (ap (λ k. is_some (at table k)) (sym same) ∙ ap is_some waits))) (λ apart. inl apart) (cases_eq t seat))
           (was.placed t w waits);
       informed = λ t w waits. ⊎_elim
-          (λ same. inr (c.mark_reached.ensures.kept t (rw same (c.add.ensures.added inside))))
+          (λ same. inr (c.mark_reached.ensures.kept t (c.mark_readers.ensures.named t w waits (eq-eqb seat t (sym same)))))
           (λ apart. goes_on (e.Sees now) (e.Sees h) t w
           (c.step-answer.ensures.reaches h follows t w.process w.is_rung apart (was.placed t w waits))
-          (c.mark_reached.ensures.named t w waits) (λ is. c.mark_reached.ensures.kept t (c.add.ensures.kept t is)) (was.informed t w waits))
+          (c.mark_reached.ensures.named t w waits) (λ is. c.mark_reached.ensures.kept t (c.mark_readers.ensures.kept t is)) (was.informed t w waits))
           (cases_eq t seat);
     }
