@@ -1,7 +1,7 @@
 //! Frames: open two-way calls. A thread's innermost frame is its newest, as its frames are a stack.
 #![tactic(auto, unfolding(bd_space::specs::Frames::innermost, bd_space::specs::Frames::served_innermost, bd_space::specs::Frames::goes_to, bd_space::specs::Frames::closed, bd_space::specs::Transactions::call_out, bd_space::specs::Todo::owe, crate::specs::Room::rooms, crate::specs::Told::Recalls, crate::specs::Told::HasRoomToTell))]
 
-ghost use Rattle.std.specs.Prelude.{ℕ, List, ◌≡◌, ◌==◌, ◌+◌, ◌-◌, ◌≤◌, ◌++◌, map, filter, find, reverse, length, Option, Some, None, option_map, OnOk};
+ghost use Rattle.std.specs.Prelude.{ℕ, List, ◌≡◌, ◌==◌, ◌+◌, ◌-◌, ◌≤◌, ◌++◌, map, filter, find, reverse, length, Option, Some, None, option_map, OnOk, OnErr, vec_len, vec_capacity, ◌<◌};
 ghost use Rattle.std.specs.List.{cons_option, list_any};
 ghost use Rattle.bd_space.specs.declared.space.Work as declared;
 ghost use Rattle.bd_space.specs.Words.{changed};
@@ -218,8 +218,11 @@ impl CallTable {
 
     /// Where the calls were made that the thread of a seat serves, put after what is there. Fails for want of memory alone.
     pub fn served(&self, seat: u32, served: &mut Vec<u64>) -> Result<(), AllocError>
-        ensures { OnOk result (Tells (StandsFor self.now) served.new.items
+        ensures served { OnOk result (Tells (StandsFor self.now) served.new.items
             (λ s. served.old.items ++ map spec.made_of (filter (λ f. spec.serves seat f.server) s.frames))) }
+        // Memory was asked for: there was no room for all of them.
+        ensures grown { OnErr result ((s : Space) → StandsFor self.now s
+            → vec_capacity served.old < vec_len served.old + length (filter (λ f. spec.serves seat f.server) s.frames)) }
     {
         self.frames.served(seat, served)
     }

@@ -22,8 +22,9 @@ impl Driver {
     ///
     /// One take is made (`serves`: `one_take`). Taken exactly where it found bit 0 of the page set. Else one pick was
     /// made on every mailbox, and each request that a pick found was run as its poster's entries, or comes back; then
-    /// the history was published once, and then the request was answered (`answered`). `picked` is their number. What
-    /// the seat has seen grows by just these runs, its own places stay, and so does what it has itself handed over.
+    /// the history was published once, and then the request was answered (`answered`). `picked` is their number. The
+    /// seat has then seen what others had published by the take, and these runs behind it. Its own places stay, and so
+    /// does what it has itself handed over.
     pub fn serve(&self, seat: &mut Seat) -> Served
         requires { seat.old.table ≡ self.now.table }
         ensures same { seat.new.table ≡ seat.old.table }

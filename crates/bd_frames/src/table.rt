@@ -1,7 +1,7 @@
 //! The table: its room, its changes and what it tells.
 #![tactic(auto, unfolding(crate::specs::Room::frame_room, crate::specs::Room::frame_count))]
 
-ghost use Rattle.std.specs.Prelude.{Bool, List, ◌≡◌, ◌≤◌, ◌<◌, ◌+◌, ◌++◌, ◌∷◌, [], not, map, filter, find, reverse, length, vec_len, OnOk, OnErr};
+ghost use Rattle.std.specs.Prelude.{Bool, List, ◌≡◌, ◌≤◌, ◌<◌, ◌+◌, ◌++◌, ◌∷◌, [], not, map, filter, find, reverse, length, vec_len, vec_capacity, OnOk, OnErr};
 ghost use Rattle.std.specs.List.{list_any, remove as list_remove};
 ghost use Rattle.bd_keys.specs.Tables as tables;
 ghost use Rattle.bd_space.specs.declared.space.Frame as declared;
@@ -208,8 +208,11 @@ impl FrameTable {
 
     /// Where the calls were made that the thread serves, put after what is there. Fails for want of memory alone.
     pub fn served(&self, seat: u32, served: &mut Vec<u64>) -> Result<(), AllocError>
-        ensures { OnOk result (Tells self.now served.new.items
+        ensures served { OnOk result (Tells self.now served.new.items
             (λ l. served.old.items ++ map spec.made_of (filter (λ f. spec.serves seat f.server) l))) }
+        // Memory was asked for: there was no room for all of them.
+        ensures grown { OnErr result ((l : List declared.Frame) → FramesAre self.now l
+            → vec_capacity served.old < vec_len served.old + length (filter (λ f. spec.serves seat f.server) l)) }
     {
         let from = served.len();
         let top = self.stacks.top_of(seat);

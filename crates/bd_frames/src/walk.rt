@@ -1,6 +1,6 @@
 //! The way down a thread's stack, from its innermost frame to the next older one, and so on.
 
-ghost use Rattle.std.specs.Prelude.{◌≡◌, ◌≤◌, ◌<◌, ◌++◌, ◌∷◌, [], IfSome, OnOk, take, drop, map, filter, reverse, length, vec_len, vec_capacity};
+ghost use Rattle.std.specs.Prelude.{◌≡◌, ◌≤◌, ◌<◌, ◌+◌, ◌++◌, ◌∷◌, [], IfSome, OnOk, OnErr, take, drop, map, filter, reverse, length, vec_len, vec_capacity};
 ghost use Rattle.bd_space.specs.Frames as spec;
 ghost use Rattle.bd_frames.specs.{Places.{AreRising, IsNewest, frames_of}, Linked.{IsStack}, Words.{left_row}};
 
@@ -57,6 +57,10 @@ fn push_if_served(frame: Frame, seat: u32, served: &mut Vec<u64>) -> Result<(), 
     ensures served { OnOk result (served.new.items
         ≡ served.old.items ++ map spec.made_of (filter (λ f. spec.serves seat f.server) (frame ∷ []))) }
     ensures longer { vec_len served.old ≤ vec_len served.new }
+    ensures capacity { vec_capacity served.old ≤ vec_capacity served.new }
+    // Memory was asked for: there was no room for the place.
+    ensures grown { OnErr result (vec_capacity served.old
+        < vec_len served.old + length (filter (λ f. spec.serves seat f.server) (frame ∷ []))) }
 {
     if serves(seat, frame.server) {
         served.push(frame.made)?;
@@ -75,6 +79,9 @@ pub(crate) fn push_served_down(
         → OnOk result (served.new.items ≡ served.old.items
         ++ reverse (map spec.made_of (filter (λ f. spec.serves seat f.server) (frames_of rows.now)))) }
     ensures longer { vec_len served.old ≤ vec_len served.new }
+    // Memory was asked for: there was no room for all of them.
+    ensures grown { AreRising rows.now → IsStack seat bound rows.now → OnErr result (vec_capacity served.old
+        < vec_len served.old + length (filter (λ f. spec.serves seat f.server) (frames_of rows.now))) }
 {
     let mut way = Way {
         end: rows.len(),

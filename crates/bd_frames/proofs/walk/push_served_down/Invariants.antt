@@ -1,4 +1,4 @@
-use Rattle.std.proofs.Common.{◌≡◌, ◌≤◌, ◌++◌, length, map, filter, reverse, take, drop, vec_len}
+use Rattle.std.proofs.Common.{◌≡◌, ◌≤◌, ◌++◌, length, map, filter, reverse, take, drop, vec_len, vec_capacity}
 use Rattle.bd_space.specs.{declared.space.Frame.{Frame}, Frames.{serves, made_of}}
 use Rattle.bd_frames.specs.{Places.{frames_of, AreRising}, Linked.{IsStack}}
 use Rattle.bd_frames.proofs.walk.push_served_down.Given as goal
@@ -11,6 +11,7 @@ invariant-loop-i l = record {
       → l.served.items
       ≡ l.fn.served.items ++ reverse (map made_of (filter (λ (f : Frame). serves l.seat f.server) (frames_of (drop l.way.end l.rows))));
   longer : vec_len l.fn.served ≤ vec_len l.served;
+  room : vec_capacity l.fn.served ≤ vec_capacity l.served;
 }
 
 abbrev pub decreases-loop-i : goal.decreases-loop-i
