@@ -1,6 +1,6 @@
 use Rattle.std.proofs.Common.{◌≡◌, ◌≤◌, ◌<◌, ◌+◌, ℕ, zero, suc, Bool, true, false, cond, List, ◌++◌, ◌∷◌, [], Result, Ok, Err, append-nil, append_assoc, map, filter, reverse, take, drop, length, get_or, refl, ap, sym, ◌∙◌, arith}
 use Rattle.std.proofs.{lemmas.List.{length-take, length-append, length-reverse, length-map, get_or-take, take_all, drop_more, drop_all}, lemmas.Grind.{reverse_onto}}
-use Rattle.std.specs.Prelude.{OnErr, vec_capacity, vec_len}
+use Rattle.std.specs.Prelude.{OnErr}
 use Rattle.bd_ways.proofs.Ranges.{no_head}
 use Rattle.bd_space.specs.{declared.space.Frame.{Frame}, Frames.{calls, serves, takes_part, made_of}}
 use Rattle.bd_frames.specs.{declared.frame.Row.{Row}, Places.{frames_of}}
