@@ -1,5 +1,5 @@
 -- Bytes that are kept as spellings: what is read from them when one comes, and when the first is taken.
-use Rattle.std.proofs.Common.{◌≡◌, ℕ, ◌+◌, ◌-◌, ◌<◌, ◌≤◌, List, [], ◌∷◌, ◌++◌, length, Some, refl, sym, ap, subst, ◌∙◌, arith}
+use Rattle.std.proofs.Common.{max, ◌≡◌, ℕ, ◌+◌, ◌-◌, ◌<◌, ◌≤◌, List, [], ◌∷◌, ◌++◌, length, Some, refl, sym, ap, subst, ◌∙◌, arith}
 use Rattle.std.specs.List.{flat_map, AllByRecursion}
 use Rattle.std.proofs.lemmas.List.{append-nil, append_assoc, length-append}
 use Rattle.std.proofs.lemmas.List.Concat.{flat_map-cons}
@@ -11,7 +11,7 @@ use Rattle.bd_spelling.specs.Spelling.{entry_bytes, step_bytes, answer_bytes, bl
 use Rattle.bd_spelling.specs.Reading.{entry_from, entries_from}
 use Rattle.bd_spelling.proofs.FieldLaws.{some_is}
 use Rattle.bd_spelling.proofs.Laws.{entry_again, entries_again}
-use Rattle.bd_spelling.specs.Logged.{LogView, all_entries, AreSpelled, entries_in, read_of, every_seat}
+use Rattle.bd_spelling.specs.Logged.{LogView, all_entries, AreSpelled, AreSeatsOf, entries_in, read_of, every_seat}
 
 told : (es : List Entry) → AllByRecursion (IsEntry every_seat) es → entries_in (length es) (flat_map entry_bytes es) ≡ es
 unfolding entries_in
@@ -35,9 +35,9 @@ spells n bytes es len is fit =
 pub none : (entries_in 0 [] ≡ []) × AreSpelled 0 []
 none = spells 0 [] [] refl refl tt
 
-all_push : (es : List Entry) (e : Entry) → AllByRecursion (IsEntry every_seat) es → IsEntry every_seat e → AllByRecursion (IsEntry every_seat) (es ++ e ∷ [])
-all_push [] e fit one = (one, tt)
-all_push (x ∷ es) e fit one = (fit.0, all_push es e fit.1 one)
+all_push : (n : ℕ) (es : List Entry) (e : Entry) → AllByRecursion (IsEntry n) es → IsEntry n e → AllByRecursion (IsEntry n) (es ++ e ∷ [])
+all_push n [] e fit one = (one, tt)
+all_push n (x ∷ es) e fit one = (fit.0, all_push n es e fit.1 one)
 
 -- an entry that comes
 pub more : (n : ℕ) (bytes : List ℕ) (e : Entry) → AreSpelled n bytes → IsEntry every_seat e → (entries_in (n + 1) (bytes ++ entry_bytes e) ≡ entries_in n bytes ++ e ∷ []) × AreSpelled (n + 1) (bytes ++ entry_bytes e)
@@ -46,7 +46,26 @@ more n bytes e s fit =
     let one : flat_map entry_bytes (e ∷ []) ≡ entry_bytes e = flat_map-cons entry_bytes e [] ∙ append-nil (entry_bytes e) in
     let all : bytes ++ entry_bytes e ≡ flat_map entry_bytes (es ++ e ∷ []) =
     ap (λ (t : List ℕ). t ++ entry_bytes e) s.bytes_are ∙ ap (λ (t : List ℕ). flat_map entry_bytes es ++ t) (sym one) ∙ sym (flat_map-append entry_bytes es (e ∷ [])) in
-    spells (n + 1) (bytes ++ entry_bytes e) (es ++ e ∷ []) (omega (arith, length-append es (e ∷ []), s.counted)) all (all_push es e s.fit fit)
+    spells (n + 1) (bytes ++ entry_bytes e) (es ++ e ∷ []) (omega (arith, length-append es (e ∷ []), s.counted)) all (all_push every_seat es e s.fit fit)
+
+-- ---- how many seats entries take
+
+wider : (n m : ℕ) (es : List Entry) → n ≤ m → AllByRecursion (IsEntry n) es → AllByRecursion (IsEntry m) es
+wider n m [] more fit = tt
+wider n m (e ∷ es) more fit = (record { seat = omega (arith, fit.0.seat, more); step = fit.0.step; step_block = fit.0.step_block; answer = fit.0.answer; answer_block = fit.0.answer_block }, wider n m es more fit.1)
+
+before_last : (n : ℕ) (es : List Entry) (e : Entry) → AllByRecursion (IsEntry n) (es ++ e ∷ []) → AllByRecursion (IsEntry n) es × IsEntry n e
+before_last n [] e fit = (tt, fit.0)
+before_last n (x ∷ es) e fit = let rest = before_last n es e fit.1 in ((fit.0, rest.0), rest.1)
+
+pub more_seats : (n : ℕ) (es : List Entry) (e : Entry) → AreSeatsOf n es → IsEntry every_seat e → AreSeatsOf (max n (e.seat + 1)) (es ++ e ∷ [])
+more_seats n es e s fit =
+    let m = max n (e.seat + 1) in
+    let past : e.seat < m = omega arith in
+    record {
+      enough = all_push m es e (wider n m es (omega arith) s.enough) (record { seat = past; step = fit.step; step_block = fit.step_block; answer = fit.answer; answer_block = fit.answer_block });
+      least = λ k all. let parts = before_last k es e all in omega (arith, s.least k parts.0, parts.1.seat);
+    }
 
 -- an entry that is taken
 pub first : (n : ℕ) (bytes : List ℕ) (e : Entry) (rest : List ℕ) → AreSpelled n bytes → 0 < n → entry_from Two every_seat bytes ≡ Some (e, rest) → (entries_in n bytes ≡ e ∷ entries_in (n - 1) rest) × AreSpelled (n - 1) rest

@@ -11,7 +11,6 @@ use Rattle.bd_space.specs.declared.step.StepAnswer.{StepAnswer}
 use Rattle.bd_space.specs.declared.step.StepAnswer.TheVariants as answer
 use Rattle.bd_space.specs.declared.step.Entry.{Entry}
 use Rattle.bd_spelling.specs.declared.versions.Version.{Version}
-use Rattle.bd_spelling.specs.declared.versions.Version.TheVariants.{One}
 use Rattle.bd_spelling.specs.declared.fault.ReadError.{ReadError}
 use Rattle.bd_spelling.specs.declared.fault.ReadError.TheVariants as errors
 use Rattle.bd_spelling.specs.declared.codes.TheConstants.{NOTES, CAUSES, FAULTS}

@@ -3,7 +3,7 @@
 ghost use Rattle.std.specs.Prelude.{◌≡◌, ◌+◌, ◌++◌, ◌∷◌, ◌≤◌, ◌<◌, [], length, IfOk, OnOk, OnErr, Some, MatchOption};
 ghost use Rattle.std.specs.List.{flat_map};
 ghost use Rattle.bd_spelling.specs.Spelling.{IsEntry, entry_bytes};
-ghost use Rattle.bd_spelling.specs.Logged.{every_seat};
+ghost use Rattle.bd_spelling.specs.Logged.{AreSeatsOf, every_seat};
 ghost use Rattle.bd_spelling.specs.Writing.{Sends};
 
 use crate::chunk::{Chunk, ChunkReader, EVERY_SEAT};
@@ -28,18 +28,20 @@ pub struct Log {
     full: Vec<Chunk>,
     last: Chunk,
     count: usize,
+    // How many seats a journal of them has at least.
+    seats: u32,
 }
 
 impl Model for Log {
     ghost use Rattle.std.specs.Prelude.{◌≡◌, ◌++◌, length};
     ghost use Rattle.std.specs.List.{flat_map};
-    ghost use Rattle.bd_spelling.specs.Logged.{LogView, all_entries};
+    ghost use Rattle.bd_spelling.specs.Logged.{LogView, AreSeatsOf, all_entries};
 
     ghost Value = { LogView };
 
     ghost view = { λ l. record { entries = all_entries l.full.items l.last; room = l.last.room } };
 
-    ghost invariant = { λ l. l.count ≡ length (all_entries l.full.items l.last) };
+    ghost invariant = { λ l. (l.count ≡ length (all_entries l.full.items l.last)) × AreSeatsOf l.seats (all_entries l.full.items l.last) };
 }
 
 impl Log {
@@ -51,7 +53,15 @@ impl Log {
             full: Vec::new(alloc),
             last: Chunk::new(alloc),
             count: 0,
+            seats: 0,
         }
+    }
+
+    /// How many seats a journal of these entries has at least.
+    pub fn seats(&self) -> u32
+        ensures { AreSeatsOf result self.now.entries }
+    {
+        self.seats
     }
 
     /// How many entries are in it.
@@ -61,7 +71,7 @@ impl Log {
         self.count
     }
 
-    /// Makes room for an entry of so many bytes. The entries stay as they are, whatever it answers. Errors: memory was refused.
+    /// Makes room for an entry of this size. No entry is changed, even where it fails. Errors: memory was refused.
     pub fn reserve(&mut self, bytes: usize) -> Result<(), AllocError>
         ensures entries { self.new.entries ≡ self.old.entries }
         ensures room { OnOk result (bytes ≤ self.new.room) }
@@ -86,6 +96,7 @@ impl Log {
     {
         self.last.push(entry);
         self.count += 1;
+        self.seats = self.seats.max(entry.seat + 1);
     }
 
     /// Adds an entry, and makes the room for it. Errors: memory was refused, or no journal spells the entry; then none was added.
@@ -130,7 +141,7 @@ impl Log {
     /// Writes what a journal of these entries has behind its heading.
     ///
     /// # Errors
-    /// The writer takes no more; what it took by then is a beginning.
+    /// The writer refused bytes; those before them are a beginning.
     pub fn write<W: Write>(&self, out: &mut W) -> Result<(), Refused>
         ensures { Sends (W.contents out.old) (W.contents out.new) result (flat_map entry_bytes self.now.entries) }
     {

@@ -1,4 +1,4 @@
-use Rattle.std.proofs.Common.{◌-◌, sym, ◌∙◌, arith}
+use Rattle.std.proofs.Common.{sym, ◌∙◌, arith}
 use Rattle.bd_spelling.proofs.Logs.{first}
 use Rattle.bd_spelling.proofs.chunk.ChunkReader.next.Goals as goal
 
