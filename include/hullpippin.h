@@ -681,8 +681,8 @@ bool hullpippin_live_death(hullpippin_live *live, uint64_t made, hullpippin_deat
    with one more than you were told; so do the two looks that follow. */
 bool hullpippin_live_next_process(hullpippin_live *live, uint64_t from, uint64_t *place);
 
-/* The least handle, `from` or above it, that names something for the live process with this pid. If `from` itself names nothing, it
-   looks at each handle that the engine has noted for the process, those of names that are gone too until it makes room for more. */
+/* The least handle, `from` or above it, that names something for the live process with this pid. The engine looks
+   at each handle from `from` up to that one. */
 bool hullpippin_live_next_handle(hullpippin_live *live, uint32_t pid, uint32_t from, uint32_t *handle);
 
 /* The first live buffer of a process, whose name is the place of its open, at the place `from` or behind it: its place. */

@@ -7,7 +7,7 @@ use Rattle.bd_space.specs.declared.step.Identity.{Identity}
 use Rattle.bd_space.specs.declared.space.Name.{Name}
 use Rattle.bd_space.specs.Names.{number_in}
 use Rattle.bd_handles.specs.Numbers.{new_number, with_number}
-use Rattle.bd_handles.specs.Sound.{Sound, has_object}
+use Rattle.bd_handles.specs.Sound.{Sound, has_number}
 use Rattle.bd_handles.proofs.Singles.{last_dropped}
 
 pub nil_of : {A : Type 0} (xs : List A) → length xs ≤ 0 → xs ≡ []
@@ -26,12 +26,12 @@ pub all_back : (base given : List Name) → length given ≤ 0 → base ++ given
 all_back base given h = ap (λ g. base ++ g) (nil_of given h) ∙ append-nil base
 
 -- the last one goes
-pub last_back : (base all given l : List Name) (m : Name) → Sound l → l ≡ base ++ all → all ≡ given ++ m ∷ [] → filter (λ k. not (has_object m.process m.object k)) l ≡ base ++ given
+pub last_back : (base all given l : List Name) (m : Name) → Sound l → l ≡ base ++ all → all ≡ given ++ m ∷ [] → filter (λ k. not (has_number m.process m.number k)) l ≡ base ++ given
 last_back base all given l m h e k =
-    let key = has_object m.process m.object in
+    let key = has_number m.process m.number in
     let is : l ≡ (base ++ given) ++ m ∷ [] = e ∙ ap (λ g. base ++ g) k ∙ sym (append_assoc base given (m ∷ [])) in
-    let pass : key m ≡ true = rw (eq-eqb m.process m.process refl, eq-eqb m.object.place m.object.place refl, eq-eqb m.object.index m.object.index refl) refl in
-    ap (filter (λ x. not (key x))) is ∙ last_dropped key (base ++ given) m pass (subst (λ xs. count_by key xs ≤ 1) is (h.one_name m.process m.object))
+    let pass : key m ≡ true = rw (eq-eqb m.process m.process refl, eq-eqb m.number m.number refl) refl in
+    ap (filter (λ x. not (key x))) is ∙ last_dropped key (base ++ given) m pass (subst (λ xs. count_by key xs ≤ 1) is (h.one_number m.process m.number))
 
 -- A name that comes in last is the last one given.
 pub one_given : (base given l : List Name) (m : Name) → l ≡ base ++ given → l ++ m ∷ [] ≡ base ++ (given ++ m ∷ [])

@@ -1,14 +1,9 @@
-mod Bits
 mod Freeing
 pub mod FreeNumbers
 mod Given
+mod Leaving
 pub mod Limits
-mod Listing
 mod Lookups
-mod Marking
-mod Moved
 mod Naming
-mod Paging
-mod Places
+mod Numbering
 mod Singles
-pub mod Nearest

@@ -1,11 +1,12 @@
 -- No name of a table has a number past the limit, now or when it was last settled.
-use Rattle.std.proofs.Common.{◌≡◌, Bool, true, false, cond, List, [], ◌∷◌, ◌++◌, refl, sym, ◌∙◌, subst, filter}
+use Rattle.std.proofs.Common.{◌≡◌, ℕ, ◌<◌, Bool, true, false, cond, eqb, List, [], ◌∷◌, ◌++◌, None, refl, sym, ◌∙◌, subst, filter, arith}
 use Rattle.std.specs.Prelude.{nat_lt}
 use Rattle.std.specs.List.{list_any}
 use Rattle.std.proofs.lemmas.List.Folds.{list_any-append}
-use Rattle.std.proofs.lemmas.Bool.{or_parts, or_from}
+use Rattle.std.proofs.lemmas.Bool.{or_parts, or_from, eqb-true}
+use Rattle.std.proofs.lemmas.Bool.Decides.{nat_tests}
 use Rattle.bd_space.specs.declared.space.Name.{Name}
-use Rattle.bd_space.specs.Names.{has_number_past_limit}
+use Rattle.bd_space.specs.Names.{named_in, has_number_past_limit}
 use Rattle.bd_handles.specs.declared.table.NameTable.{NameTable}
 use Rattle.bd_handles.specs.Stands.{NamesSince}
 
@@ -26,6 +27,18 @@ fits_before names added h = (or_parts (has_number_past_limit names) (has_number_
 -- Names within the limit and one more within it are within it.
 pub fits_push : (names : List Name) (m : Name) → has_number_past_limit names ≡ false → nat_lt 4294967294 m.number ≡ false → has_number_past_limit (names ++ m ∷ []) ≡ false
 fits_push names m h e = list_any-append (λ (m : Name). nat_lt 4294967294 m.number) names (m ∷ []) ∙ or_from _ _ h (rw e refl)
+
+-- No number past the limit names anything.
+pub past_unnamed : (names : List Name) → has_number_past_limit names ≡ false → (p n : ℕ) → 4294967294 < n → named_in names p n ≡ None
+past_unnamed [] h p n past = refl
+past_unnamed (m ∷ ms) h p n past =
+    let parts = or_parts (nat_lt 4294967294 m.number) (has_number_past_limit ms) h in
+    at (eqb m.process p) (eqb m.number n) refl refl parts.0 (past_unnamed ms parts.1 p n past)
+  where
+    at : (a b : Bool) → eqb m.process p ≡ a → eqb m.number n ≡ b → nat_lt 4294967294 m.number ≡ false → named_in ms p n ≡ None → named_in (m ∷ ms) p n ≡ None
+    at true true e f within rest = let s : m.number ≡ n = eqb-true m.number n f in absurd (grind (arith, nat_tests))
+    at true false e f within rest = rw (e, f) rest
+    at false b e f within rest = rw e rest
 
 pub numbers_fit : (t : NameTable) (base l : List Name) → NamesSince t base l → has_number_past_limit l ≡ false
 numbers_fit t base l h = h.stands.fits

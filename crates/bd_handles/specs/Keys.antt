@@ -1,12 +1,8 @@
--- The keys of a process's numbers and objects, and what the maps of names say of them.
+-- The keys of names by object, and what the map says of one.
 use Rattle.std.specs.Prelude.{ℕ, ◌==◌, ◌&&◌, Bool, Option}
 use Rattle.bd_ways.specs.Words.{Identity, same}
 use Rattle.std.specs.HashMap.{HashMap, get_by}
-use Rattle.bd_handles.specs.declared.keys.NumberKey.{NumberKey}
 use Rattle.bd_handles.specs.declared.keys.ObjectKey.{ObjectKey}
-
-abbrev pub is_number_key : ℕ → ℕ → NumberKey → Bool
-is_number_key p n k = (p == k.process) && (n == k.number)
 
 abbrev pub is_object_key : ℕ → Identity → ObjectKey → Bool
 is_object_key p o k = (p == k.process) && same o k.object

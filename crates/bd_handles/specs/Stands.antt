@@ -2,13 +2,11 @@
 use Rattle.std.specs.Prelude.{ℕ, ◌≡◌, ◌+◌, ◌-◌, ◌≤◌, List, ◌++◌, min, vec_len, vec_capacity}
 use Rattle.bd_ways.specs.Words.{Name}
 use Rattle.bd_keys.specs.Tables as tables
-use Rattle.bd_groups.specs.Members.{group_room}
 use Rattle.bd_handles.specs.declared.table.NameTable.{NameTable}
-use Rattle.bd_handles.specs.Named.{Named, Listed, index_room}
+use Rattle.bd_handles.specs.Named.{Named, index_room}
 
 pub record NamesSince (t : NameTable) (base l : List Name) : Type 0 where
   pub stands : Named t.names l
-  pub listed : Listed t.held l
   pub grows : l ≡ base ++ t.given.items
 
 -- The table stands for these names, and is settled: none of them can be taken back.
@@ -26,10 +24,10 @@ Knows t P = (base l : List Name) → NamesSince t base l → P l
 abbrev pub Makes : NameTable → NameTable → (List Name → List Name) → Type 0
 Makes old new f = (base : List Name) → tables.Makes (NamesSince old base) (NamesSince new base) f
 
--- How many more names can be given without asking for memory.
-unfoldable pub name_room : NameTable → ℕ
-name_room t = min (min (index_room t.names) (group_room t.held)) (vec_capacity t.given - vec_len t.given)
+-- How many more names p can be given without asking for memory.
+unfoldable pub name_room : NameTable → ℕ → ℕ
+name_room t p = min (index_room t.names p) (vec_capacity t.given - vec_len t.given)
 
--- A change takes away room for at most so many names.
+-- A change takes away room for at most so many names of each process.
 abbrev pub Uses : NameTable → NameTable → ℕ → Type 0
-Uses old new n = name_room old ≤ name_room new + n
+Uses old new n = (p : ℕ) → name_room old p ≤ name_room new p + n

@@ -1,36 +1,18 @@
-//! What names are found by: the process with the number, or with the object.
+//! The numbers of names, by process and object.
 
 ghost use Rattle.std.specs.Prelude.{ℕ, ◌≡◌, ◌==◌, ◌≤◌, ◌<◌, ◌+◌, ◌&&◌, Some, None, if◌then◌else◌};
 ghost use Rattle.std.specs.Cmp.Rules.{hashing};
 ghost use Rattle.std.specs.Hash as fed;
 ghost use Rattle.std.{specs.HashMap.{spare}, proofs.Common.{rules}};
-ghost use Rattle.bd_keys.specs.Numbers.{mixed, pair};
+ghost use Rattle.bd_keys.specs.Numbers.{mixed};
 ghost use Rattle.bd_space.specs.declared.step.Identity as declared;
 ghost use Rattle.bd_space.specs.Words.{same};
 ghost use Rattle.bd_handles.specs.Keys.{number_at};
 
-use bd_keys::{insert_reserved, mixed, tall};
+use bd_keys::{insert_reserved, mixed};
 use bd_space::Identity;
 use std::collections::HashMap;
 use std::hash::{Hash, Hasher};
-
-/// The key of a page of names, or of a word of bits: the process, and the page's or the word's number there.
-#[derive(Clone, Copy, PartialEq, Eq)]
-pub struct NumberKey {
-    pub process: u64,
-    pub number: u32,
-}
-
-// One write, as `bd_keys` says.
-impl Hash for NumberKey {
-    ghost hash_input = { λ k. fed.u128 (pair k.process k.number) };
-
-    ghost respects_eq = { Prim.search (hashing, rules) };
-
-    fn hash<H: Hasher>(&self, state: &mut H) {
-        state.write_u128(tall(self.process, self.number));
-    }
-}
 
 /// The key of a name by its object: the process that has the name, and the object.
 #[derive(Clone, Copy, PartialEq, Eq)]
@@ -39,6 +21,7 @@ pub struct ObjectKey {
     pub object: Identity,
 }
 
+// One write, as `bd_keys` says.
 impl Hash for ObjectKey {
     ghost hash_input = { λ k. fed.u128 (mixed k.process k.object.place k.object.index) };
 

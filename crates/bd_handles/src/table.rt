@@ -1,9 +1,8 @@
 //! The table of names.
 
-ghost use Rattle.std.specs.Prelude.{◌≡◌, ◌==◌, ◌≤◌, ◌<◌, ◌+◌, ◌-◌, ◌*◌, ◌&&◌, ◌++◌, ◌∷◌, not, filter, vec_len, List, [], None, OnOk, OnErr};
-ghost use Rattle.std.specs.HashMap.{hash_map_len};
+ghost use Rattle.std.specs.Prelude.{ℕ, ◌≡◌, ◌==◌, ◌≤◌, ◌<◌, ◌&&◌, false, not, filter, List, [], None, OnOk, OnErr};
 ghost use Rattle.bd_keys.specs.Tables as tables;
-ghost use Rattle.bd_groups.specs.Members.{group_room, member_count};
+ghost use Rattle.bd_numbered.specs.Numbered.{slot_at};
 ghost use Rattle.bd_space.specs.declared.space.Name as declared;
 ghost use Rattle.bd_space.specs.Words as words;
 ghost use Rattle.bd_space.specs.Names as names_of;
@@ -11,10 +10,8 @@ ghost use Rattle.bd_space.specs.Notices as notices;
 ghost use Rattle.bd_handles.specs.Numbers.{new_number, with_number, IsFull, IsNextNumber};
 ghost use Rattle.bd_handles.specs.Stands.{NamesSince, NamesAre, Tells, Knows, Makes, name_room, Uses};
 
-use crate::held::reserve_held;
 use crate::names::Names;
 use crate::numbers::NumbersFull;
-use bd_groups::{Group, Groups};
 use bd_space::{Identity, Name};
 use std::alloc::{AllocError, Global};
 
@@ -22,8 +19,6 @@ use std::alloc::{AllocError, Global};
 #[derive(Drop)]
 pub struct NameTable {
     pub(crate) names: Names,
-    // The numbers of each process's names; some may be of names that are gone.
-    pub(crate) held: Groups<u32>,
     pub(crate) given: Vec<Name>,
 }
 
@@ -34,29 +29,24 @@ impl NameTable {
     {
         NameTable {
             names: Names::new(alloc),
-            held: Groups::new(alloc),
             given: Vec::new(alloc),
         }
     }
 
-    /// Makes room for so many more names. Changes nothing else.
+    /// Makes room for so many more names of the process. Changes nothing else.
     #[tactic(auto, unfolding(crate::specs::Stands::name_room))]
-    pub fn reserve(&mut self, more: usize) -> Result<(), AllocError>
+    pub fn reserve(&mut self, p: u64, more: usize) -> Result<(), AllocError>
         ensures stands { Makes self.old self.new (λ l. l) }
         ensures uses { Uses self.old self.new 0 }
-        ensures room { OnOk result (more ≤ name_room self.new) }
-        // Where there was no room among the numbers of processes, few are of names that are gone.
-        ensures few { OnOk result ((more ≤ group_room self.old.held → ⊥)
-            → member_count self.new.held ≤ 2 * hash_map_len self.new.names.numbers + 1) }
+        ensures room { OnOk result (more ≤ name_room self.new p) }
         // Memory was asked for: there was no room.
-        ensures grown { OnErr result (more ≤ name_room self.old → ⊥) }
+        ensures grown { OnErr result (more ≤ name_room self.old p → ⊥) }
     {
         // Most steps give none.
         if more == 0 {
             return Ok(());
         }
-        self.names.reserve(more)?;
-        reserve_held(&mut self.held, &self.names, *self.given.allocator(), more)?;
+        self.names.reserve(p, more)?;
         self.given.reserve(more)
     }
 
@@ -67,16 +57,11 @@ impl NameTable {
         self.names.named(p, n)
     }
 
-    /// The least number from this one on that names something for the process. Where this one itself names nothing, it takes a look
-    /// for each number that is noted for the process, those of names that are gone too.
+    /// The least number from this one on that names something for the process. Looks at each number up to it.
     pub fn next_number(&self, p: u64, from: u32) -> Option<u32>
         ensures { Knows self.now (λ l. IsNextNumber l p from result) }
     {
-        if self.names.named(p, from).is_some() {
-            return Some(from);
-        }
-        self.names
-            .next_among(p, from, self.held.of(Group::Process { made: p }))
+        self.names.next_number(p, from)
     }
 
     /// The number by which the process names the object, if it does.
@@ -97,7 +82,7 @@ impl NameTable {
     /// doesn't use, from 0 or from 1.
     #[tactic(auto, unfolding(crate::specs::Stands::name_room))]
     pub fn give(&mut self, from_zero: bool, p: u64, o: Identity) -> Result<(), NumbersFull>
-        requires { 1 ≤ name_room self.old }
+        requires { 1 ≤ name_room self.old p }
         ensures ok { OnOk result (Makes self.old self.new (λ l. with_number from_zero p l o)) }
         ensures err { OnErr result (Makes self.old self.new (λ l. l)) }
         ensures full { OnErr result (Knows self.old (λ l. IsFull from_zero p l o)) }
@@ -112,16 +97,16 @@ impl NameTable {
     // Names an object that has no name.
     #[tactic(auto, unfolding(crate::specs::Stands::name_room))]
     fn give_new(&mut self, from_zero: bool, p: u64, o: Identity) -> Result<(), NumbersFull>
-        requires { 1 ≤ name_room self.old }
+        requires { 1 ≤ name_room self.old p }
         ensures ok { OnOk result ((base l : List declared.Name) → NamesSince self.old base l → names_of.number_in l p o ≡ None
             → NamesSince self.new base (with_number from_zero p l o)) }
         ensures err { OnErr result (Makes self.old self.new (λ l. l)) }
         ensures full { OnErr result (Knows self.old (λ l. 4294967294 < new_number from_zero p l)) }
         ensures uses { Uses self.old self.new 1 }
     {
-        match self.names.free_number(from_zero, p) {
+        match self.names.insert(from_zero, p, o) {
             Some(n) => {
-                self.push(Name {
+                self.given.push_reserved(Name {
                     process: p,
                     number: n,
                     object: o,
@@ -130,20 +115,6 @@ impl NameTable {
             }
             None => Err(NumbersFull),
         }
-    }
-
-    // Takes in a name whose number and whose object the process has no name with.
-    #[tactic(auto, unfolding(crate::specs::Stands::name_room))]
-    fn push(&mut self, m: Name)
-        requires { 1 ≤ name_room self.old }
-        ensures stands { (base l : List declared.Name) → NamesSince self.old base l → m.number ≤ 4294967294
-            → names_of.named_in l m.process m.number ≡ None → names_of.number_in l m.process m.object ≡ None
-            → NamesSince self.new base (l ++ m ∷ []) }
-        ensures uses { Uses self.old self.new 1 }
-    {
-        self.names.insert(m);
-        self.held.push(Group::Process { made: m.process }, m.number);
-        self.given.push_reserved(m);
     }
 
     /// Settles the table: the names given so far stay, and can't be taken back any more.
@@ -162,7 +133,7 @@ impl NameTable {
         ensures uses { Uses self.old self.new 0 }
     {
         while let Some(m) = self.given.pop() {
-            self.names.remove_object(m.process, m.object);
+            self.names.remove_number(m.process, m.number);
         }
     }
 
@@ -180,10 +151,10 @@ impl NameTable {
     #[tactic(auto, unfolding(crate::specs::Stands::name_room))]
     pub fn remove_process(&mut self, p: u64)
         ensures stands { tables.Makes (NamesAre self.old) (NamesAre self.new) (λ l. filter (λ m. not (m.process == p)) l) }
-        ensures uses { Uses self.old self.new 0 }
+        // No row of the process is kept, so that it has no room for names either.
+        ensures gone { slot_at self.new.names.rows p ≡ None }
+        ensures uses { (q : ℕ) → (p == q) ≡ false → name_room self.old q ≤ name_room self.new q }
     {
-        let group = Group::Process { made: p };
-        self.names.remove_process(p, self.held.of(group));
-        self.held.forget(group);
+        self.names.remove_process(p);
     }
 }

@@ -65,7 +65,7 @@ impl ObjectTable {
         strong: bool,
     ) -> Result<(), NumbersFull>
         requires references { 1 ≤ reference_room self.old }
-        requires names { 1 ≤ name_room self.old }
+        requires names { 1 ≤ name_room self.old p }
         ensures ok { OnOk result (MakesWhere (StandsFor self.old) (IsAtWith place manager) (StandsFor self.new)
             (λ s. asking.ask s p o strong)) }
         ensures err { OnErr result (IsKept self.old self.new) }
@@ -74,6 +74,7 @@ impl ObjectTable {
         ensures uses { Uses self.old self.new (record nothing { references = 1; names = 1 }) }
     {
         self.sure_room = self.sure_room.saturating_sub(1);
+        self.sure_names = self.sure_names.saturating_sub(1);
         give_asked_name(&mut self.names, manager, &self.nodes, p, n, o)?;
         self.references.push(Reference {
             id: Origin { place, index: 0 },

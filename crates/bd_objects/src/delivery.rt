@@ -148,17 +148,18 @@ impl ObjectTable {
     ) -> Result<(), NumbersFull>
         requires objects { length made.now ≤ object_room self.old }
         requires references { length items.now + 1 ≤ reference_room self.old }
-        requires names { length items.now ≤ name_room self.old }
+        requires names { length items.now ≤ name_room self.old receiver }
         ensures ok { OnOk result (MakesWhere (StandsFor self.old) (MakesNew place manager made.now) (StandsFor self.new)
             (λ s. delivered s receiver made.now items.now target)) }
         ensures err { OnErr result (IsKept self.old self.new) }
         ensures full { OnErr result (MakesWhere (StandsFor self.old) (IsAtWith place manager) SpaceIsPastLimit
             (λ s. delivered s receiver made.now items.now target)) }
-        ensures uses { Uses self.old self.new (delivery_room made.now items.now) }
+        ensures uses { Uses self.old self.new (delivery_room receiver made.now items.now) }
     {
         self.sure_room = self
             .sure_room
             .saturating_sub(made.len().max(items.len() + 1));
+        self.sure_names = self.sure_names.saturating_sub(items.len());
         // An item's object is to be named exactly where it isn't the receiver's own, since the delivery refers to it:
         // so the names can come first, and nothing else is touched where one is past the limit.
         give_names(&mut self.names, manager, &self.nodes, made, receiver, items)?;

@@ -42,14 +42,16 @@ impl ObjectTable {
     ghost use Rattle.bd_space.specs.Space.{Space};
     ghost use Rattle.bd_ways.specs.Tables.{Makes};
     ghost use Rattle.bd_nodes.specs.New.{HasAll};
-    ghost use Rattle.bd_objects.specs.{Stands.{StandsFor}, Room.{UsesNothing}};
+    ghost use Rattle.bd_objects.specs.{Stands.{StandsFor}, Room.{UsesNothingBut}};
 
     /// The references, names and death notifications go that go with the process.
     #[tactic(auto, unfolding(bd_space::specs::ProcessExits::without_process, crate::specs::Room::rooms))]
     pub fn without_process(&mut self, p: u64)
         ensures stands { Makes (StandsFor self.old) (StandsFor self.new) (λ s. process_exits.without_process s p) }
-        ensures uses { UsesNothing self.old self.new }
+        ensures uses { UsesNothingBut p self.old self.new }
     {
+        // It may be the process for whose names there was room.
+        self.sure_names = 0;
         self.references.remove_with_process(p);
         remove_of_owned(&mut self.references, &self.nodes, p);
         self.names.remove_process(p);

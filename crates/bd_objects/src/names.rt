@@ -22,8 +22,7 @@ impl ObjectTable {
         self.names.named(p, n)
     }
 
-    /// The least number from this one on that names something for the process. Where this one itself names nothing, it takes a look
-    /// for each number that is noted for the process, those of names that are gone too.
+    /// The least number from this one on that names something for the process. Looks at each number up to it.
     pub fn next_number(&self, p: u64, from: u32) -> Option<u32>
         ensures { (s : Space) → StandsFor self.now s → IsNextNumber s.names p from result }
     {

@@ -34,7 +34,7 @@ pub(crate) fn give_name(
     p: u64,
     o: Identity,
 ) -> Result<(), NumbersFull>
-    requires { 1 ≤ name_room names.old }
+    requires { 1 ≤ name_room names.old p }
     ensures ok { OnOk result (handles.Makes names.old names.new (λ l. with_name_unless own manager p l o)) }
     ensures err { OnErr result (handles.Makes names.old names.new (λ l. l)) }
     ensures other { OnErr result (own ≡ false) }
@@ -56,7 +56,7 @@ pub(crate) fn give_asked_name(
     n: u32,
     o: Identity,
 ) -> Result<(), NumbersFull>
-    requires { 1 ≤ name_room names.old }
+    requires { 1 ≤ name_room names.old p }
     ensures ok { OnOk result ((objects : List Object) (l : List Name) → NodesAre nodes.now objects
         → NamesAre names.old l → NamesAre names.new (with_other_name manager objects p l o)) }
     ensures err { OnErr result (Makes (NamesAre names.old) (NamesAre names.new) (λ l. l)) }
@@ -108,7 +108,7 @@ pub(crate) fn give_names(
     p: u64,
     items: &[Item],
 ) -> Result<(), NumbersFull>
-    requires { length items.now ≤ name_room names.old }
+    requires { length items.now ≤ name_room names.old p }
     ensures ok { OnOk result ((objects : List Object) (l : List Name) → NodesAre nodes.now objects
         → NamesAre names.old l → NamesAre names.new
         (fold (with_other_name manager (objects ++ made.now) p) l (map object_of_item items.now))) }

@@ -23,17 +23,20 @@ pub struct ObjectTable {
     pub(crate) references: ReferenceTable,
     pub(crate) names: NameTable,
     pub(crate) deaths: DeathTable,
-    // Each list surely has room for so many more: what comes in lowers it, and only `reserve` raises it.
+    // Each list but the names surely has room for so many more: what comes in lowers it, and only `reserve` raises it.
     pub(crate) sure_room: usize,
+    // The same of this process's names.
+    pub(crate) sure_names: usize,
+    pub(crate) named: u64,
     ghost objects_fit: { sure_room ≤ node_room nodes },
     ghost references_fit: { sure_room ≤ reference_room references },
-    ghost names_fit: { sure_room ≤ name_room names },
+    ghost names_fit: { sure_names ≤ name_room names named },
     ghost deaths_fit: { sure_room ≤ death_room deaths },
 }
 
 impl ObjectTable {
     ghost use Rattle.bd_space.specs.Space.{opening};
-    ghost use Rattle.bd_objects.specs.{Stands.{StandsFor, IsKept}, Room.{UsesNothing, HasRoom}, Within.{IsWithin}};
+    ghost use Rattle.bd_objects.specs.{Stands.{StandsFor, IsKept}, Room.{UsesNothing, HasRoom, object_room, reference_room as reference_room_of, name_room as name_room_of, death_room as death_room_of}, Within.{IsWithin}};
 
     /// An empty table.
     pub fn new(alloc: Global) -> ObjectTable
@@ -45,36 +48,90 @@ impl ObjectTable {
             names: NameTable::new(alloc),
             deaths: DeathTable::new(alloc),
             sure_room: 0,
+            sure_names: 0,
+            named: 0,
         }
     }
 
-    // Makes this room in each list.
+    // Makes so much room in each list but the names.
     #[tactic(auto, unfolding(crate::specs::Room::rooms))]
-    fn reserve_each(&mut self, room: Room) -> Result<(), AllocError>
+    fn reserve_lists(
+        &mut self,
+        objects: usize,
+        references: usize,
+        deaths: usize,
+    ) -> Result<(), AllocError>
         ensures stands { IsKept self.old self.new }
         ensures uses { UsesNothing self.old self.new }
-        ensures room { OnOk result (HasRoom self.new room) }
-        ensures grown { OnErr result (HasRoom self.old room → ⊥) }
+        ensures objects { OnOk result (objects ≤ object_room self.new) }
+        ensures references { OnOk result (references ≤ reference_room_of self.new) }
+        ensures deaths { OnOk result (deaths ≤ death_room_of self.new) }
+        ensures grown { OnErr result (objects ≤ object_room self.old → references ≤ reference_room_of self.old
+            → deaths ≤ death_room_of self.old → ⊥) }
     {
-        self.nodes.reserve(room.objects)?;
-        self.references.reserve(room.references)?;
-        self.names.reserve(room.names)?;
-        self.deaths.reserve(room.deaths)?;
-        Ok(())
+        self.nodes.reserve(objects)?;
+        self.references.reserve(references)?;
+        self.deaths.reserve(deaths)
     }
 
-    // Makes more room than this, the same in each list: whether it is there now.
+    // Makes more room than this, the same in each list but the names: whether it is there now.
     #[tactic(auto, unfolding(crate::specs::Room::rooms))]
     fn reserve_ahead(&mut self, room: Room) -> bool
         ensures stands { IsKept self.old self.new }
         ensures uses { UsesNothing self.old self.new }
         ensures sure { result ≡ true → IsWithin room self.new.sure_room }
     {
-        if !room.is_within(AHEAD) || self.reserve_each(Room::of_each(AHEAD)).is_err() {
+        if !room.is_within(AHEAD) || self.reserve_lists(AHEAD, AHEAD, AHEAD).is_err() {
             return false;
         }
         self.sure_room = AHEAD;
         true
+    }
+
+    // Makes more room than this for names of the process: whether it is there now.
+    #[tactic(auto, unfolding(crate::specs::Room::rooms))]
+    fn reserve_names_ahead(&mut self, p: u64, names: usize) -> bool
+        ensures stands { IsKept self.old self.new }
+        ensures uses { UsesNothing self.old self.new }
+        ensures sure { result ≡ true → names ≤ name_room_of self.new p }
+    {
+        if names > AHEAD || self.names.reserve(p, AHEAD).is_err() {
+            return false;
+        }
+        self.sure_names = AHEAD;
+        self.named = p;
+        true
+    }
+
+    // Makes room for so many names of the process.
+    #[tactic(auto, unfolding(crate::specs::Room::rooms))]
+    fn reserve_names(&mut self, p: u64, names: usize) -> Result<(), AllocError>
+        ensures stands { IsKept self.old self.new }
+        ensures uses { UsesNothing self.old self.new }
+        ensures room { OnOk result (names ≤ name_room_of self.new p) }
+        ensures grown { OnErr result (names ≤ name_room_of self.old p → ⊥) }
+    {
+        let sure = p == self.named && names <= self.sure_names;
+        if names == 0 || sure || self.reserve_names_ahead(p, names) {
+            return Ok(());
+        }
+        self.names.reserve(p, names)
+    }
+
+    // Makes this room but for the names.
+    #[tactic(auto, unfolding(crate::specs::Room::rooms))]
+    fn reserve_beside_names(&mut self, room: Room) -> Result<(), AllocError>
+        ensures stands { IsKept self.old self.new }
+        ensures uses { UsesNothing self.old self.new }
+        ensures objects { OnOk result (room.objects ≤ object_room self.new) }
+        ensures references { OnOk result (room.references ≤ reference_room_of self.new) }
+        ensures deaths { OnOk result (room.deaths ≤ death_room_of self.new) }
+        ensures grown { OnErr result (HasRoom self.old room → ⊥) }
+    {
+        if room.is_within(self.sure_room) || self.reserve_ahead(room) {
+            return Ok(());
+        }
+        self.reserve_lists(room.objects, room.references, room.deaths)
     }
 
     /// Makes this room. Changes nothing else.
@@ -86,9 +143,7 @@ impl ObjectTable {
         // Memory was asked for: there was no room.
         ensures grown { OnErr result (HasRoom self.old room → ⊥) }
     {
-        if room.is_within(self.sure_room) || self.reserve_ahead(room) {
-            return Ok(());
-        }
-        self.reserve_each(room)
+        self.reserve_beside_names(room)?;
+        self.reserve_names(room.process, room.names)
     }
 }

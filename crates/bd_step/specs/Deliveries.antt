@@ -39,7 +39,7 @@ pub record IsDeliverable (t : Tables) (d : TransactionData) (v : Delivery) : Typ
 
 -- memory for all that a delivery and what follows from it take
 pub record IsReady (t : Tables) (v : Delivery) : Type 0 where
-  pub room : HasRoom t (object_rooms.delivery_room v.sending.made v.sending.items) (2 * length v.sending.items + 3)
+  pub room : HasRoom t (object_rooms.delivery_room v.receiver.made v.sending.made v.sending.items) (2 * length v.sending.items + 3)
   pub buffer : 1 ≤ buffer_room t.windows v.receiver.made
 
 -- what it makes is new

@@ -187,6 +187,7 @@ impl Tables {
             objects: delivery.made().len(),
             references,
             names: items,
+            process: delivery.receiver(),
             deaths: 0,
         };
         self.reserve(room, works)?;
@@ -307,7 +308,7 @@ impl Tables {
     // Takes in the objects, the references and the names.
     fn deliver_objects(&mut self, delivery: &Delivery) -> Result<(), NumbersFull>
         requires { object_rooms.HasRoom self.old.objects
-            (object_rooms.delivery_room delivery.now.sending.made delivery.now.sending.items) }
+            (object_rooms.delivery_room delivery.now.receiver.made delivery.now.sending.made delivery.now.sending.items) }
         ensures ok { OnOk result (MakesWhere (Before self.old) (SendsNew delivery.now) (Before self.new)
             (λ s. spec.with_carried s delivery.now)) }
         ensures err { OnErr result (IsKept self.old self.new) }

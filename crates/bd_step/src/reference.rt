@@ -19,7 +19,7 @@ impl Tables {
     // where a number past the limit would be needed.
     fn add_asked(&mut self, p: u64, n: u32, o: Identity, strong: bool) -> Result<(), StepError>
         requires references { 1 ≤ reference_room self.old.objects }
-        requires names { 1 ≤ name_room self.old.objects }
+        requires names { 1 ≤ name_room self.old.objects p }
         requires works { 1 ≤ work_room self.old.calls }
         ensures stands { OnOk result (MakesOfTidy self.old self.new (λ s. completed (asking.ask s p o strong))) }
         ensures kept { OnErr result (IsKept self.old self.new) }
@@ -53,6 +53,7 @@ impl Tables {
         let room = Room {
             references: 1,
             names: 1,
+            process: actor.process.made,
             ..NOTHING
         };
         if self.reserve(room, 0).is_err() {

@@ -14,6 +14,7 @@ pub(crate) const NOTHING: Room = Room {
     objects: 0,
     references: 0,
     names: 0,
+    process: 0,
     deaths: 0,
 };
 

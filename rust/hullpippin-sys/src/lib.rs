@@ -1170,9 +1170,8 @@ extern "C" {
     /// begin with 0, and go on with one more than you were told; so do the two looks that follow.
     pub fn hullpippin_live_next_process(live: *mut hullpippin_live, from: u64, place: *mut u64) -> bool;
 
-    /// The least handle, `from` or above it, that names something for the live process with this pid. If `from` itself
-    /// names nothing, it looks at each handle that the engine has noted for the process, those of names that are gone
-    /// too until it makes room for more.
+    /// The least handle, `from` or above it, that names something for the live process with this pid. The engine looks
+    /// at each handle from `from` up to that one.
     pub fn hullpippin_live_next_handle(live: *mut hullpippin_live, pid: u32, from: u32, handle: *mut u32) -> bool;
 
     /// The first live buffer of a process, whose name is the place of its open, at the place `from` or behind it: its

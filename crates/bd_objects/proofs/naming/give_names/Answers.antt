@@ -14,7 +14,7 @@ loop-x-preserved c =
           (give_next c.args.manager (objects ++ c.args.made.now) c.args.p c.args.items.now ns c.loop-x.x-index _ _ (omega arith)
           (c.is_own-own.ensures objects n ∙ owned_alike objects c.args.made.now c.made_by-made.result.now c.args.p _ (c.made_by-made.ensures _)))
           (given ns _ (c.loop-x.invariant.so_far objects ns n h));
-      room = omega (arith, c.loop-x.invariant.room, c.give_name-given.ensures.uses);
+      room = λ q. omega (arith, c.loop-x.invariant.room q, c.give_name-given.ensures.uses q);
     }
 
 pub returns-then-is_err-clause-err : goal.returns-then-is_err-clause-err

@@ -1,4 +1,4 @@
-use Rattle.std.proofs.Common.{◌+◌, ◌≤◌, ◌++◌, take, fold, List}
+use Rattle.std.proofs.Common.{ℕ, ◌+◌, ◌≤◌, ◌++◌, take, fold, List}
 use Rattle.bd_space.specs.declared.space.Name.{Name}
 use Rattle.bd_space.specs.declared.space.Object.{Object}
 use Rattle.bd_nodes.specs.Stands.{NodesAre}
@@ -10,5 +10,5 @@ abbrev pub invariant-loop-x : goal.invariant-loop-x
 invariant-loop-x l = record {
   so_far : (objects : List Object) (ns : List Name) → NodesAre l.nodes objects → NamesAre l.fn.names ns
       → NamesSince l.names ns (fold (give l.manager (objects ++ l.fn.made) l.p) ns (take l.x-index l.items));
-  room : name_room l.fn.names ≤ name_room l.names + l.x-index;
+  room : (q : ℕ) → name_room l.fn.names q ≤ name_room l.names q + l.x-index;
 }
