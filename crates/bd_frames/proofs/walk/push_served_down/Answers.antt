@@ -124,7 +124,17 @@ returns-in_err-push_if_served-clause-grown c = λ r st.
     (λ k d a b h. no_server seat n rs k d b (none k d (omega (arith, a)) (omega (arith, b, h, length-take n rs)))) in
     let ys = filter q (frames_of (drop n rs)) in
     let left : filter q (frames_of (drop i rs)) ≡ cond (q f) (f ∷ ys) ys =
-        ap (λ (zs : List Row). filter q (frames_of zs)) (drop_more rs i no_row (omega (arith, few, ends.0)))
-        ∙ ap (λ (zs : List Frame). cond (q f) (f ∷ zs) zs) skipped in
-    on_err c.from_residual.result (omega (arith, inv.room, c.in_err-push_if_served.ensures.grown, few_from q i rs, ap length left, length_cond (q f) f ys,
-    ap length (inv.so_far r st), length-append xs (reverse (map made_of ys)), length-reverse (map made_of ys), length-map ys made_of))
+    ap (λ (zs : List Row). filter q (frames_of zs)) (drop_more rs i no_row (omega (arith, few, ends.0)))
+    ∙ ap (λ (zs : List Frame). cond (q f) (f ∷ zs) zs) skipped in
+    on_err c.from_residual.result (omega (
+      arith,
+      inv.room,
+      c.in_err-push_if_served.ensures.grown,
+      few_from q i rs,
+      ap length left,
+      length_cond (q f) f ys,
+      ap length (inv.so_far r st),
+      length-append xs (reverse (map made_of ys)),
+      length-reverse (map made_of ys),
+      length-map ys made_of,
+    ))
