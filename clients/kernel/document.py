@@ -65,13 +65,28 @@ def table(head, lines):
     return [f"| {' | '.join(head)} |", "|---" * len(head) + "|", *(f"| {' | '.join(line)} |" for line in lines)]
 
 
-def write(root, part, text):
-    """Puts a part's text in the place of what stands between its marks."""
+def parts(root, part):
+    """The document's path, what stands before a part, with its mark, the part, and what stands behind it."""
     path, begin, end = f"{root}/docs/DIFFERENCES.md", f"<!-- {part}: begin -->", f"<!-- {part}: end -->"
     with open(path, encoding="utf-8") as file:
         before, found, rest = file.read().partition(begin)
-    after = rest.partition(end)
-    if not found or not after[1]:
+    text, its_end, after = rest.partition(end)
+    if not found or not its_end:
         raise ValueError(f"{path} has no place for {part}")
+    return path, before + begin, text.strip("\n"), end + after
+
+
+def write(root, part, text):
+    """Puts a part's text in the place of what stands between its marks."""
+    path, before, _, after = parts(root, part)
     with open(path, "w", encoding="utf-8") as file:
-        file.write(f"{before}{begin}\n{text}\n{end}{after[2]}")
+        file.write(f"{before}\n{text}\n{after}")
+
+
+def write_row(root, part, cells):
+    """Puts a line into the table of a part, in the place of the one that begins with the same cell."""
+    path, before, text, after = parts(root, part)
+    lines = [it for it in text.splitlines() if not it.startswith(f"| {cells[0]} |")] + [f"| {' | '.join(cells)} |"]
+    lines[2:] = sorted(lines[2:])
+    with open(path, "w", encoding="utf-8") as file:
+        file.write("\n".join([before, *lines, after]))

@@ -2,7 +2,7 @@
 """Linux's own Binder driver for a virtual machine, from Debian's packages: the kernel's image with the module `binder_linux`, a static
 busybox for its first process, and qemu where the machine has none.
 
-    fetch.py FOLDER     fetches them into a folder: 71 MB, and qemu some 90 MB more
+    fetch.py FOLDER [SUITE]     fetches them into a folder: 71 MB (newer ones 120), and qemu some 90 MB more
 
 Nothing of the machine's own packages is looked at or changed. Fetched once; a folder that is whole is used again. Needs apt-get, dpkg-deb
 and a network.
@@ -20,16 +20,18 @@ import sys
 HERE = os.path.dirname(os.path.abspath(__file__))
 sys.path.insert(0, os.path.join(os.path.dirname(HERE), "tests"))
 
+import packages  # noqa: E402
 from packages import Apt, Missing, without_links  # noqa: E402
 
 SUITE = "bookworm"
 SECURITY = "http://deb.debian.org/debian-security"
+# seconds for one command of apt: a newer kernel's modules are 107 MB
+packages.PATIENCE = 600
 # the newest image of the suite is what this one asks for
 IMAGE_OF = "linux-image-amd64"
 QEMU = "qemu-system-x86_64"
-# in the order in which they have to be loaded
-MODULES = ["virtio_ring", "virtio", "virtio_pci_legacy_dev", "virtio_pci_modern_dev", "virtio_pci", "9pnet", "netfs", "fscache",
-           "9pnet_virtio", "9p", "binder_linux"]
+# what the machine needs beside what these need; some kernels have some of them built in
+MODULES = ["virtio_pci", "9pnet_virtio", "9p", "binder_linux"]
 
 
 def default_folder():
@@ -61,9 +63,45 @@ def archived(name, mode, data, number):
     return entry + data + bytes(-len(data) % 4)
 
 
+def without_compression(path):
+    """A module's file, which newer packages have compressed."""
+    if not path.endswith(".xz"):
+        return path
+    with lzma.open(path) as file, open(path[:-3], "wb") as to:
+        shutil.copyfileobj(file, to)
+    return path[:-3]
+
+
+def needs_of(module):
+    """The modules that one names in its own file."""
+    with open(module, "rb") as file:
+        found = re.search(rb"\0depends=([^\0]*)\0", file.read())
+    return [it for it in (found[1].decode() if found else "").split(",") if it]
+
+
+def modules_of(root):
+    """The modules' files, each behind those that it needs."""
+    found = {os.path.basename(it).split(".")[0].replace("-", "_"): it for it in glob.glob(f"{root}/**/*.ko*", recursive=True)}
+    ordered = []
+
+    def add(name):
+        path = found.get(name.replace("-", "_"))
+        if path and path.removesuffix(".xz") not in ordered:
+            path = without_compression(path)
+            for need in needs_of(path):
+                add(need)
+            ordered.append(path)
+    for name in MODULES:
+        add(name)
+    return ordered
+
+
 def write_first_files(path, busybox, modules):
-    """The files that the kernel begins with: busybox, the modules, and `init`, which says what is done with them."""
-    files = {"init": f"{HERE}/init", "bin/busybox": busybox, **{f"modules/{os.path.basename(it)}": it for it in modules}}
+    """The files that the kernel begins with: busybox, the modules with their order, and `init`, which says what is done with them."""
+    with open(f"{path}.order", "w", encoding="ascii") as file:
+        file.writelines(f"{os.path.basename(it)}\n" for it in modules if "binder_linux" not in it)
+    files = {"init": f"{HERE}/init", "bin/busybox": busybox, "modules/order": f"{path}.order",
+             **{f"modules/{os.path.basename(it)}": it for it in modules}}
     archive, number = b"", 1
     for folder in ("bin", "modules", "proc", "sys", "dev", "tmp", "etc", "work", "usr"):
         archive += archived(folder, stat.S_IFDIR | 0o755, b"", number)
@@ -86,23 +124,33 @@ def unpacked(image):
         return image
 
 
-def fetch_image(apt, folder):
+def fetch_named(apt, name, to):
+    """A package, and those that a newer kernel's package is made of, with exactly its version; its file."""
+    apt("download", name, cwd=to)
+    package = only(f"{to}/{name.split('/')[0]}_*.deb")
+    for part in re.findall(r"linux-(?:base|binary|modules)-[0-9][^ ,]*", field(package, "Depends")):
+        apt("download", part, cwd=to)
+    return package
+
+
+def fetch_image(apt, folder, suite):
     """The kernel, its first files, and which version it is."""
-    packages = f"{folder}/packages"
-    os.makedirs(packages, exist_ok=True)
-    apt("download", IMAGE_OF, "busybox-static", cwd=packages)
-    names = re.findall(r"linux-image-[0-9][^ ,]*", field(only(f"{packages}/{IMAGE_OF}_*.deb"), "Depends"))
-    apt("download", names[0], cwd=packages)
-    image = only(f"{packages}/{names[0]}_*.deb")
-    unpack(image, f"{packages}/root")
-    unpack(only(f"{packages}/busybox-static_*.deb"), f"{packages}/root")
-    with open(only(f"{packages}/root/boot/vmlinuz-*"), "rb") as file, open(f"{folder}/vmlinux", "wb") as to:
+    debs = f"{folder}/packages"
+    os.makedirs(debs, exist_ok=True)
+    apt("download", f"{IMAGE_OF}/{suite}" if suite != SUITE else IMAGE_OF, "busybox-static", cwd=debs)
+    names = re.findall(r"linux-image-[0-9][^ ,]*", field(only(f"{debs}/{IMAGE_OF}_*.deb"), "Depends"))
+    image = fetch_named(apt, names[0], debs)
+    for package in glob.glob(f"{debs}/*.deb"):
+        unpack(package, f"{debs}/root")
+    kernels = glob.glob(f"{debs}/root/boot/vmlinuz-*") + glob.glob(f"{debs}/root/usr/lib/modules/*/vmlinuz")
+    with open(kernels[0], "rb") as file, open(f"{folder}/vmlinux", "wb") as to:
         to.write(unpacked(file.read()))
-    modules = [only(f"{packages}/root/lib/modules/**/{name}.ko") for name in MODULES]
-    write_first_files(f"{folder}/first-files", only(f"{packages}/root/bin/busybox"), modules)
+    write_first_files(f"{folder}/first-files", only(f"{debs}/root/**/bin/busybox"), modules_of(f"{debs}/root"))
+    for path in glob.glob(f"{debs}/root/boot/config-*") + glob.glob(f"{debs}/root/usr/lib/modules/*/config"):
+        shutil.copy(path, f"{folder}/config")
     with open(f"{folder}/version", "w", encoding="utf-8") as file:
         file.write(f"Linux {names[0].removeprefix('linux-image-')}, Debian's {field(image, 'Version')}\n")
-    shutil.rmtree(packages)
+    shutil.rmtree(debs)
 
 
 def fetch_qemu(apt, folder):
@@ -114,13 +162,19 @@ def fetch_qemu(apt, folder):
     without_links(os.path.realpath(root))
 
 
-def fetch(folder):
+def suites_of(suite):
+    """A suite, and what it is built upon."""
+    if suite == SUITE:
+        return [(None, SUITE), (SECURITY, f"{SUITE}-security")]
+    return [(None, it) for it in dict.fromkeys([suite.removesuffix("-backports"), suite])]
+
+
+def fetch(folder, suite=SUITE):
     """Fetches all of it, in place of what isn't whole there."""
     shutil.rmtree(folder, ignore_errors=True)
-    suites = [(None, SUITE), (SECURITY, f"{SUITE}-security")]
-    apt = Apt(f"{folder}/apt", suites)
+    apt = Apt(f"{folder}/apt", suites_of(suite))
     apt("update")
-    fetch_image(apt, folder)
+    fetch_image(apt, folder, suite)
     if not shutil.which(QEMU):
         fetch_qemu(apt, folder)
     shutil.rmtree(f"{folder}/apt")
@@ -130,9 +184,9 @@ def fetch(folder):
 class Kernel:
     """What was fetched, as the machine needs it."""
 
-    def __init__(self, folder):
+    def __init__(self, folder, suite=SUITE):
         if not os.path.exists(f"{folder}/whole"):
-            fetch(folder)
+            fetch(folder, suite)
         self.image, self.first_files = f"{folder}/vmlinux", f"{folder}/first-files"
         with open(f"{folder}/version", encoding="utf-8") as file:
             self.version = file.read().strip()
@@ -151,11 +205,11 @@ class Kernel:
 
 
 def main():
-    if len(sys.argv) != 2:
-        print("usage: fetch.py FOLDER", file=sys.stderr)
+    if len(sys.argv) not in (2, 3):
+        print("usage: fetch.py FOLDER [SUITE]", file=sys.stderr)
         return 2
     try:
-        print(Kernel(os.path.abspath(sys.argv[1])).version)
+        print(Kernel(os.path.abspath(sys.argv[1]), *sys.argv[2:]).version)
     except (Missing, OSError) as why:
         print(f"the driver can't be had: {why}", file=sys.stderr)
         return 1

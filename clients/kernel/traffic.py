@@ -3,14 +3,16 @@
 """Linux's own driver, judged as it is used: records the raw clients and storms of them in a virtual machine with several processors, and
 asks whether the rules explain what the driver answered.
 
-    clients/check kernel traffic [--kernel FOLDER] [--storms N] [--crowds N] [--seed N] [--spoiled N] [--processors N] [--keep FOLDER]
-                                 [--judge PROGRAM] [--bplay PROGRAM] [--document]
+    clients/check kernel traffic [--kernel FOLDER] [--suite SUITE] [--storms N] [--crowds N] [--calls N] [--seed N] [--spoiled N]
+                                 [--processors N] [--keep FOLDER] [--judge PROGRAM] [--bplay PROGRAM] [--document]
 
 A storm is of three processes, every third one with three of them killed; a crowd is of four with two loopers each. Both are recorded
 with the kernel's tracepoints, the raw clients without. Each recording is judged by `hullpippin judge`. An order without a switch is judged
 by the proved player besides. Then recordings of raw clients are spoiled: a bit of what was read is turned, two reads' answers are
-exchanged, or a read is left out. None may be lawful; one that is has to be looked at. --keep keeps the recordings there;
---document writes what was seen into docs/DIFFERENCES.md. The last line ends in `not as it should be`, with how many.
+exchanged, or a read is left out. None may be lawful; one that is has to be looked at. --calls N records eight callers of N calls
+each besides, 60 steps for each N. --suite takes the kernel of another of Debian's suites, as trixie or trixie-backports. --keep keeps the
+recordings there, and beside one that isn't judged, in NAME.unknown, how far it came and what was tried; --document writes what was seen
+into docs/DIFFERENCES.md. The last line ends in `not as it should be`, with how many.
 """
 import argparse
 import glob
@@ -32,7 +34,7 @@ sys.path.insert(0, HERE)
 sys.path.insert(0, f"{CLIENTS}/tests")
 
 import document  # noqa: E402
-from fetch import Kernel, Missing, default_folder  # noqa: E402
+from fetch import SUITE, Kernel, Missing, default_folder  # noqa: E402
 from machine import NotRun, run  # noqa: E402
 from programs import library, make  # noqa: E402
 
@@ -52,7 +54,7 @@ one() {{
     mkdir -p /tmp/recordings/$name
     echo > $T/trace
     echo $traced > $T/tracing_on
-    HULLPIPPIN_RECORD=/tmp/recordings/$name timeout 120 $LOAD "$@" > /tmp/told 2>&1
+    HULLPIPPIN_RECORD=/tmp/recordings/$name timeout 900 $LOAD "$@" > /tmp/told 2>&1
     status=$?
     echo 0 > $T/tracing_on
     [ $traced = 0 ] || cat $T/trace > /tmp/recordings/$name/trace
@@ -64,12 +66,14 @@ one() {{
 USED = struct.Struct("<8sQ")
 HEAD, RECORD = 64, struct.Struct("<IIQQ")
 WRITE_READ = 4
-VERDICT = re.compile(r"(\d+) processes, (\d+) threads, (\d+) steps: (lawful|unknown)(?:, with (.*))?")
+VERDICT = re.compile(r"(\d+) processes, (\d+) threads, (\d+) steps: (lawful|unlawful|unknown)(?:, with (.*))?")
 
 
 def runs_of(given):
     """What is recorded: its name, whether with tracepoints, and the words of the program."""
     found = [(name.replace(" ", "-"), 0, f"./raw/{name}") for name in RAW]
+    if given.calls:
+        found.append((f"long-{given.calls}", 0, f"./raw/many 8 4 {given.calls}"))
     for i in range(given.storms):
         ends = " 3" if i % 3 == 2 else ""
         found.append((f"storm-{given.seed + i}", 1, f"./raw/storm {given.seed + i} 3 2 1 90{ends}"))
@@ -98,16 +102,20 @@ def record(given, kernel, folder):
 
 
 def shorten(path):
-    """A thread's file grows by steps; what it doesn't use goes."""
+    """A thread's file grows by steps; what it doesn't use goes. Of a thread that was ended before its first record nothing is there."""
     with open(path, "rb") as file:
-        _, used = USED.unpack(file.read(USED.size))
-    os.truncate(path, used)
+        head = file.read(USED.size)
+    used = USED.unpack(head)[1] if len(head) == USED.size else 0
+    if used < HEAD:
+        os.remove(path)
+    else:
+        os.truncate(path, used)
 
 
 def judged(given, recording, journal):
     """The verdict, the switches, how many steps and threads, seconds of a processor, and all that was said."""
     before = resource.getrusage(resource.RUSAGE_CHILDREN).ru_utime
-    done = subprocess.run(["nice", "-n", "10", given.judge, "judge", recording, "--journal", journal], capture_output=True, text=True,
+    done = subprocess.run(["nice", "-n", "10", given.judge, "judge", recording, "--journal", journal, "--most", "64"], capture_output=True, text=True,
                           stdin=subprocess.DEVNULL, timeout=600)
     seconds = resource.getrusage(resource.RUSAGE_CHILDREN).ru_utime - before
     found = VERDICT.match(done.stdout)
@@ -119,6 +127,13 @@ def judged(given, recording, journal):
 def player_says(given, journal):
     done = subprocess.run([given.bplay, "check", journal], capture_output=True, text=True, stdin=subprocess.DEVNULL, timeout=600)
     return done.stdout.strip()
+
+
+def keep_unknown(given, name, said):
+    """Beside a recording that is kept, what was tried on it, and what each of its threads would have to do next."""
+    if given.keep:
+        with open(f"{given.keep}/{name}.unknown", "w", encoding="utf-8") as file:
+            file.write(said)
 
 
 def judge_all(given, folder, told):
@@ -140,6 +155,7 @@ def judge_all(given, folder, told):
               f"{', and by the player: ' + player if player else ''}", flush=True)
         if not is_good:
             print("".join(f"    {line}\n" for line in said.splitlines()[1:4]), end="")
+            keep_unknown(given, name, said)
     return seen, wrong
 
 
@@ -226,28 +242,43 @@ def group(seen, word):
     return len(its), len(good), min(steps), max(steps), max([it[1] for it in its] or [0]), max([it[5] for it in its] or [0])
 
 
-def tell(given, kernel, seen, spoiled):
+def needs_of(seen):
+    """Which differences storms and crowds need, and how many of them each."""
     needed = {}
     for *_, ways, _, _ in [it for it in seen if it[3] == "lawful" and it[0].startswith(("storm", "crowd"))]:
         for way in filter(None, ways.split(", ")):
             needed[way] = needed.get(way, 0) + 1
-    told = ", ".join(f"*{way}* {count}" for way, count in sorted(needed.items(), key=lambda it: -it[1])) or "none"
+    return ", ".join(f"*{way}* {count}" for way, count in sorted(needed.items(), key=lambda it: -it[1])) or "none"
+
+
+def tell(given, kernel, seen, spoiled):
     lines = [(name, str(threads), str(steps), verdict, ways or "none", player) for name, threads, steps, verdict, ways, _, player in seen
              if not name.startswith(("storm", "crowd"))]
-    text = [f"Seen on {kernel.version}, by `clients/check kernel traffic --storms {given.storms} --crowds {given.crowds} --seed {given.seed} --spoiled {given.spoiled}`.\n"]
+    text = [f"Seen on {kernel.version}, by `clients/check kernel traffic --storms {given.storms} --crowds {given.crowds} --calls {given.calls} --seed {given.seed} --spoiled {given.spoiled}`.\n"]
     text += document.table(["Raw client, untraced", "Threads", "Steps", "Verdict", "Differences needed", "The player, of the order"], lines)
     text.append("")
     rows = [(name, *group(seen, word)) for name, word in (("storms of three processes", "storm"), ("crowds of four, with two loopers each", "crowd"))]
     text += document.table(["With tracepoints", "Recordings", "Judged lawful", "Least steps", "Most", "Threads up to", "Seconds at most"],
                            [(*map(str, it[:-1]), f"{it[-1]:.1f}") for it in rows])
-    text += ["", f"Those that were judged need, in so many: {told}. Of {spoiled[0]} spoiled recordings {len(spoiled[1])} were called lawful."]
+    text += ["", f"Those that were judged need, in so many: {needs_of(seen)}. Of {spoiled[0]} spoiled recordings {len(spoiled[1])} were called lawful."]
     return "\n".join(text)
+
+
+def row_of(kernel, seen, spoiled):
+    """The line of a driver in the table of all."""
+    raw = [it for it in seen if not it[0].startswith(("storm", "crowd"))]
+    good = sum(it[3] == "lawful" for it in raw)
+    judged_of = [group(seen, word)[:2] for word in ("storm", "crowd")]
+    return (kernel.version, f"{good} of {len(raw)}", *(f"{good} of {count}" for count, good in judged_of), needs_of(seen),
+            f"{len(spoiled[1])} of {spoiled[0]}")
 
 
 def arguments():
     parser = argparse.ArgumentParser(usage=__doc__)
     parser.add_argument("what", choices=["traffic"])
-    parser.add_argument("--kernel", default=default_folder())
+    parser.add_argument("--kernel")
+    parser.add_argument("--suite", default=SUITE)
+    parser.add_argument("--calls", type=int, default=0)
     parser.add_argument("--storms", type=int, default=12)
     parser.add_argument("--crowds", type=int, default=6)
     parser.add_argument("--seed", type=int, default=1)
@@ -258,7 +289,9 @@ def arguments():
     parser.add_argument("--judge", default=f"{ROOT}/tool/target/release/hullpippin")
     parser.add_argument("--bplay", default=f"{ROOT}/crates/bd_play/out/bd_play")
     parser.add_argument("--document", action="store_true")
-    return parser.parse_args()
+    given = parser.parse_args()
+    given.kernel = given.kernel or (default_folder() if given.suite == SUITE else f"{default_folder()}-{given.suite}")
+    return given
 
 
 def main():
@@ -270,7 +303,7 @@ def main():
         given.bplay = None
     folder = tempfile.mkdtemp(prefix="kernel-traffic-")
     try:
-        kernel = Kernel(os.path.abspath(given.kernel))
+        kernel = Kernel(os.path.abspath(given.kernel), given.suite)
         told = record(given, kernel, folder)
         if given.keep:
             shutil.copytree(f"{folder}/recordings", given.keep, dirs_exist_ok=True)
@@ -284,7 +317,9 @@ def main():
     text = tell(given, kernel, seen, spoiled)
     print(text)
     if given.document:
-        document.write(ROOT, "traffic", text)
+        if given.suite == SUITE:
+            document.write(ROOT, "traffic", text)
+        document.write_row(ROOT, "drivers", row_of(kernel, seen, spoiled))
     print(f"kernel traffic: {len(seen)} recordings, {wrong + len(spoiled[1])} not as it should be")
     return 0 if not wrong and not spoiled[1] else 1
 

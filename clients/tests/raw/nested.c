@@ -1,14 +1,15 @@
 /* SPDX-License-Identifier: Apache-2.0 OR MIT */
 /*
- * nested: a client gives a server an object of its own; the server calls it while it serves, and is called again by
+ * nested [DEPTH]: a client gives a server an object of its own; the server calls it while it serves, and is called again by
  * it, and so on, as deep as asked. Each level adds one, so the answer tells how many there were.
  */
 #include "raw.h"
 
 #include <stdio.h>
+#include <stdlib.h>
 #include <unistd.h>
 
-#define DEPTH 20
+#define DEPTH 20 /* where none is asked for */
 
 /* The client's object, by its handle at the server; the server's by 0 at the client. */
 static uint32_t other;
@@ -45,19 +46,20 @@ static void serve_back(struct looper *looper, const struct binder_transaction_da
     serve_depth(looper, call);
 }
 
-int main(void)
+int main(int argc, char **argv)
 {
     struct client client;
+    uint32_t depths = argc > 1 ? (uint32_t)strtoul(argv[1], NULL, 10) : DEPTH;
     raw_begin(30);
     main_thread_of_client = gettid();
     pid_t manager = raw_start_manager(serve);
     raw_open(&client, WINDOW, serve_back);
     raw_give(&client, MEET);
-    for (uint32_t depth = 0; depth <= DEPTH; depth++) {
+    for (uint32_t depth = 0; depth <= depths; depth++) {
         uint32_t deep = descend(&client.looper, depth);
         CHECK(deep == depth, "%u levels in place of %u", deep, depth);
     }
-    printf("%u levels deep\n", DEPTH);
+    printf("%u levels deep\n", depths);
     raw_kill(manager);
     return 0;
 }

@@ -1,6 +1,6 @@
 /* SPDX-License-Identifier: Apache-2.0 OR MIT */
 /*
- * parcels: of many sizes, there and back the same, also where they are larger than the page by which small ones go;
+ * parcels [LARGEST]: of many sizes, there and back the same, also where they are larger than the page by which small ones go;
  * one past the receiver's window is refused, and harms none that comes after it. Their flags come as they were written.
  */
 #include "raw.h"
@@ -85,26 +85,29 @@ static void flags_cross(struct client *client)
     looper_free(&client->looper, &reply);
 }
 
-int main(void)
+int main(int argc, char **argv)
 {
+    size_t largest = argc > 1 ? strtoul(argv[1], NULL, 10) : WINDOW;
     static const size_t sizes[] = {0, 1, 3, 4, 100, 4095, 4096, 32768, 65535, 65536, 65537, 100000, 600000, 1000000};
     struct client client;
     raw_begin(30);
     pid_t manager = raw_start_manager(echo);
     raw_open(&client, WINDOW, NULL);
     for (int turn = 0; turn < 3; turn++)
-        for (size_t i = 0; i < sizeof sizes / sizeof *sizes; i++)
+        for (size_t i = 0; i < sizeof sizes / sizeof *sizes && sizes[i] <= largest; i++)
             there_and_back(&client, sizes[i]);
-    for (int turn = 0; turn < 3; turn++) {
+    for (int turn = 0; turn < 3 && largest >= WINDOW; turn++) {
         past_the_window(&client, WINDOW + 8);
         past_the_window(&client, 3 * WINDOW);
         past_the_window(&client, 20 * WINDOW);
         there_and_back(&client, 600000);
     }
-    past_the_callers_window();
-    there_and_back(&client, 600000);
+    if (largest >= WINDOW) {
+        past_the_callers_window();
+        there_and_back(&client, 600000);
+    }
     flags_cross(&client);
-    printf("up to 1000000 bytes, and none past a window\n");
+    printf("up to %zu bytes, and none past a window\n", largest >= WINDOW ? (size_t)1000000 : largest);
     raw_kill(manager);
     return 0;
 }

@@ -1,6 +1,6 @@
 /* SPDX-License-Identifier: Apache-2.0 OR MIT */
 /*
- * pool: a server whose further threads are started when the driver asks for them, up to the number it was told, and a
+ * pool [CALLS]: a server whose further threads are started when the driver asks for them, up to the number it was told, and a
  * client of many threads. Calls that wait for one another inside the server show that they are served at once.
  */
 #include "raw.h"
@@ -8,18 +8,19 @@
 #include <pthread.h>
 #include <stdatomic.h>
 #include <stdio.h>
+#include <stdlib.h>
 #include <sys/ioctl.h>
 #include <unistd.h>
 
 #define CLIENT_THREADS 8
 #define SERVER_THREADS 4 /* besides the one that enters the loop by itself */
-#define CALLS 400
-#define ALL_CALLS (CLIENT_THREADS * CALLS)
 /* Seconds without an answer, beside whatever else the machine does. */
 #define HUNG 30
 
 enum { ADD = 1, MEET, THREADS };
 
+/* Of each of the client's threads. */
+static uint32_t calls = 400;
 static struct client server;
 static atomic_uint spawned, met;
 
@@ -85,16 +86,16 @@ static void *watch(void *with)
         now = atomic_load(&answered);
         seconds = now == before ? seconds + 1 : 0;
     }
-    raw_fail(__FILE__, __LINE__, "no call was answered in %u s, %u of %u before", HUNG, atomic_load(&answered), ALL_CALLS);
+    raw_fail(__FILE__, __LINE__, "no call was answered in %u s, %u of %u before", HUNG, atomic_load(&answered), CLIENT_THREADS * calls);
     return with;
 }
 
 static void *call_often(void *with)
 {
     struct looper looper;
-    uint32_t from = (uint32_t)(uintptr_t)with * CALLS;
+    uint32_t from = (uint32_t)(uintptr_t)with * calls;
     raw_looper(&looper, &client, NULL);
-    for (uint32_t i = from; i < from + CALLS; i++) {
+    for (uint32_t i = from; i < from + calls; i++) {
         uint32_t answer = raw_ask(&looper, (struct call){.code = ADD, .bytes = &i, .size = sizeof i});
         CHECK(answer == i + 1, "the answer to %u was %u", i, answer);
         atomic_fetch_add(&answered, 1);
@@ -123,9 +124,11 @@ static void all(void *(*body)(void *), size_t count)
         pthread_join(threads[i], NULL);
 }
 
-int main(void)
+int main(int argc, char **argv)
 {
     pthread_t watcher;
+    if (argc > 1)
+        calls = (uint32_t)strtoul(argv[1], NULL, 10);
     raw_begin(170);
     pid_t manager = raw_start(run_server, NULL);
     raw_open(&client, WINDOW, NULL);
@@ -134,7 +137,7 @@ int main(void)
     all(call_often, CLIENT_THREADS);
     uint32_t threads = raw_ask(&client.looper, (struct call){.code = THREADS});
     CHECK(threads >= 2 && threads <= SERVER_THREADS, "%u threads were asked for, with at most %u", threads, SERVER_THREADS);
-    printf("%u calls by %u threads, served by %u and 1\n", ALL_CALLS, CLIENT_THREADS, threads);
+    printf("%u calls by %u threads, served by %u and 1\n", CLIENT_THREADS * calls, CLIENT_THREADS, threads);
     raw_kill(manager);
     return 0;
 }

@@ -1,6 +1,6 @@
 /* SPDX-License-Identifier: Apache-2.0 OR MIT */
 /*
- * two_opens: a process that opens the device twice is two processes to the driver. One of its threads serves through
+ * two_opens [CALLS]: a process that opens the device twice is two processes to the driver. One of its threads serves through
  * the one and others call through the other; after the one is closed, the other goes on. Only the context manager can't be called
  * through another file of its own process, and all managers have to be of one user, as Linux's driver has it.
  */
@@ -9,10 +9,10 @@
 #include <errno.h>
 #include <pthread.h>
 #include <stdio.h>
+#include <stdlib.h>
 #include <unistd.h>
 
-#define CALLS 200
-
+static uint32_t calls = 200;
 static struct client one, other;
 
 static void double_it(struct looper *looper, const struct binder_transaction_data *call)
@@ -34,7 +34,7 @@ static void *serve(void *with)
 static void call_often(struct client *through)
 {
     uint32_t handle = raw_fetch(through);
-    for (uint32_t i = 0; i < CALLS; i++) {
+    for (uint32_t i = 0; i < calls; i++) {
         uint32_t answer = raw_ask(&through->looper, (struct call){.handle = handle, .bytes = &i, .size = sizeof i});
         CHECK(answer == 2 * i, "the answer to %u was %u", i, answer);
     }
@@ -79,12 +79,14 @@ static void manage(pid_t first)
     CHECK(raw_call(&manager.looper, (struct call){0}, &reply) == BR_FAILED_REPLY, "the manager calls itself");
 }
 
-int main(void)
+int main(int argc, char **argv)
 {
+    if (argc > 1)
+        calls = (uint32_t)strtoul(argv[1], NULL, 10);
     raw_begin(30);
     pid_t manager = raw_start_keeper();
     call_each_other();
     manage(manager);
-    printf("%u calls within one process, and none of its own manager\n", 3 * CALLS);
+    printf("%u calls within one process, and none of its own manager\n", 3 * calls);
     return 0;
 }

@@ -4,7 +4,7 @@ use super::machine::{process_id, Machine};
 use super::steps::*;
 use crate::codes::*;
 use crate::record::{u32_at, u64_at, Kind, Record, OBJECT_SIZE, RECORD_SIZE};
-use crate::rules::{Buffer, Item, List, Listed, Past, Process, ProcessId, Seat, Space, PID};
+use crate::rules::{Buffer, Item, List, Listed, ObjectId, Past, Process, ProcessId, Seat, Space, PID};
 
 /// A step that has to wait for another one.
 pub type Lesson = (u64, u64);
@@ -83,8 +83,9 @@ impl<'a> Lessons<'a> {
         };
         let is_call = command.message.code.number == BC_TRANSACTION;
         if is_call && matches!(step.wanted, Wanted::Taken) && self.space.callee(id, record.handle()) == Err(1) {
-            let freed = process.freed.get(&record.handle()).and_then(|it| it.0);
-            self.add(freed, Some(own));
+            for freed in process.freed.get(&record.handle()).iter().flat_map(|it| it.iter()) {
+                self.add(Some(freed), Some(own));
+            }
         }
         if let (Some(got), true) = (self.machine.arrival(step.id), self.space.threads.has(track as Seat)) {
             let mut space = self.space.clone();
@@ -111,9 +112,8 @@ impl<'a> Lessons<'a> {
             if ours == theirs {
                 continue;
             }
-            for number in [theirs, ours] {
-                let freed = process.freed.get(&number).and_then(|it| it.0);
-                self.add(freed, Some(sent));
+            for freed in [theirs, ours].iter().filter_map(|it| process.freed.get(it)).flat_map(|it| it.iter()) {
+                self.add(Some(freed), Some(sent));
             }
             if let Some(name) = process.names.get(theirs) {
                 for release in self.releases_of(receiver, theirs) {
@@ -121,7 +121,7 @@ impl<'a> Lessons<'a> {
                 }
                 self.add(name.by.0, Some(sent));
             }
-            let freed = process.freed.get(&theirs).and_then(|it| it.0);
+            let freed = process.freed.get(&theirs).and_then(|it| it.iter().next());
             self.add(Some(sent), freed);
         }
     }
@@ -144,6 +144,28 @@ impl<'a> Lessons<'a> {
                     _ => false,
                 };
                 if drops {
+                    found.push(step_number(*track, index));
+                }
+            }
+        }
+        found
+    }
+
+    /// What a process's threads may begin next that holds one of its objects.
+    fn holds_of(&self, process: ProcessId, ptr: u64) -> Vec<u64> {
+        let mut found = Vec::new();
+        for track in self.machine.tracks_of(process) {
+            let from = self.done[*track] as usize;
+            for (index, step) in self.machine.recording.tracks[*track].steps.iter().enumerate().skip(from).take(AHEAD) {
+                let parcel = match &step.act {
+                    Act::Hold(command) => command.parcel.as_ref(),
+                    _ => None,
+                };
+                let names = |it: &super::steps::Parcel| {
+                    let offsets = it.1.chunks_exact(8).map(|at| u64_at(at, 0) as usize);
+                    offsets.filter(|at| at + OBJECT_SIZE <= it.0.len()).any(|at| u64_at(&it.0, at + 8) == ptr)
+                };
+                if parcel.map_or(false, names) {
                     found.push(step_number(*track, index));
                 }
             }
@@ -182,48 +204,70 @@ impl<'a> Lessons<'a> {
                 self.add(by, other);
                 self.of_downs(listed, other, own);
             }
-            match listed.item {
+            let goes_on = match listed.item {
                 Item::Notice(object) => {
-                    let from = at;
-                    while at < got.kinds.len() && is_notice(got.kinds[at].0) && got.kinds[at].1 == object.1 {
-                        at += 1;
-                    }
-                    if at == from {
-                        let untold = self.space.objects.get(object).and_then(|it| it.untold.0);
-                        self.add(untold, by);
-                        self.add(by, Some(own));
-                    }
+                    at += self.of_notice(object, got.kinds.get(at..).unwrap_or(&[]), by, own);
+                    true
                 }
                 item => {
-                    let fits =
-                        at < got.kinds.len() && self.machine.reads_as(self.space, seat, &item, got.kinds[at], step.id);
-                    if let Item::Call(buffer) = item {
-                        self.of_turn(buffer, by);
-                    }
-                    if let (Item::Call(buffer), Some(its)) = (item, got.kinds.get(at)) {
-                        let is_it = fits && self.is_alike(buffer, step, got);
-                        if its.0 == BR_TRANSACTION && !is_it {
-                            match self.wanted(process, step, got, by) {
-                                Some(wanted) => self.add(by, Some(wanted)),
-                                None => self.of_taken(process, step, got, own),
-                            }
-                            return self.add(by, Some(own));
-                        }
-                    }
-                    if !fits {
-                        return self.add(by, Some(own));
-                    }
-                    if let Item::Call(buffer) | Item::Reply(buffer) = item {
-                        if let Some(its) = self.space.buffer(buffer) {
-                            let sent = its.sent;
-                            self.of_numbers(process, its, got, sent);
-                        }
-                        return;
-                    }
                     at += 1;
+                    self.of_item(process, seat, step, got, (item, by), at - 1)
                 }
+            };
+            if !goes_on {
+                return;
             }
         }
+    }
+
+    /// Of a notice that is read, or isn't: how many returns are its own.
+    fn of_notice(&mut self, object: ObjectId, kinds: &[(u32, u64)], by: Option<u64>, own: u64) -> usize {
+        let count = kinds.iter().take_while(|it| is_notice(it.0) && it.1 == object.1).count();
+        if count == 0 {
+            let untold = self.space.objects.get(object).and_then(|it| it.untold.0);
+            self.add(untold, by);
+            self.add(by, Some(own));
+        }
+        count
+    }
+
+    /// Of another item that is to be read as the return of a number, or isn't: whether one looks at what stands behind it.
+    fn of_item(
+        &mut self,
+        process: ProcessId,
+        seat: Seat,
+        step: &Step,
+        got: &Got,
+        (item, by): (Item, Option<u64>),
+        at: usize,
+    ) -> bool {
+        let own = self.own(seat as usize);
+        let kind = got.kinds.get(at);
+        let fits = kind.map_or(false, |it| self.machine.reads_as(self.space, seat, &item, *it, step.id));
+        if let Item::Call(buffer) = item {
+            self.of_turn(buffer, by);
+            let is_it = fits && self.is_alike(buffer, step, got);
+            if kind.map_or(false, |it| it.0 == BR_TRANSACTION) && !is_it {
+                match self.wanted(process, step, got, by) {
+                    Some(wanted) => self.add(by, Some(wanted)),
+                    None => self.of_taken(process, step, got, own),
+                }
+                self.add(by, Some(own));
+                return false;
+            }
+        }
+        if !fits {
+            self.add(by, Some(own));
+            return false;
+        }
+        if let Item::Call(buffer) | Item::Reply(buffer) = item {
+            if let Some(its) = self.space.buffer(buffer) {
+                let sent = its.sent;
+                self.of_numbers(process, its, got, sent);
+            }
+            return false;
+        }
+        true
     }
 
     /// Of a call that another read has got which could have come later.
@@ -282,6 +326,11 @@ impl<'a> Lessons<'a> {
                 if is_half || *code == BR_INCREFS && !got.kinds.contains(&(BR_ACQUIRE, *ptr)) {
                     let other = if is_half { object.down } else { object.up };
                     self.add(other.iter().next(), Some(own));
+                }
+                if is_half {
+                    for hold in self.holds_of(process, *ptr) {
+                        self.add(Some(own), Some(hold));
+                    }
                 }
             }
         }

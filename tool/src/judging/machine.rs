@@ -182,6 +182,21 @@ impl<'a> Machine<'a> {
         reads_as(space, seat, item, kind, id)
     }
 
+    /// The next step of each track that has one.
+    pub fn heads<'b>(&'b self, done: &'b [u32]) -> impl Iterator<Item = (usize, &'a Step)> + 'b {
+        done.iter().enumerate().filter_map(move |(track, index)| Some((track, self.step(track, *index)?)))
+    }
+
+    /// Whether nothing is left that has to be made.
+    pub fn is_over(&self, done: &[u32]) -> bool {
+        // What comes behind the other half of a release has to be made too.
+        let may_stay = |it: &Step| it.is_maybe || matches!(it.act, Act::End | Act::Finish);
+        self.recording.tracks.iter().zip(done).all(|(track, done)| {
+            let rest = track.steps.get(*done as usize..).unwrap_or(&[]);
+            rest.first().map_or(true, may_stay) && rest.iter().all(may_stay)
+        })
+    }
+
     pub fn step(&self, track: usize, index: u32) -> Option<&'a Step> {
         self.recording.tracks[track].steps.get(index as usize)
     }
@@ -263,18 +278,24 @@ impl<'a> Machine<'a> {
                 Some(Came::Exited)
             }
             Act::Command(command) => self.command(space, done, seat, step, command),
-            Act::Number(command) => Some(Came::Half).filter(|_| self.number(space, seat, step, command)),
-            Act::Queue => {
-                let buffer = space.threads.get(seat).and_then(|it| it.half.as_ref()?.delivered.ok());
-                let waiter = buffer.and_then(|it| self.who_waits(space, done, it, step.id));
-                Some(Came::Told(space.send_second_half(seat, waiter)))
+            Act::Hold(command) => {
+                space.hold_for(seat, &command.message, command.parcel.as_ref().map(|it| (&*it.0, &*it.1)));
+                Some(Came::Half)
             }
+            Act::Number(command) => Some(Came::Half).filter(|_| self.number(space, seat, step, command)),
+            Act::Queue => Some(self.queue(space, done, seat, step)),
             Act::Finish => {
                 space.finish_release(seat, process_id(process));
                 Some(Came::Half)
             }
             Act::Read(limit) => self.read(space, seat, step, self.limit(*limit)),
         }
+    }
+
+    fn queue(&self, space: &mut Space, done: &[u32], seat: Seat, step: &Step) -> Came {
+        let buffer = space.threads.get(seat).and_then(|it| it.half.as_ref()?.delivered.ok());
+        let waiter = buffer.and_then(|it| self.who_waits(space, done, it, step.id));
+        Came::Told(space.send_second_half(seat, waiter))
     }
 
     /// What rules that want less room are asked for, so that they take no item that the driver leaves.

@@ -19,6 +19,12 @@ use std::io::Write;
 use std::time::Instant;
 use steps::Recording;
 
+/// Of how few steps a recording has to be for all its orders to be tried; how many steps are tried then, and how many orders of equally
+/// many steps may be followed at once.
+const SMALL: usize = 1500;
+const EXHAUSTED: u64 = 300_000;
+const AT_ONCE: usize = 6000;
+
 /// In which the driver does otherwise also to one thread; the freedom of the order does what the others would.
 fn plain_ways() -> Ways {
     let free = [Way::Room, Way::Looper, Way::Deferred, Way::Stuck, Way::Long];
@@ -27,22 +33,16 @@ fn plain_ways() -> Ways {
 }
 
 /// The sets of switches that are tried, the likeliest first: each half that is possible makes the search longer.
-fn sets() -> [Ways; 5] {
+fn sets() -> [Ways; 6] {
     let with = |ways: &[Way]| ways.iter().fold(plain_ways(), |sum, it| sum.with(*it));
     [
         with(&[Way::Waiter, Way::Pieces]),
         with(&[Way::Waiter, Way::Pieces, Way::Released]),
         with(&[Way::Waiter, Way::Pieces, Way::Released, Way::Numbered]),
         with(&[Way::Pieces, Way::Numbered]),
+        with(&[Way::Waiter, Way::Pieces, Way::Released, Way::Numbered, Way::Held]),
         with(&[Way::Waiter]),
     ]
-}
-
-fn searched(given: &Judge, ways: Ways, limit: u64) -> Result<(Recording, Outcome)> {
-    let mut recording = Recording::read(&given.recording, given.device.as_deref())?;
-    recording.take_apart(ways);
-    let outcome = Search::new(&recording, ways, limit).run();
-    Ok((recording, outcome))
 }
 
 /// What a recording came to.
@@ -54,11 +54,6 @@ struct Verdict {
 }
 
 impl Verdict {
-    fn sought(given: &Judge, ways: Ways, limit: u64) -> Result<Verdict> {
-        let (recording, outcome) = searched(given, ways, limit.min(given.tries))?;
-        Ok(Verdict { tries: outcome.tries, recording, ways, outcome })
-    }
-
     /// The same, where it is better: an order, or a longer one.
     fn or(&mut self, other: Verdict) {
         let tries = self.tries + other.tries;
@@ -68,43 +63,108 @@ impl Verdict {
         }
         self.tries = tries;
     }
+
+    /// Whether the order that was found is one without some of its switches too.
+    fn holds_with(&mut self, whole: &Recording, ways: Ways) -> bool {
+        let order = match &self.outcome.order {
+            Some(order) => order,
+            None => return false,
+        };
+        let recording = whole.taken_apart(ways);
+        let held = [true, false].iter().find_map(|at_first| {
+            let order = order::carried(&self.recording, order, &recording, *at_first);
+            Some(order).filter(|it| order::holds(&recording, ways, it))
+        });
+        if let Some(order) = held {
+            self.outcome.order = Some(order);
+            self.recording = recording;
+            self.ways = ways;
+            return true;
+        }
+        false
+    }
 }
 
-/// Seeks an order without a switch, then with one set of them after the other, first with few tries.
-fn verdict(given: &Judge) -> Result<Verdict> {
-    if let Some(names) = &given.ways {
-        let ways = Ways::named(names.split(',').filter(|it| !it.is_empty()))
-            .map_err(|name| anyhow::anyhow!("{name} is none of the differences in docs/DIFFERENCES.md"))?;
-        return Verdict::sought(given, ways, given.tries);
-    }
-    let mut found = Verdict::sought(given, Ways::NONE, given.tries)?;
-    let few = 10_000 + 4 * found.recording.size() as u64;
-    for (ways, limit) in sets().iter().map(|it| (*it, few)).chain(sets().iter().map(|it| (*it, given.tries / 5))) {
-        if found.outcome.order.is_some() {
-            break;
-        }
-        found.or(Verdict::sought(given, ways, limit)?);
-    }
-    if found.outcome.order.is_some() {
-        leave_out(given, &mut found)?;
-    }
-    Ok(found)
+/// A recording as it was read, for one search after the other.
+struct Trial<'a> {
+    given: &'a Judge,
+    whole: Recording,
 }
 
-/// Leaves out the switches that aren't needed: those that seldom are at once, then one after the other.
-fn leave_out(given: &Judge, found: &mut Verdict) -> Result<()> {
-    let often = [Way::Notices, Way::Cleared, Way::Order, Way::Waiter, Way::Pieces, Way::Released, Way::Numbered];
-    let often = often.iter().fold(Ways::NONE, |ways, it| ways.with(*it));
-    let each = WAYS.iter().map(|it| Ways::NONE.with(it.0));
-    // An order with fewer switches takes about as many tries, if there is one.
-    let limit = (5_000 + 2 * found.recording.size() as u64).max(2 * found.outcome.tries);
-    for left in std::iter::once(found.ways.minus(often)).chain(each) {
-        let ways = found.ways.minus(left);
-        if ways != found.ways {
-            found.or(Verdict::sought(given, ways, limit)?);
+impl Trial<'_> {
+    fn sought(&self, ways: Ways, limit: u64) -> Verdict {
+        let recording = self.whole.taken_apart(ways);
+        let outcome = Search::new(&recording, ways, limit.min(self.given.tries)).run();
+        Verdict { tries: outcome.tries, recording, ways, outcome }
+    }
+
+    /// Tries all orders there are with each of some sets of switches, where they aren't too many: so it is known where there is none.
+    fn exhaust(&self, found: &mut Verdict, sets: &[Ways]) {
+        let mut are_none = true;
+        for ways in sets.iter().copied() {
+            if found.outcome.order.is_some() {
+                return;
+            }
+            let recording = self.whole.taken_apart(ways);
+            let outcome = Search::new(&recording, ways, EXHAUSTED.min(self.given.tries)).exhaust(AT_ONCE);
+            are_none &= outcome.is_none;
+            found.or(Verdict { tries: outcome.tries, recording, ways, outcome });
+        }
+        found.outcome.is_none = are_none;
+    }
+
+    fn verdict(&self) -> Result<Verdict> {
+        let (mut found, sets) = match &self.given.ways {
+            Some(names) => {
+                let ways = Ways::named(names.split(',').filter(|it| !it.is_empty()))
+                    .map_err(|name| anyhow::anyhow!("{name} is none of the differences in docs/DIFFERENCES.md"))?;
+                (self.sought(ways, self.given.tries), vec![ways])
+            }
+            None => (self.verdict_of_all(), std::iter::once(Ways::NONE).chain(sets()).collect()),
+        };
+        if found.outcome.order.is_none() && self.whole.size() < SMALL {
+            self.exhaust(&mut found, &sets);
+        }
+        if self.given.ways.is_none() {
+            self.leave_out(&mut found);
+        }
+        Ok(found)
+    }
+
+    /// Seeks an order without a switch, then with one set of them after the other, first with few tries.
+    fn verdict_of_all(&self) -> Verdict {
+        let few = 10_000 + 4 * self.whole.size() as u64;
+        let many = self.given.tries / 6;
+        // What has no order for want of a difference is seldom found by more tries, so the fullest set is the first to have them.
+        let again = sets().into_iter().rev().chain(Some(Ways::NONE)).map(|it| (it, many));
+        let mut found = self.sought(Ways::NONE, few);
+        for (ways, limit) in sets().into_iter().map(|it| (it, few)).chain(again) {
+            if found.outcome.order.is_none() {
+                found.or(self.sought(ways, limit));
+            }
+        }
+        found
+    }
+
+    /// Leaves out the switches that aren't needed: those that seldom are at once, then one after the other. Where the order that was
+    /// found is none without one, another may be.
+    fn leave_out(&self, found: &mut Verdict) {
+        if found.outcome.order.is_none() {
+            return;
+        }
+        let often =
+            [Way::Notices, Way::Cleared, Way::Order, Way::Waiter, Way::Pieces, Way::Released, Way::Numbered, Way::Held];
+        let often = often.iter().fold(Ways::NONE, |ways, it| ways.with(*it));
+        let each = WAYS.iter().map(|it| Ways::NONE.with(it.0));
+        // An order with fewer switches takes about as many tries, if there is one; but there mostly is none.
+        let limit = (5_000 + 2 * self.whole.size() as u64).max(found.outcome.tries.min(60_000));
+        for left in std::iter::once(found.ways.minus(often)).chain(each) {
+            let ways = found.ways.minus(left);
+            if ways != found.ways && !found.holds_with(&self.whole, ways) {
+                found.or(self.sought(ways, limit));
+            }
         }
     }
-    Ok(())
 }
 
 /// Where an order was found: writes it, and what the proved library says of it where no switch was needed.
@@ -129,7 +189,8 @@ fn write_order(given: &Judge, found: &Verdict, order: &[u32], out: &mut Vec<u8>)
 /// Judges a recording: the status with which the program ends.
 pub fn judge(given: &Judge, out: &mut Vec<u8>) -> Result<u8> {
     let begin = Instant::now();
-    let found = verdict(given)?;
+    let whole = Recording::read(&given.recording, given.device.as_deref())?;
+    let found = Trial { given, whole }.verdict()?;
     let seconds = begin.elapsed().as_secs_f64();
     let Verdict { recording, ways, outcome, tries } = &found;
     let (processes, threads) = (recording.processes.len(), recording.threads());
@@ -137,6 +198,9 @@ pub fn judge(given: &Judge, out: &mut Vec<u8>) -> Result<u8> {
     match &outcome.order {
         Some(_) if *ways == Ways::NONE => writeln!(out, "lawful")?,
         Some(_) => writeln!(out, "lawful, with {ways}")?,
+        None if outcome.is_none => {
+            writeln!(out, "unlawful: no order goes beyond {} steps, and all were tried", outcome.most)?
+        }
         None => writeln!(out, "unknown: no order was found beyond {} steps", outcome.most)?,
     }
     writeln!(out, "{tries} tries, {} times back, {} lessons, {seconds:.1} s", outcome.backs, outcome.lessons)?;

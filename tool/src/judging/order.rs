@@ -16,6 +16,50 @@ fn block(to: &mut Vec<u8>, bytes: &[u8]) {
     to.extend(bytes);
 }
 
+/// In how many parts each step of each track is, as it was recorded.
+fn parts_counted(recording: &Recording) -> Vec<Vec<usize>> {
+    let counted = |track: &Track| {
+        let mut counts = vec![0; track.parts_of.last().map_or(0, |it| *it as usize + 1)];
+        track.parts_of.iter().for_each(|it| counts[*it as usize] += 1);
+        counts
+    };
+    recording.tracks.iter().map(counted).collect()
+}
+
+/// An order as it is where the same recording is in fewer parts: a step that has fewer is made where its first ones were, or its last.
+pub fn carried(from: &Recording, order: &[u32], to: &Recording, at_first: bool) -> Vec<u32> {
+    let (counts, wants) = (parts_counted(from), parts_counted(to));
+    let mut seen: Vec<Vec<usize>> = counts.iter().map(|it| vec![0; it.len()]).collect();
+    let (mut done, mut carried) = (vec![0usize; from.tracks.len()], Vec::with_capacity(order.len()));
+    for number in order {
+        let track = *number as usize;
+        let part = from.tracks[track].parts_of[done[track]] as usize;
+        done[track] += 1;
+        let (count, wanted, place) = (counts[track][part], wants[track][part], seen[track][part]);
+        seen[track][part] += 1;
+        if if at_first { place < wanted } else { place + wanted >= count } {
+            carried.push(*number);
+        }
+    }
+    carried
+}
+
+/// Whether all steps come one after the other so, by the clock and by the rules.
+pub fn holds(recording: &Recording, ways: Ways, order: &[u32]) -> bool {
+    let machine = Machine::new(recording);
+    let (mut space, mut done) = (Space::new(ways), vec![0; recording.tracks.len()]);
+    for track in order.iter().map(|it| *it as usize) {
+        let bound = machine.heads(&done).map(|it| it.1.end).min().unwrap_or(NEVER);
+        let step = machine.step(track, done[track]).filter(|it| it.begin <= bound);
+        let is_made = step.and_then(|it| machine.make(&mut space, &done, track, it)).is_some();
+        if !is_made {
+            return false;
+        }
+        done[track] += 1;
+    }
+    machine.is_over(&done)
+}
+
 #[derive(Default)]
 pub struct Written {
     entries: Vec<u8>,
@@ -104,7 +148,7 @@ impl Written {
                 let message = command.message;
                 command_step(&command, &message)
             }
-            Act::Finish => return None,
+            Act::Hold(_) | Act::Finish => return None,
         })
     }
 

@@ -41,6 +41,8 @@ struct Origin {
 pub struct Outcome {
     /// The tracks whose steps come one after the other; None where no order was found.
     pub order: Option<Vec<u32>>,
+    /// Whether there is none: all were tried.
+    pub is_none: bool,
     pub tries: u64,
     /// How many steps were in the longest order, and how many times one went back.
     pub most: usize,
@@ -48,6 +50,16 @@ pub struct Outcome {
     pub lessons: u64,
     /// Of the longest order, what each track would have to do next.
     pub stuck: Vec<String>,
+}
+
+/// How wide a search goes, and how far.
+struct Pace {
+    width: usize,
+    /// How often it has gone back from about the same place.
+    rung: u32,
+    /// From which length on only the likeliest order is followed again.
+    goal: usize,
+    last_end: usize,
 }
 
 pub struct Search<'a> {
@@ -84,20 +96,9 @@ impl<'a> Search<'a> {
         }
     }
 
-    fn is_over(&self, node: &Node) -> bool {
-        // What comes behind the other half of a release has to be made too.
-        let may_stay = |it: &Step| it.is_maybe || matches!(it.act, Act::End | Act::Finish);
-        let tracks = self.machine.recording.tracks.iter().zip(&node.done);
-        tracks.into_iter().all(|(track, done)| {
-            let rest = track.steps.get(*done as usize..).unwrap_or(&[]);
-            rest.first().map_or(true, may_stay) && rest.iter().all(may_stay)
-        })
-    }
-
     /// The tracks whose next step may come next by the clock and could be made, the likeliest first.
     fn candidates(&self, node: &Node, heeds: bool) -> Vec<(u64, usize)> {
-        let heads =
-            || (0..node.done.len()).filter_map(|track| Some((track, self.machine.step(track, node.done[track])?)));
+        let heads = || self.machine.heads(&node.done);
         let bound = heads().map(|it| it.1.end).min().unwrap_or(NEVER);
         let is_held = |it: &(usize, &Step)| {
             let number = step_number(it.0, node.done[it.0] as usize);
@@ -221,8 +222,7 @@ impl<'a> Search<'a> {
             Some(node) => node,
             None => return false,
         };
-        let heads =
-            || (0..node.done.len()).filter_map(|track| Some((track, self.machine.step(track, node.done[track])?)));
+        let heads = || self.machine.heads(&node.done);
         let bound = heads().map(|it| it.1.end).min().unwrap_or(NEVER);
         let mut pressing: Vec<(usize, &Step)> = heads().filter(|it| it.1.begin <= bound).collect();
         pressing.sort_by_key(|it| it.1.end);
@@ -289,56 +289,91 @@ impl<'a> Search<'a> {
     }
 
     pub fn run(mut self) -> Outcome {
-        let (mut width, mut rung, mut goal, mut backs, mut last_end) = (1, 0u32, 0, 0, 0);
+        let (mut pace, mut backs) = (Pace { width: 1, rung: 0, goal: 0, last_end: 0 }, 0);
         loop {
             let level = self.levels.last().expect("a level");
-            if let Some(at) = level.iter().position(|it| self.is_over(it)) {
+            if let Some(at) = level.iter().position(|it| self.machine.is_over(&it.done)) {
                 return self.outcome(Some(at), backs);
             }
-            if width == 1 && level.len() == 1 {
-                let node = self.levels.last_mut().and_then(|it| it.pop()).expect("a node");
-                let next = self.advance(&node);
-                self.levels.last_mut().expect("a level").push(node);
-                if let Some((next, track)) = next {
-                    self.push(vec![next], vec![Origin { parent: 0, track: track as u32 }]);
-                    continue;
+            if self.goes_on(&mut pace) {
+                if pace.width > 1 && self.tries > self.limit {
+                    return self.outcome(None, backs);
                 }
-            } else {
-                let (mut nodes, mut origins) = self.widen(width);
-                if !nodes.is_empty() {
-                    if self.levels.len() > goal {
-                        width = 1;
-                        nodes.truncate(1);
-                        origins.truncate(1);
-                    }
-                    self.push(nodes, origins);
-                    if self.tries > self.limit {
-                        return self.outcome(None, backs);
-                    }
-                    continue;
-                }
+                continue;
             }
             // No order goes on from here.
             self.tell_stuck();
-            if width == 1 && self.tries <= self.limit && (self.learn() || self.unlearn()) {
-                backs += 1;
-                continue;
-            }
-            let end = self.levels.len() - 1;
-            rung = if end > last_end + 2 * BACK { 0 } else { rung + 1 };
-            last_end = last_end.max(end);
             backs += 1;
-            let back = BACK.saturating_mul(BACK_MORE.saturating_pow(rung));
-            width = WIDTH.saturating_mul(WIDTH_MORE.saturating_pow(rung));
-            let to = end.saturating_sub(back).max(self.first);
-            let is_last = width > MOST_WIDTH && (to == self.first || back > KEPT) || end == 0;
-            width = width.min(MOST_WIDTH);
-            if is_last || self.tries > self.limit {
+            let learns = pace.width == 1 && self.tries <= self.limit && (self.learn() || self.unlearn());
+            if !learns && !self.goes_back(&mut pace) {
                 return self.outcome(None, backs);
             }
-            goal = last_end + BACK;
-            self.levels.truncate(to + 1);
-            self.origins.truncate(to + 1);
+        }
+    }
+
+    /// Makes one step more: whether there is one.
+    fn goes_on(&mut self, pace: &mut Pace) -> bool {
+        if pace.width == 1 && self.levels.last().map_or(false, |it| it.len() == 1) {
+            let node = self.levels.last_mut().and_then(|it| it.pop()).expect("a node");
+            let next = self.advance(&node);
+            self.levels.last_mut().expect("a level").push(node);
+            return next.map_or(false, |(next, track)| {
+                self.push(vec![next], vec![Origin { parent: 0, track: track as u32 }]);
+                true
+            });
+        }
+        let (mut nodes, mut origins) = self.widen(pace.width);
+        if nodes.is_empty() {
+            return false;
+        }
+        if self.levels.len() > pace.goal {
+            pace.width = 1;
+            nodes.truncate(1);
+            origins.truncate(1);
+        }
+        self.push(nodes, origins);
+        true
+    }
+
+    /// Goes back further than before, to follow more orders from there: whether there are more to be tried.
+    fn goes_back(&mut self, pace: &mut Pace) -> bool {
+        let end = self.levels.len() - 1;
+        pace.rung = if end > pace.last_end + 2 * BACK { 0 } else { pace.rung + 1 };
+        pace.last_end = pace.last_end.max(end);
+        let back = BACK.saturating_mul(BACK_MORE.saturating_pow(pace.rung));
+        let width = WIDTH.saturating_mul(WIDTH_MORE.saturating_pow(pace.rung));
+        let to = end.saturating_sub(back).max(self.first);
+        let is_last = width > MOST_WIDTH && (to == self.first || back > KEPT) || end == 0;
+        pace.width = width.min(MOST_WIDTH);
+        if is_last || self.tries > self.limit {
+            return false;
+        }
+        pace.goal = pace.last_end + BACK;
+        self.levels.truncate(to + 1);
+        self.origins.truncate(to + 1);
+        true
+    }
+
+    /// Follows all orders at once, of which those that come to the same are one: so it is known where there is none. They may become
+    /// more than `most`; then nothing is known.
+    pub fn exhaust(mut self, most: usize) -> Outcome {
+        loop {
+            let level = self.levels.last().expect("a level");
+            if let Some(at) = level.iter().position(|it| self.machine.is_over(&it.done)) {
+                return self.outcome(Some(at), 0);
+            }
+            let is_over = level.is_empty();
+            if is_over || level.len() > most || self.tries > self.limit {
+                return Outcome { is_none: is_over, ..self.outcome(None, 0) };
+            }
+            let (nodes, origins) = self.widen(usize::MAX);
+            if nodes.is_empty() {
+                self.tell_stuck();
+            }
+            self.levels.push(nodes);
+            self.origins.push(origins);
+            self.levels[self.first] = Vec::new();
+            self.first += 1;
         }
     }
 
@@ -353,6 +388,7 @@ impl<'a> Search<'a> {
             order
         });
         let most = order.as_ref().map_or(self.most, Vec::len);
-        Outcome { order, tries: self.tries, most, backs, lessons: self.lessons, stuck: self.stuck }
+        let (tries, lessons, stuck) = (self.tries, self.lessons, self.stuck);
+        Outcome { order, is_none: false, tries, most, backs, lessons, stuck }
     }
 }

@@ -6,7 +6,7 @@ use crate::codes::{self, *};
 use crate::record::{u32_at, u64_at, Record, OBJECT_SIZE, RECORD_SIZE};
 use crate::rules::{Way, Ways, PID};
 use anyhow::{ensure, Result};
-use std::collections::{BTreeMap, HashMap};
+use std::collections::{BTreeMap, HashMap, HashSet};
 use std::rc::Rc;
 
 /// A time that never comes.
@@ -54,7 +54,8 @@ pub enum Act {
     /// A process ends.
     End,
     Command(Command),
-    /// A transaction or reply in halves: its objects get their numbers, and it comes to a list.
+    /// A transaction or reply in parts: it holds its target and its objects, its objects get their numbers, and it comes to a list.
+    Hold(Command),
     Number(Command),
     Queue,
     /// The other half of what a command has released.
@@ -99,9 +100,12 @@ pub struct Step {
     pub is_maybe: bool,
     /// Of a read, when each return was written, where that is known.
     pub returns: Vec<u64>,
+    /// Of a command, when it was begun, and when its objects had their numbers, where that is known.
+    pub begun: Option<u64>,
+    pub numbered: Option<u64>,
 }
 
-#[derive(Debug)]
+#[derive(Clone, Debug)]
 pub struct Process {
     pub pid: u32,
     /// Its pid in the model, of which no two have the same.
@@ -116,15 +120,17 @@ pub struct Process {
 }
 
 /// A thread's steps; or those of a process, which opens and ends: then there is no tid.
-#[derive(Debug)]
+#[derive(Clone, Debug)]
 pub struct Track {
     pub process: usize,
     pub tid: Option<u32>,
     pub name: String,
     pub steps: Vec<Step>,
+    /// Of each step, which one it was or is a part of as it was recorded.
+    pub parts_of: Vec<u32>,
 }
 
-#[derive(Debug, Default)]
+#[derive(Clone, Debug, Default)]
 pub struct Recording {
     pub processes: Vec<Process>,
     pub tracks: Vec<Track>,
@@ -262,14 +268,16 @@ impl Recording {
     fn track_of(&mut self, process: usize, tid: u32, name: &str) -> usize {
         let found = self.tracks.iter().position(|it| (it.process, it.tid) == (process, Some(tid)));
         found.unwrap_or_else(|| {
-            self.tracks.push(Track { process, tid: Some(tid), name: name.into(), steps: Vec::new() });
+            let name = name.into();
+            self.tracks.push(Track { process, tid: Some(tid), name, steps: Vec::new(), parts_of: Vec::new() });
             self.tracks.len() - 1
         })
     }
 
     fn push(&mut self, track: usize, act: Act, begin: u64, end: u64, at: u64, wanted: Wanted) -> &mut Step {
         let steps = &mut self.tracks[track].steps;
-        steps.push(Step { act, begin, end, at, wanted, id: None, is_maybe: false, returns: Vec::new() });
+        let (returns, begun, numbered) = (Vec::new(), None, None);
+        steps.push(Step { act, begin, end, at, wanted, id: None, is_maybe: false, returns, begun, numbered });
         steps.last_mut().expect("the step that was pushed")
     }
 
@@ -338,13 +346,19 @@ impl Recording {
                 break;
             }
             if let Some(command) = command {
+                let command_is_parcel = command.message.record().is_some();
                 // A refused transaction ends its write.
                 let goes_on = (next as u64) < consumed && is_over;
                 let numbered = traced.and_then(|it| it.numbered.get(&place)).copied();
                 let step = self.push(track, Act::Command(command), when.0, when.1, when.0, Wanted::Any);
                 step.id = traced.and_then(|it| it.sent.get(&place).or_else(|| it.freed.get(&place))).copied();
                 step.is_maybe = !is_over;
-                step.at = numbered.map_or(step.at, |it| it.1);
+                step.begun = traced.and_then(|it| it.begun.get(&place)).copied();
+                step.numbered = numbered.map(|it| it.1);
+                step.at = step.numbered.or(step.begun).unwrap_or(step.at);
+                if command_is_parcel {
+                    step.begin = step.begun.map_or(step.begin, |it| it.clamp(step.begin, step.end));
+                }
                 if goes_on {
                     step.wanted = Wanted::Taken;
                 }
@@ -405,7 +419,8 @@ impl Recording {
         }
     }
 
-    fn add_read(&mut self, track: usize, when: (u64, u64), limit: u32, asked: &WriteRead, traced: Option<&Traced>) {
+    /// What a read has got, and the pointer of the parcel that came with it.
+    fn got(&mut self, asked: &WriteRead) -> (Got, Option<u64>) {
         let mut got =
             Got { stream: asked.returned.clone(), kinds: Vec::new(), data: Rc::new([]), offsets: Rc::new([]) };
         let (mut at, mut pointer) = (0, None);
@@ -436,6 +451,11 @@ impl Recording {
             }
             at = next;
         }
+        (got, pointer)
+    }
+
+    fn add_read(&mut self, track: usize, when: (u64, u64), limit: u32, asked: &WriteRead, traced: Option<&Traced>) {
+        let (got, pointer) = self.got(asked);
         // The first read of a thread, or one of notices that tell nothing any more, is no step.
         if got.kinds.is_empty() {
             return;
@@ -460,8 +480,23 @@ impl Recording {
         step.returns = returns;
     }
 
-    /// A buffer that is given back is the one that was read last at that address before; the trace knows which it is.
+    /// The numbers of the one-way calls that were read.
+    fn one_way_calls(&self) -> HashSet<u64> {
+        let is_one_way = |step: &&Step| match &step.wanted {
+            Wanted::Got(got) => {
+                let record = got.stream.len().checked_sub(RECORD_SIZE).and_then(|it| got.stream.get(it..));
+                got.kinds.last().map_or(false, |it| it.0 == BR_TRANSACTION)
+                    && record.map_or(false, |it| Record::read(it).is_one_way())
+            }
+            _ => false,
+        };
+        self.tracks.iter().flat_map(|it| &it.steps).filter(is_one_way).filter_map(|it| it.id).collect()
+    }
+
+    /// A buffer that is given back is the one that was read last at that address before; the trace knows which it is, and when its
+    /// references went. Before that the next one-way call may have come, where it was one.
     fn name_buffers(&mut self) {
+        let one_way = self.one_way_calls();
         for all in self.deliveries.values_mut() {
             all.sort_unstable();
         }
@@ -473,6 +508,10 @@ impl Recording {
                     _ => continue,
                 };
                 if let Payload::Buffer(pointer) = command.message.payload {
+                    let is_one_way = id.map_or(true, |it| one_way.contains(&it));
+                    if let (Some(begun), false) = (step.begun, is_one_way) {
+                        step.begin = begun.clamp(step.begin, step.end);
+                    }
                     let known = self.deliveries.get(&(track.process, pointer));
                     let last = known.and_then(|all| all.iter().rev().find(|it| it.0 <= begin)).map(|it| it.1);
                     command.key = id.and_then(|it| self.by_id.get(&it)).copied().or(last).unwrap_or(0);
@@ -557,20 +596,28 @@ impl Recording {
                 continue;
             }
             let (opened, open_end, last, since) = (it.opened, it.open_end, it.last, it.closed.unwrap_or(it.last));
-            self.tracks.push(Track { process: index, tid: None, name: String::new(), steps: Vec::new() });
+            let (steps, parts_of) = (Vec::new(), Vec::new());
+            self.tracks.push(Track { process: index, tid: None, name: String::new(), steps, parts_of });
             let track = self.tracks.len() - 1;
             self.push(track, Act::Open, opened, open_end, opened, Wanted::Any);
             self.push(track, Act::End, since, NEVER, last, Wanted::Any);
         }
     }
 
-    /// Has each transaction and reply with objects be two steps, and what may release a name, where the driver makes them so.
-    pub fn take_apart(&mut self, ways: Ways) {
+    /// The same, with each transaction and reply with objects in two steps, and what may release a name, where the driver makes them so.
+    pub fn taken_apart(&self, ways: Ways) -> Recording {
+        let mut found = self.clone();
+        found.take_apart(ways);
+        found
+    }
+
+    fn take_apart(&mut self, ways: Ways) {
         let mut moved = HashMap::new();
         for (number, track) in self.tracks.iter_mut().enumerate() {
             let mut apart = Vec::new();
             for (index, step) in std::mem::take(&mut track.steps).into_iter().enumerate() {
                 take_step_apart(step, ways, &mut apart);
+                track.parts_of.resize(apart.len(), index as u32);
                 // What a read's last part has got is its parcel.
                 let last =
                     if matches!(apart.last().map(|it| &it.act), Some(Act::Read(_))) { apart.len() - 1 } else { 0 };
@@ -622,6 +669,8 @@ fn read_in_parts(step: &Step, got: &Got, to: &mut Vec<Step>) {
             id: step.id.filter(|_| is_last),
             is_maybe: false,
             returns: Vec::new(),
+            begun: None,
+            numbered: None,
         });
         begin = step.returns.get(next - 1).map_or(begin, |it| it.saturating_sub(MICRO).max(begin));
         at += size;
@@ -645,9 +694,15 @@ fn take_step_apart(step: Step, ways: Ways, to: &mut Vec<Step>) {
     let has_objects = command.parcel.as_ref().map_or(false, |it| !it.1.is_empty());
     match command.message.code.number {
         BC_TRANSACTION | BC_REPLY if numbers && has_objects => {
-            let second = Step { act: Act::Queue, wanted: Wanted::Any, at: step.at + 1, ..step.clone() };
-            to.push(Step { act: Act::Number(command), ..step });
-            to.push(second);
+            let numbered = step.numbered.map(|it| it.clamp(step.begin, step.end));
+            let end = numbered.map_or(step.end, |it| step.end.min(it + MICRO));
+            if ways.has(Way::Held) {
+                let (act, at) = (Act::Hold(command.clone()), step.begun.unwrap_or(step.begin));
+                to.push(Step { act, wanted: Wanted::Any, at, end, ..step.clone() });
+            }
+            to.push(Step { act: Act::Number(command), end, ..step.clone() });
+            let begin = numbered.unwrap_or(step.begin);
+            to.push(Step { act: Act::Queue, wanted: Wanted::Any, at: step.at + 1, begin, ..step });
         }
         BC_RELEASE | BC_FREE_BUFFER if releases => {
             let second = Step { act: Act::Finish, wanted: Wanted::Any, id: None, ..step.clone() };

@@ -3,6 +3,7 @@
 use super::machine::Machine;
 use super::steps::*;
 use crate::codes::return_name;
+use crate::record::{u32_at, u64_at};
 use crate::rules::{Item, Seat, Space};
 use std::fmt::Write as _;
 
@@ -50,12 +51,38 @@ pub fn step(step: &Step) -> String {
                 _ => text,
             }
         }
+        (Act::Hold(_), _) => "begins to send its parcel".into(),
         (Act::Number(_), _) => "numbers the objects of its parcel".into(),
         (Act::Queue, _) => "queues its parcel".into(),
         (Act::Finish, _) => "lets go of names".into(),
         (Act::Read(_), Wanted::Got(it)) => format!("reads {}", got(it)),
         (Act::Read(_), _) => "reads, and there is nothing".into(),
     }
+}
+
+/// Of a parcel with objects, which handles its reader has got, and which it would get by the rules.
+fn handles(machine: &Machine<'_>, space: &Space, track: usize, step: &Step) -> Option<String> {
+    let command = match &step.act {
+        Act::Command(command) | Act::Number(command) => command,
+        _ => return None,
+    };
+    let got = machine.arrival(step.id)?;
+    let mut space = space.clone();
+    let parcel = command.parcel.as_ref().map(|it| (&*it.0, &*it.1));
+    let (receiver, place) = space.prepare(track as Seat, &command.message, parcel).delivered.ok()?;
+    let ours = &space.processes.get(receiver)?.buffers.get(place)?.data;
+    let at = |data: &[u8]| {
+        got.offsets.chunks_exact(8).map(|it| u32_at(data, u64_at(it, 0) as usize + 8)).collect::<Vec<_>>()
+    };
+    let has = |number: u32| space.processes.get(receiver).map_or(false, |it| it.names.has(number));
+    Some(at(&got.data).iter().zip(at(ours)).filter(|it| *it.0 != it.1).fold(
+        String::new(),
+        |mut text, (theirs, ours)| {
+            let taken = if has(*theirs) { ", where that one still has another" } else { "" };
+            let _ = write!(text, "; its object came as handle {theirs}, and would by the rules as {ours}{taken}");
+            text
+        },
+    ))
 }
 
 /// What each track would have to do next, and what there is for it by the rules.
@@ -73,12 +100,13 @@ pub fn heads(machine: &Machine<'_>, space: &Space, done: &[u32]) -> Vec<String> 
         found.push((
             next.end,
             format!(
-                "{pid}/{} {} [{} {}]; by the rules there is for it: {}",
+                "{pid}/{} {} [{} {}]; by the rules there is for it: {}{}",
                 track.tid.unwrap_or(0),
                 step(next),
                 next.begin / 1000,
                 if next.end == NEVER { "-".into() } else { (next.end / 1000).to_string() },
-                if items.is_empty() { "nothing" } else { &items }
+                if items.is_empty() { "nothing" } else { &items },
+                handles(machine, space, number, next).unwrap_or_default()
             ),
         ));
     }

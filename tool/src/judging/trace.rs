@@ -17,6 +17,8 @@ pub struct Traced {
     pub sent: HashMap<usize, u64>,
     pub freed: HashMap<usize, u64>,
     pub numbered: HashMap<usize, (u64, u64)>,
+    /// .. and when it was begun, or when its buffer's references were about to go: nothing that others see was done before.
+    pub begun: HashMap<usize, u64>,
     /// The transaction that was read.
     pub received: Option<u64>,
 }
@@ -52,12 +54,14 @@ impl Traced {
             "read_done" => self.read = Some(at),
             "transaction" => {
                 self.sent.extend(transaction().map(|it| (last, it)));
+                self.begun.insert(last, at);
             }
             "transaction_received" => self.received = transaction(),
             "transaction_buffer_release" => {
                 // A reply that ends a call may release others'; the first is the command's.
                 if let Some(id) = transaction() {
                     self.freed.entry(last).or_insert(id);
+                    self.begun.entry(last).or_insert(at);
                 }
             }
             "transaction_node_to_ref" | "transaction_ref_to_node" | "transaction_ref_to_ref" => {

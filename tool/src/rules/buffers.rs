@@ -126,6 +126,16 @@ impl Space {
         (found, None)
     }
 
+    /// Those objects of a parcel that there are already, each to be held weakly.
+    pub(super) fn objects_of(&self, process: ProcessId, parcel: Option<(&[u8], &[u8])>) -> Vec<(ObjectId, usize)> {
+        let flats = parcel.map_or(Vec::new(), |(data, offsets)| walk(data, offsets).0);
+        let object = |flat: &Flat| match flat.kind.is_binder() {
+            true => Some((process, flat.value)).filter(|it| self.objects.has(*it)),
+            false => self.name(process, flat.value as u32).map(|it| it.object),
+        };
+        flats.iter().filter_map(object).map(|it| (it, WEAK)).collect()
+    }
+
     /// Where a buffer may start: the least place by the rules, in the smallest hole by the driver.
     fn place_for(&self, process: &Process, needed: u64) -> Option<u64> {
         let (mut at, mut best): (u64, Option<(u64, u64)>) = (0, None);

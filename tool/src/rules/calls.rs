@@ -139,19 +139,7 @@ impl Space {
                 self.settle();
                 Told::Stopped(cause)
             }
-            (What::OneWay(target), Ok(buffer)) => {
-                let is_suspect = self.buffer(buffer).map_or(false, |it| it.is_suspect);
-                self.owe(seat, Item::Complete(is_suspect), false);
-                let turns = target.and_then(|it| self.objects.get_mut(it)).map(|it| {
-                    it.turns.push_back(buffer.1);
-                    it.turns.len()
-                });
-                if turns.map_or(true, |it| it == 1) {
-                    self.call_comes(buffer, waiter);
-                }
-                self.follow();
-                Told::Accepted
-            }
+            (What::OneWay(target), Ok(buffer)) => self.commit_one_way(seat, target, buffer, waiter),
             (What::TwoWay(_), Ok(buffer)) => {
                 self.owe(seat, Item::Complete(false), true);
                 let waiting = self.waiting_caller(seat, buffer.0).or(waiter);
@@ -171,6 +159,26 @@ impl Space {
                 Told::Accepted
             }
         }
+    }
+
+    fn commit_one_way(
+        &mut self,
+        seat: Seat,
+        target: Option<ObjectId>,
+        buffer: BufferId,
+        waiter: Option<Seat>,
+    ) -> Told {
+        let is_suspect = self.buffer(buffer).map_or(false, |it| it.is_suspect);
+        self.owe(seat, Item::Complete(is_suspect), false);
+        let turns = target.and_then(|it| self.objects.get_mut(it)).map(|it| {
+            it.turns.push_back(buffer.1);
+            it.turns.len()
+        });
+        if turns.map_or(true, |it| it == 1) {
+            self.call_comes(buffer, waiter);
+        }
+        self.follow();
+        Told::Accepted
     }
 
     fn commit_reply(&mut self, seat: Seat, frame: Option<FrameId>, delivered: Result<BufferId, u8>) -> Told {

@@ -138,8 +138,8 @@ pub struct Process {
     pub told: Vec<u64>,
     /// Names whose last reference has gone, and who have yet to go themselves (`Way::Released`), with whose command that was.
     pub unnamed: Vec<(Seat, u32)>,
-    /// Which step has taken a number away last.
-    pub freed: BTreeMap<u32, By>,
+    /// Of a number that was taken away, which steps have taken references from its name last.
+    pub freed: BTreeMap<u32, Past>,
 }
 
 #[derive(Clone, Debug, PartialEq, Eq)]
@@ -153,6 +153,8 @@ pub struct Thread {
     pub todo: Todo,
     /// A transaction or reply whose objects have their numbers, and that has yet to come to a list (`Way::Numbered`).
     pub half: Option<calls::Half>,
+    /// What the transaction or reply holds that has yet to give its objects their numbers (`Way::Held`).
+    pub held: Vec<(ObjectId, usize)>,
 }
 
 #[derive(Clone, Debug, PartialEq, Eq)]
@@ -163,6 +165,8 @@ pub struct Object {
     pub handshake: [bool; 2],
     /// References for which nobody has a name: Target, Handshake, Manager, what the owner's window carries.
     pub local: [u32; 2],
+    /// How many commands under way hold it (`Way::Held`).
+    pub held: [u32; 2],
     /// Whose names lead to it, under which number.
     pub names: Vec<(ProcessId, u32)>,
     /// How many of them are strong.
@@ -184,11 +188,11 @@ pub struct Object {
 
 impl Object {
     pub fn is_strong(&self) -> bool {
-        self.local[STRONG] > 0 || self.strong_names > 0
+        self.local[STRONG] > 0 || self.strong_names > 0 || self.held[STRONG] > 0
     }
 
     pub fn is_weakly_held(&self) -> bool {
-        self.local[WEAK] > 0 || !self.names.is_empty()
+        self.local[WEAK] > 0 || !self.names.is_empty() || self.held[WEAK] > 0
     }
 
     pub fn is_held(&self) -> bool {
@@ -215,6 +219,8 @@ pub struct Name {
     /// The number of the death notification on it that isn't cleared.
     pub death: Option<u64>,
     pub by: By,
+    /// Which steps have taken references from it last.
+    pub down: Past,
 }
 
 impl Name {
@@ -394,8 +400,15 @@ impl Space {
     }
 
     pub fn attach(&mut self, seat: Seat, process: ProcessId) {
-        let thread =
-            Thread { process, is_looping: false, has_entered: false, is_due: false, todo: VecDeque::new(), half: None };
+        let thread = Thread {
+            process,
+            is_looping: false,
+            has_entered: false,
+            is_due: false,
+            todo: VecDeque::new(),
+            half: None,
+            held: Vec::new(),
+        };
         self.threads.insert(seat, thread);
     }
 

@@ -13,6 +13,7 @@ impl Space {
             told: [false; 2],
             handshake: [false; 2],
             local: [0; 2],
+            held: [0; 2],
             names: Vec::new(),
             strong_names: 0,
             notice: None,
@@ -64,7 +65,7 @@ impl Space {
         };
         let handle =
             names.keys().skip_while(|it| *it < least).fold(least, |free, it| if it == free { free + 1 } else { free });
-        names.insert(handle, Name { object, asked: [0; 2], carried: [0; 2], death: None, by });
+        names.insert(handle, Name { object, asked: [0; 2], carried: [0; 2], death: None, by, down: Past::default() });
         if let Some(it) = self.objects.get_mut(object) {
             it.names.push((process, handle));
             // Who else has named it first is of no account.
@@ -106,9 +107,10 @@ impl Space {
     }
 
     pub(super) fn count_down(&mut self, process: ProcessId, handle: u32, strength: usize, ground: Ground) {
-        let counts_once = self.does(Way::Counts);
+        let (counts_once, by) = (self.does(Way::Counts), By(Some(self.current)));
         let (strong, weak, object) = match self.name_mut(process, handle) {
             Some(name) => {
+                name.down.add(by);
                 let counts = match ground {
                     Ground::Carried if !counts_once => &mut name.carried,
                     _ => &mut name.asked,
@@ -162,8 +164,11 @@ impl Space {
     pub(super) fn end_name(&mut self, process: ProcessId, handle: u32) {
         let by = By(Some(self.current));
         let gone = self.processes.get_mut(process).and_then(|it| {
-            it.freed.insert(handle, by);
-            it.names.remove(handle)
+            let name = it.names.remove(handle)?;
+            let mut down = name.down;
+            down.add(by);
+            it.freed.insert(handle, down);
+            Some(name)
         });
         let name = match gone {
             Some(name) => name,
@@ -192,6 +197,27 @@ impl Space {
         }
         self.touch(object);
         self.lost(object, strength);
+    }
+
+    /// What a transaction or reply that begins holds until its objects have their numbers: its target strongly, its objects weakly.
+    pub fn hold(&mut self, seat: Seat, objects: Vec<(ObjectId, usize)>) {
+        for (object, strength) in &objects {
+            if let Some(it) = self.objects.get_mut(*object) {
+                it.held[*strength] += 1;
+            }
+        }
+        if let Some(it) = self.threads.get_mut(seat) {
+            it.held = objects;
+        }
+    }
+
+    /// Lets go of what was held so.
+    pub(super) fn let_go(&mut self, held: &[(ObjectId, usize)]) {
+        for (object, strength) in held {
+            if let Some(it) = self.objects.get_mut(*object) {
+                it.held[*strength] = it.held[*strength].saturating_sub(1);
+            }
+        }
     }
 
     // ------------------------------------------------------------ Notices

@@ -27,6 +27,7 @@ pub enum Way {
     Spam,
     Long,
     Numbered,
+    Held,
     Released,
     Pieces,
     OwnPid,
@@ -34,7 +35,7 @@ pub enum Way {
 
 /// The name of each, as the documents and the command line have it, and whether scripts can show it: the others come about only
 /// while two threads are inside of the driver at once.
-pub static WAYS: [(Way, &str, bool); 25] = [
+pub static WAYS: [(Way, &str, bool); 26] = [
     (Way::Room, "room", true),
     (Way::Looper, "looper", true),
     (Way::Waiter, "waiter", true),
@@ -57,6 +58,7 @@ pub static WAYS: [(Way, &str, bool); 25] = [
     (Way::Spam, "spam", true),
     (Way::Long, "long", true),
     (Way::Numbered, "numbered", false),
+    (Way::Held, "held", false),
     (Way::Released, "released", false),
     (Way::Pieces, "pieces", false),
     (Way::OwnPid, "own_pid", false),

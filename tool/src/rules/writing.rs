@@ -147,6 +147,16 @@ impl Space {
         }
     }
 
+    /// Before that: what it is to hold, its target and those of its objects that there are.
+    pub fn hold_for(&mut self, seat: Seat, command: &Message, parcel: Option<(&[u8], &[u8])>) {
+        let process = self.threads.get(seat).map_or(0, |it| it.process);
+        let target = command.record().filter(|_| command.code.number == BC_TRANSACTION);
+        let target = target.and_then(|it| self.callee(process, it.handle()).ok());
+        let mut held = self.objects_of(process, parcel);
+        held.extend(target.map(|it| (it, STRONG)));
+        self.hold(seat, held);
+    }
+
     /// Its first half: its objects have their numbers, and it its buffer; the cause why not.
     pub fn send_first_half(
         &mut self,
@@ -154,10 +164,16 @@ impl Space {
         command: &Message,
         parcel: Option<(&[u8], &[u8])>,
     ) -> Result<BufferId, u8> {
+        let held = self.threads.get_mut(seat).map_or(Vec::new(), |it| std::mem::take(&mut it.held));
         let half = self.prepare(seat, command, parcel);
         let delivered = half.delivered;
         if let Some(it) = self.threads.get_mut(seat) {
             it.half = Some(half);
+        }
+        self.let_go(&held);
+        for (object, strength) in held {
+            self.lost(object, strength);
+            self.touch(object);
         }
         self.follow();
         delivered
