@@ -636,6 +636,18 @@ void descriptor_close(int *fd);
 /* Closes a descriptor whose other end a client has, without waiting for what the client has put into it. */
 void descriptor_end(int *fd);
 
+/* --- flight.c: descriptors that a client hasn't taken yet. --- */
+
+/* Whether nothing lies in a socket that the other end hasn't taken. */
+bool flight_is_taken(int socket);
+/* Sends descriptors over a thread's link, with how many there are, and counts them in its process's share until it has taken them. False
+   where there is no share for them, or those of before lie there yet. */
+bool flight_send(struct thread *thread, const int *fds, uint32_t count);
+/* Looks whether the thread has taken them. */
+void flight_look(struct thread *thread);
+/* They go with the link, or didn't go there. */
+void flight_end(struct thread *thread);
+
 /* --- callers.c: whose call it is. --- */
 
 /* So many pid namespaces, one in the other, are told apart. */
@@ -731,6 +743,7 @@ struct giving {
 
 struct process {
     struct watch control;
+    bool has_sent;         /* descriptors with its latest answer, which it may not have taken */
     struct watch end;      /* a pidfd, which tells that the client's process has ended */
     struct engine *engine; /* NULL: its device isn't known yet */
     struct daemon *daemon;
@@ -839,6 +852,7 @@ struct served {
 
 struct thread {
     struct watch link, bell;
+    uint32_t in_flight;        /* descriptors in the link that it may not have taken */
     struct process *process;
     struct list in_process, in_watch, in_reached, in_polling, in_seatless;
     bool is_counted;           /* among those that are looked at one by one */

@@ -19,14 +19,17 @@ void page_copy(void *to, const void *from, size_t size)
     __asm__ volatile("" ::: "memory");
 }
 
-/* Where the socket is full nothing can be sent; then what lies in it unread wakes the client. */
+/* Where the socket is full nothing can be sent; then what lies in it unread wakes the client, and so do descriptors that come with the
+   answer. Whether the client has taken earlier ones can't be told once there is a packet behind them. */
 static void wake(struct thread *thread)
 {
     const uint32_t none = 0;
-    if (atomic_load(&thread->page->is_long))
-        packet_send(thread->link.fd, &none, sizeof none, NULL, 0, MSG_DONTWAIT);
-    else
+    if (!atomic_load(&thread->page->is_long)) {
         syscall(SYS_futex, &thread->page->state, FUTEX_WAKE, 1, NULL, NULL, 0);
+    } else if (!thread->answer.descriptors) {
+        flight_look(thread);
+        packet_send(thread->link.fd, &none, sizeof none, NULL, 0, MSG_DONTWAIT);
+    }
 }
 
 /* The state is set and then it is looked how the client waits; there it's the other way round, so that one of the two sees the
@@ -200,10 +203,9 @@ static void exit_thread(struct thread *thread)
 
 static int give_doorbell(struct thread *thread)
 {
-    uint32_t count = 1;
     if (!doorbell_make(thread))
         return EMFILE;
-    if (!packet_send(thread->link.fd, &count, sizeof count, &thread->doorbell_end, 1, MSG_DONTWAIT))
+    if (!flight_send(thread, &thread->doorbell_end, 1))
         return EAGAIN;
     thread->answer.descriptors = 1;
     return 0;
@@ -226,6 +228,7 @@ static int do_request(struct thread *thread, const struct page_request *request)
     case PAGE_DOORBELL:
         return give_doorbell(thread);
     case PAGE_PLACE:
+        flight_look(thread);
         return parcel_place(thread, request->stream_size), 0;
     default:
         return EINVAL;

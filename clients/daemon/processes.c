@@ -385,47 +385,63 @@ static void let_go_of_sent(struct process *process, uint32_t op, int *fds, uint3
         descriptor_close(&fds[i]);
 }
 
-/* Does what a packet asks for. */
-static enum answered answer_control(struct process *process, const struct control_request *request)
+/* Does what a packet asks for; descriptors that go with the answer may go. */
+static enum answered do_control(struct process *process, const struct control_request *request, struct control_answer *answer, int fds[3])
 {
-    struct control_answer answer = {0};
-    int fds[3] = {-1, -1, -1};
-    if (request->version != PROTOCOL_VERSION)
-        return UNANSWERED;
     switch (request->op) {
     case CONTROL_OPEN:
-        answer.error = open_device(process, request);
-        if (answer.error == HANDED_OVER || answer.error == UNKNOWN)
-            return answer.error == UNKNOWN ? UNANSWERED : GONE;
-        break;
+        answer->error = open_device(process, request);
+        return answer->error == UNKNOWN ? UNANSWERED : answer->error == HANDED_OVER ? GONE : ANSWERED;
     case CONTROL_LOOK:
-        answer.error = !memchr(request->device, 0, sizeof request->device) || !device_is_there(process->daemon, request->device) ? ENOENT : 0;
-        break;
+        answer->error = !memchr(request->device, 0, sizeof request->device) || !device_is_there(process->daemon, request->device) ? ENOENT : 0;
+        return ANSWERED;
     case CONTROL_MAP:
-        answer.error = map_window(process, request);
-        answer.size = process->window.size;
-        answer.descriptors = !answer.error;
+        answer->error = map_window(process, request);
+        answer->size = process->window.size;
         fds[0] = process->window.fd;
-        break;
+        return ANSWERED;
     case CONTROL_MAX_THREADS:
         process->max_threads = request->size > UINT32_MAX ? UINT32_MAX : (uint32_t)request->size;
-        break;
+        return ANSWERED;
     case CONTROL_SPAM:
-        answer.error = set_spam(process, request->size != 0);
-        break;
+        answer->error = set_spam(process, request->size != 0);
+        return ANSWERED;
     case CONTROL_THREAD:
-        answer.error = thread_join(process, request->size, fds);
-        answer.descriptors = answer.error ? 0 : 3;
-        break;
+        answer->error = thread_join(process, request->size, fds);
+        return ANSWERED;
     case CONTROL_RING:
-        answer.error = open_ring(process, request, &answer, fds);
-        answer.descriptors = !answer.error;
-        break;
-    case CONTROL_STATE:
-        return answer_state(process, request) ? ANSWERED : UNANSWERED;
+        answer->error = open_ring(process, request, answer, fds);
+        return ANSWERED;
     default:
         return UNANSWERED;
     }
+}
+
+/* How many descriptors go with the answer to a request that is done. */
+static uint32_t descriptors_with(uint32_t op)
+{
+    return op == CONTROL_THREAD ? 3 : op == CONTROL_MAP || op == CONTROL_RING;
+}
+
+/* Who hasn't taken the descriptors of its latest answer gets none. */
+static enum answered answer_control(struct process *process, const struct control_request *request)
+{
+    struct control_answer answer = {.descriptors = descriptors_with(request->op)};
+    int fds[3] = {-1, -1, -1};
+    if (request->version != PROTOCOL_VERSION)
+        return UNANSWERED;
+    if (request->op == CONTROL_STATE)
+        return answer_state(process, request) ? ANSWERED : UNANSWERED;
+    if (answer.descriptors && process->has_sent && !flight_is_taken(process->control.fd)) {
+        answer = (struct control_answer){.error = EMFILE};
+    } else {
+        enum answered answered = do_control(process, request, &answer, fds);
+        if (answered != ANSWERED)
+            return answered;
+    }
+    if (answer.error)
+        answer.descriptors = 0;
+    process->has_sent = process->has_sent || answer.descriptors;
     bool is_sent = packet_send(process->control.fd, &answer, sizeof answer, fds, answer.descriptors, MSG_DONTWAIT);
     let_go_of_sent(process, request->op, fds, answer.descriptors);
     return is_sent ? ANSWERED : UNANSWERED;

@@ -162,7 +162,7 @@ static void send_landing(struct thread *thread)
     thread->page->parcel = landing->parcel;
     for (uint32_t i = 0; i < landing->count; i++)
         thread->page->is_of_array[i] = !landing->is_wide[i];
-    if (packet_send(thread->link.fd, &landing->count, sizeof landing->count, landing->ticket->fds, landing->count, MSG_DONTWAIT))
+    if (flight_send(thread, landing->ticket->fds, landing->count))
         thread->answer.descriptors = landing->count;
     ticket_free(landing->ticket); /* the places stay, for the numbers */
     landing->ticket = NULL;

@@ -217,6 +217,7 @@ void thread_free(struct thread *thread)
     list_remove(&thread->in_seatless);
     list_remove(&thread->in_process);
     owed_end(thread);
+    flight_end(thread);
     give_share(thread->process->account);
     thread->process->thread_count--;
     free(thread);

@@ -5,6 +5,7 @@ import resource
 import time
 
 from crowds import let_others_in
+from rings import asked, shares_in
 from stage import Stage, expect, open_files, resident, tail
 from suite import figures, test
 
@@ -108,6 +109,47 @@ def set_aside(build):
         expect("the device ends" not in stage.daemon.printed(), f"the daemon: {tail(stage.daemon.printed())}")
         serves(stage, build)
     return f"the owner of {taken:.0f} watched objects has ended, and others are served"
+
+
+# threads of a client that never takes descriptors, and how many parcels with as many as a packet takes it sends each of them
+UNTAKING, UNTAKEN = 12, 8
+# of a packet
+DESCRIPTORS = 253
+# a daemon of that user, who has so many descriptors, and whom it serves
+AS_USER = ["sh", "-c", 'chmod 777 "${3%/*}" && exec setpriv --reuid=4000 --regid=4000 --clear-groups prlimit --nofile=4096 "$@"', "sh"]
+
+
+@test("raw untaken descriptors", plain_only=True)
+def untaken(build):
+    """Of descriptors that a client doesn't take from its links one packet lies in each, in its share; and others get theirs."""
+    with Stage(build) as stage:
+        told = stage.run([build.fuzz("untaken"), DEVICES[0], str(UNTAKING), str(UNTAKEN)], client=False)
+        seen = figures(told)
+        expect(DESCRIPTORS <= seen["untaken"] and seen["most"] <= DESCRIPTORS and "let in" in told, told)
+    if os.geteuid():
+        return f"{told}; only root can have a daemon of another user"
+    with Stage(build, under=AS_USER, words=["--mode", "666"]) as stage:
+        newcomer = stage.run([build.fuzz("untaken"), DEVICES[0], str(UNTAKING), str(UNTAKEN), "4001", "4002"], client=False)
+        expect("let in" in newcomer, newcomer)
+    return f"{told}; of another user's daemon {newcomer}"
+
+
+@test("raw told shares", plain_only=True)
+def told_shares(build):
+    """What one has taken, and was refused, is told of it, of its user and of its account, until it is gone."""
+    with Stage(build, under=["prlimit", f"--as={LITTLE}"]) as stage:
+        greedy, _ = take_all(stage, build, "calls")
+        shares = shares_in(asked(build, stage, ["--state", DEVICES[0]]))
+        calls, user = {whose: of["calls"] for whose, of in shares.items() if "calls" in of}, os.geteuid()
+        whose = {f"account {user}", f"user {user} of account {user}", *(it for it in calls if it.startswith("process "))}
+        expect(whose == set(calls) and len(calls) == 3, f"those that have calls are {set(calls)}")
+        expect(len(set(calls.values())) == 1 and all(calls[f"account {user}"]), f"they have, and were refused, {calls}")
+        greedy.kill()
+        end = time.monotonic() + 20
+        while any("calls" in it for it in shares.values()) and time.monotonic() < end:
+            shares = shares_in(asked(build, stage, ["--state", DEVICES[0]]))
+        expect(not any("calls" in it for it in shares.values()), f"somebody has calls still: {shares}")
+    return "{} calls, {} times refused".format(*calls[f"account {user}"])
 
 
 @test("raw fair greed")

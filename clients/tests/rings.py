@@ -21,6 +21,8 @@ from recordings import contents, neighbours
 from stage import Failed, Stage, expect, tail
 from suite import figures, test
 
+# what `--state` prints last, of an account, of a user or of a process
+SHARES = re.compile(r"(account \d+|user \d+ of account \d+|process \d+ of user \d+) has (\w+ \d+(?: \(\d+ refused\))?(?:, \w+ \d+(?: \(\d+ refused\))?)*)")
 # what `--state` prints of a process, of a thread, of a handle and of a buffer
 PROCESS = re.compile(r"proc (\d+) (.*): euid \d+, window \d+, \d+ threads, of .*")
 THREAD = re.compile(r"  thread (\d+) (.*): seat \d+(?:, .*)?")
@@ -230,6 +232,13 @@ def asked(build, stage, words):
     return done.stdout
 
 
+def shares_in(told):
+    """By whose they are, as `--state` has it, how much is taken of each share, and how often it was refused."""
+    lines = [SHARES.fullmatch(it) for it in told.splitlines()]
+    each = re.compile(r"(\w+) (\d+)(?: \((\d+) refused\))?")
+    return {it[1]: {name: (int(taken), int(refused or 0)) for name, taken, refused in each.findall(it[2])} for it in lines if it}
+
+
 def calls_in(lines):
     return sum(", calls 1, the innermost from step " in it for it in lines)
 
@@ -239,7 +248,7 @@ def threads_of(told):
     processes, threads, pid = {}, {}, None
     for line in told.splitlines()[1:]:
         found = PROCESS.fullmatch(line) or THREAD.fullmatch(line)
-        expect(found or HANDLE.fullmatch(line) or BUFFER.fullmatch(line), f"a line of another kind: {line}")
+        expect(found or HANDLE.fullmatch(line) or BUFFER.fullmatch(line) or SHARES.fullmatch(line), f"a line of another kind: {line}")
         if found and found.re is PROCESS:
             pid = int(found[1])
             processes[pid] = found
