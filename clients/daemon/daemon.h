@@ -101,6 +101,10 @@ struct payer {
     struct list costly;    /* its clients that want a costly turn */
     struct list in_costly; /* among those that have such */
     uint64_t rests_until;  /* it has no costly turn before */
+    uint64_t recorded;     /* bytes that its turns have recorded beyond what it may .. */
+    uint64_t recorded_at;  /* .. as of then */
+    uint64_t waits_until;  /* it has no turn at all before, since these are too many */
+    bool is_told;
 };
 
 struct user {
@@ -183,6 +187,13 @@ static inline void turns_count_step(struct turns *turns)
 void turns_note_time(struct turns *turns);
 /* The time, of a step that was made in this turn. */
 uint64_t turns_read_clock(struct turns *turns);
+/* How much a recording may take: its account waits whose turns record more than its share of that. */
+struct recording {
+    uint64_t left;     /* bytes of the disk */
+    bool is_pressed;   /* more waits to be written than half of what can */
+};
+/* So many bytes are recorded for a step of this turn, which was made at a time. The account that has to wait for the first time, or NULL. */
+const struct payer *turns_count_recorded(struct turns *turns, uint64_t bytes, const struct recording *recording, uint64_t time);
 /* Whether this turn has had its time: what isn't done by then goes on with the next one. */
 bool turns_is_over(struct turns *turns);
 /* Whether it has made all the steps that it may, whatever time they took. */
@@ -333,6 +344,8 @@ struct recorder *recorder_begin(const char *path, int files[TRACKS], const struc
 /* The bytes will be in the files behind all before them, a second later at most; those of no file aren't looked at. False where the
    recording has broken off, which is told: then nothing may be appended any more. */
 bool recorder_append(struct recorder *recorder, const struct span spans[TRACKS]);
+/* How much it may take from now on. */
+struct recording recorder_look(const struct recorder *recorder);
 /* It breaks off here, since what follows can't be had. */
 void recorder_break_off(struct recorder *recorder, const char *why);
 /* Waits until all is written, while the disk takes something, puts these bytes in the place of the journal's first, and closes the files.
@@ -377,8 +390,9 @@ extern uint64_t narrow_most;
 
 /* Makes the journal of a device; closed it has to be in either case. The files that it uses are -1 then. */
 bool journal_open(struct journal *journal, struct device *device, hullpippin_live *live, uint32_t seats);
-/* Appends the latest step's entry, and when it was made. A journal that can't have it breaks off there, and has no more. */
-void journal_append(struct journal *journal, hullpippin_live *live, uint64_t time);
+/* Appends the latest step's entry, and when it was made: how many bytes that were. A journal that can't have it breaks off there, and has
+   no more. */
+size_t journal_append(struct journal *journal, hullpippin_live *live, uint64_t time);
 /* From the next step on the seat is that thread's of a process; NULL: nobody's. */
 void journal_note_seat(struct journal *journal, hullpippin_live *live, uint32_t seat, pid_t pid, const struct name *name);
 /* Puts the number of entries right, and closes the file. Whether it has all of them. */

@@ -136,6 +136,20 @@ static void count_step(struct engine *engine)
     turns_count_step(&engine->loop.turns);
 }
 
+/* Of a recording nobody has more than a share: who asks for more waits, and all others' steps find room there. What is sent counts for who
+   sends it, also once more as it is read. */
+static void record(struct engine *engine, const struct step *step, uint64_t time)
+{
+    size_t size = journal_append(&engine->journal, &engine->live, time);
+    if (!size || step->kind != RING_COMMAND)
+        return;
+    const struct recording recording = recorder_look(engine->journal.recorder);
+    const struct payer *payer = turns_count_recorded(&engine->loop.turns, 2 * size, &recording, time);
+    if (payer)
+        log_line("%s: account %llu records more than its share of %llu MiB that are left, and has to wait", engine->journal.path,
+                 (unsigned long long)payer->account, (unsigned long long)recording.left >> 20);
+}
+
 /* Keeps what was done, for who asks later and who looks now. */
 static void tell_step(struct engine *engine, const struct step *step)
 {
@@ -143,7 +157,7 @@ static void tell_step(struct engine *engine, const struct step *step)
         return;
     uint64_t time = turns_read_clock(&engine->loop.turns);
     if (engine->journal.recorder)
-        journal_append(&engine->journal, &engine->live, time);
+        record(engine, step, time);
     if (engine->ring.heading)
         ring_put(engine, step, time);
 }

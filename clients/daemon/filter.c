@@ -51,6 +51,7 @@ static const uint32_t allowed[] = {
     SYS_close,
     SYS_dup3,
     SYS_fstat,
+    SYS_fstatfs,
     SYS_newfstatat,
     SYS_statx,
     SYS_readlinkat,

@@ -115,14 +115,15 @@ static size_t fetch(struct journal *journal, hullpippin_live *live)
     return 0;
 }
 
-void journal_append(struct journal *journal, hullpippin_live *live, uint64_t time)
+size_t journal_append(struct journal *journal, hullpippin_live *live, uint64_t time)
 {
     if (!journal->recorder || journal->has_broken_off)
-        return;
+        return 0;
     uint64_t spelled = htole64(time);
     size_t size = fetch(journal, live);
     const struct span spans[TRACKS] = {{&spelled, sizeof spelled}, {NULL, 0}, {journal->entry, size}};
     journal->has_broken_off = !size || !recorder_append(journal->recorder, spans);
+    return sizeof spelled + size;
 }
 
 /* The longest line without its name: a number of twenty digits, two of ten, one of five, and what is between them. */

@@ -18,7 +18,9 @@
 #include <stdlib.h>
 #include <string.h>
 #include <sys/mman.h>
+#include <sys/resource.h>
 #include <sys/stat.h>
+#include <sys/vfs.h>
 #include <time.h>
 #include <unistd.h>
 
@@ -32,6 +34,8 @@
 #define ROOM_MILLISECONDS 1000
 /* At its end the daemon waits for so long for a disk that takes nothing. */
 #define END_MILLISECONDS 5000
+/* How often it is asked how much of the disk is left. */
+#define LOOK_MILLISECONDS 500
 
 /* The thread writes, and has no memory of its own. */
 #define STACK_BYTES ((size_t)1 << 18)
@@ -44,6 +48,10 @@ struct output {
 };
 
 struct recorder {
+    _Atomic uint64_t left;   /* bytes that the journal may still have, as far as is known .. */
+    _Atomic size_t unwritten; /* .. and those that wait */
+    uint64_t looked_at;      /* milliseconds: when that was last asked for */
+    uint64_t largest;        /* that a file may be */
     pthread_mutex_t lock; /* held for no longer than it takes to copy an entry, and never while anything is written */
     pthread_cond_t has_more;
     pthread_cond_t has_moved;
@@ -78,6 +86,39 @@ static bool break_off(struct recorder *recorder)
     bool was_whole = !recorder->is_broken;
     recorder->is_broken = true;
     return was_whole;
+}
+
+/* How large a file may become by the daemon's limit, which may be asked for only before the daemon is kept to what it needs (filter.c). */
+static uint64_t largest_file(void)
+{
+    struct rlimit limit;
+    return getrlimit(RLIMIT_FSIZE, &limit) == 0 && limit.rlim_cur != RLIM_INFINITY ? limit.rlim_cur : UINT64_MAX;
+}
+
+/* How much the journal may still have, by its file system and by that limit: a pipe has no bound. */
+static uint64_t left_of(int file, uint64_t largest)
+{
+    struct stat stat;
+    struct statfs disk;
+    if (fstat(file, &stat) || !S_ISREG(stat.st_mode) || fstatfs(file, &disk))
+        return UINT64_MAX;
+    uint64_t free = (uint64_t)disk.f_bavail * (uint64_t)disk.f_bsize, size = (uint64_t)stat.st_size, left = largest > size ? largest - size : 0;
+    return free < left ? free : left;
+}
+
+static void look_at_disk(struct recorder *recorder)
+{
+    uint64_t now = nanoseconds() / 1000000u;
+    if (recorder->looked_at && now - recorder->looked_at < LOOK_MILLISECONDS)
+        return;
+    recorder->looked_at = now;
+    atomic_store_explicit(&recorder->left, left_of(recorder->tracks[TRACK_JOURNAL].file, recorder->largest), memory_order_relaxed);
+}
+
+struct recording recorder_look(const struct recorder *recorder)
+{
+    return (struct recording){.left = atomic_load_explicit(&recorder->left, memory_order_relaxed),
+                              .is_pressed = atomic_load_explicit(&recorder->unwritten, memory_order_relaxed) > RING_ROOM / 2};
 }
 
 /* How many bytes wait to be written, of all tracks. */
@@ -118,6 +159,7 @@ static void move_on(struct recorder *recorder, struct output *track, size_t size
 {
     track->count -= size;
     track->from = track->count ? (track->from + size) % RING_ROOM : 0;
+    atomic_store_explicit(&recorder->unwritten, recorder->tracks[TRACK_JOURNAL].count, memory_order_relaxed);
     pthread_cond_broadcast(&recorder->has_moved);
 }
 
@@ -165,6 +207,7 @@ static void write_track(struct recorder *recorder, struct output *track, size_t 
 static void write_round(struct recorder *recorder)
 {
     size_t sizes[TRACKS];
+    look_at_disk(recorder);
     for (size_t i = 0; i < TRACKS; i++)
         sizes[i] = recorder->tracks[i].count;
     for (size_t i = 0; i < TRACKS; i++)
@@ -242,6 +285,7 @@ static bool start(struct recorder *recorder, const struct span fronts[TRACKS])
     for (size_t i = 0; i < TRACKS; i++)
         if (recorder->tracks[i].file >= 0 && !begin_track(&recorder->tracks[i], fronts[i]))
             return false;
+    look_at_disk(recorder);
     return start_thread(recorder);
 }
 
@@ -249,7 +293,7 @@ struct recorder *recorder_begin(const char *path, int files[TRACKS], const struc
 {
     struct recorder *recorder = malloc(sizeof *recorder);
     if (recorder) {
-        *recorder = (struct recorder){.path = path, .lock = PTHREAD_MUTEX_INITIALIZER, .has_more = PTHREAD_COND_INITIALIZER,
+        *recorder = (struct recorder){.path = path, .largest = largest_file(), .lock = PTHREAD_MUTEX_INITIALIZER, .has_more = PTHREAD_COND_INITIALIZER,
                                       .has_moved = PTHREAD_COND_INITIALIZER};
         for (size_t i = 0; i < TRACKS; i++) {
             recorder->tracks[i].file = files[i];
@@ -300,6 +344,7 @@ static void put_all(struct recorder *recorder, const struct span spans[TRACKS])
         put(&recorder->tracks[i], spans[i]);
         after += spans[i].size;
     }
+    atomic_store_explicit(&recorder->unwritten, recorder->tracks[TRACK_JOURNAL].count, memory_order_relaxed);
     if (!before || (before < PIECE && after >= PIECE))
         pthread_cond_signal(&recorder->has_more);
 }

@@ -31,6 +31,16 @@
 /* .. where two others were about so long ago at most. So long, too, a client that has had one is costly. */
 #define MEMORY_NANOSECONDS UINT64_C(50000000)
 
+/* Of what is left for a recording an account may have such a part at once, and another one each second, however little that is; and while
+   much waits to be written no more than so many bytes. It waits for so long at a time, in which the disk may have taken them. */
+#define PART_AT_ONCE 64u
+#define PART_OF_SECOND 1024u
+#define LEAST_AT_ONCE (UINT64_C(1) << 20)
+#define LEAST_OF_SECOND (UINT64_C(64) << 10)
+#define PRESSED_AT_ONCE (UINT64_C(8) << 20)
+#define PRESSED_OF_SECOND (UINT64_C(4) << 20)
+#define WAIT_NANOSECONDS UINT64_C(1000000000)
+
 static uint64_t read_clock(clockid_t clock)
 {
     struct timespec now;
@@ -75,6 +85,8 @@ bool turns_begin(struct turns *turns)
     return turns->ending != NULL;
 }
 
+static void free_payers(struct list *bucket);
+
 void turns_end(struct turns *turns)
 {
     if (turns->latest)
@@ -82,6 +94,8 @@ void turns_end(struct turns *turns)
     if (turns->ending)
         client_release(turns->ending);
     turns->latest = turns->ending = NULL;
+    for (size_t i = 0; i < TURNS_BUCKETS && turns->by_account[i].next; i++)
+        free_payers(&turns->by_account[i]);
 }
 
 /* --- Who there is. --- */
@@ -97,29 +111,52 @@ static struct payer *find_payer(struct turns *turns, uint64_t account)
     return NULL;
 }
 
-static struct payer *hold_payer(struct turns *turns, uint64_t account)
+static struct payer *new_payer(struct turns *turns, uint64_t account)
 {
-    struct payer *payer = find_payer(turns, account);
-    if (!payer && !(payer = calloc(1, sizeof *payer)))
+    struct payer *payer = calloc(1, sizeof *payer);
+    if (!payer)
         return NULL;
-    if (!payer->references++) {
-        payer->account = account;
-        begin_queuer(&payer->queuer, &turns->all);
-        list_begin(&payer->costly);
-        list_begin(&payer->in_costly);
-        list_append(&turns->by_account[account % TURNS_BUCKETS], &payer->in_bucket);
-    }
+    payer->account = account;
+    begin_queuer(&payer->queuer, &turns->all);
+    list_begin(&payer->costly);
+    list_begin(&payer->in_costly);
+    list_append(&turns->by_account[account % TURNS_BUCKETS], &payer->in_bucket);
     return payer;
 }
 
-static void release_payer(struct payer *payer)
+static struct payer *hold_payer(struct turns *turns, uint64_t account)
 {
-    if (--payer->references)
-        return;
+    struct payer *payer = find_payer(turns, account);
+    payer = payer ? payer : new_payer(turns, account);
+    if (payer)
+        payer->references++;
+    return payer;
+}
+
+static void free_payer(struct payer *payer)
+{
     list_remove(&payer->queuer.in_ring);
     list_remove(&payer->in_costly);
     list_remove(&payer->in_bucket);
     free(payer);
+}
+
+/* Who has had to wait for what it has recorded has to so also where it comes anew. */
+static void release_payer(struct payer *payer)
+{
+    if (!--payer->references && !payer->is_told)
+        free_payer(payer);
+}
+
+/* Those that nobody holds. */
+static void free_payers(struct list *bucket)
+{
+    for (struct list *entry = bucket->next, *next; entry != bucket; entry = next) {
+        struct payer *payer = container_of(entry, struct payer, in_bucket);
+        next = entry->next;
+        if (!payer->references)
+            free_payer(payer);
+    }
 }
 
 static struct user *find_user(struct turns *turns, const struct payer *payer, uid_t uid)
@@ -245,13 +282,15 @@ static void note_recent(struct turns *turns, const struct client *client, uint64
 /* In how many nanoseconds the client may have a costly turn. */
 static uint64_t due_in(const struct turns *turns, const struct client *client, uint64_t now)
 {
-    uint64_t rests = client->user->payer->rests_until, company = company_until(turns, client), until = rests < company ? rests : company;
+    const struct payer *payer = client->user->payer;
+    uint64_t company = company_until(turns, client), until = payer->rests_until < company ? payer->rests_until : company;
+    until = payer->waits_until > until ? payer->waits_until : until;
     return until > now ? until - now : 0;
 }
 
 static bool is_costly(const struct turns *turns, const struct client *client)
 {
-    return client->costly_until > turns->now;
+    return client->costly_until > turns->now || client->user->payer->waits_until > turns->now;
 }
 
 bool turns_may_make(struct turns *turns, uint64_t price)
@@ -278,6 +317,38 @@ static struct client *next_costly(const struct turns *turns)
             return client;
     }
     return NULL;
+}
+
+/* --- What turns record. --- */
+
+static uint64_t within(uint64_t number, uint64_t least, uint64_t most)
+{
+    return number < least ? least : number > most ? most : number;
+}
+
+/* How much of a second is what an account may have of so many bytes in each. */
+static uint64_t time_of(uint64_t bytes, uint64_t of_second)
+{
+    return (uint64_t)((double)bytes / (double)of_second * 1e9);
+}
+
+const struct payer *turns_count_recorded(struct turns *turns, uint64_t bytes, const struct recording *recording, uint64_t time)
+{
+    struct payer *payer = turns->latest ? turns->latest->user->payer : NULL;
+    if (!payer || turns->latest == turns->ending)
+        return NULL;
+    uint64_t at_once = within(recording->left / PART_AT_ONCE, LEAST_AT_ONCE, recording->is_pressed ? PRESSED_AT_ONCE : UINT64_MAX);
+    uint64_t of_second = within(recording->left / PART_OF_SECOND, LEAST_OF_SECOND, recording->is_pressed ? PRESSED_OF_SECOND : UINT64_MAX);
+    uint64_t paid = (uint64_t)((double)(time - payer->recorded_at) * 1e-9 * (double)of_second);
+    payer->recorded = (payer->recorded > paid ? payer->recorded - paid : 0) + bytes;
+    payer->recorded_at = time;
+    if (payer->recorded <= at_once)
+        return NULL;
+    uint64_t waits = time_of(payer->recorded - at_once, of_second);
+    payer->waits_until = time + (waits < WAIT_NANOSECONDS ? waits : WAIT_NANOSECONDS);
+    bool was_told = payer->is_told;
+    payer->is_told = true;
+    return was_told ? NULL : payer;
 }
 
 /* --- Who wants a turn. --- */

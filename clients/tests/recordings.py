@@ -15,6 +15,7 @@ import threading
 import time
 from contextlib import contextmanager
 
+from crowds import let_others_in
 from journals import Journal, Times, Who, attached
 from raw_tests import DEVICE, refuses
 from stage import NARROW, Stage, expect, tail
@@ -330,6 +331,39 @@ class Reader(threading.Thread):
         while len(some) < SLOW and (more := os.read(self.end, SLOW - len(some))):
             some += more
         return some
+
+
+# bytes that a recording may have, the part of them that an account may have each second, and how often that while it's looked at, since
+# nobody waits for longer than a second
+BOUND, PART, TIMES = 256 << 20, 1024, 3
+
+
+def grown(stage, seconds):
+    """Bytes that a recording gets in each second."""
+    size, begun = os.path.getsize(stage.journal), time.monotonic()
+    time.sleep(seconds)
+    return (os.path.getsize(stage.journal) - size) / (time.monotonic() - begun)
+
+
+@test("raw share of a recording", plain_only=True)
+def share(build):
+    """Who makes steps as fast as it may records its share of what is left, and then waits; others are served, and recorded."""
+    with Stage(build, journal=DEVICE, wide=True, under=["prlimit", f"--fsize={BOUND}"]) as stage:
+        let_others_in(stage)
+        others = ["4001"] if not os.geteuid() else []
+        stage.start([build.fuzz("rings"), "threads", "8", DEVICE, *others], client=False).wait_for("ready", 30)
+        end = time.monotonic() + 90
+        while "records more than its share" not in stage.daemon.printed():
+            expect(stage.daemon.runs() and time.monotonic() < end, f"nobody has to wait: {tail(stage.daemon.printed())}")
+            time.sleep(0.1)
+        had = os.path.getsize(stage.journal)
+        each = grown(stage, 3)
+        calls = figures(stage.run([build.fuzz("witness"), "2"])) if others else {"calls": 1}
+        expect("broke off" not in stage.daemon.printed(), f"the recording broke off: {tail(stage.daemon.printed())}")
+        stage.journal = None  # it has one command again and again, and takes a reader longer than it took to be made
+    told = f"{had >> 20} MiB, then {each / 2**20:.1f} each second; {calls['calls']:.0f} calls of others meanwhile"
+    expect(each <= TIMES * BOUND / PART and calls["calls"] > 0, told)
+    return told
 
 
 def end_with(stage, status, seconds=30):
