@@ -395,7 +395,7 @@ mod tests {
         ];
         assert_eq!(names("uint32_t "), ours.map(spelled));
         assert!(PROTOCOL.contains("#define STATE_ROOM 16u") && PROTOCOL.contains("#define STATE_UNREAD 16u"));
-        assert!(PROTOCOL.contains("{ STATE_PROCESS = 1, STATE_THREAD, STATE_HANDLE, STATE_BUFFER };"));
+        assert!(PROTOCOL.contains("{ STATE_PROCESS = 1, STATE_THREAD, STATE_HANDLE, STATE_BUFFER, STATE_SHARE };"));
         let flags = [MANAGER, DETECTS_SPAM, LOOPS, WAITS, ONE_WAY, HANDED, CALL];
         let names = ["MANAGER", "DETECTS_SPAM", "LOOPS", "WAITS", "ONE_WAY", "HANDED", "CALL"];
         for (flag, name) in flags.iter().zip(names) {
