@@ -52,6 +52,17 @@ fn kept_recordings_are_lawful() {
     assert_eq!(lawful("told"), ("2 processes, 4 threads, 33 steps: lawful, with notices".into(), Some(0)));
 }
 
+/// Raw clients with small counts, on Linux 7.3's driver.
+#[test]
+fn raw_clients_on_a_newer_driver_are_lawful() {
+    for name in ["latency-5", "nested-3", "oneway-20", "parcels-100", "pool-3", "many-2-2-4", "many-3-2-4"] {
+        let (told, status) = verdict(&recording(name), &[]);
+        assert!(told.ends_with(" steps: lawful") && status == Some(0), "{name}: {told}");
+    }
+    let (told, status) = verdict(&recording("two_opens-2"), &[]);
+    assert_eq!((told.as_str(), status), ("6 processes, 7 threads, 106 steps: lawful, with own_pid", Some(0)));
+}
+
 #[test]
 fn without_the_difference_that_it_needs_one_has_no_order() {
     let (told, status) = verdict(&recording("told"), &["--ways", "cleared,order"]);
