@@ -2,8 +2,8 @@
 
 ghost use Rattle.bd_layout.specs.{Apart.{LandsWhole}, Carried.{CarriesWhatWasSent}, Descriptors.{HasAPlaceForEach}, Linux.{DriverTakesTheSame}};
 
-/// What goes on is the data, the offsets, of each buffer as many bytes as its object says, and zeros. Whatever else lay
-/// in the sender's room for buffers stays behind.
+/// Only what the sender put in goes on: data and offsets, so much of each buffer as its object tells, and zeros between.
+/// Whatever else lay in the sender's room for buffers stays behind.
 pub fn layouts_carry_what_was_sent()
     ensures { CarriesWhatWasSent }
 {}

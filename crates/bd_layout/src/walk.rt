@@ -111,8 +111,8 @@ impl Layout {
     }
 }
 
-/// Lays out a parcel that a client sends: its data and the bytes of its offsets, the room for its buffers, and how many
-/// descriptors came with it. `None` where Linux's driver would refuse it for a PTR, FD or FDA object.
+/// Lays out a parcel of a client's: data, offsets as bytes, and the room that its buffers are in. `count` descriptors were
+/// sent along. `None` for what Linux's driver refuses because of a PTR, FD or FDA object.
 pub fn lay_out(
     alloc: Global,
     body: &[u8],
