@@ -38,6 +38,7 @@ impl Spans {
         requires { size ≤ 524288 }
         ensures tiles { (free : ℕ → Bool) → ((u : ℕ) → free u ≡ Bool.true) → spec.Tiles free result }
         ensures tail { result.tail ≡ 0 }
+        ensures size { result.size ≡ size }
     {
         Spans {
             size,
