@@ -101,4 +101,4 @@ FindsBy Is old new false = Is None × (new ≡ old)
 
 -- P holds of the space after each history that the engine follows.
 abbrev pub InSpace : OwnedLive → (Space → Type 0) → Type 0
-InSpace x P = (h : History) → Follows x.live h → P (space_after h)
+InSpace x P = (h : History) → Follows x.bridge.engine.live h → P (space_after h)
