@@ -4,10 +4,13 @@ use Rattle.std.proofs.lemmas.List.{append-nil, length-append}
 use Rattle.std.proofs.lemmas.Option.{none-some}
 use Rattle.bd_space.specs.Histories.{History, history_of}
 use Rattle.bd_space.specs.declared.{record.Record.{Record}, step.Entry.{Entry}}
-use Rattle.bd_journal.specs.declared.fault.ReadError.{ReadError}
-use Rattle.bd_journal.specs.declared.fault.ReadError.TheVariants.{Malformed, Memory}
+use Rattle.bd_spelling.specs.declared.fault.ReadError.{ReadError}
+use Rattle.bd_spelling.specs.declared.fault.ReadError.TheVariants.{Malformed, Memory}
 use Rattle.bd_journal.specs.declared.steps.JournalReader.{JournalReader}
-use Rattle.bd_journal.specs.{Cut.{HasHeading, IsCut, IsUncut, IsUnread, behind}, Reading.{Fails}, Spelling.{Tells}, Steps.{bytes_left, cut_left, entries_left, record_left, record_of, seats_of, whole_left, with_next, with_whole}}
+use Rattle.bd_spelling.specs.Reading.{Fails}
+use Rattle.bd_journal.specs.Cut.{HasHeading, IsCut, IsUncut, IsUnread, behind}
+use Rattle.bd_journal.specs.Spelling.{Tells}
+use Rattle.bd_journal.specs.Steps.{bytes_left, cut_left, entries_left, record_left, record_of, seats_of, whole_left, with_next, with_whole}
 use Rattle.bd_audit.specs.declared.{judge.Judge.{Judge}, journals.Judgment.{Judgment}}
 use Rattle.bd_audit.specs.{Judging.{HasJudged, IsStop}, Journals.{HasSeenAll, HasSeenMore, HasSeenWhole, JudgesCut, JudgesJournal, followed_by}, Replays.{with_entry}}
 

@@ -3,8 +3,10 @@
 ghost use Rattle.std.specs.Prelude.{◌≡◌, [], None, IfOk, IfErr};
 ghost use Rattle.bd_engine.specs.Refusals.{IsLiveSeats};
 ghost use Rattle.bd_space.specs.Histories.{history_of};
-ghost use Rattle.bd_journal.specs.{Cut.{IsUncut, IsUnread}, Reading.{Fails}, Steps.{entries_left, seats_of, whole_left}};
-ghost use Rattle.bd_journal.specs.declared.fault.ReadError.TheVariants.{Memory};
+ghost use Rattle.bd_spelling.specs.Reading.{Fails};
+ghost use Rattle.bd_journal.specs.Cut.{IsUncut, IsUnread};
+ghost use Rattle.bd_journal.specs.Steps.{entries_left, seats_of, whole_left};
+ghost use Rattle.bd_spelling.specs.declared.fault.ReadError.TheVariants.{Memory};
 ghost use Rattle.bd_audit.specs.{Judging.{HasJudged}, Journals.{HasSeenAll, HasSeenWhole, JudgesCut, JudgesJournal}};
 
 use crate::judge::Judge;

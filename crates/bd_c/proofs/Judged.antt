@@ -3,8 +3,8 @@ use Rattle.std.proofs.Common.{◌≡◌, List, ℕ, subst}
 use Rattle.bd_space.specs.declared.record.Record.{Record}
 use Rattle.bd_journal.specs.Cut.{HasHeading, IsUnread}
 use Rattle.bd_journal.specs.Spelling.{Tells as IsJournalOf}
-use Rattle.bd_journal.specs.declared.fault.ReadError.{ReadError}
-use Rattle.bd_journal.specs.declared.fault.ReadError.TheVariants.{Malformed, Memory}
+use Rattle.bd_spelling.specs.declared.fault.ReadError.{ReadError}
+use Rattle.bd_spelling.specs.declared.fault.ReadError.TheVariants.{Malformed, Memory}
 use Rattle.bd_audit.specs.Journals.{IsJudgment, JudgesJournal}
 use Rattle.bd_audit.specs.declared.journals.Judgment.{Judgment}
 use Rattle.bd_c.specs.Journals.{Holds}

@@ -2,7 +2,7 @@
 use Rattle.std.specs.Prelude.{◌≡◌, ◌⊎◌, ℕ, List, Option, Some, None, if◌then◌else◌}
 use Rattle.bd_uapi.specs.declared.command.Command.{Command}
 use Rattle.bd_codec.specs.Spelling.{command_bytes, IsCommand}
-use Rattle.bd_journal.specs.Spelling.{carries}
+use Rattle.bd_spelling.specs.Spelling.{carries}
 use Rattle.bd_space.specs.declared.step.Parcel.{Parcel}
 use Rattle.bd_space.specs.declared.step.Step.{Step}
 use Rattle.bd_space.specs.declared.step.Step.TheVariants as step_of

@@ -3,7 +3,7 @@ use Rattle.std.specs.Prelude.{ℕ, List, [], Option, Some, None}
 use Rattle.bd_space.specs.declared.step.StepAnswer.{StepAnswer}
 use Rattle.bd_space.specs.declared.step.StepAnswer.TheVariants.{Got}
 use Rattle.bd_space.specs.declared.step.Entry.{Entry}
-use Rattle.bd_journal.specs.Spelling.{IsEntry, entry_bytes}
+use Rattle.bd_spelling.specs.Spelling.{IsEntry, entry_bytes}
 use Rattle.bd_c.specs.Parts.{part_of}
 
 abbrev pub part_of_answer : ℕ → StepAnswer → List ℕ

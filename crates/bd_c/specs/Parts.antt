@@ -4,9 +4,9 @@ use Rattle.bd_uapi.specs.declared.fault.Note.{Note}
 use Rattle.bd_space.specs.declared.step.Answer.TheVariants.{Wrote, Got}
 use Rattle.bd_driver.specs.declared.outcome.Outcome.{Outcome}
 use Rattle.bd_driver.specs.declared.outcome.Outcome.TheVariants.{Done}
-use Rattle.bd_journal.specs.Codes.{note_number}
-use Rattle.bd_journal.specs.declared.fault.WriteError.{WriteError}
-use Rattle.bd_journal.specs.declared.fault.WriteError.TheVariants.{Unspellable, Refused}
+use Rattle.bd_spelling.specs.Codes.{note_number}
+use Rattle.bd_spelling.specs.declared.fault.WriteError.{WriteError}
+use Rattle.bd_spelling.specs.declared.fault.WriteError.TheVariants.{Unspellable, Refused}
 use Rattle.bd_c.specs.declared.parts.NoteTold.{NoteTold}
 use Rattle.bd_c.specs.declared.status.Status.{Status}
 use Rattle.bd_c.specs.declared.status.Status.TheVariants as status

@@ -7,7 +7,7 @@ use Rattle.bd_uapi.specs.declared.command.Return.{Return}
 use Rattle.bd_uapi.specs.declared.command.Return.TheVariants as returned
 use Rattle.bd_uapi.specs.declared.fault.Fault.{Fault}
 use Rattle.bd_codec.specs.Spelling.{command_code, command_bytes, return_code, return_bytes}
-use Rattle.bd_journal.specs.Codes.{fault_number}
+use Rattle.bd_spelling.specs.Codes.{fault_number}
 use Rattle.bd_c.specs.declared.spelled.TransactionInC.{TransactionInC}
 use Rattle.bd_c.specs.declared.spelled.CommandInC.{CommandInC}
 use Rattle.bd_c.specs.declared.spelled.ReturnInC.{ReturnInC}

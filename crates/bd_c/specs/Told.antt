@@ -11,7 +11,7 @@ use Rattle.bd_driver.specs.declared.outcome.Outcome.{Outcome}
 use Rattle.bd_driver.specs.declared.outcome.Outcome.TheVariants.{Done, Back, Handed}
 use Rattle.bd_driver.specs.declared.outcome.Why.{Why}
 use Rattle.bd_driver.specs.declared.outcome.Why.TheVariants.{Taken, NoMemory, HistoryFull, Withdrawn}
-use Rattle.bd_journal.specs.Codes.{note_number, cause_number, fault_number}
+use Rattle.bd_spelling.specs.Codes.{note_number, cause_number, fault_number}
 use Rattle.bd_c.specs.declared.answers.Told.{Told}
 
 abbrev pub stop_kind : Option Stop → ℕ

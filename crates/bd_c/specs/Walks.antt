@@ -9,7 +9,7 @@ use Rattle.bd_parcel.specs.declared.fault.WalkFault.TheVariants.{Size, Bad, Unsu
 use Rattle.bd_parcel.specs.Parcels.{offsets_in, supported_types, unsupported_types, is_placed, fault_at, fault_from}
 use Rattle.bd_parcel.specs.Reading.{kind_of, object_at}
 use Rattle.bd_space.specs.Parcels.{cause_of_walk}
-use Rattle.bd_journal.specs.Codes.{cause_number}
+use Rattle.bd_spelling.specs.Codes.{cause_number}
 use Rattle.bd_c.specs.declared.walks.FlatObjectInC.{FlatObjectInC}
 use Rattle.bd_c.specs.declared.walks.WalkInC.{WalkInC}
 

@@ -1,6 +1,7 @@
 //! What holds the tables of an object space from step to step, with its history or without one, and the run of a request.
 #![tactic(auto)]
 
+mod again;
 mod ended;
 mod engine;
 mod live;

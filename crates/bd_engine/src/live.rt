@@ -1,17 +1,18 @@
 //! The live engine: the tables alone. It keeps no history, and hands each entry out.
 
-ghost use Rattle.std.specs.Prelude.{◌≡◌, ◌<◌, true, [], length, IfOk, IfErr, IsTrue, OnOk, OnErr, MatchResult, Ok, Some};
+ghost use Rattle.std.specs.Prelude.{◌≡◌, ◌<◌, true, [], length, IfOk, IfErr, OnOk, OnErr, MatchResult, Some};
 ghost use Rattle.bd_keys.specs.Tables.{Makes, Tells};
 ghost use Rattle.bd_space.specs.Histories as histories;
 ghost use Rattle.bd_space.specs.Histories.{History, HasLivePlace, history_of};
 ghost use Rattle.bd_space.specs.Steps as steps;
-ghost use Rattle.bd_step.specs.{Plain.{IsBrief}, declared.answer.Brief.TheVariants.{Got}};
+ghost use Rattle.bd_step.specs.Plain.{IsBrief, answer_of};
+ghost use Rattle.bd_step.specs.declared.answer.Plain as words;
 ghost use Rattle.bd_engine.specs.{Begun.{refusals}, Follows.{Follows}, Reached.{KeepsTold}};
 ghost use Rattle.bd_engine.specs.Refusals.{FullOnly, MemoryOnly, IsLiveSeats, IsLiveSeatFault};
 
 use crate::tables::HasTables;
 use bd_space::{Entry, Step, StepAnswer};
-use bd_step::{Brief, StepError, Tables};
+use bd_step::{Brief, Keeps, Nothing, StepError, Tables};
 use bd_uapi::Fault;
 use std::alloc::{AllocError, Global};
 
@@ -112,17 +113,17 @@ impl Live {
         tables.calls.refresh_ready();
     }
 
-    // The step of an entry, whose answer is written into it; what was read also to `again`, where both are asked for: an engine with a
-    // history keeps one and hands the other out.
-    pub(crate) fn make(
+    // The step of an entry, whose answer is written into it; what is read is given to `keep` before anything changes.
+    pub(crate) fn make<K: Keeps>(
         &mut self,
         entry: &mut Entry,
-        again: &mut StepAnswer,
-        both: bool,
+        keep: &mut K,
     ) -> Result<Brief, StepError>
-        requires { entry.old.seat < self.old.seats }
+        requires seat { entry.old.seat < self.old.seats }
+        requires plain { (x : words.Plain) → K.kept keep.old (answer_of x) }
         ensures brief { IfOk result (λ x. IsBrief x entry.new.answer) }
-        ensures copied { IsTrue both → result ≡ Ok Got → again.new ≡ entry.new.answer }
+        ensures kept { OnOk result (K.kept keep.new entry.new.answer) }
+        ensures entries { K.entries keep.new ≡ K.entries keep.old }
         ensures seat { entry.new.seat ≡ entry.old.seat }
         ensures step { entry.new.step ≡ entry.old.step }
         ensures answer { OnOk result (Tells (Follows self.old) entry.new.answer
@@ -140,7 +141,7 @@ impl Live {
             return Err(StepError::HistoryFull);
         };
         let tables = &mut *self.tables;
-        match tables.change(entry.seat, &entry.step, both, &mut entry.answer, again) {
+        match tables.change(entry.seat, &entry.step, &mut entry.answer, keep) {
             Ok(brief) => {
                 tables.steps = steps;
                 Ok(brief)
@@ -175,8 +176,7 @@ impl Live {
     {
         let answer = StepAnswer::Exited;
         let mut entry = Entry { seat, step, answer };
-        let mut again = StepAnswer::Exited;
-        match self.make(&mut entry, &mut again, false) {
+        match self.make(&mut entry, &mut Nothing) {
             Ok(_) => Ok(entry),
             Err(why) => Err(why),
         }

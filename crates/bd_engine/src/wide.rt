@@ -9,6 +9,7 @@ ghost use Rattle.bd_step.specs.{Plain.{IsBrief}, declared.answer.Brief.TheVarian
 ghost use Rattle.bd_engine.specs.Refusals.{FullOnly, MemoryOnly, IsLiveSeats, IsLiveSeatFault};
 ghost use Rattle.bd_step.specs.declared.step_error.StepError.TheVariants.{NoMemory};
 
+use crate::again::Again;
 use crate::live::Live;
 use crate::tables::HasTables;
 use bd_space::{Entries, Entry, Record, Step, StepAnswer};
@@ -187,25 +188,25 @@ impl WideEngine {
         // It has as many seats as before.
         ensures seats { self.new.seats ≡ self.old.seats }
     {
-        let mut again = StepAnswer::Exited;
+        let mut again = Again::new();
         match self.step_in_place(seat, step, &mut again) {
-            Ok(brief) => Ok(brief.answer(again)),
+            Ok(brief) => Ok(brief.answer(again.answer)),
             Err(why) => Err(why),
         }
     }
 
-    // Makes one step as `step` does, and answers in brief; what was read is written to `again`. The entry stands in the history before
+    // Makes one step as `step` does, and answers in brief; what was read is copied to `again`. The entry stands in the history before
     // the step is made, so that neither its step nor its answer is moved any more; of a step that is refused it is taken off again.
     #[inline(always)]
     pub(crate) fn step_in_place(
         &mut self,
         seat: u32,
         step: Step,
-        again: &mut StepAnswer,
+        again: &mut Again,
     ) -> Result<Brief, StepError>
         requires { seat < self.old.seats }
         ensures brief { IfOk result (λ x. IsBrief x (steps.step (histories.space_after self.old) seat step).answer) }
-        ensures copied { result ≡ Ok Got → again.new ≡ (steps.step (histories.space_after self.old) seat step).answer }
+        ensures copied { result ≡ Ok Got → again.new.answer ≡ (steps.step (histories.space_after self.old) seat step).answer }
         ensures history { OnOk result (self.new ≡ histories.extended self.old seat step
             (steps.step (histories.space_after self.old) seat step).answer) }
         ensures err { OnErr result (self.new ≡ self.old) }
@@ -221,7 +222,7 @@ impl WideEngine {
         let at = self.entries.len();
         let answer = StepAnswer::Exited;
         self.entries.push_reserved(Entry { seat, step, answer });
-        match self.live.make(&mut self.entries[at], again, true) {
+        match self.live.make(&mut self.entries[at], again) {
             Ok(brief) => {
                 self.live.refresh_ready();
                 Ok(brief)

@@ -7,15 +7,18 @@ use Rattle.std.proofs.lemmas.List.Concat.{flat_map-cons}
 use Rattle.bd_uapi.specs.Bytes.{IsBytes, word}
 use Rattle.bd_space.specs.declared.step.Entry.{Entry}
 use Rattle.bd_space.specs.declared.record.Record.{Record}
-use Rattle.bd_journal.specs.declared.fault.ReadError.{ReadError}
-use Rattle.bd_journal.specs.declared.versions.Version.{Version}
-use Rattle.bd_journal.specs.Spelling.{block, step_bytes, answer_bytes, entry_bytes, heading_in, count_limit, IsRecordSeats, IsSeatsIn, IsEntryIn, Tells}
-use Rattle.bd_journal.specs.Reading.{◌>>=◌, Gives, Heading, word_from, entry_from, heading_from}
+use Rattle.bd_spelling.specs.declared.fault.ReadError.{ReadError}
+use Rattle.bd_spelling.specs.declared.versions.Version.{Version}
+use Rattle.bd_spelling.specs.Spelling.{block, step_bytes, answer_bytes, entry_bytes, IsEntryIn}
+use Rattle.bd_journal.specs.Spelling.{heading_in, count_limit, IsRecordSeats, IsSeatsIn, Tells}
+use Rattle.bd_spelling.specs.Reading.{◌>>=◌, Gives, word_from, entry_from}
+use Rattle.bd_journal.specs.Reading.{Heading, heading_from}
 use Rattle.bd_journal.specs.Steps.{IsFirstWhole}
 use Rattle.bd_journal.specs.Cut.{behind, whole_behind, whole_with, whole_from, cut_in, IsCutIn, IsCut, Continues}
-use Rattle.bd_journal.proofs.FieldLaws.{bind_some, some_is, Takes, Takes_then}
+use Rattle.bd_spelling.proofs.FieldLaws.{bind_some, some_is, Takes, Takes_then}
 use Rattle.bd_journal.proofs.SeatsTold.{seats_in}
-use Rattle.bd_journal.proofs.Laws.{entry_takes, entry_again, heading_takes, heading_again, seats_small}
+use Rattle.bd_spelling.proofs.Laws.{entry_takes, entry_again}
+use Rattle.bd_journal.proofs.Laws.{heading_takes, heading_again, seats_small}
 
 -- ---- entries
 

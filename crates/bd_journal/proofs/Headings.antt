@@ -5,11 +5,13 @@ use Rattle.std.proofs.lemmas.Bool.{leb-true, leb-false}
 use Rattle.bd_uapi.specs.Limits.{most_seats}
 use Rattle.bd_space.specs.declared.step.Entry.{Entry}
 use Rattle.bd_space.specs.declared.record.Record.{Record}
-use Rattle.bd_journal.specs.declared.fault.WriteError.{WriteError}
-use Rattle.bd_journal.specs.declared.fault.WriteError.TheVariants.{Unspellable, Refused}
-use Rattle.bd_journal.specs.declared.versions.Version.TheVariants.{Two, Three}
-use Rattle.bd_journal.specs.Spelling.{has_spam, newest, count_limit, IsRecordSeats, IsSeatsIn, IsEntryWith, IsEntry, IsJournal}
-use Rattle.bd_journal.specs.Writing.{Spells, IsHeading}
+use Rattle.bd_spelling.specs.declared.fault.WriteError.{WriteError}
+use Rattle.bd_spelling.specs.declared.fault.WriteError.TheVariants.{Unspellable, Refused}
+use Rattle.bd_spelling.specs.declared.versions.Version.TheVariants.{Two, Three}
+use Rattle.bd_spelling.specs.Spelling.{has_spam, IsEntryWith, IsEntry}
+use Rattle.bd_journal.specs.Spelling.{newest, count_limit, IsRecordSeats, IsSeatsIn, IsJournal}
+use Rattle.bd_spelling.specs.Writing.{Spells}
+use Rattle.bd_journal.specs.Writing.{IsHeading}
 
 seats_in_newest : (n : ℕ) → IsRecordSeats n → IsSeatsIn (newest n) n
 seats_in_newest n are = by (leb n most_seats) refl

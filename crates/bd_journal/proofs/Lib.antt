@@ -1,12 +1,8 @@
 pub mod Loop
-pub mod Pieces
 pub mod Headings
-pub mod FieldLaws
-pub mod Tags
 pub mod Laws
 pub mod SeatsTold
 pub mod Whole
 pub mod Cuts
 pub mod Unread
 pub mod Stepping
-pub mod Laying

@@ -3,17 +3,18 @@ use Rattle.std.proofs.Common.{◌≡◌, ℕ, zero, suc, Bool, true, false, ◌-
 use Rattle.std.specs.Prelude.{IfOk, IfErr, IsOkAnd, option_map}
 use Rattle.bd_space.specs.declared.step.Entry.{Entry}
 use Rattle.bd_space.specs.declared.record.Record.{Record}
-use Rattle.bd_journal.specs.declared.versions.Version.{Version}
+use Rattle.bd_spelling.specs.declared.versions.Version.{Version}
 use Rattle.bd_journal.specs.declared.steps.JournalReader.{JournalReader}
-use Rattle.bd_journal.specs.declared.fault.ReadError.{ReadError}
-use Rattle.bd_journal.specs.declared.fault.ReadError.TheVariants as errors
+use Rattle.bd_spelling.specs.declared.fault.ReadError.{ReadError}
+use Rattle.bd_spelling.specs.declared.fault.ReadError.TheVariants as errors
 use Rattle.std.proofs.lemmas.Option.{none-some}
 use Rattle.bd_journal.specs.Spelling.{IsRecordSeats, Tells}
-use Rattle.bd_journal.specs.Reading.{◌>>=◌, Fails, Gives, Heading, entry_from, entries_from, record_from, heading_from, journal_in}
+use Rattle.bd_spelling.specs.Reading.{◌>>=◌, Fails, Gives, entry_from, entries_from}
+use Rattle.bd_journal.specs.Reading.{Heading, record_from, heading_from, journal_in}
 use Rattle.bd_journal.specs.Cut.{IsCut, cut_in, whole_behind}
 use Rattle.bd_journal.specs.Steps.{all_from, cut_left, entries_left, record_of, record_left, with_next}
 use Rattle.bd_uapi.specs.Bytes.{IsBytes}
-use Rattle.bd_journal.proofs.FieldLaws.{bind_some, demand_some, some_is}
+use Rattle.bd_spelling.proofs.FieldLaws.{bind_some, demand_some, some_is}
 use Rattle.bd_journal.proofs.Loop.{so_many}
 use Rattle.bd_journal.proofs.Laws.{heading_takes, is_told, journal_takes}
 use Rattle.bd_journal.proofs.Cuts.{is_told as cut_told, whole_found}

@@ -4,9 +4,10 @@ use Rattle.std.specs.Prelude.{IfErr}
 use Rattle.std.proofs.lemmas.Option.{none-some}
 use Rattle.bd_uapi.specs.Bytes.{IsBytes}
 use Rattle.bd_space.specs.declared.record.Record.{Record}
-use Rattle.bd_journal.specs.declared.fault.ReadError.{ReadError}
-use Rattle.bd_journal.specs.declared.fault.ReadError.TheVariants as errors
-use Rattle.bd_journal.specs.Reading.{Gives, Heading, heading_from, journal_in}
+use Rattle.bd_spelling.specs.declared.fault.ReadError.{ReadError}
+use Rattle.bd_spelling.specs.declared.fault.ReadError.TheVariants as errors
+use Rattle.bd_spelling.specs.Reading.{Gives}
+use Rattle.bd_journal.specs.Reading.{Heading, heading_from, journal_in}
 use Rattle.bd_journal.specs.Cut.{HasHeading, IsUncut, IsUnread, cut_in, whole_behind}
 use Rattle.bd_journal.proofs.Laws.{is_told}
 use Rattle.bd_journal.proofs.Cuts.{is_told as cut_told, whole_found}

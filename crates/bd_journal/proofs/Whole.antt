@@ -2,8 +2,8 @@
 use Rattle.std.proofs.Common.{◌≡◌, ℕ, suc, ◌-◌, ◌+◌, ◌≤◌, ◌<◌, List, [], ◌∷◌, ◌++◌, Some, None, refl, sym, ap, ◌∙◌, append_assoc, arith}
 use Rattle.std.proofs.lemmas.List.{append-nil}
 use Rattle.bd_space.specs.declared.step.Entry.{Entry}
-use Rattle.bd_journal.specs.declared.versions.Version.{Version}
-use Rattle.bd_journal.specs.Reading.{entry_from}
+use Rattle.bd_spelling.specs.declared.versions.Version.{Version}
+use Rattle.bd_spelling.specs.Reading.{entry_from}
 use Rattle.bd_journal.specs.Cut.{behind, whole_from}
 
 module _ (v : Version) (seats : ℕ) (front : List Entry) (count i : ℕ) (bytes : List ℕ) (total : List Entry × List ℕ) where

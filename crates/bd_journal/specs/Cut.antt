@@ -3,11 +3,13 @@ use Rattle.std.specs.Prelude.{◌≡◌, ℕ, zero, suc, ◌<◌, List, [], ◌�
 use Rattle.std.specs.List.{flat_map, AllByRecursion}
 use Rattle.bd_space.specs.declared.step.Entry.{Entry}
 use Rattle.bd_space.specs.declared.record.Record.{Record}
-use Rattle.bd_journal.specs.declared.versions.Version.{Version}
-use Rattle.bd_journal.specs.declared.fault.ReadError.{ReadError}
-use Rattle.bd_journal.specs.declared.fault.ReadError.TheVariants as errors
-use Rattle.bd_journal.specs.Spelling.{count_limit, entry_bytes, heading_in, IsSeatsIn, IsEntryIn, Tells}
-use Rattle.bd_journal.specs.Reading.{◌>>=◌, Heading, entry_from, heading_from}
+use Rattle.bd_spelling.specs.declared.versions.Version.{Version}
+use Rattle.bd_spelling.specs.declared.fault.ReadError.{ReadError}
+use Rattle.bd_spelling.specs.declared.fault.ReadError.TheVariants as errors
+use Rattle.bd_spelling.specs.Spelling.{entry_bytes, IsEntryIn}
+use Rattle.bd_journal.specs.Spelling.{count_limit, heading_in, IsSeatsIn, Tells}
+use Rattle.bd_spelling.specs.Reading.{◌>>=◌, entry_from}
+use Rattle.bd_journal.specs.Reading.{Heading, heading_from}
 
 -- these entries before what is read behind them
 abbrev pub behind : List Entry → List Entry × List ℕ → List Entry × List ℕ

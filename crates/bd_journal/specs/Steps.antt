@@ -2,9 +2,9 @@
 use Rattle.std.specs.Prelude.{◌≡◌, ◌<◌, ℕ, List, [], ◌∷◌, length, ◌==◌, Option, Some, None, option_map, if◌then◌else◌}
 use Rattle.bd_space.specs.declared.step.Entry.{Entry}
 use Rattle.bd_space.specs.declared.record.Record.{Record}
-use Rattle.bd_journal.specs.declared.versions.Version.{Version}
+use Rattle.bd_spelling.specs.declared.versions.Version.{Version}
 use Rattle.bd_journal.specs.declared.steps.JournalReader.{JournalReader}
-use Rattle.bd_journal.specs.Reading.{◌>>=◌, entries_from}
+use Rattle.bd_spelling.specs.Reading.{◌>>=◌, entries_from}
 use Rattle.bd_journal.specs.Cut.{behind, whole_from}
 
 -- how many seats the record has, how many entries are still to be read, and from which bytes

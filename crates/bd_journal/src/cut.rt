@@ -3,15 +3,14 @@
 ghost use Rattle.std.specs.Prelude.{◌≡◌, List, ℕ, [], ◌++◌, length, IfOk, IfErr, None, Some};
 ghost use Rattle.bd_space.specs.declared.record.Record.{Record};
 ghost use Rattle.bd_journal.specs.Cut.{Continues, IsCut, IsUncut, cut_in, whole_from};
-ghost use Rattle.bd_journal.specs.Reading.{Gives, heading_from};
-ghost use Rattle.bd_journal.specs.declared.fault.ReadError.TheVariants.{Malformed};
+ghost use Rattle.bd_spelling.specs.Reading.{Gives};
+ghost use Rattle.bd_journal.specs.Reading.{heading_from};
+ghost use Rattle.bd_spelling.specs.declared.fault.ReadError.TheVariants.{Malformed};
 ghost use Rattle.bd_journal.specs.Spelling.{IsRecordSeats, Tells};
 
-use crate::fault::ReadError;
 use crate::heading::heading_at;
-use crate::reading::entry_at;
-use crate::versions::Version;
 use bd_space::{Entries, Entry, Record};
+use bd_spelling::{ReadError, Version, entry_at};
 use std::alloc::Global;
 
 // The entries that are whole, and the bytes behind them. Only memory stops it before those.

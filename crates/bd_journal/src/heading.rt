@@ -1,12 +1,12 @@
 //! The heading of a journal.
 
 ghost use Rattle.std.specs.Prelude.{◌≡◌, IfErr};
-ghost use Rattle.bd_journal.specs.Reading.{Gives, count_from, heading_from, seats_from};
-ghost use Rattle.bd_journal.specs.declared.fault.ReadError.TheVariants.{Malformed};
+ghost use Rattle.bd_spelling.specs.Reading.{Gives};
+ghost use Rattle.bd_journal.specs.Reading.{count_from, heading_from, seats_from};
+ghost use Rattle.bd_spelling.specs.declared.fault.ReadError.TheVariants.{Malformed};
 
-use crate::fault::ReadError;
-use crate::fields::{long_at, word_at};
-use crate::versions::{Version, version_at};
+use crate::versions::{least_seats, most_seats, version_at};
+use bd_spelling::{ReadError, Version, long_at, word_at};
 
 // What stands before the entries, and the bytes behind it.
 #[derive(Drop)]
@@ -25,7 +25,7 @@ fn seats_at(version: Version, bytes: &[u8]) -> Result<(u32, &[u8]), ReadError>
     ensures error { IfErr result (λ e. e ≡ Malformed) }
 {
     let (seats, rest) = word_at(bytes)?;
-    if seats < version.least_seats() || seats > version.most_seats() {
+    if seats < least_seats(version) || seats > most_seats(version) {
         return Err(ReadError::Malformed);
     }
     Ok((seats, rest))

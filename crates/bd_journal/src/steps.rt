@@ -2,17 +2,16 @@
 
 ghost use Rattle.std.specs.Prelude.{◌≡◌, ◌<◌, List, ℕ, length, option_map, Some, IfOk, IfErr, IfSome, IsOkAnd};
 ghost use Rattle.bd_space.specs.declared.{record.Record.{Record}, step.Entry.{Entry}};
-ghost use Rattle.bd_journal.specs.Reading.{Fails, Gives, heading_from};
+ghost use Rattle.bd_spelling.specs.Reading.{Fails, Gives};
+ghost use Rattle.bd_journal.specs.Reading.{heading_from};
 ghost use Rattle.bd_journal.specs.Spelling.{IsRecordSeats, Tells};
 ghost use Rattle.bd_journal.specs.Cut.{IsCut};
 ghost use Rattle.bd_journal.specs.Steps.{IsFirstWhole, bytes_left, count_left, cut_left, entries_left, record_left, seats_of, whole_left, with_next, with_whole};
-ghost use Rattle.bd_journal.specs.declared.fault.ReadError.TheVariants.{Malformed, Memory};
+ghost use Rattle.bd_spelling.specs.declared.fault.ReadError.TheVariants.{Malformed, Memory};
 
-use crate::fault::ReadError;
 use crate::heading::heading_at;
-use crate::reading::entry_at;
-use crate::versions::Version;
 use bd_space::Entry;
+use bd_spelling::{ReadError, Version, entry_at};
 use std::alloc::Global;
 
 // The entry that is whole at the front of these bytes, and the bytes behind it. Only memory stops it.

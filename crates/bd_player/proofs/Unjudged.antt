@@ -4,8 +4,8 @@ use Rattle.std.specs.Prelude.{IfErr}
 use Rattle.bd_space.specs.declared.record.Record.{Record}
 use Rattle.bd_journal.specs.Cut.{HasHeading, IsUncut, IsUnread}
 use Rattle.bd_journal.specs.Spelling.{Tells}
-use Rattle.bd_journal.specs.declared.fault.ReadError.{ReadError}
-use Rattle.bd_journal.specs.declared.fault.ReadError.TheVariants.{Malformed, Memory}
+use Rattle.bd_spelling.specs.declared.fault.ReadError.{ReadError}
+use Rattle.bd_spelling.specs.declared.fault.ReadError.TheVariants.{Malformed, Memory}
 use Rattle.bd_journal.proofs.Cuts.{whole_told}
 use Rattle.bd_audit.specs.Journals.{IsJudgment, JudgesCut, JudgesJournal}
 use Rattle.bd_audit.specs.declared.journals.Judgment.{Judgment}

@@ -6,10 +6,11 @@ use Rattle.std.proofs.lemmas.Bool.{cases_lt}
 use Rattle.std.proofs.lemmas.Option.{none-some}
 use Rattle.std.specs.Io.KnownBytes.{Consumes, IsAtEnd}
 use Rattle.bd_uapi.specs.Bytes.{word}
-use Rattle.bd_journal.specs.declared.versions.Version.{Version}
-use Rattle.bd_journal.specs.declared.versions.Version.TheVariants.{One, Two, Three}
+use Rattle.bd_spelling.specs.declared.versions.Version.{Version}
+use Rattle.bd_spelling.specs.declared.versions.Version.TheVariants.{One, Two, Three}
 use Rattle.bd_journal.specs.Cut.{HasHeading}
-use Rattle.bd_journal.specs.Spelling.{magic, count_bytes, entry_bytes}
+use Rattle.bd_spelling.specs.Spelling.{entry_bytes}
+use Rattle.bd_journal.specs.Spelling.{magic, count_bytes}
 use Rattle.bd_journal.specs.Reading.{behind_magic, version_from}
 
 begins : (v : Version) (rest : List ℕ) → behind_magic (magic v ++ rest) ≡ Some rest

@@ -3,7 +3,7 @@ use Rattle.std.specs.Prelude.{ℕ, List, Option, Bool, true, false}
 use Rattle.std.specs.Io.KnownBytes.{Appends}
 use Rattle.bd_space.specs.declared.record.Record.{Record}
 use Rattle.bd_journal.specs.Spelling.{IsJournal, journal_bytes}
-use Rattle.bd_journal.specs.Writing.{Begins}
+use Rattle.bd_spelling.specs.Writing.{Begins}
 
 -- Where all went out, the record has a spelling and a writer that shows its bytes has grown by it; else by a beginning.
 abbrev pub Wrote : Option (List ℕ) → Option (List ℕ) → Record → Bool → Type 0

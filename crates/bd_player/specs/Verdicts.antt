@@ -4,9 +4,9 @@ use Rattle.bd_engine.specs.Refusals.{IsLiveSeats}
 use Rattle.bd_space.specs.declared.record.Record.{Record}
 use Rattle.bd_space.specs.Histories.{IsHistory, IsLawful, history_in}
 use Rattle.bd_journal.specs.{Cut.{HasHeading}, Spelling.{Tells}}
-use Rattle.bd_journal.specs.declared.fault.ReadError.{ReadError}
-use Rattle.bd_journal.specs.declared.fault.ReadError.TheVariants.{Malformed}
-use Rattle.bd_journal.specs.declared.fault.ReadError.TheVariants as read
+use Rattle.bd_spelling.specs.declared.fault.ReadError.{ReadError}
+use Rattle.bd_spelling.specs.declared.fault.ReadError.TheVariants.{Malformed}
+use Rattle.bd_spelling.specs.declared.fault.ReadError.TheVariants as read
 use Rattle.bd_audit.specs.Replays.{IsLawfulUpTo, StopsAt}
 use Rattle.bd_player.specs.declared.faults.ProgramFault.{ProgramFault}
 use Rattle.bd_player.specs.declared.faults.ProgramFault.TheVariants.{Journal, Memory}

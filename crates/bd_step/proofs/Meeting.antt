@@ -1,5 +1,5 @@
 -- A step meets its definition, space by space.
-use Rattle.std.proofs.Common.{◌≡◌, Bool, true, Result, Ok, Err, refl, ap, sym, subst, ◌∙◌}
+use Rattle.std.proofs.Common.{◌≡◌, true, Result, Ok, Err, refl, ap, sym, subst, ◌∙◌}
 use Rattle.bd_uapi.specs.declared.fault.Fault.{Fault}
 use Rattle.bd_uapi.specs.declared.fault.Note.{Note}
 use Rattle.bd_space.specs.declared.step.StepAnswer.{StepAnswer}
@@ -60,34 +60,34 @@ module _ (old : Tables) (P Q : Space → Type 0) (f g : Space → Outcome) (same
   as_step new (Ok x) m = record { ok = as_meets new (answer_of x) m.ok; err = tt; full = tt }
   as_step new (Err why) m = record { ok = tt; err = m.err; full = as_refused why m.full }
 
-  module _ (new : Tables) (both : Bool) (answer again : StepAnswer) where
-    pub as_step_written : (r : Result Brief StepError) → IsStepWritten old new both P f answer again r → IsStepWritten old new both Q g answer again r
-    as_step_written (Ok x) m = record { ok = as_meets new answer m.ok; brief = m.brief; copied = m.copied; err = tt; full = tt }
-    as_step_written (Err why) m = record { ok = tt; brief = tt; copied = m.copied; err = m.err; full = as_refused why m.full }
+  module _ (new : Tables) (kept : StepAnswer → Type 0) (answer : StepAnswer) where
+    pub as_step_written : (r : Result Brief StepError) → IsStepWritten old new kept P f answer r → IsStepWritten old new kept Q g answer r
+    as_step_written (Ok x) m = record { ok = as_meets new answer m.ok; brief = m.brief; held = m.held; err = tt; full = tt }
+    as_step_written (Err why) m = record { ok = tt; brief = tt; held = m.held; err = m.err; full = as_refused why m.full }
 
 -- ---- answers that take no memory, written
 
-module _ (old new : Tables) (both : Bool) (P : Space → Type 0) (f : Space → Outcome) (answer again : StepAnswer) where
-  pub written_step : (r : Result Plain StepError) (t : Result Brief StepError) → IsWritten r t answer → IsStep old new P f r → IsStepWritten old new both P f answer again t
+module _ (old new : Tables) (kept : StepAnswer → Type 0) (P : Space → Type 0) (f : Space → Outcome) (answer : StepAnswer) (plain : (x : Plain) → kept (answer_of x)) where
+  pub written_step : (r : Result Plain StepError) (t : Result Brief StepError) → IsWritten r t answer → IsStep old new P f r → IsStepWritten old new kept P f answer t
   written_step (Ok x) t is m =
-      subst (IsStepWritten old new both P f answer again) (sym is.0) (record { ok = subst (Meets old new P f) (sym is.1) m.ok; brief = is.1; copied = λ asked got. absurd (cc); err = tt; full = tt })
-  written_step (Err why) t is m = subst (IsStepWritten old new both P f answer again) (sym is) (record { ok = tt; brief = tt; copied = λ asked got. absurd (cc); err = m.err; full = m.full })
+      subst (IsStepWritten old new kept P f answer) (sym is.0) (record { ok = subst (Meets old new P f) (sym is.1) m.ok; brief = is.1; held = subst kept (sym is.1) (plain x); err = tt; full = tt })
+  written_step (Err why) t is m = subst (IsStepWritten old new kept P f answer) (sym is) (record { ok = tt; brief = tt; held = tt; err = m.err; full = m.full })
 
 -- ---- the step of a live thread, said as one of the thread's, and written
 
 module _ (old : Tables) (a : Actor) (f : Space → Outcome) where
   -- where the definition asks for no live thread
   module _ (g : Space → Outcome) (same : (s : Space) → f s ≡ g s) where
-    pub any_step : (new : Tables) (both : Bool) (answer again : StepAnswer) (r : Result Plain StepError) (t : Result Brief StepError) → IsWritten r t answer → IsStep old new IsAny g r
-        → IsStepWritten old new both (IsBy a) f answer again t
-    any_step new both answer again r t is m =
-        written_step old new both (IsBy a) f answer again r t is (as_step old IsAny (IsBy a) g f (λ s h by. (by.tidy, same s)) new r m)
+    pub any_step : (new : Tables) (kept : StepAnswer → Type 0) (answer : StepAnswer) → ((x : Plain) → kept (answer_of x)) → (r : Result Plain StepError) (t : Result Brief StepError) → IsWritten r t answer → IsStep old new IsAny g r
+        → IsStepWritten old new kept (IsBy a) f answer t
+    any_step new kept answer plain r t is m =
+        written_step old new kept (IsBy a) f answer plain r t is (as_step old IsAny (IsBy a) g f (λ s h by. (by.tidy, same s)) new r m)
 
   module _ (g : Space → Actor → Outcome) (same : (s : Space) → f s ≡ by_actor s (actor s a.thread.seat) (g s)) where
     pub by_same : (s : Space) → Before old s → IsBy a s → IsBy a s × (f s ≡ g s a)
     by_same s h by = (by, same s ∙ ap (λ o. by_actor s o (g s)) by.acts)
 
-    pub by_step : (new : Tables) (both : Bool) (answer again : StepAnswer) (r : Result Plain StepError) (t : Result Brief StepError) → IsWritten r t answer → IsStep old new (IsBy a) (λ s. g s a) r
-        → IsStepWritten old new both (IsBy a) f answer again t
-    by_step new both answer again r t is m =
-        written_step old new both (IsBy a) f answer again r t is (as_step old (IsBy a) (IsBy a) (λ s. g s a) f by_same new r m)
+    pub by_step : (new : Tables) (kept : StepAnswer → Type 0) (answer : StepAnswer) → ((x : Plain) → kept (answer_of x)) → (r : Result Plain StepError) (t : Result Brief StepError) → IsWritten r t answer → IsStep old new (IsBy a) (λ s. g s a) r
+        → IsStepWritten old new kept (IsBy a) f answer t
+    by_step new kept answer plain r t is m =
+        written_step old new kept (IsBy a) f answer plain r t is (as_step old (IsBy a) (IsBy a) (λ s. g s a) f by_same new r m)

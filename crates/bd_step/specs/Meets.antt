@@ -1,5 +1,5 @@
 -- What a step of the tables meets: the definition, on every space that they stand for.
-use Rattle.std.specs.Prelude.{ℕ, ◌≡◌, Bool, true, Option, Some, None, Result, Ok, IfOk, IfErr, IsTrue, OnOk, OnErr}
+use Rattle.std.specs.Prelude.{ℕ, ◌≡◌, true, Option, Some, None, Result, Ok, IfOk, IfErr, OnOk, OnErr}
 use Rattle.bd_ways.specs.Words.{TransactionData, Parcel, StepAnswer, Actor, Space, Frame}
 use Rattle.bd_space.specs.Seats.{actor}
 use Rattle.bd_space.specs.Names.{has_number_past_limit}
@@ -13,7 +13,6 @@ use Rattle.bd_step.specs.declared.tables.Tables.{Tables}
 use Rattle.bd_step.specs.declared.step_error.StepError.{StepError}
 use Rattle.bd_step.specs.declared.answer.Plain.{Plain}
 use Rattle.bd_step.specs.declared.answer.Brief.{Brief}
-use Rattle.bd_step.specs.declared.answer.Brief.TheVariants.{Got}
 use Rattle.bd_step.specs.Plain.{answer_of, IsBrief}
 use Rattle.bd_step.specs.Refusals.{FullOnly}
 use Rattle.bd_step.specs.Stands.{Before, Within}
@@ -70,10 +69,10 @@ pub record IsStep (old new : Tables) (P : Space → Type 0) (f : Space → Outco
   pub err : OnErr r (IsKept old new)
   pub full : IfErr r (IsRefused old P f)
 
--- the same, with its answer written, and once more where both are asked for and it has read
-pub record IsStepWritten (old new : Tables) (both : Bool) (P : Space → Type 0) (f : Space → Outcome) (answer again : StepAnswer) (r : Result Brief StepError) : Type 0 where
+-- the same, with its answer written, of which this is kept by whoever had the step made
+pub record IsStepWritten (old new : Tables) (kept : StepAnswer → Type 0) (P : Space → Type 0) (f : Space → Outcome) (answer : StepAnswer) (r : Result Brief StepError) : Type 0 where
   pub ok : OnOk r (Meets old new P f answer)
   pub brief : IfOk r (λ x. IsBrief x answer)
-  pub copied : IsTrue both → r ≡ Ok Got → again ≡ answer
+  pub held : OnOk r (kept answer)
   pub err : OnErr r (IsKept old new)
   pub full : IfErr r (IsRefused old P f)

@@ -9,6 +9,7 @@ mod delivery;
 mod ended;
 mod exit;
 mod frame;
+mod keep;
 mod manager;
 mod process;
 mod read;
@@ -26,5 +27,6 @@ mod transaction;
 mod work;
 
 pub use answer::{Brief, Plain};
+pub use keep::{Keeps, Nothing};
 pub use step_error::StepError;
 pub use tables::Tables;

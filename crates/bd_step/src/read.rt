@@ -1,6 +1,6 @@
 //! The step that reads.
 
-ghost use Rattle.std.specs.Prelude.{◌≡◌, ◌+◌, ◌-◌, ◌*◌, ◌≤◌, ◌++◌, ◌∷◌, [], map, false, None, Some, length, option_map, IfOk, IfSome, IsTrue, OnOk, OnErr, nat_lt};
+ghost use Rattle.std.specs.Prelude.{◌≡◌, ◌+◌, ◌-◌, ◌*◌, ◌≤◌, ◌++◌, ◌∷◌, [], map, false, None, Some, length, option_map, IfOk, IfSome, OnOk, OnErr, nat_lt};
 ghost use Rattle.std.specs.{Option.{option_copied}, List.{filter_map}};
 ghost use Rattle.bd_uapi.specs.declared.command.Return.TheVariants.{Noop};
 ghost use Rattle.bd_codec.specs.Spelling.{return_bytes};
@@ -12,9 +12,11 @@ ghost use Rattle.bd_buffers.specs.WindowsStand.{made_of_buffer};
 ghost use Rattle.bd_objects.specs.Room.{reference_room};
 ghost use Rattle.bd_calls.specs.Room.{work_room};
 ghost use Rattle.bd_step.specs.Stands.{Before, Within, TellsBefore, TellsWithin, UsesNothing, KeepsTold};
-ghost use Rattle.bd_step.specs.{Meets.{Meets, IsBy, IsKept, IsStepWritten}, Plain.{IsGot}, Taking.{AreTaken, IsReading, works_in}};
+ghost use Rattle.bd_step.specs.declared.answer.Plain as words;
+ghost use Rattle.bd_step.specs.{Meets.{Meets, IsBy, IsKept, IsStepWritten}, Plain.{IsGot, answer_of}, Taking.{AreTaken, IsReading, works_in}};
 
 use crate::answer::{Brief, Plain, written};
+use crate::keep::Keeps;
 use crate::step_error::StepError;
 use crate::tables::{NOTHING, Tables};
 use crate::touched::in_order;
@@ -151,16 +153,6 @@ fn got(alloc: Global, buffer: Option<&Buffer>, stream: Vec<u8>) -> Result<StepAn
     }
 }
 
-// Writes the answer again, where it is asked for. Else it takes no memory.
-fn again_if(asked: bool, answer: &StepAnswer, again: &mut StepAnswer) -> Result<(), AllocError>
-    ensures { IsTrue asked → OnOk result (again.new ≡ answer.now) }
-{
-    if asked {
-        *again = answer.copied()?;
-    }
-    Ok(())
-}
-
 // What a reading of one work item mostly has: the Noop and the longest return.
 const LONGEST_OF_ONE: usize = 4 + 68;
 
@@ -277,22 +269,22 @@ impl Tables {
         self.windows.hand_out(made);
     }
 
-    // A thread reads the list that is its to read. The answer is copied only where both are asked for.
-    fn read_list(
+    // A thread reads the list that is its to read. The answer is kept before anything changes.
+    fn read_list<K: Keeps>(
         &mut self,
         thread: &Thread,
         list: TodoList,
         limit: u32,
-        both: bool,
         answer: &mut StepAnswer,
-        again: &mut StepAnswer,
+        keep: &mut K,
     ) -> Result<(), AllocError>
         ensures ok { OnOk result
             (Meets self.old self.new (IsReading thread.now list)
             (λ s. spec.read_taking s thread.now.seat (spec.taken s (limit - 4) (todo.work_on s.todo (Some list))))
             answer.new) }
         ensures got { OnOk result (IsGot answer.new) }
-        ensures copied { IsTrue both → OnOk result (again.new ≡ answer.new) }
+        ensures kept { OnOk result (K.kept keep.new answer.new) }
+        ensures entries { K.entries keep.new ≡ K.entries keep.old }
         ensures err { OnErr result (IsKept self.old self.new) }
         ensures told { KeepsTold self.old self.new }
     {
@@ -300,7 +292,7 @@ impl Tables {
         let buffer = self.buffer_taken(works.as_slice());
         let made = made_of(buffer);
         *answer = got(self.alloc, buffer, stream)?;
-        again_if(both, answer, again)?;
+        keep.keep(answer)?;
         let touched = in_order(noticed(self.alloc, works.as_slice())?);
         self.reserve_read(works.len(), touched.len())?;
         self.read_by(thread.seat, works.as_slice(), made);
@@ -309,15 +301,17 @@ impl Tables {
     }
 
     /// The step that reads.
-    pub(crate) fn read(
+    pub(crate) fn read<K: Keeps>(
         &mut self,
         actor: Actor,
         limit: u32,
-        both: bool,
         answer: &mut StepAnswer,
-        again: &mut StepAnswer,
+        keep: &mut K,
     ) -> Result<Brief, StepError>
-        ensures step { IsStepWritten self.old self.new both (IsBy actor) (λ s. spec.read_step s actor limit) answer.new again.new result }
+        requires { (x : words.Plain) → K.kept keep.old (answer_of x) }
+        ensures step { IsStepWritten self.old self.new (K.kept keep.new) (IsBy actor) (λ s. spec.read_step s actor limit)
+            answer.new result }
+        ensures entries { K.entries keep.new ≡ K.entries keep.old }
         ensures told { KeepsTold self.old self.new }
     {
         if limit < 72 {
@@ -326,7 +320,7 @@ impl Tables {
         let Some(list) = self.list_to_read(&actor.thread) else {
             return written(Ok(Plain::Refused(Fault::Again)), answer);
         };
-        match self.read_list(&actor.thread, list, limit, both, answer, again) {
+        match self.read_list(&actor.thread, list, limit, answer, keep) {
             Ok(()) => Ok(Brief::Got),
             Err(AllocError) => Err(StepError::NoMemory),
         }

@@ -1,9 +1,13 @@
 //! Every step of the tables.
 
+ghost use Rattle.std.specs.Prelude.{◌≡◌};
 ghost use Rattle.bd_space.specs.{Steps.{change, command_step}};
+ghost use Rattle.bd_step.specs.declared.answer.Plain as words;
+ghost use Rattle.bd_step.specs.Plain.{answer_of};
 ghost use Rattle.bd_step.specs.{Stands.{KeepsTold}, Meets.{IsAny, IsBy, IsNobody, IsStep, IsStepWritten}};
 
 use crate::answer::{Brief, Plain, written};
+use crate::keep::Keeps;
 use crate::step_error::StepError;
 use crate::tables::Tables;
 use bd_space::{Actor, Parcel, Step, StepAnswer};
@@ -41,16 +45,17 @@ impl Tables {
 
     // The step of a live thread. Put into its caller: else its thread and process are copied once more.
     #[inline(always)]
-    fn change_by(
+    fn change_by<K: Keeps>(
         &mut self,
         actor: Actor,
         step: &Step,
-        both: bool,
         answer: &mut StepAnswer,
-        again: &mut StepAnswer,
+        keep: &mut K,
     ) -> Result<Brief, StepError>
-        ensures step { IsStepWritten self.old self.new both (IsBy actor) (λ s. change s actor.thread.seat step.now)
-            answer.new again.new result }
+        requires { (x : words.Plain) → K.kept keep.old (answer_of x) }
+        ensures step { IsStepWritten self.old self.new (K.kept keep.new) (IsBy actor)
+            (λ s. change s actor.thread.seat step.now) answer.new result }
+        ensures entries { K.entries keep.new ≡ K.entries keep.old }
         ensures told { KeepsTold self.old self.new }
     {
         match step {
@@ -65,7 +70,7 @@ impl Tables {
                 self.command(actor, command, parcel),
                 answer,
             ),
-            Step::Read { limit } => self.read(actor, *limit, both, answer, again),
+            Step::Read { limit } => self.read(actor, *limit, answer, keep),
             Step::ExitThread => written(self.exit_thread(actor), answer),
             Step::ExitProcess => written(self.exit_process(actor), answer),
         }
@@ -83,22 +88,24 @@ impl Tables {
         }
     }
 
-    /// The step of a seat. Its answer is written to `answer`; what was read also to `again`, where both are asked for. The step
-    /// isn't counted by it. Errors: memory was refused, or a name would have to be numbered above 4294967294; the tables then
-    /// stand for what they stood for, and of what is written nothing is known.
-    pub fn change(
+    /// The step of a seat. Its answer is written to `answer`, and what is read is given to `keep` before anything changes. The step
+    /// isn't counted by it. Errors: memory was refused, by `keep` too, or a name would have to be numbered above 4294967294; the
+    /// tables then stand for what they stood for, and of what is written nothing is known.
+    pub fn change<K: Keeps>(
         &mut self,
         seat: u32,
         step: &Step,
-        both: bool,
         answer: &mut StepAnswer,
-        again: &mut StepAnswer,
+        keep: &mut K,
     ) -> Result<Brief, StepError>
-        ensures step { IsStepWritten self.old self.new both IsAny (λ s. change s seat step.now) answer.new again.new result }
+        // What takes no memory is kept before it is known.
+        requires { (x : words.Plain) → K.kept keep.old (answer_of x) }
+        ensures step { IsStepWritten self.old self.new (K.kept keep.new) IsAny (λ s. change s seat step.now) answer.new result }
+        ensures entries { K.entries keep.new ≡ K.entries keep.old }
         ensures told { KeepsTold self.old self.new }
     {
         match self.actor(seat) {
-            Some(actor) => self.change_by(actor, step, both, answer, again),
+            Some(actor) => self.change_by(actor, step, answer, keep),
             None => written(self.change_alone(seat, step), answer),
         }
     }

@@ -1,7 +1,7 @@
 use Rattle.std.proofs.Common.{sym, subst}
 use Rattle.std.specs.Prelude.{Some}
 use Rattle.std.proofs.lemmas.Option.{none-some}
-use Rattle.bd_journal.specs.Reading.{Fails}
+use Rattle.bd_spelling.specs.Reading.{Fails}
 use Rattle.bd_c.proofs.certificates.record_of.Goals as goal
 
 pub returns-in-Err-Malformed-clause-refused : goal.returns-in-Err-Malformed-clause-refused

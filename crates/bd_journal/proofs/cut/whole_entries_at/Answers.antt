@@ -1,5 +1,5 @@
 use Rattle.std.proofs.Common.{ap, length, subst, Some}
-use Rattle.bd_journal.specs.Reading.{Fails, entry_from}
+use Rattle.bd_spelling.specs.Reading.{Fails, entry_from}
 use Rattle.bd_journal.specs.Cut.{whole_from}
 use Rattle.bd_journal.proofs.Whole.{goes_on, ends, is_done}
 use Rattle.bd_journal.proofs.cut.whole_entries_at.Goals as goal

@@ -1,5 +1,5 @@
 use Rattle.std.proofs.Common.{None, Some, arith, subst}
-use Rattle.bd_journal.specs.Reading.{Fails, entry_from}
+use Rattle.bd_spelling.specs.Reading.{Fails, entry_from}
 use Rattle.bd_journal.proofs.Cuts.{first_whole}
 use Rattle.bd_journal.proofs.steps.whole_entry_at.Goals as goal
 

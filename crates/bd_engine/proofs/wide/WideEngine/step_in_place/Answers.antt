@@ -5,6 +5,7 @@ use Rattle.bd_space.specs.Steps.{step}
 use Rattle.bd_space.specs.Histories.{History, history_of, space_after, extended, is_at_limit, is_at_end, HasPlace}
 use Rattle.bd_engine.specs.Follows.{Follows}
 use Rattle.bd_engine.proofs.Keeping.{follows_entered, more_is, entry_there, entry_filled, entry_taken_off, full_at_length, limit_at_end, short_of_full}
+use Rattle.bd_engine.proofs.Kept.{was_got, plain_kept}
 use Rattle.bd_step.proofs.Refusals.{full_as, memory_if}
 use Rattle.bd_step.specs.Refusals.{FullOnly}
 use Rattle.bd_engine.proofs.wide.WideEngine.step_in_place.Goals as goal
@@ -76,7 +77,7 @@ returns-in-Ok-clause-copied c = λ got.
     let last = counted ∙ ap length c.reserve.ensures.items in
     let is = c.index_mut.ensures.value ∙ entry_there es _ blank _ grown last _ in
     let made = c.in-Ok.ensures in
-    made.copied refl got ∙ made.answer h c.self.invariant.follows
+    made.kept (was_got _ _ got made.brief) ∙ made.answer h c.self.invariant.follows
     ∙ ap (λ (e : Entry). (step (space_after h) e.seat e.step).answer) is
     ∙ ap (λ (z : History). (step (space_after z) c.args.seat c.args.step).answer) c.self.view_is
 
@@ -95,3 +96,6 @@ returns-in-Ok-clause-history c =
     (c.refresh_ready.ensures.seats ∙ made.seats) (entry_filled es _ blank _ grown last c.make.new.entry)
     ∙ ap (extended h c.args.seat c.args.step) answered
     ∙ ap (λ (z : History). extended z c.args.seat c.args.step (step (space_after z) c.args.seat c.args.step).answer) c.self.view_is
+
+pub make-requires-plain : goal.make-requires-plain
+make-requires-plain c = λ x got. plain_kept _ x got

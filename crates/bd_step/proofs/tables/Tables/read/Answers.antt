@@ -10,20 +10,20 @@ use Rattle.bd_step.proofs.tables.Tables.read.Goals as goal
 
 pub returns-then-limit-lt72-clause-step : goal.returns-then-limit-lt72-clause-step
 unfolding read_step
-returns-then-limit-lt72-clause-step c = written_step _ _ _ _ _ _ _ _ _ c.written.ensures (taken_step _ _ _ _ _ (meets _ _ _ _ _ (λ s h by.
+returns-then-limit-lt72-clause-step g c = written_step _ _ _ _ _ _ c.requires _ _ c.written.ensures (taken_step _ _ _ _ _ (meets _ _ _ _ _ (λ s h by.
     let ws = list_to_read s c.args.actor.thread in
     in_case _ _ (read_outcome s c.args.actor.thread.seat c.args.limit ws) _ _ (too_small c.args.limit ws c.if-limit-lt72.true) (is_refused _ s ReadTooSmall h))))
 
 pub returns-in_default-clause-step : goal.returns-in_default-clause-step
 unfolding read_step
-returns-in_default-clause-step c = written_step _ _ _ _ _ _ _ _ _ c.written-in_default.ensures (taken_step _ _ _ _ _ (meets _ _ _ _ _ (λ s h by.
+returns-in_default-clause-step g c = written_step _ _ _ _ _ _ c.requires _ _ c.written-in_default.ensures (taken_step _ _ _ _ _ (meets _ _ _ _ _ (λ s h by.
     let ws = list_to_read s c.args.actor.thread in
     in_case _ _ (read_outcome s c.args.actor.thread.seat c.args.limit ws) _ _
     (nothing c.args.limit ws c.if-limit-lt72.false (ap none_due (c.list_to_read.ensures.none c.in_default.is s h))) (is_refused _ s Again h))))
 
 pub returns-in-Ok-clause-step : goal.returns-in-Ok-clause-step
 unfolding read_step
-returns-in-Ok-clause-step c = record {
+returns-in-Ok-clause-step g c = record {
   ok = meets _ _ _ _ _ (λ s h by.
       let t = c.args.actor.thread in
       let ok = c.in-Ok.ensures.ok in
@@ -32,7 +32,7 @@ returns-in-Ok-clause-step c = record {
       (subst (λ (ws : List Work). IsOutcome c.read_list.new.self c.read_list.new.answer (read_taking s t.seat (taken s (c.args.limit - 4) ws))) (sym (c.in-Some.ensures.some s h))
       (record { answered = ok.answered s h reading; stands = ok.stands s h reading })));
   brief = c.in-Ok.ensures.got;
-  copied = λ asked got. c.in-Ok.ensures.copied asked;
+  held = c.in-Ok.ensures.kept;
   err = tt;
   full = tt;
 }

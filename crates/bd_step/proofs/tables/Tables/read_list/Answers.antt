@@ -16,7 +16,7 @@ use Rattle.bd_step.proofs.tables.Tables.read_list.Goals as goal
 
 pub returns-clause-ok : goal.returns-clause-ok
 unfolding read_taking
-returns-clause-ok c = meets _ _ _ _ _ (λ s h by.
+returns-clause-ok g c = meets _ _ _ _ _ (λ s h by.
     let all = taken s (c.args.limit - 4) (work_on s.todo (Some c.args.list)) in
     let t = c.in_ok-works.ensures s h in
     let buffer = c.buffer_taken-buffer.ensures s (within _ s h) in

@@ -1,0 +1,6 @@
+pub mod Pieces
+pub mod FieldLaws
+pub mod Tags
+pub mod Laws
+pub mod Laying
+pub mod Logs

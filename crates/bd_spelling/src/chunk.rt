@@ -1,0 +1,149 @@
+//! Entries as bytes in one block of memory.
+
+ghost use Rattle.std.specs.Prelude.{◌≡◌, ◌+◌, ◌-◌, ◌++◌, ◌∷◌, ◌≤◌, [], length, IfOk, IfErr, OnOk, OnErr, Some, MatchOption};
+ghost use Rattle.std.specs.List.{flat_map};
+ghost use Rattle.bd_spelling.specs.Spelling.{IsEntry, entry_bytes};
+ghost use Rattle.bd_spelling.specs.Logged.{every_seat};
+
+use crate::fault::ReadError;
+use crate::putting::put_entry;
+use crate::reading::entry_at;
+use crate::versions::Version;
+use bd_space::Entry;
+use std::alloc::{AllocError, Global};
+use std::marker::Model;
+
+// More seats than any history has: what is kept here was made by one.
+const EVERY_SEAT: u32 = 4294967295;
+
+/// Spellings of entries, and room for more. A contract sees the entries that are spelled, and how many bytes there is room for.
+#[derive(Drop)]
+pub struct Chunk {
+    bytes: Vec<u8>,
+    count: usize,
+}
+
+impl Model for Chunk {
+    ghost use Rattle.std.specs.Prelude.{◌-◌, vec_len, vec_capacity};
+    ghost use Rattle.bd_spelling.specs.Logged.{LogView, AreSpelled, entries_in};
+
+    ghost Value = { LogView };
+
+    ghost view = { λ c. record {
+      entries = entries_in c.count c.bytes.items;
+      room = vec_capacity c.bytes - vec_len c.bytes;
+    } };
+
+    ghost invariant = { λ c. AreSpelled c.count c.bytes.items };
+}
+
+impl Chunk {
+    /// A chunk without entries and without memory.
+    pub fn new(alloc: Global) -> Chunk
+        ensures { result.entries ≡ [] }
+    {
+        Chunk {
+            bytes: Vec::new(alloc),
+            count: 0,
+        }
+    }
+
+    /// A chunk without entries that has room for so many bytes. Errors: memory was refused.
+    pub fn with_capacity(alloc: Global, room: usize) -> Result<Chunk, AllocError>
+        ensures none { IfOk result (λ c. c.entries ≡ []) }
+        ensures room { IfOk result (λ c. room ≤ c.room) }
+    {
+        Ok(Chunk {
+            bytes: Vec::with_capacity(alloc, room)?,
+            count: 0,
+        })
+    }
+
+    /// How many entries are in it.
+    pub fn len(&self) -> usize
+        ensures { result ≡ length self.now.entries }
+    {
+        self.count
+    }
+
+    /// How many bytes of further entries fit into the memory that it has.
+    pub fn room(&self) -> usize
+        ensures { result ≡ self.now.room }
+    {
+        self.bytes.capacity() - self.bytes.len()
+    }
+
+    /// What the entries are spelled as, one after the other, as in a journal behind its heading.
+    pub fn bytes(&self) -> &[u8]
+        ensures { result.now ≡ flat_map entry_bytes self.now.entries }
+    {
+        self.bytes.as_slice()
+    }
+
+    /// Adds an entry that a journal spells and that fits into the room. It can't fail.
+    pub fn push(&mut self, entry: &Entry)
+        requires spelled { IsEntry every_seat entry.now }
+        requires room { length (entry_bytes entry.now) ≤ self.old.room }
+        ensures entries { self.new.entries ≡ self.old.entries ++ entry.now ∷ [] }
+        ensures room { self.old.room ≤ self.new.room + length (entry_bytes entry.now) }
+    {
+        put_entry(&mut self.bytes, entry);
+        self.count += 1;
+    }
+
+    /// A reader that begins at the first entry.
+    pub fn reader(&self) -> Reader<'_>
+        ensures { result ≡ self.now.entries }
+    {
+        Reader {
+            bytes: self.bytes.as_slice(),
+            left: self.count,
+        }
+    }
+}
+
+/// The entries of a chunk that are still to be read.
+#[derive(Drop)]
+pub struct Reader<'a> {
+    bytes: &'a [u8],
+    left: usize,
+}
+
+impl<'a> Model for Reader<'a> {
+    ghost use Rattle.std.specs.Prelude.{List};
+    ghost use Rattle.bd_space.specs.declared.step.Entry.{Entry};
+    ghost use Rattle.bd_spelling.specs.Logged.{AreSpelled, entries_in};
+
+    ghost Value = { List Entry };
+
+    ghost view = { λ r. entries_in r.left r.bytes.now };
+
+    ghost invariant = { λ r. AreSpelled r.left r.bytes.now };
+}
+
+impl Reader<'_> {
+    /// How many entries are still to be read.
+    pub fn len(&self) -> usize
+        ensures { result ≡ length self.now }
+    {
+        self.left
+    }
+
+    /// Reads one entry into memory of its own; None at the end. Errors: memory was refused, and the same entry is read next.
+    pub fn next(&mut self, alloc: Global) -> Result<Option<Entry>, AllocError>
+        ensures next { IfOk result (λ e. MatchOption e (self.old ≡ []) (λ x. self.old ≡ x ∷ self.new)) }
+        ensures err { OnErr result (self.new ≡ self.old) }
+    {
+        if self.left == 0 {
+            return Ok(None);
+        }
+        match entry_at(alloc, Version::Two, EVERY_SEAT, self.bytes) {
+            Ok((entry, rest)) => {
+                self.left -= 1;
+                self.bytes = rest;
+                Ok(Some(entry))
+            }
+            Err(_) => Err(AllocError),
+        }
+    }
+}
