@@ -3,14 +3,16 @@
 ghost use Rattle.std.specs.Prelude.{◌≡◌, IfOk, IfErr, IfSome, MatchResult, is_some};
 ghost use Rattle.bd_engine.specs.Refusals.{IsLiveSeats};
 ghost use Rattle.bd_uapi.specs.declared.fault.Fault.TheVariants as faults;
-ghost use Rattle.bd_space.specs.Histories.{IsHistory, space_after, history_in};
+ghost use Rattle.bd_space.specs.Histories.{IsHistory, space_after};
+ghost use Rattle.bd_spelling.specs.Records.{history_in};
 ghost use Rattle.bd_engine.specs.Looks as looks;
 ghost use Rattle.bd_audit.specs.{Replays.{with_entry}, Gifts.{IsChainOf}};
 ghost use Rattle.bd_audit.specs.GiftSearch as spec;
 
 use crate::playing::advance;
 use bd_engine::{Looks, WideEngine};
-use bd_space::{Entry, Identity, Record};
+use bd_space::{Entry, Identity};
+use bd_spelling::Record;
 use bd_uapi::Fault;
 use std::alloc::Global;
 

@@ -3,7 +3,8 @@
 ghost use Rattle.std.specs.Prelude.{◌≡◌, ◌<◌, true, false, length, IfOk, IfErr, OnErr, MatchResult};
 ghost use Rattle.bd_engine.specs.{Follows.{Follows}, Refusals.{IsLiveSeats}};
 ghost use Rattle.bd_uapi.specs.declared.fault.Fault.TheVariants as faults;
-ghost use Rattle.bd_space.specs.Histories.{History, HasLivePlace, IsHistory, IsLawful, history_in, history_of};
+ghost use Rattle.bd_space.specs.Histories.{History, HasLivePlace, IsHistory, IsLawful, history_of};
+ghost use Rattle.bd_spelling.specs.Records.{history_in};
 ghost use Rattle.bd_audit.specs.Replays as spec;
 ghost use Rattle.bd_audit.specs.Judging.{IsStop};
 ghost use Rattle.bd_audit.specs.Replays.{with_entry, Begins, IfUnlawful, IfNoMemory, StopsAt};
@@ -11,7 +12,8 @@ ghost use Rattle.bd_audit.specs.Replays.{with_entry, Begins, IfUnlawful, IfNoMem
 use crate::answers::is_same_answer;
 use crate::judge::Judge;
 use bd_engine::{Live, StepError, WideEngine};
-use bd_space::{Entry, Record};
+use bd_space::Entry;
+use bd_spelling::Record;
 use bd_uapi::Fault;
 use std::alloc::{AllocError, Global};
 

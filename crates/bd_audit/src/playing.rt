@@ -3,12 +3,14 @@
 ghost use Rattle.std.specs.{Prelude.{◌≡◌, ◌≤◌, length, None, IfOk, IfErr, MatchOption, MatchResult}, List.{slice_get}};
 ghost use Rattle.bd_engine.specs.Refusals.{IsLiveSeats};
 ghost use Rattle.bd_uapi.specs.declared.fault.Fault.TheVariants as faults;
-ghost use Rattle.bd_space.specs.Histories.{IsHistory, history_in};
+ghost use Rattle.bd_space.specs.Histories.{IsHistory};
+ghost use Rattle.bd_spelling.specs.Records.{history_in};
 ghost use Rattle.bd_audit.specs.Replays.{with_entry, beginning, IsEntryAt};
 
 use crate::judging::{AuditFault, accept};
 use bd_engine::WideEngine;
-use bd_space::{Entry, Record};
+use bd_space::Entry;
+use bd_spelling::Record;
 use bd_uapi::Fault;
 use std::alloc::Global;
 

@@ -3,14 +3,16 @@
 ghost use Rattle.std.specs.Prelude.{◌≡◌, ◌≤◌, length, IfOk, IfErr, MatchResult};
 ghost use Rattle.bd_engine.specs.Refusals.{IsLiveSeats};
 ghost use Rattle.bd_uapi.specs.declared.fault.Fault.TheVariants as faults;
-ghost use Rattle.bd_space.specs.Histories.{IsHistory, space_after, history_in};
+ghost use Rattle.bd_space.specs.Histories.{IsHistory, space_after};
+ghost use Rattle.bd_spelling.specs.Records.{history_in};
 ghost use Rattle.bd_audit.specs.Replays.{with_entry, beginning};
 ghost use Rattle.bd_audit.specs.Replies as spec;
 ghost use Rattle.bd_audit.specs.CallOf.{IsAnswerOf};
 
 use crate::playing::{advance, entry_at, played_before};
 use bd_engine::{Looks, WideEngine};
-use bd_space::{Entry, Record, Step};
+use bd_space::{Entry, Step};
+use bd_spelling::Record;
 use bd_uapi::Fault;
 use std::alloc::Global;
 

@@ -4,13 +4,15 @@ ghost use Rattle.std.specs.Prelude.{◌≡◌, ◌≤◌, true, map, take, lengt
 ghost use Rattle.std.specs.{List.{filter_map, list_all}, Option.{option_to_list}};
 ghost use Rattle.bd_engine.specs.Refusals.{IsLiveSeats};
 ghost use Rattle.bd_uapi.specs.declared.fault.Fault.TheVariants as faults;
-ghost use Rattle.bd_space.specs.Histories.{IsHistory, space_after, history_in};
+ghost use Rattle.bd_space.specs.Histories.{IsHistory, space_after};
+ghost use Rattle.bd_spelling.specs.Records.{history_in};
 ghost use Rattle.bd_audit.specs.TurnCalls.{AreTurns};
 ghost use Rattle.bd_audit.specs.TurnSearch as spec;
 
 use crate::playing::advance;
 use bd_engine::{Looks, WideEngine};
-use bd_space::{Buffer, Entry, Identity, ObjectId, Record};
+use bd_space::{Buffer, Entry, Identity, ObjectId};
+use bd_spelling::Record;
 use bd_uapi::Fault;
 use std::alloc::Global;
 

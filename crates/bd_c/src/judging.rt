@@ -1,6 +1,6 @@
 //! Journals: the bytes of a history, and what they are worth.
 
-ghost use Rattle.bd_space.specs.declared.record.Record.{Record};
+ghost use Rattle.bd_spelling.specs.declared.record.Record.{Record};
 ghost use Rattle.bd_audit.specs.Journals.{IsJudgment};
 ghost use Rattle.bd_c.specs.Journals.{Holds, Journals, Judges};
 

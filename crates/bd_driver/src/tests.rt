@@ -1,7 +1,8 @@
 ghost use Rattle.std.specs.Prelude.{◌≡◌, IfOk, IfSome, All};
 
 use crate::{Driver, Outcome, Page, Seat, Served, Why};
-use bd_space::{Answer, Record, Request};
+use bd_space::{Answer, Request};
+use bd_spelling::Record;
 use bd_uapi::Fault;
 use std::alloc::{AllocError, Global};
 use std::test::Fail;

@@ -123,7 +123,7 @@ impl Live {
         requires plain { (x : words.Plain) → K.kept keep.old (answer_of x) }
         ensures brief { IfOk result (λ x. IsBrief x entry.new.answer) }
         ensures kept { OnOk result (K.kept keep.new entry.new.answer) }
-        ensures entries { K.entries keep.new ≡ K.entries keep.old }
+        ensures rest { K.rest keep.new ≡ K.rest keep.old }
         ensures seat { entry.new.seat ≡ entry.old.seat }
         ensures step { entry.new.step ≡ entry.old.step }
         ensures answer { OnOk result (Tells (Follows self.old) entry.new.answer

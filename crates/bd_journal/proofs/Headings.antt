@@ -4,7 +4,7 @@ use Rattle.std.specs.List.{AllByRecursion}
 use Rattle.std.proofs.lemmas.Bool.{leb-true, leb-false}
 use Rattle.bd_uapi.specs.Limits.{most_seats}
 use Rattle.bd_space.specs.declared.step.Entry.{Entry}
-use Rattle.bd_space.specs.declared.record.Record.{Record}
+use Rattle.bd_spelling.specs.declared.record.Record.{Record}
 use Rattle.bd_spelling.specs.declared.fault.WriteError.{WriteError}
 use Rattle.bd_spelling.specs.declared.fault.WriteError.TheVariants.{Unspellable, Refused}
 use Rattle.bd_spelling.specs.declared.versions.Version.TheVariants.{Two, Three}

@@ -1,4 +1,4 @@
--- Reading undoes spelling, and spelling undoes reading.
+-- Reading a journal undoes spelling it, and spelling undoes reading.
 use Rattle.std.proofs.Common.{◌≡◌, ℕ, ◌^◌, ◌<◌, ◌≤◌, Bool, true, false, cond, eqb, leb, ◌&&◌, List, [], ◌++◌, length, take, drop, Some, None, Result, Ok, Err, refl, sym, ap, subst, ◌∙◌, append_assoc, arith}
 use Rattle.std.specs.Prelude.{IfOk}
 use Rattle.std.specs.List.{flat_map}
@@ -8,7 +8,7 @@ use Rattle.std.proofs.lemmas.Bool.{eqb-true, leb-true, le-leb}
 use Rattle.std.proofs.lemmas.List.{append-nil, nil_from_length, take-append-drop}
 use Rattle.bd_uapi.specs.Bytes.{IsBytes, word}
 use Rattle.bd_uapi.proofs.Pieces.{IsBytes_drop}
-use Rattle.bd_space.specs.declared.record.Record.{Record}
+use Rattle.bd_spelling.specs.declared.record.Record.{Record}
 use Rattle.bd_spelling.specs.declared.versions.Version.{Version}
 use Rattle.bd_spelling.specs.declared.versions.Version.TheVariants.{One, Two, Three}
 use Rattle.bd_spelling.specs.declared.fault.ReadError.{ReadError}
@@ -16,7 +16,8 @@ use Rattle.bd_spelling.specs.Spelling.{entry_bytes}
 use Rattle.bd_journal.specs.Spelling.{magic, least_seats_in, most_seats_in, count_bytes, count_limit, heading_in, spelling_in, IsSeatsIn, IsJournalIn, Tells}
 use Rattle.bd_spelling.specs.Reading.{◌>>=◌, Gives, word_from, entries_from}
 use Rattle.bd_journal.specs.Reading.{version_from, seats_from, count_from, Heading, heading_from, record_from, journal_in}
-use Rattle.bd_spelling.proofs.FieldLaws.{bind_some, demand_some, some_is, Takes, Takes_then, words}
+use Rattle.bd_spelling.proofs.FieldLaws.{bind_some, demand_some, some_is, Takes, Takes_then, Reads, words, longs}
+use Rattle.bd_spelling.proofs.Laws.{none_is_not_some, entries_take, entries_again}
 
 -- the number of entries, in each version
 pub counts : (v : Version) → Reads (count_from v) (count_bytes v) (λ n. n < count_limit v)

@@ -2,7 +2,8 @@
 
 ghost use Rattle.std.specs.{Prelude.{◌≡◌, Some, length, IfOk, IfSome, MatchOption, is_some}, List.{slice_get}};
 ghost use Rattle.bd_engine.specs.Refusals.{IsLiveSeats};
-ghost use Rattle.bd_space.specs.Histories.{IsHistory, space_after, history_in};
+ghost use Rattle.bd_space.specs.Histories.{IsHistory, space_after};
+ghost use Rattle.bd_spelling.specs.Records.{history_in};
 ghost use Rattle.bd_engine.specs.Looks as looks;
 ghost use Rattle.bd_audit.specs.{CallOf.{IsAnswerOf}, Gifts.{IsChainOf}, Replays.{with_entry}, Replies.{call_answered}};
 ghost use Rattle.bd_audit.specs.TurnCalls.{AreTurns};
@@ -14,7 +15,8 @@ use crate::texts::OrDash;
 use crate::untold::Untold;
 use bd_audit::{Turn, advance, call_of_reply, gift_chain, oneway_turns};
 use bd_engine::{Looks, WideEngine};
-use bd_space::{Entry, ObjectId, Record};
+use bd_space::{Entry, ObjectId};
+use bd_spelling::Record;
 use std::alloc::Global;
 use std::fmt;
 use std::io::Write;

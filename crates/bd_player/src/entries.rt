@@ -2,7 +2,8 @@
 
 ghost use Rattle.std.specs.Prelude.{◌≡◌, ◌≤◌, length, IfOk, IfErr};
 ghost use Rattle.bd_engine.specs.Refusals.{IsLiveSeats};
-ghost use Rattle.bd_space.specs.Histories.{IsHistory, history_in};
+ghost use Rattle.bd_space.specs.Histories.{IsHistory};
+ghost use Rattle.bd_spelling.specs.Records.{history_in};
 ghost use Rattle.bd_player.specs.{Entries.{IsEntryAt}, declared.untold.Untold.TheVariants.{OutOfRange}};
 
 use crate::answers::AnswerText;
@@ -11,7 +12,8 @@ use crate::texts::OrDash;
 use crate::untold::Untold;
 use crate::words::Word;
 use bd_audit::played_to;
-use bd_space::{Entry, Record};
+use bd_space::Entry;
+use bd_spelling::Record;
 use std::alloc::Global;
 use std::fmt;
 

@@ -2,12 +2,14 @@
 
 ghost use Rattle.std.specs.Prelude.{IfOk};
 ghost use Rattle.bd_engine.specs.Refusals.{IsLiveSeats};
-ghost use Rattle.bd_space.specs.Histories.{IsHistory, history_in};
+ghost use Rattle.bd_space.specs.Histories.{IsHistory};
+ghost use Rattle.bd_spelling.specs.Records.{history_in};
 ghost use Rattle.bd_player.specs.Answered.{IsThere};
 
 use crate::certificates::{tell_answered, tell_chain, tell_turns};
 use crate::untold::Untold;
-use bd_space::{ObjectId, Record};
+use bd_space::ObjectId;
+use bd_spelling::Record;
 use std::alloc::Global;
 use std::io::Write;
 

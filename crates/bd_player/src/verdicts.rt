@@ -2,7 +2,7 @@
 
 ghost use Rattle.std.specs.Prelude.{◌≡◌, IfOk, IfErr};
 ghost use Rattle.bd_engine.specs.Refusals.{IsLiveSeats};
-ghost use Rattle.bd_space.specs.{declared.record.Record.{Record}};
+ghost use Rattle.bd_spelling.specs.declared.record.Record.{Record};
 ghost use Rattle.bd_player.specs.{Verdicts.{IsUnjudged, IsVerdict, IsJudged, Judges}, declared.faults.ProgramFault.TheVariants.{Memory}};
 
 use crate::faults::ProgramFault;

@@ -1,5 +1,5 @@
 -- Bytes that are spellings of entries, one after the other.
-use Rattle.std.specs.Prelude.{ℕ, ◌≡◌, ◌<◌, List, [], ◌++◌, length, Option, Some, None}
+use Rattle.std.specs.Prelude.{ℕ, ◌≡◌, ◌≤◌, List, [], ◌++◌, length, Option, Some, None}
 use Rattle.std.specs.List.{flat_map, AllByRecursion}
 use Rattle.bd_space.specs.declared.step.Entry.{Entry}
 use Rattle.bd_spelling.specs.declared.versions.Version.TheVariants.{Two}
@@ -33,3 +33,12 @@ pub record LogView : Type 0 where
 -- the entries of chunks in their order, and then of the last
 abbrev pub all_entries : List LogView → LogView → List Entry
 all_entries full last = flat_map (λ c. c.entries) full ++ last.entries
+
+-- the entries of chunks in their order
+abbrev pub entries_of : List LogView → List Entry
+entries_of chunks = flat_map (λ c. c.entries) chunks
+
+-- a journal of so many seats can have all of these entries, and one of fewer can't
+pub record AreSeatsOf (n : ℕ) (es : List Entry) : Type 0 where
+  pub enough : AllByRecursion (IsEntry n) es
+  pub least : (m : ℕ) → AllByRecursion (IsEntry m) es → n ≤ m

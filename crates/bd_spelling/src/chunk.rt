@@ -14,10 +14,10 @@ use std::alloc::{AllocError, Global};
 use std::marker::Model;
 
 // More seats than any history has: what is kept here was made by one.
-const EVERY_SEAT: u32 = 4294967295;
+pub const EVERY_SEAT: u32 = 4294967295;
 
 /// Spellings of entries, and room for more. A contract sees the entries that are spelled, and how many bytes there is room for.
-#[derive(Drop)]
+#[derive(Drop, Debug)]
 pub struct Chunk {
     bytes: Vec<u8>,
     count: usize,
@@ -92,10 +92,10 @@ impl Chunk {
     }
 
     /// A reader that begins at the first entry.
-    pub fn reader(&self) -> Reader<'_>
+    pub fn reader(&self) -> ChunkReader<'_>
         ensures { result ≡ self.now.entries }
     {
-        Reader {
+        ChunkReader {
             bytes: self.bytes.as_slice(),
             left: self.count,
         }
@@ -104,12 +104,12 @@ impl Chunk {
 
 /// The entries of a chunk that are still to be read.
 #[derive(Drop)]
-pub struct Reader<'a> {
+pub struct ChunkReader<'a> {
     bytes: &'a [u8],
     left: usize,
 }
 
-impl<'a> Model for Reader<'a> {
+impl<'a> Model for ChunkReader<'a> {
     ghost use Rattle.std.specs.Prelude.{List};
     ghost use Rattle.bd_space.specs.declared.step.Entry.{Entry};
     ghost use Rattle.bd_spelling.specs.Logged.{AreSpelled, entries_in};
@@ -121,7 +121,17 @@ impl<'a> Model for Reader<'a> {
     ghost invariant = { λ r. AreSpelled r.left r.bytes.now };
 }
 
-impl Reader<'_> {
+impl ChunkReader<'_> {
+    /// A reader at the end.
+    pub fn none() -> ChunkReader<'static>
+        ensures { result ≡ [] }
+    {
+        ChunkReader {
+            bytes: &[],
+            left: 0,
+        }
+    }
+
     /// How many entries are still to be read.
     pub fn len(&self) -> usize
         ensures { result ≡ length self.now }

@@ -1,43 +1,47 @@
 //! The entries of a history as bytes.
 
-ghost use Rattle.std.specs.Prelude.{◌≡◌, ◌+◌, ◌++◌, ◌∷◌, ◌≤◌, ◌<◌, [], length, IfOk, OnOk};
+ghost use Rattle.std.specs.Prelude.{◌≡◌, ◌+◌, ◌++◌, ◌∷◌, ◌≤◌, ◌<◌, [], length, IfOk, OnOk, OnErr, Some, MatchOption};
 ghost use Rattle.std.specs.List.{flat_map};
 ghost use Rattle.bd_spelling.specs.Spelling.{IsEntry, entry_bytes};
-ghost use Rattle.bd_spelling.specs.Logged.{every_seat};
+ghost use Rattle.bd_spelling.specs.Logged.{AreSeatsOf, every_seat};
 ghost use Rattle.bd_spelling.specs.Writing.{Sends};
 
-use crate::chunk::{Chunk, Reader};
+use crate::chunk::{Chunk, ChunkReader, EVERY_SEAT};
 use crate::fault::Refused;
 use crate::sending::send;
+use crate::writing::{answer_len, step_len};
 use bd_space::Entry;
 use std::alloc::{AllocError, Global};
 use std::io::Write;
 use std::marker::Model;
 use std::mem::replace;
+use std::slice::from_ref;
 
 // The bytes of a chunk. A larger entry has one of its own.
 const CHUNK: usize = 262144;
 
 /// Entries spelled as a journal spells them, in chunks that are never moved. A contract sees the entries as a list, and for how many
 /// bytes of another no memory is asked.
-#[derive(Drop)]
+#[derive(Drop, Debug)]
 pub struct Log {
     // Those before the last one, in order.
     full: Vec<Chunk>,
     last: Chunk,
-    count: u64,
+    count: usize,
+    // How many seats a journal of them has at least.
+    seats: u32,
 }
 
 impl Model for Log {
     ghost use Rattle.std.specs.Prelude.{◌≡◌, ◌++◌, length};
     ghost use Rattle.std.specs.List.{flat_map};
-    ghost use Rattle.bd_spelling.specs.Logged.{LogView, all_entries};
+    ghost use Rattle.bd_spelling.specs.Logged.{LogView, AreSeatsOf, all_entries};
 
     ghost Value = { LogView };
 
     ghost view = { λ l. record { entries = all_entries l.full.items l.last; room = l.last.room } };
 
-    ghost invariant = { λ l. l.count ≡ length (all_entries l.full.items l.last) };
+    ghost invariant = { λ l. (l.count ≡ length (all_entries l.full.items l.last)) × AreSeatsOf l.seats (all_entries l.full.items l.last) };
 }
 
 impl Log {
@@ -49,17 +53,25 @@ impl Log {
             full: Vec::new(alloc),
             last: Chunk::new(alloc),
             count: 0,
+            seats: 0,
         }
     }
 
+    /// How many seats a journal of these entries has at least.
+    pub fn seats(&self) -> u32
+        ensures { AreSeatsOf result self.now.entries }
+    {
+        self.seats
+    }
+
     /// How many entries are in it.
-    pub fn len(&self) -> u64
+    pub fn len(&self) -> usize
         ensures { result ≡ length self.now.entries }
     {
         self.count
     }
 
-    /// Makes room for an entry of so many bytes. The entries stay as they are, whatever it answers. Errors: memory was refused.
+    /// Makes room for an entry of this size. No entry is changed, even where it fails. Errors: memory was refused.
     pub fn reserve(&mut self, bytes: usize) -> Result<(), AllocError>
         ensures entries { self.new.entries ≡ self.old.entries }
         ensures room { OnOk result (bytes ≤ self.new.room) }
@@ -84,6 +96,34 @@ impl Log {
     {
         self.last.push(entry);
         self.count += 1;
+        self.seats = self.seats.max(entry.seat + 1);
+    }
+
+    /// Adds an entry, and makes the room for it. Errors: memory was refused, or no journal spells the entry; then none was added.
+    pub fn append(&mut self, entry: &Entry) -> Result<(), AllocError>
+        ensures added { OnOk result (self.new.entries ≡ self.old.entries ++ entry.now ∷ []) }
+        ensures err { OnErr result (self.new.entries ≡ self.old.entries) }
+    {
+        if self.count == usize::MAX || entry.seat == EVERY_SEAT {
+            return Err(AllocError);
+        }
+        let (Some(step), Some(answer)) = (step_len(&entry.step), answer_len(&entry.answer)) else {
+            return Err(AllocError);
+        };
+        self.reserve(12 + step as usize + answer as usize)?;
+        self.push(entry);
+        Ok(())
+    }
+
+    /// A reader that begins at the first entry.
+    pub fn reader(&self) -> LogReader<'_>
+        ensures { result ≡ self.now.entries }
+    {
+        LogReader {
+            here: ChunkReader::none(),
+            rest: self.full.as_slice(),
+            last: from_ref(&self.last),
+        }
     }
 
     /// The entries themselves, in a vector. Errors: memory was refused.
@@ -101,7 +141,7 @@ impl Log {
     /// Writes what a journal of these entries has behind its heading.
     ///
     /// # Errors
-    /// The writer takes no more; what it took by then is a beginning.
+    /// The writer refused bytes; those before them are a beginning.
     pub fn write<W: Write>(&self, out: &mut W) -> Result<(), Refused>
         ensures { Sends (W.contents out.old) (W.contents out.new) result (flat_map entry_bytes self.now.entries) }
     {
@@ -113,7 +153,11 @@ impl Log {
 }
 
 // Reads all that a reader has left, and puts it behind the entries of a vector.
-fn append(alloc: Global, mut from: Reader<'_>, entries: &mut Vec<Entry>) -> Result<(), AllocError>
+fn append(
+    alloc: Global,
+    mut from: ChunkReader<'_>,
+    entries: &mut Vec<Entry>,
+) -> Result<(), AllocError>
     ensures { OnOk result (entries.new.items ≡ entries.old.items ++ from.entry) }
 {
     for _ in 0..from.len() {
@@ -123,4 +167,51 @@ fn append(alloc: Global, mut from: Reader<'_>, entries: &mut Vec<Entry>) -> Resu
         }
     }
     Ok(())
+}
+
+/// The entries of a log that are still to be read.
+#[derive(Drop)]
+pub struct LogReader<'a> {
+    // What is left of the chunk that is read.
+    here: ChunkReader<'a>,
+    // The chunks before the last that weren't begun.
+    rest: &'a [Chunk],
+    // The last, or nothing once it is begun.
+    last: &'a [Chunk],
+}
+
+impl<'a> Model for LogReader<'a> {
+    ghost use Rattle.std.specs.Prelude.{List, ◌++◌};
+    ghost use Rattle.bd_space.specs.declared.step.Entry.{Entry};
+    ghost use Rattle.bd_spelling.specs.Logged.{entries_of};
+
+    ghost Value = { List Entry };
+
+    ghost view = { λ r. r.here ++ (entries_of r.rest.now ++ entries_of r.last.now) };
+}
+
+impl LogReader<'_> {
+    /// Reads one entry into memory of its own; None at the end. Errors: memory was refused, and the same entry is read next.
+    pub fn next(&mut self, alloc: Global) -> Result<Option<Entry>, AllocError>
+        ensures next { IfOk result (λ e. MatchOption e (self.old ≡ []) (λ x. self.old ≡ x ∷ self.new)) }
+        ensures err { OnErr result (self.new ≡ self.old) }
+    {
+        while self.here.len() == 0 {
+            let next = match self.rest.split_first() {
+                Some((next, rest)) => {
+                    self.rest = rest;
+                    next
+                }
+                None => match self.last.split_first() {
+                    Some((next, none)) => {
+                        self.last = none;
+                        next
+                    }
+                    None => return Ok(None),
+                },
+            };
+            self.here = next.reader();
+        }
+        self.here.next(alloc)
+    }
 }

@@ -120,7 +120,7 @@ fn put_answer(out: &mut Vec<u8>, answer: &StepAnswer)
     }
 }
 
-// Appends the one spelling of an entry.
+/// Appends the one spelling of an entry that a journal spells. It can't fail.
 pub fn put_entry(out: &mut Vec<u8>, entry: &Entry)
     requires spelled { IsEntry every_seat entry.now }
     requires room { vec_len out.old + length (entry_bytes entry.now) ≤ vec_capacity out.old }

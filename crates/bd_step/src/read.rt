@@ -284,7 +284,7 @@ impl Tables {
             answer.new) }
         ensures got { OnOk result (IsGot answer.new) }
         ensures kept { OnOk result (K.kept keep.new answer.new) }
-        ensures entries { K.entries keep.new ≡ K.entries keep.old }
+        ensures rest { K.rest keep.new ≡ K.rest keep.old }
         ensures err { OnErr result (IsKept self.old self.new) }
         ensures told { KeepsTold self.old self.new }
     {
@@ -311,7 +311,7 @@ impl Tables {
         requires { (x : words.Plain) → K.kept keep.old (answer_of x) }
         ensures step { IsStepWritten self.old self.new (K.kept keep.new) (IsBy actor) (λ s. spec.read_step s actor limit)
             answer.new result }
-        ensures entries { K.entries keep.new ≡ K.entries keep.old }
+        ensures rest { K.rest keep.new ≡ K.rest keep.old }
         ensures told { KeepsTold self.old self.new }
     {
         if limit < 72 {

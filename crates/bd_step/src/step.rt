@@ -55,7 +55,7 @@ impl Tables {
         requires { (x : words.Plain) → K.kept keep.old (answer_of x) }
         ensures step { IsStepWritten self.old self.new (K.kept keep.new) (IsBy actor)
             (λ s. change s actor.thread.seat step.now) answer.new result }
-        ensures entries { K.entries keep.new ≡ K.entries keep.old }
+        ensures rest { K.rest keep.new ≡ K.rest keep.old }
         ensures told { KeepsTold self.old self.new }
     {
         match step {
@@ -101,7 +101,7 @@ impl Tables {
         // What takes no memory is kept before it is known.
         requires { (x : words.Plain) → K.kept keep.old (answer_of x) }
         ensures step { IsStepWritten self.old self.new (K.kept keep.new) IsAny (λ s. change s seat step.now) answer.new result }
-        ensures entries { K.entries keep.new ≡ K.entries keep.old }
+        ensures rest { K.rest keep.new ≡ K.rest keep.old }
         ensures told { KeepsTold self.old self.new }
     {
         match self.actor(seat) {

@@ -3,13 +3,15 @@
 
 ghost use Rattle.std.specs.Prelude.{IfOk};
 ghost use Rattle.bd_uapi.specs.Limits.{IsSeats};
-ghost use Rattle.bd_space.specs.Histories.{IsHistory, history_in};
+ghost use Rattle.bd_space.specs.Histories.{IsHistory};
+ghost use Rattle.bd_spelling.specs.Records.{history_in};
 
 use crate::same::{holds, same};
 use crate::steps::{enter, fields, open};
 use bd_audit::{Given, call_of_reply, gift_chain, given_at};
 use bd_engine::Engine;
-use bd_space::{Bytes, Parcel, Record, Step, StepAnswer};
+use bd_space::{Bytes, Parcel, Step, StepAnswer};
+use bd_spelling::Record;
 use bd_uapi::{Command, MOST_SEATS, TransactionData, TransactionFlags};
 use std::alloc::{AllocError, Global};
 use std::process::Abort;

@@ -1,5 +1,6 @@
 use Rattle.std.proofs.Common.{◌≡◌, subst}
-use Rattle.bd_space.specs.Histories.{History, space_after, history_in}
+use Rattle.bd_space.specs.Histories.{History, space_after}
+use Rattle.bd_spelling.specs.Records.{history_in}
 use Rattle.bd_audit.specs.GiftSearch.{IsHolder}
 use Rattle.bd_audit.proofs.NamesHaveGiftChains.GiftSteps.{holder_knows, chain_of}
 use Rattle.bd_audit.proofs.gifts.gift_chain.Goals as goal

@@ -1,5 +1,6 @@
 use Rattle.bd_laws.proofs.words.Logic.{rules, arith, ◌≡◌, [], ◌∷◌, ◌++◌, None, subst, sym, err_from_is_err_and}
-use Rattle.bd_space.specs.Histories.{History, history_in}
+use Rattle.bd_space.specs.Histories.{History}
+use Rattle.bd_spelling.specs.Records.{history_in}
 use Rattle.bd_audit.specs.GiftSearch.{AreGifts}
 use Rattle.bd_audit.proofs.Beginnings.{all_played, next_beginning, next_lawful}
 use Rattle.bd_audit.proofs.NamesHaveGiftChains.GiftSteps.{receiver_there, gifts_same, gifts_more}

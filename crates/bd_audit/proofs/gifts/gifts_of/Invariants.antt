@@ -1,5 +1,5 @@
 use Rattle.std.proofs.Common.{◌≡◌}
-use Rattle.bd_space.specs.Histories.{history_in}
+use Rattle.bd_spelling.specs.Records.{history_in}
 use Rattle.bd_audit.specs.GiftSearch.{AreGifts}
 use Rattle.bd_audit.specs.Replays.{beginning}
 use Rattle.bd_audit.proofs.gifts.gifts_of.Given as goal

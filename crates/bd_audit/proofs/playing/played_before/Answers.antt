@@ -1,4 +1,4 @@
-use Rattle.bd_space.specs.Histories.{history_in}
+use Rattle.bd_spelling.specs.Records.{history_in}
 use Rattle.bd_audit.proofs.Beginnings.{front_begun}
 use Rattle.bd_audit.proofs.playing.played_before.Goals as goal
 

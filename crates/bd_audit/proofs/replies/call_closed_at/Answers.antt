@@ -1,5 +1,5 @@
 use Rattle.std.proofs.Common.{◌∙◌, sym}
-use Rattle.bd_space.specs.Histories.{history_in}
+use Rattle.bd_spelling.specs.Records.{history_in}
 use Rattle.bd_audit.proofs.Beginnings.{take_history}
 use Rattle.bd_audit.proofs.ReplyCalls.{closed_some, closed_none, past_closed}
 use Rattle.bd_audit.proofs.replies.call_closed_at.Goals as goal

@@ -1,4 +1,5 @@
-use Rattle.bd_space.specs.Histories.{space_after, history_in}
+use Rattle.bd_space.specs.Histories.{space_after}
+use Rattle.bd_spelling.specs.Records.{history_in}
 use Rattle.bd_audit.specs.Replies.{reply_taken, reply_taken_at}
 use Rattle.bd_audit.proofs.Beginnings.{take_history, entry_lawful}
 use Rattle.bd_audit.proofs.ReplyCalls.{by_name, there_taken, past_taken}

@@ -1,5 +1,6 @@
 use Rattle.bd_laws.proofs.words.Logic.{◌∙◌, refl, sym, ap, subst, arith, err_from_is_err_and}
-use Rattle.bd_space.specs.Histories.{History, history_in}
+use Rattle.bd_space.specs.Histories.{History}
+use Rattle.bd_spelling.specs.Records.{history_in}
 use Rattle.bd_ways.specs.Words.{Identity}
 use Rattle.bd_audit.specs.TurnSearch.{turns_on}
 use Rattle.bd_audit.specs.TurnCalls.{AreTurns}

@@ -1,7 +1,7 @@
 use Rattle.std.proofs.Common.{rules, arith, ◌≡◌, ◌∙◌, ◌+◌, ℕ, [], ◌∷◌, ◌++◌, All, Some, ap, length, subst, sym}
 use Rattle.std.specs.List.{slice_get}
 use Rattle.std.proofs.lemmas.List.Elements.{All-nil, All-push}
-use Rattle.bd_space.specs.Histories.{history_in}
+use Rattle.bd_spelling.specs.Records.{history_in}
 use Rattle.bd_audit.proofs.Beginnings.{next_beginning, next_lawful, one_next}
 use Rattle.bd_player.specs.Certified.{IsGiftOf}
 use Rattle.bd_player.proofs.Gifts.{AreSoFar, all_given, gives, made_there, none_yet, passes, placed, so_many}

@@ -1,5 +1,5 @@
 use Rattle.std.proofs.Common.{arith, rules}
-use Rattle.bd_space.specs.Histories.{history_in}
+use Rattle.bd_spelling.specs.Records.{history_in}
 use Rattle.bd_audit.proofs.Beginnings.{next_lawful}
 use Rattle.bd_player.proofs.entries.entry_at.Goals as goal
 

@@ -1,4 +1,3 @@
-use Rattle.std.proofs.Common.{◌≡◌, ◌++◌, ◌∷◌, [], refl}
 use Rattle.std.proofs.lemmas.List.{append_assoc}
 use Rattle.bd_spelling.proofs.putting.put_step.Goals as goal
 

@@ -1,5 +1,4 @@
-use Rattle.std.proofs.Common.{◌+◌, ◌++◌, ◌∷◌, [], List, ap, ◌∙◌, arith, refl}
-use Rattle.bd_space.specs.declared.step.Entry.{Entry}
+use Rattle.std.proofs.Common.{◌+◌, ◌++◌, ◌∷◌, [], ap, ◌∙◌, arith, refl}
 use Rattle.bd_spelling.specs.Logged.{LogView}
 use Rattle.bd_spelling.proofs.Logs.{more_at, fewer, longer}
 use Rattle.bd_spelling.proofs.chunk.Chunk.push.Goals as goal

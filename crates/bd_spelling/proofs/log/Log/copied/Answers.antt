@@ -1,4 +1,4 @@
-use Rattle.std.proofs.Common.{◌≡◌, ◌++◌, ◌≤◌, List, take, length, arith, ap}
+use Rattle.std.proofs.Common.{◌≡◌, ◌≤◌, take, length, arith, ap}
 use Rattle.std.proofs.lemmas.List.{take_all}
 use Rattle.bd_spelling.specs.Logged.{LogView}
 use Rattle.bd_spelling.proofs.log.Log.copied.Goals as goal

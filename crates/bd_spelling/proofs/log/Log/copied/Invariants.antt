@@ -1,4 +1,4 @@
-use Rattle.std.proofs.Common.{◌≡◌, List, take}
+use Rattle.std.proofs.Common.{◌≡◌, take}
 use Rattle.std.specs.List.{flat_map}
 use Rattle.bd_spelling.specs.Logged.{LogView}
 use Rattle.bd_spelling.proofs.log.Log.copied.Given as goal

@@ -1,0 +1,8 @@
+use Rattle.bd_spelling.proofs.Logs.{none}
+use Rattle.bd_spelling.proofs.chunk.ChunkReader.none.Goals as goal
+
+pub invariant_of-result : goal.invariant_of-result
+invariant_of-result c = none.1
+
+pub returns : goal.returns
+returns c = none.0
