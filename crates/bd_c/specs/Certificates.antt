@@ -1,5 +1,5 @@
 -- What is certified of the history whose journal some bytes are.
-use Rattle.std.specs.Prelude.{ℕ, ◌≡◌, ◌⊎◌, List, [], Option, Some, None, map}
+use Rattle.std.specs.Prelude.{ℕ, ◌≡◌, ◌⊎◌, List, [], Option, Some, None}
 use Rattle.bd_space.specs.declared.record.Record.{Record}
 use Rattle.bd_space.specs.Histories.{IsHistory, history_in, space_after}
 use Rattle.bd_journal.specs.{Spelling.{Tells as IsJournalOf}, Cut.{HasHeading}}
