@@ -28,11 +28,18 @@ no_entry v seats = refl
 
 -- what is a journal has a heading
 pub has_heading : (bytes : List ℕ) (r : Record) → IsJournalOf bytes r → HasHeading bytes
-has_heading bytes r (v, is, told) =
-    (r, [], (v, length r.entries, record {
+has_heading bytes r (v, is, told) = (
+  r,
+  [],
+  (
+    v,
+    length r.entries,
+    record {
       seats = is.seats;
       count_fits = is.count;
       entries = is.entries;
       parts = told ∙ sym (append-nil (heading_in v r.seats (length r.entries) ++ flat_map entry_bytes r.entries));
       none_left = no_entry v r.seats;
-    }))
+    },
+  ),
+)
