@@ -2,7 +2,8 @@
 /* Whether what has gone gives its memory back, which no contract says: makes and ends each kind of thing 100,000 times in a live engine,
    and complains where the engine ever has more memory than it had within the first thousand. Linked with malloc, realloc and free
    wrapped (cc -Wl,--wrap=malloc,--wrap=realloc,--wrap=free), by which it counts what is asked for. Last it plays rounds that leave
-   something behind, which have to be seen. Prints nothing but its complaints. */
+   something behind, which have to be seen. And a thousand processes get a large parcel each, whose memory has to come back with it. Prints
+   nothing but its complaints. */
 #include "asking.h"
 
 #include <stdio.h>
@@ -278,9 +279,68 @@ static bool grows(struct kind kind, uint64_t rounds, bool wanted)
     return (others > first) == wanted;
 }
 
+/* ---- windows, each of which a large parcel was in once */
+
+enum { CROWD = 1000, SMALL = 8, LARGE = 1 << 20, CROWD_WINDOW = 4 << 20 };
+
+/* The manager replies to the process with so many bytes, which it reads and frees. */
+static bool is_answered(hullpippin_live *live, uint32_t seat, uint64_t size)
+{
+    static const uint8_t parcel[LARGE];
+    uint64_t asked, answered;
+    hullpippin_command reply = {.code = HULLPIPPIN_BC_REPLY, .transaction = {.data_size = size}};
+    return calls(live, seat, 0, 0) && drains(live, seat) && takes(live, MANAGER, &asked) && runs(live, MANAGER, &reply, parcel)
+           && frees(live, MANAGER, asked) && takes(live, seat, &answered) && frees(live, seat, answered) && drains(live, MANAGER);
+}
+
+static bool crowd_opens(hullpippin_live *live)
+{
+    for (uint32_t i = 0; i < CROWD; i++)
+        if (!opens_process(live, SEATS + i, GUEST_PID + i, CROWD_WINDOW))
+            return false;
+    return true;
+}
+
+static bool crowd_is_answered(hullpippin_live *live, uint64_t size)
+{
+    for (uint32_t i = 0; i < CROWD; i++)
+        if (!is_answered(live, SEATS + i, size))
+            return false;
+    return true;
+}
+
+/* How much memory the engine has after a small parcel each, and after a large one. */
+static bool measures_windows(size_t *small, size_t *large)
+{
+    hullpippin_live live = HULLPIPPIN_NO_LIVE;
+    if (!is_done(hullpippin_live_new(SEATS + CROWD, &live)))
+        return false;
+    bool played = opens_live(&live, MANAGER, CLIENT) && enters_loop(&live, MANAGER) && crowd_opens(&live) && crowd_is_answered(&live, SMALL);
+    *small = in_use;
+    played = played && crowd_is_answered(&live, LARGE);
+    *large = in_use;
+    hullpippin_free_live(&live);
+    return played;
+}
+
+/* What all of them share may have become as large as a parcel. */
+static bool gives_windows_back(void)
+{
+    size_t small, large;
+    if (!measures_windows(&small, &large)) {
+        fprintf(stderr, "lasting: windows: %s\n", complaint);
+        return false;
+    }
+    if (getenv("FIGURES"))
+        fprintf(stderr, "windows: %zu bytes after small parcels, %zu after large ones\n", small, large);
+    if (large > small + LARGE)
+        fprintf(stderr, "lasting: windows: from %zu bytes to %zu\n", small, large);
+    return large <= small + LARGE;
+}
+
 int main(void)
 {
-    bool good = true;
+    bool good = gives_windows_back();
     for (size_t i = 0; i < sizeof KINDS / sizeof KINDS[0]; i++)
         good = grows(KINDS[i], ALL, false) && good;
     return grows(STAYS, LEFT, true) && good ? 0 : 1;

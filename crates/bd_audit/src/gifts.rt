@@ -64,7 +64,7 @@ fn receiver_at(engine: &WideEngine, place: u32) -> Option<u64>
     ensures { result ≡ spec.receiver_at (space_after engine.now) place }
 {
     match Looks::buffer(engine, u64::from(place)) {
-        Some(buffer) => Some(buffer.receiver),
+        Some(buffer) => Some(buffer.receiver()),
         None => None,
     }
 }

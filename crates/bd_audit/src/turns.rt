@@ -9,8 +9,9 @@ ghost use Rattle.bd_audit.specs.TurnCalls.{AreTurns};
 ghost use Rattle.bd_audit.specs.TurnSearch as spec;
 
 use crate::playing::advance;
+use bd_buffers::Lent;
 use bd_engine::{Looks, WideEngine};
-use bd_space::{Buffer, Entry, Identity, ObjectId, Record};
+use bd_space::{Entry, Identity, ObjectId, Record};
 use bd_uapi::Fault;
 use std::alloc::Global;
 
@@ -57,15 +58,15 @@ fn is_handed(engine: &WideEngine, made: u32) -> bool
     ensures { result ≡ spec.is_handed (space_after engine.now).buffers made }
 {
     match Looks::buffer(engine, u64::from(made)) {
-        Some(buffer) => buffer.handed,
+        Some(buffer) => buffer.is_handed(),
         None => false,
     }
 }
 
-fn is_call_on(buffer: &Buffer, object: Identity) -> bool
+fn is_call_on(buffer: &Lent<'_>, object: Identity) -> bool
     ensures { result ≡ spec.is_call_on object buffer.now }
 {
-    buffer.one_way && matches!(buffer.target, Some(target) if target == object)
+    buffer.is_one_way() && matches!(buffer.target(), Some(target) if target == object)
 }
 
 // The turn after the engine's last step, which stands at this place.
@@ -103,7 +104,7 @@ fn turn_made(engine: &WideEngine, place: u32, object: Identity) -> Option<Turn>
 {
     match Looks::buffer(engine, u64::from(place)) {
         Some(buffer) => {
-            if is_call_on(buffer, object) {
+            if is_call_on(&buffer, object) {
                 Some(Turn {
                     made: place,
                     handed: None,

@@ -31,7 +31,7 @@ use Rattle.bd_buffers.specs.declared.windows.Windows.{Windows}
 use Rattle.bd_buffers.specs.Homes.{home_key, AreHomes, Forgets}
 use Rattle.bd_buffers.specs.Owners.{AreInOrder}
 use Rattle.bd_buffers.specs.Window as single
-use Rattle.bd_buffers.specs.WindowsStand.{ProcessWindow, seen, window_of, with_buffers, is_owned_by, is_of, WindowsOf, Stands, room_of, buffers_held, CanHoldIn, made_of_buffer}
+use Rattle.bd_buffers.specs.WindowsStand.{ProcessWindow, seen, window_of, with_buffers, is_owned_by, is_of, WindowsOf, Stands, buffers_held, CanHoldIn, made_of_buffer}
 use Rattle.bd_buffers.proofs.Homes.{homes_handed, homes_closed, home_finds}
 use Rattle.bd_buffers.proofs.InSpace.{added, added_elsewhere, kept_in, handed_in, others_stay}
 use Rattle.bd_buffers.proofs.Order.{lives_below, process_made, buffer_made, made_kept, made_handed, process_gone}
@@ -228,12 +228,9 @@ is_at t p i w e at =
       first = sym (position_or_len_is (is_owned_by p) t.windows i w (omega arith) is.2 (λ h. is.1));
     }
 
-pub room_at : (t : Windows) (p i : ℕ) (w : OwnedWindow) → IsAt t p i w → room_of (find (is_owned_by p) t.windows) ≡ w.window.room
-room_at t p i w is = ap room_of is.found
-
-pub room_left : (t : Windows) (p i : ℕ) (w x : OwnedWindow) → IsAt t p i w → x.owner ≡ w.owner → room_of (find (is_owned_by p) (set t.windows i x)) ≡ x.window.room
-room_left t p i w x is own =
-    ap room_of (find-set (is_owned_by p) t.windows i x is.first is.within (eq-eqb x.owner p (own ∙ is.owner_is)))
+-- the window that stands there after it is changed
+pub left_at : (t : Windows) (p i : ℕ) (w x : OwnedWindow) → IsAt t p i w → x.owner ≡ w.owner → find (is_owned_by p) (set t.windows i x) ≡ Some x
+left_at t p i w x is own = find-set (is_owned_by p) t.windows i x is.first is.within (eq-eqb x.owner p (own ∙ is.owner_is))
 
 -- the windows are seen as before where one is changed that still stands for the same
 pub stay_seen : (t : Windows) (p i : ℕ) (w : OwnedWindow) (new : Window) → position (is_owned_by p) t.windows ≡ Some i → w ≡ get_or t.windows i w

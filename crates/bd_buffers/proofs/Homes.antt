@@ -20,7 +20,9 @@ use Rattle.bd_space.specs.ReadItems.{hand_out}
 use Rattle.bd_keys.proofs.Rising.{Rising, distinct}
 use Rattle.bd_keys.proofs.Found.{none_found, find_gone, find_stays}
 use Rattle.bd_buffers.specs.declared.rows.Row.{Row}
-use Rattle.bd_buffers.specs.Homes.{home_key, AreHomes, Forgets}
+use Rattle.bd_buffers.specs.declared.record.Record.{Record}
+use Rattle.bd_buffers.specs.Record.{is_record_at, record_in}
+use Rattle.bd_buffers.specs.Homes.{home_key, AreHomes, Forgets, ForgetsRecords}
 use Rattle.bd_buffers.specs.Rows.{live, in_row}
 use Rattle.bd_buffers.proofs.Listed.{key_word, told_handed}
 use Rattle.bd_buffers.proofs.Made.{kept, find_kept, find_beside, find_new, none_of}
@@ -124,11 +126,11 @@ homes_handed homes bs q are = λ m. are m ∙ sym (told_handed (is_made_at m) (�
 
 -- ---- row after row
 
-first_alone : (o : Option Buffer) → cons_option o [] ≡ option_to_list o
+first_alone : (o : Option Record) → cons_option o [] ≡ option_to_list o
 first_alone None = refl
 first_alone (Some b) = refl
 
-first_before : (o : Option Buffer) (bs cs : List Buffer) → cons_option o (bs ++ cs) ≡ cons_option o bs ++ cs
+first_before : (o : Option Record) (bs cs : List Record) → cons_option o (bs ++ cs) ≡ cons_option o bs ++ cs
 first_before None bs cs = refl
 first_before (Some b) bs cs = refl
 
@@ -139,26 +141,26 @@ front_next (r ∷ rows) zero = first_alone r.buffer
 front_next (r ∷ rows) (suc i) = ap (cons_option r.buffer) (front_next rows i) ∙ first_before r.buffer (live (take i rows)) (option_to_list (in_row rows i))
 
 -- the live buffers of one row more
-pub front_more : (rows : List Row) (i : ℕ) (o : Option Buffer) → o ≡ in_row rows i → live (take (i + 1) rows) ≡ live (take i rows) ++ option_to_list o
+pub front_more : (rows : List Row) (i : ℕ) (o : Option Record) → o ≡ in_row rows i → live (take (i + 1) rows) ≡ live (take i rows) ++ option_to_list o
 front_more rows i o e =
     let next : i + 1 ≡ suc i = omega arith in
     ap (λ k. live (take k rows)) next ∙ front_next rows i ∙ ap (λ x. live (take i rows) ++ option_to_list x) (sym e)
 
-either_gone : (o : Option Buffer) (b : Buffer) (t : Bool) (h : Option ℕ) → cond t None (cond (is_some o) None h) ≡ cond (is_some (option_or o (cond t (Some b) None))) None h
+either_gone : (o : Option Record) (b : Record) (t : Bool) (h : Option ℕ) → cond t None (cond (is_some o) None h) ≡ cond (is_some (option_or o (cond t (Some b) None))) None h
 either_gone None b true h = refl
 either_gone None b false h = refl
 either_gone (Some x) b true h = refl
 either_gone (Some x) b false h = refl
 
-pub forgets_more : (rows : List Row) (i : ℕ) (b : Buffer) (old mid new : WordMap ℕ) → Some b ≡ in_row rows i → Forgets (live (take i rows)) old mid
-    → ((k : WordKey) → look new k ≡ cond (same_word (home_key b.made) k) None (look mid k)) → Forgets (live (take (i + 1) rows)) old new
+pub forgets_more : (rows : List Row) (i : ℕ) (b : Record) (old mid new : WordMap ℕ) → Some b ≡ in_row rows i → ForgetsRecords (live (take i rows)) old mid
+    → ((k : WordKey) → look new k ≡ cond (same_word (home_key b.made) k) None (look mid k)) → ForgetsRecords (live (take (i + 1) rows)) old new
 forgets_more rows i b old mid new there forgets gone = λ m.
     gone (home_key m) ∙ ap (λ t. cond t None (look mid (home_key m))) (key_word b.made m) ∙ ap (λ h. cond (b.made == m) None h) (forgets m)
-    ∙ either_gone (buffer_in (live (take i rows)) m) b (b.made == m) (look old (home_key m))
+    ∙ either_gone (record_in (live (take i rows)) m) b (b.made == m) (look old (home_key m))
     ∙ sym (ap (λ o. cond (is_some o) None (look old (home_key m)))
-    (ap (find (is_made_at m)) (front_more rows i (Some b) there) ∙ find-append (is_made_at m) (live (take i rows)) (b ∷ [])))
+    (ap (find (is_record_at m)) (front_more rows i (Some b) there) ∙ find-append (is_record_at m) (live (take i rows)) (b ∷ [])))
 
-pub forgets_same : (rows : List Row) (i : ℕ) (old new : WordMap ℕ) → None ≡ in_row rows i → Forgets (live (take i rows)) old new → Forgets (live (take (i + 1) rows)) old new
+pub forgets_same : (rows : List Row) (i : ℕ) (old new : WordMap ℕ) → None ≡ in_row rows i → ForgetsRecords (live (take i rows)) old new → ForgetsRecords (live (take (i + 1) rows)) old new
 forgets_same rows i old new none forgets =
-    let P : List Buffer → Type 0 = λ bs. Forgets bs old new in
+    let P : List Record → Type 0 = λ bs. ForgetsRecords bs old new in
     subst P (sym (front_more rows i None none ∙ append-nil (live (take i rows)))) forgets

@@ -1,7 +1,6 @@
 -- What a window keeps through each change.
 use Rattle.std.proofs.Common.{◌≡◌, ℕ, zero, suc, ◌+◌, ◌%◌, ◌<◌, ◌≤◌, Bool, true, false, cond, List, [], ◌∷◌, ◌++◌, length, get_or, refl, ap, sym, ◌∙◌, arith, All}
-use Rattle.std.specs.Prelude.{Ok, Option, Some, None, IsTrue, IfSome, filter, find, remove, option_copied}
-use denote.Ref.{Bor}
+use Rattle.std.specs.Prelude.{Ok, Option, Some, None, IsTrue, IfSome, filter, find, remove}
 use Rattle.std.proofs.lemmas.List.Elements.{All-push}
 use Rattle.std.proofs.lemmas.List.Quantifiers.{all_pairs_push, all_pairs_remove}
 use Rattle.std.proofs.lemmas.List.Sums.{sum_by-cons}
@@ -140,6 +139,6 @@ wide size b small is =
     let inside = is.inside in
     record { aligned = is.aligned; sized = is.sized; inside = omega (arith, small, inside); parts = is.parts; bytes_fit = is.bytes_fit; offsets_fit = is.offsets_fit }
 
-pub found_placed : (size : ℕ) (q : Buffer → Bool) (bs : List Buffer) (r : Option (Bor Buffer)) → IsWindow size bs → option_copied r ≡ find q bs → IfSome r (λ b. IsPlaced 4194304 b.now)
+pub found_placed : (size : ℕ) (q : Buffer → Bool) (bs : List Buffer) (r : Option Buffer) → IsWindow size bs → r ≡ find q bs → IfSome r (λ b. IsPlaced 4194304 b)
 found_placed size q bs None is e = tt
-found_placed size q bs (Some b) is e = wide size b.now is.small (found_has q (IsPlaced size) bs b.now (sym e) is.placed).0
+found_placed size q bs (Some b) is e = wide size b is.small (found_has q (IsPlaced size) bs b (sym e) is.placed).0

@@ -18,7 +18,7 @@ use Rattle.bd_buffers.specs.Buffer.{IsApart, at_pointer}
 use Rattle.bd_buffers.specs.Window.{IsWindow}
 use Rattle.bd_buffers.specs.Spots.{AreSpots, spot_key}
 use Rattle.bd_buffers.specs.Rows.{IsWithout}
-use Rattle.bd_buffers.proofs.Fits.{filled}
+use Rattle.bd_buffers.proofs.Units.{filled}
 use Rattle.bd_buffers.proofs.Made.{find_beside, find_new}
 
 pub spots_empty : (spots : WordMap ℕ) → ((k : WordKey) → look spots k ≡ None) → AreSpots [] spots

@@ -10,14 +10,13 @@ use Rattle.std.proofs.lemmas.List.Quantifiers.{all_pairs_push}
 use Rattle.std.proofs.lemmas.List.Kept.{AllPairs-filter}
 use Rattle.std.proofs.lemmas.List.Edits.{length-remove}
 use Rattle.std.proofs.lemmas.Option.{slice_get_within, get_or_from_slice_get}
-use Rattle.bd_space.specs.declared.space.Buffer.{Buffer}
+use Rattle.bd_buffers.specs.declared.record.Record.{Record}
 use Rattle.bd_space.specs.Words.{changed}
-use Rattle.bd_space.specs.Freeing.{is_made_at}
-use Rattle.bd_space.specs.ReadItems.{hand_out}
 use Rattle.bd_keys.proofs.Rising.{pairs_head, pairs_tail, newest_all, distinct, filter_at, filter_none}
 use Rattle.bd_keys.proofs.Found.{found_has, none_found}
 use Rattle.bd_space.proofs.Keyed.{changed_none}
 use Rattle.bd_buffers.specs.declared.rows.Row.{Row}
+use Rattle.bd_buffers.specs.Record.{is_record_at, hand_over}
 use Rattle.bd_buffers.specs.Rows.{live, in_row, IsOwn, ends_empty, refilled, emptied, AreRows, IsTrimmed, IsWithout}
 use Rattle.bd_buffers.proofs.Changes.{pairs_cons}
 
@@ -83,15 +82,15 @@ trimmed_more old rows new r is split none = record {
 
 -- ---- the end
 
-full_not_none : (o : Option Buffer) → not (is_some o) ≡ false → (b : Buffer) × (o ≡ Some b)
+full_not_none : (o : Option Record) → not (is_some o) ≡ false → (b : Record) × (o ≡ Some b)
 full_not_none None e = absurd (false≢true (sym e))
 full_not_none (Some b) e = (b, refl)
 
 -- the last row has its buffer
-pub last_full : (rows : List Row) (r : Row) → ends_empty rows ≡ false → slice_get rows (length rows - 1) ≡ Some r → (b : Buffer) × (r.buffer ≡ Some b)
+pub last_full : (rows : List Row) (r : Row) → ends_empty rows ≡ false → slice_get rows (length rows - 1) ≡ Some r → (b : Record) × (r.buffer ≡ Some b)
 last_full rows r ends is = full_not_none r.buffer (sym (ap (λ o. unwrap_or (option_map (λ (x : Row). not (is_some x.buffer)) o) false) is) ∙ ends)
 
-empty_by : (o : Option Buffer) → not (is_some o) ≡ true → o ≡ None
+empty_by : (o : Option Record) → not (is_some o) ≡ true → o ≡ None
 empty_by None e = refl
 empty_by (Some b) e = absurd (false≢true e)
 
@@ -113,9 +112,9 @@ ends_full rows all = ends_by rows (slice_get rows (length rows - 1)) all refl
 
 -- ---- where all were made before
 
-first_own : (P : ℕ → Type 0) (made : ℕ) (o : Option Buffer) (bs : List Buffer) → IsOwn made o → P made → All (λ b. P b.made) bs → All (λ b. P b.made) (cons_option o bs)
+first_own : (P : ℕ → Type 0) (made : ℕ) (o : Option Record) (bs : List Record) → IsOwn made o → P made → All (λ b. P b.made) bs → All (λ b. P b.made) (cons_option o bs)
 first_own P made None bs own here rest = rest
-first_own P made (Some b) bs own here rest = All-cons (λ (x : Buffer). P x.made) b bs (subst P (sym own) here) rest
+first_own P made (Some b) bs own here rest = All-cons (λ (x : Record). P x.made) b bs (subst P (sym own) here) rest
 
 -- what all rows' places have, all live buffers' have
 pub live_all : (P : ℕ → Type 0) (rows : List Row) → All own_row rows → All (λ r. P r.made) rows → All (λ b. P b.made) (live rows)
@@ -124,29 +123,29 @@ live_all P (r ∷ rows) own all =
     first_own P r.made r.buffer (live rows) (All-head own_row r rows own) (All-head (λ (x : Row). P x.made) r rows all)
     (live_all P rows (All-tail own_row r rows own) (All-tail (λ (x : Row). P x.made) r rows all))
 
-first_live : (P : Buffer → Type 0) (o : Option Buffer) (bs : List Buffer) (b : Buffer) → o ≡ Some b → All P (cons_option o bs) → P b
+first_live : (P : Record → Type 0) (o : Option Record) (bs : List Record) (b : Record) → o ≡ Some b → All P (cons_option o bs) → P b
 first_live P None bs b e all = absurd (cc)
 first_live P (Some x) bs b e all = let same : x ≡ b = cc in subst P same (All-head P x bs all)
 
-rest_live : (P : Buffer → Type 0) (o : Option Buffer) (bs : List Buffer) → All P (cons_option o bs) → All P bs
+rest_live : (P : Record → Type 0) (o : Option Record) (bs : List Record) → All P (cons_option o bs) → All P bs
 rest_live P None bs all = all
 rest_live P (Some x) bs all = All-tail P x bs all
 
 -- what all live buffers have, that of a row has
-pub row_has : (P : Buffer → Type 0) (rows : List Row) (k : ℕ) (r : Row) (b : Buffer) → slice_get rows k ≡ Some r → r.buffer ≡ Some b → All P (live rows) → P b
+pub row_has : (P : Record → Type 0) (rows : List Row) (k : ℕ) (r : Row) (b : Record) → slice_get rows k ≡ Some r → r.buffer ≡ Some b → All P (live rows) → P b
 row_has P [] k r b is e all = absurd (cc)
 row_has P (x ∷ rows) zero r b is e all = let same : x ≡ r = cc in first_live P x.buffer (live rows) b (ap (λ (y : Row). y.buffer) same ∙ e) all
 row_has P (x ∷ rows) (suc k) r b is e all = row_has P rows k r b is e (rest_live P x.buffer (live rows) all)
 
-own_of : (made : ℕ) (o : Option Buffer) (b : Buffer) → o ≡ Some b → IsOwn made o → b.made ≡ made
+own_of : (made : ℕ) (o : Option Record) (b : Record) → o ≡ Some b → IsOwn made o → b.made ≡ made
 own_of made None b e own = absurd (cc)
-own_of made (Some x) b e own = let same : x ≡ b = cc in ap (λ (y : Buffer). y.made) (sym same) ∙ own
+own_of made (Some x) b e own = let same : x ≡ b = cc in ap (λ (y : Record). y.made) (sym same) ∙ own
 
 -- the last row was made before, if all live buffers were
 pub last_below : (rows : List Row) (r : Row) (n count : ℕ) → AreRows rows count → slice_get rows (length rows - 1) ≡ Some r → All (λ b. b.made < n) (live rows) → r.made < n
 last_below rows r n count is last all =
     let full = last_full rows r is.ends last in
-    let low = row_has (λ (b : Buffer). b.made < n) rows (length rows - 1) r full.0 last full.1 all in
+    let low = row_has (λ (b : Record). b.made < n) rows (length rows - 1) r full.0 last full.1 all in
     let own = own_of r.made r.buffer full.0 full.1 (All_at own_row rows (length rows - 1) r is.own last) in
     omega (arith, low, own)
 
@@ -167,23 +166,23 @@ rows_below rows n count is all = below_by rows n count (slice_get rows (length r
 
 -- ---- what is found by its place
 
-missed_first : (made n : ℕ) (o : Option Buffer) (bs : List Buffer) → IsOwn made o → (made == n) ≡ false → find (is_made_at n) (cons_option o bs) ≡ find (is_made_at n) bs
+missed_first : (made n : ℕ) (o : Option Record) (bs : List Record) → IsOwn made o → (made == n) ≡ false → find (is_record_at n) (cons_option o bs) ≡ find (is_record_at n) bs
 missed_first made n None bs own other = refl
-missed_first made n (Some b) bs own other = ap (λ t. cond t (Some b) (find (is_made_at n) bs)) (ap (λ k. k == n) own ∙ other)
+missed_first made n (Some b) bs own other = ap (λ t. cond t (Some b) (find (is_record_at n) bs)) (ap (λ k. k == n) own ∙ other)
 
-pub found_none : (n : ℕ) (rows : List Row) → All own_row rows → All (λ r. (r.made == n) ≡ false) rows → find (is_made_at n) (live rows) ≡ None
+pub found_none : (n : ℕ) (rows : List Row) → All own_row rows → All (λ r. (r.made == n) ≡ false) rows → find (is_record_at n) (live rows) ≡ None
 found_none n [] own none = refl
 found_none n (r ∷ rows) own none =
     missed_first r.made n r.buffer (live rows) (All-head own_row r rows own) (All-head (λ (x : Row). (x.made == n) ≡ false) r rows none)
     ∙ found_none n rows (All-tail own_row r rows own) (All-tail (λ (x : Row). (x.made == n) ≡ false) r rows none)
 
-found_first : (made n : ℕ) (o : Option Buffer) (bs : List Buffer) → IsOwn made o → made ≡ n → find (is_made_at n) bs ≡ None → find (is_made_at n) (cons_option o bs) ≡ o
+found_first : (made n : ℕ) (o : Option Record) (bs : List Record) → IsOwn made o → made ≡ n → find (is_record_at n) bs ≡ None → find (is_record_at n) (cons_option o bs) ≡ o
 found_first made n None bs own same none = none
-found_first made n (Some b) bs own same none = ap (λ t. cond t (Some b) (find (is_made_at n) bs)) (eq-eqb b.made n (own ∙ same))
+found_first made n (Some b) bs own same none = ap (λ t. cond t (Some b) (find (is_record_at n) bs)) (eq-eqb b.made n (own ∙ same))
 
 -- that of the row made there
 pub found_row : (n : ℕ) (rows : List Row) (i : ℕ) → AllPairs (λ a b. a.made < b.made) rows → All own_row rows → i < length rows → ((d : Row) → (get_or rows i d).made ≡ n)
-    → find (is_made_at n) (live rows) ≡ in_row rows i
+    → find (is_record_at n) (live rows) ≡ in_row rows i
 found_row n [] i rising own lt at = absurd (omega arith)
 found_row n (r ∷ rows) zero rising own lt at =
     found_first r.made n r.buffer (live rows) (All-head own_row r rows own) (at r)
@@ -198,13 +197,13 @@ found_row n (r ∷ rows) (suc i) rising own lt at =
 -- what a search among the rows answers is the row of what is looked for
 pub row_by : (n : ℕ) (rows : List Row) (o : Option ℕ) → AllPairs (λ a b. a.made < b.made) rows → All own_row rows
     → MatchOption o (All (λ r. (r.made == n) ≡ false) rows) (λ i. (i < length rows) × ((d : Row) → (get_or rows i d).made ≡ n))
-    → option_and_then (in_row rows) o ≡ find (is_made_at n) (live rows)
+    → option_and_then (in_row rows) o ≡ find (is_record_at n) (live rows)
 row_by n rows None rising own none = sym (found_none n rows own none)
 row_by n rows (Some i) rising own here = sym (found_row n rows i rising own here.0 here.1)
 
 -- ---- where what a row has is changed
 
-module _ (f : Option Buffer → Option Buffer) where
+module _ (f : Option Record → Option Record) where
   -- as code writes it
   pub set_refilled : (rows : List Row) (i : ℕ) (r : Row) → i < length rows → r ≡ get_or rows i r → set rows i (record { made = r.made; buffer = f r.buffer }) ≡ refilled f i rows
   set_refilled [] i r lt e = absurd (omega arith)
@@ -213,7 +212,7 @@ module _ (f : Option Buffer → Option Buffer) where
 
   pub refilled_same : (rows : List Row) (i : ℕ) → f (in_row rows i) ≡ in_row rows i → refilled f i rows ≡ rows
   refilled_same [] i e = refl
-  refilled_same (r ∷ rows) zero e = let same : record { made = r.made; buffer = f r.buffer } ≡ r = ap (λ (o : Option Buffer). record { made = r.made; buffer = o }) e in ap (λ (x : Row). x ∷ rows) same
+  refilled_same (r ∷ rows) zero e = let same : record { made = r.made; buffer = f r.buffer } ≡ r = ap (λ (o : Option Record). record { made = r.made; buffer = o }) e in ap (λ (x : Row). x ∷ rows) same
   refilled_same (r ∷ rows) (suc i) e = ap (λ xs. r ∷ xs) (refilled_same rows i e)
 
   All_refilled : (P : Row → Type 0) → ((r : Row) → P r → P (record { made = r.made; buffer = f r.buffer })) → (rows : List Row) (i : ℕ) → All P rows → All P (refilled f i rows)
@@ -240,27 +239,27 @@ module _ (f : Option Buffer → Option Buffer) where
 pub emptied_own : (rows : List Row) (i : ℕ) → All own_row rows → All own_row (emptied i rows)
 emptied_own rows i own = All_refilled (λ o. None) own_row (λ r h. tt) rows i own
 
-without_first : (o : Option Buffer) (bs : List Buffer) (b : Buffer) → o ≡ Some b → IsWithout b (cons_option o bs) bs
+without_first : (o : Option Record) (bs : List Record) (b : Record) → o ≡ Some b → IsWithout b (cons_option o bs) bs
 without_first None bs b e = absurd (cc)
 without_first (Some x) bs b e = let same : b ≡ x = cc in record { index = 0; within = omega arith; at = λ d. same; left = refl }
 
-without_later : (o : Option Buffer) (b : Buffer) (old new : List Buffer) → IsWithout b old new → IsWithout b (cons_option o old) (cons_option o new)
+without_later : (o : Option Record) (b : Record) (old new : List Record) → IsWithout b old new → IsWithout b (cons_option o old) (cons_option o new)
 without_later None b old new is = is
 without_later (Some x) b old new is =
     record { index = suc is.index; within = (let lt = is.within in omega (arith, lt)); at = is.at; left = ap (λ bs. x ∷ bs) is.left }
 
 -- one buffer is missing
-pub emptied_live : (rows : List Row) (i : ℕ) (b : Buffer) → in_row rows i ≡ Some b → IsWithout b (live rows) (live (emptied i rows))
+pub emptied_live : (rows : List Row) (i : ℕ) (b : Record) → in_row rows i ≡ Some b → IsWithout b (live rows) (live (emptied i rows))
 emptied_live [] i b e = absurd (cc)
 emptied_live (r ∷ rows) zero b e = without_first r.buffer (live rows) b e
 emptied_live (r ∷ rows) (suc i) b e = without_later r.buffer b (live rows) (live (emptied i rows)) (emptied_live rows i b e)
 
-pub one_less : (b : Buffer) (old new : List Buffer) → IsWithout b old new → length new + 1 ≡ length old
-one_less b old new is = let gone = length-remove old is.index is.within in omega (arith, gone, ap (λ (bs : List Buffer). length bs) is.left)
+pub one_less : (b : Record) (old new : List Record) → IsWithout b old new → length new + 1 ≡ length old
+one_less b old new is = let gone = length-remove old is.index is.within in omega (arith, gone, ap (λ (bs : List Record). length bs) is.left)
 
 -- ---- where empty rows are left out
 
-first_packed : (r : Row) (rows : List Row) (o : Option Buffer) → r.buffer ≡ o → live (filter (λ (x : Row). is_some x.buffer) rows) ≡ live rows
+first_packed : (r : Row) (rows : List Row) (o : Option Record) → r.buffer ≡ o → live (filter (λ (x : Row). is_some x.buffer) rows) ≡ live rows
     → live (cond (is_some o) (r ∷ filter (λ (x : Row). is_some x.buffer) rows) (filter (λ (x : Row). is_some x.buffer) rows)) ≡ cons_option o (live rows)
 first_packed r rows None e rest = rest
 first_packed r rows (Some b) e rest = ap (λ o. cons_option o (live (filter (λ (x : Row). is_some x.buffer) rows))) e ∙ ap (λ bs. b ∷ bs) rest
@@ -287,7 +286,7 @@ packed_rows rows count is = record {
 
 -- ---- how many there are
 
-first_length : (o : Option Buffer) (bs : List Buffer) (n : ℕ) → length bs ≤ n → length (cons_option o bs) ≤ n + 1
+first_length : (o : Option Record) (bs : List Record) (n : ℕ) → length bs ≤ n → length (cons_option o bs) ≤ n + 1
 first_length None bs n le = omega arith
 first_length (Some b) bs n le = omega arith
 
@@ -295,15 +294,15 @@ pub live_length : (rows : List Row) → length (live rows) ≤ length rows
 live_length [] = omega arith
 live_length (r ∷ rows) = let rest = first_length r.buffer (live rows) (length rows) (live_length rows) in omega (arith, rest)
 
-one_first : (o : Option Buffer) (bs : List Buffer) (b : Buffer) → o ≡ Some b → 1 ≤ length (cons_option o bs)
+one_first : (o : Option Record) (bs : List Record) (b : Record) → o ≡ Some b → 1 ≤ length (cons_option o bs)
 one_first None bs b e = absurd (cc)
 one_first (Some x) bs b e = omega arith
 
-more_first : (o : Option Buffer) (bs : List Buffer) → 1 ≤ length bs → 1 ≤ length (cons_option o bs)
+more_first : (o : Option Record) (bs : List Record) → 1 ≤ length bs → 1 ≤ length (cons_option o bs)
 more_first None bs le = le
 more_first (Some x) bs le = omega arith
 
-pub one_there : (rows : List Row) (i : ℕ) (b : Buffer) → in_row rows i ≡ Some b → 1 ≤ length (live rows)
+pub one_there : (rows : List Row) (i : ℕ) (b : Record) → in_row rows i ≡ Some b → 1 ≤ length (live rows)
 one_there [] i b e = absurd (cc)
 one_there (r ∷ rows) zero b e = one_first r.buffer (live rows) b e
 one_there (r ∷ rows) (suc i) b e = more_first r.buffer (live rows) (one_there rows i b e)
@@ -320,10 +319,10 @@ get_last rows r =
     let same : length (rows ++ r ∷ []) - 1 ≡ length rows = omega (arith, len) in
     ap (slice_get (rows ++ r ∷ [])) same ∙ get_push rows r
 
-pub pushed_live : (rows : List Row) (made : ℕ) (b : Buffer) → live (rows ++ record { made = made; buffer = Some b } ∷ []) ≡ live rows ++ b ∷ []
+pub pushed_live : (rows : List Row) (made : ℕ) (b : Record) → live (rows ++ record { made = made; buffer = Some b } ∷ []) ≡ live rows ++ b ∷ []
 pushed_live rows made b = filter_map-append (λ (r : Row). r.buffer) rows (record { made = made; buffer = Some b } ∷ [])
 
-pub pushed_rows : (rows : List Row) (count : ℕ) (b : Buffer) → AreRows rows count → All (λ x. x.made < b.made) (live rows) → AreRows (rows ++ record { made = b.made; buffer = Some b } ∷ []) (count + 1)
+pub pushed_rows : (rows : List Row) (count : ℕ) (b : Record) → AreRows rows count → All (λ x. x.made < b.made) (live rows) → AreRows (rows ++ record { made = b.made; buffer = Some b } ∷ []) (count + 1)
 pushed_rows rows count b is newest =
     let r : Row = record { made = b.made; buffer = Some b } in
     let counted = is.counted in
@@ -351,71 +350,71 @@ popped_trimmed old rows new (Some r) is ends e =
 
 -- ---- where a buffer is handed out
 
-handed_own : (made : ℕ) (o : Option Buffer) → IsOwn made o → IsOwn made (option_map hand_out o)
+handed_own : (made : ℕ) (o : Option Record) → IsOwn made o → IsOwn made (option_map hand_over o)
 handed_own made None own = own
 handed_own made (Some b) own = own
 
-handed_some : (o : Option Buffer) → is_some (option_map hand_out o) ≡ is_some o
+handed_some : (o : Option Record) → is_some (option_map hand_over o) ≡ is_some o
 handed_some None = refl
 handed_some (Some b) = refl
 
 abbrev is_empty : Row → Bool
 is_empty r = not (is_some r.buffer)
 
-handed_get : (rows : List Row) (i k : ℕ) → option_map is_empty (slice_get (refilled (option_map hand_out) i rows) k) ≡ option_map is_empty (slice_get rows k)
+handed_get : (rows : List Row) (i k : ℕ) → option_map is_empty (slice_get (refilled (option_map hand_over) i rows) k) ≡ option_map is_empty (slice_get rows k)
 handed_get [] i k = refl
 handed_get (r ∷ rows) zero zero = ap (λ t. Some (not t)) (handed_some r.buffer)
 handed_get (r ∷ rows) zero (suc k) = refl
 handed_get (r ∷ rows) (suc i) zero = refl
 handed_get (r ∷ rows) (suc i) (suc k) = handed_get rows i k
 
-handed_ends : (rows : List Row) (i : ℕ) → ends_empty (refilled (option_map hand_out) i rows) ≡ ends_empty rows
+handed_ends : (rows : List Row) (i : ℕ) → ends_empty (refilled (option_map hand_over) i rows) ≡ ends_empty rows
 handed_ends rows i =
-    ap (λ n. unwrap_or (option_map is_empty (slice_get (refilled (option_map hand_out) i rows) (n - 1))) false) (refilled_length (option_map hand_out) rows i)
+    ap (λ n. unwrap_or (option_map is_empty (slice_get (refilled (option_map hand_over) i rows) (n - 1))) false) (refilled_length (option_map hand_over) rows i)
     ∙ ap (λ o. unwrap_or o false) (handed_get rows i (length rows - 1))
 
-handed_first : (made n : ℕ) (o : Option Buffer) (bs : List Buffer) → IsOwn made o → made ≡ n → changed (is_made_at n) hand_out bs ≡ bs
-    → cons_option (option_map hand_out o) bs ≡ changed (is_made_at n) hand_out (cons_option o bs)
+handed_first : (made n : ℕ) (o : Option Record) (bs : List Record) → IsOwn made o → made ≡ n → changed (is_record_at n) hand_over bs ≡ bs
+    → cons_option (option_map hand_over o) bs ≡ changed (is_record_at n) hand_over (cons_option o bs)
 handed_first made n None bs own same rest = sym rest
-handed_first made n (Some b) bs own same rest = sym (ap (λ t. cond t (hand_out b) b ∷ changed (is_made_at n) hand_out bs) (eq-eqb b.made n (own ∙ same)) ∙ ap (λ xs. hand_out b ∷ xs) rest)
+handed_first made n (Some b) bs own same rest = sym (ap (λ t. cond t (hand_over b) b ∷ changed (is_record_at n) hand_over bs) (eq-eqb b.made n (own ∙ same)) ∙ ap (λ xs. hand_over b ∷ xs) rest)
 
-handed_later : (made n : ℕ) (o : Option Buffer) (bs now : List Buffer) → IsOwn made o → (made == n) ≡ false → now ≡ changed (is_made_at n) hand_out bs
-    → cons_option o now ≡ changed (is_made_at n) hand_out (cons_option o bs)
+handed_later : (made n : ℕ) (o : Option Record) (bs now : List Record) → IsOwn made o → (made == n) ≡ false → now ≡ changed (is_record_at n) hand_over bs
+    → cons_option o now ≡ changed (is_record_at n) hand_over (cons_option o bs)
 handed_later made n None bs now own other rest = rest
 handed_later made n (Some b) bs now own other rest =
-    ap (λ xs. b ∷ xs) rest ∙ sym (ap (λ t. cond t (hand_out b) b ∷ changed (is_made_at n) hand_out bs) (ap (λ k. k == n) own ∙ other))
+    ap (λ xs. b ∷ xs) rest ∙ sym (ap (λ t. cond t (hand_over b) b ∷ changed (is_record_at n) hand_over bs) (ap (λ k. k == n) own ∙ other))
 
 pub handed_live : (n : ℕ) (rows : List Row) (i : ℕ) → AllPairs (λ a b. a.made < b.made) rows → All own_row rows → i < length rows → ((d : Row) → (get_or rows i d).made ≡ n)
-    → live (refilled (option_map hand_out) i rows) ≡ changed (is_made_at n) hand_out (live rows)
+    → live (refilled (option_map hand_over) i rows) ≡ changed (is_record_at n) hand_over (live rows)
 handed_live n [] i rising own lt at = absurd (omega arith)
 handed_live n (r ∷ rows) zero rising own lt at =
     handed_first r.made n r.buffer (live rows) (All-head own_row r rows own) (at r)
-    (changed_none (λ (b : Buffer). b.made) hand_out n (live rows) (live_all (λ k. (k == n) ≡ false) rows (All-tail own_row r rows own)
+    (changed_none (λ (b : Record). b.made) hand_over n (live rows) (live_all (λ k. (k == n) ≡ false) rows (All-tail own_row r rows own)
     (λ k d h. let up = pairs_head (λ (a : Row) (b : Row). a.made < b.made) r rows rising k d h in let is = at r in ne_eqb (get_or rows k d).made n (λ e. absurd (omega (arith, e, up, is))))))
 handed_live n (r ∷ rows) (suc i) rising own lt at =
     let up = pairs_head (λ (a : Row) (b : Row). a.made < b.made) r rows rising i r (omega arith) in
     let is = at r in
-    handed_later r.made n r.buffer (live rows) (live (refilled (option_map hand_out) i rows)) (All-head own_row r rows own) (ne_eqb r.made n (λ e. absurd (omega (arith, e, up, is))))
+    handed_later r.made n r.buffer (live rows) (live (refilled (option_map hand_over) i rows)) (All-head own_row r rows own) (ne_eqb r.made n (λ e. absurd (omega (arith, e, up, is))))
     (handed_live n rows i (pairs_tail (λ (a : Row) (b : Row). a.made < b.made) r rows rising) (All-tail own_row r rows own) (omega arith) at)
 
-pub changed_length : (p : Buffer → Bool) (bs : List Buffer) → length (changed p hand_out bs) ≡ length bs
+pub changed_length : (p : Record → Bool) (bs : List Record) → length (changed p hand_over bs) ≡ length bs
 changed_length p [] = refl
 changed_length p (b ∷ bs) = let rest = changed_length p bs in omega (arith, rest)
 
-pub handed_rows : (n : ℕ) (rows : List Row) (i count : ℕ) → AreRows rows count → i < length rows → ((d : Row) → (get_or rows i d).made ≡ n) → AreRows (refilled (option_map hand_out) i rows) count
+pub handed_rows : (n : ℕ) (rows : List Row) (i count : ℕ) → AreRows rows count → i < length rows → ((d : Row) → (get_or rows i d).made ≡ n) → AreRows (refilled (option_map hand_over) i rows) count
 handed_rows n rows i count is lt at = record {
-  in_order = refilled_rising (option_map hand_out) rows i is.in_order;
-  own = All_refilled (option_map hand_out) own_row (λ r h. handed_own r.made r.buffer h) rows i is.own;
+  in_order = refilled_rising (option_map hand_over) rows i is.in_order;
+  own = All_refilled (option_map hand_over) own_row (λ r h. handed_own r.made r.buffer h) rows i is.own;
   ends = handed_ends rows i ∙ is.ends;
-  counted = is.counted ∙ sym (ap length (handed_live n rows i is.in_order is.own lt at) ∙ changed_length (is_made_at n) (live rows));
+  counted = is.counted ∙ sym (ap length (handed_live n rows i is.in_order is.own lt at) ∙ changed_length (is_record_at n) (live rows));
 }
 
 -- ---- where the buffer made at a place ends
 
-pub freed : (made : ℕ) (old new : List Buffer) (o : Option Buffer) → AllPairs (λ a b. a.made < b.made) old → o ≡ find (is_made_at made) old
-    → MatchOption o (new ≡ old) (λ b. IsWithout b old new) → new ≡ filter (λ b. not (is_made_at made b)) old
-freed made old new None rising e same = same ∙ sym (filter_none (λ (b : Buffer). b.made) made old (none_found (is_made_at made) old (sym e)))
+pub freed : (made : ℕ) (old new : List Record) (o : Option Record) → AllPairs (λ a b. a.made < b.made) old → o ≡ find (is_record_at made) old
+    → MatchOption o (new ≡ old) (λ b. IsWithout b old new) → new ≡ filter (λ b. not (is_record_at made b)) old
+freed made old new None rising e same = same ∙ sym (filter_none (λ (b : Record). b.made) made old (none_found (is_record_at made) old (sym e)))
 freed made old new (Some b) rising e gone =
-    let own = eqb-true b.made made (found_has (is_made_at made) (λ (x : Buffer). x.made ≡ x.made) old b (sym e) (λ k d lt. refl)).1 in
+    let own = eqb-true b.made made (found_has (is_record_at made) (λ (x : Record). x.made ≡ x.made) old b (sym e) (λ k d lt. refl)).1 in
     gone.left
-    ∙ sym (filter_at (λ (x : Buffer). x.made) made old gone.index (distinct (λ (x : Buffer). x.made) old rising) gone.within (λ d. ap (λ (x : Buffer). x.made) (sym (gone.at d)) ∙ own))
+    ∙ sym (filter_at (λ (x : Record). x.made) made old gone.index (distinct (λ (x : Record). x.made) old rising) gone.within (λ d. ap (λ (x : Record). x.made) (sym (gone.at d)) ∙ own))

@@ -5,7 +5,7 @@ use Rattle.std.specs.List.{cons_option}
 use Rattle.std.proofs.lemmas.Bool.{cases_lt, le-leb, lt-leb}
 use Rattle.std.proofs.lemmas.List.{length-take, get_or-take}
 use Rattle.std.proofs.lemmas.List.Elements.{All-head, All-tail, All-take}
-use Rattle.bd_space.specs.declared.space.Buffer.{Buffer}
+use Rattle.bd_buffers.specs.declared.record.Record.{Record}
 use Rattle.bd_buffers.specs.declared.rows.Row.{Row}
 use Rattle.bd_buffers.specs.Rows.{live, in_row, IsOwn}
 use Rattle.bd_buffers.proofs.Live.{own_row, live_all, at_row, past_rows}
@@ -20,7 +20,7 @@ before_point from rows i own low =
     live_all (λ m. m < from) (take i rows) (All-take own_row i rows own)
     (λ k d lt. (let inside : k < i = omega (arith, length-take i rows, lt) in rw (ap (λ (r : Row). r.made) (get_or-take i rows k d inside)) (low k d (omega arith) inside)))
 
-at_own : (from made : ℕ) (o : Option Buffer) → IsOwn made o → from ≤ made → IfSome o (λ b. from ≤ b.made)
+at_own : (from made : ℕ) (o : Option Record) → IsOwn made o → from ≤ made → IfSome o (λ b. from ≤ b.made)
 at_own from made None own high = tt
 at_own from made (Some b) own high = omega (arith, own, high)
 
@@ -36,8 +36,8 @@ behind_point from rows i own high k le = elim (cases_lt k (length rows)) [
 
 -- ---- along the rows
 
-module _ (test : Buffer → Bool) where
-  none_both : (x : Buffer) (o : Option Buffer) → cond (test x) (Some x) o ≡ None → (test x ≡ false) × (o ≡ None)
+module _ (test : Record → Bool) where
+  none_both : (x : Record) (o : Option Record) → cond (test x) (Some x) o ≡ None → (test x ≡ false) × (o ≡ None)
   none_both x o e = by (test x) refl e
     where
       by : (b : Bool) → test x ≡ b → cond b (Some x) o ≡ None → (test x ≡ false) × (o ≡ None)
@@ -45,13 +45,13 @@ module _ (test : Buffer → Bool) where
       by false t e = (t, e)
 
   -- the first row that has one that passes, where none before it does
-  pub found_in_row : (rows : List Row) (i : ℕ) (b : Buffer) → Some b ≡ in_row rows i → test b ≡ true → find test (live (take i rows)) ≡ None → find test (live rows) ≡ Some b
+  pub found_in_row : (rows : List Row) (i : ℕ) (b : Record) → Some b ≡ in_row rows i → test b ≡ true → find test (live (take i rows)) ≡ None → find test (live rows) ≡ Some b
   found_in_row [] i b there passes none = cc
   found_in_row (r ∷ rows) zero b there passes none =
       ap (λ o. find test (cons_option o (live rows))) (sym there) ∙ ap (λ t. cond t (Some b) (find test (live rows))) passes
   found_in_row (r ∷ rows) (suc i) b there passes none = at r.buffer none (λ e. found_in_row rows i b there passes e)
     where
-      at : (o : Option Buffer) → find test (cons_option o (live (take i rows))) ≡ None → (find test (live (take i rows)) ≡ None → find test (live rows) ≡ Some b)
+      at : (o : Option Record) → find test (cons_option o (live (take i rows))) ≡ None → (find test (live (take i rows)) ≡ None → find test (live rows) ≡ Some b)
           → find test (cons_option o (live rows)) ≡ Some b
       at None e rest = rest e
       at (Some x) e rest =
@@ -64,11 +64,11 @@ module _ (test : Buffer → Bool) where
 
 -- ---- those that were made at a place or behind it
 
-pub none_behind : (from : ℕ) (bs : List Buffer) → All (λ b. b.made < from) bs → find (λ b. nat_le from b.made) bs ≡ None
+pub none_behind : (from : ℕ) (bs : List Record) → All (λ b. b.made < from) bs → find (λ b. nat_le from b.made) bs ≡ None
 none_behind from [] all = refl
 none_behind from (b ∷ bs) all =
-    let Low : Buffer → Type 0 = λ x. x.made < from in
+    let Low : Record → Type 0 = λ x. x.made < from in
     ap (λ t. cond t (Some b) (find (λ x. nat_le from x.made) bs)) (lt-leb from b.made (All-head Low b bs all)) ∙ none_behind from bs (All-tail Low b bs all)
 
-pub is_behind : (from : ℕ) (o : Option Buffer) (b : Buffer) → Some b ≡ o → IfSome o (λ x. from ≤ x.made) → nat_le from b.made ≡ true
+pub is_behind : (from : ℕ) (o : Option Record) (b : Record) → Some b ≡ o → IfSome o (λ x. from ≤ x.made) → nat_le from b.made ≡ true
 is_behind from o b there behind = le-leb from b.made (subst (λ x. IfSome x (λ y. from ≤ y.made)) (sym there) behind)

@@ -1,6 +1,6 @@
 pub mod Buffer
+pub mod Record
 pub mod Holes
-pub mod Bounds
 pub mod Rows
 pub mod Spots
 pub mod Sums

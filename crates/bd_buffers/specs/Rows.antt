@@ -1,15 +1,16 @@
 -- Buffers in rows, in the order in which they were made. A row whose buffer ended is empty.
 use Rattle.std.specs.Prelude.{ℕ, zero, suc, ◌≡◌, ◌-◌, ◌<◌, Bool, false, not, List, [], ◌∷◌, ◌++◌, Option, Some, None, length, option_map, unwrap_or, is_some, All, AllPairs, remove, slice_index_or}
-use Rattle.bd_ways.specs.Words.{filter_map, Buffer}
+use Rattle.bd_ways.specs.Words.{filter_map}
+use Rattle.bd_buffers.specs.declared.record.Record.{Record}
 use Rattle.std.specs.List.{slice_get}
 use Rattle.bd_buffers.specs.declared.rows.Row.{Row}
 
 -- the live buffers
-abbrev pub live : List Row → List Buffer
+abbrev pub live : List Row → List Record
 live rows = filter_map (λ r. r.buffer) rows
 
 -- the buffer in a row, if there is one; past the rows there is none
-abbrev pub in_row : List Row → ℕ → Option Buffer
+abbrev pub in_row : List Row → ℕ → Option Record
 in_row [] i = None
 in_row (r ∷ rows) zero = r.buffer
 in_row (r ∷ rows) (suc i) = in_row rows i
@@ -17,7 +18,7 @@ in_row (r ∷ rows) (suc i) = in_row rows i
 -- ---- what is so of all rows
 
 -- a row's buffer was made where the row says
-abbrev pub IsOwn : ℕ → Option Buffer → Type 0
+abbrev pub IsOwn : ℕ → Option Record → Type 0
 IsOwn made None = Unit {0}
 IsOwn made (Some b) = b.made ≡ made
 
@@ -34,7 +35,7 @@ pub record AreRows (rows : List Row) (count : ℕ) : Type 0 where
 -- ---- changes
 
 -- f is done to what a row has
-abbrev pub refilled : (Option Buffer → Option Buffer) → ℕ → List Row → List Row
+abbrev pub refilled : (Option Record → Option Record) → ℕ → List Row → List Row
 refilled f i [] = []
 refilled f zero (r ∷ rows) = record { made = r.made; buffer = f r.buffer } ∷ rows
 refilled f (suc i) (r ∷ rows) = r ∷ refilled f i rows
@@ -49,11 +50,11 @@ pub record IsTrimmed (old new : List Row) : Type 0 where
   pub split : old ≡ new ++ gone
   pub empty : All (λ r. r.buffer ≡ None) gone
 
--- this buffer went, and the others stay in order
-pub record IsWithout (b : Buffer) (old new : List Buffer) : Type 0 where
+-- this one went, and the others stay in order
+pub record IsWithout {A : Type 0} (b : A) (old new : List A) : Type 0 where
   pub index : ℕ
   pub within : index < length old
-  pub at : (d : Buffer) → b ≡ slice_index_or old index d
+  pub at : (d : A) → b ≡ slice_index_or old index d
   pub left : new ≡ remove old index
 
 -- rows as contracts see them, and how many more there is room for

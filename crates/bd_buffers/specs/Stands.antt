@@ -21,7 +21,12 @@ WindowMakes P Q f = (size : ℕ) (buffers : List Buffer) → P size buffers → 
 unfoldable pub CanHold : Window → Bool → ℕ → ℕ → Type 0
 CanHold w one_way size start = start_for w.size w.buffers one_way size ≡ Ok start
 
--- a change takes room for at most so many buffers
+-- there is room to note one more buffer, and memory for a buffer of this size at this place
+pub record HasBufferRoom (w : Window) (start size : ℕ) : Type 0 where
+  pub notes : 1 ≤ w.room
+  pub bytes : start + size ≤ w.reach
+
+-- a change takes room to note at most so many buffers
 abbrev pub Uses : Window → Window → ℕ → Type 0
 Uses old new buffers = old.room ≤ new.room + buffers
 

@@ -1,15 +1,16 @@
 -- A window: room for a buffer, the budget of one-way buffers, and what is so of every window.
-use Rattle.std.specs.Prelude.{ℕ, ◌≡◌, ◌+◌, ◌-◌, length, ◌*◌, ◌%◌, ◌<◌, ◌≤◌, Bool, List, filter, sum_by, true, if◌then◌else◌, min, vec_len, vec_capacity, IsTrue, All, AllPairs}
+use Rattle.std.specs.Prelude.{ℕ, ◌≡◌, ◌+◌, length, ◌*◌, ◌%◌, ◌<◌, ◌≤◌, Bool, not, List, filter, sum_by, min, IsTrue, All, AllPairs}
 use Rattle.bd_ways.specs.Words.{Cause, Buffer}
 use Rattle.bd_uapi.specs.declared.fault.Cause.TheVariants.{NoRoom, OverBudget}
 use Rattle.bd_buffers.specs.Buffer.{IsApart, IsPlaced}
-use Rattle.bd_buffers.specs.declared.hole.Hole.{Hole}
+use Rattle.std.specs.List.{list_all}
+use Rattle.bd_ground.specs.Tiles.{Tiles, is_in}
 use Rattle.bd_buffers.specs.declared.rows.Rows.{Rows}
 use Rattle.bd_buffers.specs.declared.ground.Ground.{Ground}
 use Rattle.bd_keys.specs.Look.{word_room}
-use Rattle.bd_buffers.specs.Holes.{IsFreeSpace}
-use Rattle.bd_buffers.specs.Bounds.{IsBounded, reaches}
-use Rattle.bd_buffers.specs.Rows.{live}
+use Rattle.bd_buffers.specs.Holes.{Hole}
+use Rattle.bd_buffers.specs.declared.record.Record.{Record}
+use Rattle.bd_buffers.specs.Record.{all_standing, IsInMemory}
 use Rattle.bd_buffers.specs.Spots.{AreSpots}
 use Rattle.bd_buffers.specs.Sums.{AreSums}
 
@@ -48,27 +49,42 @@ pub record IsWindow (size : ℕ) (buffers : List Buffer) : Type 0 where
   pub apart : AllPairs (λ a b. IsApart b.start b.size a) buffers
   pub budget : IsInBudget size buffers 0
 
--- what a window keeps: what is free are its holes and its tail, no hole is larger than its bounds, each buffer is found by
--- its pointer, and each sender's sum is what its one-way buffers take. A buffer pays for the hole that it leaves, so that its end takes no memory
-pub record Keeps (buffers : List Buffer) (g : Ground) : Type 0 where
+-- no buffer has a byte, or has any of a unit of eight
+abbrev pub is_free_byte : List Buffer → ℕ → Bool
+is_free_byte buffers q = list_all (λ b. not (is_in b.start b.size q)) buffers
+
+abbrev pub is_free_unit : List Buffer → ℕ → Bool
+is_free_unit buffers u = is_free_byte buffers (8 * u)
+
+-- what a window keeps of its buffers: the units that none has are noted as free, each is found by its pointer, and each sender's sum
+-- is what its one-way buffers take
+pub record Notes (buffers : List Buffer) (g : Ground) : Type 0 where
   pub window : IsWindow g.size buffers
-  pub free : IsFreeSpace g.size buffers g.tail g.holes.items
+  pub whole : g.size ≡ 8 * g.spans.size
+  pub tiles : Tiles (is_free_unit buffers) g.spans
   pub starts : AreSpots buffers g.spots
   pub total : g.one_way ≡ one_way_size buffers
   pub sums : AreSums buffers g.senders
-  pub spare : vec_len g.holes + length buffers ≤ vec_capacity g.holes
-  pub bounded : All (IsBounded g.bounds) g.holes.items
-  pub ready : 0 < length buffers → reaches g.size g.bounds ≡ true
 
--- how many more buffers there is room for: none before there are bounds
+-- and their bytes stand in its memory
+pub record Keeps (records : List Record) (g : Ground) : Type 0 where
+  pub notes : Notes (all_standing g.memory records) g
+  pub there : All (IsInMemory g.memory) records
+
+-- how many more buffers can be noted
 abbrev pub room_left : Rows → Ground → ℕ
-room_left t g =
-    if reaches g.size g.bounds then min (min t.room (min (word_room g.spots) (word_room g.senders))) (vec_capacity g.holes - (vec_len g.holes + length (live t.rows))) else 0
+room_left t g = min t.room (min (word_room g.spots) (word_room g.senders))
 
--- a window as contracts see it: its size, its live buffers, oldest first, what they leave free, and how many more it has room to note
+-- up to which place there is memory, and room to note what is free
+abbrev pub reach_of : Ground → ℕ
+reach_of g = min (length g.memory) (8 * min (length g.spans.holes) (length g.spans.begins.items))
+
+-- a window as contracts see it: its size, its live buffers, oldest first, what they leave free, how many more it has room to note, and up to
+-- which place it has memory
 pub record WindowView : Type 0 where
   pub size : ℕ
   pub buffers : List Buffer
   pub holes : List Hole
   pub tail : ℕ
   pub room : ℕ
+  pub reach : ℕ

@@ -1,5 +1,5 @@
 -- What the windows of all live processes stand for.
-use Rattle.std.specs.Prelude.{ℕ, ◌≡◌, ◌+◌, ◌<◌, ◌==◌, nat_le, Bool, true, List, [], map, find, Option, option_map, Some, None, Ok, All, AllPairs, min}
+use Rattle.std.specs.Prelude.{ℕ, ◌≡◌, ◌+◌, ◌<◌, ◌≤◌, ◌==◌, nat_le, Bool, true, List, [], map, find, Option, option_map, Some, None, Ok, All, AllPairs}
 use Rattle.bd_ways.specs.Words.{Process, Buffer, Space}
 use Rattle.bd_space.specs.Seats.{lives_in}
 use Rattle.bd_space.specs.Windows.{buffers_of, start_for}
@@ -8,6 +8,7 @@ use Rattle.bd_buffers.specs.declared.windows.Windows.{Windows}
 use Rattle.bd_keys.specs.Look.{word_room}
 use Rattle.bd_buffers.specs.Homes.{AreHomes}
 use Rattle.bd_buffers.specs.Buffer as buffer
+use Rattle.bd_buffers.specs.Stands as single
 pub use Rattle.bd_buffers.specs.Stands.{Stands}
 
 -- ---- the window of one process
@@ -63,18 +64,19 @@ StandsIn t s = WindowsOf t (s.steps + 1) s.processes s.buffers
 unfoldable pub window_room : Windows → ℕ
 window_room t = t.room
 
-abbrev pub room_of : Option OwnedWindow → ℕ
-room_of None = 1
-room_of (Some w) = w.window.room
-
 -- the live buffers of a process; none where it has no window
 abbrev pub buffers_held : Option OwnedWindow → List Buffer
 buffers_held None = []
 buffers_held (Some w) = w.window.buffers
 
--- how many more buffers may be added to the window of a process; nothing is added where there is none
-unfoldable pub buffer_room : Windows → ℕ → ℕ
-buffer_room t p = min (room_of (find (is_owned_by p) t.windows)) (word_room t.homes)
+-- the same of the window of a process; nothing is added where there is none
+abbrev pub RoomIn : Option OwnedWindow → ℕ → ℕ → Type 0
+RoomIn None start size = Unit {0}
+RoomIn (Some w) start size = single.HasBufferRoom w.window start size
+
+-- a buffer of this size can be added to the window of a process at this place without memory
+unfoldable pub HasBufferRoom : Windows → ℕ → ℕ → ℕ → Type 0
+HasBufferRoom t p start size = RoomIn (find (is_owned_by p) t.windows) start size × (1 ≤ word_room t.homes)
 
 abbrev pub CanHoldIn : Option ProcessWindow → Bool → ℕ → ℕ → Type 0
 CanHoldIn None one_way size start = ⊥

@@ -4,8 +4,10 @@ ghost use Rattle.std.specs.Prelude.{◌≡◌, ◌+◌, ◌<◌, ◌^◌};
 ghost use Rattle.bd_space.specs.Windows as room;
 ghost use Rattle.bd_space.specs.Freeing as freeing;
 ghost use Rattle.bd_buffers.specs.Buffer as spec;
+ghost use Rattle.bd_buffers.specs.Record.{bare};
 
-use bd_space::Buffer;
+use crate::lent::Lent;
+use crate::record::Record;
 
 // The pointer by which a receiver knows the first byte of its window.
 const FIRST_POINTER: u64 = 65536;
@@ -18,16 +20,23 @@ pub fn needed(data_size: u64, offsets_size: u64) -> u32
     (data_size.next_multiple_of(8) + offsets_size.next_multiple_of(8)).max(8) as u32
 }
 
+/// The pointer by which its receiver knows the buffer that begins there. Takes no memory.
+pub(crate) fn pointer_at(start: u32) -> u64
+    ensures { result ≡ 65536 + start }
+{
+    FIRST_POINTER + u64::from(start)
+}
+
 /// The pointer by which its receiver knows a buffer. Takes no memory.
-pub fn pointer_of(b: &Buffer) -> u64
+pub fn pointer_of(b: &Lent<'_>) -> u64
     ensures { result ≡ freeing.pointer b.now }
 {
-    FIRST_POINTER + u64::from(b.start)
+    pointer_at(b.start())
 }
 
 /// What a buffer adds to the one-way ones.
-pub fn one_way_share(b: &Buffer) -> u32
-    ensures { result ≡ spec.one_way_share b.now }
+pub(crate) fn one_way_share(b: &Record) -> u32
+    ensures { result ≡ spec.one_way_share (bare b.now) }
 {
     if b.one_way { b.size } else { 0 }
 }

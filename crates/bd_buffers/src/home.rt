@@ -19,7 +19,7 @@ pub(crate) fn home_key(made: u64) -> WordKey
 
 /// Forgets the homes of these live buffers, and no others.
 pub(crate) fn forget(homes: &mut WordMap<u64>, buffers: &Rows)
-    ensures { spec.Forgets (live buffers.now.rows) homes.old homes.new }
+    ensures { spec.ForgetsRecords (live buffers.now.rows) homes.old homes.new }
 {
     for i in 0..buffers.len() {
         if let Some(b) = buffers.in_row(i) {

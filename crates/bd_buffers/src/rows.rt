@@ -2,10 +2,11 @@
 
 ghost use Rattle.std.specs.Prelude.{ℕ, ◌≡◌, ◌↔◌, ◌+◌, ◌<◌, ◌≤◌, ◌==◌, ◌++◌, ◌∷◌, [], false, IsTrue, IfSome, All, AllPairs, MatchOption, OnOk, OnErr, length, take, slice_index_or, option_map, option_copied, vec_len, vec_capacity};
 ghost use Rattle.std.specs.{Option.{option_and_then}, List.Sorted.{IsPartitionPoint}};
-ghost use Rattle.bd_space.specs.{Words.{changed}, Freeing.{is_made_at}, ReadItems.{hand_out}, Returns.{buffer_in}};
+ghost use Rattle.bd_space.specs.Words.{changed};
+ghost use Rattle.bd_buffers.specs.Record.{is_record_at, record_in, hand_over};
 ghost use Rattle.bd_buffers.specs.Rows.{live, in_row, ends_empty, refilled, emptied, AreRows, IsTrimmed, IsWithout};
 
-use bd_space::Buffer;
+use crate::record::Record;
 use std::alloc::{AllocError, Global};
 use std::marker::Model;
 
@@ -13,7 +14,7 @@ use std::marker::Model;
 #[derive(Drop)]
 pub(crate) struct Row {
     pub(crate) made: u64,
-    pub(crate) buffer: Option<Buffer>,
+    pub(crate) buffer: Option<Record>,
 }
 
 // The index of the row made there, found by halves.
@@ -90,7 +91,7 @@ fn pack(rows: &mut Vec<Row>, count: usize)
 }
 
 // Takes the buffer out of a row. The row stays.
-fn take_from(rows: &mut Vec<Row>, i: usize) -> Option<Buffer>
+fn take_from(rows: &mut Vec<Row>, i: usize) -> Option<Record>
     ensures taken { result ≡ in_row rows.old.items i }
     ensures left { rows.new.items ≡ emptied i rows.old.items }
     ensures len { vec_len rows.new ≡ vec_len rows.old }
@@ -106,7 +107,7 @@ fn take_from(rows: &mut Vec<Row>, i: usize) -> Option<Buffer>
 // Marks the buffer in a row as handed out, if there is one.
 fn hand_out_at(rows: &mut Vec<Row>, i: usize)
     requires { i < length rows.old.items }
-    ensures handed { rows.new.items ≡ refilled (option_map hand_out) i rows.old.items }
+    ensures handed { rows.new.items ≡ refilled (option_map hand_over) i rows.old.items }
     ensures len { vec_len rows.new ≡ vec_len rows.old }
     ensures capacity { vec_capacity rows.new ≡ vec_capacity rows.old }
 {
@@ -186,7 +187,7 @@ impl Rows {
     }
 
     /// Takes the newest buffer in.
-    pub(crate) fn push(&mut self, buffer: Buffer)
+    pub(crate) fn push(&mut self, buffer: Record)
         requires room { 1 ≤ self.old.room }
         requires newest { All (λ b. b.made < buffer.made) (live self.old.rows) }
         ensures live { live self.new.rows ≡ live self.old.rows ++ buffer ∷ [] }
@@ -201,7 +202,7 @@ impl Rows {
 
     /// The index of the row of the buffer made there.
     pub(crate) fn index_of(&self, made: u64) -> Option<usize>
-        ensures { option_and_then (in_row self.now.rows) result ≡ buffer_in (live self.now.rows) made }
+        ensures { option_and_then (in_row self.now.rows) result ≡ record_in (live self.now.rows) made }
     {
         index_among(&self.rows, made)
     }
@@ -215,7 +216,7 @@ impl Rows {
     }
 
     /// The live buffer in a row.
-    pub(crate) fn in_row(&self, i: usize) -> Option<&Buffer>
+    pub(crate) fn in_row(&self, i: usize) -> Option<&Record>
         ensures { option_copied result ≡ in_row self.now.rows i }
     {
         match self.rows.get(i) {
@@ -225,8 +226,8 @@ impl Rows {
     }
 
     /// The live buffer made there.
-    pub(crate) fn made_at(&self, made: u64) -> Option<&Buffer>
-        ensures { option_copied result ≡ buffer_in (live self.now.rows) made }
+    pub(crate) fn made_at(&self, made: u64) -> Option<&Record>
+        ensures { option_copied result ≡ record_in (live self.now.rows) made }
     {
         match self.index_of(made) {
             None => None,
@@ -235,7 +236,7 @@ impl Rows {
     }
 
     /// Takes the buffer out of a row, if there is one.
-    pub(crate) fn take_at(&mut self, i: usize) -> Option<Buffer>
+    pub(crate) fn take_at(&mut self, i: usize) -> Option<Record>
         ensures taken { result ≡ in_row self.old.rows i }
         ensures live { MatchOption result
             (live self.new.rows ≡ live self.old.rows)
@@ -250,7 +251,7 @@ impl Rows {
 
     /// Marks the buffer made there as handed out.
     pub(crate) fn hand_out(&mut self, made: u64)
-        ensures live { live self.new.rows ≡ changed (is_made_at made) hand_out (live self.old.rows) }
+        ensures live { live self.new.rows ≡ changed (is_record_at made) hand_over (live self.old.rows) }
         ensures room { self.old.room ≤ self.new.room }
     {
         if let Some(i) = index_among(&self.rows, made) {

@@ -1,23 +1,25 @@
 //! A window.
 
-ghost use Rattle.std.specs.Prelude.{◌≡◌, ◌↔◌, ◌+◌, ◌*◌, ◌%◌, ◌<◌, ◌≤◌, [], ◌∷◌, ◌++◌, not, ℕ, Bool, List, All, length, filter, find, map, IsTrue, IsOk, IfOk, IfErr, IfSome, OnOk, OnErr, option_copied};
+ghost use Rattle.std.specs.Prelude.{◌≡◌, ◌↔◌, ◌+◌, ◌*◌, ◌%◌, ◌<◌, ◌≤◌, [], ◌∷◌, ◌++◌, not, ℕ, Bool, List, All, length, filter, find, map, IsTrue, IsOk, IfOk, IfErr, IfSome, OnOk, OnErr};
 ghost use Rattle.bd_space.specs.{declared.space.Buffer.{Buffer}, Words.{changed}};
 ghost use Rattle.bd_space.specs.{Windows.{needed, start_in, over_budget_in, start_for}, Freeing.{is_made_at}};
 ghost use Rattle.bd_space.specs.{ReadItems.{hand_out}, Returns.{buffer_in}, Spam.{floods}};
 
-use crate::bounds::Bounds;
-use crate::buffer::{needed, one_way_share, pointer_of};
+use crate::buffer::{needed, one_way_share, pointer_at};
 use crate::ground::{Ground, end_row, key_at};
-use crate::hole::first_start;
 use crate::home::forget;
+use crate::lent::{Lent, lay, lent_from};
 use crate::listing::{list_made, next_from};
 use crate::rows::Rows;
 use crate::senders::{raise, sum_of};
+use bd_ground::{Memory, Spans};
 use bd_keys::WordMap;
-use bd_space::Buffer;
 use bd_uapi::Cause;
 use std::alloc::{AllocError, Global};
 use std::marker::Model;
+
+// An empty window keeps no more memory for buffers to come.
+const MOST_KEPT: usize = 16384;
 
 /// The window of a process: its live buffers, of which no two meet, and of which the one-way ones take at most
 /// half of it; and what they leave free.
@@ -29,17 +31,19 @@ pub struct Window {
 }
 
 impl Model for Window {
-    ghost use Rattle.std.specs.Prelude.{filter};
-    ghost use Rattle.bd_buffers.specs.{Rows.{live}, Holes.{is_filled}, Window.{WindowView, Keeps, room_left}};
+    ghost use Rattle.std.specs.Prelude.{◌*◌};
+    ghost use Rattle.bd_buffers.specs.{Rows.{live}, Record.{all_standing}, Holes.{holes_of}};
+    ghost use Rattle.bd_buffers.specs.Window.{WindowView, Keeps, room_left, reach_of};
 
     ghost Value = { WindowView };
 
     ghost view = { λ w. record {
       size = w.ground.size;
-      buffers = live w.buffers.rows;
-      holes = filter is_filled w.ground.holes.items;
-      tail = w.ground.tail;
+      buffers = all_standing w.ground.memory (live w.buffers.rows);
+      holes = holes_of w.ground.spans;
+      tail = 8 * w.ground.spans.tail;
       room = room_left w.buffers w.ground;
+      reach = reach_of w.ground;
     } };
 
     ghost invariant = { λ w. Keeps (live w.buffers.rows) w.ground };
@@ -48,7 +52,7 @@ impl Model for Window {
 impl Window {
     ghost use Rattle.bd_buffers.specs.Buffer.{IsPlaced, at_pointer};
     ghost use Rattle.bd_buffers.specs.{Window.{IsLeastFree, IsInBudget, Refuses, IsWindow}, Holes.{IsHoles}};
-    ghost use Rattle.bd_buffers.specs.Stands.{Stands, CanHold, WindowTells, WindowMakes, Uses, UsesNothing};
+    ghost use Rattle.bd_buffers.specs.Stands.{Stands, CanHold, HasBufferRoom, WindowTells, WindowMakes, Uses, UsesNothing};
     ghost use Rattle.bd_buffers.specs.{Homes.{Forgets}, WindowsStand.{made_of_buffer, next_made}};
 
     /// An empty window of a size in bytes, a multiple of 8 of at most 4194304. Takes no memory.
@@ -64,9 +68,8 @@ impl Window {
                 one_way: 0,
                 senders: WordMap::new(alloc),
                 spots: WordMap::new(alloc),
-                holes: Vec::new(alloc),
-                tail: 0,
-                bounds: Bounds::new(alloc),
+                spans: Spans::new(alloc, size / 8),
+                memory: Memory::new(alloc),
             },
         })
     }
@@ -74,16 +77,13 @@ impl Window {
     // The least place with room for n bytes.
     fn least_start(&self, n: u32) -> Option<u32>
         requires filled { 8 ≤ n }
-        requires small { n ≤ 8388608 }
+        requires whole { n % 8 ≡ 0 }
         ensures { result ≡ start_in self.now.size self.now.buffers n }
     {
-        first_start(
-            &self.ground.bounds,
-            self.ground.size,
-            self.ground.tail,
-            &self.ground.holes,
-            n,
-        )
+        match self.ground.spans.first(n / 8) {
+            None => None,
+            Some(unit) => Some(unit * 8),
+        }
     }
 
     // Whether the one-way buffers and n more bytes would take more than half of the window.
@@ -100,6 +100,7 @@ impl Window {
     fn start_of(&self, one_way: bool, n: u32) -> Result<u32, Cause>
         requires filled { 8 ≤ n }
         requires small { n ≤ 8388608 }
+        requires whole { n % 8 ≡ 0 }
         ensures { result ≡ start_for self.now.size self.now.buffers one_way n }
     {
         let Some(place) = self.least_start(n) else {
@@ -156,22 +157,22 @@ impl Window {
         self.is_flooded(sender)
     }
 
-    /// Makes room to note one more buffer. The window stays as it was, also on an `Err`.
+    /// Makes room for one more buffer of a size at a place. The window stays as it was, also on an `Err`.
     #[tactic(auto, unfolding(crate::specs::Stands::CanHold))]
-    pub fn reserve(&mut self) -> Result<(), AllocError>
+    pub fn reserve(&mut self, start: u32, size: u32) -> Result<(), AllocError>
         ensures stands { WindowMakes (Stands self.old) (Stands self.new) (λ bs. bs) }
         ensures can_take { (one_way : Bool) (size start : ℕ) → CanHold self.old one_way size start
             → CanHold self.new one_way size start }
-        ensures room { OnOk result (1 ≤ self.new.room) }
+        ensures room { OnOk result (HasBufferRoom self.new start size) }
         ensures kept { UsesNothing self.old self.new }
         // Memory was asked for: there was no room.
-        ensures grown { OnErr result (self.old.room ≡ 0) }
+        ensures grown { OnErr result (HasBufferRoom self.old start size → ⊥) }
     {
         self.buffers.reserve(1)?;
         self.ground.spots.reserve(1)?;
         self.ground.senders.reserve(1)?;
-        self.ground.bounds.reserve(self.ground.size)?;
-        self.ground.holes.reserve(self.buffers.count() + 1)
+        let end = start as usize + size as usize;
+        self.ground.reserve(end)
     }
 
     /// Whether all live buffers were made before that place.
@@ -182,39 +183,42 @@ impl Window {
     }
 
     /// Takes the newest buffer in, at a place that the window can take it at. Takes no memory.
-    pub fn commit(&mut self, buffer: Buffer)
-        requires room { 1 ≤ self.old.room }
+    pub fn commit(&mut self, buffer: Lent<'_>)
+        requires room { HasBufferRoom self.old buffer.start buffer.size }
         requires newest { All (λ b. b.made < buffer.made) self.old.buffers }
         requires sized { buffer.size ≡ needed (length buffer.bytes) (length buffer.offsets) }
         requires can_take { CanHold self.old buffer.one_way buffer.size buffer.start }
-        ensures stands { WindowMakes (Stands self.old) (Stands self.new) (λ bs. bs ++ buffer ∷ []) }
+        ensures stands { WindowMakes (Stands self.old) (Stands self.new) (λ bs. bs ++ buffer.entry ∷ []) }
         ensures room { Uses self.old self.new 1 }
     {
-        self.ground.cut(buffer.start, buffer.size);
-        let share = one_way_share(&buffer);
-        let key = key_at(pointer_of(&buffer));
-        self.ground.spots.insert(key, buffer.made);
-        raise(&mut self.ground.senders, &buffer);
-        self.ground.one_way += share;
-        self.buffers.push(buffer);
+        let record = lay(&mut self.ground.memory, &buffer);
+        self.ground.spans.take(record.start / 8, record.size / 8);
+        let key = key_at(pointer_at(record.start));
+        self.ground.spots.insert(key, record.made);
+        raise(&mut self.ground.senders, &record);
+        self.ground.one_way += one_way_share(&record);
+        self.buffers.push(record);
     }
 
     /// The live buffer made there.
-    pub fn buffer(&self, made: u64) -> Option<&Buffer>
-        ensures found { WindowTells (Stands self.now) (option_copied result) (λ size bs. buffer_in bs made) }
-        ensures placed { IfSome result (λ b. IsPlaced 4194304 b.now) }
+    pub fn buffer(&self, made: u64) -> Option<Lent<'_>>
+        ensures found { WindowTells (Stands self.now) result (λ size bs. buffer_in bs made) }
+        ensures placed { IfSome result (λ b. IsPlaced 4194304 b) }
     {
-        self.buffers.made_at(made)
+        match self.buffers.made_at(made) {
+            None => None,
+            Some(record) => Some(lent_from(&self.ground.memory, record)),
+        }
     }
 
     /// The live buffer that the process knows by a pointer, handed out or not.
-    pub fn buffer_at_pointer(&self, pointer: u64) -> Option<&Buffer>
-        ensures found { WindowTells (Stands self.now) (option_copied result) (λ size bs. find (at_pointer pointer) bs) }
-        ensures placed { IfSome result (λ b. IsPlaced 4194304 b.now) }
+    pub fn buffer_at_pointer(&self, pointer: u64) -> Option<Lent<'_>>
+        ensures found { WindowTells (Stands self.now) result (λ size bs. find (at_pointer pointer) bs) }
+        ensures placed { IfSome result (λ b. IsPlaced 4194304 b) }
     {
         match self.ground.spots.get(key_at(pointer)) {
             None => None,
-            Some(made) => self.buffers.made_at(made),
+            Some(made) => self.buffer(made),
         }
     }
 
@@ -239,6 +243,18 @@ impl Window {
         next_from(&self.buffers, from)
     }
 
+    // Gives memory back where no buffer is left and there is much of it: what a window costs is what its buffers take, not what they once
+    // took.
+    fn clear_empty(&mut self)
+        ensures size { self.new.size ≡ self.old.size }
+        ensures buffers { self.new.buffers ≡ self.old.buffers }
+        ensures room { UsesNothing self.old self.new }
+    {
+        if self.buffers.count() == 0 && self.ground.memory.len() > MOST_KEPT {
+            self.ground.clear();
+        }
+    }
+
     /// Ends the buffer made there.
     pub fn free(&mut self, made: u64)
         ensures stands { WindowMakes (Stands self.old) (Stands self.new) (filter (λ b. not (is_made_at made b))) }
@@ -246,6 +262,7 @@ impl Window {
     {
         if let Some(i) = self.buffers.index_of(made) {
             end_row(&mut self.buffers, &mut self.ground, i);
+            self.clear_empty();
         }
     }
 
@@ -265,6 +282,6 @@ impl Window {
         ensures holes { (size : ℕ) (bs : List Buffer) → Stands self.now size bs
             → IsHoles size bs self.now.tail self.now.holes }
     {
-        let _size = self.ground.size;
+        self.ground.spans.check();
     }
 }

@@ -9,15 +9,15 @@ ghost use Rattle.bd_space.specs.{Freeing.{without_buffer, buffer_at_pointer}, Re
 ghost use Rattle.bd_space.specs.{ReadItems.{buffer_taken, read_by}, Steps.{with_process}};
 ghost use Rattle.bd_space.specs.ProcessExits.{without_process};
 ghost use Rattle.bd_ways.specs.Tables.{Tells, Makes};
-ghost use Rattle.bd_buffers.specs.WindowsStand.{StandsFor, StandsIn, Stands, window_room, buffer_room, made_of_buffer, next_made, is_owned_by, CanAdd, IsInWindow};
+ghost use Rattle.bd_buffers.specs.WindowsStand.{StandsFor, StandsIn, Stands, window_room, HasBufferRoom, made_of_buffer, next_made, is_owned_by, CanAdd, IsInWindow};
 
 use crate::home::home_key;
+use crate::lent::Lent;
 use crate::owned::{
     OwnedWindow, close_among, forget_in, free_in, hand_out_in, is_last, owned_by, position_of,
 };
 use crate::window::Window;
 use bd_keys::WordMap;
-use bd_space::Buffer;
 use bd_uapi::Cause;
 use std::alloc::{AllocError, Global};
 use std::marker::Model;
@@ -132,43 +132,46 @@ impl Windows {
         }
     }
 
-    /// Makes room for one more buffer in the window of a process. All stays as it was, also on an `Err`.
-    pub fn reserve_buffer(&mut self, p: u64) -> Result<(), AllocError>
+    /// Makes room for one more buffer of a size at a place in the window of a process. All stays as it was, also on an `Err`.
+    pub fn reserve_buffer(&mut self, p: u64, start: u32, size: u32) -> Result<(), AllocError>
         ensures stands { Makes (StandsFor self.old) (StandsFor self.new) (λ s. s) }
         ensures can_add { (q : ℕ) (one_way : Bool) (size start : ℕ) → CanAdd self.old q one_way size start
             → CanAdd self.new q one_way size start }
-        ensures room { OnOk result (1 ≤ buffer_room self.new p) }
+        ensures room { OnOk result (HasBufferRoom self.new p start size) }
         // Memory was asked for: there was no room.
-        ensures grown { OnErr result (buffer_room self.old p ≡ 0) }
+        ensures grown { OnErr result (HasBufferRoom self.old p start size → ⊥) }
     {
         self.homes.reserve(1)?;
         match position_of(&self.windows, p) {
             None => Ok(()),
-            Some(at) => self.windows[at].window.reserve(),
+            Some(at) => self.windows[at].window.reserve(start, size),
         }
     }
 
     /// Takes a buffer into its receiver's window, at a place that it can take it at. Takes no memory.
-    pub fn add(&mut self, buffer: Buffer)
-        requires room { 1 ≤ buffer_room self.old buffer.receiver }
+    pub fn add(&mut self, buffer: Lent<'_>)
+        requires room { HasBufferRoom self.old buffer.receiver buffer.start buffer.size }
         requires sized { buffer.size ≡ needed (length buffer.bytes) (length buffer.offsets) }
         requires can_add { CanAdd self.old buffer.receiver buffer.one_way buffer.size buffer.start }
-        ensures { (s : Space) → StandsFor self.old s → s.steps ≡ buffer.made → StandsIn self.new (add_buffer s buffer) }
+        ensures { (s : Space) → StandsFor self.old s → s.steps ≡ buffer.entry.made
+            → StandsIn self.new (add_buffer s buffer.entry) }
     {
-        if let Some(at) = position_of(&self.windows, buffer.receiver) {
+        let receiver = buffer.receiver();
+        let made = buffer.made();
+        if let Some(at) = position_of(&self.windows, receiver) {
             let window = &mut self.windows[at].window;
             // Each step's buffer is newer than all that are live.
-            if window.is_newest(buffer.made) {
-                self.homes.insert(home_key(buffer.made), buffer.receiver);
+            if window.is_newest(made) {
+                self.homes.insert(home_key(made), receiver);
                 window.commit(buffer);
             }
         }
     }
 
     /// The live buffer made there.
-    pub fn buffer(&self, made: u64) -> Option<&Buffer>
-        ensures found { Tells (StandsIn self.now) (option_copied result) (λ s. buffer_in s.buffers made) }
-        ensures placed { IfSome result (λ b. IsInWindow b.now) }
+    pub fn buffer(&self, made: u64) -> Option<Lent<'_>>
+        ensures found { Tells (StandsIn self.now) result (λ s. buffer_in s.buffers made) }
+        ensures placed { IfSome result (λ b. IsInWindow b) }
     {
         let p = self.homes.get(home_key(made))?;
         let w = self.owned(p)?;
@@ -176,10 +179,10 @@ impl Windows {
     }
 
     /// The live buffer that a process knows by a pointer, handed out or not.
-    pub fn at_pointer(&self, p: u64, pointer: u64) -> Option<&Buffer>
+    pub fn at_pointer(&self, p: u64, pointer: u64) -> Option<Lent<'_>>
         ensures found { (s : Space) (q : Process) → StandsIn self.now s → process_in s.processes p ≡ Some q
-            → option_copied result ≡ buffer_at_pointer s p pointer }
-        ensures placed { IfSome result (λ b. IsInWindow b.now) }
+            → result ≡ buffer_at_pointer s p pointer }
+        ensures placed { IfSome result (λ b. IsInWindow b) }
         ensures no_process { (s : Space) → StandsIn self.now s → process_in s.processes p ≡ None → result ≡ None }
     {
         match self.owned(p) {

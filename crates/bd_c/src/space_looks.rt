@@ -102,7 +102,7 @@ impl OwnedLive {
     {
         match self.live.buffer(made) {
             Some(b) => {
-                *told = BufferTold::of(b);
+                *told = BufferTold::of(&b);
                 true
             }
             None => false,

@@ -1,9 +1,8 @@
 //! What C is told of the space that a live engine's history has come to: processes, threads, objects, buffers, open calls, death
 //! notifications, and what is still to be read.
 use crate::spelled::ReturnInC;
-use bd_space::{
-    Buffer, DeathNotification, Identity, Object, Phase, Process, Thread, Work, WorkKind,
-};
+use bd_buffers::Lent;
+use bd_space::{DeathNotification, Identity, Object, Phase, Process, Thread, Work, WorkKind};
 use bd_uapi::Return;
 use bitflags::Flags;
 
@@ -231,23 +230,24 @@ impl BufferTold {
     }
 
     /// What is told of a buffer.
-    pub(crate) fn of(b: &Buffer) -> BufferTold
+    pub(crate) fn of(b: &Lent<'_>) -> BufferTold
         ensures { result ≡ buffer_told b.now }
     {
+        let target = b.target();
         BufferTold {
-            receiver: b.receiver,
-            sender: b.sender,
-            start: b.start,
-            size: b.size,
-            code: b.code,
-            flags: b.flags.bits(),
-            euid: b.euid,
-            one_way: b.one_way,
-            handed: b.handed,
-            is_call: b.target.is_some(),
-            target: BufferTold::target(b.target),
-            bytes: b.bytes.len(),
-            offsets: b.offsets.len(),
+            receiver: b.receiver(),
+            sender: b.sender(),
+            start: b.start(),
+            size: b.size(),
+            code: b.code(),
+            flags: b.flags().bits(),
+            euid: b.euid(),
+            one_way: b.is_one_way(),
+            handed: b.is_handed(),
+            is_call: target.is_some(),
+            target: BufferTold::target(target),
+            bytes: b.bytes().len(),
+            offsets: b.offsets().len(),
         }
     }
 }

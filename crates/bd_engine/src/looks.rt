@@ -1,6 +1,6 @@
 //! What the space holds after a history.
 
-ghost use Rattle.std.specs.{Prelude.{◌≡◌, Some, find}, Option.{option_copied}};
+ghost use Rattle.std.specs.Prelude.{◌≡◌, Some, find};
 ghost use Rattle.bd_space.specs.Histories as histories;
 ghost use Rattle.bd_space.specs.{Histories.{space_after}, Seats.{process_in, thread_in}, References.{object_in}};
 ghost use Rattle.bd_space.specs.Names as names;
@@ -11,9 +11,10 @@ use crate::engine::Engine;
 use crate::live::Live;
 use crate::tables::HasTables;
 use crate::wide::WideEngine;
+use bd_buffers::Lent;
 use bd_calls::serves;
 use bd_objects::CarriedObjects;
-use bd_space::{Buffer, DeathNotification, Identity, Object, Process, Thread, TodoList};
+use bd_space::{DeathNotification, Identity, Object, Process, Thread, TodoList};
 use bd_todo::Works;
 
 /// Looks at the space after a history. What a look answers is so of the history that an engine has, and of each that a live
@@ -144,8 +145,8 @@ pub trait Looks: HasTables {
     }
 
     /// The live buffer made there.
-    final fn buffer(&self, made: u64) -> Option<&Buffer>
-        ensures { Self.says self.now (λ h. option_copied result ≡ buffer_in (space_after h).buffers made) }
+    final fn buffer(&self, made: u64) -> Option<Lent<'_>>
+        ensures { Self.says self.now (λ h. result ≡ buffer_in (space_after h).buffers made) }
     {
         self.tables().windows.buffer(made)
     }

@@ -141,9 +141,9 @@ impl WideEngine {
         let made = u64::from(made);
         match Looks::buffer(self, made) {
             Some(buffer) => Some(BufferLook {
-                receiver: self.short(buffer.receiver),
-                target: self.short_id(buffer.target),
-                handed: buffer.handed,
+                receiver: self.short(buffer.receiver()),
+                target: self.short_id(buffer.target()),
+                handed: buffer.is_handed(),
                 carried: self.short_objects(made),
             }),
             None => None,

@@ -85,6 +85,14 @@ impl Memory {
         put(&mut self.bytes, at, bytes);
     }
 
+    /// Gives the memory back, with all bytes.
+    pub fn clear(&mut self)
+        ensures { self.new ≡ [] }
+    {
+        self.bytes.clear();
+        self.bytes.shrink_to_fit();
+    }
+
     /// The bytes between two places, where they stand.
     pub fn slice(&self, from: usize, to: usize) -> &[u8]
         requires { (from ≤ to) × (to ≤ length self.now) }

@@ -60,6 +60,14 @@ pub(crate) fn lengthen(numbers: &mut Vec<u32>, count: usize) -> Result<(), Alloc
     numbers.resize(count, 0)
 }
 
+// Gives the memory back, with all numbers.
+pub(crate) fn give_up(numbers: &mut Vec<u32>)
+    ensures { numbers.new.items ≡ [] }
+{
+    numbers.clear();
+    numbers.shrink_to_fit();
+}
+
 /// Numbers by index, of which the first of at least a given size is found without a walk over all.
 #[derive(Drop)]
 pub struct Peaks {
@@ -114,6 +122,15 @@ impl Peaks {
         lengthen(&mut self.wholes, parts.div_ceil(WIDTH))?;
         lengthen(&mut self.parts, parts)?;
         lengthen(&mut self.numbers, count)
+    }
+
+    /// Gives the memory back, with all numbers.
+    pub fn clear(&mut self)
+        ensures { self.new ≡ [] }
+    {
+        give_up(&mut self.numbers);
+        give_up(&mut self.parts);
+        give_up(&mut self.wholes);
     }
 
     /// The number at an index: behind the last, 0.

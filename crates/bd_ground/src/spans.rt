@@ -1,10 +1,10 @@
 //! Which units of a window are free.
 
-ghost use Rattle.std.specs.Prelude.{◌≡◌, ◌+◌, ◌-◌, ◌<◌, ◌≤◌, ◌⊎◌, ℕ, Bool, false, OnOk, OnErr, IfSome, MatchOption, [], length, slice_index, max, is_ok, if◌then◌else◌};
+ghost use Rattle.std.specs.Prelude.{◌≡◌, ◌+◌, ◌-◌, ◌<◌, ◌≤◌, ◌⊎◌, ℕ, Bool, true, false, OnOk, OnErr, IfSome, MatchOption, [], length, slice_index, max, is_ok, if◌then◌else◌};
 ghost use Rattle.bd_ground.specs.Tiles as spec;
 ghost use Rattle.bd_ground.specs.Holes.{AreHoles, holes_in};
 
-use crate::peaks::{Peaks, lengthen};
+use crate::peaks::{Peaks, give_up, lengthen};
 use std::alloc::{AllocError, Global};
 
 /// The free units of a window: holes between what is taken, and the tail behind all of it. No hole is empty, none touches another or
@@ -38,6 +38,7 @@ impl Spans {
         requires { size ≤ 524288 }
         ensures tiles { (free : ℕ → Bool) → ((u : ℕ) → free u ≡ Bool.true) → spec.Tiles free result }
         ensures tail { result.tail ≡ 0 }
+        ensures size { result.size ≡ size }
     {
         Spans {
             size,
@@ -160,6 +161,17 @@ impl Spans {
         let behind = self.holes.get(end as usize);
         self.holes.set(end as usize, 0);
         self.put(begin, (end - begin).saturating_add(behind));
+    }
+
+    /// All is free from then on, and the memory that noted what is goes back.
+    pub fn clear(&mut self)
+        ensures tiles { (was free : ℕ → Bool) → spec.Tiles was self.old → ((u : ℕ) → free u ≡ true)
+            → spec.Tiles free self.new }
+        ensures size { self.new.size ≡ self.old.size }
+    {
+        self.tail = 0;
+        self.holes.clear();
+        give_up(&mut self.begins);
     }
 
     /// What is so of all free units: they are holes in order of place and the tail, no two of which touch.

@@ -38,7 +38,7 @@ pub(crate) fn pid_of(engine: &WideEngine, entries: &[Entry], seat: u32) -> Optio
 pub(crate) fn receiver_of(engine: &WideEngine, entries: &[Entry], place: u32) -> Option<u32>
     ensures { result ≡ spec.receiver_of (space_after engine.now) entries.now place }
 {
-    pid_at(entries, Looks::buffer(engine, u64::from(place))?.receiver)
+    pid_at(entries, Looks::buffer(engine, u64::from(place))?.receiver())
 }
 
 /// Makes the step of an entry. The pid of the process that made it: that of the seat's thread before it, or else after it.

@@ -1,12 +1,13 @@
 -- How tables go on standing through the parts of a delivery.
-use Rattle.std.proofs.Common.{◌≡◌, ℕ, true, ◌+◌, ◌<◌, ◌≤◌, ◌&&◌, not, Bool, cond, List, ◌++◌, Option, take, drop, length, get_or, ap, sym, subst, ◌∙◌, arith, filter, map}
+use Rattle.std.proofs.Common.{◌≡◌, ℕ, true, ◌+◌, ◌<◌, ◌≤◌, ◌&&◌, not, Bool, cond, List, All, ◌++◌, Option, take, drop, length, get_or, ap, sym, subst, ◌∙◌, arith, filter, map}
+use Rattle.std.specs.Prelude.{Some, None, IfSome}
 use Rattle.std.proofs.lemmas.List.{take_all}
 use Rattle.std.specs.List.{fold}
 use Rattle.bd_uapi.specs.declared.command.TransactionData.{TransactionData}
 use Rattle.bd_space.specs.declared.space.Buffer.{Buffer}
 use Rattle.bd_space.specs.declared.space.Actor.{Actor}
 use Rattle.bd_space.specs.Windows.{needed}
-use Rattle.bd_step.specs.Deliveries.{OnlyWorks}
+use Rattle.bd_step.specs.Deliveries.{OnlyWorks, IsInside, IsCopy}
 use Rattle.std.proofs.lemmas.List.Sums.{fold_more}
 use Rattle.bd_uapi.specs.declared.object.FlatObject.{FlatObject}
 use Rattle.bd_uapi.specs.Records.{object_bytes}
@@ -110,3 +111,8 @@ pub filled_is : (s : Space) (a : Actor) (d : TransactionData) (v : Delivery) (se
 unfolding own_notices add_buffer translation
 filled_is s a d v seat items b i e =
     ap (add_buffer (own_notices s seat items)) e ∙ ap (λ (xs : List Item). add_buffer (own_notices s seat xs) (buffer_of (own_notices s seat xs) a d v)) i
+
+-- objects that lie in the data lie in its copy
+pub copy_inside : (copy : Option (List ℕ)) (bytes : List ℕ) (items : List Item) → IsCopy copy bytes items → All (IsInside bytes) items → IfSome copy (λ xs. All (IsInside xs) items)
+copy_inside None bytes items is all = tt
+copy_inside (Some xs) bytes items is all = subst (λ ys. All (IsInside ys) items) (sym is) all

@@ -1,5 +1,5 @@
 -- What is so of a sending that was read, and of a delivery that its receiver's window can take.
-use Rattle.std.specs.Prelude.{ℕ, ◌≡◌, ◌+◌, ◌*◌, ◌≤◌, List, Some, length, All}
+use Rattle.std.specs.Prelude.{ℕ, ◌≡◌, ◌+◌, ◌*◌, ◌≤◌, List, [], Option, Some, None, length, All}
 use Rattle.bd_ways.specs.Words.{TransactionData, Parcel, Object, Item, Space}
 use Rattle.bd_space.specs.Seats.{process_in}
 use Rattle.bd_space.specs.Windows.{needed}
@@ -10,7 +10,7 @@ use Rattle.bd_nodes.specs.New.{AreNewIn}
 use Rattle.bd_objects.specs.Room as object_rooms
 use Rattle.bd_calls.specs.Room as call_rooms
 use Rattle.bd_calls.specs.Stacked.{TakesCalls}
-use Rattle.bd_buffers.specs.WindowsStand.{CanAdd, buffer_room}
+use Rattle.bd_buffers.specs.WindowsStand.{CanAdd, HasBufferRoom}
 use Rattle.bd_step.specs.declared.tables.Tables.{Tables}
 use Rattle.bd_step.specs.Stands.{Before, Within, HasRoom}
 
@@ -20,6 +20,16 @@ sending q made items = record { bytes = q.bytes; offsets = q.offsets; made = mad
 -- the item's 24 bytes lie inside the data
 abbrev pub IsInside : List ℕ → Item → Type 0
 IsInside bytes x = x.at + 24 ≤ length bytes
+
+-- the data once more, or nothing where no object is to be written over them
+abbrev pub IsCopy : Option (List ℕ) → List ℕ → List Item → Type 0
+IsCopy None bytes items = items ≡ []
+IsCopy (Some copy) bytes items = copy ≡ bytes
+
+-- data of its own, or else a parcel's
+abbrev pub laid_bytes : Option (List ℕ) → List ℕ → List ℕ
+laid_bytes None bytes = bytes
+laid_bytes (Some own) bytes = own
 
 -- the sizes are those of the record, and each object lies inside the data
 pub record IsSound (d : TransactionData) (x : Sending) : Type 0 where
@@ -38,9 +48,9 @@ pub record IsDeliverable (t : Tables) (d : TransactionData) (v : Delivery) : Typ
   pub fits : size_of d ≤ 4194304
 
 -- memory for all that a delivery and what follows from it take
-pub record IsReady (t : Tables) (v : Delivery) : Type 0 where
+pub record IsReady (t : Tables) (d : TransactionData) (v : Delivery) : Type 0 where
   pub room : HasRoom t (object_rooms.delivery_room v.receiver.made v.sending.made v.sending.items) (2 * length v.sending.items + 3)
-  pub buffer : 1 ≤ buffer_room t.windows v.receiver.made
+  pub buffer : HasBufferRoom t.windows v.receiver.made v.start (size_of d)
 
 -- what it makes is new
 abbrev pub SendsNew : Delivery → Space → Type 0

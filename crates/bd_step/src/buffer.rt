@@ -1,6 +1,6 @@
 //! Buffers: a delivery's bytes as the receiver sees them, and the step of `BC_FREE_BUFFER`.
 
-ghost use Rattle.std.specs.{Prelude.{◌≡◌, ◌+◌, ◌≤◌, All, IfOk, length, Some}, Option.{option_copied}};
+ghost use Rattle.std.specs.Prelude.{ℕ, List, ◌≡◌, ◌+◌, ◌≤◌, All, IfOk, IfSome, length, Some};
 ghost use Rattle.bd_space.specs.{Space.{Space}, Seats.{process_in}};
 ghost use Rattle.bd_space.specs.Windows as room;
 ghost use Rattle.bd_space.specs.Turns as turns;
@@ -12,42 +12,43 @@ ghost use Rattle.bd_space.specs.Outcomes.{completed};
 ghost use Rattle.bd_ways.specs.Local.{is_among};
 ghost use Rattle.bd_laws.specs.{Lists.{Pairs}, Objects.{NotLater}};
 ghost use Rattle.bd_calls.specs.Room as call_rooms;
-ghost use Rattle.bd_buffers.specs.{WindowsStand.{CanAdd, buffer_room}, Buffer.{freed_buffer}};
+ghost use Rattle.bd_buffers.specs.{WindowsStand.{CanAdd, HasBufferRoom}, Buffer.{freed_buffer}};
 ghost use Rattle.bd_step.specs.Freed as freed;
 ghost use Rattle.bd_step.specs.Stands.{Before, Within, Tells, TellsWithin, CanFollow, MakesWithin, UsesNothing, KeepsTold};
-ghost use Rattle.bd_step.specs.{Following.{AreTouched}, Meets.{IsBy, IsKept, IsStep}, Deliveries.{IsInside, Spends}};
+ghost use Rattle.bd_step.specs.{Following.{AreTouched}, Meets.{IsBy, IsKept, IsStep}, Deliveries.{IsInside, IsCopy, laid_bytes, Spends}};
 
 use crate::answer::Plain;
 use crate::step_error::StepError;
 use crate::tables::{NOTHING, Tables};
 use crate::touched::in_order;
+use bd_buffers::Lent;
 use bd_parcel::put_object;
-use bd_space::{Actor, Buffer, Bytes, Identity, Item, Process, Turn};
+use bd_space::{Actor, Bytes, Identity, Item, Process, Turn};
 use bd_uapi::Note;
 use std::alloc::AllocError;
 
 // A one-way call, by its buffer.
-fn turn_of(b: &Buffer) -> Option<Turn>
+fn turn_of(b: &Lent<'_>) -> Option<Turn>
     ensures { result ≡ turns.turn_of b.now }
 {
-    if !b.one_way {
+    if !b.is_one_way() {
         return None;
     }
-    let target = b.target?;
+    let target = b.target()?;
     Some(Turn {
-        made: b.made,
-        receiver: b.receiver,
+        made: b.made(),
+        receiver: b.receiver(),
         target,
-        handed: b.handed,
+        handed: b.is_handed(),
     })
 }
 
 // The object on which a buffer is a one-way call.
-fn turn_target(buffer: Option<&Buffer>) -> Option<Identity>
-    ensures { result ≡ freed.turn_target (option_copied buffer.entry) }
+fn turn_target(buffer: Option<Lent<'_>>) -> Option<Identity>
+    ensures { result ≡ freed.turn_target buffer.entry }
 {
     match buffer {
-        Some(b) => turn_of(b).map(|t| t.target),
+        Some(b) => turn_of(&b).map(|t| t.target),
         None => None,
     }
 }
@@ -65,7 +66,7 @@ impl Tables {
     }
 
     // The data as the process is to see it.
-    pub(crate) fn translation(&self, q: u64, bytes: Bytes, items: &[Item]) -> Bytes
+    fn translation(&self, q: u64, bytes: Bytes, items: &[Item]) -> Bytes
         requires { All (IsInside bytes) items.now }
         ensures translated { Tells self.now result (λ s. translations.translation s q bytes items.now) }
         ensures len { length result ≡ length bytes }
@@ -75,14 +76,27 @@ impl Tables {
         Bytes::new(bytes)
     }
 
+    /// The data as the process is to see it, where there is a copy to be put right: with no object they are as they were sent.
+    pub(crate) fn put_right(&self, q: u64, copy: Option<Bytes>, items: &[Item]) -> Option<Bytes>
+        requires inside { IfSome copy (λ bytes. All (IsInside bytes) items.now) }
+        ensures translated { (bytes : List ℕ) → IsCopy copy bytes items.now
+            → Tells self.now (laid_bytes result bytes) (λ s. translations.translation s q bytes items.now) }
+        ensures len { (bytes : List ℕ) → IsCopy copy bytes items.now → length (laid_bytes result bytes) ≡ length bytes }
+    {
+        match copy {
+            Some(bytes) => Some(self.translation(q, bytes, items)),
+            None => None,
+        }
+    }
+
     // The buffer comes in, and a one-way call with it.
-    pub(crate) fn add_buffer(&mut self, buffer: Buffer)
+    pub(crate) fn add_buffer(&mut self, buffer: Lent<'_>)
         requires turns { 1 ≤ call_rooms.turn_room self.old.calls }
-        requires room { 1 ≤ buffer_room self.old.windows buffer.receiver }
+        requires room { HasBufferRoom self.old.windows buffer.receiver buffer.start buffer.size }
         requires sized { buffer.size ≡ room.needed (length buffer.bytes) (length buffer.offsets) }
         requires can_add { CanAdd self.old.windows buffer.receiver buffer.one_way buffer.size buffer.start }
-        ensures stands { (s : Space) → Before self.old s → s.steps ≡ buffer.made
-            → Within self.new (delivery.add_buffer s buffer) }
+        ensures stands { (s : Space) → Before self.old s → s.steps ≡ buffer.entry.made
+            → Within self.new (delivery.add_buffer s buffer.entry) }
         ensures spends { Spends self.old self.new 0 0 1 0 }
         ensures told { KeepsTold self.old self.new }
     {
@@ -98,8 +112,8 @@ impl Tables {
         match self.windows.at_pointer(p, pointer) {
             None => Err(Note::NoSuchBuffer),
             Some(b) => {
-                if b.handed {
-                    Ok(b.made)
+                if b.is_handed() {
+                    Ok(b.made())
                 } else {
                     Err(Note::NotHandedOut)
                 }

@@ -12,46 +12,53 @@ ghost use Rattle.bd_space.specs.Delivery as spec;
 ghost use Rattle.bd_ways.specs.{Local.{objects_of_items}, Tables.{MakesWhere}};
 ghost use Rattle.bd_objects.specs.Room as object_rooms;
 ghost use Rattle.bd_calls.specs.Room as call_rooms;
-ghost use Rattle.bd_buffers.specs.WindowsStand.{CanAdd, buffer_room};
+ghost use Rattle.bd_buffers.specs.WindowsStand.{CanAdd, HasBufferRoom};
 ghost use Rattle.bd_step.specs.{Stands.{Before, Tells, Makes, Begins, PassesLimit, KeepsTold}, Meets.{IsKept}};
 ghost use Rattle.bd_step.specs.Following.{AreTouched};
-ghost use Rattle.bd_step.specs.Deliveries.{IsSound, IsDeliverable, IsReady, SendsNew, Delivers, Spends, OnlyWorks, OnlyObjects, sending};
+ghost use Rattle.bd_step.specs.Deliveries.{IsSound, IsDeliverable, IsReady, SendsNew, Delivers, Spends, OnlyWorks, OnlyObjects, sending, size_of, IsCopy};
 
 use crate::sending::Sending;
 use crate::tables::Tables;
 use crate::touched::in_order;
-use bd_buffers::needed;
+use bd_buffers::{Lent, Record, needed};
 use bd_objects::{NumbersFull, Room};
-use bd_space::{Actor, Buffer, Identity, Item, Object, Parcel, Process, TodoList};
+use bd_space::{Actor, Bytes, Identity, Item, Object, Parcel, Process, TodoList};
 use bd_uapi::{Cause, TransactionData};
 use std::alloc::{AllocError, Global};
 use std::marker::Model;
 
 /// What is delivered: to which process, on which object, whether one-way, what, and where in the receiver's window.
 #[derive(Drop)]
-pub(crate) struct Delivery {
+pub(crate) struct Delivery<'a> {
     receiver: Process,
     target: Option<Identity>,
     one_way: bool,
-    parcel: Parcel,
+    parcel: &'a Parcel,
+    // The data once more, where there are objects to be written over it.
+    copy: Option<Bytes>,
     made: Vec<Object>,
     items: Vec<Item>,
     start: u32,
 }
 
-impl Model for Delivery {
+impl<'a> Model for Delivery<'a> {
+    ghost use Rattle.bd_space.specs.Delivery as spec;
+    ghost use Rattle.bd_step.specs.Deliveries.{IsCopy, sending};
+
     ghost Value = { spec.Delivery };
 
     ghost view = { λ v. record {
       receiver = v.receiver;
       target = v.target;
       one_way = v.one_way;
-      sending = sending v.parcel v.made.items v.items.items;
+      sending = sending v.parcel.now v.made.items v.items.items;
       start = v.start;
     } };
+
+    ghost invariant = { λ v. IsCopy v.copy v.parcel.now.bytes v.items.items };
 }
 
-impl Delivery {
+impl<'a> Delivery<'a> {
     /// To which process.
     pub(crate) fn receiver(&self) -> u64
         ensures { result ≡ self.now.receiver.made }
@@ -95,22 +102,66 @@ impl Delivery {
     }
 }
 
+// The data once more, where there are objects to be written over it. Most parcels carry none.
+fn copy_of(parcel: &Parcel, items: &[Item]) -> Result<Option<Bytes>, AllocError>
+    ensures { IfOk result (λ copy. IsCopy copy parcel.now.bytes items.now) }
+{
+    if items.is_empty() {
+        return Ok(None);
+    }
+    Ok(Some(parcel.bytes.copied()?))
+}
+
 fn objects_of(alloc: Global, items: &[Item]) -> Result<Vec<Identity>, AllocError>
     ensures { IfOk result (λ os. os.items ≡ map parcels.object_of_item items.now) }
 {
     items.iter().map(|x| x.object).collect(alloc)
 }
 
+/// A buffer as it is to be laid out in its window: its data as its receiver is to see them, or those of its parcel where they are
+/// just these. Contracts see the buffer.
+#[derive(Drop)]
+struct Laid<'a> {
+    record: Record,
+    own: Option<Bytes>,
+    parcel: &'a Parcel,
+}
+
+impl<'a> Model for Laid<'a> {
+    ghost use Rattle.bd_space.specs.declared.space.Buffer.{Buffer};
+    ghost use Rattle.bd_buffers.specs.Record.{with_bytes, IsSized};
+    ghost use Rattle.bd_step.specs.Deliveries.{laid_bytes};
+
+    ghost Value = { Buffer };
+
+    ghost view = { λ l. with_bytes l.record (laid_bytes l.own l.parcel.now.bytes) l.parcel.now.offsets };
+
+    ghost invariant = { λ l. IsSized l.record (laid_bytes l.own l.parcel.now.bytes) l.parcel.now.offsets };
+}
+
+impl<'a> Laid<'a> {
+    // The same, its bytes lent.
+    fn lent(&self) -> Lent<'_>
+        ensures { result ≡ self.now }
+    {
+        let bytes = match &self.own {
+            Some(bytes) => bytes.as_slice(),
+            None => self.parcel.bytes.as_slice(),
+        };
+        Lent::new(&self.record, bytes, self.parcel.offsets.as_slice())
+    }
+}
+
 impl Tables {
-    // Where the sending goes in its receiver's window. Its parcel is copied only where there is a place for it.
-    fn placed_for(
+    // Where the sending goes in its receiver's window. Nothing is copied where there is no place for it.
+    fn placed_for<'a>(
         &self,
         sent: &TransactionData,
         receiver: Process,
         target: Option<Identity>,
         one_way: bool,
-        sending: Sending<'_>,
-    ) -> Result<Result<Delivery, Cause>, AllocError>
+        sending: Sending<'a>,
+    ) -> Result<Result<Delivery<'a>, Cause>, AllocError>
         requires { IsSound sent.now sending }
         ensures computed { IfOk result
             (λ r. (s : Space) → Before self.now s → process_in s.processes receiver.made ≡ Some receiver
@@ -123,12 +174,14 @@ impl Tables {
         {
             Err(cause) => Ok(Err(cause)),
             Ok(start) => {
-                let (parcel, made, items) = sending.into_parts()?;
+                let (parcel, made, items) = sending.into_parts();
+                let copy = copy_of(parcel, items.as_slice())?;
                 Ok(Ok(Delivery {
                     receiver,
                     target,
                     one_way,
                     parcel,
+                    copy,
                     made,
                     items,
                     start,
@@ -140,15 +193,15 @@ impl Tables {
     /// What the actor sends to the receiver by this parcel, or the first cause against it.
     // Put into its callers, as what else has a delivery: it isn't moved from frame to frame.
     #[inline(always)]
-    pub(crate) fn sent_to(
+    pub(crate) fn sent_to<'a>(
         &self,
         actor: Actor,
         sent: &TransactionData,
-        parcel: &Option<Parcel>,
+        parcel: &'a Option<Parcel>,
         receiver: Process,
         target: Option<Identity>,
         one_way: bool,
-    ) -> Result<Result<Delivery, Cause>, AllocError>
+    ) -> Result<Result<Delivery<'a>, Cause>, AllocError>
         ensures computed { IfOk result
             (λ r. (s : Space) → Before self.now s → process_in s.processes receiver.made ≡ Some receiver
             → r ≡ words.and_then (parcels.sending_of s actor.process.made sent.now parcel.now)
@@ -166,11 +219,13 @@ impl Tables {
     #[inline(always)]
     pub(crate) fn reserve_delivery(
         &mut self,
-        delivery: &Delivery,
+        sent: &TransactionData,
+        delivery: &Delivery<'_>,
     ) -> Result<Vec<Identity>, AllocError>
+        requires fits { size_of sent.now ≤ 4194304 }
         ensures stands { IsKept self.old self.new }
         ensures deliverable { (d : TransactionData) → IsDeliverable self.old d delivery.now → IsDeliverable self.new d delivery.now }
-        ensures ready { OnOk result (IsReady self.new delivery.now) }
+        ensures ready { OnOk result (IsReady self.new sent.now delivery.now) }
         ensures touched { IfOk result (λ os. AreTouched (objects_of_items delivery.now.sending.items) os.items) }
         ensures len { IfOk result (λ os. length os.items ≡ length delivery.now.sending.items) }
         ensures told { KeepsTold self.old self.new }
@@ -182,7 +237,9 @@ impl Tables {
             .and_then(|n| n.checked_add(3))
             .ok_or(AllocError)?;
         let touched = in_order(objects_of(self.alloc, delivery.items())?);
-        self.windows.reserve_buffer(delivery.receiver())?;
+        let size = needed(sent.data_size, sent.offsets_size);
+        self.windows
+            .reserve_buffer(delivery.receiver(), delivery.start, size)?;
         let room = Room {
             objects: delivery.made().len(),
             references,
@@ -195,11 +252,17 @@ impl Tables {
     }
 
     // The buffer of a delivery.
-    fn buffer_of(&self, actor: Actor, sent: &TransactionData, delivery: Delivery) -> Buffer
+    fn buffer_of<'a>(
+        &self,
+        actor: Actor,
+        sent: &TransactionData,
+        delivery: Delivery<'a>,
+    ) -> Laid<'a>
         requires { IsDeliverable self.now sent.now delivery }
-        ensures buffer { Tells self.now result (λ s. spec.buffer_of s actor sent.now delivery) }
-        ensures receiver { result.receiver ≡ delivery.receiver.made }
+        ensures buffer { Tells self.now result (λ s. spec.buffer_of s actor sent.now delivery.entry) }
+        ensures receiver { result.receiver ≡ delivery.entry.receiver.made }
         ensures sized { result.size ≡ room.needed (length result.bytes) (length result.offsets) }
+        ensures at { (result.start ≡ delivery.entry.start) × (result.size ≡ size_of sent.now) }
         ensures can_add { CanAdd self.now.windows result.receiver result.one_way result.size result.start }
     {
         let Delivery {
@@ -207,25 +270,31 @@ impl Tables {
             target,
             one_way,
             parcel,
+            copy,
             made: _,
             items,
             start,
         } = delivery;
-        let Parcel { bytes, offsets } = parcel;
-        Buffer {
+        let record = Record {
             made: self.steps,
             receiver: receiver.made,
             sender: actor.process.made,
             start,
             size: needed(sent.data_size, sent.offsets_size),
+            data_size: sent.data_size as u32,
+            offsets_size: sent.offsets_size as u32,
             one_way,
             handed: false,
             target,
             code: sent.code,
             flags: sent.flags,
             euid: actor.process.euid,
-            bytes: self.translation(receiver.made, bytes, items.as_slice()),
-            offsets,
+        };
+        let own = self.put_right(receiver.made, copy, items.as_slice());
+        Laid {
+            record,
+            own,
+            parcel,
         }
     }
 
@@ -306,7 +375,7 @@ impl Tables {
     }
 
     // Takes in the objects, the references and the names.
-    fn deliver_objects(&mut self, delivery: &Delivery) -> Result<(), NumbersFull>
+    fn deliver_objects(&mut self, delivery: &Delivery<'_>) -> Result<(), NumbersFull>
         requires { object_rooms.HasRoom self.old.objects
             (object_rooms.delivery_room delivery.now.receiver.made delivery.now.sending.made delivery.now.sending.items) }
         ensures ok { OnOk result (MakesWhere (Before self.old) (SendsNew delivery.now) (Before self.new)
@@ -327,19 +396,19 @@ impl Tables {
     }
 
     // Puts the notices and the buffer in, where the names are known.
-    fn fill(&mut self, actor: Actor, sent: &TransactionData, delivery: Delivery)
+    fn fill(&mut self, actor: Actor, sent: &TransactionData, delivery: Delivery<'_>)
         requires deliverable { IsDeliverable self.old sent.now delivery }
         requires turns { 1 ≤ call_rooms.turn_room self.old.calls }
         requires works { length delivery.sending.items ≤ call_rooms.work_room self.old.calls }
-        requires room { 1 ≤ buffer_room self.old.windows delivery.receiver.made }
+        requires room { HasBufferRoom self.old.windows delivery.receiver.made delivery.start (size_of sent.now) }
         ensures stands { Begins self.old self.new
-            (λ s. spec.own_notices (spec.add_buffer s (spec.buffer_of s actor sent.now delivery)) actor.thread.seat delivery.sending.items) }
-        ensures spends { Spends self.old self.new 0 0 1 (length delivery.sending.items) }
+            (λ s. spec.own_notices (spec.add_buffer s (spec.buffer_of s actor sent.now delivery.entry)) actor.thread.seat delivery.entry.sending.items) }
+        ensures spends { Spends self.old self.new 0 0 1 (length delivery.entry.sending.items) }
         ensures told { KeepsTold self.old self.new }
     {
         self.own_notices(actor.thread.seat, delivery.items());
         let buffer = self.buffer_of(actor, sent, delivery);
-        self.add_buffer(buffer);
+        self.add_buffer(buffer.lent());
     }
 
     /// The whole delivery; nothing where a number past the limit would be needed. Takes no memory.
@@ -348,14 +417,14 @@ impl Tables {
         &mut self,
         actor: Actor,
         sent: &TransactionData,
-        delivery: Delivery,
+        delivery: Delivery<'_>,
     ) -> Result<(), NumbersFull>
         requires deliverable { IsDeliverable self.old sent.now delivery }
-        requires ready { IsReady self.old delivery }
-        ensures ok { OnOk result (Delivers self.old self.new delivery (λ s. spec.delivered s actor sent.now delivery)) }
+        requires ready { IsReady self.old sent.now delivery }
+        ensures ok { OnOk result (Delivers self.old self.new delivery.entry (λ s. spec.delivered s actor sent.now delivery.entry)) }
         ensures err { OnErr result (IsKept self.old self.new) }
-        ensures full { OnErr result (PassesLimit self.old (λ s. names_go (spec.with_carried s delivery))) }
-        ensures spends { OnOk result (Spends self.old self.new (length delivery.sending.made) 0 1 (length delivery.sending.items)) }
+        ensures full { OnErr result (PassesLimit self.old (λ s. names_go (spec.with_carried s delivery.entry))) }
+        ensures spends { OnOk result (Spends self.old self.new (length delivery.entry.sending.made) 0 1 (length delivery.entry.sending.items)) }
         ensures told { KeepsTold self.old self.new }
     {
         match self.deliver_objects(&delivery) {

@@ -25,7 +25,7 @@ impl Tables {
             return Ok(());
         };
         if let Some(b) = self.windows.at_pointer(actor.process.made, pointer) {
-            places.push(b.made)?;
+            places.push(b.made())?;
         }
         Ok(())
     }

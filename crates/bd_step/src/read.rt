@@ -1,7 +1,7 @@
 //! The step that reads.
 
 ghost use Rattle.std.specs.Prelude.{◌≡◌, ◌+◌, ◌-◌, ◌*◌, ◌≤◌, ◌++◌, ◌∷◌, [], map, false, None, Some, length, option_map, IfOk, IfSome, OnOk, OnErr, nat_lt};
-ghost use Rattle.std.specs.{Option.{option_copied}, List.{filter_map}};
+ghost use Rattle.std.specs.List.{filter_map};
 ghost use Rattle.bd_uapi.specs.declared.command.Return.TheVariants.{Noop};
 ghost use Rattle.bd_codec.specs.Spelling.{return_bytes};
 ghost use Rattle.bd_space.specs.{Space.{Space}, Words.{first_of}};
@@ -20,9 +20,10 @@ use crate::keep::Keeps;
 use crate::step_error::StepError;
 use crate::tables::{NOTHING, Tables};
 use crate::touched::in_order;
+use bd_buffers::Lent;
 use bd_codec::write_return;
 use bd_objects::Room;
-use bd_space::{Actor, Buffer, Bytes, Identity, StepAnswer, Thread, TodoList, Work, WorkKind};
+use bd_space::{Actor, Bytes, Identity, StepAnswer, Thread, TodoList, Work, WorkKind};
 use bd_todo::hands_out;
 use bd_uapi::{Fault, Return};
 use std::alloc::{AllocError, Global};
@@ -125,25 +126,34 @@ fn noticed(alloc: Global, works: &[Work]) -> Result<Vec<Identity>, AllocError>
 }
 
 // Where the buffer was made.
-fn made_of(buffer: Option<&Buffer>) -> Option<u64>
-    ensures { result ≡ option_map made_of_buffer (option_copied buffer.entry) }
+fn made_of(buffer: &Option<Lent<'_>>) -> Option<u64>
+    ensures { result ≡ option_map made_of_buffer buffer.now }
 {
     match buffer {
-        Some(b) => Some(b.made),
+        Some(b) => Some(b.made()),
         None => None,
     }
 }
 
+// Bytes in memory of their own.
+fn copied(alloc: Global, bytes: &[u8]) -> Result<Bytes, AllocError>
+    ensures { IfOk result (λ b. b ≡ bytes.now) }
+{
+    let mut items = Vec::new(alloc);
+    items.extend_from_slice(bytes)?;
+    Ok(Bytes::new(items))
+}
+
 // The answer of a read: the bytes, and copies of the data and offsets that are handed over.
-fn got(alloc: Global, buffer: Option<&Buffer>, stream: Vec<u8>) -> Result<StepAnswer, AllocError>
-    ensures answer { IfOk result (λ answer. answer ≡ spec.got stream.items (option_copied buffer.entry)) }
+fn got(alloc: Global, buffer: Option<Lent<'_>>, stream: Vec<u8>) -> Result<StepAnswer, AllocError>
+    ensures answer { IfOk result (λ answer. answer ≡ spec.got stream.items buffer.entry) }
     ensures got { IfOk result (λ answer. IsGot answer) }
 {
     match buffer {
         Some(b) => Ok(StepAnswer::Got {
             stream: Bytes::new(stream),
-            bytes: b.bytes.copied()?,
-            offsets: b.offsets.copied()?,
+            bytes: copied(alloc, b.bytes())?,
+            offsets: copied(alloc, b.offsets())?,
         }),
         None => Ok(StepAnswer::Got {
             stream: Bytes::new(stream),
@@ -229,8 +239,8 @@ impl Tables {
     }
 
     // The buffer that is handed over by reading these.
-    fn buffer_taken(&self, works: &[Work]) -> Option<&Buffer>
-        ensures { TellsWithin self.now (option_copied result) (λ s. spec.buffer_taken s works.now) }
+    fn buffer_taken(&self, works: &[Work]) -> Option<Lent<'_>>
+        ensures { TellsWithin self.now result (λ s. spec.buffer_taken s works.now) }
     {
         match handed_by(works) {
             Some(made) => self.windows.buffer(made),
@@ -290,7 +300,7 @@ impl Tables {
     {
         let Taking { works, stream } = self.select(list, limit)?;
         let buffer = self.buffer_taken(works.as_slice());
-        let made = made_of(buffer);
+        let made = made_of(&buffer);
         *answer = got(self.alloc, buffer, stream)?;
         keep.keep(answer)?;
         let touched = in_order(noticed(self.alloc, works.as_slice())?);

@@ -24,13 +24,13 @@ use std::alloc::AllocError;
 
 impl Tables {
     // What is to be delivered to the caller of the frame, or the first cause against it.
-    fn reply_check(
+    fn reply_check<'a>(
         &self,
         actor: Actor,
         sent: &TransactionData,
-        parcel: &Option<Parcel>,
+        parcel: &'a Option<Parcel>,
         f: &Frame,
-    ) -> Result<Result<Delivery, Cause>, AllocError>
+    ) -> Result<Result<Delivery<'a>, Cause>, AllocError>
         ensures computed { IfOk result
             (λ r. TellsBefore self.now r (λ s. spec.reply_check s actor sent.now parcel.now f.now)) }
         ensures deliverable { IfOk result (λ r. IfOk r (IsDeliverable self.now sent.now)) }
@@ -61,14 +61,14 @@ impl Tables {
         actor: Actor,
         sent: &TransactionData,
         f: Frame,
-        delivery: Delivery,
+        delivery: Delivery<'_>,
     ) -> Result<(), StepError>
         requires deliverable { IsDeliverable self.old sent.now delivery }
-        requires ready { IsReady self.old delivery }
-        ensures ok { OnOk result (Delivers self.old self.new delivery (λ s. spec.replied s actor sent.now f delivery)) }
+        requires ready { IsReady self.old sent.now delivery }
+        ensures ok { OnOk result (Delivers self.old self.new delivery.entry (λ s. spec.replied s actor sent.now f delivery.entry)) }
         ensures err { OnErr result (IsKept self.old self.new) }
-        ensures full { OnErr result (PassesLimit self.old (λ s. names_go (spec.replied s actor sent.now f delivery))) }
-        ensures follow { OnOk result (CanFollow self.new (length delivery.sending.items)) }
+        ensures full { OnErr result (PassesLimit self.old (λ s. names_go (spec.replied s actor sent.now f delivery.entry))) }
+        ensures follow { OnOk result (CanFollow self.new (length delivery.entry.sending.items)) }
         // There is room by then, so that nothing else is a reason.
         ensures limit { IfErr result (λ why. why ≡ StepError.HistoryFull) }
         ensures told { KeepsTold self.old self.new }
@@ -89,15 +89,15 @@ impl Tables {
         actor: Actor,
         sent: &TransactionData,
         f: Frame,
-        delivery: Delivery,
+        delivery: Delivery<'_>,
     ) -> Result<Plain, StepError>
         requires { IsDeliverable self.old sent.now delivery }
-        ensures step { IsStep self.old self.new (IsReplying actor sent.now f delivery)
-            (λ s. outcomes.accepted (spec.replied s actor sent.now f delivery)) result }
+        ensures step { IsStep self.old self.new (IsReplying actor sent.now f delivery.entry)
+            (λ s. outcomes.accepted (spec.replied s actor sent.now f delivery.entry)) result }
         ensures told { KeepsTold self.old self.new }
     {
         let parent = f.parent;
-        let Ok(touched) = self.reserve_delivery(&delivery) else {
+        let Ok(touched) = self.reserve_delivery(sent, &delivery) else {
             return Err(StepError::NoMemory);
         };
         match self.replied(actor, sent, f, delivery) {

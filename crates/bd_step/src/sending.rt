@@ -32,16 +32,16 @@ impl<'a> Model for Sending<'a> {
 }
 
 impl<'a> Sending<'a> {
-    /// A copy of the parcel, the objects that the sender makes, and all its objects.
-    pub(crate) fn into_parts(self) -> Result<(Parcel, Vec<Object>, Vec<Item>), AllocError>
-        ensures { IfOk result (λ x. sending x.0 x.1.items x.2.items ≡ self.entry) }
+    /// The parcel, the objects that the sender makes, and all its objects.
+    pub(crate) fn into_parts(self) -> (&'a Parcel, Vec<Object>, Vec<Item>)
+        ensures { sending result.0.now result.1.items result.2.items ≡ self.entry }
     {
         let Sending {
             parcel,
             made,
             items,
         } = self;
-        Ok((parcel.copied()?, made, items))
+        (parcel, made, items)
     }
 }
 

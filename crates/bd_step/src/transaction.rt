@@ -140,12 +140,12 @@ impl Tables {
     }
 
     // What is to be delivered, or the first cause against it.
-    fn transaction_check(
+    fn transaction_check<'a>(
         &self,
         actor: Actor,
         sent: &TransactionData,
-        parcel: &Option<Parcel>,
-    ) -> Result<Result<Delivery, Cause>, AllocError>
+        parcel: &'a Option<Parcel>,
+    ) -> Result<Result<Delivery<'a>, Cause>, AllocError>
         ensures computed { IfOk result
             (λ r. TellsBeforeOfStacked self.now r (λ s. spec.transaction_check s actor sent.now parcel.now)) }
         ensures deliverable { IfOk result (λ r. IfOk r (IsDeliverable self.now sent.now)) }
@@ -189,14 +189,14 @@ impl Tables {
         &mut self,
         actor: Actor,
         sent: &TransactionData,
-        delivery: Delivery,
+        delivery: Delivery<'_>,
     ) -> Result<(), StepError>
         requires deliverable { IsDeliverable self.old sent.now delivery }
-        requires ready { IsReady self.old delivery }
-        ensures ok { OnOk result (DeliversCall self.old self.new delivery (λ s. spec.transacted s actor sent.now delivery)) }
+        requires ready { IsReady self.old sent.now delivery }
+        ensures ok { OnOk result (DeliversCall self.old self.new delivery.entry (λ s. spec.transacted s actor sent.now delivery.entry)) }
         ensures err { OnErr result (IsKept self.old self.new) }
-        ensures full { OnErr result (PassesLimit self.old (λ s. names_go (spec.transacted s actor sent.now delivery))) }
-        ensures follow { OnOk result (CanFollow self.new (length delivery.sending.items + 1)) }
+        ensures full { OnErr result (PassesLimit self.old (λ s. names_go (spec.transacted s actor sent.now delivery.entry))) }
+        ensures follow { OnOk result (CanFollow self.new (length delivery.entry.sending.items + 1)) }
         // There is room by then, so that nothing else is a reason.
         ensures limit { IfErr result (λ why. why ≡ StepError.HistoryFull) }
         ensures told { KeepsTold self.old self.new }
@@ -219,15 +219,15 @@ impl Tables {
         &mut self,
         actor: Actor,
         sent: &TransactionData,
-        delivery: Delivery,
+        delivery: Delivery<'_>,
     ) -> Result<Plain, StepError>
         requires { IsDeliverable self.old sent.now delivery }
-        ensures step { IsStep self.old self.new (IsSending actor sent.now delivery)
-            (λ s. outcomes.accepted (spec.transacted s actor sent.now delivery)) result }
+        ensures step { IsStep self.old self.new (IsSending actor sent.now delivery.entry)
+            (λ s. outcomes.accepted (spec.transacted s actor sent.now delivery.entry)) result }
         ensures told { KeepsTold self.old self.new }
     {
         let target = delivery.one_way_target();
-        let Ok(touched) = self.reserve_delivery(&delivery) else {
+        let Ok(touched) = self.reserve_delivery(sent, &delivery) else {
             return Err(StepError::NoMemory);
         };
         match self.transacted(actor, sent, delivery) {

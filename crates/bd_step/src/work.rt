@@ -13,9 +13,9 @@ ghost use Rattle.bd_buffers.specs.WindowsStand.{IsInWindow};
 ghost use Rattle.bd_step.specs.Stands.{TellsBefore};
 
 use crate::tables::Tables;
-use bd_buffers::pointer_of;
+use bd_buffers::{Lent, pointer_of};
 use bd_codec::write_return;
-use bd_space::{Actor, Buffer, Object, WorkKind};
+use bd_space::{Actor, Object, WorkKind};
 use bd_uapi::{Return, TransactionData};
 use std::alloc::AllocError;
 
@@ -62,11 +62,11 @@ fn signed(pid: u32) -> i32
 }
 
 // Where its offsets begin.
-fn offsets_start(b: &Buffer) -> u64
+fn offsets_start(b: &Lent<'_>) -> u64
     requires { IsInWindow b.now }
     ensures { result ≡ pointer b.now + rounded (length b.now.bytes) }
 {
-    pointer_of(b) + 8 * ((b.bytes.len() as u64 + 7) / 8)
+    pointer_of(b) + 8 * ((b.bytes().len() as u64 + 7) / 8)
 }
 
 impl Tables {
@@ -95,17 +95,17 @@ impl Tables {
     }
 
     // None where it is a reply, or where its object is gone.
-    fn called_object(&self, b: &Buffer) -> Option<Object>
+    fn called_object(&self, b: &Lent<'_>) -> Option<Object>
         ensures { TellsBefore self.now result (λ s. option_and_then (object_in s.objects) b.now.target) }
     {
-        match b.target {
+        match b.target() {
             Some(o) => self.objects.object(o),
             None => None,
         }
     }
 
     // The ptr and the cookie of that object, else 0.
-    fn called_words(&self, b: &Buffer) -> (u64, u64)
+    fn called_words(&self, b: &Lent<'_>) -> (u64, u64)
         ensures target { TellsBefore self.now result.0
             (λ s. unwrap_or (option_map (λ o. o.ptr) (option_and_then (object_in s.objects) b.now.target)) 0) }
         ensures cookie { TellsBefore self.now result.1
@@ -119,7 +119,7 @@ impl Tables {
 
     // What the receiver of a buffer reads of it.
     #[tactic(auto, unfolding(bd_space::specs::Returns::data_of))]
-    fn data_of(&self, b: &Buffer) -> TransactionData
+    fn data_of(&self, b: &Lent<'_>) -> TransactionData
         requires { IsInWindow b.now }
         ensures { TellsBefore self.now result (λ s. spec.data_of s b.now) }
     {
@@ -127,12 +127,12 @@ impl Tables {
         TransactionData {
             target,
             cookie,
-            code: b.code,
-            flags: b.flags,
-            sender_pid: signed(self.sender_pid(b.made)),
-            sender_euid: b.euid,
-            data_size: b.bytes.len() as u64,
-            offsets_size: b.offsets.len() as u64,
+            code: b.code(),
+            flags: b.flags(),
+            sender_pid: signed(self.sender_pid(b.made())),
+            sender_euid: b.euid(),
+            data_size: b.bytes().len() as u64,
+            offsets_size: b.offsets().len() as u64,
             buffer: pointer_of(b),
             offsets: offsets_start(b),
         }
@@ -143,7 +143,7 @@ impl Tables {
         ensures { TellsBefore self.now result (λ s. option_map (spec.data_of s) (spec.buffer_in s.buffers made)) }
     {
         match self.windows.buffer(made) {
-            Some(b) => Some(self.data_of(b)),
+            Some(b) => Some(self.data_of(&b)),
             None => None,
         }
     }

@@ -2,20 +2,20 @@ use Rattle.std.proofs.Common.{ℕ, ◌≡◌, ◌+◌, ◌∙◌, List, ◌++◌
 use Rattle.std.specs.Prelude.{Option, Some, None}
 use Rattle.std.specs.Option.{option_to_list}
 use Rattle.std.proofs.lemmas.List.{map-append, append-nil}
-use Rattle.bd_space.specs.declared.space.Buffer.{Buffer}
+use Rattle.bd_buffers.specs.declared.record.Record.{Record}
 use Rattle.bd_buffers.specs.declared.rows.Row.{Row}
 use Rattle.bd_buffers.specs.Rows.{live, in_row}
-use Rattle.bd_buffers.specs.WindowsStand.{made_of_buffer}
+use Rattle.bd_buffers.specs.Record.{made_of_record}
 use Rattle.bd_buffers.proofs.Homes.{front_more}
 use Rattle.bd_buffers.proofs.listing.list_made.Goals as goal
 use Rattle.bd_buffers.proofs.listing.list_made.Goals.{in-Some+in_ok-push, in_default}
 
 -- with one row more
-listed_more : (rows : List Row) (i : ℕ) (o : Option Buffer) (before places : List ℕ) → o ≡ in_row rows i → places ≡ before ++ map made_of_buffer (live (take i rows))
-    → places ++ map made_of_buffer (option_to_list o) ≡ before ++ map made_of_buffer (live (take (i + 1) rows))
+listed_more : (rows : List Row) (i : ℕ) (o : Option Record) (before places : List ℕ) → o ≡ in_row rows i → places ≡ before ++ map made_of_record (live (take i rows))
+    → places ++ map made_of_record (option_to_list o) ≡ before ++ map made_of_record (live (take (i + 1) rows))
 listed_more rows i o before places there so_far =
-    ap (λ ms. ms ++ map made_of_buffer (option_to_list o)) so_far ∙ append_assoc before (map made_of_buffer (live (take i rows))) (map made_of_buffer (option_to_list o))
-    ∙ ap (λ ms. before ++ ms) (sym (map-append made_of_buffer (live (take i rows)) (option_to_list o)) ∙ ap (map made_of_buffer) (sym (front_more rows i o there)))
+    ap (λ ms. ms ++ map made_of_record (option_to_list o)) so_far ∙ append_assoc before (map made_of_record (live (take i rows))) (map made_of_record (option_to_list o))
+    ∙ ap (λ ms. before ++ ms) (sym (map-append made_of_record (live (take i rows)) (option_to_list o)) ∙ ap (map made_of_record) (sym (front_more rows i o there)))
 
 pub loop-i-preserved : goal.loop-i-preserved
 loop-i-preserved c =

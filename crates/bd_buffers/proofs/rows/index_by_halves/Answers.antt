@@ -13,6 +13,6 @@ returns-else-i-rows c =
     missed key c.args.made c.partition_point-i.result rows c.requires.order
     (λ parted. IsPartitionPoint-from_clause (λ (r : Row). ltb r.made c.args.made) _ _ c.partition_point-i.ensures.partitioned parted (λ a r q k. search rules))
     (elim c.else-i-rows.branch [
-      | else-i-rows-via-then-i-rows+else-rows-i w ↦ (λ d lt e. w.if-rows-i.false (ap key (get_or_default rows c.partition_point-i.result w.index-rows-i.result d lt) ∙ e))
+      | else-i-rows-via-then-i-rows+else-rows-i w ↦ (λ d lt e. w.if-rows-i.false (ap key (get_or_default rows c.partition_point-i.result _ d lt) ∙ e))
       | else-i-rows-via-else-i-rows w ↦ (λ d lt e. absurd (omega arith))
     ])

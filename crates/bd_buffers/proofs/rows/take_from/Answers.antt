@@ -1,6 +1,6 @@
 use Rattle.std.proofs.Common.{◌<◌, ◌≤◌, ◌∙◌, ap, sym, arith, length, None, Option}
 use Rattle.std.proofs.Math.ListN.{set}
-use Rattle.bd_space.specs.declared.space.Buffer.{Buffer}
+use Rattle.bd_buffers.specs.declared.record.Record.{Record}
 use Rattle.bd_buffers.specs.declared.rows.Row.{Row}
 use Rattle.bd_buffers.proofs.Live.{at_row, past_rows, set_refilled, refilled_same}
 use Rattle.bd_buffers.proofs.rows.take_from.Goals as goal
@@ -16,7 +16,7 @@ returns-then-i-len-clause-left c =
     let rows = c.args.rows.now in
     let r = c.index_mut.result.now in
     let lt : c.args.i < length rows.items = omega (arith, c.if-i-len.true, c.len.ensures, rows.ok) in
-    ap (λ (o : Option Buffer). set rows.items c.args.i (record { made = r.made; buffer = o })) c.take.ensures.after
+    ap (λ (o : Option Record). set rows.items c.args.i (record { made = r.made; buffer = o })) c.take.ensures.after
     ∙ set_refilled (λ o. None) rows.items c.args.i r lt c.index_mut.ensures.value
 
 pub returns-else-i-len-clause-taken : goal.returns-else-i-len-clause-taken

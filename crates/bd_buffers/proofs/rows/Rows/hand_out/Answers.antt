@@ -1,11 +1,10 @@
 use Rattle.std.proofs.Common.{◌≡◌, ◌∙◌, ap, sym, subst, List, All, false}
 use Rattle.std.specs.Prelude.{◌==◌}
-use Rattle.bd_space.specs.declared.space.Buffer.{Buffer}
+use Rattle.bd_buffers.specs.declared.record.Record.{Record}
 use Rattle.bd_space.specs.Words.{changed}
-use Rattle.bd_space.specs.Freeing.{is_made_at}
-use Rattle.bd_space.specs.ReadItems.{hand_out}
 use Rattle.bd_space.proofs.Keyed.{changed_none}
 use Rattle.bd_buffers.specs.declared.rows.Row.{Row}
+use Rattle.bd_buffers.specs.Record.{is_record_at, hand_over}
 use Rattle.bd_buffers.specs.declared.rows.Rows.{Rows}
 use Rattle.bd_buffers.specs.Rows.{live, AreRows}
 use Rattle.bd_buffers.proofs.Live.{handed_rows, handed_live, live_all}
@@ -23,7 +22,7 @@ returns-in-Some-clause-live c =
     let rows = c.self.inside.rows.items in
     let here = rw c.deref.ensures.value at c.in-Some.ensures in
     ap live c.hand_out_at.ensures.handed ∙ handed_live c.args.made rows c.in-Some.i c.self.invariant.in_order c.self.invariant.own here.0 here.1
-    ∙ ap (λ (v : Rows). changed (is_made_at c.args.made) hand_out (live v.rows)) c.self.view_is
+    ∙ ap (λ (v : Rows). changed (is_record_at c.args.made) hand_over (live v.rows)) c.self.view_is
 
 pub returns-in_default-clause-live : goal.returns-in_default-clause-live
 returns-in_default-clause-live c =
@@ -31,5 +30,5 @@ returns-in_default-clause-live c =
     let made = c.args.made in
     let none : All (λ r. (r.made == made) ≡ false) rows = rw (c.deref.ensures.value, c.in_default.is) at c.index_among.ensures in
     ap (λ (v : Rows). live v.rows) (sym c.self.view_is)
-    ∙ sym (changed_none (λ (b : Buffer). b.made) hand_out made (live rows) (live_all (λ k. (k == made) ≡ false) rows c.self.invariant.own none))
-    ∙ ap (λ (v : Rows). changed (is_made_at made) hand_out (live v.rows)) c.self.view_is
+    ∙ sym (changed_none (λ (b : Record). b.made) hand_over made (live rows) (live_all (λ k. (k == made) ≡ false) rows c.self.invariant.own none))
+    ∙ ap (λ (v : Rows). changed (is_record_at made) hand_over (live v.rows)) c.self.view_is

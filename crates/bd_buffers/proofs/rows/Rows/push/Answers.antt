@@ -1,5 +1,5 @@
 use Rattle.std.proofs.Common.{◌∙◌, ◌+◌, ◌<◌, ◌++◌, ◌∷◌, [], ap, sym, subst, List, All, arith}
-use Rattle.bd_space.specs.declared.space.Buffer.{Buffer}
+use Rattle.bd_buffers.specs.declared.record.Record.{Record}
 use Rattle.bd_buffers.specs.declared.rows.Row.{Row}
 use Rattle.bd_buffers.specs.declared.rows.Rows.{Rows}
 use Rattle.bd_buffers.specs.Rows.{live, AreRows}
@@ -19,7 +19,7 @@ pub invariant_of-self : goal.invariant_of-self
 invariant_of-self c =
     let rows = c.self.inside.rows.items in
     let P : List Row → Type 0 = λ xs. AreRows xs (c.self.inside.count + 1) in
-    let Q : List Buffer → Type 0 = λ xs. All (λ b. b.made < c.args.buffer.made) xs in
+    let Q : List Record → Type 0 = λ xs. All (λ b. b.made < c.args.buffer.made) xs in
     subst P (sym c.push_reserved.ensures.items) (pushed_rows rows c.self.inside.count c.args.buffer c.self.invariant
     (subst Q (ap (λ (v : Rows). live v.rows) (sym c.self.view_is)) c.requires.newest))
 

@@ -1,5 +1,5 @@
 use Rattle.std.proofs.Common.{◌≡◌, ◌-◌, ◌∙◌, ap, sym, subst, arith, List, length, None}
-use Rattle.bd_space.specs.declared.space.Buffer.{Buffer}
+use Rattle.bd_buffers.specs.declared.record.Record.{Record}
 use Rattle.bd_buffers.specs.declared.rows.Row.{Row}
 use Rattle.bd_buffers.specs.declared.rows.Rows.{Rows}
 use Rattle.bd_buffers.specs.Rows.{live, emptied, AreRows, IsTrimmed, IsWithout}
@@ -38,7 +38,7 @@ pub returns-clause-live : goal.returns-clause-live
 returns-clause-live c =
     let b = c.in_ok-buffer.buffer in
     let rows = c.self.inside.rows.items in
-    let P : List Buffer → Type 0 = λ xs. IsWithout b xs (live c.trim.new.rows.items) in
-    let Q : List Buffer → Type 0 = λ xs. IsWithout b (live rows) xs in
+    let P : List Record → Type 0 = λ xs. IsWithout b xs (live c.trim.new.rows.items) in
+    let Q : List Record → Type 0 = λ xs. IsWithout b (live rows) xs in
     let left = trimmed_live c.take_from.new.rows.items c.trim.new.rows.items c.trim.ensures.trimmed ∙ ap live c.take_from.ensures.left in
     subst P (ap (λ (v : Rows). live v.rows) c.self.view_is) (subst Q (sym left) (emptied_live rows c.args.i b (sym c.in_ok-buffer.ensures.taken)))

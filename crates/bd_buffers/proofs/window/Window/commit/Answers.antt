@@ -1,136 +1,171 @@
-use Rattle.std.proofs.Common.{sym, ◌∙◌, ◌≡◌, ap, subst, cond, arith, Ok, Some, List, [], ◌∷◌, ◌++◌, ◌+◌, All, refl, ◌<◌, ◌≤◌, ℕ}
-use Rattle.std.proofs.lemmas.List.{length_push}
+use Rattle.std.proofs.Common.{sym, ◌∙◌, ◌≡◌, ◌⊎◌, ap, subst, cond, arith, Ok, Some, [], ◌∷◌, ◌++◌, ◌+◌, ◌/◌, All, refl, length, ◌<◌, ◌≤◌, ℕ}
 use Rattle.bd_keys.specs.declared.key.WordKey.{WordKey}
-use Rattle.bd_keys.specs.declared.map.WordMap.{WordMap}
 use Rattle.bd_keys.specs.Keys.{same_word}
 use Rattle.bd_keys.specs.Look.{look}
+use Rattle.bd_ground.specs.Tiles.{HasRoom}
 use Rattle.bd_space.specs.declared.space.Buffer.{Buffer}
-use Rattle.bd_space.specs.Freeing.{pointer}
-use Rattle.bd_space.specs.Windows.{start_for}
+use Rattle.bd_space.specs.Windows.{needed, start_for}
 use Rattle.bd_space.specs.Spam.{one_way_from}
 use Rattle.bd_buffers.specs.declared.window.Window.{Window}
 use Rattle.bd_buffers.specs.declared.ground.Ground.{Ground}
+use Rattle.bd_buffers.specs.Record.{standing, all_standing, bare}
 use Rattle.bd_buffers.specs.Rows.{live}
 use Rattle.bd_buffers.specs.Stands.{CanHold}
 use Rattle.bd_buffers.specs.Spots.{spot_key}
-use Rattle.bd_buffers.specs.Holes.{Free, IsFreeSpace}
-use Rattle.bd_buffers.specs.Sums.{sum_at, AreSums}
-use Rattle.bd_buffers.specs.Window.{IsWindow, Keeps}
-use Rattle.bd_buffers.proofs.Bounded.{hole_room}
-use Rattle.bd_buffers.proofs.Places.{given_says, holds_inside}
-use Rattle.bd_buffers.proofs.Fits.{fit_begins, placed_fit}
-use Rattle.bd_buffers.proofs.Exact.{holes_taken}
-use Rattle.bd_buffers.proofs.Listed.{none_there, spots_noted}
-use Rattle.bd_buffers.proofs.Shares.{at_sender, from_within, sums_pushed}
-use Rattle.bd_buffers.proofs.Kept.{window_push, one_way_push, one_way_within}
+use Rattle.bd_buffers.specs.Window.{Keeps, is_free_unit}
+use Rattle.bd_buffers.proofs.Places.{holds_inside}
+use Rattle.bd_buffers.proofs.Shares.{at_sender, from_within}
+use Rattle.bd_buffers.proofs.Standing.{all_of}
+use Rattle.bd_buffers.proofs.Kept.{one_way_within}
+use Rattle.bd_buffers.proofs.Noted.{AreBeside, begins, with_new, keeps_pushed}
 use Rattle.bd_buffers.proofs.window.Window.commit.Goals as goal
 
-pub cut-requires-clause-begins : goal.cut-requires-clause-begins
-unfolding CanHold
-cut-requires-clause-begins c =
-    let w = c.self.inside in
-    let b = c.args.buffer in
-    let sized = c.requires.sized in
-    let place : start_for w.ground.size (live w.buffers.rows) b.one_way b.size ≡ Ok b.start = rw (← c.self.view_is) at c.requires.can_take in
-    fit_begins w.ground.size w.ground.tail b.size b.start 0 w.ground.holes.items c.self.invariant.free.spaced
-    (placed_fit w.ground.size w.ground.tail b.size b.start (live w.buffers.rows) w.ground.holes.items b.one_way c.self.invariant.free c.self.invariant.window (omega (arith, sized)) place)
+pub lay-record-requires-clause-inside : goal.lay-record-requires-clause-inside
+lay-record-requires-clause-inside c =
+    let bytes = c.requires.room.bytes in
+    let reach = ap (λ (v : Window). v.reach) c.self.view_is in
+    omega (arith, bytes, reach)
 
-pub cut-requires-clause-fits : goal.cut-requires-clause-fits
-cut-requires-clause-fits c =
+pub lay-record-requires-clause-parts : goal.lay-record-requires-clause-parts
+lay-record-requires-clause-parts c = let sized = c.requires.sized in omega (arith, sized)
+
+pub take-requires-clause-filled : goal.take-requires-clause-filled
+take-requires-clause-filled c =
+    let sized = c.requires.sized in
+    let size = ap (λ (x : Buffer). x.size) c.lay-record.ensures.standing in
+    omega (arith, sized, size)
+
+pub take-requires-clause-small : goal.take-requires-clause-small
+take-requires-clause-small c =
     let w = c.self.inside in
     let b = c.args.buffer in
     let inside : b.start + b.size ≤ w.ground.size = rw (← c.self.view_is) at (holds_inside c.args.self.now b.one_way b.size b.start c.requires.can_take) in
-    let small = c.self.invariant.window.small in
-    let within = c.self.invariant.free.within in
-    (omega (arith, inside, small), omega (arith, inside, small, within))
+    let small = c.self.invariant.notes.window.small in
+    let size = ap (λ (x : Buffer). x.size) c.lay-record.ensures.standing in
+    let start = ap (λ (x : Buffer). x.start) c.lay-record.ensures.standing in
+    omega (arith, inside, small, size, start)
 
-pub cut-requires-clause-later : goal.cut-requires-clause-later
-unfolding CanHold
-cut-requires-clause-later c =
-    let w = c.self.inside in
-    let g = w.ground in
-    let bs = live w.buffers.rows in
-    let b = c.args.buffer in
-    let sized = c.requires.sized in
-    let place : start_for g.size bs b.one_way b.size ≡ Ok b.start = rw (← c.self.view_is) at c.requires.can_take in
-    let inside = (given_says g.size bs b.one_way b.size b.start place).least.room.inside in
-    let fit = placed_fit g.size g.tail b.size b.start bs g.holes.items b.one_way c.self.invariant.free c.self.invariant.window (omega (arith, sized)) place in
-    let is = holes_taken g.size g.tail b.size b.start bs g.holes.items b c.self.invariant.free (omega (arith, sized)) inside fit refl refl in
-    record { spaced = is.spaced; within = is.within }
+pub insert-requires : goal.insert-requires
+insert-requires c =
+    let notes = c.requires.room.notes in
+    let room = ap (λ (v : Window). v.room) c.self.view_is in
+    omega (arith, notes, room)
+
+pub raise-requires-clause-room : goal.raise-requires-clause-room
+raise-requires-clause-room c =
+    let notes = c.requires.room.notes in
+    let room = ap (λ (v : Window). v.room) c.self.view_is in
+    omega (arith, notes, room)
 
 pub raise-requires-clause-filled : goal.raise-requires-clause-filled
-raise-requires-clause-filled c = let sized = c.requires.sized in omega (arith, sized)
+raise-requires-clause-filled c =
+    let sized = c.requires.sized in
+    let size = ap (λ (x : Buffer). x.size) c.lay-record.ensures.standing in
+    omega (arith, sized, size)
 
 pub raise-requires-clause-fits : goal.raise-requires-clause-fits
 raise-requires-clause-fits c =
     let w = c.self.inside in
+    let g = w.ground in
     let b = c.args.buffer in
-    let bs = live w.buffers.rows in
+    let r = c.lay-record.result in
+    let bs = all_standing g.memory (live w.buffers.rows) in
     let inside : b.start + b.size ≤ w.ground.size = rw (← c.self.view_is) at (holds_inside c.args.self.now b.one_way b.size b.start c.requires.can_take) in
-    let small = c.self.invariant.window.small in
-    let budget = c.self.invariant.window.budget in
-    let sum = ap (λ s. sum_at s b.sender) c.cut.ensures.others.3 ∙ at_sender w.ground.senders (one_way_from bs) c.self.invariant.sums b.sender in
-    let within = from_within b.sender bs in
-    omega (arith, inside, small, budget, sum, within)
+    let small = c.self.invariant.notes.window.small in
+    let budget = c.self.invariant.notes.window.budget in
+    let sum = at_sender g.senders (one_way_from bs) c.self.invariant.notes.sums r.sender in
+    let within = from_within r.sender bs in
+    let size = ap (λ (x : Buffer). x.size) c.lay-record.ensures.standing in
+    omega (arith, inside, small, budget, sum, within, size)
 
 pub overflow_add-self : goal.overflow_add-self
 overflow_add-self c =
     let w = c.self.inside in
     let b = c.args.buffer in
+    let r = c.lay-record.result in
     let inside : b.start + b.size ≤ w.ground.size = rw (← c.self.view_is) at (holds_inside c.args.self.now b.one_way b.size b.start c.requires.can_take) in
-    let small = c.self.invariant.window.small in
-    let budget = c.self.invariant.window.budget in
-    let total = c.self.invariant.total in
-    let share = c.one_way_share-share.ensures in
-    let same = c.cut.ensures.others.1 in
-    record { fits = omega (arith, inside, small, budget, total, share, same, one_way_within b) }
+    let small = c.self.invariant.notes.window.small in
+    let budget = c.self.invariant.notes.window.budget in
+    let total = c.self.invariant.notes.total in
+    let share = c.one_way_share.ensures in
+    let size = ap (λ (x : Buffer). x.size) c.lay-record.ensures.standing in
+    record { fits = omega (arith, inside, small, budget, total, share, size, one_way_within (bare r)) }
+
+pub push-requires-clause-room : goal.push-requires-clause-room
+push-requires-clause-room c =
+    let notes = c.requires.room.notes in
+    let room = ap (λ (v : Window). v.room) c.self.view_is in
+    omega (arith, notes, room)
 
 pub push-requires-clause-newest : goal.push-requires-clause-newest
-push-requires-clause-newest c = rw (← c.self.view_is) at c.requires.newest
+push-requires-clause-newest c =
+    let w = c.self.inside in
+    let m = w.ground.memory in
+    let made = ap (λ (x : Buffer). x.made) c.lay-record.ensures.standing in
+    let P : ℕ → Type 0 = λ n. All (λ x. x.made < n) (all_standing m (live w.buffers.rows)) in
+    let newest : P c.args.buffer.made = rw (← c.self.view_is) at c.requires.newest in
+    all_of (standing m) (λ b. b.made < c.lay-record.result.made) (live w.buffers.rows) (subst P (sym made) newest)
 
 pub invariant_of-self : goal.invariant_of-self
 unfolding CanHold
 invariant_of-self c =
     let w = c.self.inside in
     let g = w.ground in
-    let bs = live w.buffers.rows in
+    let m = g.memory in
+    let rs = live w.buffers.rows in
+    let bs = all_standing m rs in
+    let r = c.lay-record.result in
     let b = c.args.buffer in
-    let sized = c.requires.sized in
+    let new = c.lay-record.new.memory in
+    let e = c.lay-record.ensures.standing in
+    let size = ap (λ (x : Buffer). x.size) e in
+    let start = ap (λ (x : Buffer). x.start) e in
     let place : start_for g.size bs b.one_way b.size ≡ Ok b.start = rw (← c.self.view_is) at c.requires.can_take in
-    let free = (given_says g.size bs b.one_way b.size b.start place).least.room in
-    let fit = placed_fit g.size g.tail b.size b.start bs g.holes.items b.one_way c.self.invariant.free c.self.invariant.window (omega (arith, sized)) place in
-    let newest : All (λ x. x.made < b.made) bs = rw (← c.self.view_is) at c.requires.newest in
-    let room = hole_room w.buffers g c.args.self.now.room (ap (λ (v : Window). v.room) c.self.view_is) c.requires.room in
-    let total = c.self.invariant.total in
-    let pushed = one_way_push bs b in
-    let share = c.one_way_share-share.ensures in
-    let new = none_there g.size b.size bs b c.self.invariant.window (omega (arith, sized)) free.free in
-    let same = c.key_at-key.ensures ∙ ap spot_key c.pointer_of.ensures in
-    let cut = c.cut.new.self in
-    let others = c.cut.ensures.others in
-    let one_way = others.1 in
+    let placed : start_for g.size bs r.one_way r.size ≡ Ok r.start = subst (λ (x : Buffer). start_for g.size bs x.one_way x.size ≡ Ok x.start) (sym e) place in
+    let sized : r.size ≡ needed (length (standing new r).bytes) (length (standing new r).offsets) = subst (λ (x : Buffer). x.size ≡ needed (length x.bytes) (length x.offsets)) (sym e) c.requires.sized in
+    let P : ℕ → Type 0 = λ n. All (λ x. x.made < n) bs in
+    let newest : P b.made = rw (← c.self.view_is) at c.requires.newest in
+    let last = all_of (standing m) (λ x. x.made < r.made) rs (subst P (sym (ap (λ (x : Buffer). x.made) e)) newest) in
+    let others : AreBeside m new r = λ x is side. c.lay-record.ensures.others x is (subst (λ (y : Buffer). (x.start + x.size ≤ y.start) ⊎ (y.start + y.size ≤ x.start)) e side) in
     let left : Ground = record {
-      size = cut.size;
-      one_way = cut.one_way + c.one_way_share-share.result;
+      size = g.size;
+      one_way = g.one_way + c.one_way_share.result;
       senders = c.raise.new.sums;
       spots = c.insert.new.self;
-      holes = cut.holes;
-      tail = cut.tail;
-      bounds = cut.bounds;
+      spans = c.take.new.self;
+      memory = new;
     } in
-    let P : List Buffer → Type 0 = λ xs. Keeps xs left in
-    let H : Free → Type 0 = λ f. IsFreeSpace g.size (bs ++ b ∷ []) f.tail f.holes in
-    let noted : WordMap ℕ → Type 0 = λ spots. (k : WordKey) → look c.insert.new.self k ≡ cond (same_word (spot_key (pointer b)) k) (Some b.made) (look spots k) in
-    let put : noted cut.spots = λ k. subst (λ key. look c.insert.new.self k ≡ cond (same_word key k) (Some b.made) (look cut.spots k)) same (c.insert.ensures.put k) in
-    let more = length_push bs b in
-    subst P (sym c.push.ensures.live) (record {
-      window = subst (λ n. IsWindow n (bs ++ b ∷ [])) (sym others.0) (window_push g.size bs b c.self.invariant.window newest sized place);
-      free = subst (λ n. IsFreeSpace n (bs ++ b ∷ []) cut.tail cut.holes.items) (sym others.0)
-          (subst H c.cut.ensures.left (holes_taken g.size g.tail b.size b.start bs g.holes.items b c.self.invariant.free (omega (arith, sized)) free.inside fit refl refl));
-      starts = spots_noted bs b g.spots c.insert.new.self c.self.invariant.starts new (subst noted others.2 put);
-      total = omega (arith, total, pushed, share, one_way);
-      sums = sums_pushed bs b c.raise.new.sums (c.raise.ensures.sums (one_way_from bs) (subst (λ s. AreSums bs s) (sym others.3) c.self.invariant.sums));
-      spare = omega (arith, c.cut.ensures.len, c.cut.ensures.capacity, room, more);
-      bounded = c.cut.ensures.bounds.all;
-      ready = λ some. c.cut.ensures.bounds.ready;
-    })
+    let bytes = c.requires.room.bytes in
+    let reach = ap (λ (v : Window). v.reach) c.self.view_is in
+    let room : HasRoom g.spans (r.start / 8 + r.size / 8) = record { holes = omega (arith, bytes, reach, start, size); begins = omega (arith, bytes, reach, start, size) } in
+    let same = c.key_at-key.ensures ∙ ap spot_key c.pointer_at.ensures in
+    subst (λ xs. Keeps xs left) (sym c.push.ensures.live)
+    (keeps_pushed r rs g left c.self.invariant last sized placed others c.lay-record.ensures.inside c.lay-record.ensures.len refl c.take.ensures.size
+    (c.take.ensures.tiles (is_free_unit bs) c.self.invariant.notes.tiles (begins r rs g left c.self.invariant last sized placed others) room)
+    (λ k. subst (λ (key : WordKey). look c.insert.new.self k ≡ cond (same_word key k) (Some r.made) (look g.spots k)) same (c.insert.ensures.put k))
+    (ap (λ n. g.one_way + n) c.one_way_share.ensures) (c.raise.ensures.sums (one_way_from bs) c.self.invariant.notes.sums))
+
+pub returns-clause-stands : goal.returns-clause-stands
+unfolding CanHold
+returns-clause-stands c = λ n xs is.
+    let w = c.self.inside in
+    let g = w.ground in
+    let m = g.memory in
+    let rs = live w.buffers.rows in
+    let bs = all_standing m rs in
+    let r = c.lay-record.result in
+    let b = c.args.buffer in
+    let new = c.lay-record.new.memory in
+    let e = c.lay-record.ensures.standing in
+    let place : start_for g.size bs b.one_way b.size ≡ Ok b.start = rw (← c.self.view_is) at c.requires.can_take in
+    let placed : start_for g.size bs r.one_way r.size ≡ Ok r.start = subst (λ (x : Buffer). start_for g.size bs x.one_way x.size ≡ Ok x.start) (sym e) place in
+    let sized : r.size ≡ needed (length (standing new r).bytes) (length (standing new r).offsets) = subst (λ (x : Buffer). x.size ≡ needed (length x.bytes) (length x.offsets)) (sym e) c.requires.sized in
+    let P : ℕ → Type 0 = λ n. All (λ x. x.made < n) bs in
+    let newest : P b.made = rw (← c.self.view_is) at c.requires.newest in
+    let last = all_of (standing m) (λ x. x.made < r.made) rs (subst P (sym (ap (λ (x : Buffer). x.made) e)) newest) in
+    let others : AreBeside m new r = λ x is side. c.lay-record.ensures.others x is (subst (λ (y : Buffer). (x.start + x.size ≤ y.start) ⊎ (y.start + y.size ≤ x.start)) e side) in
+    record {
+      size_is = ap (λ (v : Window). v.size) c.self.view_is ∙ is.size_is;
+      buffers_are = ap (all_standing new) c.push.ensures.live ∙ with_new r rs g (record g { memory = new }) c.self.invariant last sized placed others ∙ ap (λ (x : Buffer). bs ++ x ∷ []) e
+          ∙ ap (λ (v : Window). v.buffers ++ b ∷ []) c.self.view_is ∙ ap (λ xs. xs ++ b ∷ []) is.buffers_are;
+    }

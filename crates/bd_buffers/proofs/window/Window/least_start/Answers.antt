@@ -1,23 +1,33 @@
-use Rattle.std.proofs.Common.{◌/◌, ap, ◌∙◌, sym, subst, List}
-use Rattle.std.specs.List.Sorted.{IsNonDecreasingBy}
+use Rattle.std.proofs.Common.{ap, ◌∙◌, arith}
 use Rattle.bd_space.specs.Windows.{start_in}
 use Rattle.bd_buffers.specs.Rows.{live}
-use Rattle.bd_buffers.specs.declared.hole.Hole.{Hole}
 use Rattle.bd_buffers.specs.declared.window.Window.{Window}
-use Rattle.bd_buffers.specs.Holes.{first_fit}
-use Rattle.bd_buffers.proofs.Bounded.{in_block_order}
-use Rattle.bd_buffers.proofs.Fits.{fit_is}
+use Rattle.bd_buffers.specs.Record.{all_standing}
+use Rattle.bd_buffers.specs.Window.{is_free_unit}
+use Rattle.bd_buffers.proofs.Units.{start_found, start_missed}
 use Rattle.bd_buffers.proofs.window.Window.least_start.Goals as goal
 
-pub first_start-requires-clause-order : goal.first_start-requires-clause-order
-first_start-requires-clause-order c =
+pub overflow_mul-result : goal.overflow_mul-result
+overflow_mul-result c =
     let g = c.self.inside.ground in
-    let P : List Hole → Type 0 = λ xs. IsNonDecreasingBy (λ h. h.start / 4096) xs in
-    subst P (sym c.deref.ensures.value) (in_block_order g.tail g.holes.items c.self.invariant.free.spaced)
+    let bs = all_standing g.memory (live c.self.inside.buffers.rows) in
+    let least = c.in-Some.ensures.least (is_free_unit bs) c.self.invariant.notes.tiles in
+    let inside = least.run.inside in
+    let small = c.self.invariant.notes.tiles.small in
+    omega (arith, inside, small)
 
-pub returns : goal.returns
-returns c =
-    let w = c.self.inside in
-    c.first_start.ensures ∙ ap (first_fit w.ground.size w.ground.tail c.args.n) c.deref.ensures.value
-    ∙ fit_is w.ground.size w.ground.tail c.args.n (live w.buffers.rows) w.ground.holes.items c.self.invariant.free c.self.invariant.window c.requires.filled
+pub returns-in-Some : goal.returns-in-Some
+returns-in-Some c =
+    let g = c.self.inside.ground in
+    let bs = all_standing g.memory (live c.self.inside.buffers.rows) in
+    let notes = c.self.invariant.notes in
+    start_found g.size g.spans.size bs notes.whole notes.window.placed c.args.n c.in-Some.unit c.requires.filled c.requires.whole (c.in-Some.ensures.least (is_free_unit bs) notes.tiles)
+    ∙ ap (λ (v : Window). start_in v.size v.buffers c.args.n) c.self.view_is
+
+pub returns-in-None : goal.returns-in-None
+returns-in-None c =
+    let g = c.self.inside.ground in
+    let bs = all_standing g.memory (live c.self.inside.buffers.rows) in
+    let notes = c.self.invariant.notes in
+    start_missed g.size g.spans.size bs notes.whole notes.window.placed c.args.n c.requires.whole (c.in-None.ensures.least (is_free_unit bs) notes.tiles)
     ∙ ap (λ (v : Window). start_in v.size v.buffers c.args.n) c.self.view_is

@@ -1,4 +1,4 @@
-use Rattle.std.proofs.Common.{ℕ, ◌≤◌, ◌<◌, All, refl, sym, ap, ◌∙◌, subst, get_or, set, min, find, cond, Some, arith}
+use Rattle.std.proofs.Common.{ℕ, ◌<◌, All, refl, sym, ap, ◌∙◌, subst, get_or, set, cond, Some, arith}
 use Rattle.std.specs.List.{position}
 use Rattle.std.proofs.lemmas.Bool.{false≢true}
 use Rattle.bd_keys.specs.Keys.{same_word}
@@ -8,36 +8,36 @@ use Rattle.bd_space.specs.Delivery.{add_buffer}
 use Rattle.bd_buffers.specs.Stands.{CanHold}
 use Rattle.bd_buffers.specs.declared.owned.OwnedWindow.{OwnedWindow}
 use Rattle.bd_buffers.specs.declared.windows.Windows.{Windows}
-use Rattle.bd_buffers.specs.WindowsStand.{is_owned_by, buffer_room, room_of, CanAdd}
+use Rattle.bd_buffers.specs.WindowsStand.{is_owned_by, RoomIn, HasBufferRoom, CanAdd}
 use Rattle.bd_buffers.specs.Homes.{home_key}
 use Rattle.bd_buffers.proofs.Homes.{homes_noted}
-use Rattle.bd_buffers.proofs.AllWindows.{is_at, room_at, can_hold_at, can_hold_nowhere, none_at, older, buffer_added}
+use Rattle.bd_buffers.proofs.AllWindows.{is_at, can_hold_at, can_hold_nowhere, none_at, older, buffer_added}
 use Rattle.bd_buffers.proofs.windows.Windows.add.Goals as goal
 
 pub commit-requires-clause-room : goal.commit-requires-clause-room
-unfolding buffer_room
+unfolding HasBufferRoom
 commit-requires-clause-room c =
     let t = c.args.self.now in
     let p = c.args.buffer.receiver in
-    let is = is_at t p c.in-Some.at c.index_mut.result.now (sym (c.in-Some.ensures ∙ ap (position (is_owned_by p)) c.deref.ensures.value ∙ ap (λ (v : Windows). position (is_owned_by p) v.windows) c.self.view_is)) (c.index_mut.ensures.value ∙ ap (λ (v : Windows). get_or v.windows c.in-Some.at c.index_mut.result.now) c.self.view_is) in
-    let P : ℕ → Type 0 = λ k. 1 ≤ k in
-    let room : 1 ≤ min (room_of (find (is_owned_by p) t.windows)) (word_room t.homes) = c.requires.room in
-    let one : 1 ≤ room_of (find (is_owned_by p) t.windows) = omega (arith, room) in
-    subst P (room_at t p c.in-Some.at c.index_mut.result.now is) one
+    let is = is_at t p c.in-Some.at c.index_mut.result.now (sym (c.in-Some.ensures ∙ ap (λ q. position (is_owned_by q) c.deref.result.now) c.receiver-receiver.ensures ∙ ap (position (is_owned_by p)) c.deref.ensures.value ∙ ap (λ (v : Windows). position (is_owned_by p) v.windows) c.self.view_is)) (c.index_mut.ensures.value ∙ ap (λ (v : Windows). get_or v.windows c.in-Some.at c.index_mut.result.now) c.self.view_is) in
+    subst (λ o. RoomIn o c.args.buffer.start c.args.buffer.size) is.found c.requires.room.0
 
 pub commit-requires-clause-can_take : goal.commit-requires-clause-can_take
 unfolding CanAdd CanHold
 commit-requires-clause-can_take c =
     let t = c.args.self.now in
     let p = c.args.buffer.receiver in
-    let is = is_at t p c.in-Some.at c.index_mut.result.now (sym (c.in-Some.ensures ∙ ap (position (is_owned_by p)) c.deref.ensures.value ∙ ap (λ (v : Windows). position (is_owned_by p) v.windows) c.self.view_is)) (c.index_mut.ensures.value ∙ ap (λ (v : Windows). get_or v.windows c.in-Some.at c.index_mut.result.now) c.self.view_is) in
+    let is = is_at t p c.in-Some.at c.index_mut.result.now (sym (c.in-Some.ensures ∙ ap (λ q. position (is_owned_by q) c.deref.result.now) c.receiver-receiver.ensures ∙ ap (position (is_owned_by p)) c.deref.ensures.value ∙ ap (λ (v : Windows). position (is_owned_by p) v.windows) c.self.view_is)) (c.index_mut.ensures.value ∙ ap (λ (v : Windows). get_or v.windows c.in-Some.at c.index_mut.result.now) c.self.view_is) in
     can_hold_at t p c.in-Some.at c.index_mut.result.now c.args.buffer.one_way c.args.buffer.size c.args.buffer.start is.found c.requires.can_add
 
+pub commit-requires-clause-newest : goal.commit-requires-clause-newest
+commit-requires-clause-newest c = subst (λ n. All (λ (b : Buffer). b.made < n) c.index_mut.result.now.window.buffers) c.made-made.ensures (c.is_newest.ensures.0 c.if-is_newest.true)
+
 pub insert-requires : goal.insert-requires
-unfolding buffer_room
+unfolding HasBufferRoom
 insert-requires c =
     let t = c.args.self.now in
-    let room : 1 ≤ min (room_of (find (is_owned_by c.args.buffer.receiver) t.windows)) (word_room t.homes) = c.requires.room in
+    let room = c.requires.room.1 in
     let same = ap (λ (v : Windows). word_room v.homes) c.self.view_is in
     omega (arith, room, same)
 
@@ -47,13 +47,13 @@ returns-then-is_newest c = λ s stands e.
     let t = c.args.self.now in
     let p = c.args.buffer.receiver in
     let w = c.index_mut.result.now in
-    let is = is_at t p c.in-Some.at w (sym (c.in-Some.ensures ∙ ap (position (is_owned_by p)) c.deref.ensures.value ∙ ap (λ (v : Windows). position (is_owned_by p) v.windows) c.self.view_is)) (c.index_mut.ensures.value ∙ ap (λ (v : Windows). get_or v.windows c.in-Some.at c.index_mut.result.now) c.self.view_is) in
+    let is = is_at t p c.in-Some.at w (sym (c.in-Some.ensures ∙ ap (λ q. position (is_owned_by q) c.deref.result.now) c.receiver-receiver.ensures ∙ ap (position (is_owned_by p)) c.deref.ensures.value ∙ ap (λ (v : Windows). position (is_owned_by p) v.windows) c.self.view_is)) (c.index_mut.ensures.value ∙ ap (λ (v : Windows). get_or v.windows c.in-Some.at c.index_mut.result.now) c.self.view_is) in
     let x : OwnedWindow = record { owner = w.owner; window = c.commit.new.self } in
     let Q : ℕ → Type 0 = λ n. All (λ (b : Buffer). b.made < n) s.buffers in
     buffer_added t _ s.steps c.in-Some.at s.processes s.buffers c.args.buffer w x (sym e) is refl
     (c.commit.ensures.stands w.window.size w.window.buffers (record { size_is = refl; buffers_are = refl })) (ap (λ (v : Windows). set v.windows c.in-Some.at x) c.self.view_is)
-    (homes_noted t.homes c.insert.new.self s.buffers c.args.buffer stands.homes_are (subst Q e stands.made.buffers_before) (λ k. c.insert.ensures.put k
-    ∙ ap (λ key. cond (same_word key k) (Some c.args.buffer.receiver) (look c.self.inside.homes k)) c.home_key.ensures
+    (homes_noted t.homes c.insert.new.self s.buffers c.args.buffer stands.homes_are (subst Q e stands.made.buffers_before) (λ k. c.insert.ensures.put k ∙ ap (λ r. cond (same_word c.home_key.result k) (Some r) (look c.self.inside.homes k)) c.receiver-receiver.ensures
+    ∙ ap (λ key. cond (same_word key k) (Some c.args.buffer.receiver) (look c.self.inside.homes k)) (c.home_key.ensures ∙ ap home_key c.made-made.ensures)
     ∙ ap (λ (v : Windows). cond (same_word (home_key c.args.buffer.made) k) (Some c.args.buffer.receiver) (look v.homes k)) c.self.view_is)) stands
 
 pub returns-else-is_newest : goal.returns-else-is_newest
@@ -61,9 +61,9 @@ returns-else-is_newest c = λ s stands e.
     let t = c.args.self.now in
     let p = c.args.buffer.receiver in
     let w = c.index_mut.result.now in
-    let is = is_at t p c.in-Some.at w (sym (c.in-Some.ensures ∙ ap (position (is_owned_by p)) c.deref.ensures.value ∙ ap (λ (v : Windows). position (is_owned_by p) v.windows) c.self.view_is)) (c.index_mut.ensures.value ∙ ap (λ (v : Windows). get_or v.windows c.in-Some.at c.index_mut.result.now) c.self.view_is) in
+    let is = is_at t p c.in-Some.at w (sym (c.in-Some.ensures ∙ ap (λ q. position (is_owned_by q) c.deref.result.now) c.receiver-receiver.ensures ∙ ap (position (is_owned_by p)) c.deref.ensures.value ∙ ap (λ (v : Windows). position (is_owned_by p) v.windows) c.self.view_is)) (c.index_mut.ensures.value ∙ ap (λ (v : Windows). get_or v.windows c.in-Some.at c.index_mut.result.now) c.self.view_is) in
     let P : ℕ → Type 0 = λ n. All (λ b. b.made < n) w.window.buffers in
-    let newest = c.is_newest.ensures.1 (subst P e (older t s.steps p s.processes s.buffers w stands is.found)) in
+    let newest = c.is_newest.ensures.1 (subst P (e ∙ sym c.made-made.ensures) (older t s.steps p s.processes s.buffers w stands is.found)) in
     absurd (false≢true (sym c.if-is_newest.false ∙ newest))
 
 pub returns-in_default : goal.returns-in_default
@@ -71,5 +71,5 @@ unfolding CanAdd
 returns-in_default c = λ s stands e.
     let t = c.args.self.now in
     let p = c.args.buffer.receiver in
-    let missed = none_at (is_owned_by p) t.windows (sym (ap (position (is_owned_by p)) c.deref.ensures.value ∙ ap (λ (v : Windows). position (is_owned_by p) v.windows) c.self.view_is) ∙ sym c.position_of.ensures ∙ c.in_default.is) in
+    let missed = none_at (is_owned_by p) t.windows (sym (ap (position (is_owned_by p)) c.deref.ensures.value ∙ ap (λ (v : Windows). position (is_owned_by p) v.windows) c.self.view_is) ∙ sym (c.position_of.ensures ∙ ap (λ q. position (is_owned_by q) c.deref.result.now) c.receiver-receiver.ensures) ∙ c.in_default.is) in
     absurd (can_hold_nowhere t p c.args.buffer.one_way c.args.buffer.size c.args.buffer.start missed c.requires.can_add)

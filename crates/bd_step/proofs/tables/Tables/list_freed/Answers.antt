@@ -29,10 +29,10 @@ pub returns-in_ok-push : goal.returns-in_ok-push
 returns-in_ok-push c = λ h parcel before.
     let s = space_after h in
     let a = c.in-Some.actor in
-    let b = c.in-Some-at_pointer.b.now in
+    let b = c.in-Some-at_pointer.b in
     let acts = sym (c.in-Some.ensures.found s.steps s before) in
     let found = sym (c.in-Some-at_pointer.ensures.found s a.process (stands_in c.args.self.now.windows s before.windows_stand) (actor_acts s c.args.seat a acts).found) in
-    let is = c.in_ok-push.ensures.items ∙ ap (λ ps. ps ++ b.made ∷ []) c.requires.none in
+    let is = c.in_ok-push.ensures.items ∙ ap (λ m. c.args.places.now.items ++ m ∷ []) c.made.ensures ∙ ap (λ ps. ps ++ b.made ∷ []) c.requires.none in
     subst (λ (ps : List ℕ). HasEndings ps s (change s c.args.seat (step_of.Command (bc.FreeBuffer c.args.pointer) parcel)).space) (sym is)
     (somebody_frees s c.args.seat c.args.pointer parcel a (b.made ∷ []) acts
     (free_ended s a.process.made c.args.pointer b (at_pairs Earlier s.buffers before.windows_stand.made.buffers_in_order) found))

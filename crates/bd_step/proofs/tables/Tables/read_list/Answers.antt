@@ -1,5 +1,4 @@
 use Rattle.std.proofs.Common.{◌-◌, Some, List, subst, sym, ap, ◌∙◌, option_map}
-use Rattle.std.specs.Option.{option_copied}
 use Rattle.std.specs.List.{filter_map}
 use Rattle.bd_buffers.specs.WindowsStand.{made_of_buffer}
 use Rattle.bd_space.specs.declared.space.Work.{Work}
@@ -27,7 +26,7 @@ returns-clause-ok g c = meets _ _ _ _ _ (λ s h by.
     let noticed = ap is_among (c.in_ok-noticed.ensures ∙ ap (filter_map (λ (w : Work). notice_of w.kind)) (c.as_slice-2.ensures.value ∙ t.works_are)) ∙ among_noticed all in
     let looked = ap is_among c.as_slice-4.ensures.value ∙ c.in_order-touched.ensures.touched.among ∙ noticed in
     record {
-      answered = c.in_ok-answer.ensures.answer ∙ ap (λ bs. got bs (option_copied c.buffer_taken-buffer.result)) t.stream_is
+      answered = c.in_ok-answer.ensures.answer ∙ ap (λ bs. got bs c.buffer_taken-buffer.result) t.stream_is
           ∙ ap (got (stream_of s all)) buffer ∙ ap (λ (ws : List Work). got (stream_of s all) (buffer_taken s ws)) (c.as_slice.ensures.value ∙ t.works_are);
       stands =
           subst (Within c.follow_objects.new.self) (read_followed s c.args.thread.now c.args.list c.args.thread.now.seat (c.args.limit - 4) _ by looked)

@@ -1,0 +1,323 @@
+-- What is free of a window, by bytes and by units of eight.
+use Rattle.std.proofs.Common.{◌≡◌, ℕ, ◌+◌, ◌-◌, ◌*◌, ◌/◌, ◌%◌, ◌<◌, ◌≤◌, Bool, true, false, cond, List, [], ◌∷◌, ◌++◌, length, get_or, map, refl, ap, sym, ◌∙◌, subst, arith, inl, inr, All}
+use Rattle.std.specs.Prelude.{◌&&◌, ◌||◌, not, remove, Some, None}
+use Rattle.std.proofs.lemmas.Bool.{cases_lt, cases_Bool, false≢true}
+use Rattle.std.proofs.lemmas.List.Elements.{All-weaker}
+use Rattle.std.proofs.lemmas.List.Sums.{AllPass-from_list_all, list_all-from_AllPass}
+use Rattle.std.proofs.lemmas.List.Edits.{length-remove, get_or-remove_below, get_or-remove_above}
+use Rattle.bd_keys.proofs.Lists.{All_remove}
+use Rattle.bd_ground.specs.declared.spans.Spans.{Spans}
+use Rattle.bd_ground.specs.Tiles.{Tiles, IsRun, IsLeastRun, Begins, is_in, without, with_span}
+use Rattle.bd_ground.specs.Holes as units
+use Rattle.bd_ground.proofs.Bits.{IsIn, IsOut, in_or_out, is_in_true, is_in_false, clash}
+use Rattle.bd_ground.proofs.Tiling.{tiles_same, begins_of_least}
+use Rattle.bd_space.specs.declared.space.Buffer.{Buffer}
+use Rattle.bd_space.specs.Words.{changed}
+use Rattle.bd_space.specs.Windows.{start_in}
+use Rattle.bd_space.specs.ReadItems.{hand_out}
+use Rattle.bd_buffers.specs.Buffer.{IsApart, IsPlaced}
+use Rattle.bd_buffers.specs.Holes.{Covered, Spaced, IsHoles, in_bytes}
+use Rattle.bd_buffers.specs.Rows.{IsWithout}
+use Rattle.bd_buffers.specs.Window.{IsFree, IsLeastFree, IsWindow, is_free_byte, is_free_unit}
+use Rattle.bd_buffers.proofs.Places.{start_at, no_start_at}
+
+-- ---- a byte that no buffer has
+
+abbrev pub IsOutOf : ℕ → Buffer → Type 0
+IsOutOf q b = IsOut b.start b.size q
+
+out_is : (q : ℕ) (b : Buffer) → not (is_in b.start b.size q) ≡ true → IsOutOf q b
+out_is q b t = elim (in_or_out b.start b.size q) [ inl own ↦ absurd (false≢true (rw (is_in_true b.start b.size q own) at t)) | inr out ↦ out ]
+
+out_from : (q : ℕ) (b : Buffer) → IsOutOf q b → not (is_in b.start b.size q) ≡ true
+out_from q b out = ap not (is_in_false b.start b.size q out)
+
+pub free_out : (bs : List Buffer) (q : ℕ) → is_free_byte bs q ≡ true → All (IsOutOf q) bs
+free_out bs q t =
+    All-weaker (λ b. not (is_in b.start b.size q) ≡ true) (IsOutOf q) (out_is q) bs (AllPass-from_list_all (λ b. not (is_in b.start b.size q)) bs t)
+
+pub out_free : (bs : List Buffer) (q : ℕ) → All (IsOutOf q) bs → is_free_byte bs q ≡ true
+out_free bs q all =
+    list_all-from_AllPass (λ b. not (is_in b.start b.size q)) bs (All-weaker (IsOutOf q) (λ b. not (is_in b.start b.size q) ≡ true) (out_from q) bs all)
+
+-- a buffer has all of a unit or nothing
+pub to_byte : (size q : ℕ) (b : Buffer) → IsPlaced size b → IsOutOf (8 * (q / 8)) b → IsOutOf q b
+to_byte size q b is out =
+    let aligned = is.aligned in
+    let sized = is.sized in
+    elim out [ inl lt ↦ inl (omega (arith, aligned, lt)) | inr le ↦ inr (omega (arith, le)) ]
+
+pub to_unit : (size q : ℕ) (b : Buffer) → IsPlaced size b → IsOutOf q b → IsOutOf (8 * (q / 8)) b
+to_unit size q b is out =
+    let aligned = is.aligned in
+    let sized = is.sized in
+    elim out [ inl lt ↦ inl (omega (arith, lt)) | inr le ↦ inr (omega (arith, aligned, sized, le)) ]
+
+unit_in : (size u : ℕ) (b : Buffer) → IsPlaced size b → is_in (b.start / 8) (b.size / 8) u ≡ is_in b.start b.size (8 * u)
+unit_in size u b is =
+    let aligned = is.aligned in
+    let sized = is.sized in
+    elim (in_or_out b.start b.size (8 * u)) [
+      | inl own ↦ rw (is_in_true b.start b.size (8 * u) own) (is_in_true (b.start / 8) (b.size / 8) u (omega (arith, aligned, own.0), omega (arith, aligned, sized, own.1)))
+      | inr out ↦ rw (is_in_false b.start b.size (8 * u) out)
+          (is_in_false (b.start / 8) (b.size / 8) u (elim out [ inl lt ↦ inl (omega (arith, aligned, lt)) | inr le ↦ inr (omega (arith, aligned, sized, le)) ]))
+    ]
+
+-- ---- room
+
+pub filled : (size : ℕ) (b : Buffer) → IsPlaced size b → 8 ≤ b.size
+filled size b is = let sized = is.sized in omega (arith, sized)
+
+-- bytes that are free keep a span apart from a buffer
+apart_from : (n s : ℕ) (b : Buffer) → 0 < n → 0 < b.size → ((q : ℕ) → s ≤ q → q < s + n → IsOutOf q b) → IsApart s n b
+apart_from n s b pos filled free =
+    elim (cases_lt b.start (s + n)) [
+      | inr before ↦ inl before
+      | inl low ↦ elim (cases_lt s (b.start + b.size)) [
+        | inr after ↦ inr after
+        | inl high ↦ absurd (elim (cases_lt b.start s) [
+          | inl lt ↦ elim (free s (omega arith) (omega arith)) [ inl x ↦ omega arith | inr y ↦ omega arith ]
+          | inr le ↦ elim (free b.start le low) [ inl x ↦ omega arith | inr y ↦ omega arith ]
+        ])
+      ]
+    ]
+
+module _ (size m : ℕ) (bs : List Buffer) (whole : size ≡ 8 * m) (placed : All (IsPlaced size) bs) where
+  -- a run of free units is room for as many bytes
+  run_is_free : (n k : ℕ) → 0 < n → IsRun (is_free_unit bs) m n k → IsFree size bs (8 * n) (8 * k)
+  run_is_free n k pos run =
+      let inside = run.inside in
+      record {
+        aligned = omega arith;
+        inside = omega (arith, inside, whole);
+        free = λ i d lt.
+            let b = get_or bs i d in
+            let is = placed i d lt in
+            let full = filled size b is in
+            apart_from (8 * n) (8 * k) b (omega (arith, pos)) (omega (arith, full)) (λ q a c.
+            to_byte size q b is (free_out bs (8 * (q / 8)) (run.all_free (q / 8) (omega (arith, a)) (omega (arith, c))) i d lt));
+      }
+
+  free_is_run : (n k : ℕ) → IsFree size bs (8 * n) (8 * k) → IsRun (is_free_unit bs) m n k
+  free_is_run n k room =
+      let inside = room.inside in
+      record {
+        inside = omega (arith, inside, whole);
+        all_free = λ u from to. out_free bs (8 * u) (λ i d lt. elim (room.free i d lt) [ inl before ↦ inl (omega (arith, before, to)) | inr after ↦ inr (omega (arith, after, from)) ]);
+      }
+
+  at_whole : (n q : ℕ) → IsFree size bs n q → IsFree size bs n (8 * (q / 8))
+  at_whole n q room =
+      let aligned = room.aligned in
+      let P : ℕ → Type 0 = λ p. IsFree size bs n p in
+      let same : q ≡ 8 * (q / 8) = omega (arith, aligned) in
+      subst P same room
+
+  least_in_bytes : (n k : ℕ) → 0 < n → IsLeastRun (is_free_unit bs) m n k → IsLeastFree size bs (8 * n) (8 * k)
+  least_in_bytes n k pos is = record {
+    room = run_is_free n k pos is.run;
+    least = λ q room. (let le = is.least (q / 8) (free_is_run n (q / 8) (at_whole (8 * n) q room)) in omega (arith, le));
+  }
+
+  least_in_units : (n k : ℕ) → 0 < n → IsLeastFree size bs (8 * n) (8 * k) → IsLeastRun (is_free_unit bs) m n k
+  least_in_units n k pos is = record {
+    run = free_is_run n k is.room;
+    least = λ q run. (let le = is.least (8 * q) (run_is_free n q pos run) in omega (arith, le));
+  }
+
+  -- where the least run begins, there is the place
+  pub start_found : (n k : ℕ) → 8 ≤ n → n % 8 ≡ 0 → IsLeastRun (is_free_unit bs) m (n / 8) k → Some (k * 8) ≡ start_in size bs n
+  start_found n k full aligned is =
+      let P : ℕ → Type 0 = λ x. IsLeastFree size bs x (8 * k) in
+      let same : 8 * (n / 8) ≡ n = omega (arith, aligned) in
+      let turn : k * 8 ≡ 8 * k = omega arith in
+      ap (λ (p : ℕ). Some p) turn ∙ sym (start_at size bs n (8 * k) full (subst P same (least_in_bytes (n / 8) k (omega (arith, full)) is)))
+
+  pub start_missed : (n : ℕ) → n % 8 ≡ 0 → ((p : ℕ) → IsRun (is_free_unit bs) m (n / 8) p → ⊥) → None ≡ start_in size bs n
+  start_missed n aligned none =
+      sym (no_start_at size bs n (λ p room.
+      (let P : ℕ → Type 0 = λ x. IsFree size bs x (8 * (p / 8)) in
+      let same : n ≡ 8 * (n / 8) = omega (arith, aligned) in
+      none (p / 8) (free_is_run (n / 8) (p / 8) (subst P same (at_whole n p room))))))
+
+  -- and there a hole begins that has the room, or the tail
+  pub begins_there : (t : Spans) (n p : ℕ) → t.size ≡ m → Tiles (is_free_unit bs) t → 8 ≤ n → n % 8 ≡ 0 → IsLeastFree size bs n p → Begins t (n / 8) (p / 8)
+  begins_there t n p e tiles full aligned is =
+      let on = is.room.aligned in
+      let P : ℕ → ℕ → Type 0 = λ x y. IsLeastFree size bs x y in
+      let room : n ≡ 8 * (n / 8) = omega (arith, aligned) in
+      let place : p ≡ 8 * (p / 8) = omega (arith, on) in
+      let R : ℕ → Type 0 = λ x. IsLeastRun (is_free_unit bs) x (n / 8) (p / 8) in
+      let least = least_in_units (n / 8) (p / 8) (omega (arith, full)) (subst (P (8 * (n / 8))) place (subst (λ x. P x p) room is)) in
+      begins_of_least (is_free_unit bs) t tiles (n / 8) (p / 8) (omega (arith, full)) (subst R (sym e) least)
+
+-- ---- one buffer more
+
+and_assoc : (a b c : Bool) → (a && b) && c ≡ a && (b && c)
+and_assoc true b c = refl
+and_assoc false b c = refl
+
+and_last : (b : Bool) → (b && true) ≡ b
+and_last true = refl
+and_last false = refl
+
+free_more : (bs : List Buffer) (b : Buffer) (q : ℕ) → is_free_byte bs q && not (is_in b.start b.size q) ≡ is_free_byte (bs ++ b ∷ []) q
+free_more [] b q = sym (and_last (not (is_in b.start b.size q)))
+free_more (x ∷ bs) b q =
+    and_assoc (not (is_in x.start x.size q)) (is_free_byte bs q) (not (is_in b.start b.size q))
+    ∙ ap (λ (t : Bool). not (is_in x.start x.size q) && t) (free_more bs b q)
+
+pub tiles_more : (size : ℕ) (bs : List Buffer) (b : Buffer) (t : Spans) → IsPlaced size b → Tiles (without (b.start / 8) (b.size / 8) (is_free_unit bs)) t → Tiles (is_free_unit (bs ++ b ∷ [])) t
+tiles_more size bs b t is tiles =
+    tiles_same (without (b.start / 8) (b.size / 8) (is_free_unit bs)) (is_free_unit (bs ++ b ∷ [])) t
+    (λ u. ap (λ x. is_free_unit bs u && not x) (unit_in size u b is) ∙ free_more bs b (8 * u)) tiles
+
+-- ---- one less
+
+-- a byte of one buffer is of no other
+others_out : (size i q : ℕ) (bs : List Buffer) (b : Buffer) → IsWindow size bs → i < length bs → ((d : Buffer) → b ≡ get_or bs i d) → IsIn b.start b.size q
+    → (k : ℕ) (d : Buffer) → k < length bs → (k ≡ i → ⊥) → IsOutOf q (get_or bs k d)
+others_out size i q bs b is lt at own k d within other =
+    elim (cases_lt k i) [
+      | inl before ↦
+          let r : IsApart b.start b.size (get_or bs k d) = rw (at d) (is.apart k i d before lt) in
+          elim r [ inl x ↦ inl (omega (arith, x, own.1)) | inr y ↦ inr (omega (arith, y, own.0)) ]
+      | inr ge ↦
+          let after : i < k = elim (cases_lt i k) [ inl x ↦ x | inr y ↦ absurd (other (omega arith)) ] in
+          let r : IsApart (get_or bs k d).start (get_or bs k d).size b = rw (at d) (is.apart i k d after within) in
+          elim r [ inl x ↦ inr (omega (arith, x, own.0)) | inr y ↦ inl (omega (arith, y, own.1)) ]
+    ]
+
+out_left : (i q : ℕ) (bs : List Buffer) → i < length bs → ((k : ℕ) (d : Buffer) → k < length bs → (k ≡ i → ⊥) → IsOutOf q (get_or bs k d)) → All (IsOutOf q) (remove bs i)
+out_left i q bs lt f k d within =
+    elim (cases_lt k i) [
+      | inl before ↦ rw (get_or-remove_below bs i d k before lt) (f k d (omega arith) (λ e. omega (arith, e)))
+      | inr ge ↦ rw (get_or-remove_above bs i d k ge lt) (f (k + 1) d (omega (arith, length-remove bs i lt)) (λ e. omega (arith, e)))
+    ]
+
+out_with : (i q : ℕ) (bs : List Buffer) (b : Buffer) → i < length bs → ((d : Buffer) → b ≡ get_or bs i d) → All (IsOutOf q) (remove bs i) → IsOutOf q b → All (IsOutOf q) bs
+out_with i q bs b lt at f own k d within =
+    elim (cases_lt k i) [
+      | inl before ↦ rw (get_or-remove_below bs i d k before lt) at (f k d (omega (arith, length-remove bs i lt)))
+      | inr ge ↦ elim (cases_lt i k) [
+        | inl after ↦
+            let back : k - 1 + 1 ≡ k = omega arith in
+            let moved = get_or-remove_above bs i d (k - 1) (omega arith) lt in
+            rw (moved, back) at (f (k - 1) d (omega (arith, length-remove bs i lt)))
+        | inr le ↦ let same : k ≡ i = omega arith in rw (same, ← at d) own
+      ]
+    ]
+
+same_bool : (a b : Bool) → (a ≡ true → b ≡ true) → (b ≡ true → a ≡ true) → a ≡ b
+same_bool true b to from = sym (to refl)
+same_bool false true to from = from refl
+same_bool false false to from = refl
+
+or_none : (b : Bool) → (b || false) ≡ b
+or_none true = refl
+or_none false = refl
+
+or_all : (b : Bool) → (b || true) ≡ true
+or_all true = refl
+or_all false = refl
+
+free_less : (size u : ℕ) (b : Buffer) (bs new : List Buffer) → IsWindow size bs → IsWithout b bs new → with_span (b.start / 8) (b.size / 8) (is_free_unit bs) u ≡ is_free_unit new u
+free_less size u b bs new window gone =
+    let i = gone.index in
+    let lt = gone.within in
+    let P : List Buffer → Type 0 = λ xs. with_span (b.start / 8) (b.size / 8) (is_free_unit bs) u ≡ is_free_unit xs u in
+    let placed : IsPlaced size b = rw (gone.at b) (window.placed i b lt) in
+    subst P (sym gone.left) (ap (λ x. is_free_unit bs u || x) (unit_in size u b placed) ∙ elim (in_or_out b.start b.size (8 * u)) [
+      | inl own ↦ (
+          let all = out_free (remove bs i) (8 * u) (out_left i (8 * u) bs lt (others_out size i (8 * u) bs b window lt gone.at own)) in
+          ap (λ x. is_free_unit bs u || x) (is_in_true b.start b.size (8 * u) own) ∙ or_all (is_free_unit bs u) ∙ sym all)
+      | inr out ↦
+          ap (λ x. is_free_unit bs u || x) (is_in_false b.start b.size (8 * u) out) ∙ or_none (is_free_unit bs u)
+          ∙ same_bool (is_free_byte bs (8 * u)) (is_free_byte (remove bs i) (8 * u))
+          (λ t. out_free (remove bs i) (8 * u) (All_remove (IsOutOf (8 * u)) bs i lt (free_out bs (8 * u) t)))
+          (λ t. out_free bs (8 * u) (out_with i (8 * u) bs b lt gone.at (free_out (remove bs i) (8 * u) t) out))
+    ])
+
+pub tiles_less : (size : ℕ) (b : Buffer) (bs new : List Buffer) (t : Spans) → IsWindow size bs → IsWithout b bs new → Tiles (with_span (b.start / 8) (b.size / 8) (is_free_unit bs)) t → Tiles (is_free_unit new) t
+tiles_less size b bs new t window gone tiles =
+    tiles_same (with_span (b.start / 8) (b.size / 8) (is_free_unit bs)) (is_free_unit new) t (λ u. free_less size u b bs new window gone) tiles
+
+-- none of a buffer's units is free
+pub taken_units : (size u : ℕ) (b : Buffer) (bs new : List Buffer) → IsWindow size bs → IsWithout b bs new → b.start / 8 ≤ u → u < b.start / 8 + b.size / 8 → is_free_unit bs u ≡ false
+taken_units size u b bs new window gone from to =
+    let placed : IsPlaced size b = rw (gone.at b) (window.placed gone.index b gone.within) in
+    let aligned = placed.aligned in
+    let sized = placed.sized in
+    elim (cases_Bool (is_free_unit bs u)) [
+      | inr taken ↦ taken
+      | inl free ↦ (
+          let out : IsOutOf (8 * u) b = rw (gone.at b) (free_out bs (8 * u) free gone.index b gone.within) in
+          absurd (elim out [ inl lt ↦ omega (arith, lt, from) | inr le ↦ omega (arith, le, to, aligned, sized) ]))
+    ]
+
+-- so they lie before the tail
+pub before_tail : (size : ℕ) (b : Buffer) (bs new : List Buffer) (t : Spans) → IsWindow size bs → IsWithout b bs new → Tiles (is_free_unit bs) t → b.start / 8 + b.size / 8 ≤ t.tail
+before_tail size b bs new t window gone tiles =
+    let placed : IsPlaced size b = rw (gone.at b) (window.placed gone.index b gone.within) in
+    let full = filled size b placed in
+    let last = b.start / 8 + b.size / 8 - 1 in
+    elim (cases_lt last t.tail) [
+      | inl before ↦ omega (arith, before, full)
+      | inr far ↦ clash (is_free_unit bs last) (tiles.behind last far) (taken_units size last b bs new window gone (omega (arith, full)) (omega (arith, full)))
+    ]
+
+-- ---- one handed out
+
+free_handed : (p : Buffer → Bool) (bs : List Buffer) (q : ℕ) → is_free_byte bs q ≡ is_free_byte (changed p hand_out bs) q
+free_handed p [] q = refl
+free_handed p (x ∷ bs) q =
+    let rest = ap (λ t. not (is_in x.start x.size q) && t) (free_handed p bs q) in
+    elim (p x) as (λ k. is_free_byte (x ∷ bs) q ≡ is_free_byte (cond k (hand_out x) x ∷ changed p hand_out bs) q) [ true ↦ rest | false ↦ rest ]
+
+pub tiles_handed : (p : Buffer → Bool) (bs : List Buffer) (t : Spans) → Tiles (is_free_unit bs) t → Tiles (is_free_unit (changed p hand_out bs)) t
+tiles_handed p bs t tiles = tiles_same (is_free_unit bs) (is_free_unit (changed p hand_out bs)) t (λ u. free_handed p bs (8 * u)) tiles
+
+-- ---- the holes
+
+low_below : (tail low : ℕ) (hs : List units.Hole) → units.Spaced tail low hs → low ≤ tail
+low_below tail low [] sp = sp
+low_below tail low (h ∷ hs) sp = let rest = low_below tail (h.end + 1) hs sp.2 in omega (arith, sp.0, sp.1, rest)
+
+spaced_bytes : (tail low from : ℕ) (hs : List units.Hole) → units.Spaced tail low hs → from ≤ 8 * low → Spaced (8 * tail) from (map in_bytes hs)
+spaced_bytes tail low from [] sp le = (omega (arith, sp, le), omega arith)
+spaced_bytes tail low from (h ∷ hs) sp le =
+    (omega (arith, sp.0, le), omega (arith, sp.1), omega arith, omega arith, spaced_bytes tail (h.end + 1) (8 * h.end + 1) hs sp.2 (omega arith))
+
+module _ (size m tail : ℕ) (whole : size ≡ 8 * m) where
+  covered_unit : (hs : List units.Hole) (q : ℕ) → Covered size (8 * tail) (map in_bytes hs) q → units.Covered m tail hs (q / 8)
+  covered_unit [] q c = (omega (arith, c.0), omega (arith, c.1, whole))
+  covered_unit (h ∷ hs) q c = elim c [ inl here ↦ inl (omega (arith, here.0), omega (arith, here.1)) | inr there ↦ inr (covered_unit hs q there) ]
+
+  covered_byte : (hs : List units.Hole) (q : ℕ) → units.Covered m tail hs (q / 8) → Covered size (8 * tail) (map in_bytes hs) q
+  covered_byte [] q c = (omega (arith, c.0), omega (arith, c.1, whole))
+  covered_byte (h ∷ hs) q c = elim c [ inl here ↦ inl (omega (arith, here.0), omega (arith, here.1)) | inr there ↦ inr (covered_byte hs q there) ]
+
+  covered_inside : (low : ℕ) (hs : List units.Hole) (u : ℕ) → units.Spaced tail low hs → tail ≤ m → units.Covered m tail hs u → u < m
+  covered_inside low [] u sp le c = c.1
+  covered_inside low (h ∷ hs) u sp le c = elim c [
+    | inl here ↦ (let up = low_below tail (h.end + 1) hs sp.2 in omega (arith, here.1, up, le))
+    | inr there ↦ covered_inside (h.end + 1) hs u sp.2 le there
+  ]
+
+  -- the holes of the free units are those of the bytes that no buffer has
+  pub holes_are : (bs : List Buffer) (hs : List units.Hole) → All (IsPlaced size) bs → units.AreHoles (is_free_unit bs) m tail hs → IsHoles size bs (8 * tail) (map in_bytes hs)
+  holes_are bs hs placed is =
+      let within = is.within in
+      record {
+        spaced = spaced_bytes tail 0 0 hs is.spaced (omega arith);
+        within = omega (arith, within, whole);
+        free = λ q c.
+            let unit = covered_unit hs q c in
+            let inside = covered_inside 0 hs (q / 8) is.spaced is.within unit in
+            let out = free_out bs (8 * (q / 8)) (is.free_only (q / 8) unit) in
+            (omega (arith, inside, whole), λ k d lt. to_byte size q (get_or bs k d) (placed k d lt) (out k d lt));
+        covered = λ q f.
+            let inside = f.0 in
+            let out = out_free bs (8 * (q / 8)) (λ k d lt. to_unit size q (get_or bs k d) (placed k d lt) (f.1 k d lt)) in
+            covered_byte hs q (is.all_free (q / 8) (omega (arith, inside, whole)) out);
+      }
