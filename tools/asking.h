@@ -97,6 +97,15 @@ static inline bool reads(hullpippin_live *live, uint32_t seat)
     return is_made(hullpippin_live_read(live, seat, 256, &answer), &answer, HULLPIPPIN_GOT);
 }
 
+/* Reads until nothing is left. */
+static inline bool drains(hullpippin_live *live, uint32_t seat)
+{
+    while (hullpippin_live_ready(live, seat))
+        if (!reads(live, seat))
+            return false;
+    return true;
+}
+
 /* A call with nothing in its parcel; with HULLPIPPIN_TF_ONE_WAY nobody replies. */
 static inline bool calls(hullpippin_live *live, uint32_t seat, uint32_t handle, uint32_t flags)
 {

@@ -6,7 +6,15 @@
 
 #include <stdio.h>
 
-enum { MANAGER, CLIENT, IDLE, SEATS };
+enum { MANAGER, CLIENT, IDLE, CALLERS };
+
+/* A live engine has room for so many lists that were filled or emptied since it was last asked. */
+enum { MOST_LISTS = 64 };
+
+/* Lists count that a step may only have filled or emptied: the manager's thread's, say. So many callers surely leave room. */
+enum { SURELY = MOST_LISTS - 4 };
+
+enum { SEATS = CALLERS + MOST_LISTS };
 
 /* A buffer at the beginning of a window has this pointer. */
 #define FIRST_POINTER 65536u
@@ -131,6 +139,56 @@ static bool names(hullpippin_live *live)
            && reads(live, MANAGER) && have_reached(live, both + 1, 1);
 }
 
+/* Callers wait for the manager, whose process ends: all their lists are filled at once, and as long as there is room for them, each is named,
+   with the manager's own, which its end empties. With more of them any list may have been. */
+static bool name_callers(hullpippin_live *live, uint32_t callers)
+{
+    static const hullpippin_todo_list any = {HULLPIPPIN_ANY_LIST, 0};
+    hullpippin_todo_list lists[MOST_LISTS + 1];
+    hullpippin_thread server;
+    hullpippin_answer answer;
+    bool good = is(hullpippin_live_thread(live, MANAGER, &server), "no thread");
+    for (uint32_t i = 0; good && i < callers; i++) {
+        lists[i] = (hullpippin_todo_list){HULLPIPPIN_LIST_OF_THREAD, CALLERS + i};
+        good = attaches(live, CALLERS + i, 200) && calls(live, CALLERS + i, 0, 0) && reads(live, CALLERS + i);
+    }
+    lists[callers] = (hullpippin_todo_list){HULLPIPPIN_LIST_OF_PROCESS, server.process};
+    size_t told;
+    good = good && is_done(hullpippin_live_ask_reached(live, &told)) && have_reached(live, NULL, 0)
+           && is_made(hullpippin_live_exit_process(live, MANAGER, &answer), &answer, HULLPIPPIN_EXITED);
+    return good && (callers <= SURELY ? have_reached(live, lists, callers + 1) : have_reached(live, &any, 1)) && have_reached(live, NULL, 0);
+}
+
+/* The manager frees the buffer in which an object came, and with it goes its only name. The owner still acknowledges nothing, so nobody is told,
+   and no notification is lost: no list is named, and any other is known to be as it was. */
+static bool names_none(hullpippin_live *live)
+{
+    uint8_t data[OBJECT_SIZE];
+    uint64_t buffer;
+    size_t told;
+    hullpippin_flat_object object = {.kind = HULLPIPPIN_TYPE_BINDER, .binder = 0x1000};
+    hullpippin_command send = {.code = HULLPIPPIN_BC_TRANSACTION,
+                               .transaction = {.flags = HULLPIPPIN_TF_ONE_WAY, .data_size = OBJECT_SIZE, .offsets_size = 8}};
+    return is(!hullpippin_put_object(&object, data, sizeof data), "the object has no place") && loop(live, CLIENT)
+           && runs(live, CLIENT, &send, data) && drains(live, CLIENT) && takes(live, MANAGER, &buffer)
+           && is_done(hullpippin_live_ask_reached(live, &told)) && frees(live, MANAGER, buffer) && have_reached(live, NULL, 0);
+}
+
+static bool names_two(hullpippin_live *live)
+{
+    return name_callers(live, 2);
+}
+
+static bool names_all_that_fit(hullpippin_live *live)
+{
+    return name_callers(live, SURELY);
+}
+
+static bool names_any_of_more(hullpippin_live *live)
+{
+    return name_callers(live, MOST_LISTS);
+}
+
 /* The call makes both seats ready; each is unready once it has read, and is told so when it is asked about. */
 static bool wakes(hullpippin_live *live, uint64_t *place)
 {
@@ -168,7 +226,7 @@ static bool plays(bool (*part)(hullpippin_live *))
 
 int main(void)
 {
-    if (plays(wakes_and_ends) && plays(names))
+    if (plays(wakes_and_ends) && plays(names) && plays(names_none) && plays(names_two) && plays(names_all_that_fit) && plays(names_any_of_more))
         return 0;
     fprintf(stderr, "bridge: %s\n", complaint);
     return 1;

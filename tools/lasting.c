@@ -96,17 +96,6 @@ static bool sends(hullpippin_live *live, uint32_t seat, uint64_t object)
     return makes_with_object(live, seat, HULLPIPPIN_BC_TRANSACTION, HULLPIPPIN_TF_ONE_WAY, object);
 }
 
-/* Reads until nothing is left. */
-static bool drains(hullpippin_live *live, uint32_t seat)
-{
-    while (hullpippin_live_ready(live, seat)) {
-        hullpippin_answer answer;
-        if (!is_made(hullpippin_live_read(live, seat, 256, &answer), &answer, HULLPIPPIN_GOT))
-            return false;
-    }
-    return true;
-}
-
 static bool acknowledges(hullpippin_live *live, uint32_t seat, uint64_t object)
 {
     hullpippin_command weakly = {.code = HULLPIPPIN_BC_INCREFS_DONE, .pointer = object, .cookie = COOKIE};

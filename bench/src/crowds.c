@@ -1,11 +1,13 @@
 /* SPDX-License-Identifier: Apache-2.0 OR MIT */
-/* A live engine in which much stands, and rounds that leave it as they found it: bench/crowds counts what they take.
+/* A live engine in which much stands, and rounds that leave it as they found it: bench/crowds counts what they take, and tools/library
+   sees that a crowd finds room, which no contract says.
 
        crowds CROWD NUMBER ROUNDS
 
    So many of the crowd stand first. A round is what the context manager's thread does with another process: a one-way call, and a call
    that is answered; where calls are queued, one more of these is made, and the oldest read, too. `round_of` alone makes it. At the end the
-   crowd has to be there still: its last comers leave, reply, or are read. */
+   crowd has to be there still: its last comers leave, reply, are read, let go of or freed. Then all that is left goes at once: the crowd's
+   process ends, and the context manager. */
 #include "../../tools/asking.h"
 
 #include <stdio.h>
@@ -96,6 +98,38 @@ static bool queued(uint32_t number)
     return good;
 }
 
+/* Objects of one process, each of which the manager keeps by a handle. */
+static bool kept(uint32_t number)
+{
+    bool good = opens(FIRST, CROWD_PID);
+    for (uint32_t i = 0; good && i < number; i++)
+        good = gives(FIRST, 0x10000 + 16u * (uint64_t)i, CROWD_HANDLE + i);
+    return good;
+}
+
+/* The same objects, of whose death the manager is to be told. */
+static bool watched(uint32_t number)
+{
+    bool good = kept(number);
+    for (uint32_t i = 0; good && i < number; i++) {
+        hullpippin_command ask = {.code = HULLPIPPIN_BC_REQUEST_DEATH_NOTIFICATION, .handle = CROWD_HANDLE + i, .cookie = i};
+        good = runs(&live, MANAGER, &ask, NULL);
+    }
+    return good;
+}
+
+/* Calls that the manager has read and answered, and whose buffers it hasn't freed. */
+static uint64_t buffers[100000];
+
+static bool unfreed(uint32_t number)
+{
+    bool good = number <= sizeof buffers / sizeof buffers[0];
+    for (uint32_t i = 0; good && i < number; i++)
+        good = calls(&live, CLIENT, 0, 0) && reads(&live, CLIENT) && takes(&live, MANAGER, &buffers[i]) && replies(&live, MANAGER)
+               && reads(&live, MANAGER) && takes_and_frees(CLIENT);
+    return good;
+}
+
 /* ---- that it stands still */
 
 /* So many of those that came last are looked at, at most. */
@@ -136,6 +170,80 @@ static bool drain(uint32_t number)
     return good;
 }
 
+/* The last objects are let go of. */
+static bool let_go(uint32_t number)
+{
+    bool good = true;
+    for (uint32_t i = number - looked_at(number); good && i < number; i++) {
+        hullpippin_command release = {.code = HULLPIPPIN_BC_RELEASE, .handle = CROWD_HANDLE + i};
+        good = runs(&live, MANAGER, &release, NULL);
+    }
+    return good;
+}
+
+/* The last notifications are taken back, which is confirmed. */
+static bool take_back(uint32_t number)
+{
+    bool good = true;
+    for (uint32_t i = number - looked_at(number); good && i < number; i++) {
+        hullpippin_command clear = {.code = HULLPIPPIN_BC_CLEAR_DEATH_NOTIFICATION, .handle = CROWD_HANDLE + i, .cookie = i};
+        good = runs(&live, MANAGER, &clear, NULL) && reads(&live, MANAGER);
+    }
+    return good;
+}
+
+/* The last buffers are freed. */
+static bool free_last(uint32_t number)
+{
+    bool good = true;
+    for (uint32_t i = number - looked_at(number); good && i < number; i++)
+        good = frees(&live, MANAGER, buffers[i]);
+    return good;
+}
+
+/* ---- that all of it goes at once */
+
+static bool exits(uint32_t seat)
+{
+    hullpippin_answer answer;
+    return is_made(hullpippin_live_exit_process(&live, seat, &answer), &answer, HULLPIPPIN_EXITED);
+}
+
+static bool both_go(uint32_t number)
+{
+    (void)number;
+    return exits(FIRST) && exits(MANAGER);
+}
+
+static bool each_goes(uint32_t number)
+{
+    bool good = true;
+    for (uint32_t i = 0; good && i < number - looked_at(number); i++)
+        good = exits(FIRST + i);
+    return good && exits(MANAGER);
+}
+
+static bool client_goes(uint32_t number)
+{
+    (void)number;
+    return exits(CLIENT) && exits(MANAGER);
+}
+
+/* A BR_DEAD_BINDER, with its cookie. */
+enum { DEATH_SIZE = 12 };
+
+/* The manager is told of each death, and then goes. */
+static bool deaths_are_told(uint32_t number)
+{
+    uint32_t told = 0;
+    bool good = exits(FIRST);
+    while (good && hullpippin_live_ready(&live, MANAGER)) {
+        good = reads(&live, MANAGER);
+        told += (uint32_t)(hullpippin_live_bytes(&live, HULLPIPPIN_STREAM, NULL, 0) / DEATH_SIZE);
+    }
+    return good && is(told == number - looked_at(number), "not each death is told") && exits(MANAGER);
+}
+
 /* ---- rounds */
 
 static bool calls_server(void)
@@ -164,12 +272,16 @@ static const struct {
     bool (*stand)(uint32_t number);
     bool (*make)(void);
     bool (*end)(uint32_t number);
+    bool (*go)(uint32_t number);
 } CROWDS[] = {
-    {"threads", threads, calls_server, leave}, {"processes", processes, calls_server, leave}, {"callers", callers, calls_server, leave},
-    {"nested", nested, calls_server, unwind},  {"queued", queued, queues_one_more, drain},
+    {"threads", threads, calls_server, leave, both_go},      {"processes", processes, calls_server, leave, each_goes},
+    {"callers", callers, calls_server, leave, both_go},      {"nested", nested, calls_server, unwind, both_go},
+    {"queued", queued, queues_one_more, drain, client_goes}, {"kept", kept, calls_server, let_go, both_go},
+    {"watched", watched, calls_server, take_back, deaths_are_told}, {"unfreed", unfreed, calls_server, free_last, client_goes},
 };
 
 static bool (*end)(uint32_t number) = leave;
+static bool (*go)(uint32_t number) = both_go;
 
 static bool stands(const char *name, uint32_t number)
 {
@@ -182,6 +294,7 @@ static bool stands(const char *name, uint32_t number)
         if (!strcmp(CROWDS[i].name, name)) {
             make = CROWDS[i].make;
             end = CROWDS[i].end;
+            go = CROWDS[i].go;
             return good && CROWDS[i].stand(number);
         }
     return fails("no such crowd");
@@ -192,7 +305,7 @@ int main(int count, char **words)
     bool good = count == 4 && stands(words[1], (uint32_t)strtoul(words[2], NULL, 10));
     for (unsigned long left = good ? strtoul(words[3], NULL, 10) : 0; good && left > 0; left--)
         good = round_of();
-    good = good && end((uint32_t)strtoul(words[2], NULL, 10));
+    good = good && end((uint32_t)strtoul(words[2], NULL, 10)) && go((uint32_t)strtoul(words[2], NULL, 10));
     if (!good)
         fprintf(stderr, "crowds: %s\n", complaint ? complaint : "crowds CROWD NUMBER ROUNDS");
     return good ? 0 : 1;

@@ -4,6 +4,7 @@ use Rattle.std.proofs.lemmas.Bool.{false≢true}
 use Rattle.std.specs.Prelude.{[], ◌∷◌, Option, Some, None, is_some}
 use Rattle.bd_space.specs.declared.record.Record.{Record}
 use Rattle.bd_space.specs.Histories.{history_in, space_after}
+use Rattle.bd_journal.specs.Cut.{HasHeading}
 use Rattle.bd_engine.specs.Looks.{named_by}
 use Rattle.bd_audit.specs.Gifts.{IsChainOf}
 use Rattle.bd_audit.specs.CallOf.{IsAnswerOf}
@@ -13,7 +14,12 @@ use Rattle.bd_c.specs.declared.certificates.TurnTold.{TurnTold}
 use Rattle.bd_c.specs.declared.status.Status.TheVariants.{Done}
 use Rattle.bd_c.specs.Status.{Reports}
 use Rattle.bd_c.specs.Parts.{Fetches}
+use Rattle.bd_c.proofs.Judged.{has_heading}
 use Rattle.bd_c.specs.Certificates.{IsHistoryOf, IsChain, Certifies, place_told, turn_told}
+
+-- the journal of a history has a heading
+pub heading_of : (bytes : List ℕ) (r : Record) → IsHistoryOf bytes r → HasHeading bytes
+heading_of bytes r h = has_heading bytes r h.journal
 
 -- a gift chain has a place
 pub is_chain : (r : Record) (pid number : ℕ) (places : List ℕ) → IsChainOf (history_in r) pid number places → IsChain r pid number places

@@ -1,8 +1,8 @@
 -- What is certified of the history whose journal some bytes are.
-use Rattle.std.specs.Prelude.{ℕ, ◌≡◌, ◌⊎◌, List, [], Option, Some, None, map}
+use Rattle.std.specs.Prelude.{ℕ, ◌≡◌, ◌⊎◌, List, [], Option, Some, None}
 use Rattle.bd_space.specs.declared.record.Record.{Record}
 use Rattle.bd_space.specs.Histories.{IsHistory, history_in, space_after}
-use Rattle.bd_journal.specs.Spelling.{Tells as IsJournalOf}
+use Rattle.bd_journal.specs.{Spelling.{Tells as IsJournalOf}, Cut.{HasHeading}}
 use Rattle.bd_engine.specs.Looks.{named_by}
 use Rattle.bd_audit.specs.Gifts.{IsChainOf}
 use Rattle.bd_audit.specs.declared.turns.Turn.{Turn}
@@ -15,11 +15,11 @@ pub record IsHistoryOf (bytes : List ℕ) (r : Record) : Type 0 where
   pub journal : IsJournalOf bytes r
   pub lawful : IsHistory (history_in r)
 
--- the bytes are no journal, or one whose entries aren't a history; or memory was refused
+-- the bytes are no journal, or one whose entries aren't a history; or memory was refused, which nobody asks for before a heading was read
 abbrev pub IsNoHistory : List ℕ → Status → Type 0
 IsNoHistory bytes NoJournal = (r : Record) → IsJournalOf bytes r → ⊥
 IsNoHistory bytes Unlawful = (r : Record) × IsJournalOf bytes r × (IsHistory (history_in r) → ⊥)
-IsNoHistory bytes NoMemory = Unit {0}
+IsNoHistory bytes NoMemory = HasHeading bytes
 IsNoHistory bytes _ = ⊥
 
 -- this is said of the history whose journal the bytes are; or they have none, or memory was refused, and nothing is told

@@ -1,5 +1,5 @@
 -- What was told of the todo lists of a call table: whether anything is on each.
-use Rattle.std.specs.Prelude.{◌+◌, ℕ, Bool, not, vec_capacity}
+use Rattle.std.specs.Prelude.{◌+◌, ℕ, Bool, not, length, vec_capacity}
 use Rattle.bd_ways.specs.Words.{TodoList}
 use Rattle.bd_calls.specs.{declared.table.CallTable.{CallTable}, Marks.{RecallsIn, HasMarkRoom}}
 
@@ -20,6 +20,10 @@ knows_all t = not t.marks.all
 -- so many lists in all have room
 unfoldable pub list_room : CallTable → ℕ
 list_room t = vec_capacity t.marks.marks
+
+-- so many lists were marked as what may have been filled or emptied
+unfoldable pub marked_count : CallTable → ℕ
+marked_count t = length t.marks.marks.items
 
 -- all lists are known that were filled or emptied, and will be where so many more are
 unfoldable pub HasRoomToTell : CallTable → ℕ → Type 0

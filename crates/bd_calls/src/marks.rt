@@ -1,7 +1,7 @@
 //! Which todo lists may have been filled or emptied since that was last told.
 #![tactic(auto)]
 
-ghost use Rattle.std.specs.Prelude.{◌≡◌, ◌≤◌, ◌++◌, ◌∷◌, if◌then◌else◌, [], Bool, true, false, not, List, IfOk, OnOk, OnErr, length, vec_capacity};
+ghost use Rattle.std.specs.Prelude.{◌≡◌, ◌≤◌, ◌<◌, ◌+◌, ◌++◌, ◌∷◌, if◌then◌else◌, [], Bool, true, false, not, List, IfOk, OnOk, OnErr, length, vec_capacity};
 ghost use Rattle.bd_space.specs.declared.space.TodoList as lists;
 ghost use Rattle.bd_space.specs.declared.space.Work as works;
 ghost use Rattle.bd_space.specs.Todo.{same_list, has_work_in};
@@ -41,8 +41,12 @@ fn push_if_changed(
     todo: &WorkTable,
     reached: &mut Vec<TodoList>,
 ) -> Result<(), AllocError>
-    ensures { OnOk result (todo_table.Tells todo.now reached.new.items
+    ensures listed { OnOk result (todo_table.Tells todo.now reached.new.items
         (λ l. reached.old.items ++ (if spec.is_changed l mark.now then mark.now.list ∷ [] else []))) }
+    ensures few { OnOk result (length reached.new.items ≤ length reached.old.items + 1) }
+    ensures uses { OnOk result (vec_capacity reached.old ≤ vec_capacity reached.new) }
+    // Memory was asked for: there was no room.
+    ensures grown { OnErr result (vec_capacity reached.old ≤ length reached.old.items) }
 {
     if mark.had != todo.has_any(mark.list) {
         reached.push(mark.list)?;
@@ -57,7 +61,9 @@ fn list_changed(
     reached: &mut Vec<TodoList>,
 ) -> Result<(), AllocError>
     requires { reached.old.items ≡ [] }
-    ensures { OnOk result (todo_table.Tells todo.now reached.new.items (λ l. spec.changed_lists l marks.now)) }
+    ensures listed { OnOk result (todo_table.Tells todo.now reached.new.items (λ l. spec.changed_lists l marks.now)) }
+    // Memory was asked for: there was room for fewer than there are marks.
+    ensures grown { OnErr result (vec_capacity reached.old < length marks.now) }
 {
     for mark in marks {
         push_if_changed(mark, todo, reached)?;
@@ -82,6 +88,8 @@ impl Marks {
         ensures all { self.new.all ≡ self.old.all }
         ensures room { OnOk result (lists ≤ vec_capacity self.new.marks) }
         ensures few { spec.MarksFew 0 self.old self.new }
+        // Memory was asked for: there was no room.
+        ensures grown { OnErr result (vec_capacity self.old.marks < lists) }
     {
         let more = lists.saturating_sub(self.marks.len());
         self.marks.reserve(more)
@@ -137,6 +145,8 @@ impl Marks {
         ensures knows { OnOk result (self.new.all ≡ false) }
         ensures room { OnOk result (spec.HasMarkRoom (vec_capacity self.old.marks) self.new) }
         ensures err { OnErr result (self.new ≡ self.old) }
+        // Memory was asked for: there was room for fewer than there are marks.
+        ensures grown { OnErr result (vec_capacity reached.old < length self.old.marks.items) }
     {
         reached.clear();
         list_changed(&self.marks, todo, reached)?;

@@ -1,7 +1,7 @@
 //! The table itself: making it, room in it, what changes several of its lists at once, and which todo lists were reached.
-#![tactic(auto, unfolding(crate::specs::Room::rooms, crate::specs::Told::Recalls, crate::specs::Told::HasRoomToTell, crate::specs::Told::list_room))]
+#![tactic(auto, unfolding(crate::specs::Room::rooms, crate::specs::Told::Recalls, crate::specs::Told::HasRoomToTell, crate::specs::Told::list_room, crate::specs::Told::marked_count))]
 
-ghost use Rattle.std.specs.Prelude.{◌≡◌, ◌+◌, ◌≤◌, ◌^◌, Bool, true, length, IfOk, OnOk, OnErr};
+ghost use Rattle.std.specs.Prelude.{◌≡◌, ◌+◌, ◌≤◌, ◌<◌, ◌^◌, Bool, true, length, vec_capacity, IfOk, OnOk, OnErr};
 ghost use Rattle.bd_threads.specs.Room.{thread_room};
 ghost use Rattle.bd_frames.specs.Room.{frame_room};
 ghost use Rattle.bd_turns.specs.Room.{turn_room};
@@ -46,7 +46,7 @@ impl CallTable {
     ghost use Rattle.bd_space.specs.ReadItems as reading;
     ghost use Rattle.bd_ways.specs.Tables.{Makes};
     ghost use Rattle.bd_calls.specs.Stands.{StandsFor};
-    ghost use Rattle.bd_calls.specs.{Marks.{is_among, differs}, Told.{Recalls, KeepsTold, knows_all, ReachesFew, HasRoomToTell, list_room}};
+    ghost use Rattle.bd_calls.specs.{Marks.{is_among, differs}, Told.{Recalls, KeepsTold, knows_all, ReachesFew, HasRoomToTell, list_room, marked_count}};
     ghost use Rattle.bd_calls.specs.Room.{UsesNothing, HasRoom, HasEach, frame_count};
 
     /// An empty table. Takes no memory.
@@ -138,6 +138,8 @@ impl CallTable {
         ensures knows { knows_all self.new ≡ knows_all self.old }
         ensures room { OnOk result (lists ≤ list_room self.new) }
         ensures few { ReachesFew 0 self.old self.new }
+        // Memory was asked for: there was no room.
+        ensures grown { OnErr result (list_room self.old < lists) }
     {
         self.marks.reserve(lists)
     }
@@ -159,6 +161,8 @@ impl CallTable {
         ensures knows { OnOk result (knows_all self.new ≡ true) }
         ensures room { OnOk result (HasRoomToTell self.new (list_room self.old)) }
         ensures err { OnErr result (KeepsTold self.old self.new) }
+        // Memory was asked for: there was room for fewer than may have been filled or emptied.
+        ensures grown { OnErr result (vec_capacity reached.old < marked_count self.old) }
     {
         self.marks.tell(&self.todo, reached)
     }

@@ -1,6 +1,7 @@
 //! Values in lists that are found by a key.
 
-ghost use Rattle.std.specs.Prelude.{ℕ, ◌≡◌, ◌≤◌, ◌<◌, ◌+◌, ◌++◌, ◌∷◌, [], Bool, List, length, find, Some, None, OnOk, OnErr};
+ghost use Rattle.std.specs.Prelude.{ℕ, ◌≡◌, ◌≤◌, ◌<◌, ◌+◌, ◌++◌, ◌∷◌, [], Bool, false, List, length, find, Some, None, OnOk, OnErr};
+ghost use Rattle.std.specs.List.{list_any};
 
 use crate::chains::Chains;
 use crate::numbers::Numbering;
@@ -89,6 +90,8 @@ impl<N: Numbering, T: Copy> Lists<N, T> {
     pub fn give_back(&mut self, key: N::Key)
         ensures stands { (f : T → N.Key) (c : T → Bool) → Makes (Shows f c N.same (N.number self.old.numbers) self.old.chains)
             (Shows f c N.same (N.number self.new.numbers) self.new.chains) (λ rs. rs) }
+        ensures gone { (f : T → N.Key) (c : T → Bool) (rs : List (Row T)) → Shows f c N.same (N.number self.old.numbers) self.old.chains rs
+            → list_any (λ v. N.same key (f v)) (values rs) ≡ false → N.number self.new.numbers key ≡ None }
         ensures uses { lists_room self.old.chains (N.room self.old.numbers) ≤ lists_room self.new.chains (N.room self.new.numbers) }
     {
         if let Some(number) = self.numbers.of(key) {

@@ -1,5 +1,5 @@
 -- Each thread's frames as a stack: a bound of all of them, and from each a bound of the older ones.
-use Rattle.std.specs.{Prelude.{ℕ, ◌≡◌, ◌==◌, ◌≤◌, ◌<◌, nat_le, true, List, Option, Some, None, max, nat_lt, get_or, length, unwrap_or, if◌then◌else◌}, HashMap.{get_by}}
+use Rattle.std.specs.{Prelude.{ℕ, ◌≡◌, ◌==◌, ◌≤◌, ◌<◌, nat_le, Bool, true, false, is_some, List, Option, Some, None, max, nat_lt, get_or, length, unwrap_or, if◌then◌else◌}, HashMap.{get_by}}
 use Rattle.std.specs.List.{All}
 use Rattle.bd_ways.specs.Words.{is_some_and, Frame, Server, Serving}
 use Rattle.bd_space.specs.Frames.{calls, takes_part}
@@ -33,6 +33,10 @@ bound_in b seat = unwrap_or (get_by (λ k. seat == k) b.own) b.rest
 
 abbrev pub top_in : Stacks → ℕ → Option ℕ
 top_in s seat = if nat_lt seat (length s.tops) then get_or s.tops seat None else bound_in s.others seat
+
+-- a bound is kept of the seat, beside those of a driver's seats
+abbrev pub keeps_top : Stacks → ℕ → Bool
+keeps_top s seat = if nat_lt seat (length s.tops) then false else is_some (get_by (λ k. seat == k) s.others.own)
 
 abbrev pub AreStacks : Stacks → List Row → Type 0
 AreStacks s rows = (seat : ℕ) → IsStack seat (top_in s seat) rows

@@ -1,12 +1,12 @@
 //! Each thread's frames as a stack, linked by bounds: places after which the next older one wasn't made.
 
-ghost use Rattle.std.specs.Prelude.{ℕ, List, Some, [], ◌≡◌, ◌==◌, ◌<◌, ◌^◌, false, Contains, filter, not, if◌then◌else◌};
-ghost use Rattle.std.specs.Option.{option_and_then};
+ghost use Rattle.std.specs.Prelude.{ℕ, List, Some, None, [], ◌≡◌, ◌==◌, ◌<◌, ◌^◌, false, Contains, filter, not, if◌then◌else◌};
+ghost use Rattle.std.specs.{HashMap.{get_by}, Option.{option_and_then}};
 ghost use Rattle.bd_space.specs.Words.{is_some_and};
 ghost use Rattle.bd_frames.specs.declared.frame.Row as declared;
 ghost use Rattle.bd_frames.specs.Places.{place};
 ghost use Rattle.bd_frames.specs.Linked as linked;
-ghost use Rattle.bd_frames.specs.Linked.{AreStacks, Covers, IsStack, top_in, put_top, popped_top};
+ghost use Rattle.bd_frames.specs.Linked.{AreStacks, Covers, IsStack, top_in, keeps_top, put_top, popped_top};
 
 use crate::frame::{Row, below_of, other_server};
 use bd_keys::insert_reserved;
@@ -88,7 +88,8 @@ impl Bounds {
     }
 
     fn remove(&mut self, seat: u32)
-        ensures { (s : ℕ) → (seat == s) ≡ false → bound_in self.new s ≡ bound_in self.old s }
+        ensures others { (s : ℕ) → (seat == s) ≡ false → bound_in self.new s ≡ bound_in self.old s }
+        ensures gone { get_by (λ k. seat == k) self.new.own ≡ None }
     {
         let _gone = self.own.remove(&seat);
     }
@@ -169,7 +170,9 @@ impl Stacks {
 
     /// The thread is gone from all frames.
     pub(crate) fn forget(&mut self, seat: u32)
-        ensures { (s : ℕ) → (seat == s) ≡ false → top_in self.new s ≡ top_in self.old s }
+        ensures others { (s : ℕ) → (seat == s) ≡ false → top_in self.new s ≡ top_in self.old s }
+        // What has gone leaves nothing behind.
+        ensures gone { keeps_top self.new seat ≡ false }
     {
         if (seat as usize) < self.tops.len() {
             self.tops[seat as usize] = Some(0);

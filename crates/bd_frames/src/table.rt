@@ -1,7 +1,7 @@
 //! The table: its room, its changes and what it tells.
 #![tactic(auto, unfolding(crate::specs::Room::frame_room, crate::specs::Room::frame_count))]
 
-ghost use Rattle.std.specs.Prelude.{Bool, List, ◌≡◌, ◌≤◌, ◌<◌, ◌+◌, ◌++◌, ◌∷◌, [], not, map, filter, find, reverse, length, vec_len, vec_capacity, OnOk, OnErr};
+ghost use Rattle.std.specs.Prelude.{Bool, List, ◌≡◌, ◌≤◌, ◌<◌, ◌+◌, ◌++◌, ◌∷◌, [], false, not, map, filter, find, reverse, length, vec_len, vec_capacity, OnOk, OnErr};
 ghost use Rattle.std.specs.List.{list_any, remove as list_remove};
 ghost use Rattle.bd_keys.specs.Tables as tables;
 ghost use Rattle.bd_space.specs.declared.space.Frame as declared;
@@ -28,7 +28,7 @@ pub struct FrameTable {
 }
 
 impl FrameTable {
-    ghost use Rattle.bd_frames.specs.{Stands.{FramesAre, Tells, Makes}, Room.{Uses, frame_room, frame_count}};
+    ghost use Rattle.bd_frames.specs.{Stands.{FramesAre, Tells, Makes, keeps_bound}, Room.{Uses, frame_room, frame_count}};
 
     /// An empty table. Takes no memory.
     pub fn new(alloc: Global) -> FrameTable
@@ -199,6 +199,8 @@ impl FrameTable {
     /// The thread is gone from its frames, as caller and as server.
     pub fn leave(&mut self, seat: u32)
         ensures stands { Makes self.old self.new (λ l. map (left_frame seat) l) }
+        // What has gone leaves nothing behind.
+        ensures gone { keeps_bound self.new seat ≡ false }
         ensures uses { Uses self.old self.new 0 }
     {
         let top = self.stacks.top_of(seat);

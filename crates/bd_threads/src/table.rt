@@ -26,11 +26,12 @@ pub struct ThreadTable {
 }
 
 impl ThreadTable {
-    ghost use Rattle.bd_threads.specs.{Listed.{listed}, Room.{thread_room}};
+    ghost use Rattle.bd_threads.specs.{Listed.{listed}, Room.{thread_room, row_count, row_room}};
 
     /// No thread. Takes no memory.
     pub fn new(alloc: Global) -> ThreadTable
-        ensures { listed result ≡ [] }
+        ensures listed { listed result ≡ [] }
+        ensures rows { row_count result ≡ 0 }
     {
         ThreadTable {
             rows: Vec::new(alloc),
@@ -41,6 +42,7 @@ impl ThreadTable {
     // Makes room behind the rows that there are.
     fn grow(&mut self, more: usize) -> Result<(), AllocError>
         ensures listed { listed self.new ≡ listed self.old }
+        ensures rows { row_count self.new ≡ row_count self.old }
         ensures uses { thread_room self.old ≤ thread_room self.new }
         ensures room { OnOk result (more ≤ thread_room self.new) }
         ensures grown { OnErr result (thread_room self.old < more) }
@@ -52,6 +54,7 @@ impl ThreadTable {
     // The same threads in new memory, without the rows of those that went.
     fn rebuilt(&self, more: usize) -> Result<ThreadTable, AllocError>
         ensures listed { IfOk result (λ t. listed t ≡ listed self.now) }
+        ensures rows { IfOk result (λ t. row_count t ≡ length (listed self.now)) }
         ensures room { IfOk result (λ t. more ≤ thread_room t) }
     {
         let room = room_anew(LEAST, self.places.len(), more)?;
@@ -72,6 +75,9 @@ impl ThreadTable {
         ensures room { OnOk result (more ≤ thread_room self.new) }
         // Memory was asked for: there was no room.
         ensures grown { OnErr result (thread_room self.old < more) }
+        // More memory for rows is taken only where threads that are there fill half of them.
+        ensures packed { OnOk result (row_room self.old < more
+            → row_count self.new ≤ length (listed self.new) + length (listed self.new) + 1) }
     {
         let is_short = self.rows.capacity() - self.rows.len() < more;
         // Those that went since the last rebuilding pay for the next.
@@ -87,6 +93,7 @@ impl ThreadTable {
         requires { 1 ≤ thread_room self.old }
         ensures listed { listed self.new
             ≡ filter (λ t. not (t.seat == thread.seat)) (listed self.old) ++ thread ∷ [] }
+        ensures rows { row_count self.new ≡ row_count self.old + 1 }
         ensures uses { thread_room self.old ≤ thread_room self.new + 1 }
     {
         self.remove(thread.seat);
@@ -113,6 +120,7 @@ impl ThreadTable {
     /// The thread of a seat goes.
     pub fn remove(&mut self, seat: u32)
         ensures listed { listed self.new ≡ filter (λ t. not (t.seat == seat)) (listed self.old) }
+        ensures rows { row_count self.new ≡ row_count self.old }
         ensures uses { thread_room self.old ≤ thread_room self.new }
     {
         if let Some(row) = self.places.remove(&seat) {

@@ -1,5 +1,5 @@
 -- The heads of lists, by rows and by keys.
-use Rattle.std.proofs.Common.{◌≡◌, ℕ, ◌<◌, ◌==◌, Bool, true, false, cond, List, length, get_or, set, replicate, zero, suc, Option, Some, None, refl, arith}
+use Rattle.std.proofs.Common.{◌≡◌, ℕ, ◌<◌, ◌==◌, false, cond, List, length, get_or, set, replicate, zero, suc, Option, Some, None, refl, arith}
 use Rattle.std.proofs.lemmas.List.{length-set, get_or-set_same, get_or-set_other}
 use Rattle.std.specs.HashMap.{HashMap, get_by}
 use Rattle.bd_space.specs.{declared.space.TodoList.{TodoList}, declared.space.TodoList.TheVariants.{OfThread, OfProcess}, Words.{is_some_and}}

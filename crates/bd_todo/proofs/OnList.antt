@@ -1,5 +1,5 @@
 -- What is found among the work items on a list.
-use Rattle.std.proofs.Common.{◌≡◌, Bool, true, false, not, ◌&&◌, List, [], ◌∷◌, length, filter, refl, ap, ◌∙◌, is_some, ◌+◌, arith}
+use Rattle.std.proofs.Common.{◌≡◌, Bool, true, false, not, ◌&&◌, List, [], ◌∷◌, length, filter, refl, is_some, ◌+◌, arith}
 use Rattle.std.specs.List.{list_any, slice_get}
 use Rattle.bd_space.specs.{declared.space.Work.{Work}, ReadItems.{none_due}, Words.{without_first}}
 

@@ -3,7 +3,7 @@ use Rattle.std.proofs.Common.{◌≡◌, ◌+◌, ◌-◌, ◌<◌, ◌≤◌, �
 use Rattle.std.proofs.lemmas.List.Sums.{sum_by_push, count_by-le-length}
 use Rattle.bd_space.specs.{declared.space.Work.{Work}, Todo.{is_item}}
 use Rattle.bd_todo.specs.{declared.register.Register.{Register}, declared.spots.Sought.{Sought}, declared.spots.Spots.{Spots}}
-use Rattle.bd_todo.specs.{Spots.{sought_of, is_sought, is_key, count_at}, Registered.{rank, AreCounted}}
+use Rattle.bd_todo.specs.{Spots.{sought_of, is_sought, is_key}, SpotCounts.{count_at}, Registered.{rank, AreCounted}}
 
 module _ (t : Register) (w : Work) (todo : List Work) (h : AreCounted t todo) (spots : Spots) where
   module _ (few : length todo < 18446744073709551615) (is : w.id.index ≡ count_by (λ v. v.id.place == w.id.place) todo) (rises : Bool)

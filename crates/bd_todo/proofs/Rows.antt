@@ -1,9 +1,9 @@
 -- Rows and the work items that they hold: what stands on a list, and what goes.
-use Rattle.std.proofs.Common.{◌≡◌, ◌+◌, ℕ, ◌==◌, Bool, true, false, cond, List, [], ◌∷◌, ◌++◌, length, filter, count_by, Option, Some, None, refl, ap, arith}
+use Rattle.std.proofs.Common.{◌≡◌, ◌+◌, ℕ, ◌==◌, Bool, true, false, cond, List, [], ◌∷◌, ◌++◌, length, filter, count_by, Some, None, refl, ap, arith}
 use Rattle.std.specs.{Prelude.{option_map}, List.{slice_get}}
 use Rattle.bd_space.specs.{declared.space.Work.{Work}, declared.space.TodoList.{TodoList}, Words.{without_first, is_some_and}}
 use Rattle.bd_space.specs.Todo.{same_list, is_on}
-use Rattle.bd_chains.specs.{declared.links.Held.{Held}, Chain.{has, distinct}, Rows.{Row, keys, ring, drop_key}, Lists.{AreListed}}
+use Rattle.bd_chains.specs.{declared.links.Held.{Held}, Chain.{distinct}, Rows.{Row, keys, ring, drop_key}, Lists.{AreListed}}
 use Rattle.bd_chains.proofs.{Rowing.{drop_none, first_in}, Listing.{same_number}}
 use Rattle.bd_todo.specs.{Heads.{head_at}, Rows.{works, work_in}, QueuesStand.{Queues, list_of, keeps, Shows, work_at}}
 use Rattle.bd_todo.proofs.{ListKeys.{same_list_eq}, SoughtCounts.{count_cons}}

@@ -1,10 +1,10 @@
 -- The counts of what is looked up, as entries and work items come and go.
-use Rattle.std.proofs.Common.{◌≡◌, ℕ, ◌+◌, ◌-◌, ◌<◌, ◌==◌, nat_lt, Bool, true, false, not, ◌&&◌, ◌||◌, cond, List, [], ◌∷◌, ◌++◌, length, filter, count_by, Option, Some, None, option_map, unwrap_or, min, ap, refl, sym, ◌∙◌, arith, eqb-true, lt-ltb}
+use Rattle.std.proofs.Common.{◌≡◌, ℕ, ◌+◌, ◌==◌, nat_lt, Bool, true, false, not, cond, List, [], ◌∷◌, length, filter, count_by, Option, Some, None, option_map, unwrap_or, ap, refl, ◌∙◌, arith, eqb-true}
 use Rattle.std.proofs.{lemmas.Bool.{and_parts}, lemmas.List.Sums.{sum_by-cons}}
 use Rattle.std.specs.{List.{list_any}, Map.{lookup}}
 use Rattle.bd_space.specs.declared.space.Work.{Work}
 use Rattle.bd_todo.specs.{declared.spots.Sought.{Sought}, declared.spots.Sought.TheVariants.{Notice, Call, Death}, declared.spots.Spot.{Spot}}
-use Rattle.bd_todo.specs.{declared.spots.Spots.{Spots}, Spots.{same_sought, count_at}}
+use Rattle.bd_todo.specs.{declared.spots.Spots.{Spots}, Spots.{same_sought}, SpotCounts.{count_at}}
 
 -- the count that is found, or 0
 pub count_updated : (b : Bool) (w old new : Option Spot) → new ≡ cond b w old
@@ -21,11 +21,6 @@ same_sought_eq _ _ h = cc
 -- what is written at a key, as a change of what was found there
 pub at_key : (t : Spots) (a k : Sought) (v : ℕ) (f : ℕ → ℕ) → v ≡ f (count_at t a) → cond (same_sought a k) v (count_at t k) ≡ cond (same_sought a k) (f (count_at t k)) (count_at t k)
 at_key t a k v f e = grind (arith, ap (count_at t), same_sought_eq a k)
-
--- none is left, and what stood there goes
-pub gone_down : (t : Spots) (a k : Sought) (m n new : ℕ) → count_at t a ≡ 0 → count_at t k ≡ cond (same_sought a k) m n
-    → new ≡ cond (same_sought a k) 0 (count_at t k) → new ≡ cond (same_sought a k) m n
-gone_down t a k m n new none down gone = grind (arith, same_sought_eq a k)
 
 -- nothing is found where there is nothing
 pub none_in : {K X : Type 0} (p : K → Bool) (entries : List (K × X)) → length entries ≡ 0 → None ≡ lookup p entries

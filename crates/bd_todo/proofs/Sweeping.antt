@@ -1,5 +1,5 @@
 -- A walk over all slots takes out the work items that aren't to stay, or counts some.
-use Rattle.std.proofs.Common.{◌≡◌, ℕ, ◌+◌, ◌<◌, Bool, true, false, not, cond, List, [], ◌∷◌, filter, count_by, Option, Some, is_some, refl, sym, ap, ◌∙◌, arith}
+use Rattle.std.proofs.Common.{◌≡◌, ℕ, ◌+◌, ◌<◌, Bool, true, false, not, cond, List, [], ◌∷◌, filter, count_by, Some, is_some, refl, sym, ◌∙◌, arith}
 use Rattle.bd_space.specs.{declared.space.Work.{Work}, Words.{is_some_and}}
 use Rattle.bd_chains.specs.{Chain.{has, distinct}, Rows.{Row, keys, row_at, drop_key}, Columns.{is_there}}
 use Rattle.bd_todo.specs.{Rows.{works, work_in, seen_by}, QueuesStand.{Queues, Shows, work_at}, Stands.{RowsAre}}

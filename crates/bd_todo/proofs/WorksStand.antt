@@ -1,14 +1,14 @@
 -- The table as a whole: a work item comes, or some go.
-use Rattle.std.proofs.Common.{◌≡◌, ℕ, ◌<◌, ◌≤◌, ◌==◌, nat_lt, Bool, not, cond, true, Some, None, List, [], ◌∷◌, ◌++◌, length, filter, count_by, refl, sym, ap, ◌∙◌, subst, arith}
+use Rattle.std.proofs.Common.{◌≡◌, ℕ, ◌<◌, ◌≤◌, ◌==◌, nat_lt, Bool, not, true, Some, None, List, [], ◌∷◌, ◌++◌, length, filter, count_by, refl, sym, ap, ◌∙◌, subst, arith}
 use Rattle.bd_space.specs.{declared.space.Work.{Work}, declared.space.TodoList.{TodoList}, declared.space.WorkKind.{WorkKind}}
 use Rattle.bd_space.specs.{Todo.{with_work, is_on, is_notice, is_call, death_of}, declared.step.Identity.{Identity}}
 use Rattle.bd_space.specs.Words.{without_first, is_some_and}
 use Rattle.bd_todo.specs.{declared.table.WorkTable.{WorkTable}, declared.spots.Sought.{Sought}}
-use Rattle.bd_todo.specs.{declared.spots.Sought.TheVariants.{Notice, Call, Death}, Rows.{works}, Spots.{is_sought, count_at}}
+use Rattle.bd_todo.specs.{declared.spots.Sought.TheVariants.{Notice, Call, Death}, Rows.{works}, Spots.{is_sought}, SpotCounts.{count_at}}
 use Rattle.bd_todo.specs.{QueuesStand.{Stands, IsFront, work_at}, Stands.{WorksAre, RowsAre}, Registered.{Registered}}
-use Rattle.std.specs.{List.{list_any}, Prelude.{Option, option_map}}
+use Rattle.std.specs.{List.{list_any}, Prelude.{Option}}
 use Rattle.bd_space.specs.declared.space.WorkKind.TheVariants as kinds
-use Rattle.bd_chains.specs.{declared.links.Held.{Held}, Rows.{Row, row_at, drop_key}}
+use Rattle.bd_chains.specs.{Rows.{Row, drop_key}}
 use Rattle.bd_todo.proofs.{Rows.{work_is, count_dropped, filter_dropped}, SoughtCounts.{all_pass, any_counted}}
 
 -- ---- rows and the work items that they hold

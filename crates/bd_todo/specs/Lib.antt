@@ -6,4 +6,5 @@ pub mod Heads
 pub mod Rows
 pub mod QueuesStand
 pub mod Spots
+pub mod SpotCounts
 pub mod Registered

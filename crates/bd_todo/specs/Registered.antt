@@ -2,7 +2,7 @@
 use Rattle.std.specs.{Prelude.{ℕ, ◌≡◌, ◌+◌, ◌*◌, ◌<◌, ◌≤◌, ◌==◌, true, List, count_by}, HashMap.{spare}}
 use Rattle.bd_ways.specs.Words.{Origin, Work}
 use Rattle.bd_space.specs.Todo.{is_item}
-use Rattle.bd_todo.specs.{declared.spots.Sought.{Sought}, declared.register.Register.{Register}, Spots.{count_at, is_sought}}
+use Rattle.bd_todo.specs.{declared.spots.Sought.{Sought}, declared.register.Register.{Register}, Spots.{is_sought}, SpotCounts.{count_at}}
 
 -- identities in their order, by the place first
 abbrev pub rank : Origin → ℕ

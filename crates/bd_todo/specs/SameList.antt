@@ -1,5 +1,5 @@
 -- Two lists of one name are one.
-use Rattle.std.proofs.Common.{◌≡◌, ℕ, ◌==◌, true, ap, sym, ◌∙◌, refl, eqb-true, eq-eqb, arith}
+use Rattle.std.proofs.Common.{◌≡◌, true, ap, refl, eqb-true, eq-eqb, arith}
 use Rattle.bd_ways.specs.Words.{TodoList, OfThread, OfProcess}
 use Rattle.bd_space.specs.Todo.{same_list}
 

@@ -1,9 +1,9 @@
 -- What work items are looked up by, and how many are looked up so.
-use Rattle.std.specs.{Prelude.{ℕ, ◌≡◌, ◌+◌, ◌^◌, Bool, List, count_by, Option, Some, None, option_map, unwrap_or}, HashMap.{get_by}}
-use Rattle.bd_ways.specs.Words.{is_some_and, Work, WorkKind}
+use Rattle.std.specs.Prelude.{ℕ, ◌+◌, ◌^◌, Bool, Option, Some, None}
+use Rattle.bd_ways.specs.Words.{is_some_and, WorkKind}
 use Rattle.bd_space.specs.declared.space.WorkKind.TheVariants as work
 use Rattle.bd_keys.specs.Numbers.{pair}
-use Rattle.bd_todo.specs.{declared.spots.Sought.{Sought}, declared.spots.Sought.TheVariants.{Notice, Call, Death}, declared.spots.Spots.{Spots}}
+use Rattle.bd_todo.specs.{declared.spots.Sought.{Sought}, declared.spots.Sought.TheVariants.{Notice, Call, Death}}
 use Rattle.bd_todo.specs.contracts.spots.SoughtPartialEq.TheImpl as sought
 
 abbrev pub same_sought : Sought → Sought → Bool
@@ -28,6 +28,3 @@ is_key k o = is_some_and o (λ s. same_sought s k)
 -- the work item is looked up by this key, whatever its list
 abbrev pub is_sought : Sought → WorkKind → Bool
 is_sought k kind = is_key k (sought_of kind)
-
-abbrev pub count_at : Spots → Sought → ℕ
-count_at t k = unwrap_or (option_map (λ s. s.count) (get_by (same_sought k) t.spots)) 0

@@ -1,12 +1,13 @@
 //! Work items, counted by what they are looked up by.
 
 ghost use Rattle.std.specs.Prelude.{◌≡◌, ◌≤◌, ◌<◌, ◌+◌, ◌-◌, min, if◌then◌else◌, nat_lt, OnOk, OnErr};
+ghost use Rattle.std.specs.Option.{ForSome};
 ghost use Rattle.std.specs.Cmp.Rules.{hashing};
 ghost use Rattle.std.specs.Hash as fed;
 ghost use Rattle.std.{specs.HashMap.{spare, get_by}, proofs.Common.{rules}};
 ghost use Rattle.bd_todo.specs.declared.spots.Sought as declared;
 ghost use Rattle.bd_todo.specs.declared.spots.Sought.TheVariants as sought;
-ghost use Rattle.bd_todo.specs.Spots.{same_sought, spread, sought_of, is_sought, is_key, count_at};
+ghost use Rattle.bd_todo.specs.Spots.{same_sought, spread, sought_of, is_sought, is_key};
 
 use bd_keys::tall;
 use bd_space::{Identity, WorkKind};
@@ -59,6 +60,8 @@ pub struct Spot {
 #[derive(Debug, Drop)]
 pub struct Spots {
     pub(crate) spots: HashMap<Sought, Spot>,
+    // What has gone leaves nothing in the map.
+    ghost left: { (k : declared.Sought) → ForSome (get_by (same_sought k) spots) (λ s. 0 < s.count) },
 }
 
 /// The notice of the object.
@@ -91,6 +94,8 @@ pub fn is_sought(key: Sought, kind: WorkKind) -> bool
 }
 
 impl Spots {
+    ghost use Rattle.bd_todo.specs.SpotCounts.{count_at};
+
     /// None. Takes no memory.
     pub fn new(alloc: Global) -> Spots
         ensures { (k : declared.Sought) → count_at result k ≡ 0 }
@@ -131,22 +136,6 @@ impl Spots {
         }
     }
 
-    // One less is looked up so: how many are left. The spot stays, even if none is.
-    fn count_down(&mut self, key: Sought) -> u64
-        ensures left { result ≡ count_at self.new key }
-        ensures counts { (k : declared.Sought) → count_at self.new k
-            ≡ (if same_sought key k then count_at self.old k - 1 else count_at self.old k) }
-        ensures uses { spare self.old.spots ≤ spare self.new.spots }
-    {
-        match self.spots.get_mut(&key) {
-            Some(spot) => {
-                spot.count = spot.count.saturating_sub(1);
-                spot.count
-            }
-            None => 0,
-        }
-    }
-
     /// A work item came last, into this slot, that is looked up so, or not at all.
     pub fn add(&mut self, key: Option<Sought>, slot: usize)
         requires { 0 < spare self.old.spots }
@@ -173,8 +162,12 @@ impl Spots {
         ensures uses { spare self.old.spots ≤ spare self.new.spots }
     {
         if let Some(key) = key {
-            if self.count_down(key) == 0 {
-                let _gone = self.spots.remove(&key);
+            match self.spots.get_mut(&key) {
+                Some(spot) if spot.count > 1 => spot.count -= 1,
+                Some(_) => {
+                    let _gone = self.spots.remove(&key);
+                }
+                None => {}
             }
         }
     }

@@ -1,7 +1,7 @@
 //! The table: its room, its changes and what it tells.
 #![tactic(auto, unfolding(crate::specs::Stands::work_room))]
 
-ghost use Rattle.std.specs.Prelude.{Bool, true, ◌≡◌, ◌&&◌, ◌+◌, ◌≤◌, ◌==◌, [], count_by, not, filter, Some, OnOk, OnErr, IfSome};
+ghost use Rattle.std.specs.Prelude.{Bool, true, false, List, ◌≡◌, ◌&&◌, ◌+◌, ◌≤◌, ◌==◌, [], count_by, not, filter, Some, OnOk, OnErr, IfSome};
 ghost use Rattle.std.specs.List.{list_any};
 ghost use Rattle.bd_keys.specs.Tables as tables;
 ghost use Rattle.bd_keys.specs.Tables.{AnswersBy};
@@ -10,6 +10,7 @@ ghost use Rattle.bd_space.specs.Words as words;
 ghost use Rattle.bd_space.specs.Todo as spec;
 ghost use Rattle.bd_space.specs.Notices as notices;
 ghost use Rattle.bd_todo.specs.Spots as spots;
+ghost use Rattle.bd_todo.specs.SpotCounts as counts;
 
 use crate::heads::Heads;
 use crate::queues::{Queues, count_at, front};
@@ -29,7 +30,7 @@ pub struct WorkTable {
 
 impl WorkTable {
     ghost use Rattle.bd_chains.specs.Rows.{drop_key};
-    ghost use Rattle.bd_todo.specs.{QueuesStand.{work_at}, Stands.{WorksAre, RowsAre, Tells, Makes, work_room}};
+    ghost use Rattle.bd_todo.specs.{QueuesStand.{work_at}, Stands.{WorksAre, RowsAre, Tells, Makes, work_room, keeps_list}};
 
     /// An empty table. Takes no memory.
     pub fn new(alloc: Global) -> WorkTable
@@ -187,7 +188,7 @@ impl WorkTable {
     // The slot of the work item that is looked up so, where there is just one: the latest noted, if that is still there.
     fn only(&self, key: Sought) -> Option<usize>
         ensures { IfSome result (λ x. (words.is_some_and (work_at self.now.queues x) (λ w. spots.is_sought key w.kind) ≡ true)
-            × (spots.count_at self.now.register.spots key ≡ 1)) }
+            × (counts.count_at self.now.register.spots key ≡ 1)) }
     {
         let spot = self.register.spots.spot(key)?;
         if spot.count == 1 && self.is_sought_at(spot.slot, key) {
@@ -250,6 +251,8 @@ impl WorkTable {
     /// A list is emptied.
     pub fn clear_list(&mut self, list: TodoList)
         ensures stands { Makes self.old self.new (λ l. filter (λ w. not (spec.is_on list w)) l) }
+        // What has gone leaves nothing behind.
+        ensures gone { (l : List Work) → WorksAre self.old l → keeps_list self.new list ≡ false }
         ensures uses { work_room self.old ≤ work_room self.new }
     {
         self.pop_all(list);

@@ -1,5 +1,5 @@
 -- Entries, where one comes, goes or is handed out: their rows, and what they are found by.
-use Rattle.std.proofs.Common.{◌≡◌, ℕ, ◌==◌, ◌+◌, Bool, true, false, not, cond, List, [], ◌∷◌, find, filter, map, length, Some, None, refl, sym, ap, subst, arith}
+use Rattle.std.proofs.Common.{◌≡◌, ℕ, ◌==◌, ◌+◌, Bool, true, false, not, ◌||◌, cond, List, [], ◌∷◌, find, filter, map, length, Some, None, refl, sym, ap, subst, arith}
 use Rattle.std.proofs.lemmas.Bool.{eqb-true, eqb-false}
 use Rattle.std.specs.{Prelude.{option_map}, List.{list_any}}
 use Rattle.bd_space.specs.{declared.space.Turn.{Turn}, Words.{changed}}
@@ -7,9 +7,9 @@ use Rattle.bd_space.proofs.Keyed.{changed_none}
 use Rattle.bd_keys.proofs.{Rising.{Distinct, has, without, pairs_tail, rest_differ, filter_none}, Found.{any_some, found_has, find_gone, find_stays}}
 use Rattle.bd_turns.proofs.Mapped.{find_map}
 use Rattle.bd_chains.specs.Chain as chain
-use Rattle.bd_chains.specs.{Rows.{Row, keys, row_at, drop_key}, Setting.{with_value}}
+use Rattle.bd_chains.specs.{Rows.{Row, keys, values, row_at, drop_key}, Setting.{with_value}}
 use Rattle.bd_chains.proofs.Rowing.{drop_none}
-use Rattle.bd_turns.specs.{Turn.{hand_turn}, Entries.{Entry, made_of, call_row, hand_entry}}
+use Rattle.bd_turns.specs.{Turn.{hand_turn}, Entries.{Entry, made_of, call_row, mark_row, by_window, hand_entry}}
 
 abbrev pub turn_of : Entry → Turn
 turn_of e = e.turn
@@ -99,3 +99,15 @@ module _ (p : ℕ) where
       at false f is more =
           let other = (found_has is_in (λ d. (made_of d == made_of x) ≡ false) es e is (rest_differ made_of (made_of x) x es distinct refl)).0 in
           (grind (arith, more is, other), grind (arith, more is, other))
+
+-- ---- a process's
+
+-- what is found of a process among its marks is found among the calls
+pub marks_to : (p : ℕ) (es : List Entry) → list_any (λ m. p == by_window m) (values (map mark_row es)) ≡ list_any (λ t. p == t.receiver) (map turn_of es)
+marks_to p [] = refl
+marks_to p (e ∷ es) = ap (λ b. (p == e.turn.receiver) || b) (marks_to p es)
+
+-- once those of a process went, none is there
+pub none_received : (p : ℕ) (ts : List Turn) → list_any (λ t. p == t.receiver) (filter (λ t. not (t.receiver == p)) ts) ≡ false
+none_received p [] = refl
+none_received p (t ∷ ts) = grind (arith, none_received p ts)

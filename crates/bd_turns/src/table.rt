@@ -1,7 +1,7 @@
 //! The table: its room, its changes and what it tells.
 #![tactic(auto, unfolding(crate::specs::Room::turn_room, crate::specs::Room::turn_count))]
 
-ghost use Rattle.std.specs.Prelude.{List, ◌≡◌, ◌==◌, ◌≤◌, ◌++◌, ◌∷◌, [], false, not, filter, find, OnOk, OnErr};
+ghost use Rattle.std.specs.Prelude.{List, ◌≡◌, ◌==◌, ◌≤◌, ◌++◌, ◌∷◌, [], false, not, filter, find, None, OnOk, OnErr};
 ghost use Rattle.std.specs.{List.{list_any}, HashMap.{spare}};
 ghost use Rattle.bd_keys.specs.Tables as tables;
 ghost use Rattle.bd_space.specs.declared.space.Turn as declared;
@@ -40,7 +40,8 @@ impl Drop for TurnTable {
 
 impl TurnTable {
     ghost use Rattle.bd_chains.specs.Lists.{lists_room};
-    ghost use Rattle.bd_turns.specs.Entries.{CallsShow};
+    ghost use Rattle.bd_chains.specs.Rows.{Row, values};
+    ghost use Rattle.bd_turns.specs.Entries.{CallsShow, same_object, object_number, window_number};
     ghost use Rattle.bd_turns.specs.Stands.{TurnsAre, Tells, Makes};
 
     /// An empty table. Takes no memory.
@@ -115,6 +116,10 @@ impl TurnTable {
         ensures spots { self.new.spots ≡ self.old.spots }
         ensures room { lists_room self.old.objects.chains (spare self.old.objects.numbers.all)
             ≤ lists_room self.new.objects.chains (spare self.new.objects.numbers.all) }
+        ensures last { self.new.last ≡ object }
+        // What has gone leaves nothing behind, but for the list of the last object.
+        ensures gone { (rs : List (Row declared.Turn)) → CallsShow self.old rs → same_object self.old.last object ≡ false
+            → list_any (λ t. same_object self.old.last t.target) (values rs) ≡ false → object_number self.new self.old.last ≡ None }
     {
         if self.last != object {
             self.objects.give_back(self.last);
@@ -151,6 +156,8 @@ impl TurnTable {
     /// The one-way calls in a process's window go.
     pub fn remove_received(&mut self, process: u64)
         ensures stands { Makes self.old self.new (λ l. filter (λ t. not (t.receiver == process)) l) }
+        // What has gone leaves nothing behind.
+        ensures gone { (l : List declared.Turn) → TurnsAre self.old l → window_number self.new process ≡ None }
         ensures uses { Uses self.old self.new 0 }
     {
         self.pop_received(process);

@@ -1,4 +1,4 @@
-use Rattle.std.proofs.Common.{◌≡◌, ◌∷◌, [], ◌++◌, ◌<◌, ◌+◌, ℕ, suc, List, Bool, true, false, cond, length, get_or, drop, drop-cons, append_assoc, refl, sym, ap, ◌∙◌, arith}
+use Rattle.std.proofs.Common.{◌≡◌, ◌∷◌, [], ◌++◌, ◌<◌, ◌+◌, ℕ, suc, List, Bool, true, false, cond, length, get_or, drop, drop-cons, append_assoc, sym, ap, ◌∙◌, arith}
 use Rattle.bd_ways.specs.Words.{Work, TodoList}
 use Rattle.bd_calls.specs.{declared.marks.Mark.{Mark}, Marks.{is_changed, changed_lists}}
 use Rattle.bd_calls.proofs.marks.list_changed.Goals as goal
@@ -18,8 +18,13 @@ goes_on ws ms i n d before now within next is =
     ∙ ap (λ zs. before ++ changed_lists ws zs) (sym (drop-cons ms i d within))
 
 pub loop-mark-preserved : goal.loop-mark-preserved
-loop-mark-preserved c = λ ws h.
+loop-mark-preserved c =
     let i = c.loop-mark.mark-index in
-    goes_on ws c.args.marks.now i (i + 1) _ c.loop-mark.reached.items c.push_if_changed.new.reached.items (omega (arith, c.loop-mark-test.true)) (omega arith)
-    (c.in_ok-push_if_changed.ensures ws h)
-    ∙ c.loop-mark.invariant ws h
+    record {
+      left = λ ws h.
+          goes_on ws c.args.marks.now i (i + 1) _ c.loop-mark.reached.items c.push_if_changed.new.reached.items (omega (arith, c.loop-mark-test.true)) (omega arith)
+          (c.in_ok-push_if_changed.ensures.listed ws h)
+          ∙ c.loop-mark.invariant.left ws h;
+      few = omega (arith, c.loop-mark.invariant.few, c.in_ok-push_if_changed.ensures.few);
+      room = omega (arith, c.loop-mark.invariant.room, c.in_ok-push_if_changed.ensures.uses);
+    }

@@ -25,4 +25,4 @@ returns-clause-stands c = λ l h.
     let seat = c.args.seat in
     all_changed t l h _ (left_frame seat) (left_row seat) (λ x. (refl, refl)) (λ r. refl) (λ r. refl)
     (c.leave_down.ensures.rows (own_rising t l h) (own_stack t l h seat _ c.top_of-top.ensures))
-    (λ s. forgotten seat s (top_in t.stacks s) (top_in c.forget.new.self s) rs (h.stacks_are s) (c.forget.ensures s) (seat == s) refl)
+    (λ s. forgotten seat s (top_in t.stacks s) (top_in c.forget.new.self s) rs (h.stacks_are s) (c.forget.ensures.others s) (seat == s) refl)

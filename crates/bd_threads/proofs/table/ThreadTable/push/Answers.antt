@@ -1,4 +1,4 @@
-use Rattle.std.proofs.Common.{◌≡◌, ℕ, ◌+◌, true, cond, length, List, [], ◌∷◌, ◌++◌, None, Some, sym, ap, ◌∙◌, arith, Result, Ok, Err, Option}
+use Rattle.std.proofs.Common.{◌≡◌, ℕ, ◌+◌, true, cond, length, List, [], ◌∷◌, ◌++◌, None, Some, ap, ◌∙◌, arith, Result, Ok, Err, Option}
 use Rattle.std.proofs.{lemmas.List.{get_or_past, length_push}, lemmas.List.Elements.{filter_map-append}}
 use Rattle.std.specs.{Prelude.{IfOk, OnOk, is_some, option_map}, Result.{is_ok}}
 use Rattle.bd_space.specs.{declared.space.Thread.{Thread}, Seats.{thread_in}}

@@ -1,4 +1,4 @@
-use Rattle.std.proofs.{Common.{◌≡◌, ◌<◌, ◌++◌, ◌∷◌, [], length, take, get_or, None, Some, ap, sym, ◌∙◌, arith}, lemmas.List.{append-nil}}
+use Rattle.std.proofs.{Common.{◌≡◌, ◌<◌, ◌++◌, ◌∷◌, [], length, take, get_or, None, Some, ap, sym, ◌∙◌, arith}, lemmas.List.{append-nil, length_push}}
 use Rattle.std.specs.Prelude.{option_map}
 use Rattle.bd_keys.proofs.Rising.{without, filter_none}
 use Rattle.bd_threads.specs.Rows.{live}
@@ -23,12 +23,14 @@ loop-row-preserved c =
                 ∙ ap (λ ts. without seat_of one.seat ts ++ one ∷ []) inv.shown
                 ∙ ap (λ ts. ts ++ one ∷ []) (filter_none seat_of one.seat (live (take i rows)) none)
                 ∙ sym (live_take rows i less (Some one) is);
+            rows = omega (arith, inv.rows, w.push.ensures.rows, ap length (live_take rows i less (Some one) is), length_push (live (take i rows)) one);
             room = omega (arith, inv.room, w.push.ensures.uses, ap length (live_drop rows i less (Some one) is));
           })
       | in_default w ↦
           let is : get_or rows i None ≡ None = ap (λ rs. get_or rs i None) (sym slice) ∙ w.in_default.is in
           rw w.fresh-is (record {
             shown = inv.shown ∙ sym (live_take rows i less None is ∙ append-nil (live (take i rows)));
+            rows = inv.rows ∙ ap length (sym (live_take rows i less None is ∙ append-nil (live (take i rows))));
             room = omega (arith, inv.room, ap length (live_drop rows i less None is));
           })
     ]

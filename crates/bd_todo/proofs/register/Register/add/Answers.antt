@@ -1,6 +1,5 @@
-use Rattle.std.proofs.Common.{◌≡◌, ◌<◌, true, ap, sym, ◌∙◌, arith, ltb-true}
-use Rattle.bd_space.specs.declared.space.Work.{Work}
-use Rattle.bd_todo.specs.{declared.register.Register.{Register}, Registered.{rank, Registered}, Spots.{is_key, count_at}}
+use Rattle.std.proofs.Common.{◌≡◌, ◌<◌, true, sym, ◌∙◌, arith, ltb-true}
+use Rattle.bd_todo.specs.{Registered.{rank, Registered}}
 use Rattle.bd_todo.proofs.{Registering.{newer_came, older_came}, register.Register.add.Goals.{then-self, else-self}}
 use Rattle.bd_todo.proofs.register.Register.add.Goals as goal
 

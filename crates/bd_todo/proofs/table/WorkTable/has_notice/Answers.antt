@@ -1,5 +1,5 @@
 use Rattle.std.proofs.Common.{◌∙◌, ap, nat_lt}
-use Rattle.bd_todo.specs.Spots.{count_at}
+use Rattle.bd_todo.specs.SpotCounts.{count_at}
 use Rattle.bd_todo.proofs.WorksStand.{has_notice_is}
 use Rattle.bd_todo.proofs.table.WorkTable.has_notice.Goals as goal
 

@@ -1,4 +1,4 @@
-use Rattle.std.proofs.Common.{refl, sym, ap, subst, ◌∙◌}
+use Rattle.std.proofs.Common.{refl, sym, subst, ◌∙◌}
 use Rattle.bd_space.specs.Todo.{same_list}
 use Rattle.bd_chains.proofs.Listing.{dropped_shows}
 use Rattle.bd_chains.specs.Rows.{drop_key}

@@ -1,6 +1,6 @@
 use Rattle.std.proofs.Common.{◌≡◌, ◌∙◌, sym, subst, rules, tests, not, true, IfSome, arith}
 use Rattle.bd_space.specs.{declared.space.Work.{Work}, Words.{is_some_and}}
-use Rattle.bd_todo.specs.{Registered.{Registered}, QueuesStand.{work_at}, Spots.{is_sought, count_at}, Stands.{WorksAre}}
+use Rattle.bd_todo.specs.{Registered.{Registered}, QueuesStand.{work_at}, Spots.{is_sought}, SpotCounts.{count_at}, Stands.{WorksAre}}
 use Rattle.bd_todo.proofs.{OnList.{nothing_goes}, WorksStand.{only_goes, has_sought_is}}
 use Rattle.bd_todo.proofs.table.WorkTable.withdraw.Goals as goal
 

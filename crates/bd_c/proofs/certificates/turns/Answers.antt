@@ -1,0 +1,8 @@
+use Rattle.bd_c.proofs.Certifying.{heading_of}
+use Rattle.bd_c.proofs.certificates.turns.Goals as goal
+
+pub returns-in_default-clause-refused : goal.returns-in_default-clause-refused
+returns-in_default-clause-refused c = heading_of c.args.journal.now c.in_ok-found.found c.in_ok-found.ensures.ok
+
+pub returns-clause-refused : goal.returns-clause-refused
+returns-clause-refused c = heading_of c.args.journal.now c.in_ok-found.found c.in_ok-found.ensures.ok
